@@ -1,0 +1,22 @@
+-- What a value is, apart from how the code keeps it (CSDL JSON 4.01, section 3).
+use Rattle.std.specs.Prelude.{Bool, ℕ, ℤ, List}
+
+mutual
+  -- null, a primitive value, a whole number of an enumeration, a record of named fields, or a list
+  pub data Val : Type 0 where
+    null : Val
+    boolean : Bool → Val
+    whole : ℤ → Val
+    text : List ℕ → Val
+    member : ℤ → Val
+    fields : (List ℕ → Held) → Val
+    items : Vals → Val
+
+  -- what a record has under a name: nothing, or a value
+  pub data Held : Type 0 where
+    absent : Held
+    present : Val → Held
+
+  pub data Vals : Type 0 where
+    no_items : Vals
+    item : Val → Vals → Vals

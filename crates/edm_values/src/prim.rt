@@ -1,0 +1,14 @@
+/// A primitive type that a property or an expression may have (CSDL JSON 4.01, section 3.3).
+#[derive(Clone, Copy, Debug, PartialEq, Eq)]
+pub enum Prim {
+    Bool,
+    Byte,
+    SByte,
+    Int16,
+    Int32,
+    Int64,
+    String,
+    Date,
+    DateTimeOffset,
+    Guid,
+}

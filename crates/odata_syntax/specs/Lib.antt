@@ -1,0 +1,3 @@
+pub mod Piece
+pub mod Tree
+pub mod TreeView
