@@ -9,8 +9,12 @@ pub struct Expr {
 
 impl Model for Expr {
     ghost use Rattle.odata_syntax.specs.declared.node.Node.{Node};
+    ghost use Rattle.odata_syntax.specs.contracts.node.Node as contract;
+    ghost use Rattle.std.specs.Coded.{codes};
 
     ghost Value = { Node };
+
+    ghost coded = { Prim.hlevel (codes, contract.the_row.coded) };
 
     ghost use Rattle.odata_syntax.specs.TreeView.{tree_of};
     ghost use Rattle.odata_syntax.specs.Parse.{IsExpression};
