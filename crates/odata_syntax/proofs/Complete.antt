@@ -1,14 +1,13 @@
 -- What the grammar derives, the machine takes.
-use Rattle.std.proofs.Common.{◌≡◌, refl, ap, ◌∙◌, ℕ, suc, ◌≤◌, ◌<◌, List, [], ◌∷◌, ◌++◌, Option, Some, None, arith}
-use Rattle.std.specs.Prelude.{option_and_then, nat_le}
+use Rattle.std.proofs.Common.{◌≡◌, refl, ap, ◌∙◌, ℕ, suc, ◌≤◌, List, [], ◌∷◌, ◌++◌, Some, arith}
+use Rattle.std.specs.Prelude.{option_and_then}
 use Rattle.std.proofs.lemmas.Bool.{le-leb, lt-leb}
-use Rattle.std.proofs.lemmas.Option.{same_Some}
 use Rattle.odata_syntax.specs.declared.node.BinaryOperator.{BinaryOperator}
 use Rattle.odata_syntax.specs.declared.parser.operand.Leaf.{Leaf}
 use Rattle.odata_syntax.specs.Piece.{Piece}
 use Rattle.odata_syntax.specs.Tree.{Tree}
 use Rattle.odata_syntax.specs.Grammar.{Level, operator_level, Derives, looser, derives_literal, derives_name, derives_binary}
-use Rattle.odata_syntax.specs.Machine.{Waiting, behind, Expected, operand, closed, Machine, waiting_level, joined_to, IsHeld, Reduced, reduce, run, step, start, finish, leaf_of_kind, leaf_tree, operator_of_kind}
+use Rattle.odata_syntax.specs.Machine.{Waiting, behind, operand, closed, Machine, waiting_level, joined_to, IsHeld, reduce, run, start, finish, leaf_of_kind, leaf_tree, operator_of_kind}
 use Rattle.odata_syntax.proofs.Run.{run-append}
 use Rattle.odata_syntax.proofs.Lexemes.{operator_found, literal_found, name_found}
 
@@ -39,26 +38,26 @@ leaf_taken waiting p leaf e = rw e refl
 
 binary_taken : (ls rs : List Piece) (t : Piece) (operator : BinaryOperator) (left : Tree) (waiting waits : List Waiting) (grown : Tree) (next : Machine) → run ls (record { waiting = waiting; expected = operand }) ≡ Some (record { waiting = waits; expected = closed grown }) → operator_of_kind t.kind t.text ≡ Some operator → reduce (operator_level operator) waits grown ≡ record { waiting = waiting; tree = left } → run rs (record { waiting = behind operator left ∷ waiting; expected = operand }) ≡ Some next → run (ls ++ (t ∷ rs)) (record { waiting = waiting; expected = operand }) ≡ Some next
 binary_taken ls rs t operator left waiting waits grown next first found reduced second =
-  let last : run (t ∷ rs) (record { waiting = waits; expected = closed grown }) ≡ Some next = rw (found, reduced) second in
+    let last : run (t ∷ rs) (record { waiting = waits; expected = closed grown }) ≡ Some next = rw (found, reduced) second in
     run-append ls (t ∷ rs) (record { waiting = waiting; expected = operand }) ∙ ap (λ o. option_and_then (λ k. run (t ∷ rs) k) o) first ∙ last
 
 complete : {level : Level} {ts : List Piece} {tree : Tree} → Derives level ts tree → (waiting : List Waiting) → IsHeld level waiting → Completes level ts tree waiting
 complete (looser {level = level} d) waiting held =
-  let inner = complete d waiting (held_tighter level waiting held) in
+    let inner = complete d waiting (held_tighter level waiting held) in
     record { waits = inner.waits; grown = inner.grown; taken = inner.taken; same = λ q le. inner.same q (omega arith) }
 complete (derives_literal {kind = kind} {t = t} l) waiting held =
-  record { waits = waiting; grown = leaf_tree (Leaf.Lit kind) t; taken = leaf_taken waiting t (Leaf.Lit kind) (literal_found l); same = λ q le. refl }
+    record { waits = waiting; grown = leaf_tree (Leaf.Lit kind) t; taken = leaf_taken waiting t (Leaf.Lit kind) (literal_found l); same = λ q le. refl }
 complete (derives_name {t = t} n) waiting held =
-  record { waits = waiting; grown = leaf_tree Leaf.Name t; taken = leaf_taken waiting t Leaf.Name (name_found n); same = λ q le. refl }
+    record { waits = waiting; grown = leaf_tree Leaf.Name t; taken = leaf_taken waiting t Leaf.Name (name_found n); same = λ q le. refl }
 complete (derives_binary {operator = operator} {ls = ls} {rs = rs} {t = t} {left = left} {right = right} dl o dr) waiting held =
-  let first = complete dl waiting held in
-  let second = complete dr (behind operator left ∷ waiting) (omega arith) in
-  let reduced : reduce (operator_level operator) first.waits first.grown ≡ record { waiting = waiting; tree = left } = first.same (operator_level operator) (omega arith) ∙ reduce-held (operator_level operator) waiting left held in
+    let first = complete dl waiting held in
+    let second = complete dr (behind operator left ∷ waiting) (omega arith) in
+    let reduced : reduce (operator_level operator) first.waits first.grown ≡ record { waiting = waiting; tree = left } = first.same (operator_level operator) (omega arith) ∙ reduce-held (operator_level operator) waiting left held in
     record {
       waits = second.waits;
       grown = second.grown;
       taken = binary_taken ls rs t operator left waiting first.waits first.grown (record { waiting = second.waits; expected = closed second.grown }) first.taken (operator_found o) reduced second.taken;
-      same = λ q le. second.same q (omega arith) ∙ reduce-joined q (behind operator left) waiting right le
+      same = λ q le. second.same q (omega arith) ∙ reduce-joined q (behind operator left) waiting right le;
     }
 
 -- the machine ends with the tree that is derived
@@ -69,6 +68,6 @@ pub record Finishes (ts : List Piece) (tree : Tree) : Type 0 where
 
 pub derived_finishes : {ts : List Piece} {tree : Tree} → Derives 1 ts tree → Finishes ts tree
 derived_finishes {ts} {tree} d =
-  let whole = complete d [] tt in
-  let same : reduce 1 whole.waits whole.grown ≡ record { waiting = []; tree = tree } = whole.same 1 (omega arith) in
+    let whole = complete d [] tt in
+    let same : reduce 1 whole.waits whole.grown ≡ record { waiting = []; tree = tree } = whole.same 1 (omega arith) in
     record { ended = record { waiting = whole.waits; expected = closed whole.grown }; taken = whole.taken; finished = ap (λ r. Some r.tree) same }

@@ -1,8 +1,8 @@
 -- What a token says, and how the machine reads it.
-use Rattle.std.proofs.Common.{◌≡◌, refl, ap, subst, sym, ◌∙◌, ℕ, List, [], ◌∷◌, Bool, true, false, cond, ◌||◌, Option, Some, None, IsTrue, ◌⊎◌, inl, inr}
+use Rattle.std.proofs.Common.{◌≡◌, refl, ap, subst, ◌∙◌, ℕ, List, [], ◌∷◌, Bool, true, false, cond, ◌||◌, Some, None, IsTrue, ◌⊎◌, inl, inr}
 use Rattle.std.specs.Prelude.{codes}
 use Rattle.std.specs.List.{list_any}
-use Rattle.std.specs.Str.{str_eq_ignore_ascii_case, str_to_ascii_lowercase, bytes_eq}
+use Rattle.std.specs.Str.{str_to_ascii_lowercase, bytes_eq}
 use Rattle.std.proofs.lemmas.Slice.Eq.{bytes_eq-Decides}
 use Rattle.std.proofs.lemmas.Option.{same_Some}
 use Rattle.odata_syntax.specs.declared.node.BinaryOperator.{BinaryOperator}
@@ -10,14 +10,14 @@ use Rattle.odata_syntax.specs.declared.node.LiteralKind.{LiteralKind}
 use Rattle.odata_syntax.specs.declared.odata_text.token.TokenKind.{TokenKind}
 use Rattle.odata_syntax.specs.declared.parser.operand.Leaf.{Leaf}
 use Rattle.odata_syntax.specs.Piece.{Piece}
-use Rattle.odata_syntax.specs.Lexeme.{IsA, IsWord, operator_word, IsOperator, SpellsLiteral, IsLiteral, IsName, reserved_words, same_word}
+use Rattle.odata_syntax.specs.Lexeme.{IsWord, operator_word, IsOperator, SpellsLiteral, IsLiteral, IsName, reserved_words, same_word}
 use Rattle.odata_syntax.specs.Grammar.{Derives, derives_literal, derives_name}
 use Rattle.odata_syntax.specs.Machine.{word_operator, operator_of_kind, word_leaf, leaf_of_kind, leaf_tree}
 
 -- a text that is one word is no other
 pub other_word : (text word other : List ℕ) → same_word text word ≡ true → same_word word other ≡ false → same_word text other ≡ false
 other_word text word other h e =
-  let same : str_to_ascii_lowercase text ≡ str_to_ascii_lowercase word = (bytes_eq-Decides (str_to_ascii_lowercase text) (str_to_ascii_lowercase word)).0 h in
+    let same : str_to_ascii_lowercase text ≡ str_to_ascii_lowercase word = (bytes_eq-Decides (str_to_ascii_lowercase text) (str_to_ascii_lowercase word)).0 h in
     ap (λ k. bytes_eq k (str_to_ascii_lowercase other)) same ∙ e
 
 -- `eq` is not `and`
@@ -57,7 +57,7 @@ operator_kind _ text operator e = absurd (cc)
 
 pub operator_spelled : (p : Piece) (operator : BinaryOperator) → operator_of_kind p.kind p.text ≡ Some operator → IsOperator operator p
 operator_spelled p operator e =
-  let found = operator_kind p.kind p.text operator e in
+    let found = operator_kind p.kind p.text operator e in
     record { word = record { of_kind = found.0; spelled = operator_word_spelled operator p.text found.1 } }
 
 -- the operand of a token is the one that the machine finds
@@ -143,10 +143,10 @@ boolean_word p k (inr h) = inr (record { of_kind = k; spelled = h })
 pub leaf_derived : (p : Piece) (leaf : Leaf) → leaf_of_kind p.kind p.text ≡ Some leaf → Derives 9 (p ∷ []) (leaf_tree leaf p)
 unfolding LeafSays
 leaf_derived p (Leaf.Lit LiteralKind.Bool) e =
-  let says = leaf_says p.kind p.text (Leaf.Lit LiteralKind.Bool) e in
+    let says = leaf_says p.kind p.text (Leaf.Lit LiteralKind.Bool) e in
     derives_literal (record { spelled = boolean_word p says.0 says.1 })
 leaf_derived p (Leaf.Lit LiteralKind.Int) e = derives_literal (record { spelled = record { of_kind = leaf_says p.kind p.text (Leaf.Lit LiteralKind.Int) e } })
 leaf_derived p (Leaf.Lit LiteralKind.Str) e = derives_literal (record { spelled = record { of_kind = leaf_says p.kind p.text (Leaf.Lit LiteralKind.Str) e } })
 leaf_derived p Leaf.Name e =
-  let says = leaf_says p.kind p.text Leaf.Name e in
+    let says = leaf_says p.kind p.text Leaf.Name e in
     derives_name (record { of_kind = says.0; free = says.1 })

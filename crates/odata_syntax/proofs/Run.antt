@@ -12,7 +12,7 @@ use Rattle.odata_syntax.specs.Machine.{Machine, run, step, start}
 pub run-append : (xs ys : List Piece) (m : Machine) → run (xs ++ ys) m ≡ option_and_then (λ n. run ys n) (run xs m)
 run-append [] ys m = refl
 run-append (x ∷ xs) ys m =
-  elim (step m x) as (λ o. option_and_then (λ n. run (xs ++ ys) n) o ≡ option_and_then (λ n. run ys n) (option_and_then (λ n. run xs n) o)) [ None ↦ refl | Some n ↦ run-append xs ys n ]
+    elim (step m x) as (λ o. option_and_then (λ n. run (xs ++ ys) n) o ≡ option_and_then (λ n. run ys n) (option_and_then (λ n. run xs n) o)) [ None ↦ refl | Some n ↦ run-append xs ys n ]
 
 and_then-Some : (o : Option Machine) → option_and_then (λ n. Some n) o ≡ o
 and_then-Some None = refl
@@ -37,17 +37,17 @@ taken_more ts i d m n h so_far next = rw (take_more ts i d h, map-append) (run-s
 -- the machine stops at a token that it refuses
 pub stopped : (ts : List Token) (i : ℕ) (d : Token) (m : Machine) (fault : SyntaxFault) → i < length ts → run (pieces_of (take i ts)) start ≡ Some m → Refuses (step m (piece_of (get_or ts i d))) (piece_of (get_or ts i d)) fault → StopsAt (pieces_of ts) fault
 stopped ts i d m (SyntaxFault.Unexpected span) h so_far refused =
-  let tail : drop i ts ≡ get_or ts i d ∷ drop (i + 1) ts = rw add-one (drop-cons ts i d h) in
-  let whole : pieces_of ts ≡ pieces_of (take i ts) ++ pieces_of (drop i ts) = ap pieces_of (sym (take-append-drop i ts)) ∙ map-append piece_of (take i ts) (drop i ts) in
-  record {
-    before = pieces_of (take i ts);
-    token = piece_of (get_or ts i d);
-    behind = pieces_of (drop (i + 1) ts);
-    split = whole ∙ ap (λ k. pieces_of (take i ts) ++ pieces_of k) tail;
-    reached = m;
-    takes = so_far;
-    stuck = refused.1;
-    place = refused.0
-  }
+    let tail : drop i ts ≡ get_or ts i d ∷ drop (i + 1) ts = rw add-one (drop-cons ts i d h) in
+    let whole : pieces_of ts ≡ pieces_of (take i ts) ++ pieces_of (drop i ts) = ap pieces_of (sym (take-append-drop i ts)) ∙ map-append piece_of (take i ts) (drop i ts) in
+    record {
+      before = pieces_of (take i ts);
+      token = piece_of (get_or ts i d);
+      behind = pieces_of (drop (i + 1) ts);
+      split = whole ∙ ap (λ k. pieces_of (take i ts) ++ pieces_of k) tail;
+      reached = m;
+      takes = so_far;
+      stuck = refused.1;
+      place = refused.0;
+    }
 stopped ts i d m (SyntaxFault.TooDeep span) h so_far refused = absurd refused
 stopped ts i d m SyntaxFault.Memory h so_far refused = tt

@@ -1,5 +1,5 @@
 -- What a token says in an expression (OData ABNF 4.01, section 4; words in any ASCII case).
-use Rattle.std.specs.Prelude.{◌≡◌, ◌⊎◌, ℕ, List, [], ◌∷◌, Bool, IsTrue, codes, map}
+use Rattle.std.specs.Prelude.{◌≡◌, ◌⊎◌, ℕ, List, [], ◌∷◌, Bool, IsTrue, codes}
 use Rattle.std.specs.List.{list_any}
 use Rattle.std.specs.Str.{str_eq_ignore_ascii_case}
 use Rattle.odata_syntax.specs.declared.node.BinaryOperator.{BinaryOperator}

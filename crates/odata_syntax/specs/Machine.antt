@@ -1,5 +1,5 @@
 -- The parser's steps, on lists. For private clauses: no public one cites it.
-use Rattle.std.specs.Prelude.{◌≡◌, ◌⊎◌, ℕ, ◌<◌, List, [], ◌∷◌, ◌++◌, Bool, true, false, IsTrue, if◌then◌else◌, nat_le, ◌||◌, codes, Option, Some, None, option_and_then}
+use Rattle.std.specs.Prelude.{ℕ, ◌<◌, List, [], ◌∷◌, if◌then◌else◌, nat_le, ◌||◌, codes, Option, Some, None, option_and_then}
 use Rattle.std.specs.Str.{str_eq_ignore_ascii_case}
 use Rattle.odata_syntax.specs.declared.node.BinaryOperator.{BinaryOperator}
 use Rattle.odata_syntax.specs.declared.node.LiteralKind.{LiteralKind}
