@@ -3,3 +3,6 @@ pub mod Lexemes
 pub mod Complete
 pub mod Sound
 pub mod Fronts
+pub mod Spanned
+pub mod Faults
+pub mod FirstRuns

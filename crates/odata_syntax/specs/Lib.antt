@@ -5,5 +5,7 @@ pub mod Lexeme
 pub mod Grammar
 pub mod Front
 pub mod Parse
+pub mod Spans
+pub mod FirstRun
 pub mod Machine
 pub mod MachineView

@@ -6,6 +6,7 @@ mod node;
 mod odata_text;
 mod parser;
 mod syntax_fault;
+pub mod syntax_laws;
 #[cfg(test)]
 mod tests;
 
