@@ -3,10 +3,10 @@
 
 mod datum;
 mod moment;
-mod prim;
+mod primitive;
 mod value;
 
 pub use datum::Datum;
 pub use moment::Moment;
-pub use prim::Prim;
+pub use primitive::PrimitiveType as Prim;
 pub use value::Value;
