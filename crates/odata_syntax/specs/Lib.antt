@@ -1,3 +1,9 @@
+pub mod ByteClass
+pub mod IntLiteral
+pub mod Lengths
 pub mod Piece
+pub mod Spelling
+pub mod StringLiteral
+pub mod Tokens
 pub mod Tree
 pub mod TreeView

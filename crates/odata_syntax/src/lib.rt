@@ -9,6 +9,7 @@ mod syntax_fault;
 pub use expr::Expr;
 pub use node::{BinaryOperator, LiteralKind, Node};
 pub use odata_text::fault::TextFault;
+pub use odata_text::scan::tokens;
 pub use odata_text::span::Span;
 pub use odata_text::token::{Token, TokenKind};
 pub use syntax_fault::SyntaxFault;
