@@ -1,5 +1,5 @@
 -- Words of private contracts alone: what the functions that measure pieces answer.
-use Rattle.std.specs.Prelude.{◌≡◌, ℕ, ◌<◌, ◌≤◌, ◌==◌, if◌then◌else◌, List, length, take, fold}
+use Rattle.std.specs.Prelude.{◌≡◌, ℕ, ◌<◌, ◌≤◌, ◌==◌, ◌||◌, slice_index, if◌then◌else◌, List, length, take, fold}
 use Rattle.odata_syntax.specs.declared.odata_text.quoted.Quoted.{Quoted}
 use Rattle.odata_syntax.specs.declared.odata_text.quoted.Quoted.TheVariants.{Before, Open, Closed, Over}
 
@@ -8,6 +8,10 @@ pub record IsReach (IsSpelling : List ℕ → Type 0) (n : ℕ) (rest : List ℕ
   pub within : n ≤ length rest
   pub found : 0 < n → IsSpelling (take n rest)
   pub reaches : (m : ℕ) → m ≤ length rest → IsSpelling (take m rest) → m ≤ n
+
+-- how many bytes the sign at the front takes
+abbrev pub sign_length : List ℕ → ℕ
+sign_length rest = (if (slice_index rest 0 == 43) || (slice_index rest 0 == 45) then 1 else 0)
 
 -- how far a quoted text has come with one byte more
 abbrev pub quoted_after : Quoted → ℕ → Quoted

@@ -1,14 +1,20 @@
--- Spellings of texts (OData ABNF 4.01, section 7, string).
+-- String literals (OData ABNF Construction Rules 4.01, section 7, `string`).
 use Rattle.std.specs.Prelude.{◌≡◌, ℕ, List, [], ◌∷◌, ◌++◌, ◌==◌, if◌then◌else◌}
 
--- each quote doubled
+-- a single quote
+abbrev pub quote : ℕ
+quote = 39
+
+-- a text with each of its quotes written twice
 abbrev pub doubled : List ℕ → List ℕ
 doubled [] = []
-doubled (b ∷ bs) = (if b == 39 then 39 ∷ 39 ∷ doubled bs else b ∷ doubled bs)
+doubled (c ∷ cs) = if c == quote then quote ∷ quote ∷ doubled cs else c ∷ doubled cs
 
--- a value between quotes, with the quotes in it doubled
+-- the spelling of a text: between quotes, with its own quotes doubled
 abbrev pub StringValue : List ℕ → List ℕ → Type 0
-StringValue bytes value = bytes ≡ 39 ∷ (doubled value ++ 39 ∷ [])
+StringValue spelling value = spelling ≡ quote ∷ doubled value ++ quote ∷ []
 
+-- some text has this spelling
 abbrev pub IsStringSpelling : List ℕ → Type 0
-IsStringSpelling bytes = (value : List ℕ) × StringValue bytes value
+IsStringSpelling spelling = (value : List ℕ) × StringValue spelling value
+

@@ -1,10 +1,10 @@
 use super::byte_class::{ByteClass, class_of};
 
-ghost use Rattle.std.specs.Prelude.{◌≡◌};
+ghost use Rattle.std.specs.Prelude.{◌≡◌, ◌≤◌, length};
 ghost use Rattle.std.specs.Char.{is_ascii_digit};
 ghost use Rattle.std.specs.List.{prefix_len};
 ghost use Rattle.odata_syntax.specs.IntLiteral.{IsIntSpelling};
-ghost use Rattle.odata_syntax.specs.Lengths.{IsReach};
+ghost use Rattle.odata_syntax.specs.Lengths.{IsReach, sign_length};
 ghost use Rattle.odata_syntax.specs.Spelling.{IsIdentifier, identifier_length};
 
 /// How many bytes the run of identifier characters at the front takes.
@@ -17,7 +17,8 @@ pub fn identifier_length(rest: &[u8]) -> usize
 }
 
 fn digits_length(rest: &[u8]) -> usize
-    ensures { result ≡ prefix_len is_ascii_digit rest.now }
+    ensures value { result ≡ prefix_len is_ascii_digit rest.now }
+    ensures within { result ≤ length rest.now }
 {
     rest.iter().take_while(|byte| byte.is_ascii_digit()).count()
 }
@@ -32,15 +33,23 @@ pub fn word_length(rest: &[u8]) -> usize
     }
 }
 
+fn sign_length(rest: &[u8]) -> usize
+    ensures value { result ≡ sign_length rest.now }
+    ensures within { result ≤ length rest.now }
+{
+    match rest.first() {
+        Some(b'+' | b'-') => 1,
+        _ => 0,
+    }
+}
+
 /// How many bytes the whole number at the front takes, 0 if there is none.
 pub fn int_length(rest: &[u8]) -> usize
     ensures { IsReach IsIntSpelling result rest.now }
 {
-    match rest {
-        [b'+' | b'-', digits @ ..] => match digits_length(digits) {
-            0 => 0,
-            length => length + 1,
-        },
-        _ => digits_length(rest),
+    let sign = sign_length(rest);
+    match digits_length(&rest[sign..]) {
+        0 => 0,
+        digits => sign + digits,
     }
 }

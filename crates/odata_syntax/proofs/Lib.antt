@@ -1,0 +1,3 @@
+pub mod ByteClasses
+pub mod Quotes
+pub mod Reaches
