@@ -1,3 +1,4 @@
 pub mod ByteClasses
+pub mod Longest
 pub mod Quotes
 pub mod Reaches

@@ -62,7 +62,7 @@ IsReach-identifier rest nonempty first =
 digit_range : (c : ℕ) → is_ascii_digit c ≡ true → IsInRange 48 57 c
 digit_range c digit = grind (arith, nat_tests)
 
-digit_test : (c : ℕ) → IsInRange 48 57 c → is_ascii_digit c ≡ true
+pub digit_test : (c : ℕ) → IsInRange 48 57 c → is_ascii_digit c ≡ true
 digit_test c range = grind (arith, nat_tests)
 
 -- the digits at the front are a numeral, and no numeral there is longer
