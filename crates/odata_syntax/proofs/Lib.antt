@@ -1,4 +1,5 @@
 pub mod ByteClasses
 pub mod Longest
+pub mod Places
 pub mod Quotes
 pub mod Reaches

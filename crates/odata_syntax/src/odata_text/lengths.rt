@@ -9,7 +9,8 @@ ghost use Rattle.odata_syntax.specs.Spelling.{IsIdentifier, identifier_length};
 
 /// How many bytes the run of identifier characters at the front takes.
 pub fn identifier_length(rest: &[u8]) -> usize
-    ensures { result ≡ identifier_length rest.now }
+    ensures value { result ≡ identifier_length rest.now }
+    ensures within { result ≤ length rest.now }
 {
     rest.iter()
         .take_while(|byte| matches!(class_of(**byte), ByteClass::Letter | ByteClass::Digit))

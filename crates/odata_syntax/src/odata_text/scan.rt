@@ -7,9 +7,10 @@ use super::longest::longest;
 use super::span::Span;
 use super::token::{Token, TokenKind};
 
-ghost use Rattle.std.specs.Prelude.{◌≡◌, IfOk, IfErr};
-ghost use Rattle.odata_syntax.specs.Piece.{pieces_of};
-ghost use Rattle.odata_syntax.specs.Tokens.{IsTokenList};
+ghost use Rattle.std.specs.Prelude.{◌≡◌, ◌≢◌, ◌<◌, ◌≤◌, ℕ, IfOk, IfErr, IsCharBoundary, length, slice_index};
+ghost use Rattle.odata_syntax.specs.ByteClass.{class_of};
+ghost use Rattle.odata_syntax.specs.Piece.{piece_of, pieces_of};
+ghost use Rattle.odata_syntax.specs.Tokens.{IsFaultAt, IsGap, IsNoToken, IsTokenAt, IsTokenList, is_undelimited};
 
 /// No text of a filter is longer, in bytes.
 const TEXT_LIMIT: usize = 16384;
@@ -18,7 +19,9 @@ const TEXT_LIMIT: usize = 16384;
 const TOKEN_LIMIT: usize = 4096;
 
 /// Whether an identifier character directly behind such a token is a fault.
-fn is_undelimited(kind: TokenKind) -> bool {
+fn is_undelimited(kind: TokenKind) -> bool
+    ensures { result ≡ is_undelimited kind }
+{
     match kind {
         TokenKind::Int | TokenKind::Date | TokenKind::Moment | TokenKind::Guid => true,
         _ => false,
@@ -26,7 +29,11 @@ fn is_undelimited(kind: TokenKind) -> bool {
 }
 
 /// The first place from `place` on that is no white space, or the end.
-fn skip_spaces(bytes: &[u8], place: usize) -> usize {
+fn skip_spaces(bytes: &[u8], place: usize) -> usize
+    requires { place ≤ length bytes.now }
+    ensures gap { IsGap bytes.now place result }
+    ensures solid { result < length bytes.now → class_of (slice_index bytes.now result) ≢ ByteClass.Space }
+{
     let mut end = place;
     while end < bytes.len() && class_of(bytes[end]) == ByteClass::Space {
         end += 1;
@@ -35,7 +42,11 @@ fn skip_spaces(bytes: &[u8], place: usize) -> usize {
 }
 
 /// What is wrong where no token begins.
-fn no_token(text: &str, start: usize) -> TextFault {
+fn no_token(text: &str, start: usize) -> TextFault
+    requires no_token { IsNoToken text.now start }
+    requires boundary { IsCharBoundary text.now start }
+    ensures { (before : ℕ) → IsFaultAt text.now start before result }
+{
     if class_of(text.as_bytes()[start]) == ByteClass::Quote {
         let stop = text.len();
         return TextFault::UnclosedString { span: Span { start, stop } };
@@ -50,7 +61,15 @@ fn no_token(text: &str, start: usize) -> TextFault {
 }
 
 /// The token at a place that is no white space.
-fn token_at(text: &str, start: usize) -> Result<Token<'_>, TextFault> {
+fn token_at(text: &str, start: usize) -> Result<Token<'_>, TextFault>
+    requires inside { start < length text.now }
+    requires boundary { IsCharBoundary text.now start }
+    requires solid { class_of (slice_index text.now start) ≢ ByteClass.Space }
+    ensures start { IfOk result (λ token. token.span.start ≡ start) }
+    ensures token { IfOk result (λ token. IsTokenAt text.now (piece_of token)) }
+    ensures boundary { IfOk result (λ token. IsCharBoundary text.now token.span.stop) }
+    ensures fault { IfErr result (λ fault. (before : ℕ) → IsFaultAt text.now start before fault) }
+{
     let bytes = text.as_bytes();
     let Some((kind, length)) = longest(&bytes[start..]) else {
         return Err(no_token(text, start));
@@ -69,7 +88,7 @@ fn token_at(text: &str, start: usize) -> Result<Token<'_>, TextFault> {
 
 /// The tokens of a filter's text.
 pub fn tokens<'t>(alloc: Global, text: &'t str) -> Result<Vec<Token<'t>>, TextFault>
-    ensures ok { IfOk result (λ v. IsTokenList text.entry.now (pieces_of v.items)) }
+    ensures ok { IfOk result (λ v. IsTokenList text.now (pieces_of v.items)) }
 {
     if text.len() > TEXT_LIMIT {
         let span = Span { start: 0, stop: text.len() };

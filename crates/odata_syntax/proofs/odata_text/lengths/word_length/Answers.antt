@@ -10,5 +10,5 @@ pub returns-in-Some : goal.returns-in-Some
 returns-in-Some c =
     let letter : c.class_of.result ≡ Letter = search (rules, c.if-eq.ensures) in
     let first = c.in-Some.ensures.item.3 in
-    subst (λ (n : ℕ). IsReach IsIdentifier n c.args.rest.now) (sym c.identifier_length.ensures)
+    subst (λ (n : ℕ). IsReach IsIdentifier n c.args.rest.now) (sym c.identifier_length.ensures.value)
     (IsReach-identifier c.args.rest.now first.0 (sym (ap class_of (first.1 0)) ∙ sym c.class_of.ensures ∙ letter))
