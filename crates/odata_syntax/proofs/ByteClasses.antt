@@ -1,11 +1,9 @@
 -- Which bytes are of a class.
-use Rattle.std.proofs.Common.{◌≡◌, ◌⊎◌, inl, inr, ℕ, ◌<◌, ◌≤◌, ◌||◌, ◌&&◌, ◌==◌, Bool, true, false, cond, arith, refl, sym, ◌∙◌, ap, subst}
-use Rattle.std.specs.Char.{is_ascii_digit, is_ascii_alphabetic}
-use Rattle.std.proofs.lemmas.Bool.Decides.{eqb_tells, nat_tests}
+use Rattle.std.proofs.Common.{◌≡◌, ◌⊎◌, inl, inr, ℕ, ◌≤◌, true, arith, refl}
+use Rattle.std.specs.Char.{is_ascii_digit}
+use Rattle.std.proofs.lemmas.Bool.Decides.{nat_tests}
 use Rattle.odata_syntax.specs.ByteClass.{class_of}
-use Rattle.odata_syntax.specs.Spelling.{is_identifier_byte}
-use Rattle.odata_syntax.specs.declared.odata_text.byte_class.ByteClass.{ByteClass}
-use Rattle.odata_syntax.specs.declared.odata_text.byte_class.ByteClass.TheVariants.{Letter, Digit, Sign, Quote, Space, Other}
+use Rattle.odata_syntax.specs.declared.odata_text.byte_class.ByteClass.TheVariants.{Digit, Sign, Quote, Other}
 
 pub class_of-digit : (b : ℕ) → is_ascii_digit b ≡ true → class_of b ≡ Digit
 unfolding class_of

@@ -3,3 +3,4 @@ pub mod Longest
 pub mod Places
 pub mod Quotes
 pub mod Reaches
+pub mod Scans

@@ -1,22 +1,22 @@
 -- The longest piece at the front of a text, from the length of the longest spelling of one kind.
-use Rattle.std.proofs.Common.{◌≡◌, ◌⊎◌, inl, inr, ⊎_elim, ℕ, suc, zero, min, ◌+◌, ◌-◌, ◌<◌, ◌≤◌, ◌==◌, Bool, true, false, cond, List, [], ◌∷◌, ◌++◌, length, get_or, take, drop, Option, Some, None, arith, refl, sym, ◌∙◌, ap, subst}
+use Rattle.std.proofs.Common.{◌≡◌, inl, inr, ℕ, min, ◌<◌, ◌==◌, List, [], ◌∷◌, length, get_or, take, Option, Some, None, arith, refl, sym, ◌∙◌, ap, subst}
 use Rattle.std.specs.Prelude.{MatchOption}
 use Rattle.std.proofs.lemmas.Bool.{cond-true, cond-false}
 use Rattle.std.proofs.lemmas.Bool.Decides.{eqb_tells}
-use Rattle.std.proofs.lemmas.List.{get_or-take, get_or-drop, get_or_push, length-take, length-take-le, length-drop, length_push, take_min}
+use Rattle.std.proofs.lemmas.List.{get_or-take, length-take, take_min}
 use Rattle.std.proofs.lemmas.Str.Parse.{digit_at}
 use Rattle.odata_syntax.specs.ByteClass.{class_of}
 use Rattle.odata_syntax.specs.IntLiteral.{IsIntSpelling}
-use Rattle.odata_syntax.specs.StringLiteral.{doubled, IsStringSpelling}
-use Rattle.odata_syntax.specs.Lengths.{IsReach, found_piece, sign_length}
-use Rattle.odata_syntax.specs.Spelling.{Spells, continues_identifier}
+use Rattle.odata_syntax.specs.StringLiteral.{IsStringSpelling}
+use Rattle.odata_syntax.specs.Lengths.{IsReach, found_piece}
+use Rattle.odata_syntax.specs.Spelling.{Spells}
 use Rattle.odata_syntax.specs.Tokens.{IsLongest, NoneSpelled}
 use Rattle.odata_syntax.specs.declared.odata_text.byte_class.ByteClass.{ByteClass}
 use Rattle.odata_syntax.specs.declared.odata_text.byte_class.ByteClass.TheVariants.{Letter, Digit, Sign, Quote, Space, Other}
 use Rattle.odata_syntax.specs.declared.odata_text.token.TokenKind.{TokenKind}
 use Rattle.odata_syntax.specs.declared.odata_text.token.TokenKind.TheVariants.{Word, Int, Str}
-use Rattle.odata_syntax.proofs.ByteClasses.{class_of-digit, class_of-sign, class_of-quote, class_of-non_ascii}
-use Rattle.odata_syntax.proofs.Reaches.{IsWordByIndex-from_identifier, numeral-from_int, digit_test}
+use Rattle.odata_syntax.proofs.ByteClasses.{class_of-digit, class_of-sign, class_of-quote}
+use Rattle.odata_syntax.proofs.Reaches.{IsWordByIndex-from_identifier, digit_test}
 
 -- the kind whose spellings begin with a byte of the class
 abbrev pub started_kind : ByteClass → Option TokenKind
@@ -40,12 +40,12 @@ started-int [] int = absurd int.1
 started-int (c ∷ ds) int = record {
   nonempty = omega arith;
   first = elim int.1 [
-      | inl plus ↦ ap started_kind (class_of-sign c (inl plus.0))
-      | inr other ↦ elim other [
-          | inl minus ↦ ap started_kind (class_of-sign c (inr minus.0))
-          | inr plain ↦ ap started_kind (class_of-digit c (digit_test c (digit_at (c ∷ ds) 0 plain.0.1 plain.0.0)))
-        ]
-    ];
+    | inl plus ↦ ap started_kind (class_of-sign c (inl plus.0))
+    | inr other ↦ elim other [
+      | inl minus ↦ ap started_kind (class_of-sign c (inr minus.0))
+      | inr plain ↦ ap started_kind (class_of-digit c (digit_test c (digit_at (c ∷ ds) 0 plain.0.1 plain.0.0)))
+    ]
+  ];
 }
 
 started-str : (bytes : List ℕ) → IsStringSpelling bytes → IsStarted Str bytes

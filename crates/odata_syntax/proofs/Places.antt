@@ -1,19 +1,16 @@
 -- Places in a text: where pieces end, and what stands behind them.
-use Rattle.std.proofs.Common.{◌≡◌, ◌⊎◌, inl, inr, ⊎_elim, ℕ, suc, zero, ◌+◌, ◌-◌, ◌<◌, ◌≤◌, Bool, true, false, List, [], ◌∷◌, ◌++◌, length, get_or, take, drop, IsUtf8, arith, refl, sym, ◌∙◌, ap, subst}
-use Rattle.std.specs.Prelude.{IsCharBoundary, IsTrue, slice_range}
+use Rattle.std.proofs.Common.{◌≡◌, ⊎_elim, ℕ, ◌+◌, ◌-◌, ◌<◌, true, List, ◌∷◌, length, get_or, take, drop, IsUtf8, arith, refl, sym, ◌∙◌, ap, subst}
+use Rattle.std.specs.Prelude.{IsCharBoundary, slice_range}
 use Rattle.std.proofs.lemmas.Bool.{cases_lt, both_ways}
 use Rattle.std.proofs.lemmas.List.{get_or-take, get_or-drop, get_or_push, length-take-le, length-drop, length_push, take_rest}
 use Rattle.std.proofs.lemmas.Str.{IsCharBoundary-after_ascii}
 use Rattle.std.proofs.lemmas.Str.Parse.{digit_at}
-use Rattle.odata_syntax.specs.ByteClass.{class_of}
 use Rattle.odata_syntax.specs.IntLiteral.{IsIntSpelling}
 use Rattle.odata_syntax.specs.StringLiteral.{doubled, IsStringSpelling}
 use Rattle.odata_syntax.specs.Lengths.{sign_length}
-use Rattle.odata_syntax.specs.Piece.{Piece}
 use Rattle.odata_syntax.specs.Spelling.{Spells, continues_identifier, identifier_length, is_identifier_byte}
-use Rattle.odata_syntax.specs.Tokens.{IsGap, IsLongest, IsPieceAt, IsRunOn, RunsOn, is_undelimited}
+use Rattle.odata_syntax.specs.Tokens.{IsGap, IsLongest, IsRunOn, is_undelimited}
 use Rattle.odata_syntax.specs.declared.odata_text.byte_class.ByteClass.TheVariants.{Space, Other}
-use Rattle.odata_syntax.specs.declared.odata_text.span.Span.{Span}
 use Rattle.odata_syntax.specs.declared.odata_text.token.TokenKind.{TokenKind}
 use Rattle.odata_syntax.specs.declared.odata_text.token.TokenKind.TheVariants.{Word, Int, Str}
 use Rattle.odata_syntax.proofs.ByteClasses.{class_of-non_ascii}
@@ -58,9 +55,9 @@ boundary-behind text start n kind utf8 longest =
     let room = length-drop start text in
     let place : start + (length (take n (drop start text)) - 1) ≡ start + n - 1 = omega arith in
     let same : get_or (take n (drop start text)) (length (take n (drop start text)) - 1) 0 ≡ get_or text (start + n - 1) 0 =
-        get_or-take n (drop start text) (length (take n (drop start text)) - 1) 0 (omega arith)
-        ∙ get_or-drop start text (length (take n (drop start text)) - 1) 0
-        ∙ ap (λ (i : ℕ). get_or text i 0) place in
+    get_or-take n (drop start text) (length (take n (drop start text)) - 1) 0 (omega arith)
+    ∙ get_or-drop start text (length (take n (drop start text)) - 1) 0
+    ∙ ap (λ (i : ℕ). get_or text i 0) place in
     let ascii : get_or text (start + n - 1) 0 < 128 = subst (λ (b : ℕ). b < 128) same (ascii_end kind (take n (drop start text)) longest.spelled) in
     let next : start + n - 1 + 1 ≡ start + n = omega arith in
     subst (IsCharBoundary text) next (IsCharBoundary-after_ascii text (start + n - 1) utf8 (omega arith) ascii)
@@ -72,11 +69,11 @@ boundary-gap text from to utf8 boundary gap =
     let within = gap.within in
     ⊎_elim
     (λ behind.
-        let last : to - 1 < to = omega arith in
-        let white = gap.white (to - 1) (omega arith) last in
-        let ascii : get_or text (to - 1) 0 < 128 = ⊎_elim (λ near. near) (λ far. let both : Space ≡ Other = sym white ∙ class_of-non_ascii _ far in cc) (cases_lt (get_or text (to - 1) 0) 128) in
-        let next : to - 1 + 1 ≡ to = omega arith in
-        subst (IsCharBoundary text) next (IsCharBoundary-after_ascii text (to - 1) utf8 (omega arith) ascii))
+    let last : to - 1 < to = omega arith in
+    let white = gap.white (to - 1) (omega arith) last in
+    let ascii : get_or text (to - 1) 0 < 128 = ⊎_elim (λ near. near) (λ far. let both : Space ≡ Other = sym white ∙ class_of-non_ascii _ far in cc) (cases_lt (get_or text (to - 1) 0) 128) in
+    let next : to - 1 + 1 ≡ to = omega arith in
+    subst (IsCharBoundary text) next (IsCharBoundary-after_ascii text (to - 1) utf8 (omega arith) ascii))
     (λ same. let here : from ≡ to = omega arith in subst (IsCharBoundary text) here boundary)
     (cases_lt from to)
 

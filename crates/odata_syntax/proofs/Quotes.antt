@@ -1,12 +1,12 @@
 -- Texts between quotes, read byte by byte.
-use Rattle.std.proofs.Common.{◌≡◌, ◌⊎◌, inl, inr, ⊎_elim, ℕ, ◌+◌, ◌-◌, ◌<◌, ◌≤◌, ◌==◌, true, false, cond, List, [], ◌∷◌, ◌++◌, length, get_or, take, drop, arith, refl, sym, ◌∙◌, ap, subst, append_assoc}
+use Rattle.std.proofs.Common.{◌≡◌, inl, inr, ⊎_elim, ℕ, ◌+◌, ◌<◌, ◌≤◌, ◌==◌, true, false, List, [], ◌∷◌, ◌++◌, length, get_or, take, drop, arith, refl, sym, ◌∙◌, ap}
 use Rattle.std.specs.Prelude.{fold}
 use Rattle.std.proofs.lemmas.Bool.{cases_lt, cond-true, cond-false}
 use Rattle.std.proofs.lemmas.Bool.Decides.{eqb_tells}
-use Rattle.std.proofs.lemmas.List.{take-append-drop, take-take, length-take-le}
+use Rattle.std.proofs.lemmas.List.{take-append-drop, take-take}
 use Rattle.std.proofs.lemmas.List.Sums.{fold-append, fold_more}
 use Rattle.odata_syntax.specs.Lengths.{IsReach, quoted_after, quoted_of}
-use Rattle.odata_syntax.specs.StringLiteral.{doubled, StringValue, IsStringSpelling}
+use Rattle.odata_syntax.specs.StringLiteral.{doubled, IsStringSpelling}
 use Rattle.odata_syntax.specs.declared.odata_text.quoted.Quoted.{Quoted}
 use Rattle.odata_syntax.specs.declared.odata_text.quoted.Quoted.TheVariants.{Before, Open, Closed, Over}
 
@@ -71,14 +71,14 @@ closing (b ∷ []) closed =
 closing (b ∷ c ∷ rest) closed =
     elim (eqb_tells b 39) [
       | inl same ↦ elim (eqb_tells c 39) [
-          | inl twice ↦
-              let found = closing rest (behind rest (closed-quote c twice.0) (behind (c ∷ rest) (open-quote b same.0) closed)) in
-              let first : b ≡ 39 = same.1 in
-              let second : c ≡ 39 = twice.1 in
-              let tail = found.1 in
-              (39 ∷ found.0, cc)
-          | inr over ↦ absurd (never_closes rest (behind rest (closed-other c over.0) (behind (c ∷ rest) (open-quote b same.0) closed)))
-        ]
+        | inl twice ↦
+            let found = closing rest (behind rest (closed-quote c twice.0) (behind (c ∷ rest) (open-quote b same.0) closed)) in
+            let first : b ≡ 39 = same.1 in
+            let second : c ≡ 39 = twice.1 in
+            let tail = found.1 in
+            (39 ∷ found.0, cc)
+        | inr over ↦ absurd (never_closes rest (behind rest (closed-other c over.0) (behind (c ∷ rest) (open-quote b same.0) closed)))
+      ]
       | inr other ↦
           let found = closing (c ∷ rest) (behind (c ∷ rest) (open-other b other.0) closed) in
           (b ∷ found.0, ap (λ (ys : List ℕ). b ∷ ys) found.1 ∙ ap (λ (ys : List ℕ). ys ++ 39 ∷ []) (sym (doubled-other b found.0 other.0)))

@@ -1,16 +1,16 @@
 -- The lengths of the words and whole numbers at the front of a text.
-use Rattle.std.proofs.Common.{◌≡◌, ◌⊎◌, inl, inr, ⊎_elim, ℕ, suc, zero, ◌+◌, ◌-◌, ◌<◌, ◌≤◌, ◌==◌, ◌||◌, ◌&&◌, Bool, true, false, cond, ℤ, pos, neg_ℤ, List, [], ◌∷◌, length, get_or, take, drop, arith, refl, sym, ◌∙◌, ap, subst, drop-cons}
+use Rattle.std.proofs.Common.{◌≡◌, inl, inr, ⊎_elim, ℕ, suc, zero, ◌+◌, ◌-◌, ◌<◌, ◌≤◌, ◌==◌, ◌||◌, Bool, true, cond, pos, neg_ℤ, List, [], ◌∷◌, length, get_or, take, drop, arith, refl, sym, ◌∙◌, ap, subst}
 use Rattle.std.specs.Char.{is_ascii_digit}
 use Rattle.std.specs.Int.{IsInRange}
-use Rattle.std.specs.List.{AllPass, prefix_len}
-use Rattle.std.specs.Str.Parse.{AllDigits, IsNumeral, digits_value}
+use Rattle.std.specs.List.{prefix_len}
+use Rattle.std.specs.Str.Parse.{IsNumeral, digits_value}
 use Rattle.std.proofs.lemmas.Bool.{both_ways, cases_lt, cond_both}
 use Rattle.std.proofs.lemmas.Bool.Decides.{eqb_tells, nat_tests}
-use Rattle.std.proofs.lemmas.List.{get_or_default, get_or-take, get_or-drop, length-take-le, length-drop, drop-take, take_rest}
+use Rattle.std.proofs.lemmas.List.{get_or_default, get_or-take, length-take-le, length-drop, drop-take, take_rest}
 use Rattle.std.proofs.lemmas.List.Sums.{prefix_len-le-length, prefix_len_passes, prefix_len_stops}
 use Rattle.std.proofs.lemmas.Str.Parse.{digit_at, numerals_by_value, tells_by_index}
 use Rattle.odata_syntax.specs.ByteClass.{class_of}
-use Rattle.odata_syntax.specs.IntLiteral.{IntNumber, IsIntSpelling}
+use Rattle.odata_syntax.specs.IntLiteral.{IsIntSpelling}
 use Rattle.odata_syntax.specs.Lengths.{IsReach, sign_length}
 use Rattle.odata_syntax.specs.Spelling.{IsIdentifier, continues_identifier, identifier_length, is_identifier_byte}
 use Rattle.odata_syntax.specs.declared.odata_text.byte_class.ByteClass.TheVariants.{Letter}
@@ -47,10 +47,10 @@ IsReach-identifier rest nonempty first =
     record {
       within = within;
       found = λ positive. IsIdentifier-from_index (take n rest) (record {
-          nonempty = omega arith;
-          first = ap class_of (get_or-take n rest 0 0 positive) ∙ first;
-          each = λ k below. let inside : k < n = omega arith in ap is_identifier_byte (get_or-take n rest k 0 inside) ∙ prefix_len_passes is_identifier_byte rest k 0 inside;
-        });
+        nonempty = omega arith;
+        first = ap class_of (get_or-take n rest 0 0 positive) ∙ first;
+        each = λ k below. let inside : k < n = omega arith in ap is_identifier_byte (get_or-take n rest k 0 inside) ∙ prefix_len_passes is_identifier_byte rest k 0 inside;
+      });
       reaches = λ m inside word.
           let byte = (IsWordByIndex-from_identifier (take m rest) word).each in
           let taken : length (take m rest) ≡ m = length-take-le m rest inside in
@@ -69,10 +69,12 @@ digit_test c range = grind (arith, nat_tests)
 numeral-found : (rest : List ℕ) (n : ℕ) → n ≤ prefix_len is_ascii_digit rest → 0 < n → IsNumeral 10 (take n rest)
 numeral-found rest n within positive =
     let bound : prefix_len is_ascii_digit rest ≤ length rest = prefix_len-le-length is_ascii_digit rest in
-    let size : length (take n rest) ≡ n = length-take-le n rest (omega arith) in
-    (omega arith, (numerals_by_value _ tells_by_index).to (take n rest) (λ i below.
-        let inside : i < n = omega arith in
-        subst (IsInRange 48 57) (sym (get_or-take n rest i 0 inside)) (digit_range _ (prefix_len_passes is_ascii_digit rest i 0 (omega arith)))))
+    let size : length (take n rest) ≡ n = length-take-le n rest (omega arith) in (
+      omega arith,
+      (numerals_by_value _ tells_by_index).to (take n rest) (λ i below.
+          let inside : i < n = omega arith in
+          subst (IsInRange 48 57) (sym (get_or-take n rest i 0 inside)) (digit_range _ (prefix_len_passes is_ascii_digit rest i 0 (omega arith)))),
+    )
 
 numeral-reaches : (rest : List ℕ) (m : ℕ) → m ≤ length rest → IsNumeral 10 (take m rest) → m ≤ prefix_len is_ascii_digit rest
 numeral-reaches rest m inside numeral =
@@ -86,9 +88,9 @@ numeral-from_int (c ∷ ds) int =
     elim int.1 [
       | inl plus ↦ rw plus.0 plus.1
       | inr other ↦ elim other [
-          | inl minus ↦ rw minus.0 minus.1
-          | inr plain ↦ let digit = digit_at (c ∷ ds) 0 plain.0.1 plain.0.0 in let none : sign_length (c ∷ ds) ≡ 0 = grind (arith, nat_tests) in rw none plain.0
-        ]
+        | inl minus ↦ rw minus.0 minus.1
+        | inr plain ↦ let digit = digit_at (c ∷ ds) 0 plain.0.1 plain.0.0 in let none : sign_length (c ∷ ds) ≡ 0 = grind (arith, nat_tests) in rw none plain.0
+      ]
     ]
 
 pub int-from_numeral : (xs : List ℕ) → IsNumeral 10 (drop (sign_length xs) xs) → IsIntSpelling xs
@@ -97,9 +99,9 @@ int-from_numeral (c ∷ ds) numeral =
     elim (eqb_tells c 43) [
       | inl plus ↦ (pos (digits_value 10 ds), inl (plus.1, rw plus.0 at numeral, refl))
       | inr no_plus ↦ elim (eqb_tells c 45) [
-          | inl minus ↦ (neg_ℤ (pos (digits_value 10 ds)), inr (inl (minus.1, rw (no_plus.0, minus.0) at numeral, refl)))
-          | inr no_minus ↦ (pos (digits_value 10 (c ∷ ds)), inr (inr (rw (no_plus.0, no_minus.0) at numeral, refl)))
-        ]
+        | inl minus ↦ (neg_ℤ (pos (digits_value 10 ds)), inr (inl (minus.1, rw (no_plus.0, minus.0) at numeral, refl)))
+        | inr no_minus ↦ (pos (digits_value 10 (c ∷ ds)), inr (inr (rw (no_plus.0, no_minus.0) at numeral, refl)))
+      ]
     ]
 
 sign_length-take : (rest : List ℕ) (m : ℕ) → 0 < m → sign_length (take m rest) ≡ sign_length rest

@@ -1,5 +1,5 @@
 -- Words of private contracts alone: what the functions that measure pieces answer.
-use Rattle.std.specs.Prelude.{◌≡◌, ℕ, ◌<◌, ◌≤◌, ◌==◌, ◌||◌, slice_index, if◌then◌else◌, List, length, take, fold, Option, Some, None}
+use Rattle.std.specs.Prelude.{ℕ, ◌<◌, ◌≤◌, ◌==◌, ◌||◌, slice_index, if◌then◌else◌, List, length, take, fold, Option, Some, None}
 use Rattle.odata_syntax.specs.declared.odata_text.quoted.Quoted.{Quoted}
 use Rattle.odata_syntax.specs.declared.odata_text.quoted.Quoted.TheVariants.{Before, Open, Closed, Over}
 use Rattle.odata_syntax.specs.declared.odata_text.token.TokenKind.{TokenKind}

@@ -17,4 +17,3 @@ StringValue spelling value = spelling ≡ quote ∷ doubled value ++ quote ∷ [
 -- some text has this spelling
 abbrev pub IsStringSpelling : List ℕ → Type 0
 IsStringSpelling spelling = (value : List ℕ) × StringValue spelling value
-

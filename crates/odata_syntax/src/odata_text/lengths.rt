@@ -1,11 +1,11 @@
-use super::byte_class::{ByteClass, class_of};
-
 ghost use Rattle.std.specs.Prelude.{◌≡◌, ◌≤◌, length};
 ghost use Rattle.std.specs.Char.{is_ascii_digit};
 ghost use Rattle.std.specs.List.{prefix_len};
 ghost use Rattle.odata_syntax.specs.IntLiteral.{IsIntSpelling};
 ghost use Rattle.odata_syntax.specs.Lengths.{IsReach, sign_length};
 ghost use Rattle.odata_syntax.specs.Spelling.{IsIdentifier, identifier_length};
+
+use super::byte_class::{ByteClass, class_of};
 
 /// How many bytes the run of identifier characters at the front takes.
 pub fn identifier_length(rest: &[u8]) -> usize

@@ -1,16 +1,20 @@
+ghost use Rattle.std.specs.Prelude.{◌≡◌, MatchOption};
+ghost use Rattle.odata_syntax.specs.Lengths.{found_piece};
+ghost use Rattle.odata_syntax.specs.Tokens.{IsLongest, NoneSpelled};
+
 use super::byte_class::{ByteClass, class_of};
 use super::lengths::{int_length, word_length};
 use super::quoted::string_length;
 use super::token::TokenKind;
 
-ghost use Rattle.std.specs.Prelude.{◌≡◌, MatchOption};
-ghost use Rattle.odata_syntax.specs.Lengths.{found_piece};
-ghost use Rattle.odata_syntax.specs.Tokens.{IsLongest, NoneSpelled};
-
 fn found_piece(kind: TokenKind, length: usize) -> Option<(TokenKind, usize)>
     ensures { result ≡ found_piece kind length }
 {
-    if length == 0 { None } else { Some((kind, length)) }
+    if length == 0 {
+        None
+    } else {
+        Some((kind, length))
+    }
 }
 
 /// The longest piece at the front: its kind and how many bytes it takes.

@@ -1,4 +1,7 @@
-use std::alloc::Global;
+ghost use Rattle.std.specs.Prelude.{◌≡◌, ◌≢◌, ◌<◌, ◌≤◌, ℕ, IfOk, IfErr, IsCharBoundary, List, length, slice_index};
+ghost use Rattle.odata_syntax.specs.ByteClass.{class_of};
+ghost use Rattle.odata_syntax.specs.Piece.{Piece, piece_of, pieces_of};
+ghost use Rattle.odata_syntax.specs.Tokens.{IsFaultAt, IsFaultBehind, IsGap, IsNoToken, IsTextFault, IsTokenAt, IsTokenList, is_undelimited, text_limit};
 
 use super::byte_class::{ByteClass, class_of};
 use super::fault::TextFault;
@@ -6,11 +9,7 @@ use super::lengths::identifier_length;
 use super::longest::longest;
 use super::span::Span;
 use super::token::{Token, TokenKind};
-
-ghost use Rattle.std.specs.Prelude.{◌≡◌, ◌≢◌, ◌<◌, ◌≤◌, ℕ, IfOk, IfErr, IsCharBoundary, length, slice_index};
-ghost use Rattle.odata_syntax.specs.ByteClass.{class_of};
-ghost use Rattle.odata_syntax.specs.Piece.{piece_of, pieces_of};
-ghost use Rattle.odata_syntax.specs.Tokens.{IsFaultAt, IsGap, IsNoToken, IsTokenAt, IsTokenList, is_undelimited};
+use std::alloc::Global;
 
 /// No text of a filter is longer, in bytes.
 const TEXT_LIMIT: usize = 16384;
@@ -49,12 +48,16 @@ fn no_token(text: &str, start: usize) -> TextFault
 {
     if class_of(text.as_bytes()[start]) == ByteClass::Quote {
         let stop = text.len();
-        return TextFault::UnclosedString { span: Span { start, stop } };
+        return TextFault::UnclosedString {
+            span: Span { start, stop },
+        };
     }
     match text[start..].chars().next() {
         Some(character) => {
             let stop = start + character.len_utf8();
-            TextFault::BadCharacter { span: Span { start, stop } }
+            TextFault::BadCharacter {
+                span: Span { start, stop },
+            }
         }
         None => unreachable!(),
     }
@@ -78,22 +81,27 @@ fn token_at(text: &str, start: usize) -> Result<Token<'_>, TextFault>
     if is_undelimited(kind) {
         let behind = identifier_length(&bytes[stop..]);
         if behind > 0 {
-            let span = Span { start, stop: stop + behind };
+            let span = Span {
+                start,
+                stop: stop + behind,
+            };
             return Err(TextFault::RunOn { span });
         }
     }
     let span = Span { start, stop };
-    Ok(Token { span, kind, text: &text[start..stop] })
+    Ok(Token {
+        span,
+        kind,
+        text: &text[start..stop],
+    })
 }
 
-/// The tokens of a filter's text.
-pub fn tokens<'t>(alloc: Global, text: &'t str) -> Result<Vec<Token<'t>>, TextFault>
-    ensures ok { IfOk result (λ v. IsTokenList text.now (pieces_of v.items)) }
+/// The tokens of a text that is not too long.
+fn scan<'t>(alloc: Global, text: &'t str) -> Result<Vec<Token<'t>>, TextFault>
+    requires { length text.now ≤ text_limit }
+    ensures ok { IfOk result (λ tokens. IsTokenList text.now (pieces_of tokens.items)) }
+    ensures fault { IfErr result (λ fault. fault ≢ TextFault.Memory → IsFaultBehind text.now fault) }
 {
-    if text.len() > TEXT_LIMIT {
-        let span = Span { start: 0, stop: text.len() };
-        return Err(TextFault::TooLong { span });
-    }
     let bytes = text.as_bytes();
     let mut tokens = Vec::new(alloc);
     let mut place = skip_spaces(bytes, 0);
@@ -102,11 +110,23 @@ pub fn tokens<'t>(alloc: Global, text: &'t str) -> Result<Vec<Token<'t>>, TextFa
         if tokens.len() == TOKEN_LIMIT {
             return Err(TextFault::TooLong { span: token.span });
         }
-        match tokens.push(token) {
-            Ok(()) => {}
-            Err(_) => return Err(TextFault::Memory),
-        }
+        tokens.push(token)?;
         place = skip_spaces(bytes, token.span.stop);
     }
     Ok(tokens)
+}
+
+/// The tokens of a filter's text.
+pub fn tokens<'t>(alloc: Global, text: &'t str) -> Result<Vec<Token<'t>>, TextFault>
+    ensures ok { IfOk result (λ tokens. IsTokenList text.now (pieces_of tokens.items)) }
+    ensures fault { IfErr result (λ fault. fault ≢ TextFault.Memory → IsTextFault text.now fault) }
+{
+    if text.len() > TEXT_LIMIT {
+        let span = Span {
+            start: 0,
+            stop: text.len(),
+        };
+        return Err(TextFault::TooLong { span });
+    }
+    scan(alloc, text)
 }

@@ -1,8 +1,7 @@
-use Rattle.std.proofs.Common.{◌≡◌, ⊎_elim, ℕ, Option, Some, None, sym, ◌∙◌, ap, subst}
+use Rattle.std.proofs.Common.{◌≡◌, ⊎_elim, Some, None, sym, ◌∙◌, ap, subst}
 use Rattle.odata_syntax.specs.ByteClass.{class_of}
-use Rattle.odata_syntax.specs.declared.odata_text.token.TokenKind.{TokenKind}
 use Rattle.odata_syntax.specs.declared.odata_text.token.TokenKind.TheVariants.{Word, Int, Str}
-use Rattle.odata_syntax.proofs.Longest.{Finds, finds-piece, none-by_class, none-at_end, started_kind}
+use Rattle.odata_syntax.proofs.Longest.{Finds, finds-piece, none-by_class, started_kind}
 use Rattle.odata_syntax.proofs.odata_text.longest.longest.Goals as goal
 
 pub returns-in-Letter : goal.returns-in-Letter

@@ -1,7 +1,7 @@
-use Rattle.std.proofs.Common.{◌≡◌, ℕ, ◌+◌, ◌<◌, ◌≤◌, length, drop, true, arith, refl, sym, ◌∙◌, ap, subst}
+use Rattle.std.proofs.Common.{◌+◌, length, arith, refl, sym, ◌∙◌, ap, subst}
 use Rattle.std.proofs.lemmas.List.{length-drop}
 use Rattle.odata_syntax.specs.Spelling.{identifier_length}
-use Rattle.odata_syntax.specs.Tokens.{IsLongest, is_undelimited}
+use Rattle.odata_syntax.specs.Tokens.{IsLongest}
 use Rattle.odata_syntax.proofs.Places.{boundary-behind, rest_of, run_on}
 use Rattle.odata_syntax.proofs.odata_text.scan.token_at.Goals as goal
 
