@@ -1,4 +1,10 @@
+pub mod ByteClass
+pub mod IntLiteral
+pub mod Lengths
 pub mod Piece
+pub mod Spelling
+pub mod StringLiteral
+pub mod Tokens
 pub mod Tree
 pub mod TreeView
 pub mod Lexeme
