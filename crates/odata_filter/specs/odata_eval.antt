@@ -1,0 +1,9 @@
+pub mod AndGives
+pub mod Environment
+pub mod EqualGives
+pub mod LeftFirst
+pub mod LiteralGives
+pub mod LiteralValue
+pub mod Means
+pub mod NameGives
+pub mod Outcome
