@@ -7,13 +7,16 @@ use Rattle.edm_values.specs.IntLiteral.{IntValue}
 use Rattle.edm_values.specs.StringLiteral.{StringValue}
 use Rattle.edm_values.specs.Val.{Val, boolean, whole, text}
 
--- the words `true` and `false` in any ASCII case
-abbrev pub BoolValue : List ℕ → Bool → Type 0
-BoolValue spelling true = IsTrue (str_eq_ignore_ascii_case spelling (codes "true"))
-BoolValue spelling false = IsTrue (str_eq_ignore_ascii_case spelling (codes "false"))
+-- the words of the two truth values, read in any ASCII case
+abbrev pub truth_word : Bool → List ℕ
+truth_word true = codes "true"
+truth_word false = codes "false"
+
+abbrev pub BooleanValue : List ℕ → Bool → Type 0
+BooleanValue spelling b = IsTrue (str_eq_ignore_ascii_case spelling (truth_word b))
 
 abbrev pub LiteralValue : LiteralKind → List ℕ → Val → Type 0
-LiteralValue BoolLiteral spelling (boolean b) = BoolValue spelling b
+LiteralValue BoolLiteral spelling (boolean b) = BooleanValue spelling b
 LiteralValue IntLiteral spelling (whole n) = IntValue spelling n
 LiteralValue StrLiteral spelling (text t) = StringValue spelling t
 LiteralValue _ spelling _ = ⊥

@@ -1,0 +1,3 @@
+pub mod OneLeaf
+pub mod OneMeaning
+pub mod OneStep
