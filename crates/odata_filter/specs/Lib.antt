@@ -1,1 +1,2 @@
 pub mod csdl_schema
+pub mod edm_entities
