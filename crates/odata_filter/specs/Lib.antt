@@ -1,2 +1,3 @@
 pub mod csdl_schema
+pub mod edm_entities
 pub mod odata_eval

@@ -1,0 +1,5 @@
+pub mod Fits
+pub mod HasType
+pub mod NumberTypes
+pub mod Row
+pub mod RowFaults
