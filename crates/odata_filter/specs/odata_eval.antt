@@ -1,9 +1,9 @@
 pub mod AndGives
 pub mod Environment
+pub mod EndsOnce
 pub mod EqualGives
 pub mod LeftFirst
 pub mod LiteralGives
-pub mod LiteralValue
 pub mod Means
 pub mod NameGives
 pub mod Outcome

@@ -15,7 +15,7 @@ use Rattle.odata_filter.specs.odata_eval.AndGives.{BothGive, AndGives}
 use Rattle.odata_filter.specs.odata_eval.Environment.{Environment, variable_value}
 use Rattle.odata_filter.specs.odata_eval.EqualGives.{IsWhether, EqualGives}
 use Rattle.odata_filter.specs.odata_eval.LiteralGives.{LiteralGives}
-use Rattle.odata_filter.specs.odata_eval.LiteralValue.{LiteralValue, BooleanValue, truth_word}
+use Rattle.odata_filter.specs.odata_typing.LiteralValue.{LiteralValue, BooleanValue, truth_word}
 use Rattle.odata_filter.specs.odata_eval.NameGives.{NameGives, FoundGives, StepGives, HeldGives}
 use Rattle.odata_filter.specs.odata_eval.Outcome.{Outcome, gives, overflow, divides_by_zero, GivesSome}
 use Rattle.odata_filter.proofs.MeansLaws.OneStep.{AtMostOne, same_one, GivesSome-one, After-one}

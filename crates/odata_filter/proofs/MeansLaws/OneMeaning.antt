@@ -10,7 +10,7 @@ use Rattle.odata_filter.specs.odata_eval.AndGives.{AndGives}
 use Rattle.odata_filter.specs.odata_eval.Environment.{Environment, variable_value}
 use Rattle.odata_filter.specs.odata_eval.EqualGives.{EqualGives}
 use Rattle.odata_filter.specs.odata_eval.LeftFirst.{After}
-use Rattle.odata_filter.specs.odata_eval.LiteralValue.{LiteralValue}
+use Rattle.odata_filter.specs.odata_typing.LiteralValue.{LiteralValue}
 use Rattle.odata_filter.specs.odata_eval.Means.{Means, ShapeMeans}
 use Rattle.odata_filter.proofs.MeansLaws.OneLeaf.{LiteralValue-one, FoundGives-one, AndGives-one, EqualGives-one}
 use Rattle.odata_filter.proofs.MeansLaws.OneStep.{AtMostOne, GivesSome-one, After-one}
