@@ -2,7 +2,8 @@
 use Rattle.std.proofs.Common.{◌≡◌, ◌≢◌, ◌⊎◌, inl, inr, ℕ, suc, ◌+◌, ◌<◌, List, [], ◌∷◌, ◌++◌, ◌==◌, length, get_or, true, false, cond, arith, refl, sym, ◌∙◌, ap, subst, append_assoc, append-nil, Option, Some, None, IfSome, IfNone, Bor}
 use Rattle.std.specs.Option.{MatchOption}
 use Rattle.std.proofs.lemmas.Bool.Decides.{eqb_tells}
-use Rattle.edm_values.specs.StringLiteral.{quote, doubled}
+use Rattle.std.proofs.lemmas.List.{same_from_push}
+use Rattle.edm_values.specs.StringLiteral.{quote, doubled, StringValue}
 
 -- a text without quotes is not changed
 pub doubled-plain : (text : List ℕ) → ((i : ℕ) → i < length text → get_or text i 0 ≢ quote) → doubled text ≡ text
@@ -108,3 +109,9 @@ one_more inner value piece rest plain same =
     same ∙ sym (ap (λ (xs : List ℕ). xs ++ rest) (doubled-append (value ++ piece) (39 ∷ []))
     ∙ ap (λ (xs : List ℕ). (xs ++ (39 ∷ 39 ∷ [])) ++ rest) (doubled-append value piece ∙ ap (λ (xs : List ℕ). doubled value ++ xs) (doubled-plain piece plain))
     ∙ simp append_assoc)
+
+-- a spelling has one value
+pub StringValue-same : (spelling value other : List ℕ) → StringValue spelling value → StringValue spelling other → value ≡ other
+StringValue-same spelling value other first second =
+    let e : doubled value ++ (39 ∷ []) ≡ doubled other ++ (39 ∷ []) = cc in
+    doubled_same value other (same_from_push (doubled value) (doubled other) 39 39 e).0

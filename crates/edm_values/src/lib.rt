@@ -14,3 +14,6 @@ pub use moment::Moment;
 pub use primitive::PrimitiveType as Prim;
 pub use string_literal::{LitFault, read_string};
 pub use value::Value;
+
+#[cfg(test)]
+mod tests;
