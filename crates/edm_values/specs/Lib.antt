@@ -1,1 +1,4 @@
+pub mod Civil
+pub mod MomentParts
+pub mod PlainVal
 pub mod Val
