@@ -1,1 +1,2 @@
 pub mod csdl_schema
+pub mod odata_typing
