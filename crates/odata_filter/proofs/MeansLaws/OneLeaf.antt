@@ -9,6 +9,7 @@ use Rattle.edm_values.specs.IntLiteral.{IntValue}
 use Rattle.edm_values.specs.StringLiteral.{StringValue, doubled}
 use Rattle.edm_values.proofs.Ints.{IntNumber-same}
 use Rattle.edm_values.proofs.Quotes.{doubled_same}
+use Rattle.odata_syntax.specs.declared.node.BinaryOperator.{BinaryOperator}
 use Rattle.odata_syntax.specs.declared.node.LiteralKind.{LiteralKind}
 use Rattle.odata_syntax.specs.declared.node.LiteralKind.TheVariants.{Bool as BoolLiteral, Int as IntLiteral, Str as StrLiteral}
 use Rattle.odata_filter.specs.odata_eval.AndGives.{BothGive, AndGives}
@@ -17,6 +18,7 @@ use Rattle.odata_filter.specs.odata_eval.EqualGives.{IsWhether, EqualGives}
 use Rattle.odata_filter.specs.odata_eval.LiteralGives.{LiteralGives}
 use Rattle.odata_filter.specs.odata_typing.LiteralValue.{LiteralValue, BooleanValue, truth_word}
 use Rattle.odata_filter.specs.odata_eval.NameGives.{NameGives, FoundGives, StepGives, HeldGives}
+use Rattle.odata_filter.specs.odata_eval.OperatorGives.{OperatorGives}
 use Rattle.odata_filter.specs.odata_eval.Outcome.{Outcome, gives, overflow, divides_by_zero, GivesSome}
 use Rattle.odata_filter.proofs.MeansLaws.OneStep.{AtMostOne, same_one, GivesSome-one, After-one}
 
@@ -56,6 +58,10 @@ BothGive-one _ _ a b p q = absurd p
 pub AndGives-one : (v : Val) (Right : Outcome → Type 0) → AtMostOne Right → AtMostOne (AndGives v Right)
 AndGives-one (boolean false) Right one a b p q = same_one (gives (boolean false)) a b p q
 AndGives-one v Right one a b p q = After-one Right (BothGive v) one (BothGive-one v) a b p q
+
+pub OperatorGives-one : (operator : BinaryOperator) (v : Val) (Right : Outcome → Type 0) → AtMostOne Right → AtMostOne (OperatorGives operator v Right)
+OperatorGives-one BinaryOperator.And v Right one a b p q = AndGives-one v Right one a b p q
+OperatorGives-one BinaryOperator.Eq v Right one a b p q = After-one Right (EqualGives v) one (EqualGives-one v) a b p q
 
 pub HeldGives-one : (h : Held) → AtMostOne (HeldGives h)
 HeldGives-one (present v) a b p q = same_one (gives v) a b p q

@@ -2,17 +2,13 @@
 use Rattle.std.proofs.Common.{◌≡◌, ℕ, List}
 use Rattle.edm_values.specs.Val.{Val}
 use Rattle.edm_values.specs.MomentParts.{MomentParts}
-use Rattle.odata_syntax.specs.declared.node.BinaryOperator.{BinaryOperator}
-use Rattle.odata_syntax.specs.declared.node.BinaryOperator.TheVariants.{And, Eq}
 use Rattle.odata_syntax.specs.Tree.{Tree, node, Shape, literal, name, binary}
 use Rattle.odata_filter.specs.csdl_schema.SchemaModel.{Slots}
-use Rattle.odata_filter.specs.odata_eval.AndGives.{AndGives}
 use Rattle.odata_filter.specs.odata_eval.Environment.{Environment, variable_value}
-use Rattle.odata_filter.specs.odata_eval.EqualGives.{EqualGives}
-use Rattle.odata_filter.specs.odata_eval.LeftFirst.{After}
+use Rattle.odata_filter.specs.odata_eval.OperatorGives.{OperatorGives}
 use Rattle.odata_filter.specs.odata_typing.LiteralValue.{LiteralValue}
 use Rattle.odata_filter.specs.odata_eval.Means.{Means, ShapeMeans}
-use Rattle.odata_filter.proofs.MeansLaws.OneLeaf.{LiteralValue-one, FoundGives-one, AndGives-one, EqualGives-one}
+use Rattle.odata_filter.proofs.MeansLaws.OneLeaf.{LiteralValue-one, FoundGives-one, OperatorGives-one}
 use Rattle.odata_filter.proofs.MeansLaws.OneStep.{AtMostOne, GivesSome-one, After-one}
 
 module _ (slots : Slots) (root : List ℕ) (now : MomentParts) (entity : Val) (environment : Environment) where
@@ -23,9 +19,6 @@ module _ (slots : Slots) (root : List ℕ) (now : MomentParts) (entity : Val) (e
     pub ShapeMeans-one : (shape : Shape) → AtMostOne (ShapeMeans slots root now entity environment shape)
     ShapeMeans-one (literal kind spelling) = GivesSome-one (LiteralValue kind spelling) (LiteralValue-one kind spelling)
     ShapeMeans-one (name word) = FoundGives-one (variable_value environment word) entity word
-    ShapeMeans-one (binary And left right) =
-        After-one (Means slots root now entity environment left) (λ l. AndGives l (Means slots root now entity environment right))
-        (Means-one left) (λ l. AndGives-one l (Means slots root now entity environment right) (Means-one right))
-    ShapeMeans-one (binary Eq left right) =
-        After-one (Means slots root now entity environment left) (λ l. After (Means slots root now entity environment right) (EqualGives l))
-        (Means-one left) (λ l. After-one (Means slots root now entity environment right) (EqualGives l) (Means-one right) (EqualGives-one l))
+    ShapeMeans-one (binary operator left right) =
+        After-one (Means slots root now entity environment left) (λ l. OperatorGives operator l (Means slots root now entity environment right))
+        (Means-one left) (λ l. OperatorGives-one operator l (Means slots root now entity environment right) (Means-one right))

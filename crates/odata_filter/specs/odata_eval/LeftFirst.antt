@@ -12,7 +12,3 @@ Then divides_by_zero Goes o = o ≡ divides_by_zero
 -- some outcome of the operand, and what follows it
 abbrev pub After : (Outcome → Type 0) → (Val → Outcome → Type 0) → Outcome → Type 0
 After Operand Goes o = (first : Outcome) × (Operand first × Then first Goes o)
-
--- both operands, the left one first
-abbrev pub AfterBoth : (Outcome → Type 0) → (Outcome → Type 0) → (Val → Val → Outcome → Type 0) → Outcome → Type 0
-AfterBoth Left Right Goes = After Left (λ l. After Right (Goes l))

@@ -2,16 +2,13 @@
 use Rattle.std.specs.Prelude.{ℕ, List}
 use Rattle.edm_values.specs.Val.{Val}
 use Rattle.edm_values.specs.MomentParts.{MomentParts}
-use Rattle.odata_syntax.specs.declared.node.BinaryOperator.{BinaryOperator}
-use Rattle.odata_syntax.specs.declared.node.BinaryOperator.TheVariants.{And, Eq}
 use Rattle.odata_syntax.specs.Tree.{Tree, node, Shape, literal, name, binary}
 use Rattle.odata_filter.specs.csdl_schema.SchemaModel.{Slots}
-use Rattle.odata_filter.specs.odata_eval.AndGives.{AndGives}
 use Rattle.odata_filter.specs.odata_eval.Environment.{Environment}
-use Rattle.odata_filter.specs.odata_eval.EqualGives.{EqualGives}
-use Rattle.odata_filter.specs.odata_eval.LeftFirst.{After, AfterBoth}
+use Rattle.odata_filter.specs.odata_eval.LeftFirst.{After}
 use Rattle.odata_filter.specs.odata_eval.LiteralGives.{LiteralGives}
 use Rattle.odata_filter.specs.odata_eval.NameGives.{NameGives}
+use Rattle.odata_filter.specs.odata_eval.OperatorGives.{OperatorGives}
 use Rattle.odata_filter.specs.odata_eval.Outcome.{Outcome}
 
 -- the outcomes of a tree under the types' properties, the filtered type's name, the moment that `now` stands for, the entity
@@ -23,7 +20,6 @@ abbrev mutual
   pub ShapeMeans : Slots → List ℕ → MomentParts → Val → Environment → Shape → Outcome → Type 0
   ShapeMeans slots root now entity environment (literal kind spelling) = LiteralGives kind spelling
   ShapeMeans slots root now entity environment (name word) = NameGives environment entity word
-  ShapeMeans slots root now entity environment (binary And left right) =
-      After (Means slots root now entity environment left) (λ l. AndGives l (Means slots root now entity environment right))
-  ShapeMeans slots root now entity environment (binary Eq left right) =
-      AfterBoth (Means slots root now entity environment left) (Means slots root now entity environment right) EqualGives
+  ShapeMeans slots root now entity environment (binary operator left right) =
+      After (Means slots root now entity environment left)
+      (λ l. OperatorGives operator l (Means slots root now entity environment right))
