@@ -1,0 +1,3 @@
+pub mod FitsHasType
+pub mod FitsOnce
+pub mod RowFaultRefuses
