@@ -63,6 +63,7 @@ agree_or_none (p ∷ ps) json f g name a b = by (pointwise nat_eq p.name name) r
   where
     here : f p.name ≡ g p.name
     here = same_held p.type_of (get p.name json) (f p.name) (g p.name) a.0 b.0
+
     by : (t : Bool) → t ≡ pointwise nat_eq p.name name → (f name ≡ g name) ⊎ AllByRecursion (λ q. q.name ≢ name) ps
         → (f name ≡ g name) ⊎ AllByRecursion (λ q. q.name ≢ name) (p ∷ ps)
     by true e rest = inl (let s : p.name ≡ name = same_text p.name name e in rw (← s) here)

@@ -1,3 +1,4 @@
 pub mod FitsHasType
 pub mod FitsOnce
+pub mod Numbers
 pub mod RowFaultRefuses

@@ -91,8 +91,8 @@ pub fault_clash : (properties : List PropertyModel) (json : Data) (f : List ℕ 
 fault_clash properties json f path flaw fits fault =
     let each = subst (AllByRecursion (λ p. FitsProperty p.type_of (get p.name json) (f p.name))) fault.split fits.each_fits in
     property_clash fault.faulty.type_of (get fault.faulty.name json) (f fault.faulty.name) fault.rest flaw
-        (all_at (λ p. FitsProperty p.type_of (get p.name json) (f p.name)) fault.before fault.faulty fault.behind each)
-        fault.fault
+    (all_at (λ p. FitsProperty p.type_of (get p.name json) (f p.name)) fault.before fault.faulty fault.behind each)
+    fault.fault
 
 record_clash : (slots : Slots) (type_name : List ℕ) (json : Data) (f : List ℕ → Held) (fault : RowFault)
     → FitsRecord (slots type_name) json f → ¬ (IsRowFault slots type_name json fault)

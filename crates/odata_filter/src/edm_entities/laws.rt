@@ -11,12 +11,10 @@ ghost use Rattle.odata_filter.specs.edm_entities.HasType.{HasType};
 pub fn one_value_fits()
     ensures { (slots : Slots) (type_name : List ℕ) (json : Data) (v w : Val)
         → Fits slots type_name json v → Fits slots type_name json w → v ≡ w }
-{
-}
+{}
 
 /// A value that fits has its type.
 pub fn what_fits_has_its_type()
     ensures { (slots : Slots) (type_name : List ℕ) (json : Data) (v : Val)
         → Fits slots type_name json v → HasType slots (single (structured type_name)) v }
-{
-}
+{}
