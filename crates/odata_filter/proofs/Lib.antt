@@ -2,3 +2,4 @@ pub mod FitsHasType
 pub mod FitsOnce
 pub mod Numbers
 pub mod RowFaultRefuses
+pub mod SlotWalk
