@@ -3,3 +3,4 @@ pub mod HasType
 pub mod NumberTypes
 pub mod Row
 pub mod RowFaults
+pub mod Walk

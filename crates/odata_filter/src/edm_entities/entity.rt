@@ -2,6 +2,7 @@ ghost use Rattle.std.specs.Prelude.{◌≡◌, ◌<◌, length, IfOk, IfErr};
 ghost use Rattle.serde_json.specs.View.{view};
 
 use super::fault::RowFault;
+use super::slots::read_slots;
 use crate::csdl_schema::ids::TypeId;
 use crate::csdl_schema::schema::Schema;
 use edm_values::Value;
@@ -54,7 +55,17 @@ impl<'s> Entity<'s> {
         ensures first_fault { IfErr result (λ fault. ¬ (IsMemory fault)
             → IsRowFault (slots_of schema.now) (type_name_at schema.now type_id) (view row.now) fault) }
     {
-        unreachable!()
+        if !row.is_object() {
+            return Err(RowFault::NotObject);
+        }
+        match read_slots(alloc, schema, type_id, row) {
+            Ok(values) => Ok(Entity {
+                schema,
+                type_id,
+                value: Value::Record(values),
+            }),
+            Err(fault) => Err(fault),
+        }
     }
 
     /// The schema of its type.
