@@ -65,25 +65,25 @@ held_ends : (slots : Slots) (type : ExprType) (held : Held) → HasPropertyType 
 held_ends slots type (present v) has = (v, (refl, has))
 held_ends slots type absent has = absurd has
 
--- the first property of that name has its type in the record
-property_held : (slots : Slots) (held : List ℕ → Held) (asked : List ℕ) (type : ExprType) (properties : List PropertyModel)
-    → AllByRecursion (λ p. HasPropertyType slots p.type_of (held p.name)) properties
-    → PropertyTyped properties asked type → HasPropertyType slots (declared type) (held asked)
-property_held slots held asked type [] all typed = absurd typed
-property_held slots held asked type (p ∷ more) all typed =
+-- what holds of each property holds of the first one of a name that has a type
+pub found_property : (Holds : PropertyType → List ℕ → Type 0) (asked : List ℕ) (type : ExprType) (properties : List PropertyModel)
+    → AllByRecursion (λ p. Holds p.type_of p.name) properties → PropertyTyped properties asked type → Holds (declared type) asked
+found_property Holds asked type [] all typed = absurd typed
+found_property Holds asked type (p ∷ more) all typed =
     elim (pointwise nat_eq p.name asked) as (λ is_it. pointwise nat_eq p.name asked ≡ is_it
-    → IsSomeAnd (cond is_it (Some p) (property_named more asked)) (λ q. q.type_of ≡ declared type)
-    → HasPropertyType slots (declared type) (held asked)) [
-      | true ↦ λ same is_typed. subst (λ (t : PropertyType). HasPropertyType slots t (held asked)) is_typed
-          (subst (λ (n : List ℕ). HasPropertyType slots p.type_of (held n)) ((bytes_eq-Decides p.name asked).0 same) all.0)
-      | false ↦ λ other is_typed. property_held slots held asked type more all.1 is_typed
+        → IsSomeAnd (cond is_it (Some p) (property_named more asked)) (λ q. q.type_of ≡ declared type)
+        → Holds (declared type) asked) [
+      | true ↦ λ same is_typed. subst (λ (t : PropertyType). Holds t asked) is_typed
+            (subst (λ (n : List ℕ). Holds p.type_of n) ((bytes_eq-Decides p.name asked).0 same) all.0)
+      | false ↦ λ other is_typed. found_property Holds asked type more all.1 is_typed
     ] refl typed
 
 step_ends : (slots : Slots) (root : List ℕ) (entity : Val) (asked : List ℕ) (type : ExprType)
     → HasType slots (single (structured root)) entity → PropertyTyped (slots root) asked type → Ends slots type (StepGives entity asked)
 step_ends slots root null asked type conforms typed = (null, (refl, tt))
 step_ends slots root (fields held) asked type conforms typed =
-    held_ends slots type (held asked) (property_held slots held asked type (slots root) conforms typed)
+    held_ends slots type (held asked)
+        (found_property (λ t n. HasPropertyType slots t (held n)) asked type (slots root) conforms typed)
 step_ends slots root _ asked type conforms typed = absurd conforms
 
 found_ends : (slots : Slots) (root : List ℕ) (entity : Val) (asked : List ℕ) (type : ExprType) (in_scope : Option ExprType) (value : Option Val)
