@@ -2,4 +2,6 @@
 pub mod fault;
 pub mod ids;
 pub mod property;
+mod read;
 pub mod schema;
+mod structured_type;

@@ -1,9 +1,18 @@
+ghost use Rattle.std.specs.Prelude.{◌≡◌, ◌<◌, ◌↔◌, length, map, slice_get, Some, IsTrue, IsSome, IfSome, option_map};
+ghost use Rattle.odata_filter.specs.csdl_schema.SchemaModel.{place_named, properties_at, slot_named, type_name_of, IsEntityAt, IsInNameOrder};
+ghost use Rattle.odata_filter.specs.csdl_schema.PropertyView.{property_type};
+
+use super::ids::TypeId;
+use super::property::Property;
+use super::structured_type::StructuredType;
+use indexmap::IndexMap;
 use std::marker::Model;
 
 /// The entity types of a document, by name and by place.
 #[derive(Drop)]
 pub struct Schema {
-    types: Vec<usize>,
+    types: Vec<StructuredType>,
+    places: IndexMap<String, usize>,
 }
 
 impl Model for Schema {
@@ -11,7 +20,92 @@ impl Model for Schema {
 
     ghost Value = { SchemaModel };
 
-    ghost use Rattle.std.specs.Prelude.{[]};
+    ghost use Rattle.odata_filter.specs.csdl_schema.SchemaView.{schema_model, IsKeptSchema};
 
-    ghost view = { λ s. record { types = [] } };
+    ghost view = { schema_model };
+
+    ghost invariant = { IsKeptSchema };
+}
+
+impl Schema {
+    /// The place of an entity or complex type, by its name with its namespace or the alias of that.
+    pub fn type_named(&self, name: &str) -> Option<TypeId>
+        ensures { result ≡ place_named self.now name.now }
+    {
+        match self.places.get(name) {
+            Some(place) => Some(TypeId::at(*place)),
+            None => None,
+        }
+    }
+
+    /// Whether this schema has a type at that place.
+    pub fn holds(&self, id: TypeId) -> bool
+        ensures { IsTrue result ↔ (id < length self.now.types) }
+    {
+        id.place() < self.types.len()
+    }
+
+    /// Whether the type is there and is an entity type.
+    pub fn is_entity(&self, id: TypeId) -> bool
+        ensures { IsTrue result ↔ IsEntityAt self.now id }
+    {
+        match self.types.get(id.place()) {
+            Some(found) => found.is_entity(),
+            None => false,
+        }
+    }
+
+    /// How many slots the type has; 0 where the type is not held.
+    pub fn slots(&self, id: TypeId) -> usize
+        ensures count { result ≡ length (properties_at self.now id) }
+        ensures ordered { IsInNameOrder (properties_at self.now id) }
+    {
+        match self.types.get(id.place()) {
+            Some(found) => found.slots(),
+            None => 0,
+        }
+    }
+
+    /// The slot of the property of that name.
+    pub fn slot(&self, id: TypeId, name: &str) -> Option<usize>
+        ensures { result ≡ slot_named (properties_at self.now id) name.now }
+    {
+        match self.types.get(id.place()) {
+            Some(found) => found.slot(name),
+            None => None,
+        }
+    }
+
+    /// The name of the property at a slot.
+    pub fn slot_name(&self, id: TypeId, slot: usize) -> &str
+        requires { slot < length (properties_at self.now id) }
+        ensures { slice_get (map (λ p. p.name) (properties_at self.now id)) slot ≡ Some result.now }
+    {
+        match self.types.get(id.place()) {
+            Some(found) => found.slot_name(slot),
+            None => unreachable!(),
+        }
+    }
+
+    /// The property at a slot.
+    pub fn property(&self, id: TypeId, slot: usize) -> &Property
+        requires { slot < length (properties_at self.now id) }
+        ensures { IfSome (slice_get (properties_at self.now id) slot)
+            (λ p. (property_type self.now result.now ≡ p.type_of) × (result.now.nullable ≡ p.nullable)) }
+    {
+        match self.types.get(id.place()) {
+            Some(found) => found.property(slot),
+            None => unreachable!(),
+        }
+    }
+
+    /// The type's name with its namespace; `None` where the type is not held.
+    pub fn type_name(&self, id: TypeId) -> Option<&str>
+        ensures { option_map (λ name. name.now) result ≡ type_name_of self.now id }
+    {
+        match self.types.get(id.place()) {
+            Some(found) => Some(found.qualified_name()),
+            None => None,
+        }
+    }
 }

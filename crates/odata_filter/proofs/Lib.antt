@@ -1,0 +1,6 @@
+pub mod FitsHasType
+pub mod FitsOnce
+pub mod MeansLaws
+pub mod Numbers
+pub mod RowFaultRefuses
+pub mod SlotWalk

@@ -1,0 +1,12 @@
+pub mod ExprTypes
+pub mod LiteralValue
+pub mod Typed
+pub mod Considered
+pub mod FirstUntypable
+pub mod HasTyping
+pub mod TypeView
+pub mod Slot
+pub mod IsChecked
+pub mod Filter
+pub mod PreOrder
+pub mod Calls
