@@ -2,5 +2,7 @@ pub mod FitsHasType
 pub mod FitsOnce
 pub mod MeansLaws
 pub mod Numbers
+pub mod ReadEntities
 pub mod RowFaultRefuses
 pub mod SlotWalk
+pub mod SlotsByName
