@@ -7,3 +7,4 @@ pub mod RowFaultRefuses
 pub mod SlotWalk
 pub mod SlotsByName
 pub mod TypingLaws
+pub mod SchemaLookUps
