@@ -1,1 +1,5 @@
 pub mod csdl_schema
+pub mod Lines
+pub mod Kept
+pub mod Passing
+pub mod Writes
