@@ -8,3 +8,6 @@ pub mod SlotWalk
 pub mod SlotsByName
 pub mod TypingLaws
 pub mod SchemaLookUps
+mod FilterLemmas
+mod LineLemmas
+mod WriteLemmas

@@ -3,5 +3,6 @@
 
 pub mod csdl_schema;
 pub mod edm_entities;
+pub mod lines;
 pub mod odata_eval;
 pub mod odata_typing;

@@ -1,0 +1,9 @@
+//! Rows in, rows out: what is kept of the lines of a reader goes to a writer.
+pub(crate) mod each;
+pub(crate) mod input;
+pub(crate) mod judge;
+pub(crate) mod output;
+pub mod run_fault;
+pub mod said;
+pub mod split;
+pub mod tally;
