@@ -1,1 +1,2 @@
 pub mod SchemaLookUps
+pub mod SchemaReading
