@@ -11,3 +11,4 @@ pub mod SchemaLookUps
 mod FilterLemmas
 mod LineLemmas
 mod WriteLemmas
+pub mod SchemaReading

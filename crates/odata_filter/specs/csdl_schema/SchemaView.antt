@@ -8,8 +8,11 @@ use Rattle.indexmap.specs.IndexMap.{get_by_text}
 use Rattle.odata_filter.specs.declared.csdl_schema.schema.Schema.TheInside.{Inside}
 use Rattle.odata_filter.specs.csdl_schema.SchemaModel.{SchemaModel, PropertyModel, TypeModel, qualified_name, place_named, IsInNameOrder}
 
+abbrev pub schema_of : List TypeModel → SchemaModel
+schema_of types = record { types = types }
+
 abbrev pub schema_model : Inside → SchemaModel
-schema_model s = record { types = s.types.items }
+schema_model s = schema_of s.types.items
 
 -- the types' whole names rise in byte order
 abbrev pub AreInOrder : List TypeModel → Type 0

@@ -1,12 +1,17 @@
-ghost use Rattle.std.specs.Prelude.{◌≡◌, ◌<◌, ◌↔◌, length, map, slice_get, Some, IsTrue, IsSome, IfSome, option_map};
-ghost use Rattle.odata_filter.specs.csdl_schema.SchemaModel.{place_named, properties_at, slot_named, type_name_of, IsEntityAt, IsInNameOrder};
-ghost use Rattle.odata_filter.specs.csdl_schema.SchemaView.{own_properties};
+ghost use Rattle.std.specs.Prelude.{ℕ, List, [], position, IfOk, ◌≡◌, ◌<◌, ◌↔◌, length, map, slice_get, Some, IsTrue, IsSome, IfSome, option_map};
+ghost use Rattle.odata_filter.specs.csdl_schema.SchemaModel.{is_named, place_named, properties_at, slot_named, type_name_of, IsEntityAt, IsInNameOrder};
+ghost use Rattle.std.specs.List.{AllByRecursion};
+ghost use Rattle.indexmap.specs.IndexMap.{get_by_text};
+ghost use Rattle.odata_filter.specs.csdl_schema.DocumentView.{Reads};
+ghost use Rattle.odata_filter.specs.csdl_schema.SchemaView.{own_properties, schema_of, AreInOrder};
 ghost use Rattle.odata_filter.specs.csdl_schema.PropertyView.{property_type};
 
+use super::fault::SchemaFault;
 use super::ids::TypeId;
 use super::property::Property;
 use super::structured_type::StructuredType;
 use indexmap::IndexMap;
+use std::alloc::Global;
 use std::marker::Model;
 
 /// The entity types of a document, by name and by place.
@@ -29,6 +34,16 @@ impl Model for Schema {
 }
 
 impl Schema {
+    /// The schema of types in the order of their whole names.
+    pub(super) fn new(alloc: Global, types: Vec<StructuredType>) -> Result<Schema, SchemaFault>
+        requires types_ordered { AreInOrder types.items }
+        requires slots_ordered { AllByRecursion (λ t. IsInNameOrder t.properties) types.items }
+        ensures { Reads result [] (λ s. s ≡ schema_of types.items) }
+    {
+        let places = index_types(alloc, &types)?;
+        Ok(Schema { types, places })
+    }
+
     /// The place of an entity or complex type, by its name with its namespace or the alias of that.
     pub fn type_named(&self, name: &str) -> Option<TypeId>
         ensures { result ≡ place_named self.now name.now }
@@ -117,4 +132,19 @@ impl Schema {
             None => None,
         }
     }
+}
+
+/// The place of each type by its names; of equal names the first place.
+fn index_types(alloc: Global, types: &[StructuredType]) -> Result<IndexMap<String, usize>, SchemaFault>
+    ensures { IfOk result (λ m. (asked : List ℕ) → get_by_text m asked ≡ position (λ t. is_named t asked) types.now) }
+{
+    let mut places = IndexMap::new(alloc);
+    for place in (0..types.len()).rev() {
+        let found = &types[place];
+        if let Some(name) = found.name_by_alias(alloc)? {
+            places.insert(name, place)?;
+        }
+        places.insert(found.qualified_name().to_owned(alloc)?, place)?;
+    }
+    Ok(places)
 }
