@@ -47,7 +47,7 @@ module _ (slots : Slots) (asked : List ℕ) (type : ExprType) (v : Value) where
   held_at (p ∷ more) [] at typed = cc
   held_at (p ∷ more) (w ∷ ws) at typed =
       at_front (pointwise nat_eq p.name asked) p w ws (position_or_len (λ q. pointwise nat_eq q.name asked) more) (property_named more asked)
-      (held_by_name slots more (map val_of ws) asked) at typed (held_at more ws)
+          (held_by_name slots more (map val_of ws) asked) at typed (held_at more ws)
 
 -- values of these kinds fit
 abbrev IsPlainKind : Val → Type 0

@@ -5,7 +5,7 @@ ghost use Rattle.serde_json.specs.View.{view};
 ghost use Rattle.odata_filter.specs.csdl_schema.Declared.{is_entity_type, is_other_kind, types_in, full_name};
 ghost use Rattle.odata_filter.specs.csdl_schema.DocumentView.{member_view, members_of, declaration_view, declarations_of};
 
-use super::member::{Member, declared_members, is_text, text_at};
+use super::member::{declared_members, is_text, text_at, Member};
 use serde_json::Value;
 use std::alloc::{AllocError, Global};
 

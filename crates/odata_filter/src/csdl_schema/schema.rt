@@ -135,10 +135,7 @@ impl Schema {
 }
 
 /// The place of each type by its names; of equal names the first place.
-fn index_types(
-    alloc: Global,
-    types: &[StructuredType],
-) -> Result<IndexMap<String, usize>, SchemaFault>
+fn index_types(alloc: Global, types: &[StructuredType]) -> Result<IndexMap<String, usize>, SchemaFault>
     ensures { IfOk result (λ m. (asked : List ℕ) → get_by_text m asked ≡ position (λ t. is_named t asked) types.now) }
 {
     let mut places = IndexMap::new(alloc);
