@@ -15,25 +15,30 @@ use Rattle.odata_filter.specs.odata_eval.Outcome.{Outcome, gives}
 use Rattle.odata_filter.specs.odata_eval.VerdictView.{fault_outcome}
 use Rattle.odata_filter.specs.odata_typing.Filter.{Filter, tree_of_filter}
 
--- the line is JSON that fits a value, and on that value the filter has this outcome and no other
-pub record HasOutcome (filter : Filter) (now : MomentParts) (line : List ℕ) (outcome : Outcome) : Type 0 where
-  pub json : Data
-  pub is_json : IsJsonOf line json
+-- the JSON fits a value, and on that value the filter has this outcome and no other
+pub record HasOutcome (filter : Filter) (now : MomentParts) (json : Data) (outcome : Outcome) : Type 0 where
   pub value : Val
   pub fits : Fits (slots_of filter.schema) (type_name_at filter.schema filter.filtered) json value
   pub related : Means (slots_of filter.schema) (type_name_at filter.schema filter.filtered) now value [] (tree_of_filter filter) outcome
   pub only : (other : Outcome) → Means (slots_of filter.schema) (type_name_at filter.schema filter.filtered) now value [] (tree_of_filter filter) other → other ≡ outcome
 
--- the line is JSON with this fault
-pub record HasRowFault (filter : Filter) (line : List ℕ) (fault : RowFault) : Type 0 where
+-- a row is kept where its outcome is true, and left out at any other value
+abbrev pub JudgesValue : Filter → MomentParts → Data → Judgment → Type 0
+JudgesValue filter now json Kept = HasOutcome filter now json (gives (boolean true))
+JudgesValue filter now json LeftOut = (value : Val) × ((value ≢ boolean true) × HasOutcome filter now json (gives value))
+JudgesValue filter now json NotJson = ⊥
+JudgesValue filter now json (NoEntity fault) = IsRowFault (slots_of filter.schema) (type_name_at filter.schema filter.filtered) json fault
+JudgesValue filter now json (NoValue fault) = (outcome : Outcome) × ((fault_outcome fault ≡ Some outcome) × HasOutcome filter now json outcome)
+
+-- the line is a JSON value, of which that is said
+pub record JudgesJson (filter : Filter) (now : MomentParts) (line : List ℕ) (judgment : Judgment) : Type 0 where
   pub json : Data
   pub is_json : IsJsonOf line json
-  pub faulty : IsRowFault (slots_of filter.schema) (type_name_at filter.schema filter.filtered) json fault
+  pub judged : JudgesValue filter now json judgment
 
--- a row is kept where its outcome is true, and left out at any other value
 abbrev pub JudgesRow : Filter → MomentParts → List ℕ → Judgment → Type 0
-JudgesRow filter now line Kept = HasOutcome filter now line (gives (boolean true))
-JudgesRow filter now line LeftOut = (value : Val) × ((value ≢ boolean true) × HasOutcome filter now line (gives value))
 JudgesRow filter now line NotJson = IsNoJson line
-JudgesRow filter now line (NoEntity fault) = HasRowFault filter line fault
-JudgesRow filter now line (NoValue fault) = (outcome : Outcome) × ((fault_outcome fault ≡ Some outcome) × HasOutcome filter now line outcome)
+JudgesRow filter now line Kept = JudgesJson filter now line Kept
+JudgesRow filter now line LeftOut = JudgesJson filter now line LeftOut
+JudgesRow filter now line (NoEntity fault) = JudgesJson filter now line (NoEntity fault)
+JudgesRow filter now line (NoValue fault) = JudgesJson filter now line (NoValue fault)

@@ -1,4 +1,6 @@
-ghost use Rattle.odata_filter.specs.Judges.{JudgesRow};
+ghost use Rattle.std.specs.Prelude.{IfOk};
+ghost use Rattle.serde_json.specs.View.{view};
+ghost use Rattle.odata_filter.specs.Judges.{JudgesValue, JudgesRow};
 
 use super::judge::Judge;
 use super::said::Judgment;
@@ -15,19 +17,21 @@ use std::alloc::{AllocError, Global};
 pub struct RowJudge<'c, 's> {
     pub alloc: Global,
     pub checked: &'c Checked<'s>,
-    pub now: &'c Moment,
+    pub moment: &'c Moment,
 }
 
 impl RowJudge<'_, '_> {
     /// Judges a JSON value.
-    fn judge_value(&self, json: &Value) -> Result<Judgment, AllocError> {
+    fn judge_value(&self, json: &Value) -> Result<Judgment, AllocError>
+        ensures { IfOk result (JudgesValue self.now.checked.now self.now.moment.now (view json.now)) }
+    {
         let (schema, type_id) = (self.checked.schema(), self.checked.filtered_type());
         let entity = match Entity::from_json(self.alloc, schema, type_id, json) {
             Ok(entity) => entity,
             Err(RowFault::Memory) => return Err(AllocError),
             Err(fault) => return Ok(Judgment::NoEntity(fault)),
         };
-        match evaluate(self.alloc, self.checked, &entity, self.now) {
+        match evaluate(self.alloc, self.checked, &entity, self.moment) {
             Ok(Verdict::True) => Ok(Judgment::Kept),
             Ok(Verdict::False) | Ok(Verdict::Null) => Ok(Judgment::LeftOut),
             Err(EvalFault::Memory) => Err(AllocError),
@@ -37,7 +41,7 @@ impl RowJudge<'_, '_> {
 }
 
 impl Judge for RowJudge<'_, '_> {
-    ghost says = { λ judge. JudgesRow judge.checked.now judge.now.now };
+    ghost says = { λ judge. JudgesRow judge.checked.now judge.moment.now };
 
     fn judge(&self, line: &[u8]) -> Result<Judgment, AllocError> {
         match Value::from_slice(self.alloc, line) {

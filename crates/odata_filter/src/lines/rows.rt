@@ -33,7 +33,7 @@ pub fn filter_lines<R: Read + Drop, W: Write>(
     let judge = RowJudge {
         alloc,
         checked,
-        now,
+        moment: now,
     };
     filter_with(alloc, &judge, rows, out)
 }
