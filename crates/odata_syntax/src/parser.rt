@@ -15,6 +15,8 @@ mod operand;
 mod operator;
 mod state;
 mod step;
+#[cfg(test)]
+mod tests;
 mod word;
 
 use crate::parser::state::State;
