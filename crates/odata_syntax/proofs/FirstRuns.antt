@@ -2,9 +2,9 @@
 use Rattle.std.proofs.Common.{◌≡◌, refl, [], ◌∷◌, Some, None}
 use Rattle.std.specs.Prelude.{codes}
 use Rattle.odata_syntax.specs.declared.node.BinaryOperator.{BinaryOperator}
-use Rattle.odata_syntax.specs.Tree.{node, name, binary}
+use Rattle.odata_syntax.specs.Tree.{node, name}
 use Rattle.odata_syntax.specs.Parse.{IsParse, IsUnended}
-use Rattle.odata_syntax.specs.FirstRun.{first_run, first_run_tree, id_is_one, name_is_a, name_eq}
+use Rattle.odata_syntax.specs.FirstRun.{first_run, first_run_tree, active_and_id, name_eq}
 use Rattle.odata_syntax.specs.Machine.{Machine, behind, operand, closed, run, start, finish, word_operator, word_leaf}
 use Rattle.odata_syntax.specs.Tree.{literal}
 use Rattle.odata_syntax.specs.declared.node.LiteralKind.{LiteralKind}
@@ -14,7 +14,7 @@ use Rattle.odata_syntax.proofs.Fronts.{run_front, run_parsed, ended_none}
 first_run_end : Machine
 first_run_end =
     record {
-      waiting = behind BinaryOperator.Eq (node 23 27 (name (codes "Name"))) ∷ behind BinaryOperator.And (node 0 18 (binary BinaryOperator.And (node 0 6 (name (codes "Active"))) id_is_one)) ∷ [];
+      waiting = behind BinaryOperator.Eq (node 23 27 (name (codes "Name"))) ∷ behind BinaryOperator.And active_and_id ∷ [];
       expected = closed (node 31 34 (literal LiteralKind.Str (codes "'a'")));
     }
 

@@ -24,14 +24,19 @@ first_run =
     ∷ []
 
 abbrev pub id_is_one : Tree
-id_is_one = node 11 18 (binary BinaryOperator.Eq (node 11 13 (name (codes "ID"))) (node 17 18 (literal LiteralKind.Int (codes "1"))))
+id_is_one =
+    node 11 18 (binary BinaryOperator.Eq (node 11 13 (name (codes "ID"))) (node 17 18 (literal LiteralKind.Int (codes "1"))))
 
 abbrev pub name_is_a : Tree
-name_is_a = node 23 34 (binary BinaryOperator.Eq (node 23 27 (name (codes "Name"))) (node 31 34 (literal LiteralKind.Str (codes "'a'"))))
+name_is_a =
+    node 23 34 (binary BinaryOperator.Eq (node 23 27 (name (codes "Name"))) (node 31 34 (literal LiteralKind.Str (codes "'a'"))))
+
+abbrev pub active_and_id : Tree
+active_and_id = node 0 18 (binary BinaryOperator.And (node 0 6 (name (codes "Active"))) id_is_one)
 
 -- `and` takes its operands from the left
 abbrev pub first_run_tree : Tree
-first_run_tree = node 0 34 (binary BinaryOperator.And (node 0 18 (binary BinaryOperator.And (node 0 6 (name (codes "Active"))) id_is_one)) name_is_a)
+first_run_tree = node 0 34 (binary BinaryOperator.And active_and_id name_is_a)
 
 -- `Name eq`
 abbrev pub name_eq : List Piece

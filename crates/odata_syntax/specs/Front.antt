@@ -14,17 +14,23 @@ abbrev pub closes : TokenKind → Bool
 closes TokenKind.Close = true
 closes _ = false
 
+abbrev pub open_count : List Piece → ℕ
+open_count = count_by (λ p. opens p.kind)
+
+abbrev pub close_count : List Piece → ℕ
+close_count = count_by (λ p. closes p.kind)
+
 -- no beginning has over 64 more `(` than `)`
 pub record IsShallow (ts : List Piece) : Type 0 where
-  pub within : (n : ℕ) → count_by (λ p. opens p.kind) (take n ts) ≤ count_by (λ p. closes p.kind) (take n ts) + 64
+  pub within : (n : ℕ) → open_count (take n ts) ≤ close_count (take n ts) + 64
 
--- some continuation is derived, however deep
+-- some continuation is an expression, however deep
 pub record IsWideFront (ts : List Piece) : Type 0 where
   pub more : List Piece
   pub tree : Tree
   pub derived : Derives 1 (ts ++ more) tree
 
--- some continuation is derived and is nowhere deeper than 64
+-- some continuation is an expression, and nowhere deeper than 64
 pub record IsFront (ts : List Piece) : Type 0 where
   pub more : List Piece
   pub tree : Tree

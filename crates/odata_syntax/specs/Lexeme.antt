@@ -1,4 +1,4 @@
--- What a token says in an expression (OData ABNF 4.01, section 4; words in any ASCII case).
+-- What a token says in an expression (OData ABNF 4.01, section 4).
 use Rattle.std.specs.Prelude.{◌≡◌, ◌⊎◌, ℕ, List, [], ◌∷◌, Bool, IsTrue, codes}
 use Rattle.std.specs.List.{list_any}
 use Rattle.std.specs.Str.{str_eq_ignore_ascii_case}
@@ -20,7 +20,7 @@ pub record IsWord (word : List ℕ) (p : Piece) : Type 0 where
   pub of_kind : p.kind ≡ TokenKind.Word
   pub spelled : IsTrue (same_word p.text word)
 
--- the word of an operator (URL Conventions 4.01, 5.1.1.1 and 5.1.1.2)
+-- the word of an operator (URL Conventions 4.01, 5.1.1.1)
 abbrev pub operator_word : BinaryOperator → List ℕ
 operator_word BinaryOperator.And = codes "and"
 operator_word BinaryOperator.Eq = codes "eq"
@@ -28,7 +28,7 @@ operator_word BinaryOperator.Eq = codes "eq"
 pub record IsOperator (operator : BinaryOperator) (p : Piece) : Type 0 where
   pub word : IsWord (operator_word operator) p
 
--- a literal by its kind (URL Conventions 4.01, 5.1.1.14)
+-- the token is a literal of this kind (URL Conventions 4.01, 5.1.1.14; ABNF 4.01, section 7)
 abbrev pub SpellsLiteral : LiteralKind → Piece → Type 0
 SpellsLiteral LiteralKind.Bool p = IsWord (codes "true") p ⊎ IsWord (codes "false") p
 SpellsLiteral LiteralKind.Int p = IsA TokenKind.Int p

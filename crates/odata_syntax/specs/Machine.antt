@@ -37,7 +37,8 @@ operator_of_kind _ text = None
 -- the operand of a word, and of a token
 unfoldable pub word_leaf : List ℕ → Option Leaf
 word_leaf text =
-    if str_eq_ignore_ascii_case text (codes "true") || str_eq_ignore_ascii_case text (codes "false") then Some (Leaf.Lit LiteralKind.Bool)
+    if str_eq_ignore_ascii_case text (codes "true") || str_eq_ignore_ascii_case text (codes "false")
+    then Some (Leaf.Lit LiteralKind.Bool)
     else if str_eq_ignore_ascii_case text (codes "null") || str_eq_ignore_ascii_case text (codes "not") then None
     else Some Leaf.Name
 
@@ -74,7 +75,8 @@ IsHeld level (w ∷ below) = waiting_level w < level
 abbrev pub reduce : Level → List Waiting → Tree → Reduced
 reduce level [] tree = record { waiting = []; tree = tree }
 reduce level (w ∷ below) tree =
-    if nat_le level (waiting_level w) then reduce level below (joined_to w tree) else record { waiting = w ∷ below; tree = tree }
+    if nat_le level (waiting_level w) then reduce level below (joined_to w tree)
+    else record { waiting = w ∷ below; tree = tree }
 
 -- one more token, where an operand is expected, and where one has been read
 abbrev pub take_leaf : List Waiting → Piece → Option Leaf → Option Machine

@@ -7,8 +7,6 @@ mod odata_text;
 mod parser;
 mod syntax_fault;
 pub mod syntax_laws;
-#[cfg(test)]
-mod tests;
 
 pub use expr::Expr;
 pub use node::{BinaryOperator, LiteralKind, Node};

@@ -15,6 +15,8 @@ mod operand;
 mod operator;
 mod state;
 mod step;
+#[cfg(test)]
+mod tests;
 mod word;
 
 use crate::parser::state::State;
@@ -27,8 +29,11 @@ use std::alloc::Global;
 /// and the whole is none, it is the empty span at `len`. `TooDeep` names the 65th parenthesis that would be open.
 pub fn parse(alloc: Global, tokens: &[Token<'_>], len: usize) -> Result<Expr, SyntaxFault>
     ensures derived { IfOk result (λ expr. IsParse (pieces_of tokens.now) (tree_of expr)) }
-    ensures only { IfOk result (λ expr. (tree : Tree) → Derives 1 (pieces_of tokens.now) tree → tree ≡ tree_of expr) }
-    ensures fault { IfErr result (λ fault. fault ≢ SyntaxFault.Memory → IsSyntaxFault (pieces_of tokens.now) len fault) }
+    // it is the only one, at any depth
+    ensures only { IfOk result (λ expr.
+        (tree : Tree) → Derives 1 (pieces_of tokens.now) tree → tree ≡ tree_of expr) }
+    ensures fault { IfErr result (λ fault.
+        fault ≢ SyntaxFault.Memory → IsSyntaxFault (pieces_of tokens.now) len fault) }
     ensures none { IfErr result (λ fault. fault ≢ SyntaxFault.Memory → HasNoParse (pieces_of tokens.now)) }
 {
     let state = take_all(alloc, tokens)?;

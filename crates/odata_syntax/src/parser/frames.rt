@@ -27,7 +27,8 @@ pub fn reduce(
 
 /// The innermost frame, if an operator of this level closes it.
 fn pop_closed(frames: &mut Vec<Frame>, level: u8) -> Option<Frame>
-    ensures popped { IfSome result (λ frame. stack_of frames.old.items ≡ waiting_of frame ∷ stack_of frames.new.items) }
+    ensures popped { IfSome result (λ frame.
+        stack_of frames.old.items ≡ waiting_of frame ∷ stack_of frames.new.items) }
     ensures fewer { IfSome result (λ _. vec_len frames.new < vec_len frames.old) }
     ensures closed { IfSome result (λ frame. level ≤ waiting_level (waiting_of frame)) }
     ensures unchanged { IfNone result (stack_of frames.new.items ≡ stack_of frames.old.items) }
@@ -50,7 +51,8 @@ fn frame_level(frame: &Frame) -> u8
 
 /// The node of a frame and of the operand that it has waited for.
 fn join(alloc: Global, frame: Frame, right: Box<Node>) -> Result<Box<Node>, AllocError>
-    ensures { IfOk result (λ whole. tree_of whole.value ≡ joined_to (waiting_of frame) (tree_of right.value)) }
+    ensures { IfOk result (λ whole.
+        tree_of whole.value ≡ joined_to (waiting_of frame) (tree_of right.value)) }
 {
     match frame {
         Frame::Behind { operator, left } => {

@@ -13,8 +13,10 @@ use std::alloc::Global;
 
 /// The machine behind one more token.
 pub fn step(alloc: Global, state: State, token: &Token<'_>) -> Result<State, SyntaxFault>
-    ensures taken { IfOk result (λ next. machine_step (machine_of state) (piece_of token.now) ≡ Some (machine_of next)) }
-    ensures refused { IfErr result (Refuses (machine_step (machine_of state) (piece_of token.now)) (piece_of token.now)) }
+    ensures taken { IfOk result (λ next.
+        machine_step (machine_of state) (piece_of token.now) ≡ Some (machine_of next)) }
+    ensures refused { IfErr result
+        (Refuses (machine_step (machine_of state) (piece_of token.now)) (piece_of token.now)) }
 {
     let State { frames, stage } = state;
     match stage {
