@@ -1,6 +1,13 @@
 pub mod ByteClasses
+pub mod Examples
 pub mod Longest
+pub mod OneReading
 pub mod Places
 pub mod Quotes
 pub mod Reaches
 pub mod Scans
+pub mod Run
+pub mod Lexemes
+pub mod Complete
+pub mod Sound
+pub mod Fronts

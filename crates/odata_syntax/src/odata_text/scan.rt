@@ -119,7 +119,9 @@ fn scan<'t>(alloc: Global, text: &'t str) -> Result<Vec<Token<'t>>, TextFault>
 /// The tokens of a filter's text.
 pub fn tokens<'t>(alloc: Global, text: &'t str) -> Result<Vec<Token<'t>>, TextFault>
     ensures ok { IfOk result (λ tokens. IsTokenList text.now (pieces_of tokens.items)) }
+    ensures only { IfOk result (λ tokens. (pieces : List Piece) → IsTokenList text.now pieces → pieces ≡ pieces_of tokens.items) }
     ensures fault { IfErr result (λ fault. fault ≢ TextFault.Memory → IsTextFault text.now fault) }
+    ensures none { IfErr result (λ fault. fault ≢ TextFault.Memory → (pieces : List Piece) → IsTokenList text.now pieces → ⊥) }
 {
     if text.len() > TEXT_LIMIT {
         let span = Span {

@@ -1,0 +1,2 @@
+pub mod ExprType
+pub mod SchemaModel
