@@ -7,4 +7,6 @@ pub mod longest;
 pub mod quoted;
 pub mod scan;
 pub mod span;
+#[cfg(test)]
+mod tests;
 pub mod token;

@@ -8,4 +8,4 @@ pub returns-clause-list : goal.returns-clause-list
 returns-clause-list c = one_list
 
 pub returns-clause-not_both : goal.returns-clause-not_both
-returns-clause-not_both c = no_list
+returns-clause-not_both c = λ text fault pieces faulty list. no_list text fault faulty pieces list
