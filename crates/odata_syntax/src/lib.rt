@@ -11,6 +11,7 @@ pub mod syntax_laws;
 pub use expr::Expr;
 pub use node::{BinaryOperator, LiteralKind, Node};
 pub use odata_text::fault::TextFault;
+pub use odata_text::laws::{one_reading, plain_reading, run_on_reading};
 pub use odata_text::scan::tokens;
 pub use odata_text::span::Span;
 pub use odata_text::token::{Token, TokenKind};
