@@ -1,3 +1,4 @@
+pub mod EntitySlots
 pub mod FitsHasType
 pub mod FitsOnce
 pub mod Numbers

@@ -3,4 +3,5 @@ pub mod HasType
 pub mod NumberTypes
 pub mod Row
 pub mod RowFaults
+pub mod SlotValue
 pub mod Walk

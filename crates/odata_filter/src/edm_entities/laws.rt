@@ -1,11 +1,15 @@
 //! Laws of what fits, as contracts of functions that do nothing.
-ghost use Rattle.std.specs.Prelude.{◌≡◌, ℕ, List};
+ghost use Rattle.std.specs.Prelude.{◌≡◌, ℕ, List, Some, slice_get};
 ghost use Rattle.serde_json.specs.Data.{Data};
 ghost use Rattle.edm_values.specs.Val.{Val};
-ghost use Rattle.odata_filter.specs.csdl_schema.ExprType.{single, structured};
-ghost use Rattle.odata_filter.specs.csdl_schema.SchemaModel.{Slots};
+ghost use Rattle.odata_filter.specs.csdl_schema.ExprType.{ExprType, single, structured};
+ghost use Rattle.odata_filter.specs.csdl_schema.SchemaModel.{Slots, PropertyModel, properties_at, declared};
 ghost use Rattle.odata_filter.specs.edm_entities.Fits.{Fits};
 ghost use Rattle.odata_filter.specs.edm_entities.HasType.{HasType};
+ghost use Rattle.odata_filter.specs.edm_entities.Row.{Row, IsEntity};
+ghost use Rattle.odata_filter.specs.edm_entities.SlotValue.{IsSlotValue};
+ghost use Rattle.odata_filter.specs.edm_entities.RowFaults.{IsRowFault};
+ghost use Rattle.odata_filter.specs.declared.edm_entities.fault.RowFault.{RowFault};
 
 /// A JSON tree stands for one value at most.
 pub fn one_value_fits()
@@ -17,4 +21,18 @@ pub fn one_value_fits()
 pub fn what_fits_has_its_type()
     ensures { (slots : Slots) (type_name : List ℕ) (json : Data) (v : Val)
         → Fits slots type_name json v → HasType slots (single (structured type_name)) v }
+{}
+
+/// A JSON tree with a fault stands for no value.
+pub fn what_has_a_fault_fits_nothing()
+    ensures { (slots : Slots) (type_name : List ℕ) (json : Data) (fault : RowFault)
+        → IsRowFault slots type_name json fault → (v : Val) → ¬ (Fits slots type_name json v) }
+{}
+
+/// At the slot of a property that is looked at an entity holds a value of the property's type, which
+/// its record has under the property's name.
+pub fn a_slot_holds_its_property()
+    ensures { (row : Row) (entity : IsEntity row) (slot : ℕ) (p : PropertyModel) (type : ExprType)
+        → slice_get (properties_at row.schema row.type_id) slot ≡ Some p → p.type_of ≡ declared type
+        → IsSlotValue row entity.holds_slots.slots.items slot p.name type }
 {}
