@@ -6,3 +6,4 @@ pub mod ReadEntities
 pub mod RowFaultRefuses
 pub mod SlotWalk
 pub mod SlotsByName
+pub mod SchemaLookUps
