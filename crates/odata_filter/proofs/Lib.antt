@@ -1,7 +1,9 @@
 pub mod EntitySlots
+pub mod ExampleRows
 pub mod FitsHasType
 pub mod FitsOnce
 pub mod Numbers
+pub mod OneFirstFault
 pub mod ReadEntities
 pub mod RowFaultRefuses
 pub mod SlotWalk

@@ -1,3 +1,4 @@
+pub mod Example
 pub mod Fits
 pub mod HasType
 pub mod NumberTypes
