@@ -1,7 +1,10 @@
+pub mod EntitySlots
+pub mod ExampleRows
 pub mod FitsHasType
 pub mod FitsOnce
 pub mod MeansLaws
 pub mod Numbers
+pub mod OneFirstFault
 pub mod ReadEntities
 pub mod RowFaultRefuses
 pub mod SlotWalk
@@ -12,3 +15,4 @@ mod FilterLemmas
 mod LineLemmas
 mod WriteLemmas
 pub mod SchemaReading
+pub mod SchemaLookUps

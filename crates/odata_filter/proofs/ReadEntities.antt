@@ -28,5 +28,6 @@ pub is_entity : (schema : SchemaModel) (id : ℕ) (json : Data) (values : Vec Va
 is_entity schema id json values ordered is_object fits =
     record {
       holds_slots = record { slots = values; held_is = refl; as_many = as_many (slots_of schema) json (properties_at schema id) values.items fits };
+      in_order = ordered;
       conforms = (json, entity_fits schema id json values ordered is_object fits);
     }

@@ -14,17 +14,17 @@ use Rattle.odata_filter.specs.edm_entities.Row.{Seen, held_of, held_by_name, val
 use Rattle.odata_filter.specs.edm_entities.Walk.{FitsSlot, FitSlots}
 
 -- a property is found under its own name
-here : (slots : Slots) (p : PropertyModel) (ps : List PropertyModel) (seen : Seen) (more : List Seen)
+pub here : (slots : Slots) (p : PropertyModel) (ps : List PropertyModel) (seen : Seen) (more : List Seen)
     → held_by_name slots (p ∷ ps) (seen ∷ more) p.name ≡ held_of slots p.type_of seen
 here slots p ps seen more = rw (nat_list_eq_equiv.refl p.name)
 
 -- and behind a property of another name
-behind : (slots : Slots) (p : PropertyModel) (ps : List PropertyModel) (seen : Seen) (more : List Seen) (name : List ℕ) → pointwise nat_eq p.name name ≡ false
+pub behind : (slots : Slots) (p : PropertyModel) (ps : List PropertyModel) (seen : Seen) (more : List Seen) (name : List ℕ) → pointwise nat_eq p.name name ≡ false
     → held_by_name slots (p ∷ ps) (seen ∷ more) name ≡ held_by_name slots ps more name
 behind slots p ps seen more name other = rw other
 
 -- a name that another is below is another name
-other_name : (a b : List ℕ) → slice_cmp nat_cmp a b ≡ Less → pointwise nat_eq a b ≡ false
+pub other_name : (a b : List ℕ) → slice_cmp nat_cmp a b ≡ Less → pointwise nat_eq a b ≡ false
 other_name a b below = texts_ties a b ∙ ap is_eq below
 
 -- what fits the slots behind fits with one more slot before them, of a lesser name

@@ -19,4 +19,4 @@ returns-clause-ordered c =
     let types = c.self.inside.types.items in
     let P : SchemaModel → Type 0 = λ s. IsInNameOrder (properties_at s c.args.id) in
     subst P c.self.view_is (subst IsInNameOrder (sym (properties_own types c.args.id c.self.invariant.types_ordered))
-      (ordered_own types c.args.id c.self.invariant.slots_ordered))
+    (ordered_own types c.args.id c.self.invariant.slots_ordered))
