@@ -1,1 +1,14 @@
+pub mod FitsHasType
+pub mod FitsOnce
+pub mod MeansLaws
+pub mod Numbers
+pub mod ReadEntities
+pub mod RowFaultRefuses
+pub mod SlotWalk
+pub mod SlotsByName
 pub mod TypingLaws
+pub mod SchemaLookUps
+mod FilterLemmas
+mod LineLemmas
+mod WriteLemmas
+pub mod SchemaReading

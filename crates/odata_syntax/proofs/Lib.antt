@@ -3,3 +3,12 @@ pub mod Lexemes
 pub mod Complete
 pub mod Sound
 pub mod Fronts
+pub mod Spanned
+pub mod Faults
+pub mod FirstRuns
+pub mod ByteClasses
+pub mod Longest
+pub mod Places
+pub mod Quotes
+pub mod Reaches
+pub mod Scans

@@ -1,9 +1,17 @@
+pub mod ByteClass
+pub mod IntLiteral
+pub mod Lengths
 pub mod Piece
+pub mod Spelling
+pub mod StringLiteral
+pub mod Tokens
 pub mod Tree
 pub mod TreeView
 pub mod Lexeme
 pub mod Grammar
 pub mod Front
 pub mod Parse
+pub mod Spans
+pub mod FirstRun
 pub mod Machine
 pub mod MachineView

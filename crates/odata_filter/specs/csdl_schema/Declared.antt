@@ -3,7 +3,7 @@ use Rattle.std.specs.Prelude.{ℕ, ◌++◌, [], ◌∷◌, ◌&&◌, ◌||◌, 
 use Rattle.std.specs.Ordering.{nat_cmp, match_ordering}
 use Rattle.std.specs.List.{list_any, list_all, flat_map}
 use Rattle.std.specs.Cmp.Lexicographic.{pointwise, slice_cmp}
-use Rattle.serde_json.specs.Data.{Data, null, boolean, number, string, array, object, Members, no_members, member}
+use Rattle.serde_json.specs.Data.{Data, Members, no_members, member}
 use Rattle.serde_json.specs.Find.{get, as_str, as_bool, as_array, as_object}
 use Rattle.edm_values.specs.declared.primitive.PrimitiveType.{PrimitiveType}
 use Rattle.edm_values.specs.declared.primitive.PrimitiveType.TheVariants as prim
@@ -40,13 +40,12 @@ declared_among no_members = []
 declared_among (member k d ms) = if is_read_over k then declared_among ms else (k, d) ∷ declared_among ms
 
 -- of a value that is no object, none
+abbrev pub declared_of : Option Members → List (List ℕ × Data)
+declared_of None = []
+declared_of (Some ms) = declared_among ms
+
 abbrev pub declared_in : Data → List (List ℕ × Data)
-declared_in null = []
-declared_in (boolean b) = []
-declared_in (number n) = []
-declared_in (string s) = []
-declared_in (array ds) = []
-declared_in (object ms) = declared_among ms
+declared_in d = declared_of (as_object d)
 
 abbrev pub is_object : Data → Bool
 is_object d = is_some (as_object d)
@@ -145,8 +144,11 @@ in_name_order (t ∷ ts) = put_type t (in_name_order ts)
 abbrev pub types_in_order : Data → List TypeDeclaration
 types_in_order document = in_name_order (types_declared document)
 
+abbrev pub entity_type : TypeDeclaration → List PropertyModel → TypeModel
+entity_type t properties = record { namespace = t.namespace; alias = t.alias; name = t.name; is_entity = true; properties = properties }
+
 abbrev pub declared_type : TypeDeclaration → TypeModel
-declared_type t = record { namespace = t.namespace; alias = t.alias; name = t.name; is_entity = true; properties = map declared_property (declared_in t.body) }
+declared_type t = entity_type t (map declared_property (declared_in t.body))
 
 -- the schema that a document without faults stands for
 abbrev pub declared_schema : Data → SchemaModel

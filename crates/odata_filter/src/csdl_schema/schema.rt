@@ -1,11 +1,17 @@
-ghost use Rattle.std.specs.Prelude.{◌≡◌, ◌<◌, ◌↔◌, length, map, slice_get, Some, IsTrue, IsSome, IfSome, option_map};
-ghost use Rattle.odata_filter.specs.csdl_schema.SchemaModel.{place_named, properties_at, slot_named, type_name_of, IsEntityAt, IsInNameOrder};
+ghost use Rattle.std.specs.Prelude.{ℕ, List, [], position, IfOk, ◌≡◌, ◌<◌, ◌↔◌, length, map, slice_get, Some, IsTrue, IsSome, IfSome, option_map};
+ghost use Rattle.odata_filter.specs.csdl_schema.SchemaModel.{is_named, place_named, properties_at, slot_named, type_name_of, IsEntityAt, IsInNameOrder};
+ghost use Rattle.std.specs.List.{AllByRecursion};
+ghost use Rattle.indexmap.specs.IndexMap.{get_by_text};
+ghost use Rattle.odata_filter.specs.csdl_schema.DocumentView.{Reads};
+ghost use Rattle.odata_filter.specs.csdl_schema.SchemaView.{own_properties, schema_of, AreInOrder};
 ghost use Rattle.odata_filter.specs.csdl_schema.PropertyView.{property_type};
 
+use super::fault::SchemaFault;
 use super::ids::TypeId;
 use super::property::Property;
 use super::structured_type::StructuredType;
 use indexmap::IndexMap;
+use std::alloc::Global;
 use std::marker::Model;
 
 /// The entity types of a document, by name and by place.
@@ -28,6 +34,16 @@ impl Model for Schema {
 }
 
 impl Schema {
+    /// The schema of types in the order of their whole names.
+    pub(super) fn new(alloc: Global, types: Vec<StructuredType>) -> Result<Schema, SchemaFault>
+        requires types_ordered { AreInOrder types.items }
+        requires slots_ordered { AllByRecursion (λ t. IsInNameOrder t.properties) types.items }
+        ensures { Reads result [] (λ s. s ≡ schema_of types.items) }
+    {
+        let places = index_types(alloc, &types)?;
+        Ok(Schema { types, places })
+    }
+
     /// The place of an entity or complex type, by its name with its namespace or the alias of that.
     pub fn type_named(&self, name: &str) -> Option<TypeId>
         ensures { result ≡ place_named self.now name.now }
@@ -45,11 +61,19 @@ impl Schema {
         id.place() < self.types.len()
     }
 
+    fn type_at(&self, id: TypeId) -> Option<&StructuredType>
+        ensures found { option_map (λ t. t.now) result ≡ slice_get self.now.types id }
+        ensures properties { properties_at self.now id ≡ own_properties (option_map (λ t. t.now) result) }
+        ensures ordered { IsInNameOrder (properties_at self.now id) }
+    {
+        self.types.get(id.place())
+    }
+
     /// Whether the type is there and is an entity type.
     pub fn is_entity(&self, id: TypeId) -> bool
         ensures { IsTrue result ↔ IsEntityAt self.now id }
     {
-        match self.types.get(id.place()) {
+        match self.type_at(id) {
             Some(found) => found.is_entity(),
             None => false,
         }
@@ -60,7 +84,7 @@ impl Schema {
         ensures count { result ≡ length (properties_at self.now id) }
         ensures ordered { IsInNameOrder (properties_at self.now id) }
     {
-        match self.types.get(id.place()) {
+        match self.type_at(id) {
             Some(found) => found.slots(),
             None => 0,
         }
@@ -70,7 +94,7 @@ impl Schema {
     pub fn slot(&self, id: TypeId, name: &str) -> Option<usize>
         ensures { result ≡ slot_named (properties_at self.now id) name.now }
     {
-        match self.types.get(id.place()) {
+        match self.type_at(id) {
             Some(found) => found.slot(name),
             None => None,
         }
@@ -81,7 +105,7 @@ impl Schema {
         requires { slot < length (properties_at self.now id) }
         ensures { slice_get (map (λ p. p.name) (properties_at self.now id)) slot ≡ Some result.now }
     {
-        match self.types.get(id.place()) {
+        match self.type_at(id) {
             Some(found) => found.slot_name(slot),
             None => unreachable!(),
         }
@@ -93,7 +117,7 @@ impl Schema {
         ensures { IfSome (slice_get (properties_at self.now id) slot)
             (λ p. (property_type self.now result.now ≡ p.type_of) × (result.now.nullable ≡ p.nullable)) }
     {
-        match self.types.get(id.place()) {
+        match self.type_at(id) {
             Some(found) => found.property(slot),
             None => unreachable!(),
         }
@@ -103,9 +127,24 @@ impl Schema {
     pub fn type_name(&self, id: TypeId) -> Option<&str>
         ensures { option_map (λ name. name.now) result ≡ type_name_of self.now id }
     {
-        match self.types.get(id.place()) {
+        match self.type_at(id) {
             Some(found) => Some(found.qualified_name()),
             None => None,
         }
     }
+}
+
+/// The place of each type by its names; of equal names the first place.
+fn index_types(alloc: Global, types: &[StructuredType]) -> Result<IndexMap<String, usize>, SchemaFault>
+    ensures { IfOk result (λ m. (asked : List ℕ) → get_by_text m asked ≡ position (λ t. is_named t asked) types.now) }
+{
+    let mut places = IndexMap::new(alloc);
+    for place in (0..types.len()).rev() {
+        let found = &types[place];
+        if let Some(name) = found.name_by_alias(alloc)? {
+            places.insert(name, place)?;
+        }
+        places.insert(found.qualified_name().to_owned(alloc)?, place)?;
+    }
+    Ok(places)
 }
