@@ -9,3 +9,5 @@ pub mod IsChecked
 pub mod Filter
 pub mod PreOrder
 pub mod Calls
+pub mod Answer
+pub mod EarlierFault

@@ -5,6 +5,7 @@ pub mod checked_node;
 pub mod checker;
 pub mod edm_type;
 mod literal;
+mod node;
 mod operator;
 mod property;
 pub mod refusal;
