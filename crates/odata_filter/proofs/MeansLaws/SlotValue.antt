@@ -85,17 +85,31 @@ plain_property slots (single (primitive p)) (Some json) v fits = plain_value slo
 plain_property slots type None v fits = absurd fits
 plain_property slots _ (Some json) v fits = absurd fits
 
--- a value fits by its record
-each_fits : (slots : Slots) (name : List ℕ) (json : Data) (held : List ℕ → Held) → Fits slots name json (fields held)
-    → AllByRecursion (λ p. FitsProperty p.type_of (get p.name json) (held p.name)) (slots name)
-each_fits slots name json held fits = fits.each_fits
+-- the place that a search found
+found_place : (inside : Bool) (place n : ℕ) → cond inside (Some place) None ≡ Some n → place ≡ n
+found_place true place n at = cc
+found_place false place n at = cc
 
--- the first place where a test holds, if there is one
-place_is : {X : Type 0} (test : X → Bool) (xs : List X) (n : ℕ) → position test xs ≡ Some n → position_or_len test xs ≡ n
-place_is test xs n at = ?
-
+-- the value that stands in the slot of a name is the entity's of that name, and it holds no other value
 pub slot_value : (row : Row) (slot : ℕ) (v : Value) (asked : List ℕ) (type : ExprType) → IsEntity row → HoldsAt row slot v
     → slot_named (slots_of row.schema (type_name_at row.schema row.type_id)) asked ≡ Some slot
     → PropertyTyped (slots_of row.schema (type_name_at row.schema row.type_id)) asked type
     → (val : Val) × ((plain_val v ≡ Some val) × StepGives (value_of row) asked (gives val))
-slot_value row slot v asked type entity holds named typed = ?
+slot_value row slot v asked type entity holds named typed =
+    let slots : Slots = slots_of row.schema in
+    let type_name : List ℕ = type_name_at row.schema row.type_id in
+    let values : List Value = holds.0.items in
+    let held : List ℕ → Held = held_by_name slots (slots type_name) (map val_of values) in
+    let seen : value_of row ≡ fields held =
+        ap (λ (h : Value). val_of h slots (single (structured type_name))) holds.1.0 ∙ record_val slots (single (structured type_name)) holds.0 in
+    let fits : Fits slots type_name entity.conforms.0 (fields held) = subst (Fits slots type_name entity.conforms.0) seen entity.conforms.1 in
+    let place : position_or_len (λ p. pointwise nat_eq p.name asked) (slots type_name) ≡ slot = found_place _ _ slot named in
+    let here : held asked ≡ present (val_of v slots type) =
+        held_at slots asked type v (slots type_name) values (subst (λ (n : ℕ). slice_get values n ≡ Some v) (sym place) holds.1.1) typed in
+    let fits_here : FitsProperty (declared type) (get asked entity.conforms.0) (held asked) =
+        found_property (λ t n. FitsProperty t (get n entity.conforms.0) (held n)) asked type (slots type_name) fits.each_fits typed in
+    let plain : plain_val v ≡ Some (val_of v slots type) =
+        plain_property slots type (get asked entity.conforms.0) v (subst (FitsProperty (declared type) (get asked entity.conforms.0)) here fits_here) in
+    let gives_it : StepGives (fields held) asked (gives (val_of v slots type)) =
+        subst (λ (h : Held). HeldGives h (gives (val_of v slots type))) (sym here) refl in
+    (val_of v slots type, (plain, subst (λ (e : Val). StepGives e asked (gives (val_of v slots type))) (sym seen) gives_it))
