@@ -4,3 +4,4 @@ pub mod MeansLaws
 pub mod Numbers
 pub mod RowFaultRefuses
 pub mod SlotWalk
+pub mod TypingLaws

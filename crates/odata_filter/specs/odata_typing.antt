@@ -5,7 +5,6 @@ pub mod Considered
 pub mod FirstUntypable
 pub mod HasTyping
 pub mod TypeView
-pub mod Slot
 pub mod IsChecked
 pub mod Filter
 pub mod PreOrder

@@ -4,7 +4,11 @@ pub mod checked;
 pub mod checked_node;
 pub mod checker;
 pub mod edm_type;
+mod literal;
+mod operator;
+mod property;
 pub mod refusal;
+mod untyped;
 
 pub use checked::Checked;
 pub use checked_node::CheckedNode;

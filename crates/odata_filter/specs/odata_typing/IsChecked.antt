@@ -7,13 +7,12 @@ use Rattle.odata_syntax.specs.Tree.{Tree, node, literal, name, binary}
 use Rattle.odata_syntax.specs.declared.node.LiteralKind.{LiteralKind}
 use Rattle.odata_syntax.specs.declared.odata_text.span.Span.{Span}
 use Rattle.odata_filter.specs.csdl_schema.ExprType.{ExprType}
-use Rattle.odata_filter.specs.csdl_schema.SchemaModel.{PropertyModel, SchemaModel, slots_of, type_name_at}
+use Rattle.odata_filter.specs.csdl_schema.SchemaModel.{PropertyModel, SchemaModel, slots_of, type_name_at, slot_named}
 use Rattle.odata_filter.specs.declared.odata_typing.checked_node.CheckedNode.{CheckedNode, Lit, Property, Binary'}
 use Rattle.odata_filter.specs.declared.odata_typing.edm_type.EdmType.{EdmType}
 use Rattle.odata_filter.specs.odata_typing.LiteralValue.{LiteralValue, LiteralTyped}
 use Rattle.odata_filter.specs.odata_typing.Typed.{Scope, PropertyTyped, OperatorTyped, variable_type}
 use Rattle.odata_filter.specs.odata_typing.TypeView.{expr_type}
-use Rattle.odata_filter.specs.odata_typing.Slot.{slot_named}
 
 -- the tree that a checked node stands for
 abbrev pub named : CheckedNode → Tree

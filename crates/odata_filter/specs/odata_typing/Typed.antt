@@ -15,11 +15,11 @@ Scope = List (List ℕ × ExprType)
 
 -- the type of the innermost variable of a name
 abbrev pub variable_type : Scope → List ℕ → Option ExprType
-variable_type scope asked = option_map (λ bound. bound.1) (find (λ bound. pointwise nat_eq bound.0 asked) scope)
+variable_type scope asked = option_map (λ bound. bound.1) (find (λ bound. pointwise nat_eq asked bound.0) scope)
 
 -- the property of a name
 abbrev pub property_named : List PropertyModel → List ℕ → Option PropertyModel
-property_named properties asked = find (λ p. pointwise nat_eq p.name asked) properties
+property_named properties asked = find (λ p. pointwise nat_eq asked p.name) properties
 
 -- a property of that name has the type; an opaque one and a navigation property have none
 abbrev pub PropertyTyped : List PropertyModel → List ℕ → ExprType → Type 0
