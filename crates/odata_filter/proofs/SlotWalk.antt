@@ -43,20 +43,21 @@ cut_at (p ∷ ps) (suc n) lt = let rest = cut_at ps n (omega arith) in (rest.0, 
 first_fault : (slots : Slots) (json : Data) (properties : List PropertyModel) (n : ℕ) (values : List Value) (p : PropertyModel) (flaw : Flaw) (path : List ℕ)
     → IsSome (as_object json) → FitSlots slots json (take n properties) values → IsCutAt properties n p
     → IsPropertyFault p.type_of (get p.name json) [] flaw → path ≡ p.name → IsFirstFaultAt properties json path flaw
-first_fault slots json properties n values p flaw path is_object fits cut fault named =
-    (p.name ∷ [],
-     record {
-       is_object = is_object;
-       before = take n properties;
-       faulty = p;
-       behind = drop (suc n) properties;
-       split = cut.split;
-       before_fit = some_fit slots json (take n properties) values fits;
-       rest = [];
-       path_is = refl;
-       fault = fault
-     },
-     named)
+first_fault slots json properties n values p flaw path is_object fits cut fault named = (
+  p.name ∷ [],
+  record {
+    is_object = is_object;
+    before = take n properties;
+    faulty = p;
+    behind = drop (suc n) properties;
+    split = cut.split;
+    before_fit = some_fit slots json (take n properties) values fits;
+    rest = [];
+    path_is = refl;
+    fault = fault;
+  },
+  named,
+)
 
 fault_here : (slots : Slots) (type_name : List ℕ) (json : Data) (n : ℕ) (values : List Value) (p : PropertyModel) (fault : RowFault)
     → IsSome (as_object json) → FitSlots slots json (take n (slots type_name)) values → IsCutAt (slots type_name) n p → IsSlotFault json p fault
@@ -80,4 +81,4 @@ pub row_fault : (slots : Slots) (type_name : List ℕ) (json : Data) (n : ℕ) (
 row_fault slots type_name json n values fault lt is_object fits here no_memory =
     let cut = cut_at (slots type_name) n lt in
     fault_here slots type_name json n values cut.0 fault is_object fits cut.1
-        (subst (λ o. IfSome o (λ p. IsSlotFault json p fault)) cut.1.here here) no_memory
+    (subst (λ o. IfSome o (λ p. IsSlotFault json p fault)) cut.1.here here) no_memory

@@ -1,3 +1,9 @@
 pub mod Piece
 pub mod Tree
 pub mod TreeView
+pub mod Lexeme
+pub mod Grammar
+pub mod Front
+pub mod Parse
+pub mod Machine
+pub mod MachineView

@@ -4,11 +4,15 @@
 mod expr;
 mod node;
 mod odata_text;
+mod parser;
 mod syntax_fault;
+#[cfg(test)]
+mod tests;
 
 pub use expr::Expr;
 pub use node::{BinaryOperator, LiteralKind, Node};
 pub use odata_text::fault::TextFault;
 pub use odata_text::span::Span;
 pub use odata_text::token::{Token, TokenKind};
+pub use parser::parse;
 pub use syntax_fault::SyntaxFault;

@@ -1,12 +1,12 @@
 -- A schema of the code, as the model says it.
-use Rattle.std.specs.Prelude.{◌≡◌, ℕ, List, map}
+use Rattle.std.specs.Prelude.{◌≡◌, ℕ, List, [], Option, Some, None, map}
 use Rattle.std.specs.Ordering.{nat_cmp}
 use Rattle.std.specs.Cmp.Lexicographic.{slice_cmp}
 use Rattle.std.specs.List.{AllByRecursion}
 use Rattle.std.specs.List.Sorted.{IsStrictlySortedBy}
 use Rattle.indexmap.specs.IndexMap.{get_by_text}
 use Rattle.odata_filter.specs.declared.csdl_schema.schema.Schema.TheInside.{Inside}
-use Rattle.odata_filter.specs.csdl_schema.SchemaModel.{SchemaModel, TypeModel, qualified_name, place_named, IsInNameOrder}
+use Rattle.odata_filter.specs.csdl_schema.SchemaModel.{SchemaModel, PropertyModel, TypeModel, qualified_name, place_named, IsInNameOrder}
 
 abbrev pub schema_model : Inside → SchemaModel
 schema_model s = record { types = s.types.items }
@@ -20,3 +20,8 @@ pub record IsKeptSchema (s : Inside) : Type 0 where
   pub types_ordered : AreInOrder s.types.items
   pub slots_ordered : AllByRecursion (λ t. IsInNameOrder t.properties) s.types.items
   pub indexed : (asked : List ℕ) → get_by_text s.places asked ≡ place_named (schema_model s) asked
+
+-- the properties of a type, where there is one; for private clauses
+abbrev pub own_properties : Option TypeModel → List PropertyModel
+own_properties None = []
+own_properties (Some t) = t.properties

@@ -7,7 +7,7 @@ use Rattle.edm_values.specs.Val.{Val, null, boolean, whole, text, date, moment, 
 use Rattle.edm_values.specs.declared.value.Value.{Value, Record, fold-Value}
 use Rattle.edm_values.specs.declared.value.Value.TheOpen.{Value-F}
 use Rattle.odata_filter.specs.csdl_schema.ExprType.{ExprType, single, collection, SingleType, structured}
-use Rattle.odata_filter.specs.csdl_schema.SchemaModel.{Slots, SchemaModel, PropertyModel, PropertyType, declared, opaque, navigation, slots_of, type_name_at, properties_at}
+use Rattle.odata_filter.specs.csdl_schema.SchemaModel.{Slots, SchemaModel, PropertyModel, PropertyType, declared, opaque, navigation, slots_of, type_name_at, properties_at, IsInNameOrder}
 use Rattle.odata_filter.specs.edm_entities.Fits.{Fits}
 
 -- what a value stands for once its type is known: a record's names are those of its type's properties
@@ -78,4 +78,5 @@ pub record HoldsSlots (row : Row) : Type 0 where
 -- what is true of every entity
 pub record IsEntity (row : Row) : Type 0 where
   pub holds_slots : HoldsSlots row
+  pub in_order : IsInNameOrder (properties_at row.schema row.type_id)
   pub conforms : Conforms row

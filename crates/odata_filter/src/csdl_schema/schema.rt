@@ -1,5 +1,6 @@
 ghost use Rattle.std.specs.Prelude.{◌≡◌, ◌<◌, ◌↔◌, length, map, slice_get, Some, IsTrue, IsSome, IfSome, option_map};
 ghost use Rattle.odata_filter.specs.csdl_schema.SchemaModel.{place_named, properties_at, slot_named, type_name_of, IsEntityAt, IsInNameOrder};
+ghost use Rattle.odata_filter.specs.csdl_schema.SchemaView.{own_properties};
 ghost use Rattle.odata_filter.specs.csdl_schema.PropertyView.{property_type};
 
 use super::ids::TypeId;
@@ -45,11 +46,19 @@ impl Schema {
         id.place() < self.types.len()
     }
 
+    fn type_at(&self, id: TypeId) -> Option<&StructuredType>
+        ensures found { option_map (λ t. t.now) result ≡ slice_get self.now.types id }
+        ensures properties { properties_at self.now id ≡ own_properties (option_map (λ t. t.now) result) }
+        ensures ordered { IsInNameOrder (properties_at self.now id) }
+    {
+        self.types.get(id.place())
+    }
+
     /// Whether the type is there and is an entity type.
     pub fn is_entity(&self, id: TypeId) -> bool
         ensures { IsTrue result ↔ IsEntityAt self.now id }
     {
-        match self.types.get(id.place()) {
+        match self.type_at(id) {
             Some(found) => found.is_entity(),
             None => false,
         }
@@ -60,7 +69,7 @@ impl Schema {
         ensures count { result ≡ length (properties_at self.now id) }
         ensures ordered { IsInNameOrder (properties_at self.now id) }
     {
-        match self.types.get(id.place()) {
+        match self.type_at(id) {
             Some(found) => found.slots(),
             None => 0,
         }
@@ -70,7 +79,7 @@ impl Schema {
     pub fn slot(&self, id: TypeId, name: &str) -> Option<usize>
         ensures { result ≡ slot_named (properties_at self.now id) name.now }
     {
-        match self.types.get(id.place()) {
+        match self.type_at(id) {
             Some(found) => found.slot(name),
             None => None,
         }
@@ -81,7 +90,7 @@ impl Schema {
         requires { slot < length (properties_at self.now id) }
         ensures { slice_get (map (λ p. p.name) (properties_at self.now id)) slot ≡ Some result.now }
     {
-        match self.types.get(id.place()) {
+        match self.type_at(id) {
             Some(found) => found.slot_name(slot),
             None => unreachable!(),
         }
@@ -93,7 +102,7 @@ impl Schema {
         ensures { IfSome (slice_get (properties_at self.now id) slot)
             (λ p. (property_type self.now result.now ≡ p.type_of) × (result.now.nullable ≡ p.nullable)) }
     {
-        match self.types.get(id.place()) {
+        match self.type_at(id) {
             Some(found) => found.property(slot),
             None => unreachable!(),
         }
@@ -103,7 +112,7 @@ impl Schema {
     pub fn type_name(&self, id: TypeId) -> Option<&str>
         ensures { option_map (λ name. name.now) result ≡ type_name_of self.now id }
     {
-        match self.types.get(id.place()) {
+        match self.type_at(id) {
             Some(found) => Some(found.qualified_name()),
             None => None,
         }

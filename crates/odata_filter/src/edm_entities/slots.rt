@@ -2,7 +2,7 @@ ghost use Rattle.std.specs.Prelude.{◌≡◌, ◌<◌, [], List, length, slice_
 ghost use Rattle.serde_json.specs.Find.{get, as_object};
 ghost use Rattle.serde_json.specs.View.{view};
 ghost use Rattle.odata_filter.specs.csdl_schema.PropertyView.{type_of_kind};
-ghost use Rattle.odata_filter.specs.csdl_schema.SchemaModel.{Slots, properties_at, slots_of, type_name_at};
+ghost use Rattle.odata_filter.specs.csdl_schema.SchemaModel.{Slots, IsInNameOrder, properties_at, slots_of, type_name_at};
 ghost use Rattle.odata_filter.specs.edm_entities.Fits.{FitsProperty};
 ghost use Rattle.odata_filter.specs.edm_entities.Row.{held_of, val_of};
 ghost use Rattle.odata_filter.specs.edm_entities.RowFaults.{IsPropertyFault, IsRowFault, IsMemory};
@@ -27,6 +27,7 @@ pub(super) fn read_slots(
     requires { IsSome (as_object (view row.now)) }
     ensures fits { IfOk result (λ values. FitSlots (slots_of schema.now) (view row.now)
         (properties_at schema.now type_id) values.items) }
+    ensures ordered { IsInNameOrder (properties_at schema.now type_id) }
     ensures first_fault { IfErr result (λ fault. ¬ (IsMemory fault)
         → IsRowFault (slots_of schema.now) (type_name_at schema.now type_id) (view row.now) fault) }
 {
