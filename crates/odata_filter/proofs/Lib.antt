@@ -8,6 +8,7 @@ pub mod OneFirstFault
 pub mod ReadEntities
 pub mod RowFaultRefuses
 pub mod SlotWalk
+pub mod TypingLaws
 pub mod SlotsByName
 pub mod TypingLaws
 pub mod SchemaLookUps

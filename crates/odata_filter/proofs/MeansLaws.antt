@@ -3,6 +3,7 @@ pub mod OneLeaf
 pub mod OneMeaning
 pub mod OneOutcome
 pub mod OneStep
+pub mod OperatorSteps
 pub mod Progress
 pub mod SlotValue
 pub mod Truths

@@ -1,5 +1,5 @@
 //! What an operator makes of values that are there.
-ghost use Rattle.std.specs.Prelude.{◌≡◌, ◌↔◌, Some, Option, Bool, IsTrue, IfSome};
+ghost use Rattle.std.specs.Prelude.{◌≡◌, ◌↔◌, Some, Option, Bool, IsTrue, IsSomeAnd};
 ghost use Rattle.edm_values.specs.PlainVal.{plain_val};
 ghost use Rattle.edm_values.specs.Val.{boolean};
 ghost use Rattle.odata_filter.specs.odata_eval.AndGives.{AndGives};
@@ -92,7 +92,7 @@ pub(super) fn decides(operator: BinaryOperator, left: &Datum<'_>) -> bool
 pub(super) fn apply<'e>(operator: BinaryOperator, left: &Datum<'_>, right: &Datum<'_>) -> Datum<'e>
     requires undecided { ¬ (IsDecided operator (plain_datum left.now)) }
     requires defined { (o : Outcome) × OfBoth (OperatorTable operator) left.now right.now o }
-    ensures { IfSome (plain_datum result) (λ v. OfBoth (OperatorTable operator) left.now right.now (gives v)) }
+    ensures { IsSomeAnd (plain_datum result) (λ v. OfBoth (OperatorTable operator) left.now right.now (gives v)) }
 {
     match operator {
         BinaryOperator::And => datum_of(and3(truth_of(left), truth_of(right))),
