@@ -62,7 +62,7 @@ fn read_document(alloc: Global, document: &Value) -> Result<Schema, SchemaFault>
     let ordered = in_name_order(alloc, &declarations)?;
     let types = read_types(alloc, &ordered)?;
     check_bases(alloc, &ordered)?;
-    Schema::new(alloc, types)
+    Ok(Schema::new(alloc, types)?)
 }
 
 /// How many of the declarations say that they are entity types.
