@@ -1,5 +1,5 @@
 -- Laws of the reading of documents, over lists alone.
-use Rattle.std.proofs.Common.{◌≡◌, ℕ, suc, ◌+◌, ◌<◌, List, [], ◌∷◌, ◌++◌, length, get_or, map, drop, String, Global, Bor, Option, Some, None, IfSome, option_map, is_some, is_none, Ordering, Less, Equal, Greater, Bool, true, false, cond, nat_eq, is_eq, refl, sym, ap, subst, ◌∙◌, string_bytes, add-one, string_cmp}
+use Rattle.std.proofs.Common.{◌≡◌, ℕ, suc, ◌+◌, ◌<◌, List, [], ◌∷◌, ◌++◌, length, get_or, map, drop, String, Global, Bor, Option, Some, None, IfSome, option_map, is_some, is_none, Ordering, Less, Equal, Greater, Bool, true, false, cond, nat_eq, is_eq, refl, sym, ap, subst, ◌∙◌, string_bytes, add-one, string_cmp, codes, not, nat_lt, if◌then◌else◌}
 use Rattle.std.proofs.Math.Seq.{drop-cons}
 use Rattle.std.specs.Ordering.{nat_cmp, ordering_reverse, match_ordering}
 use Rattle.std.specs.String.{string_eq}
@@ -23,8 +23,8 @@ use Rattle.odata_filter.specs.csdl_schema.SchemaModel.{PropertyModel, qualified_
 use Rattle.odata_filter.specs.csdl_schema.SchemaView.{AreInOrder}
 use Rattle.odata_filter.specs.csdl_schema.PropertyView.{type_of_kind}
 use Rattle.odata_filter.specs.csdl_schema.TypeView.{property_model}
-use Rattle.odata_filter.specs.csdl_schema.Declared.{is_read_over, declared_among, declared_of, declared_property, declared_type, full_name, put_type}
-use Rattle.odata_filter.specs.csdl_schema.Faults.{Fault, unless}
+use Rattle.odata_filter.specs.csdl_schema.Declared.{is_object, text_at, declared_in, types_in_order, type_count, is_read_over, declared_among, declared_of, declared_property, declared_type, full_name, put_type}
+use Rattle.odata_filter.specs.csdl_schema.Faults.{Fault, version, not_object, too_large, unless, is_version, namespace_faults, type_faults, base_faults, object_faults, document_faults}
 use Rattle.odata_filter.specs.csdl_schema.DocumentView.{AreNamesInOrder, AreNamed, types_of, declaration_view, IsFirstOf}
 
 -- ---- names in order
@@ -185,3 +185,29 @@ pub kept_in_order : (es : List Named) → AreNamed es → IsStrictlySortedBy str
 unfolding IsStrictlySortedBy
 kept_in_order [] named h = tt
 kept_in_order (e ∷ es) named h = (subst (λ n. AllAbove n (map qualified_name (map declared_type (types_of es)))) named.0 (above_kept (string_bytes e.0) es named.1 h.0), kept_in_order es named.1 h.1)
+
+-- ---- a document's faults, stage by stage
+
+abbrev pub type_stage : Data → List Fault
+type_stage d = flat_map type_faults (types_in_order d) ++ flat_map base_faults (types_in_order d)
+
+abbrev pub count_stage : Data → List Fault
+count_stage d = unless (not (nat_lt 4096 (type_count d))) too_large ++ type_stage d
+
+abbrev pub namespace_stage : Data → List Fault
+namespace_stage d = flat_map (namespace_faults (declared_in d)) (declared_in d) ++ count_stage d
+
+pub from_version : (d : Data) (b : Bool) → is_object d ≡ true → is_version (text_at (codes "$Version") d) ≡ b → document_faults d ≡ unless b version ++ namespace_stage d
+from_version d b object is = ap (λ v. if v then object_faults d else (not_object ∷ [])) object ∙ ap (λ v. unless v version ++ namespace_stage d) is
+
+pub version_first : (d : Data) → is_object d ≡ true → is_version (text_at (codes "$Version") d) ≡ false → (later : List Fault) × (document_faults d ≡ version ∷ later)
+version_first d object is = (namespace_stage d, from_version d false object is)
+
+pub from_count : (d : Data) (b : Bool) → is_object d ≡ true → is_version (text_at (codes "$Version") d) ≡ true → flat_map (namespace_faults (declared_in d)) (declared_in d) ≡ []
+    → nat_lt 4096 (type_count d) ≡ b → document_faults d ≡ unless (not b) too_large ++ type_stage d
+from_count d b object is none count =
+    from_version d true object is ∙ ap (λ fs. fs ++ count_stage d) none ∙ ap (λ v. unless (not v) too_large ++ type_stage d) count
+
+pub count_first : (d : Data) → is_object d ≡ true → is_version (text_at (codes "$Version") d) ≡ true → flat_map (namespace_faults (declared_in d)) (declared_in d) ≡ []
+    → nat_lt 4096 (type_count d) ≡ true → (later : List Fault) × (document_faults d ≡ too_large ∷ later)
+count_first d object is none count = (type_stage d, from_count d true object is none count)

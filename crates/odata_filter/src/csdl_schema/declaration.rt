@@ -5,7 +5,7 @@ ghost use Rattle.serde_json.specs.View.{view};
 ghost use Rattle.odata_filter.specs.csdl_schema.Declared.{is_entity_type, is_other_kind, types_among, types_in, full_name};
 ghost use Rattle.odata_filter.specs.csdl_schema.DocumentView.{member_view, members_of, declaration_view, declarations_of};
 
-use super::member::{declared_members, is_text, text_at, Member};
+use super::member::{Member, declared_members, is_text, text_at};
 use serde_json::Value;
 use std::alloc::{AllocError, Global};
 
@@ -73,7 +73,12 @@ fn add_types<'d>(
         ≡ declarations_of types.old.items ++ types_in (member_view schema.entry)) }
 {
     let members = declared_members(alloc, schema.value)?;
-    add_members(schema.name, text_at(schema.value, "$Alias"), &members, types)
+    add_members(
+        schema.name,
+        text_at(schema.value, "$Alias"),
+        &members,
+        types,
+    )
 }
 
 fn add_members<'d>(

@@ -8,7 +8,7 @@ ghost use Rattle.odata_filter.specs.csdl_schema.Declared.{declared_type, full_na
 ghost use Rattle.odata_filter.specs.csdl_schema.Faults.{is_type, type_faults, base_faults};
 ghost use Rattle.odata_filter.specs.csdl_schema.DocumentView.{declaration_view, declarations_of, types_of, AreNamed, Reads};
 
-use super::declaration::{is_entity_type, Declaration};
+use super::declaration::{Declaration, is_entity_type};
 use super::fault::SchemaFault;
 use super::member::{declared_members, is_text_if_given};
 use super::names::is_identifier;
@@ -19,7 +19,6 @@ use std::alloc::{AllocError, Global};
 use std::collections::BTreeMap;
 
 const MAX_PROPERTIES: usize = 1024;
-
 
 /// The declarations in the byte order of whole names; of equal names the first stands.
 pub(super) fn in_name_order<'d>(

@@ -13,5 +13,5 @@ returns-then-not-is_schema c =
     let m = c.schema-item.result in
     let step = at_place schemas i m c.loop-schema-test.true c.schema-item.is in
     found_among (namespace_faults all) (fault_of c.bad_type.result) (member_view m) (members_of (drop (i + 1) schemas)) _
-      (ap (λ ms. flat_map (namespace_faults all) (members_of ms)) (sym step) ∙ c.loop-schema.invariant)
-      (unless_first (is_schema all (member_view m)) (bad_type m.name.now) _ (sym c.is_schema.ensures ∙ c.if-not-is_schema.true) c.bad_type.ensures)
+    (ap (λ ms. flat_map (namespace_faults all) (members_of ms)) (sym step) ∙ c.loop-schema.invariant)
+    (unless_first (is_schema all (member_view m)) (bad_type m.name.now) _ (sym c.is_schema.ensures ∙ c.if-not-is_schema.true) c.bad_type.ensures)

@@ -4,7 +4,6 @@ use Rattle.odata_filter.specs.csdl_schema.Declared.{is_entity_type}
 use Rattle.odata_filter.specs.csdl_schema.DocumentView.{declarations_of}
 use Rattle.odata_filter.proofs.csdl_schema.read.count_types.Given as goal
 
-
 -- those so far and those of the rest are all
 abbrev pub invariant-loop-declaration : goal.invariant-loop-declaration
 invariant-loop-declaration l =

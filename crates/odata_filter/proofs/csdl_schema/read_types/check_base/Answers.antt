@@ -12,6 +12,6 @@ returns-then-is_some c =
     let e = c.unknown_base.result in
     let P : List ℕ → Type 0 = λ name. Tells e (unknown_base name) in
     first_of_more (fault_of e) _ (unless (not (nat_lt 1024 (length (declared_in t.body)))) too_large)
-      (unless_first (is_none (get (codes "$BaseType") t.body)) _ _
-        (given_not_none c.get.result _ c.get.ensures (sym c.is_some.ensures ∙ c.if-is_some.true))
-        (subst P c.requires c.unknown_base.ensures))
+    (unless_first (is_none (get (codes "$BaseType") t.body)) _ _
+    (given_not_none c.get.result _ c.get.ensures (sym c.is_some.ensures ∙ c.if-is_some.true))
+    (subst P c.requires c.unknown_base.ensures))

@@ -12,11 +12,11 @@ returns-then-not-is_type c =
     let e = c.bad_type.result in
     let P : List ℕ → Type 0 = λ name. Tells e (bad_type name) in
     first_of_more (fault_of e) _ (flat_map (property_faults (full_name t)) (declared_in t.body))
-      (unless_first (is_type t) _ _ (sym c.is_type.ensures ∙ c.if-not-is_type.true) (subst P c.requires c.bad_type.ensures))
+    (unless_first (is_type t) _ _ (sym c.is_type.ensures ∙ c.if-not-is_type.true) (subst P c.requires c.bad_type.ensures))
 
 pub new-requires-clause-ordered : goal.new-requires-clause-ordered
 new-requires-clause-ordered c =
     let t = declaration_view c.args.declaration.now in
     properties_in_order _ (declared_in t.body)
-      (c.in_ok-properties.ensures.1 ∙ ap (map declared_property) (rw c.deref.ensures.value c.in_ok-members.ensures.members))
-      c.in_ok-members.ensures.ordered
+    (c.in_ok-properties.ensures.1 ∙ ap (map declared_property) (rw c.deref.ensures.value c.in_ok-members.ensures.members))
+    c.in_ok-members.ensures.ordered
