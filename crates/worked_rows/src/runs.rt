@@ -1,19 +1,21 @@
 //! Filters and rows of one entity type: what is written, what is told, and the status.
-use crate::told::{FIRST, SCHEMA, plan_of, told, told_of};
+use crate::told::{FIRST, SCHEMA, outcome_of, plan_of, run_of};
 
 const A: &str = "{\"ID\":1,\"Name\":\"a\",\"Active\":true}\n";
+
 const B: &str = "{\"ID\":1,\"Name\":\"b\",\"Active\":true}\n";
 
 #[test]
 fn the_first_run(rt: HostRuntime) {
-    let rows = b"{\"ID\":1,\"Name\":\"a\",\"Active\":true}\n{\"ID\":1,\"Name\":\"b\",\"Active\":true}\n{\"ID\":2,\"Name\":\"a\",\"Active\":false}\n";
-    assert!(rt; told_of(rt.alloc(), FIRST, rows).is(A, "", 0));
+    let rows =
+        b"{\"ID\":1,\"Name\":\"a\",\"Active\":true}\n{\"ID\":1,\"Name\":\"b\",\"Active\":true}\n{\"ID\":2,\"Name\":\"a\",\"Active\":false}\n";
+    assert!(rt; run_of(rt.alloc(), FIRST, rows).is(A, "", 0));
 }
 
 #[test]
 fn a_doubled_quote_is_one(rt: HostRuntime) {
     let row = "{\"ID\":1,\"Name\":\"O'Neil\",\"Active\":true}\n";
-    assert!(rt; told_of(rt.alloc(), "Name eq 'O''Neil'", row.as_bytes()).is(row, "", 0));
+    assert!(rt; run_of(rt.alloc(), "Name eq 'O''Neil'", row.as_bytes()).is(row, "", 0));
 }
 
 #[test]
@@ -38,7 +40,10 @@ fn refused_filters(rt: HostRuntime) {
         ("not Active", "refused Unexpected 0..3\n"),
         ("Active Active", "refused Unexpected 7..13\n"),
     ] {
-        assert!(rt; told_of(rt.alloc(), filter, A.as_bytes()).is("", line, 1), "at {filter}");
+        assert!(rt;
+            run_of(rt.alloc(), filter, A.as_bytes()).is("", line, 1),
+            "at {filter}"
+        );
     }
 }
 
@@ -56,7 +61,10 @@ fn accepted_filters(rt: HostRuntime) {
         ("'a' eq Name", true),
     ] {
         let out = if is_kept { A } else { "" };
-        assert!(rt; told_of(rt.alloc(), filter, A.as_bytes()).is(out, "", 0), "at {filter}");
+        assert!(rt;
+            run_of(rt.alloc(), filter, A.as_bytes()).is(out, "", 0),
+            "at {filter}"
+        );
     }
 }
 
@@ -64,24 +72,40 @@ fn accepted_filters(rt: HostRuntime) {
 fn faulty_rows(rt: HostRuntime) {
     for (row, line) in [
         ("{\"ID\":1,\"Name\":\"a\"}", "row 1 Missing Active\n"),
-        ("{\"ID\":2147483648,\"Name\":\"a\",\"Active\":true}", "row 1 OutOfRange ID\n"),
-        ("{\"ID\":1.0,\"Name\":\"a\",\"Active\":true}", "row 1 WrongKind ID\n"),
-        ("{\"ID\":1,\"Name\":null,\"Active\":true}", "row 1 NullNotAllowed Name\n"),
-        ("{\"ID\":1,\"Name\":2,\"Active\":3}", "row 1 WrongKind Active\n"),
+        (
+            "{\"ID\":2147483648,\"Name\":\"a\",\"Active\":true}",
+            "row 1 OutOfRange ID\n",
+        ),
+        (
+            "{\"ID\":1.0,\"Name\":\"a\",\"Active\":true}",
+            "row 1 WrongKind ID\n",
+        ),
+        (
+            "{\"ID\":1,\"Name\":null,\"Active\":true}",
+            "row 1 NullNotAllowed Name\n",
+        ),
+        (
+            "{\"ID\":1,\"Name\":2,\"Active\":3}",
+            "row 1 WrongKind Active\n",
+        ),
         ("{}", "row 1 Missing Active\n"),
         ("[]", "row 1 NotObject\n"),
         ("{\"ID\":1", "row 1 Json\n"),
         ("\u{feff}{}", "row 1 Json\n"),
     ] {
-        assert!(rt; told_of(rt.alloc(), FIRST, row.as_bytes()).is("", line, 4), "at {row}");
+        assert!(rt;
+            run_of(rt.alloc(), FIRST, row.as_bytes()).is("", line, 4),
+            "at {row}"
+        );
     }
-    assert!(rt; told_of(rt.alloc(), FIRST, b"\xff\n").is("", "row 1 Json\n", 4));
+    assert!(rt; run_of(rt.alloc(), FIRST, b"\xff\n").is("", "row 1 Json\n", 4));
 }
 
 #[test]
 fn kept_lines_before_a_fault_stay(rt: HostRuntime) {
-    let rows = b"{\"ID\":1,\"Name\":\"a\",\"Active\":true}\n\n{}\n{\"ID\":1,\"Name\":\"a\",\"Active\":true}\n";
-    assert!(rt; told_of(rt.alloc(), FIRST, rows).is(A, "row 3 Missing Active\n", 4));
+    let rows =
+        b"{\"ID\":1,\"Name\":\"a\",\"Active\":true}\n\n{}\n{\"ID\":1,\"Name\":\"a\",\"Active\":true}\n";
+    assert!(rt; run_of(rt.alloc(), FIRST, rows).is(A, "row 3 Missing Active\n", 4));
 }
 
 #[test]
@@ -91,12 +115,21 @@ fn lines_and_their_ends(rt: HostRuntime) {
         ("\n", ""),
         ("\n \t\r\n", ""),
         ("{\"ID\":1,\"Name\":\"a\",\"Active\":true}", A),
-        ("{\"ID\":1,\"Name\":\"a\",\"Active\":true}\r\n", "{\"ID\":1,\"Name\":\"a\",\"Active\":true}\r\n"),
-        (" { \"Active\" : true , \"Name\":\"a\",\"ID\":1,\"More\":[1.5] }\n\n", " { \"Active\" : true , \"Name\":\"a\",\"ID\":1,\"More\":[1.5] }\n"),
+        (
+            "{\"ID\":1,\"Name\":\"a\",\"Active\":true}\r\n",
+            "{\"ID\":1,\"Name\":\"a\",\"Active\":true}\r\n",
+        ),
+        (
+            " { \"Active\" : true , \"Name\":\"a\",\"ID\":1,\"More\":[1.5] }\n\n",
+            " { \"Active\" : true , \"Name\":\"a\",\"ID\":1,\"More\":[1.5] }\n",
+        ),
     ] {
-        assert!(rt; told_of(rt.alloc(), FIRST, rows.as_bytes()).is(out, "", 0), "at {rows}");
+        assert!(rt;
+            run_of(rt.alloc(), FIRST, rows.as_bytes()).is(out, "", 0),
+            "at {rows}"
+        );
     }
-    assert!(rt; told_of(rt.alloc(), "Name eq 'b'", B.as_bytes()).is(B, "", 0));
+    assert!(rt; run_of(rt.alloc(), "Name eq 'b'", B.as_bytes()).is(B, "", 0));
 }
 
 #[test]
@@ -106,24 +139,53 @@ fn schemas_types_and_files(rt: HostRuntime) {
         ("{", "schema NotJson\n"),
         ("[]", "schema NotObject\n"),
         ("{}", "schema Version\n"),
-        ("{\"$Version\":\"4.01\",\"N\":{\"A\":{\"$Kind\":\"EntityType\",\"P\":5}}}", "schema BadProperty N.A P\n"),
-        ("{\"$Version\":\"4.01\",\"N\":{\"A\":{\"$Kind\":\"EntityType\",\"$BaseType\":\"N.B\"}}}", "schema UnknownBase N.A\n"),
-        ("{\"$Version\":\"4.01\",\"N\":{\"$Alias\":\"N\"}}", "schema BadType N\n"),
+        (
+            "{\"$Version\":\"4.01\",\"N\":{\"A\":{\"$Kind\":\"EntityType\",\"P\":5}}}",
+            "schema BadProperty N.A P\n",
+        ),
+        (
+            "{\"$Version\":\"4.01\",\"N\":{\"A\":{\"$Kind\":\"EntityType\",\"$BaseType\":\"N.B\"}}}",
+            "schema UnknownBase N.A\n",
+        ),
+        (
+            "{\"$Version\":\"4.01\",\"N\":{\"$Alias\":\"N\"}}",
+            "schema BadType N\n",
+        ),
         ("{\"$Version\":\"4.01\"}", "schema UnknownType Mini.Item\n"),
     ] {
-        assert!(rt; told(rt.alloc(), schema, &plan, Some(A.as_bytes())).is("", line, 3), "at {schema}");
+        assert!(rt;
+            outcome_of(rt.alloc(), schema, &plan, Some(A.as_bytes())).is("", line, 3),
+            "at {schema}"
+        );
     }
     let unknown = plan_of("Mini.Thing", FIRST);
-    assert!(rt; told(rt.alloc(), SCHEMA, &unknown, Some(A.as_bytes())).is("", "schema UnknownType Mini.Thing\n", 3));
-    assert!(rt; told(rt.alloc(), SCHEMA, &plan, None).is("", "read rows.json\n", 5));
+    assert!(rt;
+        outcome_of(rt.alloc(), SCHEMA, &unknown, Some(A.as_bytes())).is(
+            "",
+            "schema UnknownType Mini.Thing\n",
+            3
+        )
+    );
+    assert!(rt; outcome_of(rt.alloc(), SCHEMA, &plan, None).is("", "read rows.json\n", 5));
 }
 
 #[test]
 fn an_alias_names_its_namespace(rt: HostRuntime) {
-    let schema = "{\"$Version\":\"4.0\",\"Mini\":{\"$Alias\":\"M\",\"Item\":{\"$Kind\":\"EntityType\",\"ID\":{\"$Type\":\"Edm.Int32\"},\"Price\":{\"$Type\":\"Edm.Decimal\"}}}}";
+    let schema =
+        "{\"$Version\":\"4.0\",\"Mini\":{\"$Alias\":\"M\",\"Item\":{\"$Kind\":\"EntityType\",\"ID\":{\"$Type\":\"Edm.Int32\"},\"Price\":{\"$Type\":\"Edm.Decimal\"}}}}";
     let row = "{\"ID\":1,\"Price\":1.5}\n";
-    let kept = told(rt.alloc(), schema, &plan_of("M.Item", "ID eq 1"), Some(row.as_bytes()));
+    let kept = outcome_of(
+        rt.alloc(),
+        schema,
+        &plan_of("M.Item", "ID eq 1"),
+        Some(row.as_bytes()),
+    );
     assert!(rt; kept.is(row, "", 0));
-    let opaque = told(rt.alloc(), schema, &plan_of("M.Item", "Price eq 1"), Some(row.as_bytes()));
+    let opaque = outcome_of(
+        rt.alloc(),
+        schema,
+        &plan_of("M.Item", "Price eq 1"),
+        Some(row.as_bytes()),
+    );
     assert!(rt; opaque.is("", "refused TypeLeftOut 0..5\n", 1));
 }

@@ -3,7 +3,9 @@ use odata_filter::command_line::{Plan, Verb};
 use odata_filter::run;
 use std::alloc::Global;
 
-pub const SCHEMA: &str = "{\"$Version\":\"4.01\",\"Mini\":{\"Item\":{\"$Kind\":\"EntityType\",\"ID\":{\"$Type\":\"Edm.Int32\"},\"Name\":{},\"Active\":{\"$Type\":\"Edm.Boolean\"}}}}";
+pub const SCHEMA: &str =
+    "{\"$Version\":\"4.01\",\"Mini\":{\"Item\":{\"$Kind\":\"EntityType\",\"ID\":{\"$Type\":\"Edm.Int32\"},\"Name\":{},\"Active\":{\"$Type\":\"Edm.Boolean\"}}}}";
+
 pub const FIRST: &str = "Active and ID eq 1 and Name eq 'a'";
 
 /// The plan of the verb `filter` with this type and filter.
@@ -37,7 +39,7 @@ impl Told {
 }
 
 /// A run over the plan's type of a schema; `None` stands for rows that cannot be opened.
-pub fn told(alloc: Global, schema: &str, plan: &Plan<'_>, rows: Option<&[u8]>) -> Told {
+pub fn outcome_of(alloc: Global, schema: &str, plan: &Plan<'_>, rows: Option<&[u8]>) -> Told {
     let mut out = Vec::new(alloc);
     let mut err = Vec::new(alloc);
     let status = run(alloc, plan, schema.as_bytes(), rows, &mut out, &mut err);
@@ -45,6 +47,6 @@ pub fn told(alloc: Global, schema: &str, plan: &Plan<'_>, rows: Option<&[u8]>) -
 }
 
 /// A run over rows of `Mini.Item`.
-pub fn told_of(alloc: Global, filter: &str, rows: &[u8]) -> Told {
-    told(alloc, SCHEMA, &plan_of("Mini.Item", filter), Some(rows))
+pub fn run_of(alloc: Global, filter: &str, rows: &[u8]) -> Told {
+    outcome_of(alloc, SCHEMA, &plan_of("Mini.Item", filter), Some(rows))
 }
