@@ -10,10 +10,8 @@ pub mod RowFaultRefuses
 pub mod SlotWalk
 pub mod TypingLaws
 pub mod SlotsByName
-pub mod TypingLaws
 pub mod SchemaLookUps
 mod FilterLemmas
 mod LineLemmas
 mod WriteLemmas
 pub mod SchemaReading
-pub mod SchemaLookUps
