@@ -7,3 +7,4 @@ pub mod OperatorSteps
 pub mod Progress
 pub mod SlotValue
 pub mod Truths
+pub mod WalkSteps
