@@ -5,6 +5,7 @@ pub mod OneOutcome
 pub mod OneStep
 pub mod OperatorSteps
 pub mod Progress
+pub mod RootSteps
 pub mod SlotValue
 pub mod Truths
 pub mod WalkSteps

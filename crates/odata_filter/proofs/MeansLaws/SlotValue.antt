@@ -47,9 +47,9 @@ module _ (slots : Slots) (asked : List ℕ) (type : ExprType) (v : Value) where
   held_at (p ∷ more) [] at typed = absurd (cc)
   held_at (p ∷ more) (w ∷ ws) at typed =
       subst (λ (is_it : Truth). cond is_it (held_of slots p.type_of (val_of w)) (held_by_name slots more (map val_of ws) asked) ≡ present (val_of v slots type))
-          (same_sides asked p.name)
-          (at_front (pointwise nat_eq asked p.name) p w ws (position_or_len (λ q. pointwise nat_eq asked q.name) more) (property_named more asked)
-              (held_by_name slots more (map val_of ws) asked) at typed (held_at more ws))
+      (same_sides asked p.name)
+      (at_front (pointwise nat_eq asked p.name) p w ws (position_or_len (λ q. pointwise nat_eq asked q.name) more) (property_named more asked)
+      (held_by_name slots more (map val_of ws) asked) at typed (held_at more ws))
 
 -- values of these kinds fit
 abbrev IsPlainKind : Val → Type 0
@@ -107,15 +107,15 @@ slot_value row slot v asked type entity holds named typed =
     let values : List Value = holds.0.items in
     let held : List ℕ → Held = held_by_name slots (slots type_name) (map val_of values) in
     let seen : value_of row ≡ fields held =
-        ap (λ (h : Value). val_of h slots (single (structured type_name))) holds.1.0 ∙ val_of-Record slots (single (structured type_name)) holds.0 in
+    ap (λ (h : Value). val_of h slots (single (structured type_name))) holds.1.0 ∙ val_of-Record slots (single (structured type_name)) holds.0 in
     let fits : Fits slots type_name entity.conforms.0 (fields held) = subst (Fits slots type_name entity.conforms.0) seen entity.conforms.1 in
     let place : position_or_len (λ p. pointwise nat_eq asked p.name) (slots type_name) ≡ slot = found_place _ _ slot named in
     let here : held asked ≡ present (val_of v slots type) =
-        held_at slots asked type v (slots type_name) values (subst (λ (n : ℕ). slice_get values n ≡ Some v) (sym place) holds.1.1) typed in
+    held_at slots asked type v (slots type_name) values (subst (λ (n : ℕ). slice_get values n ≡ Some v) (sym place) holds.1.1) typed in
     let fits_here : FitsProperty (declared type) (get asked entity.conforms.0) (held asked) =
-        found_property (λ t n. FitsProperty t (get n entity.conforms.0) (held n)) asked type (slots type_name) fits.each_fits typed in
+    found_property (λ t n. FitsProperty t (get n entity.conforms.0) (held n)) asked type (slots type_name) fits.each_fits typed in
     let plain : plain_val v ≡ Some (val_of v slots type) =
-        plain_property slots type (get asked entity.conforms.0) v (subst (FitsProperty (declared type) (get asked entity.conforms.0)) here fits_here) in
+    plain_property slots type (get asked entity.conforms.0) v (subst (FitsProperty (declared type) (get asked entity.conforms.0)) here fits_here) in
     let gives_it : StepGives (fields held) asked (gives (val_of v slots type)) =
-        subst (λ (h : Held). HeldGives h (gives (val_of v slots type))) (sym here) refl in
+    subst (λ (h : Held). HeldGives h (gives (val_of v slots type))) (sym here) refl in
     (val_of v slots type, (plain, subst (λ (e : Val). StepGives e asked (gives (val_of v slots type))) (sym seen) gives_it))

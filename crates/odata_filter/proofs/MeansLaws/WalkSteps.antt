@@ -32,7 +32,7 @@ pub entity_ends : (row : Row) (now : MomentParts) (tree : Tree) (type : ExprType
     → Typed (slots_of row.schema) (type_name_at row.schema row.type_id) [] tree type → Ends (slots_of row.schema) type (MeansOn row now tree)
 entity_ends row now tree type entity typed =
     tree_ends (slots_of row.schema) (type_name_at row.schema row.type_id) now (value_of row) []
-        (fits_has_type (slots_of row.schema) (type_name_at row.schema row.type_id) entity.conforms.0 (value_of row) entity.conforms.1) tt tree type typed
+    (fits_has_type (slots_of row.schema) (type_name_at row.schema row.type_id) entity.conforms.0 (value_of row) entity.conforms.1) tt tree type typed
 
 -- a name's slot answers it
 pub property_answered : (row : Row) (now : MomentParts) (start stop : ℕ) (asked : List ℕ) (slot : ℕ) (type : ExprType) (v : Value) (d : Option Val) → IsEntity row
@@ -45,8 +45,8 @@ property_answered row now start stop asked slot type v d entity checked holds sa
 -- an operator has an outcome at the values of its sides
 pub operator_defined : (row : Row) (now : MomentParts) (operator : BinaryOperator) (left right : CheckedNode) (type : ExprType) (l r : Option Val) → IsEntity row
     → (IsChecked row.schema row.type_id [] left
-        × IsChecked row.schema row.type_id [] right
-        × OperatorTyped operator (expr_type row.schema (type_of_node left)) (expr_type row.schema (type_of_node right)) type)
+    × IsChecked row.schema row.type_id [] right
+    × OperatorTyped operator (expr_type row.schema (type_of_node left)) (expr_type row.schema (type_of_node right)) type)
     → IsSomeAnd (option_map gives l) (MeansOn row now (named left)) → IsSomeAnd (option_map gives r) (MeansOn row now (named right))
     → (o : Outcome) × AtBoth (OperatorTable operator) l r o
 operator_defined row now operator left right type l r entity checked of_left of_right =
@@ -55,11 +55,13 @@ operator_defined row now operator left right type l r entity checked of_left of_
       right = expr_type row.schema (type_of_node right);
       left_typed = checked_typed row.schema row.type_id [] left checked.0;
       right_typed = checked_typed row.schema row.type_id [] right checked.1;
-      operator_typed = checked.2
+      operator_typed = checked.2;
     } in
-    let ends = entity_ends row now (node 0 0 (binary operator (named left) (named right))) type entity typed in
-    (gives ends.0, table_defined (slots_of row.schema) (type_name_at row.schema row.type_id) now (value_of row) [] operator (named left) (named right) 0 0 l r
-        (gives ends.0) ends.1.0 of_left of_right)
+    let ends = entity_ends row now (node 0 0 (binary operator (named left) (named right))) type entity typed in (
+      gives ends.0,
+      table_defined (slots_of row.schema) (type_name_at row.schema row.type_id) now (value_of row) [] operator (named left) (named right) 0 0 l r
+          (gives ends.0) ends.1.0 of_left of_right,
+    )
 
 -- and what it gives there answers the whole
 pub operator_answered : (row : Row) (now : MomentParts) (start stop : ℕ) (operator : BinaryOperator) (left right : Tree) (l r v : Option Val)

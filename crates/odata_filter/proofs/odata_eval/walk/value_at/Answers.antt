@@ -5,6 +5,10 @@ use Rattle.odata_filter.proofs.odata_eval.walk.value_at.Goals as goal
 
 pub returns : goal.returns
 returns c =
-    let within : c.args.slot < length c.in-Record.slots.items = search (rules, the_lemmas) in
-    (c.in-Record.slots, (sym c.value.ensures.value ∙ c.in-Record.is,
-     slice_get_read c.in-Record.slots.items (length c.in-Record.slots.items) c.args.slot c.index.result.now refl within c.index.ensures))
+    let within : c.args.slot < length c.in-Record.slots.items = search (rules, the_lemmas) in (
+      c.in-Record.slots,
+      (
+        sym c.value.ensures.value ∙ c.in-Record.is,
+        slice_get_read c.in-Record.slots.items (length c.in-Record.slots.items) c.args.slot c.index.result.now refl within c.index.ensures,
+      ),
+    )
