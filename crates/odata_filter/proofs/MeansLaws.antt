@@ -1,4 +1,5 @@
 pub mod CheckedTyped
+pub mod FirstRunLaws
 pub mod OneLeaf
 pub mod OneMeaning
 pub mod OneOutcome
