@@ -1,3 +1,4 @@
 mod FilterLemmas
 mod LineLemmas
+mod RunLemmas
 mod WriteLemmas

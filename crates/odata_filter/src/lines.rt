@@ -1,5 +1,6 @@
 //! Rows in, rows out: what is kept of the lines of a reader goes to a writer.
 pub(crate) mod each;
+pub(crate) mod filter;
 pub(crate) mod input;
 pub(crate) mod judge;
 pub(crate) mod output;

@@ -98,13 +98,21 @@ fn judge_lines<J: Judge, W: Write>(
             }
             Step::Stopped(fault) => {
                 let fault = Some(fault);
-                return Ok(Progress { lines, tally, fault });
+                return Ok(Progress {
+                    lines,
+                    tally,
+                    fault,
+                });
             }
         }
         rest = after;
     }
     let fault = None;
-    Ok(Progress { lines, tally, fault })
+    Ok(Progress {
+        lines,
+        tally,
+        fault,
+    })
 }
 
 /// Judges the lines of the bytes up to the first fault, and writes the kept ones.
