@@ -1,1 +1,6 @@
+pub mod Civil
+pub mod IntLiteral
+pub mod MomentParts
+pub mod PlainVal
+pub mod StringLiteral
 pub mod Val

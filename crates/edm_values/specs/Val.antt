@@ -1,5 +1,7 @@
 -- What a value is, apart from how the code keeps it (CSDL JSON 4.01, section 3).
 use Rattle.std.specs.Prelude.{Bool, ℕ, ℤ, List}
+use Rattle.edm_values.specs.Civil.{Date}
+use Rattle.edm_values.specs.MomentParts.{MomentParts}
 
 mutual
   -- null, a primitive value, a whole number of an enumeration, a record of named fields, or a list
@@ -8,6 +10,9 @@ mutual
     boolean : Bool → Val
     whole : ℤ → Val
     text : List ℕ → Val
+    date : Date → Val
+    moment : MomentParts → Val
+    guid : List ℕ → Val
     member : ℤ → Val
     fields : (List ℕ → Held) → Val
     items : Vals → Val

@@ -2,11 +2,18 @@
 #![tactic(auto)]
 
 mod datum;
+mod int_literal;
 mod moment;
 mod primitive;
+mod string_literal;
 mod value;
 
 pub use datum::Datum;
+pub use int_literal::read_int;
 pub use moment::Moment;
 pub use primitive::PrimitiveType as Prim;
+pub use string_literal::{LitFault, read_string};
 pub use value::Value;
+
+#[cfg(test)]
+mod tests;

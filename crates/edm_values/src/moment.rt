@@ -1,8 +1,57 @@
+ghost use Rattle.std.specs.Prelude.{◌≡◌, IfSome, IsSome, ◌↔◌};
+ghost use Rattle.edm_values.specs.MomentParts.{MomentParts, IsMoment, IsFourDigitYear, IsOffset};
+
 use jiff::civil::DateTime;
+use std::marker::Model;
 
 /// A date and time of day with its offset from UTC, the value of an `Edm.DateTimeOffset`.
 #[derive(Clone, Copy, Debug)]
 pub struct Moment {
     civil: DateTime,
     offset_minutes: i16,
+}
+
+impl Model for Moment {
+    ghost Value = { MomentParts };
+
+    ghost view = { λ m. record { civil = m.civil; offset_minutes = m.offset_minutes } };
+
+    ghost invariant = { λ m. IsMoment m.civil m.offset_minutes };
+
+    ghost inverse = { λ p. record { civil = p.civil; offset_minutes = p.offset_minutes } };
+}
+
+impl Moment {
+    /// The moment at which a clock shows `civil`, `offset_minutes` minutes ahead of UTC. There is
+    /// one for the years 1 to 9999 and the offsets -1439 to 1439.
+    pub fn new(civil: DateTime, offset_minutes: i16) -> Option<Moment>
+        ensures made { IsSome result ↔ IsMoment civil offset_minutes }
+        ensures value { IfSome result (λ m. m
+            ≡ record { civil = civil; offset_minutes = offset_minutes }) }
+    {
+        let year = civil.year();
+        if (1..=9999).contains(&year) && (-1439..=1439).contains(&offset_minutes) {
+            return Some(Moment {
+                civil,
+                offset_minutes,
+            });
+        }
+        None
+    }
+
+    /// The date and time of day on the clock of this moment.
+    pub fn civil(&self) -> DateTime
+        ensures value { result ≡ self.now.civil }
+        ensures year { IsFourDigitYear result.date.year }
+    {
+        self.civil
+    }
+
+    /// How many minutes the clock of this moment is ahead of UTC.
+    pub fn offset_minutes(&self) -> i16
+        ensures value { result ≡ self.now.offset_minutes }
+        ensures within { IsOffset result }
+    {
+        self.offset_minutes
+    }
 }

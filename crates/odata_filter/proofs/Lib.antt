@@ -1,4 +1,18 @@
+pub mod EntitySlots
+pub mod ExampleRows
+pub mod FitsHasType
+pub mod FitsOnce
+pub mod MeansLaws
+pub mod Numbers
+pub mod OneFirstFault
+pub mod ReadEntities
+pub mod RowFaultRefuses
+pub mod SlotWalk
+pub mod TypingLaws
+pub mod SlotsByName
+pub mod SchemaLookUps
 mod FilterLemmas
 mod LineLemmas
 mod RunLemmas
 mod WriteLemmas
+pub mod SchemaReading

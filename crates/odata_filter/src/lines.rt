@@ -4,7 +4,13 @@ pub(crate) mod filter;
 pub(crate) mod input;
 pub(crate) mod judge;
 pub(crate) mod output;
+pub(crate) mod row_judge;
+pub mod rows;
 pub mod run_fault;
 pub mod said;
 pub mod split;
 pub mod tally;
+
+pub use rows::filter_lines;
+pub use run_fault::RunFault;
+pub use tally::Tally;

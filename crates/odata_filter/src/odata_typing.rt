@@ -1,1 +1,18 @@
-//! (to come)
+//! Which filters have a type, and what is wrong with the first node of one that has none. The other modules use its
+//! public calls alone.
+pub mod checked;
+pub mod checked_node;
+pub mod checker;
+pub mod edm_type;
+mod literal;
+mod node;
+mod operator;
+mod property;
+pub mod refusal;
+mod untyped;
+
+pub use checked::Checked;
+pub use checked_node::CheckedNode;
+pub use checker::check;
+pub use edm_type::{EdmType, ValueType};
+pub use refusal::{Refusal, TypeFault, TypeFaultCode};

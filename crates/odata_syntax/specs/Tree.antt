@@ -13,3 +13,10 @@ mutual
     literal : LiteralKind → List ℕ → Shape
     name : List ℕ → Shape
     binary : BinaryOperator → Tree → Tree → Shape
+
+-- where a tree starts and stops in the text
+abbrev pub start_of : Tree → ℕ
+start_of (node start stop shape) = start
+
+abbrev pub stop_of : Tree → ℕ
+stop_of (node start stop shape) = stop

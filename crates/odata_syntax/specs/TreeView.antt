@@ -1,6 +1,6 @@
 -- The tree that a node of the code stands for.
 use Rattle.std.specs.Prelude.{string_bytes}
-use Rattle.odata_syntax.specs.Tree.{Tree, node, Shape, literal, name, binary}
+use Rattle.odata_syntax.specs.Tree.{Tree, node, literal, name, binary}
 use Rattle.odata_syntax.specs.declared.node.Node.{Node, fold-Node}
 use Rattle.odata_syntax.specs.declared.node.Node.TheOpen.{Node-F}
 

@@ -34,3 +34,21 @@ pub enum Node {
         right: Box<Node>,
     },
 }
+
+impl Node {
+    ghost use Rattle.std.specs.Prelude.{◌≡◌};
+    ghost use Rattle.odata_syntax.specs.TreeView.{tree_of};
+    ghost use Rattle.odata_syntax.specs.Tree.{start_of, stop_of};
+
+    /// Where the node stands in the text.
+    pub fn span(&self) -> Span
+        ensures starts { result.start ≡ start_of (tree_of self.now) }
+        ensures stops { result.stop ≡ stop_of (tree_of self.now) }
+    {
+        match self {
+            Node::Lit { span, .. } => *span,
+            Node::Name { span, .. } => *span,
+            Node::Binary { span, .. } => *span,
+        }
+    }
+}

@@ -1,9 +1,35 @@
 use crate::Span;
+use std::alloc::{AllocError, AllocFailed};
 
 /// Why tokens are no expression.
 #[derive(Clone, Copy, Debug, PartialEq, Eq)]
 pub enum SyntaxFault {
+    /// The first token with which the tokens so far begin no expression, or the empty span at the text's end.
     Unexpected { span: Span },
+    /// A `(` that the grammar allows and that would be the 65th open one.
     TooDeep { span: Span },
+    /// No memory was left for the tree.
     Memory,
+}
+
+impl From<AllocError> for SyntaxFault {
+    ghost use Rattle.std.specs.Prelude.{◌≡◌};
+    ghost use Rattle.odata_syntax.specs.declared.syntax_fault.SyntaxFault.TheVariants.{Memory};
+
+    ghost from_gives = { λ _ e. e ≡ Memory };
+
+    fn from(_error: AllocError) -> SyntaxFault {
+        SyntaxFault::Memory
+    }
+}
+
+impl<T: Drop> From<AllocFailed<T>> for SyntaxFault {
+    ghost use Rattle.std.specs.Prelude.{◌≡◌};
+    ghost use Rattle.odata_syntax.specs.declared.syntax_fault.SyntaxFault.TheVariants.{Memory};
+
+    ghost from_gives = { λ _ e. e ≡ Memory };
+
+    fn from(_error: AllocFailed<T>) -> SyntaxFault {
+        SyntaxFault::Memory
+    }
 }

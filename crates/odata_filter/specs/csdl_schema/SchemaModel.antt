@@ -1,6 +1,8 @@
 -- What a schema says, apart from how it is kept (CSDL JSON 4.01).
-use Rattle.std.specs.Prelude.{◌++◌, [], ◌∷◌, ℕ, zero, suc, List, Bool, Option, Some, None, if◌then◌else◌, nat_eq}
-use Rattle.std.specs.Cmp.Lexicographic.{pointwise}
+use Rattle.std.specs.Prelude.{◌++◌, [], ◌∷◌, ◌||◌, ℕ, zero, suc, List, Bool, false, Option, Some, None, IsTrue, IsSomeAnd, if◌then◌else◌, nat_eq, map, position, slice_get, option_map}
+use Rattle.std.specs.Ordering.{nat_cmp}
+use Rattle.std.specs.Cmp.Lexicographic.{pointwise, slice_cmp}
+use Rattle.std.specs.List.Sorted.{IsStrictlySortedBy}
 use Rattle.odata_filter.specs.csdl_schema.ExprType.{ExprType}
 
 -- how a property's value is seen: by its type, not at all, or by navigation
@@ -54,3 +56,35 @@ type_name_at schema = name_in schema.types
 -- the properties of the type at a place, in slot order; none past the end
 abbrev pub properties_at : SchemaModel → ℕ → List PropertyModel
 properties_at schema n = slots_of schema (type_name_at schema n)
+
+-- a type's name with the alias of its namespace, if that has one
+abbrev pub alias_name : TypeModel → Option (List ℕ)
+alias_name t = option_map (λ alias. alias ++ 46 ∷ t.name) t.alias
+
+abbrev pub is_text_of : Option (List ℕ) → List ℕ → Bool
+is_text_of None asked = false
+is_text_of (Some text) asked = pointwise nat_eq text asked
+
+-- whether a type goes by the asked name: by its namespace or by the alias of it
+abbrev pub is_named : TypeModel → List ℕ → Bool
+is_named t asked = pointwise nat_eq (qualified_name t) asked || is_text_of (alias_name t) asked
+
+-- the place of the first type of the asked name
+abbrev pub place_named : SchemaModel → List ℕ → Option ℕ
+place_named schema asked = position (λ t. is_named t asked) schema.types
+
+-- there is a type at the place, and it is an entity type
+abbrev pub IsEntityAt : SchemaModel → ℕ → Type 0
+IsEntityAt schema n = IsSomeAnd (slice_get schema.types n) (λ t. IsTrue t.is_entity)
+
+-- the first slot of the asked name
+abbrev pub slot_named : List PropertyModel → List ℕ → Option ℕ
+slot_named properties asked = position (λ p. pointwise nat_eq asked p.name) properties
+
+-- the names rise in byte order, so no two are equal
+abbrev pub IsInNameOrder : List PropertyModel → Type 0
+IsInNameOrder properties = IsStrictlySortedBy (slice_cmp nat_cmp) (map (λ p. p.name) properties)
+
+-- the qualified name of the type at a place, if there is one
+abbrev pub type_name_of : SchemaModel → ℕ → Option (List ℕ)
+type_name_of schema n = option_map qualified_name (slice_get schema.types n)

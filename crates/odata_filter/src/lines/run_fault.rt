@@ -1,5 +1,5 @@
-use crate::edm_entities::row_fault::RowFault;
-use crate::odata_eval::eval_fault::EvalFault;
+use crate::edm_entities::fault::RowFault;
+use crate::odata_eval::fault::EvalFault;
 
 /// Why a run over rows ended early. Lines are counted from 1.
 #[derive(Debug, Drop)]

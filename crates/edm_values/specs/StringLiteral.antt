@@ -1,0 +1,34 @@
+-- String literals (OData ABNF Construction Rules 4.01, section 7, `string`).
+use Rattle.std.specs.Prelude.{◌≡◌, ℕ, List, [], ◌∷◌, ◌++◌, ◌==◌, if◌then◌else◌}
+use Rattle.edm_values.specs.declared.string_literal.LitFault.{LitFault}
+use Rattle.edm_values.specs.declared.string_literal.LitFault.TheVariants.{Form, Memory}
+
+-- a single quote
+abbrev pub quote : ℕ
+quote = 39
+
+-- a text with each of its quotes written twice
+abbrev pub doubled : List ℕ → List ℕ
+doubled [] = []
+doubled (c ∷ cs) = if c == quote then quote ∷ quote ∷ doubled cs else c ∷ doubled cs
+
+-- the spelling of a text: between quotes, with its own quotes doubled
+abbrev pub StringValue : List ℕ → List ℕ → Type 0
+StringValue spelling value = spelling ≡ quote ∷ doubled value ++ quote ∷ []
+
+-- some text has this spelling
+abbrev pub IsStringSpelling : List ℕ → Type 0
+IsStringSpelling spelling = (value : List ℕ) × StringValue spelling value
+
+-- P, unless it was want of memory
+abbrev pub OnForm : LitFault → Type 0 → Type 0
+OnForm Form P = P
+OnForm Memory P = Unit {0}
+
+-- what a refusal says of the text; want of memory says nothing
+abbrev pub IsStringFault : List ℕ → LitFault → Type 0
+IsStringFault spelling fault = OnForm fault (¬ (IsStringSpelling spelling))
+
+-- for private clauses: the same of the text between the quotes
+abbrev pub IsUndoublingFault : List ℕ → LitFault → Type 0
+IsUndoublingFault inner fault = OnForm fault ((value : List ℕ) → ¬ (inner ≡ doubled value))

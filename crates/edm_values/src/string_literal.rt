@@ -1,0 +1,60 @@
+ghost use Rattle.std.specs.Prelude.{◌≡◌, ℕ, List, IfOk, IfErr, IfSome, IfNone, ◌∷◌, ◌++◌, [], string_bytes};
+ghost use Rattle.edm_values.specs.StringLiteral.{quote, doubled, StringValue, IsStringFault, IsUndoublingFault};
+
+use std::alloc::{AllocError, Global};
+
+/// Why a text is not read as a String literal.
+#[derive(Debug, Drop)]
+pub enum LitFault {
+    /// It is not spelled as one.
+    Form,
+    /// There was no memory for the value.
+    Memory,
+}
+
+impl From<AllocError> for LitFault {
+    ghost use Rattle.std.specs.Prelude.{◌≡◌};
+    ghost use Rattle.edm_values.specs.declared.string_literal.LitFault.TheVariants.{Memory};
+
+    ghost from_gives = { λ _ fault. fault ≡ Memory };
+
+    fn from(_: AllocError) -> LitFault {
+        LitFault::Memory
+    }
+}
+
+/// The value of a String literal: the text between its quotes, with doubled quotes made single.
+pub fn read_string(alloc: Global, text: &str) -> Result<String, LitFault>
+    ensures value { IfOk result (λ value. StringValue text.now (string_bytes value)) }
+    ensures fault { IfErr result (IsStringFault text.now) }
+{
+    match between_quotes(text) {
+        Some(inner) => undoubled(alloc, inner),
+        None => Err(LitFault::Form),
+    }
+}
+
+fn between_quotes(text: &str) -> Option<&str>
+    ensures some { IfSome result (λ inner. text.now ≡ quote ∷ inner.now ++ quote ∷ []) }
+    ensures none { IfNone result ((inner : List ℕ) → ¬ (text.now ≡ quote ∷ inner ++ quote ∷ [])) }
+{
+    text.strip_prefix('\'')?.strip_suffix('\'')
+}
+
+fn undoubled(alloc: Global, inner: &str) -> Result<String, LitFault>
+    ensures value { IfOk result (λ value. inner.now ≡ doubled (string_bytes value)) }
+    ensures fault { IfErr result (IsUndoublingFault inner.now) }
+{
+    let mut value = String::new(alloc);
+    let mut rest = inner;
+    while let Some((piece, behind)) = rest.split_once('\'') {
+        let Some(behind) = behind.strip_prefix('\'') else {
+            return Err(LitFault::Form);
+        };
+        value.push_str(piece)?;
+        value.push('\'')?;
+        rest = behind;
+    }
+    value.push_str(rest)?;
+    Ok(value)
+}

@@ -1,0 +1,9 @@
+pub mod CheckedTyped
+pub mod OneLeaf
+pub mod OneMeaning
+pub mod OneOutcome
+pub mod OneStep
+pub mod OperatorSteps
+pub mod Progress
+pub mod SlotValue
+pub mod Truths

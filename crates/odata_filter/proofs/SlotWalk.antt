@@ -1,0 +1,84 @@
+-- The walk over the slots of a type: what it has read fits, and the fault at which it stops is the first.
+use Rattle.std.proofs.Common.{◌≡◌, ℕ, zero, suc, ◌<◌, List, [], ◌∷◌, ◌++◌, length, take, drop, Option, Some, None, slice_get, IfSome, IsSome, string_bytes, refl, sym, ap, subst, arith}
+use Rattle.std.specs.List.{AllByRecursion}
+use Rattle.serde_json.specs.Data.{Data}
+use Rattle.serde_json.specs.Find.{get, as_object}
+use Rattle.edm_values.specs.Val.{Held}
+use Rattle.edm_values.specs.declared.value.Value.{Value}
+use Rattle.odata_filter.specs.csdl_schema.SchemaModel.{Slots, PropertyModel}
+use Rattle.odata_filter.specs.edm_entities.Fits.{FitsProperty}
+use Rattle.odata_filter.specs.edm_entities.Row.{held_of, val_of}
+use Rattle.odata_filter.specs.edm_entities.RowFaults.{Flaw, missing, wrong_kind, null_not_allowed, out_of_range, IsPropertyFault, IsFirstFault, IsFirstFaultAt, IsRowFault, IsMemory}
+use Rattle.odata_filter.specs.edm_entities.Walk.{FitsSlot, FitSlots, IsSlotFault}
+use Rattle.odata_filter.specs.declared.edm_entities.fault.RowFault.{RowFault}
+use Rattle.odata_filter.specs.declared.edm_entities.fault.RowFault.TheVariants.{NotObject, Missing, WrongKind, NullNotAllowed, OutOfRange, BadText, Memory}
+
+-- one slot more
+pub fit_push : (slots : Slots) (json : Data) (properties : List PropertyModel) (n : ℕ) (values : List Value) (v : Value) → n < length properties
+    → FitSlots slots json (take n properties) values → IfSome (slice_get properties n) (λ p. FitsSlot slots json p v)
+    → FitSlots slots json (take (suc n) properties) (values ++ v ∷ [])
+fit_push slots json [] n values v lt fits here = absurd (omega arith)
+fit_push slots json (p ∷ ps) zero [] v lt fits here = (here, tt)
+fit_push slots json (p ∷ ps) zero (w ∷ values) v lt fits here = absurd fits
+fit_push slots json (p ∷ ps) (suc n) [] v lt fits here = absurd fits
+fit_push slots json (p ∷ ps) (suc n) (w ∷ values) v lt fits here = (fits.0, fit_push slots json ps n values v (omega arith) fits.1 here)
+
+-- slots that hold values that fit have members that fit
+some_fit : (slots : Slots) (json : Data) (properties : List PropertyModel) (values : List Value) → FitSlots slots json properties values
+    → AllByRecursion (λ p. (held : Held) × FitsProperty p.type_of (get p.name json) held) properties
+some_fit slots json [] values fits = tt
+some_fit slots json (p ∷ ps) [] fits = absurd fits
+some_fit slots json (p ∷ ps) (v ∷ values) fits = ((held_of slots p.type_of (val_of v), fits.0), some_fit slots json ps values fits.1)
+
+-- a list at one of its places
+record IsCutAt (properties : List PropertyModel) (n : ℕ) (p : PropertyModel) : Type 0 where
+  split : properties ≡ take n properties ++ p ∷ drop (suc n) properties
+  here : slice_get properties n ≡ Some p
+
+cut_at : (properties : List PropertyModel) (n : ℕ) → n < length properties → (p : PropertyModel) × IsCutAt properties n p
+cut_at [] n lt = absurd (omega arith)
+cut_at (p ∷ ps) zero lt = (p, record { split = refl; here = refl })
+cut_at (p ∷ ps) (suc n) lt = let rest = cut_at ps n (omega arith) in (rest.0, record { split = ap (λ qs. p ∷ qs) rest.1.split; here = rest.1.here })
+
+first_fault : (slots : Slots) (json : Data) (properties : List PropertyModel) (n : ℕ) (values : List Value) (p : PropertyModel) (flaw : Flaw) (path : List ℕ)
+    → IsSome (as_object json) → FitSlots slots json (take n properties) values → IsCutAt properties n p
+    → IsPropertyFault p.type_of (get p.name json) [] flaw → path ≡ p.name → IsFirstFaultAt properties json path flaw
+first_fault slots json properties n values p flaw path is_object fits cut fault named = (
+  p.name ∷ [],
+  record {
+    is_object = is_object;
+    before = take n properties;
+    faulty = p;
+    behind = drop (suc n) properties;
+    split = cut.split;
+    before_fit = some_fit slots json (take n properties) values fits;
+    rest = [];
+    path_is = refl;
+    fault = fault;
+  },
+  named,
+)
+
+fault_here : (slots : Slots) (type_name : List ℕ) (json : Data) (n : ℕ) (values : List Value) (p : PropertyModel) (fault : RowFault)
+    → IsSome (as_object json) → FitSlots slots json (take n (slots type_name)) values → IsCutAt (slots type_name) n p → IsSlotFault json p fault
+    → ¬ (IsMemory fault) → IsRowFault slots type_name json fault
+fault_here slots type_name json n values p NotObject is_object fits cut fault no_memory = absurd fault
+fault_here slots type_name json n values p (Missing path) is_object fits cut fault no_memory =
+    first_fault slots json (slots type_name) n values p missing _ is_object fits cut fault.0 fault.1
+fault_here slots type_name json n values p (WrongKind path) is_object fits cut fault no_memory =
+    first_fault slots json (slots type_name) n values p wrong_kind _ is_object fits cut fault.0 fault.1
+fault_here slots type_name json n values p (NullNotAllowed path) is_object fits cut fault no_memory =
+    first_fault slots json (slots type_name) n values p null_not_allowed _ is_object fits cut fault.0 fault.1
+fault_here slots type_name json n values p (OutOfRange path) is_object fits cut fault no_memory =
+    first_fault slots json (slots type_name) n values p out_of_range _ is_object fits cut fault.0 fault.1
+fault_here slots type_name json n values p (BadText path) is_object fits cut fault no_memory = absurd fault
+fault_here slots type_name json n values p Memory is_object fits cut fault no_memory = absurd (no_memory tt)
+
+-- the fault at a slot, those before it holding values that fit, is the row's
+pub row_fault : (slots : Slots) (type_name : List ℕ) (json : Data) (n : ℕ) (values : List Value) (fault : RowFault) → n < length (slots type_name)
+    → IsSome (as_object json) → FitSlots slots json (take n (slots type_name)) values → IfSome (slice_get (slots type_name) n) (λ p. IsSlotFault json p fault)
+    → ¬ (IsMemory fault) → IsRowFault slots type_name json fault
+row_fault slots type_name json n values fault lt is_object fits here no_memory =
+    let cut = cut_at (slots type_name) n lt in
+    fault_here slots type_name json n values cut.0 fault is_object fits cut.1
+    (subst (λ o. IfSome o (λ p. IsSlotFault json p fault)) cut.1.here here) no_memory

@@ -1,0 +1,44 @@
+-- What a filter says of a row, a line of JSON (OData JSON Format 4.01, sections 4.5 and 7; URL Conventions 4.01, section 5.1.1).
+use Rattle.std.specs.Prelude.{◌≡◌, ◌≢◌, ℕ, List, [], true, Some}
+use Rattle.serde_json.specs.Data.{Data}
+use Rattle.edm_values.specs.MomentParts.{MomentParts}
+use Rattle.edm_values.specs.Val.{Val, boolean}
+use Rattle.odata_filter.specs.csdl_schema.Document.{IsJsonOf, IsNoJson}
+use Rattle.odata_filter.specs.csdl_schema.SchemaModel.{slots_of, type_name_at}
+use Rattle.odata_filter.specs.declared.edm_entities.fault.RowFault.{RowFault}
+use Rattle.odata_filter.specs.declared.lines.said.Judgment.{Judgment}
+use Rattle.odata_filter.specs.declared.lines.said.Judgment.TheVariants.{Kept, LeftOut, NotJson, NoEntity, NoValue}
+use Rattle.odata_filter.specs.edm_entities.Fits.{Fits}
+use Rattle.odata_filter.specs.edm_entities.RowFaults.{IsRowFault}
+use Rattle.odata_filter.specs.odata_eval.Means.{Means}
+use Rattle.odata_filter.specs.odata_eval.Outcome.{Outcome, gives}
+use Rattle.odata_filter.specs.odata_eval.VerdictView.{fault_outcome}
+use Rattle.odata_filter.specs.odata_typing.Filter.{Filter, tree_of_filter}
+
+-- the JSON fits a value, and on that value the filter has this outcome and no other
+pub record HasOutcome (filter : Filter) (now : MomentParts) (json : Data) (outcome : Outcome) : Type 0 where
+  pub value : Val
+  pub fits : Fits (slots_of filter.schema) (type_name_at filter.schema filter.filtered) json value
+  pub related : Means (slots_of filter.schema) (type_name_at filter.schema filter.filtered) now value [] (tree_of_filter filter) outcome
+  pub only : (other : Outcome) → Means (slots_of filter.schema) (type_name_at filter.schema filter.filtered) now value [] (tree_of_filter filter) other → other ≡ outcome
+
+-- a row is kept where its outcome is true, and left out at any other value
+abbrev pub JudgesValue : Filter → MomentParts → Data → Judgment → Type 0
+JudgesValue filter now json Kept = HasOutcome filter now json (gives (boolean true))
+JudgesValue filter now json LeftOut = (value : Val) × ((value ≢ boolean true) × HasOutcome filter now json (gives value))
+JudgesValue filter now json NotJson = ⊥
+JudgesValue filter now json (NoEntity fault) = IsRowFault (slots_of filter.schema) (type_name_at filter.schema filter.filtered) json fault
+JudgesValue filter now json (NoValue fault) = (outcome : Outcome) × ((fault_outcome fault ≡ Some outcome) × HasOutcome filter now json outcome)
+
+-- the line is a JSON value, of which that is said
+pub record JudgesJson (filter : Filter) (now : MomentParts) (line : List ℕ) (judgment : Judgment) : Type 0 where
+  pub json : Data
+  pub is_json : IsJsonOf line json
+  pub judged : JudgesValue filter now json judgment
+
+abbrev pub JudgesRow : Filter → MomentParts → List ℕ → Judgment → Type 0
+JudgesRow filter now line NotJson = IsNoJson line
+JudgesRow filter now line Kept = JudgesJson filter now line Kept
+JudgesRow filter now line LeftOut = JudgesJson filter now line LeftOut
+JudgesRow filter now line (NoEntity fault) = JudgesJson filter now line (NoEntity fault)
+JudgesRow filter now line (NoValue fault) = JudgesJson filter now line (NoValue fault)

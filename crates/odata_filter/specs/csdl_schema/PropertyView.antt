@@ -1,0 +1,25 @@
+-- A property of the code, as the model says it.
+use Rattle.std.specs.Prelude.{Bool, true, false}
+use Rattle.edm_values.specs.declared.primitive.PrimitiveType.{PrimitiveType}
+use Rattle.odata_filter.specs.declared.csdl_schema.property.Property.{Property}
+use Rattle.odata_filter.specs.declared.csdl_schema.property.PropertyKind.{PropertyKind}
+use Rattle.odata_filter.specs.declared.csdl_schema.property.PropertyKind.TheVariants.{Prim, Enum, Complex, Opaque, Navigation}
+use Rattle.odata_filter.specs.csdl_schema.ExprType.{single, collection, primitive}
+use Rattle.odata_filter.specs.csdl_schema.SchemaModel.{SchemaModel, PropertyType, declared, opaque, navigation}
+
+-- one value of a primitive type, or a collection of such
+abbrev pub primitive_property : Bool → PrimitiveType → PropertyType
+primitive_property false p = declared (single (primitive p))
+primitive_property true p = declared (collection (primitive p))
+
+-- by kind and whether there are many; no schema has enumeration or complex properties yet
+abbrev pub type_of_kind : PropertyKind → Bool → PropertyType
+type_of_kind (Prim p) many = primitive_property many p
+type_of_kind (Enum e) many = opaque
+type_of_kind (Complex t) many = opaque
+type_of_kind Opaque many = opaque
+type_of_kind Navigation many = navigation
+
+-- the type that a schema gives a property
+abbrev pub property_type : SchemaModel → Property → PropertyType
+property_type schema p = type_of_kind p.kind p.many

@@ -1,0 +1,14 @@
+pub mod AndGives
+pub mod DatumView
+pub mod EndsOnce
+pub mod Environment
+pub mod EqualGives
+pub mod LeftFirst
+pub mod LiteralGives
+pub mod Means
+pub mod MeansOn
+pub mod NameGives
+pub mod OperatorGives
+pub mod Outcome
+pub mod VerdictView
+pub mod WalkAnswer

@@ -1,0 +1,13 @@
+pub mod ExprTypes
+pub mod LiteralValue
+pub mod Typed
+pub mod Considered
+pub mod FirstUntypable
+pub mod HasTyping
+pub mod TypeView
+pub mod IsChecked
+pub mod Filter
+pub mod PreOrder
+pub mod Calls
+pub mod Answer
+pub mod EarlierFault

@@ -1,0 +1,97 @@
+ghost use Rattle.std.specs.Prelude.{◌≡◌, ◌<◌, ◌↔◌, length, slice_get, IsTrue, IsSome, IfSome};
+ghost use Rattle.std.specs.Option.{option_map};
+ghost use Rattle.odata_filter.specs.odata_typing.Calls.{TakesMemory, UsesNow};
+ghost use Rattle.odata_filter.specs.odata_typing.Filter.{IsFilter, tree_of_filter};
+ghost use Rattle.odata_filter.specs.odata_typing.PreOrder.{pre_order, span_of_tree, IsTypeAt};
+ghost use Rattle.odata_filter.specs.odata_typing.TypeView.{expr_type};
+
+use super::checked_node::CheckedNode;
+use super::edm_type::EdmType;
+use crate::csdl_schema::ids::TypeId;
+use crate::csdl_schema::schema::Schema;
+use odata_syntax::Span;
+use std::marker::Model;
+
+/// A filter whose expression has type Boolean or Null for its type in its schema.
+#[derive(Drop)]
+pub struct Checked<'s> {
+    schema: &'s Schema,
+    filtered_type: TypeId,
+    root: Box<CheckedNode>,
+}
+
+impl<'s> Model for Checked<'s> {
+    ghost use Rattle.odata_filter.specs.odata_typing.Filter.{Filter};
+    ghost use Rattle.odata_filter.specs.contracts.odata_typing.checked_node.CheckedNode as checked_node;
+    ghost use Rattle.std.specs.Coded.{codes};
+
+    ghost Value = { Filter };
+
+    ghost coded = { Prim.hlevel (codes, checked_node.the_row.coded) };
+
+    ghost use Rattle.odata_filter.specs.odata_typing.Filter.{IsFilter};
+
+    ghost view = { λ c. record { schema = c.schema.now; filtered = c.filtered_type; root = c.root.value } };
+
+    ghost invariant = { λ c. IsFilter (record { schema = c.schema.now; filtered = c.filtered_type; root = c.root.value }) };
+}
+
+impl<'s> Checked<'s> {
+    /// The schema that the filter was checked against.
+    pub fn schema(&self) -> &'s Schema
+        ensures { result.now ≡ self.now.schema }
+    {
+        self.schema
+    }
+
+    /// The type of the entities that it filters.
+    pub fn filtered_type(&self) -> TypeId
+        ensures { result ≡ self.now.filtered }
+    {
+        self.filtered_type
+    }
+
+    /// The root of the tree with its types, values and slots.
+    pub fn nodes(&self) -> &CheckedNode
+        ensures root { result.now ≡ self.now.root }
+        ensures right { IsFilter self.now }
+    {
+        &self.root
+    }
+
+    /// How many nodes the tree has.
+    pub fn node_count(&self) -> usize
+        ensures { result ≡ length (pre_order (tree_of_filter self.now)) }
+    {
+        unreachable!()
+    }
+
+    /// The type of a node, numbered from 0 in pre-order. `None` past the last node.
+    pub fn type_of(&self, node: usize) -> Option<EdmType>
+        ensures inside { IsSome result ↔ (node < length (pre_order (tree_of_filter self.now))) }
+        ensures typed { IfSome result (λ t. IsTypeAt self.now node (expr_type self.now.schema t)) }
+    {
+        unreachable!()
+    }
+
+    /// The place of a node, numbered from 0 in pre-order. `None` past the last node.
+    pub fn span_of(&self, node: usize) -> Option<Span>
+        ensures { result ≡ option_map span_of_tree (slice_get (pre_order (tree_of_filter self.now)) node) }
+    {
+        unreachable!()
+    }
+
+    /// Whether evaluating the filter makes texts.
+    pub fn takes_memory(&self) -> bool
+        ensures { IsTrue result ↔ TakesMemory (tree_of_filter self.now) }
+    {
+        unreachable!()
+    }
+
+    /// Whether the filter asks for the moment of its evaluation.
+    pub fn uses_now(&self) -> bool
+        ensures { IsTrue result ↔ UsesNow (tree_of_filter self.now) }
+    {
+        unreachable!()
+    }
+}

@@ -1,0 +1,16 @@
+pub mod ByteClasses
+pub mod Examples
+pub mod Longest
+pub mod OneReading
+pub mod Places
+pub mod Quotes
+pub mod Reaches
+pub mod Scans
+pub mod Run
+pub mod Lexemes
+pub mod Complete
+pub mod Sound
+pub mod Fronts
+pub mod Spanned
+pub mod Faults
+pub mod FirstRuns

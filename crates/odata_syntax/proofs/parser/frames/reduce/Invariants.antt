@@ -1,0 +1,12 @@
+use Rattle.std.proofs.Common.{◌≡◌, vec_len}
+use Rattle.odata_syntax.specs.TreeView.{tree_of}
+use Rattle.odata_syntax.specs.Machine.{reduce}
+use Rattle.odata_syntax.specs.MachineView.{stack_of}
+use Rattle.odata_syntax.proofs.parser.frames.reduce.Given as goal
+
+-- what is left grows to what was asked
+abbrev pub invariant-loop-frame : goal.invariant-loop-frame
+invariant-loop-frame l = reduce l.level (stack_of l.frames.items) (tree_of l.read.value) ≡ reduce l.level (stack_of l.initial.frames.items) (tree_of l.initial.read.value)
+
+abbrev pub decreases-loop-frame : goal.decreases-loop-frame
+decreases-loop-frame l = vec_len l.frames

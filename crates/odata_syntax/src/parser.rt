@@ -1,0 +1,54 @@
+//! From tokens to a tree (OData URL Conventions 4.01, section 5.1.1; OData ABNF 4.01, section 4). A machine takes token
+//! after token: it keeps the operands that wait for what stands behind their operator, and what it expects next.
+ghost use Rattle.std.specs.Prelude.{◌≡◌, ◌≢◌, Some, IfOk, IfErr};
+ghost use Rattle.odata_syntax.specs.declared.syntax_fault.SyntaxFault.{SyntaxFault};
+ghost use Rattle.odata_syntax.specs.Tree.{Tree};
+ghost use Rattle.odata_syntax.specs.TreeView.{tree_of};
+ghost use Rattle.odata_syntax.specs.Piece.{pieces_of};
+ghost use Rattle.odata_syntax.specs.Grammar.{Derives};
+ghost use Rattle.odata_syntax.specs.Parse.{IsParse, HasNoParse, IsSyntaxFault};
+ghost use Rattle.odata_syntax.specs.Machine.{run, start};
+ghost use Rattle.odata_syntax.specs.MachineView.{machine_of, StopsAt};
+
+mod frames;
+mod operand;
+mod operator;
+mod state;
+mod step;
+#[cfg(test)]
+mod tests;
+mod word;
+
+use crate::parser::state::State;
+use crate::{Expr, Node, SyntaxFault, Token};
+use std::alloc::Global;
+
+/// The tree of the tokens of one text. `len` is the length of the text in bytes.
+///
+/// `Unexpected` names the first token with which the tokens so far begin no expression; where every beginning is one
+/// and the whole is none, it is the empty span at `len`. `TooDeep` names the 65th parenthesis that would be open.
+pub fn parse(alloc: Global, tokens: &[Token<'_>], len: usize) -> Result<Expr, SyntaxFault>
+    ensures derived { IfOk result (λ expr. IsParse (pieces_of tokens.now) (tree_of expr)) }
+    // it is the only one, at any depth
+    ensures only { IfOk result (λ expr.
+        (tree : Tree) → Derives 1 (pieces_of tokens.now) tree → tree ≡ tree_of expr) }
+    ensures fault { IfErr result (λ fault.
+        fault ≢ SyntaxFault.Memory → IsSyntaxFault (pieces_of tokens.now) len fault) }
+    ensures none { IfErr result (λ fault. fault ≢ SyntaxFault.Memory → HasNoParse (pieces_of tokens.now)) }
+{
+    let state = take_all(alloc, tokens)?;
+    let root = step::finish(alloc, state, len)?;
+    Ok(Expr::new(root))
+}
+
+/// The machine behind all tokens.
+fn take_all(alloc: Global, tokens: &[Token<'_>]) -> Result<State, SyntaxFault>
+    ensures taken { IfOk result (λ state. run (pieces_of tokens.now) start ≡ Some (machine_of state)) }
+    ensures refused { IfErr result (StopsAt (pieces_of tokens.now)) }
+{
+    let mut state = State::new(alloc);
+    for token in tokens {
+        state = step::step(alloc, state, token)?;
+    }
+    Ok(state)
+}

@@ -1,0 +1,104 @@
+//! Each public call once, with what it answers.
+use crate::told::{FIRST, SCHEMA};
+use edm_values::{Moment, Prim, read_int, read_string};
+use jiff::civil;
+use odata_filter::command_line::{PlanFault, Verb};
+use odata_filter::csdl_schema::property::PropertyKind;
+use odata_filter::csdl_schema::schema::Schema;
+use odata_filter::edm_entities::entity::Entity;
+use odata_filter::lines::filter_lines;
+use odata_filter::odata_eval::{Verdict, evaluate};
+use odata_filter::odata_typing::{EdmType, ValueType, check};
+use odata_filter::plan;
+use odata_syntax::{Node, Span, TokenKind, parse, tokens};
+use serde_json::Value;
+use std::test::Fail;
+
+const A: &str = "{\"ID\":1,\"Name\":\"a\",\"Active\":true}\n";
+
+#[test]
+fn values(rt: HostRuntime) -> Result<(), Fail> {
+    assert_eq!(rt; read_int("-7"), Some(-7));
+    assert!(rt; read_string(rt.alloc(), "'O''Neil'")?.as_str() == "O'Neil");
+    let moment = Moment::new(civil::date(2020, 1, 1).at(1, 2, 3, 4), -90).ok_or("a moment")?;
+    assert_eq!(rt; moment.offset_minutes(), -90);
+    assert_eq!(rt; moment.civil().year(), 2020);
+    Ok(())
+}
+
+#[test]
+fn syntax(rt: HostRuntime) -> Result<(), Fail> {
+    let found = tokens(rt.alloc(), "ID eq 1")?;
+    assert_eq!(rt; found.len(), 3);
+    assert!(rt; found[1].kind == TokenKind::Word && found[1].text == "eq");
+    let expression = parse(rt.alloc(), found.as_slice(), 7)?;
+    let is_whole = match expression.root() {
+        Node::Binary { span, .. } => *span == Span { start: 0, stop: 7 },
+        _ => false,
+    };
+    assert!(rt; is_whole);
+    Ok(())
+}
+
+#[test]
+fn schema(rt: HostRuntime) -> Result<(), Fail> {
+    let schema = Schema::read(rt.alloc(), SCHEMA.as_bytes())?;
+    let id = schema.type_named("Mini.Item").ok_or("the type")?;
+    assert!(rt; schema.holds(id));
+    assert!(rt; schema.is_entity(id));
+    assert_eq!(rt; schema.slots(id), 3);
+    assert_eq!(rt; schema.slot(id, "ID"), Some(1));
+    assert_eq!(rt; schema.slot(id, "Id"), None);
+    assert!(rt; schema.slot_name(id, 2) == "Name");
+    let property = schema.property(id, 0);
+    assert!(rt;
+        property.kind == PropertyKind::Prim(Prim::Bool) && !property.many && !property.nullable
+    );
+    assert!(rt; schema.type_name(id) == Some("Mini.Item"));
+    Ok(())
+}
+
+#[test]
+fn filter_and_row(rt: HostRuntime) -> Result<(), Fail> {
+    let schema = Schema::read(rt.alloc(), SCHEMA.as_bytes())?;
+    let id = schema.type_named("Mini.Item").ok_or("the type")?;
+    assert!(rt; schema.holds(id));
+    let checked = check(rt.alloc(), &schema, id, FIRST)?;
+    assert_eq!(rt; checked.node_count(), 9);
+    assert!(rt; checked.type_of(0) == Some(EdmType::Single(ValueType::Prim(Prim::Bool))));
+    assert!(rt; checked.type_of(9).is_none());
+    assert!(rt; checked.span_of(1) == Some(Span { start: 0, stop: 18 }));
+    assert!(rt; !checked.takes_memory() && !checked.uses_now());
+    let moment = Moment::new(civil::date(1, 1, 1).at(0, 0, 0, 0), 0).ok_or("a moment")?;
+    let row = Value::from_str(rt.alloc(), A)?;
+    let entity = Entity::from_json(rt.alloc(), &schema, id, &row)?;
+    assert!(rt; evaluate(rt.alloc(), &checked, &entity, &moment)? == Verdict::True);
+    let mut out = Vec::new(rt.alloc());
+    let tally = filter_lines(rt.alloc(), &checked, &moment, A.as_bytes(), &mut out)?;
+    assert!(rt; tally.rows == 1 && tally.kept == 1);
+    assert!(rt; out.as_slice() == A.as_bytes());
+    Ok(())
+}
+
+#[test]
+fn command_line(rt: HostRuntime) -> Result<(), Fail> {
+    let words = [
+        "odfilter", "filter", "--schema", "s", "--type", "N.T", "--filter", "true", "--rows", "r",
+    ];
+    let whole = plan(rt.alloc(), words.as_slice())?;
+    assert!(rt; whole.verb == Verb::Filter && whole.schema == "s" && whole.named == "N.T");
+    assert!(rt; whole.filter == Some("true") && whole.rows == Some("r"));
+    assert!(rt; whole.query.is_none() && whole.now.is_none() && !whole.collection);
+    let without = ["odfilter", "filter", "--schema", "s", "--type", "N.T"];
+    assert!(rt; matches!(plan(rt.alloc(), without.as_slice()), Err(PlanFault::OneOf)));
+    let unknown = [
+        "odfilter", "filter", "--schema", "s", "--type", "N.T", "--query", "x",
+    ];
+    assert!(rt;
+        matches!(
+            plan(rt.alloc(), unknown.as_slice()),
+            Err(PlanFault::Clap(_))
+        )
+    );
+    Ok(())
+}

@@ -1,0 +1,13 @@
+//! Rows of inputs and wanted outputs, across the crates. There is nothing here but tests.
+#![tactic(auto)]
+
+#[cfg(test)]
+mod devices;
+#[cfg(test)]
+mod happy_paths;
+#[cfg(test)]
+mod limits;
+#[cfg(test)]
+mod runs;
+#[cfg(test)]
+mod told;

@@ -1,0 +1,191 @@
+//! Filters and rows of one entity type: what is written, what is told, and the status.
+use crate::told::{FIRST, SCHEMA, outcome_of, plan_of, run_of};
+
+const A: &str = "{\"ID\":1,\"Name\":\"a\",\"Active\":true}\n";
+
+const B: &str = "{\"ID\":1,\"Name\":\"b\",\"Active\":true}\n";
+
+#[test]
+fn the_first_run(rt: HostRuntime) {
+    let rows =
+        b"{\"ID\":1,\"Name\":\"a\",\"Active\":true}\n{\"ID\":1,\"Name\":\"b\",\"Active\":true}\n{\"ID\":2,\"Name\":\"a\",\"Active\":false}\n";
+    assert!(rt; run_of(rt.alloc(), FIRST, rows).is(A, "", 0));
+}
+
+#[test]
+fn a_doubled_quote_is_one(rt: HostRuntime) {
+    let row = "{\"ID\":1,\"Name\":\"O'Neil\",\"Active\":true}\n";
+    assert!(rt; run_of(rt.alloc(), "Name eq 'O''Neil'", row.as_bytes()).is(row, "", 0));
+}
+
+#[test]
+fn refused_filters(rt: HostRuntime) {
+    for (filter, line) in [
+        ("Name eq 'abc", "refused UnclosedString 8..12\n"),
+        ("Name eq", "refused Unexpected 7..7\n"),
+        ("Name eq ", "refused Unexpected 8..8\n"),
+        ("", "refused Unexpected 0..0\n"),
+        ("1eq 1", "refused RunOn 0..3\n"),
+        ("1\u{e9}", "refused BadCharacter 1..3\n"),
+        ("-", "refused BadCharacter 0..1\n"),
+        ("(Active)", "refused BadCharacter 0..1\n"),
+        ("Name", "refused NotBoolean 0..4\n"),
+        ("Foo eq Bar", "refused UnknownProperty 0..3\n"),
+        ("Active and ID", "refused OperandTypes 0..13\n"),
+        ("ID eq 'a'", "refused OperandTypes 0..9\n"),
+        ("ID eq 9223372036854775808", "refused LiteralRange 6..25\n"),
+        ("Foo", "refused UnknownProperty 0..3\n"),
+        ("ID eq 'x' and Foo", "refused OperandTypes 0..9\n"),
+        ("null", "refused Unexpected 0..4\n"),
+        ("not Active", "refused Unexpected 0..3\n"),
+        ("Active Active", "refused Unexpected 7..13\n"),
+    ] {
+        assert!(rt;
+            run_of(rt.alloc(), filter, A.as_bytes()).is("", line, 1),
+            "at {filter}"
+        );
+    }
+}
+
+#[test]
+fn accepted_filters(rt: HostRuntime) {
+    for (filter, is_kept) in [
+        ("Active", true),
+        ("TRUE and Active", true),
+        ("false", false),
+        ("Active eq false", false),
+        ("1 eq 1 eq true", true),
+        ("ID eq +01", true),
+        ("Active AND Name EQ 'a'", true),
+        ("ID eq 9223372036854775807", false),
+        ("'a' eq Name", true),
+    ] {
+        let out = if is_kept { A } else { "" };
+        assert!(rt;
+            run_of(rt.alloc(), filter, A.as_bytes()).is(out, "", 0),
+            "at {filter}"
+        );
+    }
+}
+
+#[test]
+fn faulty_rows(rt: HostRuntime) {
+    for (row, line) in [
+        ("{\"ID\":1,\"Name\":\"a\"}", "row 1 Missing Active\n"),
+        (
+            "{\"ID\":2147483648,\"Name\":\"a\",\"Active\":true}",
+            "row 1 OutOfRange ID\n",
+        ),
+        (
+            "{\"ID\":1.0,\"Name\":\"a\",\"Active\":true}",
+            "row 1 WrongKind ID\n",
+        ),
+        (
+            "{\"ID\":1,\"Name\":null,\"Active\":true}",
+            "row 1 NullNotAllowed Name\n",
+        ),
+        (
+            "{\"ID\":1,\"Name\":2,\"Active\":3}",
+            "row 1 WrongKind Active\n",
+        ),
+        ("{}", "row 1 Missing Active\n"),
+        ("[]", "row 1 NotObject\n"),
+        ("{\"ID\":1", "row 1 Json\n"),
+        ("\u{feff}{}", "row 1 Json\n"),
+    ] {
+        assert!(rt;
+            run_of(rt.alloc(), FIRST, row.as_bytes()).is("", line, 4),
+            "at {row}"
+        );
+    }
+    assert!(rt; run_of(rt.alloc(), FIRST, b"\xff\n").is("", "row 1 Json\n", 4));
+}
+
+#[test]
+fn kept_lines_before_a_fault_stay(rt: HostRuntime) {
+    let rows =
+        b"{\"ID\":1,\"Name\":\"a\",\"Active\":true}\n\n{}\n{\"ID\":1,\"Name\":\"a\",\"Active\":true}\n";
+    assert!(rt; run_of(rt.alloc(), FIRST, rows).is(A, "row 3 Missing Active\n", 4));
+}
+
+#[test]
+fn lines_and_their_ends(rt: HostRuntime) {
+    for (rows, out) in [
+        ("", ""),
+        ("\n", ""),
+        ("\n \t\r\n", ""),
+        ("{\"ID\":1,\"Name\":\"a\",\"Active\":true}", A),
+        (
+            "{\"ID\":1,\"Name\":\"a\",\"Active\":true}\r\n",
+            "{\"ID\":1,\"Name\":\"a\",\"Active\":true}\r\n",
+        ),
+        (
+            " { \"Active\" : true , \"Name\":\"a\",\"ID\":1,\"More\":[1.5] }\n\n",
+            " { \"Active\" : true , \"Name\":\"a\",\"ID\":1,\"More\":[1.5] }\n",
+        ),
+    ] {
+        assert!(rt;
+            run_of(rt.alloc(), FIRST, rows.as_bytes()).is(out, "", 0),
+            "at {rows}"
+        );
+    }
+    assert!(rt; run_of(rt.alloc(), "Name eq 'b'", B.as_bytes()).is(B, "", 0));
+}
+
+#[test]
+fn schemas_types_and_files(rt: HostRuntime) {
+    let plan = plan_of("Mini.Item", FIRST);
+    for (schema, line) in [
+        ("{", "schema NotJson\n"),
+        ("[]", "schema NotObject\n"),
+        ("{}", "schema Version\n"),
+        (
+            "{\"$Version\":\"4.01\",\"N\":{\"A\":{\"$Kind\":\"EntityType\",\"P\":5}}}",
+            "schema BadProperty N.A P\n",
+        ),
+        (
+            "{\"$Version\":\"4.01\",\"N\":{\"A\":{\"$Kind\":\"EntityType\",\"$BaseType\":\"N.B\"}}}",
+            "schema UnknownBase N.A\n",
+        ),
+        (
+            "{\"$Version\":\"4.01\",\"N\":{\"$Alias\":\"N\"}}",
+            "schema BadType N\n",
+        ),
+        ("{\"$Version\":\"4.01\"}", "schema UnknownType Mini.Item\n"),
+    ] {
+        assert!(rt;
+            outcome_of(rt.alloc(), schema, &plan, Some(A.as_bytes())).is("", line, 3),
+            "at {schema}"
+        );
+    }
+    let unknown = plan_of("Mini.Thing", FIRST);
+    assert!(rt;
+        outcome_of(rt.alloc(), SCHEMA, &unknown, Some(A.as_bytes())).is(
+            "",
+            "schema UnknownType Mini.Thing\n",
+            3
+        )
+    );
+    assert!(rt; outcome_of(rt.alloc(), SCHEMA, &plan, None).is("", "read rows.json\n", 5));
+}
+
+#[test]
+fn an_alias_names_its_namespace(rt: HostRuntime) {
+    let schema =
+        "{\"$Version\":\"4.0\",\"Mini\":{\"$Alias\":\"M\",\"Item\":{\"$Kind\":\"EntityType\",\"ID\":{\"$Type\":\"Edm.Int32\"},\"Price\":{\"$Type\":\"Edm.Decimal\"}}}}";
+    let row = "{\"ID\":1,\"Price\":1.5}\n";
+    let kept = outcome_of(
+        rt.alloc(),
+        schema,
+        &plan_of("M.Item", "ID eq 1"),
+        Some(row.as_bytes()),
+    );
+    assert!(rt; kept.is(row, "", 0));
+    let opaque = outcome_of(
+        rt.alloc(),
+        schema,
+        &plan_of("M.Item", "Price eq 1"),
+        Some(row.as_bytes()),
+    );
+    assert!(rt; opaque.is("", "refused TypeLeftOut 0..5\n", 1));
+}
