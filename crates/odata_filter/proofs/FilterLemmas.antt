@@ -1,6 +1,6 @@
 -- Runs over lines, one after the other.
-use Rattle.std.proofs.Common.{◌≡◌, ℕ, zero, suc, ◌+◌, ◌<◌, ◌≤◌, Bool, true, false, cond, not, List, [], ◌∷◌, ◌++◌, length, refl, sym, ap, ◌∙◌, subst, subst₂, append_assoc, append-nil, arith, length-append}
-use Rattle.std.specs.Prelude.{Option, map, filter, flat_map, count_by, All, slice_index_or}
+use Rattle.std.proofs.Common.{◌≡◌, ℕ, zero, suc, ◌+◌, ◌≤◌, Bool, cond, List, [], ◌∷◌, ◌++◌, length, refl, sym, ap, ◌∙◌, subst, append_assoc, append-nil, arith, length-append}
+use Rattle.std.specs.Prelude.{Option, map, filter, flat_map, count_by, All}
 use Rattle.std.proofs.lemmas.List.{map-append, length-map}
 use Rattle.std.proofs.lemmas.List.Elements.{All-append, filter-append}
 use Rattle.std.proofs.lemmas.List.Sums.{sum_by-append, count_by-le-length}
@@ -8,13 +8,13 @@ use Rattle.std.proofs.lemmas.Grind.{flat_map-append}
 use Rattle.odata_filter.specs.Kept.{Says, IsSound, is_kept, is_row, SaidLine, kept_text, Filters, StopsAt, StopsBefore, StopsWithin, Stops}
 use Rattle.odata_filter.specs.Lines.{lines_of}
 use Rattle.odata_filter.specs.Passing.{sum_of, StopsHere}
-use Rattle.odata_filter.specs.Writes.{Holds}
-use Rattle.odata_filter.proofs.WriteLemmas.{Holds-more}
-use Rattle.std.proofs.KnownBytes.{Appends-nil}
+use Rattle.odata_filter.specs.Writes.{Writes, AppendsFront, Holds}
+use Rattle.odata_filter.proofs.WriteLemmas.{Holds-more, held_both}
+use Rattle.std.proofs.KnownBytes.{Appends-nil, Appends-trans}
 use Rattle.odata_filter.specs.declared.lines.said.Judgment.{Judgment as JudgmentModel}
-use Rattle.odata_filter.specs.declared.lines.said.Judgment.TheVariants.{Kept, LeftOut, NotJson, NoEntity, NoValue}
+use Rattle.odata_filter.specs.declared.lines.said.Judgment.TheVariants.{Kept, LeftOut}
 use Rattle.odata_filter.specs.declared.lines.said.Said.{Said as SaidModel}
-use Rattle.odata_filter.specs.declared.lines.said.Said.TheVariants.{TooLong, PassedOver, Judged}
+use Rattle.odata_filter.specs.declared.lines.said.Said.TheVariants.{PassedOver, Judged}
 use Rattle.odata_filter.specs.declared.lines.run_fault.RunFault.{RunFault as RunFaultModel}
 use Rattle.odata_filter.specs.declared.lines.run_fault.RunFault.TheVariants.{Json, Row, Arithmetic, LineTooLong, NotACollection, Read, Write, Memory}
 use Rattle.odata_filter.specs.declared.lines.tally.Tally.{Tally as TallyModel}
@@ -120,7 +120,13 @@ pub record HasPassed (judge : JudgeModel) (lines : List (List ℕ)) (rest : List
 
 pub HasPassed-none : (judge : JudgeModel) (bytes : List ℕ) (a : Option (List ℕ)) (held : List ℕ) → held ≡ [] → HasPassed judge (lines_of bytes) bytes a a held 0 (record { rows = 0; kept = 0 })
 HasPassed-none judge bytes a held none = record {
-  before = []; text = []; whole = refl; counted = refl; filtered = Filters-none judge; holds = ([], Appends-nil a, sym none) }
+  before = [];
+  text = [];
+  whole = refl;
+  counted = refl;
+  filtered = Filters-none judge;
+  holds = ([], Appends-nil a, sym none);
+}
 
 -- one line more
 pub HasPassed-more : (judge : JudgeModel) (lines : List (List ℕ)) (line rest after text : List ℕ) (a b c : Option (List ℕ)) (h₁ h₂ : List ℕ) (passed : ℕ) (m n : TallyModel)
@@ -141,38 +147,90 @@ HasPassed-more judge lines line rest after text a b c h₁ h₂ passed m n first
 pub StopsHere-stops : (judge : JudgeModel) (before after : List (List ℕ)) (line text : List ℕ) (tally : TallyModel) (place : ℕ) (fault : RunFaultModel)
     → Filters judge before text tally → place ≡ length before + 1 → StopsHere judge line place fault → Stops judge (before ++ line ∷ after) text fault
 StopsHere-stops judge before after line text tally place (Json n) filtered counted (is, says) = record {
-  before = before; bad = line; after = after; tally = tally; whole = refl; counted = is ∙ counted; filtered = filtered; fault = says }
+  before = before;
+  bad = line;
+  after = after;
+  tally = tally;
+  whole = refl;
+  counted = is ∙ counted;
+  filtered = filtered;
+  fault = says;
+}
 StopsHere-stops judge before after line text tally place (Row n fault) filtered counted (is, says) = record {
-  before = before; bad = line; after = after; tally = tally; whole = refl; counted = is ∙ counted; filtered = filtered; fault = says }
+  before = before;
+  bad = line;
+  after = after;
+  tally = tally;
+  whole = refl;
+  counted = is ∙ counted;
+  filtered = filtered;
+  fault = says;
+}
 StopsHere-stops judge before after line text tally place (Arithmetic n fault) filtered counted (is, says) = record {
-  before = before; bad = line; after = after; tally = tally; whole = refl; counted = is ∙ counted; filtered = filtered; fault = says }
+  before = before;
+  bad = line;
+  after = after;
+  tally = tally;
+  whole = refl;
+  counted = is ∙ counted;
+  filtered = filtered;
+  fault = says;
+}
 StopsHere-stops judge before after line text tally place (LineTooLong n) filtered counted (is, says) = record {
-  before = before; bad = line; after = after; tally = tally; whole = refl; counted = is ∙ counted; filtered = filtered; fault = says }
+  before = before;
+  bad = line;
+  after = after;
+  tally = tally;
+  whole = refl;
+  counted = is ∙ counted;
+  filtered = filtered;
+  fault = says;
+}
 StopsHere-stops judge before after line text tally place NotACollection filtered counted never = absurd never
 StopsHere-stops judge before after line text tally place (Read n) filtered counted never = absurd never
 StopsHere-stops judge before after line text tally place Write filtered counted never = absurd never
 StopsHere-stops judge before after line text tally place (Memory n) filtered counted is = record {
-  before = before; after = line ∷ after; tally = tally; whole = refl; counted = is ∙ counted; filtered = filtered }
+  before = before;
+  after = line ∷ after;
+  tally = tally;
+  whole = refl;
+  counted = is ∙ counted;
+  filtered = filtered;
+}
 
 -- lines behind those that were looked at change nothing
 StopsAt-more : (judge : JudgeModel) (lines more : List (List ℕ)) (text : List ℕ) (place : ℕ) (said : SaidModel)
     → StopsAt judge lines text place said → StopsAt judge (lines ++ more) text place said
 StopsAt-more judge lines more text place said stop = record {
-  before = stop.before; bad = stop.bad; after = stop.after ++ more; tally = stop.tally;
+  before = stop.before;
+  bad = stop.bad;
+  after = stop.after ++ more;
+  tally = stop.tally;
   whole = ap (λ l. l ++ more) stop.whole ∙ append_assoc stop.before (stop.bad ∷ stop.after) more;
-  counted = stop.counted; filtered = stop.filtered; fault = stop.fault }
+  counted = stop.counted;
+  filtered = stop.filtered;
+  fault = stop.fault;
+}
 
 StopsBefore-more : (judge : JudgeModel) (lines more : List (List ℕ)) (text : List ℕ) (place : ℕ) → StopsBefore judge lines text place → StopsBefore judge (lines ++ more) text place
 StopsBefore-more judge lines more text place stop = record {
-  before = stop.before; after = stop.after ++ more; tally = stop.tally;
+  before = stop.before;
+  after = stop.after ++ more;
+  tally = stop.tally;
   whole = ap (λ l. l ++ more) stop.whole ∙ append_assoc stop.before stop.after more;
-  counted = stop.counted; filtered = stop.filtered }
+  counted = stop.counted;
+  filtered = stop.filtered;
+}
 
 pub StopsWithin-more : (judge : JudgeModel) (lines more : List (List ℕ)) (text : List ℕ) → StopsWithin judge lines text → StopsWithin judge (lines ++ more) text
 StopsWithin-more judge lines more text stop = record {
-  before = stop.before; after = stop.after ++ more; tally = stop.tally; unwritten = stop.unwritten;
+  before = stop.before;
+  after = stop.after ++ more;
+  tally = stop.tally;
+  unwritten = stop.unwritten;
   whole = ap (λ l. l ++ more) stop.whole ∙ append_assoc stop.before stop.after more;
-  filtered = stop.filtered }
+  filtered = stop.filtered;
+}
 
 pub Stops-more : (judge : JudgeModel) (lines more : List (List ℕ)) (text : List ℕ) (fault : RunFaultModel) → Stops judge lines text fault → Stops judge (lines ++ more) text fault
 Stops-more judge lines more text (Json n) stop = StopsAt-more judge lines more text n _ stop
@@ -187,20 +245,43 @@ Stops-more judge lines more text (Memory n) stop = StopsBefore-more judge lines 
 -- of the text that was to be written, a beginning was
 StopsAt-within : (judge : JudgeModel) (lines : List (List ℕ)) (text rest : List ℕ) (place : ℕ) (said : SaidModel) → StopsAt judge lines (text ++ rest) place said → StopsWithin judge lines text
 StopsAt-within judge lines text rest place said stop = record {
-  before = stop.before; after = stop.bad ∷ stop.after; tally = stop.tally; unwritten = rest; whole = stop.whole; filtered = stop.filtered }
+  before = stop.before;
+  after = stop.bad ∷ stop.after;
+  tally = stop.tally;
+  unwritten = rest;
+  whole = stop.whole;
+  filtered = stop.filtered;
+}
 
 StopsBefore-within : (judge : JudgeModel) (lines : List (List ℕ)) (text rest : List ℕ) (place : ℕ) → StopsBefore judge lines (text ++ rest) place → StopsWithin judge lines text
 StopsBefore-within judge lines text rest place stop = record {
-  before = stop.before; after = stop.after; tally = stop.tally; unwritten = rest; whole = stop.whole; filtered = stop.filtered }
+  before = stop.before;
+  after = stop.after;
+  tally = stop.tally;
+  unwritten = rest;
+  whole = stop.whole;
+  filtered = stop.filtered;
+}
 
 pub Filters-within : (judge : JudgeModel) (lines more : List (List ℕ)) (text rest : List ℕ) (tally : TallyModel) → Filters judge lines (text ++ rest) tally → StopsWithin judge (lines ++ more) text
 Filters-within judge lines more text rest tally filtered = record {
-  before = lines; after = more; tally = tally; unwritten = rest; whole = refl; filtered = filtered }
+  before = lines;
+  after = more;
+  tally = tally;
+  unwritten = rest;
+  whole = refl;
+  filtered = filtered;
+}
 
 StopsWithin-within : (judge : JudgeModel) (lines : List (List ℕ)) (text rest : List ℕ) → StopsWithin judge lines (text ++ rest) → StopsWithin judge lines text
 StopsWithin-within judge lines text rest stop = record {
-  before = stop.before; after = stop.after; tally = stop.tally; unwritten = rest ++ stop.unwritten; whole = stop.whole;
-  filtered = subst (λ l. Filters judge stop.before l stop.tally) (append_assoc text rest stop.unwritten) stop.filtered }
+  before = stop.before;
+  after = stop.after;
+  tally = stop.tally;
+  unwritten = rest ++ stop.unwritten;
+  whole = stop.whole;
+  filtered = subst (λ l. Filters judge stop.before l stop.tally) (append_assoc text rest stop.unwritten) stop.filtered;
+}
 
 pub Stops-within : (judge : JudgeModel) (lines : List (List ℕ)) (text rest : List ℕ) (fault : RunFaultModel) → Stops judge lines (text ++ rest) fault → StopsWithin judge lines text
 Stops-within judge lines text rest (Json n) stop = StopsAt-within judge lines text rest n _ stop
@@ -211,3 +292,32 @@ Stops-within judge lines text rest NotACollection never = absurd never
 Stops-within judge lines text rest (Read n) stop = StopsBefore-within judge lines text rest n stop
 Stops-within judge lines text rest Write stop = StopsWithin-within judge lines text rest stop
 Stops-within judge lines text rest (Memory n) stop = StopsBefore-within judge lines text rest n stop
+
+-- the line behind those that passed is kept, and not all of it could be written
+pub HasPassed-failed : (judge : JudgeModel) (lines : List (List ℕ)) (line rest after : List ℕ) (a b c : Option (List ℕ)) (held : List ℕ) (passed : ℕ) (tally : TallyModel)
+    → lines_of rest ≡ line ∷ lines_of after → Says judge line (Judged Kept) → AppendsFront b c (held ++ (line ++ 10 ∷ []))
+    → HasPassed judge lines rest a b held passed tally → Writes a c (StopsWithin judge lines)
+HasPassed-failed judge lines line rest after a b c held passed tally first says (second_text, more, (unwritten, f)) so_far =
+    let (first_text, wrote, e) = so_far.holds in
+    let one : TallyModel = record { rows = 1; kept = 1 } in
+    let all = Filters-append judge so_far.before (line ∷ []) so_far.text (line ++ 10 ∷ []) tally one so_far.filtered (Filters-kept judge line says) in
+    let stop : StopsWithin judge lines (first_text ++ second_text) = record {
+      before = so_far.before ++ line ∷ [];
+      after = lines_of after;
+      tally = sum_of tally one;
+      unwritten = unwritten;
+      whole = so_far.whole ∙ ap (λ l. so_far.before ++ l) first ∙ sym (append_assoc so_far.before (line ∷ []) (lines_of after));
+      filtered = subst (λ l. Filters judge (so_far.before ++ line ∷ []) l (sum_of tally one)) (held_both [] held unwritten so_far.text (line ++ 10 ∷ []) first_text second_text e f) all;
+    } in
+    (first_text ++ second_text, Appends-trans a b c first_text second_text wrote more, stop)
+
+-- the line behind those that passed is at fault
+pub HasPassed-stopped : (judge : JudgeModel) (lines : List (List ℕ)) (line rest after text : List ℕ) (a b c : Option (List ℕ)) (h₁ h₂ : List ℕ) (passed : ℕ) (tally : TallyModel) (fault : RunFaultModel)
+    → lines_of rest ≡ line ∷ lines_of after → Holds b c h₂ (h₁ ++ text) → text ≡ [] → StopsHere judge line (passed + 1) fault
+    → HasPassed judge lines rest a b h₁ passed tally → (all : List ℕ) × Holds a c h₂ all × Stops judge lines all fault
+HasPassed-stopped judge lines line rest after text a b c h₁ h₂ passed tally fault first more none here so_far =
+    let holds = Holds-more a b c h₁ h₂ so_far.text text so_far.holds more in
+    let same : so_far.text ++ text ≡ so_far.text = ap (λ l. so_far.text ++ l) none ∙ append-nil so_far.text in
+    let whole : lines ≡ so_far.before ++ line ∷ lines_of after = so_far.whole ∙ ap (λ l. so_far.before ++ l) first in
+    let stop = StopsHere-stops judge so_far.before (lines_of after) line so_far.text tally (passed + 1) fault so_far.filtered (ap (λ k. k + 1) so_far.counted) here in
+    (so_far.text, subst (Holds a c h₂) same holds, subst (λ l. Stops judge l so_far.text fault) (sym whole) stop)

@@ -13,5 +13,6 @@ pub mod SlotsByName
 pub mod SchemaLookUps
 mod FilterLemmas
 mod LineLemmas
+mod RunLemmas
 mod WriteLemmas
 pub mod SchemaReading

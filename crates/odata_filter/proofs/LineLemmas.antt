@@ -1,7 +1,8 @@
 -- Where the first line of a byte list ends.
-use Rattle.std.proofs.Common.{◌≡◌, ◌==◌, ℕ, zero, suc, ◌+◌, ◌<◌, List, [], ◌∷◌, length, take, drop, slice_index, true, false, inl, inr, refl, ap, ◌∙◌, subst, sym, arith, add-one}
-use Rattle.std.proofs.lemmas.Bool.{not-true, true≢false, cases_Bool, iff_false}
+use Rattle.std.proofs.Common.{◌≡◌, ◌==◌, ℕ, zero, suc, ◌+◌, ◌<◌, List, [], ◌∷◌, ◌++◌, length, take, drop, slice_index, true, false, inl, inr, refl, ap, ◌∙◌, arith, add-one}
+use Rattle.std.proofs.lemmas.Bool.{cases_Bool}
 use Rattle.odata_filter.specs.Lines.{lines_of, with_first}
+use Rattle.odata_filter.specs.Passing.{IsComplete}
 
 -- no byte below the place is an LF
 abbrev pub NoneBelow : List ℕ → ℕ → Type 0
@@ -27,3 +28,24 @@ lines_of-last (b ∷ []) some none = let no = not_first b [] 0 none in rw no ref
 lines_of-last (b ∷ c ∷ bs) some none =
     let no = not_first b (c ∷ bs) (suc (length bs)) none in
     rw no (ap (with_first b) (lines_of-last (c ∷ bs) (omega arith) (later b (c ∷ bs) (suc (length bs)) none)))
+
+-- bytes that end with an LF have a line
+has_line : (bs : List ℕ) → (l : List ℕ) × (ls : List (List ℕ)) × (lines_of (bs ++ 10 ∷ []) ≡ l ∷ ls)
+has_line [] = ([], [], refl)
+has_line (b ∷ bs) = elim (cases_Bool (b == 10)) [
+  | inl is ↦ ([], lines_of (bs ++ 10 ∷ []), rw is refl)
+  | inr is ↦ let (l, ls, e) = has_line bs in (b ∷ l, ls, rw is (ap (with_first b) e))
+]
+
+with_first-append : (b : ℕ) (lines more : List (List ℕ)) (l : List ℕ) (ls : List (List ℕ)) → lines ≡ l ∷ ls → with_first b (lines ++ more) ≡ with_first b lines ++ more
+with_first-append b lines more l ls e = rw e refl
+
+-- what stands behind an LF begins a line
+pub IsComplete-line : (bs : List ℕ) → IsComplete (bs ++ 10 ∷ [])
+IsComplete-line [] more = refl
+IsComplete-line (b ∷ bs) more = elim (cases_Bool (b == 10)) [
+  | inl is ↦ rw is (ap (λ l. [] ∷ l) (IsComplete-line bs more))
+  | inr is ↦
+      let (l, ls, e) = has_line bs in
+      rw is (ap (with_first b) (IsComplete-line bs more) ∙ with_first-append b (lines_of (bs ++ 10 ∷ [])) (lines_of more) l ls e)
+]

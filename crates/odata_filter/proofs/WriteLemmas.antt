@@ -3,7 +3,7 @@ use Rattle.std.proofs.Common.{◌≡◌, ℕ, ◌-◌, List, [], ◌++◌, lengt
 use Rattle.std.proofs.lemmas.List.{take_rest}
 use Rattle.std.specs.Io.KnownBytes.{Appends}
 use Rattle.std.proofs.KnownBytes.{Appends-trans, Appends-nil}
-use Rattle.odata_filter.specs.Writes.{Writes, AppendsFront, Holds}
+use Rattle.odata_filter.specs.Writes.{AppendsFront, Holds}
 
 -- a write took the first n of the rest
 pub split_at : (whole done rest : List ℕ) (n : ℕ) → whole ≡ done ++ rest → whole ≡ (done ++ take n rest) ++ take (length rest - n) (drop n rest)
@@ -53,7 +53,7 @@ pub Holds-none : (a : Option (List ℕ)) (held : List ℕ) → Holds a a held he
 Holds-none a held = ([], Appends-nil a, refl)
 
 -- two texts one after the other, held back at the end
-held_both : (h₀ h₁ h₂ x y first second : List ℕ) → h₀ ++ x ≡ first ++ h₁ → h₁ ++ y ≡ second ++ h₂ → h₀ ++ (x ++ y) ≡ (first ++ second) ++ h₂
+pub held_both : (h₀ h₁ h₂ x y first second : List ℕ) → h₀ ++ x ≡ first ++ h₁ → h₁ ++ y ≡ second ++ h₂ → h₀ ++ (x ++ y) ≡ (first ++ second) ++ h₂
 held_both h₀ h₁ h₂ x y first second e f =
     sym (append_assoc h₀ x y) ∙ ap (λ l. l ++ y) e ∙ append_assoc first h₁ y ∙ ap (λ l. first ++ l) f ∙ sym (append_assoc first second h₂)
 

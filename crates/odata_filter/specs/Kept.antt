@@ -1,5 +1,5 @@
 -- What is kept of lines, given what is said of each of them.
-use Rattle.std.specs.Prelude.{◌≡◌, ℕ, ◌+◌, ◌<◌, ◌≤◌, List, [], ◌∷◌, ◌++◌, Bool, true, false, not, length, map, filter, flat_map, count_by, All}
+use Rattle.std.specs.Prelude.{◌≡◌, ℕ, ◌+◌, ◌<◌, ◌≤◌, List, [], ◌∷◌, ◌++◌, Bool, true, false, length, map, filter, flat_map, count_by, All}
 use Rattle.odata_filter.specs.Lines.{IsBlank}
 use Rattle.odata_filter.specs.declared.lines.said.Judgment.{Judgment as JudgmentModel}
 use Rattle.odata_filter.specs.declared.lines.said.Judgment.TheVariants.{Kept, LeftOut, NotJson, NoEntity, NoValue}

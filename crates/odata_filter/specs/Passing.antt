@@ -1,6 +1,9 @@
 -- What the walk over the lines keeps from line to line. Private clauses alone cite these.
-use Rattle.std.specs.Prelude.{◌≡◌, ℕ, ◌+◌, List, [], ◌∷◌, length, MatchOption}
+use Rattle.std.specs.Prelude.{◌≡◌, ℕ, ◌+◌, List, [], ◌∷◌, ◌++◌, length, MatchOption, MatchResult, Result, Err}
+use Rattle.odata_filter.specs.Lines.{lines_of}
 use Rattle.odata_filter.specs.Kept.{Says, Filters, Stops}
+use Rattle.odata_filter.specs.declared.lines.input.Ending.{Ending as EndingModel}
+use Rattle.odata_filter.specs.declared.lines.input.Ending.TheVariants.{AtEnd, ReadFailed, NoMemory}
 use Rattle.odata_filter.specs.declared.lines.each.Progress.{Progress as ProgressModel}
 use Rattle.odata_filter.specs.declared.lines.each.Step.{Step as StepModel}
 use Rattle.odata_filter.specs.declared.lines.each.Step.TheVariants.{Passed, Stopped}
@@ -36,3 +39,17 @@ abbrev pub Goes : (List ℕ → JudgmentModel → Type 0) → List (List ℕ) �
 Goes judge lines text progress = MatchOption progress.fault
     (Filters judge lines text progress.tally × (progress.lines ≡ length lines))
     (λ fault. Stops judge lines text fault)
+
+-- what a run answers where no line that was judged is at fault
+abbrev pub Closes : ProgressModel → EndingModel → Result TallyModel RunFaultModel → Type 0
+Closes progress AtEnd answer = MatchResult answer (λ tally. tally ≡ progress.tally) (λ fault. fault ≡ Write)
+Closes progress ReadFailed answer = answer ≡ Err (Read (progress.lines + 1))
+Closes progress NoMemory answer = answer ≡ Err (Memory (progress.lines + 1))
+
+-- what a run answers: the fault of a line goes before that of the reader
+abbrev pub Ends : ProgressModel → EndingModel → Result TallyModel RunFaultModel → Type 0
+Ends progress ending answer = MatchOption progress.fault (Closes progress ending answer) (λ fault. answer ≡ Err fault)
+
+-- whatever stands behind these bytes begins a line of its own
+abbrev pub IsComplete : List ℕ → Type 0
+IsComplete bytes = (more : List ℕ) → lines_of (bytes ++ more) ≡ lines_of bytes ++ lines_of more

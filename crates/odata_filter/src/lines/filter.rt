@@ -1,4 +1,4 @@
-ghost use Rattle.std.specs.Prelude.{◌≡◌, ◌≢◌, ℕ, ◌+◌, ◌<◌, ◌≤◌, ◌^◌, ◌++◌, List, length, IfOk, IfErr, IfSome};
+ghost use Rattle.std.specs.Prelude.{◌≡◌, ◌≢◌, ℕ, ◌+◌, ◌<◌, ◌≤◌, ◌^◌, ◌++◌, List, [], length, IfOk, IfErr, IfSome};
 ghost use Rattle.std.specs.Io.KnownBytes.{Keeps};
 ghost use Rattle.odata_filter.specs.Lines.{lines_of};
 ghost use Rattle.odata_filter.specs.Kept.{Filters, Stops};
@@ -40,8 +40,7 @@ fn finish<W: Write>(progress: Progress, ending: Ending, out: &mut W) -> Result<T
 
 /// The bytes whose lines are judged: all of them, or without the reader's end the lines that are complete.
 fn judged_part(input: &Input) -> &[u8]
-    ensures whole { input.now.ending ≡ Ending.AtEnd → result.now ≡ input.now.bytes.items }
-    ensures begins { (rest : List ℕ) × (input.now.bytes.items ≡ result.now ++ rest) }
+    ensures begins { (rest : List ℕ) × (input.now.bytes.items ≡ result.now ++ rest) × (input.now.ending ≡ Ending.AtEnd → rest ≡ []) }
     ensures complete { input.now.ending ≢ Ending.AtEnd → IsComplete result.now }
     ensures shorter { length result.now ≤ length input.now.bytes.items }
 {

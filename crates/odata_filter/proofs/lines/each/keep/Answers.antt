@@ -1,5 +1,5 @@
 use Rattle.std.proofs.Common.{[], ◌∷◌, ◌++◌, subst, append_assoc}
-use Rattle.odata_filter.specs.Writes.{AppendsFront, Holds}
+use Rattle.odata_filter.specs.Writes.{AppendsFront}
 use Rattle.odata_filter.proofs.WriteLemmas.{OnErr-from, OnErr-map, OnOk-map, AppendsFront-longer, AppendsFront-held, Holds-after}
 use Rattle.odata_filter.proofs.lines.each.keep.Goals as goal
 

@@ -1,4 +1,4 @@
-use Rattle.std.proofs.Common.{[], ◌∷◌, ◌++◌, append-nil, rules}
+use Rattle.std.proofs.Common.{[], ◌∷◌, ◌++◌}
 use Rattle.odata_filter.proofs.FilterLemmas.{Filters-kept, Filters-left_out, Filters-passed_over}
 use Rattle.odata_filter.proofs.WriteLemmas.{Holds-same}
 use Rattle.odata_filter.proofs.lines.each.pass_line.Goals as goal

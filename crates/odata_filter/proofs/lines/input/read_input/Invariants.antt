@@ -1,5 +1,5 @@
 -- What is filled was read, and there is less and less room for more.
-use Rattle.std.proofs.Common.{◌≡◌, ◌-◌, ◌<◌, ◌≤◌, ◌^◌, take, vec_len}
+use Rattle.std.proofs.Common.{◌-◌, ◌<◌, ◌≤◌, ◌^◌, take, vec_len}
 use Rattle.std.specs.Io.KnownBytes.{Consumes}
 use Rattle.odata_filter.proofs.lines.input.read_input.Given as goal
 

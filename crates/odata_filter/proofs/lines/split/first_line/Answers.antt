@@ -1,4 +1,4 @@
-use Rattle.std.proofs.Common.{◌∷◌, ◌+◌, length, take, drop, sym, ap, ◌∙◌, arith, le_refl, drop_of_length-le}
+use Rattle.std.proofs.Common.{◌∷◌, ◌+◌, length, take, sym, ap, ◌∙◌, arith, le_refl, drop_of_length-le}
 use Rattle.std.proofs.lemmas.List.{take_rest}
 use Rattle.odata_filter.specs.Lines.{lines_of}
 use Rattle.odata_filter.proofs.LineLemmas.{lines_of-line, lines_of-last}

@@ -1,0 +1,20 @@
+use Rattle.std.proofs.Common.{◌≡◌, ◌+◌, ◌++◌, ◌∷◌, [], slice_index, take, drop, sym, ap, ◌∙◌, subst, take-append-drop}
+use Rattle.std.proofs.lemmas.Bool.{eqb-true}
+use Rattle.std.proofs.lemmas.List.{take_more}
+use Rattle.odata_filter.specs.Passing.{IsComplete}
+use Rattle.odata_filter.proofs.LineLemmas.{IsComplete-line}
+use Rattle.odata_filter.proofs.lines.split.complete_lines.Goals as goal
+
+pub returns-in-Some-clause-begins : goal.returns-in-Some-clause-begins
+returns-in-Some-clause-begins c =
+    let last = c.in-Some.last in
+    (drop (last + 1) c.args.bytes.now, sym (take-append-drop (last + 1) c.args.bytes.now))
+
+pub returns-in-Some-clause-complete : goal.returns-in-Some-clause-complete
+returns-in-Some-clause-complete c =
+    let bytes = c.args.bytes.now in
+    let last = c.in-Some.last in
+    let found = c.in-Some.ensures in
+    let line_feed : slice_index bytes last ≡ 10 = eqb-true _ _ found.1 in
+    let ends : take (last + 1) bytes ≡ take last bytes ++ 10 ∷ [] = take_more bytes last 0 found.0.high ∙ ap (λ b. take last bytes ++ b ∷ []) line_feed in
+    subst IsComplete (sym ends) (IsComplete-line (take last bytes))
