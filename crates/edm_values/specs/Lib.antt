@@ -1,4 +1,5 @@
 pub mod Civil
+pub mod Instant
 pub mod IntLiteral
 pub mod MomentParts
 pub mod PlainVal

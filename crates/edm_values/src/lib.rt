@@ -4,6 +4,7 @@
 mod datum;
 mod int_literal;
 mod moment;
+mod moment_order;
 mod prim;
 mod string_literal;
 mod value;
