@@ -1,3 +1,5 @@
+pub mod Dates
+pub mod Guids
 pub mod Instants
 pub mod Ints
 pub mod Quotes

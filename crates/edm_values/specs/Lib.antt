@@ -1,4 +1,6 @@
 pub mod Civil
+pub mod DateLiteral
+pub mod GuidLiteral
 pub mod Instant
 pub mod IntLiteral
 pub mod MomentParts
