@@ -1,8 +1,9 @@
-ghost use Rattle.std.specs.Prelude.{◌≡◌, ◌+◌, ◌/◌, ◌%◌, ◌<◌, ℕ, pos, IfSome, IfNone, OnOk, OnErr, ◌++◌, string_bytes};
+ghost use Rattle.std.specs.Prelude.{◌≡◌, ◌<◌, ℕ, pos, IfSome, IfNone, OnOk, OnErr, ◌++◌, string_bytes};
 ghost use Rattle.edm_values.specs.Civil.{Date as PlainDate, IsYmd};
 ghost use Rattle.edm_values.specs.MomentParts.{IsFourDigitYear};
 ghost use Rattle.edm_values.specs.DateLiteral.{DateValue, date_text, date_spelling};
 
+use crate::digits::read_two;
 use jiff::civil::Date;
 use std::alloc::AllocError;
 
@@ -47,23 +48,11 @@ fn date_numbers(text: &[u8]) -> Option<(u16, u8, u8)>
     let [c, y, _, _, b'-', m, n, b'-', d, e] = text else {
         return None;
     };
-    let century = two_digits(*c, *y)?;
-    let year = two_digits(text[2], text[3])?;
-    let month = two_digits(*m, *n)?;
-    let day = two_digits(*d, *e)?;
+    let century = read_two(*c, *y)?;
+    let year = read_two(text[2], text[3])?;
+    let month = read_two(*m, *n)?;
+    let day = read_two(*d, *e)?;
     Some((100 * u16::from(century) + u16::from(year), month, day))
-}
-
-/// The number below 100 that two digits write.
-pub(crate) fn two_digits(tens: u8, units: u8) -> Option<u8>
-    ensures value { IfSome result (λ n. (n < 100) × (tens ≡ 48 + n / 10) × (units ≡ 48 + n % 10)) }
-    ensures none { IfNone result ((n : ℕ) → n < 100 → tens ≡ 48 + n / 10
-        → ¬ (units ≡ 48 + n % 10)) }
-{
-    if tens.is_ascii_digit() && units.is_ascii_digit() {
-        return Some((tens - b'0') * 10 + (units - b'0'));
-    }
-    None
 }
 
 /// Appends the spelling of a date, `YYYY-MM-DD`.

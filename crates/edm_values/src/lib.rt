@@ -3,10 +3,12 @@
 
 mod date_literal;
 mod datum;
+mod digits;
 mod guid_literal;
 mod int_literal;
 mod laws;
 mod moment;
+mod moment_literal;
 mod moment_order;
 mod prim;
 mod string_literal;
@@ -20,8 +22,9 @@ pub use laws::{
     dates_read_back, guids_read_back, ints_read_back, moments_are_ordered, strings_read_back,
 };
 pub use moment::Moment;
+pub use moment_literal::{read_moment, write_moment};
 pub use prim::Prim;
-pub use string_literal::{LitFault, read_string};
+pub use string_literal::{LitFault, read_string, write_string};
 pub use value::Value;
 
 #[cfg(test)]
