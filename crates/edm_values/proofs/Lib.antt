@@ -2,6 +2,7 @@ pub mod Dates
 pub mod Guids
 pub mod Instants
 pub mod Ints
+pub mod MomentLaws
 pub mod Moments
 pub mod Offsets
 pub mod Places

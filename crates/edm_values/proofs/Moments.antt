@@ -1,17 +1,21 @@
 -- Moment literals.
-use Rattle.std.proofs.Common.{◌≡◌, ◌⊎◌, inl, inr, ℕ, suc, ◌+◌, ◌-◌, ◌*◌, ◌/◌, ◌%◌, ◌^◌, ◌<◌, ◌≤◌, ℤ, pos, List, [], ◌∷◌, ◌++◌, length, get_or, take, drop, Option, Some, None, IfSome, IsSome, Result, Ok, Err, IsOk, IfOk, ◌↔◌, Bool, true, false, arith, refl, sym, ap, ◌∙◌, subst}
+use Rattle.std.proofs.Common.{◌≡◌, ◌⊎◌, inl, inr, ℕ, suc, ◌+◌, ◌-◌, ◌*◌, ◌/◌, ◌%◌, ◌^◌, ◌<◌, ◌≤◌, ℤ, pos, List, [], ◌∷◌, ◌++◌, length, get_or, take, drop, Option, Some, None, IfSome, IsSome, Bor, length-append, Result, Ok, Err, IsOk, IfOk, ◌↔◌, Bool, true, false, arith, refl, sym, ap, ◌∙◌, subst}
 use Rattle.std.specs.Int.{w8, w32}
 use Rattle.std.specs.Result.{result_ok}
+use Rattle.std.specs.Option.{MatchOption, IsSomeAnd}
+use Rattle.std.specs.List.{IsSplitAt}
+use Rattle.std.proofs.lemmas.Option.{same_Some}
 use Rattle.std.proofs.lemmas.Int.{to_z_pos}
-use Rattle.std.proofs.lemmas.List.{take_at, drop_at}
+use Rattle.std.proofs.lemmas.List.{take_at, drop_at, take-append-drop}
 use mir.Val.{to_z}
 use Rattle.jiff.specs.Types.{Date, Time, DateTime}
 use Rattle.jiff.specs.Words.{IsTime, IsHms, time_nanos}
 use Rattle.jiff.proofs.Family.{same_time}
 use Rattle.jiff.proofs.SpanFacts.{signed_arith}
 use Rattle.edm_values.specs.MomentParts.{MomentParts, IsMoment}
-use Rattle.edm_values.specs.MomentLiteral.{MinutesValue, SecondsValue, OffsetValue, MomentValue}
-use Rattle.edm_values.proofs.Offsets.{OffsetValue-within}
+use Rattle.edm_values.specs.DateLiteral.{DateValue, date_spelling}
+use Rattle.edm_values.specs.MomentLiteral.{IsClock, MinutesValue, SecondsValue, OffsetValue, MomentValue}
+use Rattle.edm_values.proofs.Offsets.{OffsetValue-within, signed_clock}
 
 -- a time of day is its hour, minute, second and fraction
 same_clock : (a b : Time) → a.hour ≡ b.hour → a.minute ≡ b.minute → a.second ≡ b.second → a.subsec_nanosecond ≡ b.subsec_nanosecond → a ≡ b
@@ -69,15 +73,16 @@ pub moment_read : (text minutes rest seconds offset : List ℕ) (date : Date) (h
     → IfSome r (MomentValue text)
 moment_read text minutes rest seconds offset date hour minute second nanosecond time civil ahead None is_minutes is_rest cut m s o hms same_date same_time made = tt
 moment_read text minutes rest seconds offset date hour minute second nanosecond time civil ahead (Some v) is_minutes is_rest cut m s o hms same_date same_time made =
-    let hour_is : hour ≡ civil.time.hour = ? in
-    let minute_is : minute ≡ civil.time.minute = ? in
-    let second_is : second ≡ civil.time.second = ? in
-    let nano_is : nanosecond ≡ civil.time.subsec_nanosecond = ? in
+    let hour_is : hour ≡ civil.time.hour = let e : time.hour ≡ hour = cc in sym (ap (λ (u : Time). u.hour) same_time ∙ e) in
+    let minute_is : minute ≡ civil.time.minute = let e : time.minute ≡ minute = cc in sym (ap (λ (u : Time). u.minute) same_time ∙ e) in
+    let second_is : second ≡ civil.time.second = let e : time.second ≡ second = cc in sym (ap (λ (u : Time). u.second) same_time ∙ e) in
+    let nano_is : nanosecond ≡ civil.time.subsec_nanosecond = let e : time.subsec_nanosecond ≡ nanosecond = cc in sym (ap (λ (u : Time). u.subsec_nanosecond) same_time ∙ e) in
     subst (λ (w : MomentParts). MomentValue text w) (sym made) (record {
       minutes = minutes;
       seconds = seconds;
       offset = offset;
-      spelled = ?;
+      spelled = sym (take-append-drop 16 text) ∙ ap (λ (xs : List ℕ). xs ++ drop 16 text) (sym is_minutes)
+          ∙ ap (λ (xs : List ℕ). minutes ++ xs) (sym is_rest ∙ cut);
       is_minutes = rw (same_date, ← hour_is, ← minute_is) m;
       is_seconds = rw (← second_is, ← nano_is) s;
       is_offset = o;
@@ -93,3 +98,38 @@ moment_made None civil ahead text m value made is date time offset =
     let within = OffsetValue-within value.offset m.offset_minutes value.is_offset in
     let refused : ◌≡◌ {A = Bool} false true = made.1 (rw date value.is_minutes.0, rw offset within) in
     cc
+
+-- the two pieces that were cut off at a place
+pub split_found : (r : Option (Bor (List ℕ) × Bor (List ℕ))) (text before offset : List ℕ) (mid : ℕ)
+    → MatchOption r (length text < mid) (λ p. IsSplitAt text mid p.0.now p.1.now)
+    → text ≡ before ++ offset → mid ≡ length before → IsSomeAnd r (λ p. (p.0.now ≡ before) × (p.1.now ≡ offset))
+split_found (Some p) text before offset mid found same place = (
+  found.1 ∙ ap (λ (xs : List ℕ). take mid xs) same ∙ take_at before offset mid (sym place),
+  found.2 ∙ ap (λ (xs : List ℕ). drop mid xs) same ∙ drop_at before offset mid (sym place),
+)
+split_found None text before offset mid found same place =
+    absurd (omega (arith, found, place, ap length same, length-append before offset))
+
+-- sixteen bytes that are a date and six more
+pub minutes_read : (text front clock : List ℕ) (date : Date) (hour minute : ℕ) → front ≡ take 10 text → clock ≡ drop 10 text
+    → DateValue front date → length clock ≡ 6 → (get_or clock 0 0 ≡ 84) ⊎ (get_or clock 0 0 ≡ 116) → get_or clock 3 0 ≡ 58
+    → IsClock (get_or clock 1 0) (get_or clock 2 0) (get_or clock 4 0) (get_or clock 5 0) hour minute
+    → MinutesValue text date hour minute
+minutes_read text front clock date hour minute is_front is_clock value len letter colon digits = (
+  value.0,
+  get_or clock 0 0,
+  letter,
+  sym (take-append-drop 10 text) ∙ ap (λ (xs : List ℕ). xs ++ drop 10 text) (sym is_front ∙ value.1)
+      ∙ ap (λ (xs : List ℕ). date_spelling date ++ xs) (sym is_clock ∙ signed_clock clock (get_or clock 0 0) hour minute len refl colon digits),
+)
+
+-- the numbers of two results that are one
+pub same_three : (a b : Date) (m n p q : ℕ) → ◌≡◌ {A = Option (Date × ℕ × ℕ)} (Some (a, m, p)) (Some (b, n, q)) → (a ≡ b) × (m ≡ n) × (p ≡ q)
+same_three a b m n p q same =
+    let e = same_Some (a, m, p) (b, n, q) same in
+    (ap (λ (t : Date × ℕ × ℕ). t.0) e, ap (λ (t : Date × ℕ × ℕ). t.1) e, ap (λ (t : Date × ℕ × ℕ). t.2) e)
+
+pub same_two : (m n p q : ℕ) → ◌≡◌ {A = Option (ℕ × ℕ)} (Some (m, p)) (Some (n, q)) → (m ≡ n) × (p ≡ q)
+same_two m n p q same =
+    let e = same_Some (m, p) (n, q) same in
+    (ap (λ (t : ℕ × ℕ). t.0) e, ap (λ (t : ℕ × ℕ). t.1) e)

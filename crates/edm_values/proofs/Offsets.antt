@@ -2,7 +2,7 @@
 use Rattle.std.proofs.Common.{◌≡◌, ◌⊎◌, inl, inr, ℕ, suc, ◌+◌, ◌-◌, ◌*◌, ◌/◌, ◌%◌, ◌<◌, ◌≤◌, ℤ, pos, negsuc, neg_ℤ, ◌-ℤ◌, List, [], ◌∷◌, ◌++◌, length, get_or, take, drop, Option, Some, None, IfSome, arith, refl, sym, ap, ◌∙◌, length-append, FitsSigned}
 use mir.Val.{to_z, of_z}
 use Rattle.std.specs.Int.{w16}
-use Rattle.std.proofs.lemmas.Int.{ints}
+use Rattle.std.proofs.lemmas.Int.{ints, to_z-of_z}
 use Rattle.jiff.proofs.SpanFacts.{signed_arith}
 use Rattle.std.proofs.lemmas.List.{get_or-append-add}
 use Rattle.std.proofs.lemmas.Slice.Eq.{text_from_reads}
@@ -28,6 +28,17 @@ OffsetValue-within text minutes (inr (h, m, small_h, small_m, inl plus)) =
     (omega (arith, signed_arith, plus.1, small_h, small_m), omega (arith, signed_arith, plus.1, small_h, small_m))
 OffsetValue-within text minutes (inr (h, m, small_h, small_m, inr minus)) =
     (omega (arith, signed_arith, minus.1, small_h, small_m), omega (arith, signed_arith, minus.1, small_h, small_m))
+
+-- the code's casts keep it
+pub offset_kept : (text : List ℕ) (minutes : ℤ) → OffsetValue text minutes → to_z w16 (of_z w16 minutes) ≡ minutes
+offset_kept text minutes value =
+    let within = OffsetValue-within text minutes value in
+    let fits : FitsSigned w16 minutes = omega (arith, signed_arith, within) in
+    to_z-of_z w16 minutes fits
+
+-- and keep the minutes after a plus
+pub ahead_kept : (n : ℤ) (minutes : ℕ) → minutes < 1440 → n ≡ pos minutes → to_z w16 (of_z w16 n) ≡ pos minutes
+ahead_kept n minutes small same = omega (arith, ints)
 
 -- the last byte of a text is that of its end
 last_byte : (text before end : List ℕ) (k : ℕ) → text ≡ before ++ end → length end ≡ suc k → get_or text (length text - 1) 0 ≡ get_or end k 0

@@ -109,3 +109,12 @@ small_power i j h = pow-le-pow_right {n = 10} (lit< tt) {i = i} {j = j} h
 
 pub some_left : (n : ℕ) → (n == 0) ≡ false → 0 < n
 some_left n some = grind (arith, nat_tests)
+
+-- a number that is not zero has at least one place
+pub some_places : (k n : ℕ) → n ≢ 0 → 0 < length (significant_places (suc k) n)
+unfolding significant_places
+some_places k n some =
+    elim (eqb_tells n 0) [
+      | inl none ↦ absurd (some none.1)
+      | inr other ↦ rw other.0 (omega arith)
+    ]

@@ -2,12 +2,45 @@
 use Rattle.std.specs.Prelude.{◌≡◌, ◌⊎◌, ℕ, zero, suc, ◌+◌, ◌-◌, ◌*◌, ◌/◌, ◌%◌, ◌^◌, ◌<◌, ◌≤◌, ◌==◌, if◌then◌else◌, ℤ, pos, negsuc, neg_ℤ, List, [], ◌∷◌, ◌++◌, length}
 use Rattle.std.specs.Str.Parse.{IsNumeral, digits_value}
 use Rattle.edm_values.specs.Civil.{Date}
-use Rattle.edm_values.specs.DateLiteral.{two_digits, date_spelling}
+use Rattle.edm_values.specs.DateLiteral.{two_digits, IsDateSpelling, date_spelling}
 use Rattle.edm_values.specs.MomentParts.{MomentParts, IsFourDigitYear}
 
 -- `hh:mm`; the colon is 58
 abbrev pub clock_text : ℕ → ℕ → List ℕ
 clock_text hour minute = two_digits hour ++ 58 ∷ two_digits minute
+
+-- two digits, a colon, two digits
+abbrev pub IsClockSpelling : List ℕ → Type 0
+IsClockSpelling text = (hour : ℕ) × (minute : ℕ) × (hour < 100) × (minute < 100) × (text ≡ clock_text hour minute)
+
+-- nothing; a colon and two digits; or these, a dot (46) and one digit or more
+abbrev pub IsSecondsSpelling : List ℕ → Type 0
+IsSecondsSpelling text =
+    (text ≡ [])
+    ⊎ ((second : ℕ) × (second < 100)
+    × ((text ≡ 58 ∷ two_digits second) ⊎ ((places : List ℕ) × IsNumeral 10 places × (text ≡ 58 ∷ two_digits second ++ 46 ∷ places))))
+
+-- `Z`, `z`, or a sign and `hh:mm`
+abbrev pub IsOffsetSpelling : List ℕ → Type 0
+IsOffsetSpelling text =
+    (text ≡ 90 ∷ [])
+    ⊎ ((text ≡ 122 ∷ [])
+    ⊎ ((sign : ℕ) × (clock : List ℕ) × ((sign ≡ 43) ⊎ (sign ≡ 45)) × IsClockSpelling clock × (text ≡ sign ∷ clock)))
+
+-- a date, `T` (84) or `t` (116), `hh:mm`, perhaps `:ss`, after that perhaps a dot and digits; then `Z` (90), `z` (122),
+-- or a plus (43) or minus (45) and `hh:mm`; whether or not each of these is in its range
+pub record IsMomentSpelling (text : List ℕ) : Type 0 where
+  pub date : List ℕ
+  pub letter : ℕ
+  pub clock : List ℕ
+  pub seconds : List ℕ
+  pub offset : List ℕ
+  pub spelled : text ≡ (date ++ letter ∷ clock) ++ (seconds ++ offset)
+  pub is_date : IsDateSpelling date
+  pub is_letter : (letter ≡ 84) ⊎ (letter ≡ 116)
+  pub is_clock : IsClockSpelling clock
+  pub is_seconds : IsSecondsSpelling seconds
+  pub is_offset : IsOffsetSpelling offset
 
 -- the nanoseconds that one to nine decimal places of a second stand for
 abbrev pub FractionValue : List ℕ → ℕ → Type 0

@@ -10,6 +10,7 @@ ghost use Rattle.edm_values.specs.MomentParts.{MomentParts, IsFourDigitYear, IsM
 ghost use Rattle.edm_values.specs.Instant.{instant, moment_cmp};
 ghost use Rattle.edm_values.specs.IntLiteral.{IntValue, int_spelling};
 ghost use Rattle.edm_values.specs.DateLiteral.{DateValue, IsDateSpelling, date_spelling};
+ghost use Rattle.edm_values.specs.MomentLiteral.{MomentValue, IsMomentSpelling, moment_spelling};
 ghost use Rattle.edm_values.specs.GuidLiteral.{GuidValue, guid_spelling};
 ghost use Rattle.edm_values.specs.StringLiteral.{StringValue, string_spelling};
 
@@ -40,4 +41,12 @@ pub fn moments_are_ordered()
     ensures total { IsTotalOrder moment_cmp }
     ensures earlier { (a b : MomentParts) → instant a <ℤ instant b → moment_cmp a b ≡ Less }
     ensures same { (a b : MomentParts) → moment_cmp a b ≡ Equal → a ≡ b }
+{}
+
+/// A moment's canonical spelling has that moment as its value, and each text with a value is
+/// spelled as a moment.
+pub fn moments_read_back()
+    ensures value { (m : MomentParts) → IsMoment m.civil m.offset_minutes
+        → MomentValue (moment_spelling m) m }
+    ensures spelled { (text : List ℕ) (m : MomentParts) → MomentValue text m → IsMomentSpelling text }
 {}

@@ -37,8 +37,10 @@ loop-rest-preserved c =
     let kept : string_bytes c.loop-rest.text ++ significant_places (suc (c.loop-rest.places - 1)) c.loop-rest.rest
     ≡ string_bytes c.args.text.now ++ significant_places 9 c.args.nanoseconds = rw (← e) c.loop-rest.invariant.2 in
     let step = place_step (c.loop-rest.places - 1) c.loop-rest.rest (string_bytes c.loop-rest.text) (string_bytes c.args.text.now ++ significant_places 9 c.args.nanoseconds) c.loop-rest-test.true kept in
-    let digit : c.from.result ≡ 48 + c.loop-rest.rest / 10 ^ (c.loop-rest.places - 1) = ? in
-    let now : string_bytes c.push.new.self ≡ string_bytes c.loop-rest.text ++ ((48 + c.loop-rest.rest / 10 ^ (c.loop-rest.places - 1)) ∷ []) = ? in
+    let digit : c.from.result ≡ 48 + c.loop-rest.rest / 10 ^ (c.loop-rest.places - 1) = c.from.ensures ∙ ap (λ (u : ℕ). 48 + c.loop-rest.rest / u) c.pow-unit.ensures in
+    let one = encode_ascii c.from.result (omega (arith, digit, d)) in
+    let now : string_bytes c.push.new.self ≡ string_bytes c.loop-rest.text ++ ((48 + c.loop-rest.rest / 10 ^ (c.loop-rest.places - 1)) ∷ []) =
+    c.in_ok-push.ensures.bytes ∙ ap (λ (xs : List ℕ). string_bytes c.loop-rest.text ++ xs) (one ∙ ap (λ (n : ℕ). n ∷ []) digit) in
     (omega arith, rw c.pow-unit.ensures (let z : c.loop-rest.rest % 10 ^ (c.loop-rest.places - 1) < 10 ^ (c.loop-rest.places - 1) = omega (arith, ten_pos (c.loop-rest.places - 1)) in z), rw (now, c.pow-unit.ensures) step)
 
 pub returns : goal.returns
