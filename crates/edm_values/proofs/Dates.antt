@@ -1,15 +1,17 @@
 -- Date literals.
-use Rattle.std.proofs.Common.{◌≡◌, ℕ, ◌+◌, ◌*◌, ◌/◌, ◌%◌, ◌<◌, List, length, get_or, arith, sym, refl, ap, ◌∙◌, ℤ, pos, Option, Some, Result, Ok, Err, IsOk, IfOk, ◌↔◌, Bool, true, false}
+use Rattle.std.proofs.Common.{◌≤◌, negsuc, unsigned_abs, ◌≡◌, ℕ, ◌+◌, ◌*◌, ◌/◌, ◌%◌, ◌<◌, List, length, get_or, arith, sym, refl, ap, ◌∙◌, ℤ, pos, Some, Result, Ok, Err, IsOk, IfOk, ◌↔◌, Bool, true, false}
 use Rattle.std.proofs.lemmas.Slice.Eq.{text_from_reads}
 use Rattle.std.specs.Int.{w8, w16}
 use Rattle.std.specs.Result.{result_ok}
 use Rattle.std.proofs.lemmas.Int.{to_z_pos}
+use Rattle.std.proofs.lemmas.Grind.{common_steps}
 use mir.Val.{to_z}
 use Rattle.jiff.proofs.SpanFacts.{signed_arith}
-use Rattle.jiff.specs.Words.{IsDate, IsYmd}
+use Rattle.jiff.specs.Words.{IsDate, IsYmd, days_in_month}
 use Rattle.jiff.specs.Types.{Date}
 use Rattle.jiff.proofs.Family.{same_date, epoch_day_same}
-use Rattle.edm_values.specs.DateLiteral.{date_text}
+use Rattle.edm_values.specs.MomentParts.{IsFourDigitYear}
+use Rattle.edm_values.specs.DateLiteral.{date_text, IsDateSpelling, date_spelling}
 
 -- ten bytes that are read one by one
 pub date_from_bytes : (text : List ℕ) (century year month day : ℕ) → century < 100 → year < 100
@@ -65,3 +67,16 @@ calendar_made r year month day date hy hm hd ymd made value =
     let m : to_z w8 month ≡ pos date.month = to_z_pos w8 month (omega arith) ∙ sym ymd.1 in
     let d : to_z w8 day ≡ pos date.day = to_z_pos w8 day (omega arith) ∙ sym ymd.2 in
     date_made r date (rw (y, m, d) at made) (rw (y, m, d) at value)
+
+-- a month has at most 31 days
+month_days : (year : ℤ) (month : ℕ) → days_in_month year month ≤ 31
+month_days year month = grind (arith, common_steps)
+
+year_small : (year : ℤ) → IsFourDigitYear year → unsigned_abs year < 10_000
+year_small (pos n) within = omega (arith, signed_arith, within)
+year_small (negsuc n) within = absurd (omega (arith, signed_arith, within))
+
+-- the spelling of a date is spelled as one
+pub IsDateSpelling-date : (d : Date) → IsFourDigitYear d.year → IsDateSpelling (date_spelling d)
+IsDateSpelling-date d within =
+    (unsigned_abs d.year, d.month, d.day, year_small d.year within, omega (arith, d.month_in), omega (arith, d.day_in, month_days d.year d.month), refl)

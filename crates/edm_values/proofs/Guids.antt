@@ -1,5 +1,5 @@
 -- Guid literals.
-use Rattle.std.proofs.Common.{◌≡◌, ◌≢◌, ◌↔◌, ℕ, List, length, Option, Some, None, Result, Ok, Err, IsOk, IfOk, arith, sym, ◌∙◌, ap, refl, inl, inr}
+use Rattle.std.proofs.Common.{◌≡◌, ℕ, List, length, refl, inl, inr}
 use Rattle.std.proofs.lemmas.Bool.Decides.{eqb_tells}
 use Rattle.uuid.specs.Text.{parsed, parsed_hyphenated}
 use Rattle.edm_values.specs.GuidLiteral.{GuidValue}

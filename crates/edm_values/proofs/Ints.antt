@@ -1,5 +1,5 @@
 -- Int literals.
-use Rattle.std.proofs.Common.{suc, negsuc, ◌^◌, ap, refl, FitsSigned, ◌≡◌, ◌⊎◌, inl, inr, ℕ, ◌<◌, ℤ, pos, neg_ℤ, List, [], ◌∷◌, sym, ◌∙◌, arith}
+use Rattle.std.proofs.Common.{suc, negsuc, ◌^◌, ap, refl, FitsSigned, ◌≡◌, inl, inr, ℕ, ◌<◌, ℤ, pos, neg_ℤ, List, [], ◌∷◌, sym, arith}
 use Rattle.std.specs.Int.{w64}
 use Rattle.std.specs.Fmt.{decimal}
 use Rattle.std.specs.Str.Parse.{IsNumeral, digits_value}

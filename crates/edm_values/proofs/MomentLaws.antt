@@ -1,11 +1,11 @@
 -- What is written of a moment is read again.
-use Rattle.std.proofs.Common.{◌≡◌, ◌⊎◌, inl, inr, ℕ, zero, suc, ◌+◌, ◌-◌, ◌*◌, ◌/◌, ◌%◌, ◌^◌, ◌<◌, ◌≤◌, ◌==◌, ℤ, pos, negsuc, neg_ℤ, unsigned_abs, List, [], ◌∷◌, ◌++◌, length, true, false, arith, refl, sym, ap, ◌∙◌}
-use Rattle.std.specs.Str.Parse.{IsNumeral, digits_value}
+use Rattle.std.proofs.Common.{◌≡◌, inl, inr, ℕ, zero, suc, ◌+◌, ◌*◌, ◌/◌, ◌%◌, ◌^◌, ◌<◌, ℤ, pos, negsuc, neg_ℤ, List, ◌∷◌, ◌++◌, arith, refl, sym, ap, ◌∙◌}
 use Rattle.std.proofs.lemmas.Bool.Decides.{eqb_tells}
 use Rattle.jiff.proofs.SpanFacts.{signed_arith}
-use Rattle.edm_values.specs.DateLiteral.{two_digits, IsDateSpelling, date_spelling}
+use Rattle.edm_values.specs.DateLiteral.{two_digits, date_spelling}
 use Rattle.edm_values.specs.MomentParts.{MomentParts, IsMoment, IsOffset}
-use Rattle.edm_values.specs.MomentLiteral.{clock_text, FractionValue, SecondsValue, OffsetValue, MomentValue, significant_places, fraction_text, offset_text, moment_spelling, IsClockSpelling, IsSecondsSpelling, IsOffsetSpelling, IsMomentSpelling}
+use Rattle.edm_values.specs.MomentLiteral.{clock_text, SecondsValue, OffsetValue, MomentValue, significant_places, fraction_text, offset_text, moment_spelling, IsSecondsSpelling, IsOffsetSpelling, IsMomentSpelling}
+use Rattle.edm_values.proofs.Dates.{IsDateSpelling-date}
 use Rattle.edm_values.proofs.Places.{places_value, some_places}
 
 -- the canonical fraction has its value
@@ -66,7 +66,7 @@ IsMomentSpelling-value text m v = record {
   seconds = v.seconds;
   offset = v.offset;
   spelled = v.spelled ∙ ap (λ (xs : List ℕ). xs ++ (v.seconds ++ v.offset)) v.is_minutes.3;
-  is_date = (unsigned_abs m.civil.date.year, m.civil.date.month, m.civil.date.day, omega (arith, signed_arith, v.is_minutes.0), omega (arith, m.civil.date.month_in), ?, refl);
+  is_date = IsDateSpelling-date m.civil.date v.is_minutes.0;
   is_letter = v.is_minutes.2;
   is_clock = (m.civil.time.hour, m.civil.time.minute, omega (arith, m.civil.time.hour_in), omega (arith, m.civil.time.minute_in), refl);
   is_seconds = seconds_spelled v.seconds m.civil.time.second m.civil.time.subsec_nanosecond (omega (arith, m.civil.time.second_in)) v.is_seconds;

@@ -1,5 +1,5 @@
 -- Moment literals.
-use Rattle.std.proofs.Common.{◌≡◌, ◌⊎◌, inl, inr, ℕ, suc, ◌+◌, ◌-◌, ◌*◌, ◌/◌, ◌%◌, ◌^◌, ◌<◌, ◌≤◌, ℤ, pos, List, [], ◌∷◌, ◌++◌, length, get_or, take, drop, Option, Some, None, IfSome, IsSome, Bor, length-append, Result, Ok, Err, IsOk, IfOk, ◌↔◌, Bool, true, false, arith, refl, sym, ap, ◌∙◌, subst}
+use Rattle.std.proofs.Common.{◌≡◌, ◌⊎◌, ℕ, ◌^◌, ◌<◌, ℤ, pos, List, ◌++◌, length, get_or, take, drop, Option, Some, None, IfSome, IsSome, Bor, length-append, Result, Ok, Err, IsOk, IfOk, ◌↔◌, Bool, true, false, arith, refl, sym, ap, ◌∙◌, subst}
 use Rattle.std.specs.Int.{w8, w32}
 use Rattle.std.specs.Result.{result_ok}
 use Rattle.std.specs.Option.{MatchOption, IsSomeAnd}
@@ -9,7 +9,7 @@ use Rattle.std.proofs.lemmas.Int.{to_z_pos}
 use Rattle.std.proofs.lemmas.List.{take_at, drop_at, take-append-drop}
 use mir.Val.{to_z}
 use Rattle.jiff.specs.Types.{Date, Time, DateTime}
-use Rattle.jiff.specs.Words.{IsTime, IsHms, time_nanos}
+use Rattle.jiff.specs.Words.{IsTime, IsHms}
 use Rattle.jiff.proofs.Family.{same_time}
 use Rattle.jiff.proofs.SpanFacts.{signed_arith}
 use Rattle.edm_values.specs.MomentParts.{MomentParts, IsMoment}

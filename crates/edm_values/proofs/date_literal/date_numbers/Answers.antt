@@ -1,4 +1,4 @@
-use Rattle.std.proofs.Common.{arith, ◌+◌, ◌*◌, ◌≡◌, ◌<◌, ℕ, length}
+use Rattle.std.proofs.Common.{arith, ◌+◌, ◌*◌, ◌≡◌}
 use Rattle.edm_values.specs.DateLiteral.{date_text}
 use Rattle.edm_values.proofs.Dates.{date_from_bytes}
 use Rattle.edm_values.proofs.date_literal.date_numbers.Goals as goal

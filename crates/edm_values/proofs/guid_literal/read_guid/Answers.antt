@@ -1,4 +1,4 @@
-use Rattle.std.proofs.Common.{◌≡◌, ◌∙◌, sym, ap}
+use Rattle.std.proofs.Common.{◌∙◌, sym, ap}
 use Rattle.std.specs.Result.{result_ok}
 use Rattle.uuid.proofs.RoundTrips.{parse_gives}
 use Rattle.edm_values.proofs.Guids.{parsed-36, GuidValue-len}

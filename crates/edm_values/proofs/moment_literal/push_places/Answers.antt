@@ -1,4 +1,4 @@
-use Rattle.std.proofs.Common.{arith, ℕ, suc, List, [], ◌∷◌, ◌++◌, ◌≡◌, ◌+◌, ◌-◌, ◌%◌, ◌<◌, ◌≤◌, ◌^◌, ◌/◌, ap, sym, ◌∙◌, append-nil}
+use Rattle.std.proofs.Common.{arith, ℕ, suc, List, [], ◌∷◌, ◌++◌, ◌≡◌, ◌+◌, ◌-◌, ◌%◌, ◌<◌, ◌^◌, ◌/◌, ap, sym, ◌∙◌, append-nil}
 use Rattle.std.specs.Prelude.{string_bytes}
 use Rattle.std.proofs.lemmas.Str.{encode_ascii}
 use Rattle.edm_values.specs.MomentLiteral.{significant_places}

@@ -1,4 +1,4 @@
-use Rattle.std.proofs.Common.{arith, ℕ, ◌≡◌, ◌*◌, ◌^◌, ◌-◌, ◌<◌, length, ap, ◌∙◌, sym, refl}
+use Rattle.std.proofs.Common.{arith, ◌^◌, ◌<◌, length, ◌∙◌, sym, refl}
 use Rattle.std.proofs.lemmas.Int.Digits.{digits_value-lt}
 use Rattle.edm_values.proofs.Places.{fraction_below, some_left}
 use Rattle.edm_values.proofs.moment_literal.read_fraction.Goals as goal

@@ -1,4 +1,4 @@
-use Rattle.std.proofs.Common.{◌≡◌, ◌⊎◌, ℕ, List, get_or, arith, length}
+use Rattle.std.proofs.Common.{◌≡◌, ◌⊎◌, get_or, arith}
 use Rattle.edm_values.proofs.Moments.{minutes_read}
 use Rattle.edm_values.proofs.moment_literal.read_minutes.Goals as goal
 

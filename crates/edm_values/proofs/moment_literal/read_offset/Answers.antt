@@ -1,4 +1,4 @@
-use Rattle.std.proofs.Common.{◌≡◌, ℕ, ◌+◌, ◌*◌, length, inl, inr, arith, ◌∙◌}
+use Rattle.std.proofs.Common.{◌+◌, ◌*◌, inl, inr, arith}
 use Rattle.edm_values.proofs.Offsets.{signed_clock, negated, ahead_kept}
 use Rattle.edm_values.proofs.moment_literal.read_offset.Goals as goal
 

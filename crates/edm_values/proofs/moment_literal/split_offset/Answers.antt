@@ -1,4 +1,4 @@
-use Rattle.std.proofs.Common.{◌≡◌, ℕ, ◌+◌, length, arith, ap, length-append}
+use Rattle.std.proofs.Common.{◌≡◌, length, arith, ap, length-append}
 use Rattle.edm_values.proofs.Moments.{split_found}
 use Rattle.edm_values.proofs.moment_literal.split_offset.Goals as goal
 

@@ -1,4 +1,4 @@
-use Rattle.std.proofs.Common.{rules, lit<, ap, ◌∙◌, sym, List, ℕ, ◌∷◌, [], ◌++◌, ◌≡◌}
+use Rattle.std.proofs.Common.{rules, lit<, ◌∷◌}
 use Rattle.std.specs.Prelude.{string_bytes}
 use Rattle.std.proofs.lemmas.Str.{encode_ascii}
 use Rattle.std.proofs.lemmas.Str.Pattern.{split_parts}

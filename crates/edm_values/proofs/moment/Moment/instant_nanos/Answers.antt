@@ -1,4 +1,4 @@
-use Rattle.std.proofs.Common.{◌≡◌, ℤ, arith, ◌∙◌, ap, subst, FitsSigned}
+use Rattle.std.proofs.Common.{arith, ◌∙◌, ap, subst, FitsSigned}
 use Rattle.std.specs.Int.{w16}
 use Rattle.std.proofs.lemmas.Int.{to_z-of_z}
 use Rattle.jiff.proofs.SpanFacts.{signed_arith}
