@@ -8,10 +8,9 @@ mod guid_literal;
 mod int_literal;
 mod laws;
 mod moment;
-mod primitive;
 mod moment_literal;
 mod moment_order;
-mod prim;
+mod primitive;
 mod string_literal;
 mod value;
 
@@ -24,10 +23,8 @@ pub use laws::{
     strings_read_back,
 };
 pub use moment::Moment;
-pub use primitive::PrimitiveType as Prim;
-pub use string_literal::{LitFault, read_string};
 pub use moment_literal::{read_moment, write_moment};
-pub use prim::Prim;
+pub use primitive::PrimitiveType as Prim;
 pub use string_literal::{LitFault, read_string, write_string};
 pub use value::Value;
 
