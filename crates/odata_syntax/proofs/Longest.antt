@@ -6,8 +6,8 @@ use Rattle.std.proofs.lemmas.Bool.Decides.{eqb_tells}
 use Rattle.std.proofs.lemmas.List.{get_or-take, length-take, take_min}
 use Rattle.std.proofs.lemmas.Str.Parse.{digit_at}
 use Rattle.odata_syntax.specs.ByteClass.{class_of}
-use Rattle.odata_syntax.specs.IntLiteral.{IsIntSpelling}
-use Rattle.odata_syntax.specs.StringLiteral.{IsStringSpelling}
+use Rattle.edm_values.specs.IntLiteral.{IsIntSpelling}
+use Rattle.edm_values.specs.StringLiteral.{IsStringSpelling}
 use Rattle.odata_syntax.specs.Lengths.{IsReach, found_piece}
 use Rattle.odata_syntax.specs.Spelling.{Spells}
 use Rattle.odata_syntax.specs.Tokens.{IsLongest, NoneSpelled}
@@ -92,7 +92,7 @@ none-from_reach rest kind n first reach zero_is other m spelled =
     let nonempty = start.1 in
     absurd (omega arith)
 
-longest-from_reach : (rest : List ℕ) (kind : TokenKind) (n : ℕ) → starts (get_or rest 0 0) ≡ Some kind → IsReach (Spells kind) n rest → 0 < n → IsLongest kind n rest
+pub longest-from_reach : (rest : List ℕ) (kind : TokenKind) (n : ℕ) → starts (get_or rest 0 0) ≡ Some kind → IsReach (Spells kind) n rest → 0 < n → IsLongest kind n rest
 longest-from_reach rest kind n first reach positive = record {
   within = reach.within;
   spelled = reach.found positive;

@@ -5,8 +5,8 @@ use Rattle.std.proofs.lemmas.Bool.{cases_lt, both_ways}
 use Rattle.std.proofs.lemmas.List.{get_or-take, get_or-drop, get_or_push, length-take-le, length-drop, length_push, take_rest}
 use Rattle.std.proofs.lemmas.Str.{IsCharBoundary-after_ascii}
 use Rattle.std.proofs.lemmas.Str.Parse.{digit_at}
-use Rattle.odata_syntax.specs.IntLiteral.{IsIntSpelling}
-use Rattle.odata_syntax.specs.StringLiteral.{doubled, IsStringSpelling}
+use Rattle.edm_values.specs.IntLiteral.{IsIntSpelling}
+use Rattle.edm_values.specs.StringLiteral.{doubled, IsStringSpelling}
 use Rattle.odata_syntax.specs.Lengths.{sign_length}
 use Rattle.odata_syntax.specs.Spelling.{Spells, continues_identifier, identifier_length, is_identifier_byte}
 use Rattle.odata_syntax.specs.Tokens.{IsGap, IsLongest, IsRunOn, is_undelimited}

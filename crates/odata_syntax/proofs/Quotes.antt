@@ -6,7 +6,7 @@ use Rattle.std.proofs.lemmas.Bool.Decides.{eqb_tells}
 use Rattle.std.proofs.lemmas.List.{take-append-drop, take-take}
 use Rattle.std.proofs.lemmas.List.Sums.{fold-append, fold_more}
 use Rattle.odata_syntax.specs.Lengths.{IsReach, quoted_after, quoted_of}
-use Rattle.odata_syntax.specs.StringLiteral.{doubled, IsStringSpelling}
+use Rattle.edm_values.specs.StringLiteral.{doubled, IsStringSpelling}
 use Rattle.odata_syntax.specs.declared.odata_text.quoted.Quoted.{Quoted}
 use Rattle.odata_syntax.specs.declared.odata_text.quoted.Quoted.TheVariants.{Before, Open, Closed, Over}
 

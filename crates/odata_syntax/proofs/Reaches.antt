@@ -10,7 +10,7 @@ use Rattle.std.proofs.lemmas.List.{get_or_default, get_or-take, length-take-le, 
 use Rattle.std.proofs.lemmas.List.Sums.{prefix_len-le-length, prefix_len_passes, prefix_len_stops}
 use Rattle.std.proofs.lemmas.Str.Parse.{digit_at, numerals_by_value, tells_by_index}
 use Rattle.odata_syntax.specs.ByteClass.{class_of}
-use Rattle.odata_syntax.specs.IntLiteral.{IsIntSpelling}
+use Rattle.edm_values.specs.IntLiteral.{IsIntSpelling}
 use Rattle.odata_syntax.specs.Lengths.{IsReach, sign_length}
 use Rattle.odata_syntax.specs.Spelling.{IsIdentifier, continues_identifier, identifier_length, is_identifier_byte}
 use Rattle.odata_syntax.specs.declared.odata_text.byte_class.ByteClass.TheVariants.{Letter}

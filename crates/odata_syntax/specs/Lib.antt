@@ -1,9 +1,10 @@
+pub use Rattle.edm_values.specs.IntLiteral
+pub use Rattle.edm_values.specs.StringLiteral
 pub mod ByteClass
-pub mod IntLiteral
 pub mod Lengths
 pub mod Piece
 pub mod Spelling
-pub mod StringLiteral
+pub mod TokenExamples
 pub mod Tokens
 pub mod Tree
 pub mod TreeView

@@ -2,8 +2,8 @@
 use Rattle.std.specs.Prelude.{◌≡◌, ℕ, Bool, true, false, List, [], ◌∷◌}
 use Rattle.std.specs.List.{AllPass, prefix_len}
 use Rattle.odata_syntax.specs.ByteClass.{class_of}
-use Rattle.odata_syntax.specs.IntLiteral.{IsIntSpelling}
-use Rattle.odata_syntax.specs.StringLiteral.{IsStringSpelling}
+use Rattle.edm_values.specs.IntLiteral.{IsIntSpelling}
+use Rattle.edm_values.specs.StringLiteral.{IsStringSpelling}
 use Rattle.odata_syntax.specs.declared.odata_text.byte_class.ByteClass.{ByteClass}
 use Rattle.odata_syntax.specs.declared.odata_text.byte_class.ByteClass.TheVariants.{Letter, Digit}
 use Rattle.odata_syntax.specs.declared.odata_text.token.TokenKind.{TokenKind}

@@ -13,6 +13,7 @@ mod tests;
 pub use expr::Expr;
 pub use node::{BinaryOperator, LiteralKind, Node};
 pub use odata_text::fault::TextFault;
+pub use odata_text::laws::{one_reading, plain_reading, run_on_reading};
 pub use odata_text::scan::tokens;
 pub use odata_text::span::Span;
 pub use odata_text::token::{Token, TokenKind};

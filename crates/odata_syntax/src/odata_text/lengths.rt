@@ -1,7 +1,7 @@
 ghost use Rattle.std.specs.Prelude.{◌≡◌, ◌≤◌, length};
 ghost use Rattle.std.specs.Char.{is_ascii_digit};
 ghost use Rattle.std.specs.List.{prefix_len};
-ghost use Rattle.odata_syntax.specs.IntLiteral.{IsIntSpelling};
+ghost use Rattle.edm_values.specs.IntLiteral.{IsIntSpelling};
 ghost use Rattle.odata_syntax.specs.Lengths.{IsReach, sign_length};
 ghost use Rattle.odata_syntax.specs.Spelling.{IsIdentifier, identifier_length};
 

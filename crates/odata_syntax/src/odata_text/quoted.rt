@@ -1,6 +1,6 @@
 ghost use Rattle.std.specs.Prelude.{◌≡◌};
 ghost use Rattle.odata_syntax.specs.Lengths.{IsReach, quoted_after};
-ghost use Rattle.odata_syntax.specs.StringLiteral.{IsStringSpelling};
+ghost use Rattle.edm_values.specs.StringLiteral.{IsStringSpelling};
 
 /// How far a quoted text has come: a quote closes it, unless the next byte is a quote too.
 #[derive(Clone, Copy, Debug, PartialEq, Eq)]

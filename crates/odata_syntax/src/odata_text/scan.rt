@@ -1,7 +1,8 @@
 ghost use Rattle.std.specs.Prelude.{◌≡◌, ◌≢◌, ◌<◌, ◌≤◌, ℕ, IfOk, IfErr, IsCharBoundary, List, length, slice_index};
 ghost use Rattle.odata_syntax.specs.ByteClass.{class_of};
 ghost use Rattle.odata_syntax.specs.Piece.{Piece, piece_of, pieces_of};
-ghost use Rattle.odata_syntax.specs.Tokens.{IsFaultAt, IsFaultBehind, IsGap, IsNoToken, IsTextFault, IsTokenAt, IsTokenList, is_undelimited, text_limit};
+ghost use Rattle.odata_syntax.specs.Tokens.{IsFaultAt, IsFaultBehind, IsGap, IsNoToken, IsTextFault};
+ghost use Rattle.odata_syntax.specs.Tokens.{IsTokenAt, IsTokenList, is_undelimited, text_limit};
 
 use super::byte_class::{ByteClass, class_of};
 use super::fault::TextFault;
@@ -31,7 +32,8 @@ fn is_undelimited(kind: TokenKind) -> bool
 fn skip_spaces(bytes: &[u8], place: usize) -> usize
     requires { place ≤ length bytes.now }
     ensures gap { IsGap bytes.now place result }
-    ensures solid { result < length bytes.now → class_of (slice_index bytes.now result) ≢ ByteClass.Space }
+    ensures solid { result < length bytes.now
+        → class_of (slice_index bytes.now result) ≢ ByteClass.Space }
 {
     let mut end = place;
     while end < bytes.len() && class_of(bytes[end]) == ByteClass::Space {
@@ -100,7 +102,8 @@ fn token_at(text: &str, start: usize) -> Result<Token<'_>, TextFault>
 fn scan<'t>(alloc: Global, text: &'t str) -> Result<Vec<Token<'t>>, TextFault>
     requires { length text.now ≤ text_limit }
     ensures ok { IfOk result (λ tokens. IsTokenList text.now (pieces_of tokens.items)) }
-    ensures fault { IfErr result (λ fault. fault ≢ TextFault.Memory → IsFaultBehind text.now fault) }
+    ensures fault { IfErr result (λ fault. fault ≢ TextFault.Memory
+        → IsFaultBehind text.now fault) }
 {
     let bytes = text.as_bytes();
     let mut tokens = Vec::new(alloc);
@@ -116,10 +119,18 @@ fn scan<'t>(alloc: Global, text: &'t str) -> Result<Vec<Token<'t>>, TextFault>
     Ok(tokens)
 }
 
-/// The tokens of a filter's text.
+/// The tokens of a filter's text from left to right, each the longest piece at its place.
+///
+/// Spans are byte places in `text`, and white space, spaces and tabs, belongs to no token (OData ABNF 4.01, section 6).
+/// A refusal other than `Memory` is the first fault from the left: `TooLong` where `text` has over 16,384 bytes comes
+/// before all others, and where a 4,097th token is faultless it names that token.
 pub fn tokens<'t>(alloc: Global, text: &'t str) -> Result<Vec<Token<'t>>, TextFault>
     ensures ok { IfOk result (λ tokens. IsTokenList text.now (pieces_of tokens.items)) }
+    ensures only { IfOk result (λ tokens. (pieces : List Piece)
+        → IsTokenList text.now pieces → pieces ≡ pieces_of tokens.items) }
     ensures fault { IfErr result (λ fault. fault ≢ TextFault.Memory → IsTextFault text.now fault) }
+    ensures none { IfErr result (λ fault. fault ≢ TextFault.Memory → (pieces : List Piece)
+        → IsTokenList text.now pieces → ⊥) }
 {
     if text.len() > TEXT_LIMIT {
         let span = Span {
