@@ -12,3 +12,5 @@ mod read_types;
 mod refusals;
 pub mod schema;
 mod structured_type;
+#[cfg(test)]
+mod tests;

@@ -1,5 +1,5 @@
 -- What a CSDL JSON document declares (CSDL JSON 4.01, sections 2 to 7), as far as entity types go.
-use Rattle.std.specs.Prelude.{ℕ, ◌++◌, [], ◌∷◌, ◌&&◌, ◌||◌, ◌==◌, List, Bool, true, false, not, Option, Some, None, is_some, is_none, option_and_then, unwrap_or, if◌then◌else◌, codes, map, filter, nat_eq, nat_le, count_by}
+use Rattle.std.specs.Prelude.{ℕ, ◌++◌, [], ◌∷◌, ◌&&◌, ◌||◌, ◌==◌, List, Bool, true, false, not, Option, Some, None, is_some, is_none, option_and_then, unwrap_or, if◌then◌else◌, codes, map, nat_eq, nat_le, count_by}
 use Rattle.std.specs.Ordering.{nat_cmp, match_ordering}
 use Rattle.std.specs.List.{list_any, list_all, flat_map}
 use Rattle.std.specs.Cmp.Lexicographic.{pointwise, slice_cmp}
@@ -116,12 +116,16 @@ is_entity_type d = is_text (codes "EntityType") (text_at (codes "$Kind") d)
 abbrev pub is_other_kind : Data → Bool
 is_other_kind d = is_some (as_array d) || (is_some (text_at (codes "$Kind") d) && not (is_entity_type d))
 
-abbrev pub type_in : List ℕ × Data → List ℕ × Data → TypeDeclaration
-type_in schema m = record { namespace = schema.0; alias = text_at (codes "$Alias") schema.1; name = m.0; body = m.1 }
+abbrev pub type_in : List ℕ → Option (List ℕ) → List ℕ × Data → TypeDeclaration
+type_in namespace alias m = record { namespace = namespace; alias = alias; name = m.0; body = m.1 }
+
+abbrev pub types_among : List ℕ → Option (List ℕ) → List (List ℕ × Data) → List TypeDeclaration
+types_among namespace alias [] = []
+types_among namespace alias (m ∷ ms) = if is_other_kind m.1 then types_among namespace alias ms else type_in namespace alias m ∷ types_among namespace alias ms
 
 -- the types of one schema, well formed or not
 abbrev pub types_in : List ℕ × Data → List TypeDeclaration
-types_in schema = map (type_in schema) (filter (λ m. not (is_other_kind m.1)) (declared_in schema.1))
+types_in schema = types_among schema.0 (text_at (codes "$Alias") schema.1) (declared_in schema.1)
 
 -- the types of all schemas of a document
 abbrev pub types_declared : Data → List TypeDeclaration

@@ -89,10 +89,10 @@ base_faults t = unless (is_none (get (codes "$BaseType") t.body)) (unknown_base 
 abbrev pub object_faults : Data → List Fault
 object_faults document =
     unless (is_version (text_at (codes "$Version") document)) version
-    ++ flat_map (namespace_faults (declared_in document)) (declared_in document)
-    ++ unless (not (nat_lt 4096 (type_count document))) too_large
-    ++ flat_map type_faults (types_in_order document)
-    ++ flat_map base_faults (types_in_order document)
+    ++ (flat_map (namespace_faults (declared_in document)) (declared_in document)
+    ++ (unless (not (nat_lt 4096 (type_count document))) too_large
+    ++ (flat_map type_faults (types_in_order document)
+    ++ flat_map base_faults (types_in_order document))))
 
 abbrev pub document_faults : Data → List Fault
 document_faults document = if is_object document then object_faults document else not_object ∷ []

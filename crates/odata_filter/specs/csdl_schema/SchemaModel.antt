@@ -63,11 +63,11 @@ alias_name t = option_map (λ alias. alias ++ 46 ∷ t.name) t.alias
 
 abbrev pub is_text_of : Option (List ℕ) → List ℕ → Bool
 is_text_of None asked = false
-is_text_of (Some text) asked = pointwise nat_eq asked text
+is_text_of (Some text) asked = pointwise nat_eq text asked
 
 -- whether a type goes by the asked name: by its namespace or by the alias of it
 abbrev pub is_named : TypeModel → List ℕ → Bool
-is_named t asked = pointwise nat_eq asked (qualified_name t) || is_text_of (alias_name t) asked
+is_named t asked = pointwise nat_eq (qualified_name t) asked || is_text_of (alias_name t) asked
 
 -- the place of the first type of the asked name
 abbrev pub place_named : SchemaModel → List ℕ → Option ℕ

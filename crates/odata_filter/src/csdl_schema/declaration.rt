@@ -1,11 +1,11 @@
 //! The types that a document's schemas declare (CSDL JSON 4.01, sections 4 and 6).
-ghost use Rattle.std.specs.Prelude.{◌≡◌, ◌++◌, ◌∷◌, IfOk, OnOk, string_bytes};
+ghost use Rattle.std.specs.Prelude.{◌≡◌, ◌++◌, ◌∷◌, IfOk, OnOk, option_map, string_bytes};
 ghost use Rattle.std.specs.List.{flat_map};
 ghost use Rattle.serde_json.specs.View.{view};
-ghost use Rattle.odata_filter.specs.csdl_schema.Declared.{is_entity_type, is_other_kind, types_in, full_name};
+ghost use Rattle.odata_filter.specs.csdl_schema.Declared.{is_entity_type, is_other_kind, types_among, types_in, full_name};
 ghost use Rattle.odata_filter.specs.csdl_schema.DocumentView.{member_view, members_of, declaration_view, declarations_of};
 
-use super::member::{declared_members, is_text, text_at, Member};
+use super::member::{Member, declared_members, is_text, text_at};
 use serde_json::Value;
 use std::alloc::{AllocError, Global};
 
@@ -72,12 +72,28 @@ fn add_types<'d>(
     ensures { OnOk result (declarations_of types.new.items
         ≡ declarations_of types.old.items ++ types_in (member_view schema.entry)) }
 {
-    let alias = text_at(schema.value, "$Alias");
     let members = declared_members(alloc, schema.value)?;
-    for member in &members {
+    add_members(
+        schema.name,
+        text_at(schema.value, "$Alias"),
+        &members,
+        types,
+    )
+}
+
+fn add_members<'d>(
+    namespace: &'d str,
+    alias: Option<&'d str>,
+    members: &[Member<'d>],
+    types: &mut Vec<Declaration<'d>>,
+) -> Result<(), AllocError>
+    ensures { OnOk result (declarations_of types.new.items ≡ declarations_of types.old.items
+        ++ types_among namespace.now (option_map (λ s. s.now) alias.entry) (members_of members.now)) }
+{
+    for member in members {
         if !is_other_kind(member.value) {
             types.push(Declaration {
-                namespace: schema.name,
+                namespace,
                 alias,
                 name: member.name,
                 body: member.value,

@@ -8,7 +8,7 @@ ghost use Rattle.odata_filter.specs.csdl_schema.Faults.{is_version, is_namespace
 ghost use Rattle.odata_filter.specs.csdl_schema.DocumentView.{member_view, members_of, Reads};
 
 use super::fault::SchemaFault;
-use super::member::{is_text, text_at, Member};
+use super::member::{Member, is_text, text_at};
 use super::refusals::bad_type;
 use serde_json::Value;
 use std::alloc::Global;

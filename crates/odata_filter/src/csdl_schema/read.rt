@@ -6,7 +6,7 @@ ghost use Rattle.odata_filter.specs.csdl_schema.Faults.{document_faults};
 ghost use Rattle.odata_filter.specs.csdl_schema.Document.{StandsFor, IsSchemaFault};
 ghost use Rattle.odata_filter.specs.csdl_schema.DocumentView.{declarations_of, Reads};
 
-use super::declaration::{declared_types, is_entity_type, Declaration};
+use super::declaration::{Declaration, declared_types, is_entity_type};
 use super::fault::SchemaFault;
 use super::member::declared_members;
 use super::namespaces::{check_namespaces, is_version};
@@ -16,6 +16,7 @@ use serde_json::Value;
 use std::alloc::Global;
 
 const MAX_BYTES: usize = 1_048_576;
+
 const MAX_TYPES: usize = 4096;
 
 impl Schema {
@@ -62,7 +63,7 @@ fn read_document(alloc: Global, document: &Value) -> Result<Schema, SchemaFault>
     let ordered = in_name_order(alloc, &declarations)?;
     let types = read_types(alloc, &ordered)?;
     check_bases(alloc, &ordered)?;
-    Schema::new(alloc, types)
+    Ok(Schema::new(alloc, types)?)
 }
 
 /// How many of the declarations say that they are entity types.

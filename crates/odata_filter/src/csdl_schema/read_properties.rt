@@ -10,7 +10,7 @@ ghost use Rattle.odata_filter.specs.csdl_schema.Faults.{is_property, is_property
 ghost use Rattle.odata_filter.specs.csdl_schema.DocumentView.{member_view, members_of, AreNamesInOrder, Reads};
 
 use super::fault::SchemaFault;
-use super::member::{is_text, is_text_if_given, is_true_at, is_truth_if_given, text_at, Member};
+use super::member::{Member, is_text, is_text_if_given, is_true_at, is_truth_if_given, text_at};
 use super::names::is_identifier;
 use super::property::{Property, PropertyKind};
 use super::refusals::bad_property;

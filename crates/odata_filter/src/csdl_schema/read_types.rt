@@ -1,12 +1,14 @@
 //! Types in the byte order of their names (CSDL JSON 4.01, section 6).
-ghost use Rattle.std.specs.Prelude.{◌≡◌, ⊤, map, string_bytes, IfOk, OnOk};
+ghost use Rattle.std.specs.Prelude.{◌≡◌, ⊤, map, IfOk, IfErr};
+ghost use Rattle.std.specs.BTreeMap.{IsOrdered};
+ghost use Rattle.std.specs.String.{string_cmp};
 ghost use Rattle.std.specs.List.{flat_map};
 ghost use Rattle.serde_json.specs.View.{view};
-ghost use Rattle.odata_filter.specs.csdl_schema.Declared.{declared_in, declared_property, declared_type, full_name, in_name_order};
+ghost use Rattle.odata_filter.specs.csdl_schema.Declared.{declared_type, full_name, in_name_order};
 ghost use Rattle.odata_filter.specs.csdl_schema.Faults.{is_type, type_faults, base_faults};
 ghost use Rattle.odata_filter.specs.csdl_schema.DocumentView.{declaration_view, declarations_of, types_of, AreNamed, Reads};
 
-use super::declaration::{is_entity_type, Declaration};
+use super::declaration::{Declaration, is_entity_type};
 use super::fault::SchemaFault;
 use super::member::{declared_members, is_text_if_given};
 use super::names::is_identifier;
@@ -18,17 +20,20 @@ use std::collections::BTreeMap;
 
 const MAX_PROPERTIES: usize = 1024;
 
-
 /// The declarations in the byte order of whole names; of equal names the first stands.
 pub(super) fn in_name_order<'d>(
     alloc: Global,
     declarations: &[Declaration<'d>],
 ) -> Result<BTreeMap<String, Declaration<'d>>, SchemaFault>
+    ensures refused { IfErr result (λ e. e ≡ SchemaFault.Memory) }
     ensures named { IfOk result (λ m. AreNamed m.entries) }
+    ensures ordered { IfOk result (λ m. IsOrdered string_cmp m) }
     ensures types { IfOk result (λ m. types_of m.entries ≡ in_name_order (declarations_of declarations.now)) }
 {
     let mut ordered = BTreeMap::new(alloc);
-    for place in (0..declarations.len()).rev() {
+    let mut place = declarations.len();
+    while place > 0 {
+        place -= 1;
         let declaration = declarations[place];
         let name = declaration.full_name(alloc)?;
         ordered.insert(name, declaration)?;

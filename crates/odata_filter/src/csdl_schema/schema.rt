@@ -1,8 +1,6 @@
-ghost use Rattle.std.specs.Prelude.{ℕ, List, [], position, IfOk, ◌≡◌, ◌<◌, ◌↔◌, length, map, slice_get, Some, IsTrue, IsSome, IfSome, option_map};
-ghost use Rattle.odata_filter.specs.csdl_schema.SchemaModel.{is_named, place_named, properties_at, slot_named, type_name_of, IsEntityAt, IsInNameOrder};
-ghost use Rattle.std.specs.List.{AllByRecursion};
+ghost use Rattle.std.specs.Prelude.{ℕ, List, position, if◌then◌else◌, IfOk, IfErr, OnOk, ◌≡◌, ◌<◌, ◌↔◌, length, map, slice_get, Some, IsTrue, IsSome, IfSome, option_map};
+ghost use Rattle.odata_filter.specs.csdl_schema.SchemaModel.{alias_name, is_named, is_text_of, place_named, properties_at, slot_named, type_name_of, IsEntityAt, IsInNameOrder};
 ghost use Rattle.indexmap.specs.IndexMap.{get_by_text};
-ghost use Rattle.odata_filter.specs.csdl_schema.DocumentView.{Reads};
 ghost use Rattle.odata_filter.specs.csdl_schema.SchemaView.{own_properties, schema_of, AreInOrder};
 ghost use Rattle.odata_filter.specs.csdl_schema.PropertyView.{property_type};
 
@@ -36,9 +34,9 @@ impl Model for Schema {
 impl Schema {
     /// The schema of types in the order of their whole names.
     pub(super) fn new(alloc: Global, types: Vec<StructuredType>) -> Result<Schema, SchemaFault>
-        requires types_ordered { AreInOrder types.items }
-        requires slots_ordered { AllByRecursion (λ t. IsInNameOrder t.properties) types.items }
-        ensures { Reads result [] (λ s. s ≡ schema_of types.items) }
+        requires { AreInOrder types.items }
+        ensures refused { IfErr result (λ e. e ≡ SchemaFault.Memory) }
+        ensures made { IfOk result (λ s. s ≡ schema_of types.items) }
     {
         let places = index_types(alloc, &types)?;
         Ok(Schema { types, places })
@@ -64,7 +62,6 @@ impl Schema {
     fn type_at(&self, id: TypeId) -> Option<&StructuredType>
         ensures found { option_map (λ t. t.now) result ≡ slice_get self.now.types id }
         ensures properties { properties_at self.now id ≡ own_properties (option_map (λ t. t.now) result) }
-        ensures ordered { IsInNameOrder (properties_at self.now id) }
     {
         self.types.get(id.place())
     }
@@ -135,16 +132,54 @@ impl Schema {
 }
 
 /// The place of each type by its names; of equal names the first place.
-fn index_types(alloc: Global, types: &[StructuredType]) -> Result<IndexMap<String, usize>, SchemaFault>
-    ensures { IfOk result (λ m. (asked : List ℕ) → get_by_text m asked ≡ position (λ t. is_named t asked) types.now) }
+fn index_types(
+    alloc: Global,
+    types: &[StructuredType],
+) -> Result<IndexMap<String, usize>, SchemaFault>
+    ensures refused { IfErr result (λ e. e ≡ SchemaFault.Memory) }
+    ensures indexed { IfOk result (λ m. (asked : List ℕ) → get_by_text m asked ≡ position (λ t. is_named t asked) types.now) }
 {
     let mut places = IndexMap::new(alloc);
-    for place in (0..types.len()).rev() {
-        let found = &types[place];
-        if let Some(name) = found.name_by_alias(alloc)? {
-            places.insert(name, place)?;
-        }
-        places.insert(found.qualified_name().to_owned(alloc)?, place)?;
+    let mut place = types.len();
+    while place > 0 {
+        place -= 1;
+        add_names(alloc, &types[place], place, &mut places)?;
     }
     Ok(places)
+}
+
+/// Gives both names of a type its place.
+fn add_names(
+    alloc: Global,
+    found: &StructuredType,
+    place: usize,
+    places: &mut IndexMap<String, usize>,
+) -> Result<(), SchemaFault>
+    ensures refused { IfErr result (λ e. e ≡ SchemaFault.Memory) }
+    ensures added { OnOk result ((asked : List ℕ) → get_by_text places.new asked
+        ≡ (if is_named found.now asked then Some place else get_by_text places.old asked)) }
+{
+    add_alias_name(alloc, found, place, places)?;
+    let name = found.qualified_name().to_owned(alloc)?;
+    places.insert(name, place)?;
+    Ok(())
+}
+
+fn add_alias_name(
+    alloc: Global,
+    found: &StructuredType,
+    place: usize,
+    places: &mut IndexMap<String, usize>,
+) -> Result<(), SchemaFault>
+    ensures refused { IfErr result (λ e. e ≡ SchemaFault.Memory) }
+    ensures added { OnOk result ((asked : List ℕ) → get_by_text places.new asked
+        ≡ (if is_text_of (alias_name found.now) asked then Some place else get_by_text places.old asked)) }
+{
+    match found.name_by_alias(alloc)? {
+        Some(name) => {
+            places.insert(name, place)?;
+            Ok(())
+        }
+        None => Ok(()),
+    }
 }

@@ -5,7 +5,7 @@ ghost use Rattle.odata_filter.specs.csdl_schema.TypeView.{property_model};
 ghost use Rattle.odata_filter.specs.csdl_schema.Declared.{full_name, entity_type};
 ghost use Rattle.odata_filter.specs.csdl_schema.DocumentView.{declaration_view};
 
-use super::declaration::{join, Declaration};
+use super::declaration::{Declaration, join};
 use super::property::Property;
 use indexmap::IndexMap;
 use std::alloc::{AllocError, Global};

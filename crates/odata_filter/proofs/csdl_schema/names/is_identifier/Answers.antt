@@ -9,5 +9,5 @@ use Rattle.odata_filter.proofs.csdl_schema.names.is_identifier.Goals as goal
 pub returns-then-is_name_start : goal.returns-then-is_name_start
 returns-then-is_name_start c =
     let h : c.all.result ≡ list_all is_name_byte c.in-Some.rest.now =
-      all_from_yields_List is_name_byte _ _ c.all.result c.all.ensures.ran (YieldsList-from_slice c.in-Some.rest.now cc) (λ x b q k. search (rules, tests)) in
+    all_from_yields_List is_name_byte _ _ c.all.result c.all.ensures.ran (YieldsList-from_slice c.in-Some.rest.now cc) (λ x b q k. search (rules, tests)) in
     search (rules, h)

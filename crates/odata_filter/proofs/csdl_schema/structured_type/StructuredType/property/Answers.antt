@@ -11,7 +11,7 @@ returns c =
     let found = c.in-Some.property.now in
     let is_found : Option PropertyModel → Type 0 = λ o. IfSome o (λ p. (type_of_kind found.kind found.many ≡ p.type_of) × (found.nullable ≡ p.nullable)) in
     subst is_found
-      (ap (option_map property_model) c.in-Some.ensures.entry
-       ∙ sym (slice_get-map property_model es c.args.slot)
-       ∙ ap (λ (t : TypeModel). slice_get t.properties c.args.slot) c.self.view_is)
-      (refl, refl)
+    (ap (option_map property_model) c.in-Some.ensures.entry
+    ∙ sym (slice_get-map property_model es c.args.slot)
+    ∙ ap (λ (t : TypeModel). slice_get t.properties c.args.slot) c.self.view_is)
+    (refl, refl)
