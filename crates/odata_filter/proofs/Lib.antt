@@ -16,3 +16,4 @@ mod LineLemmas
 mod RunLemmas
 mod WriteLemmas
 pub mod SchemaReading
+pub mod RowJudges
