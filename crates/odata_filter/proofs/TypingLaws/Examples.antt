@@ -1,5 +1,7 @@
 -- Two filters of items.
-use Rattle.std.proofs.Common.{◌≡◌, refl, sym, subst, ◌∙◌, inl, inr, ℕ, ℤ, pos, ◌<◌, ◌≤◌, List, [], ◌∷◌, codes, length, FitsSigned, w32, w64, lit<, lit≤, arith}
+use Rattle.std.proofs.Common.{◌≡◌, refl, subst, inl, inr, pos, [], ◌∷◌, FitsSigned, w32, w64, lit<, rules}
+use Rattle.std.proofs.lemmas.Int.{fits_signed_from_abs}
+use Rattle.std.specs.Prelude.{codes}
 use Rattle.std.specs.Str.Parse.{IsNumeral}
 use Rattle.edm_values.specs.IntLiteral.{IntValue}
 use Rattle.odata_filter.specs.csdl_schema.ExprType.{ExprType, single, primitive}
@@ -11,11 +13,14 @@ use Rattle.odata_filter.specs.odata_typing.Laws.{ItemFilterTyped, MixedFilterUnt
 abbrev int32 : ExprType
 int32 = single (primitive PrimitiveType.Int32)
 
+numeral : IsNumeral 10 (codes "1")
+numeral = search rules
+
 one : IntValue (codes "1") (pos 1)
-one = ?
+one = (inr (inr (numeral, refl)), fits_signed_from_abs w64 (pos 1) (lit< tt))
 
 one_fits : FitsSigned w32 (pos 1)
-one_fits = ?
+one_fits = fits_signed_from_abs w32 (pos 1) (lit< tt)
 
 pub item_filter_typed : ItemFilterTyped
 item_filter_typed = record {

@@ -11,7 +11,7 @@ use Rattle.odata_filter.specs.odata_typing.Calls.{TakesMemory, UsesNow}
 use Rattle.odata_filter.specs.odata_typing.CheckedPreOrder.{checked_pre_order}
 use Rattle.odata_filter.specs.odata_typing.Filter.{Filter, IsFilter, IsTypeAt}
 use Rattle.odata_filter.specs.odata_typing.IsChecked.{IsChecked, named, type_of_node}
-use Rattle.odata_filter.specs.odata_typing.PreOrder.{pre_order}
+use Rattle.odata_filter.specs.odata_typing.PreOrder.{pre_order, span_of_tree}
 use Rattle.odata_filter.specs.odata_typing.Typed.{Scope, Typed}
 use Rattle.odata_filter.specs.odata_typing.TypeView.{expr_type}
 use Rattle.odata_filter.proofs.TypingLaws.Right.{IsChecked-typed}
@@ -123,4 +123,17 @@ pub few_checked : (c d : CheckedNode) → c ≡ d → length (pre_order (named d
 few_checked c d same few =
     let e : length (checked_pre_order c) ≡ length (pre_order (named d)) = ap (λ (x : CheckedNode). length (checked_pre_order x)) same ∙ count-named d in
     let below : length (pre_order (named d)) ≤ 4096 = few in
+    omega arith
+
+pub span_at :
+    (c found : CheckedNode) (k : ℕ) → slice_get (checked_pre_order c) k ≡ Some found → option_map span_of_tree (slice_get (pre_order (named c)) k) ≡ Some (span_of_tree (named found))
+span_at c found k at = ap (option_map span_of_tree) (at-named c k ∙ ap (option_map named) at)
+
+pub within : (c found : CheckedNode) (k : ℕ) → slice_get (checked_pre_order c) k ≡ Some found → k < length (pre_order (named c))
+within c found k at = slice_get_within (pre_order (named c)) k (named found) (at-named c k ∙ ap (option_map named) at)
+
+pub beyond : (c : CheckedNode) (k rest : ℕ) → k ≡ length (checked_pre_order c) + rest → ¬ (k < length (pre_order (named c)))
+beyond c k rest past below =
+    let e : length (checked_pre_order c) ≡ length (pre_order (named c)) = count-named c in
+    let h : k < length (pre_order (named c)) = below in
     omega arith
