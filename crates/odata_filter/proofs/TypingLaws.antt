@@ -8,3 +8,4 @@ pub mod Names
 pub mod Sizes
 pub mod PreOrders
 pub mod Checks
+pub mod Examples

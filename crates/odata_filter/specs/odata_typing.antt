@@ -12,3 +12,4 @@ pub mod Filter
 pub mod Calls
 pub mod Answer
 pub mod EarlierFault
+pub mod Laws

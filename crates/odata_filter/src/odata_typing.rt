@@ -4,12 +4,15 @@ pub mod checked;
 pub mod checked_node;
 mod checker;
 pub mod edm_type;
+pub mod laws;
 mod literal;
 mod node;
 mod operator;
 mod pre_order;
 mod property;
 pub mod refusal;
+#[cfg(test)]
+mod tests;
 mod untyped;
 
 pub use checked::Checked;

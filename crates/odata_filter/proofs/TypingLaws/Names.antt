@@ -7,13 +7,15 @@ use Rattle.odata_syntax.specs.Tree.{Tree, node, name, start_of}
 use Rattle.odata_syntax.specs.declared.odata_text.span.Span.{Span}
 use Rattle.odata_filter.specs.csdl_schema.ExprType.{ExprType}
 use Rattle.odata_filter.specs.csdl_schema.SchemaModel.{PropertyModel, PropertyType, SchemaModel, Slots, declared, slot_named, slots_of, type_name_at}
-use Rattle.odata_filter.specs.declared.odata_typing.checked_node.CheckedNode.{CheckedNode}
+use Rattle.odata_filter.specs.declared.odata_typing.checked_node.CheckedNode.{CheckedNode, Property}
+use Rattle.odata_filter.specs.declared.odata_typing.edm_type.EdmType.{EdmType}
 use Rattle.odata_filter.specs.declared.odata_typing.refusal.TypeFaultCode.{TypeFaultCode}
 use Rattle.odata_filter.specs.declared.odata_typing.untyped.Untyped.{Untyped}
 use Rattle.odata_filter.specs.odata_typing.Answer.{IsAnswer, IsCheckedTree}
 use Rattle.odata_filter.specs.odata_typing.Considered.{IsItself}
 use Rattle.odata_filter.specs.odata_typing.FirstUntypable.{IsFirstUntypable, NameReason, PropertyReason}
-use Rattle.odata_filter.specs.odata_typing.IsChecked.{IsChecked, named}
+use Rattle.odata_filter.specs.odata_typing.IsChecked.{IsChecked, IsCheckedProperty, named}
+use Rattle.odata_filter.specs.odata_typing.TypeView.{expr_type}
 use Rattle.odata_filter.specs.odata_typing.Typed.{PropertyTyped, Scope, property_named}
 use Rattle.odata_filter.proofs.TypingLaws.Places.{slot_below, property_at, property_none}
 
@@ -33,7 +35,7 @@ first_name slots root asked span code untyped reason = record {
   first = λ at other found. same_start [] span.start span.stop asked at other found.considered;
   reason = reason;
   starts = refl;
-  stops = refl
+  stops = refl;
 }
 
 -- there is no property of the name
@@ -45,7 +47,7 @@ first_unknown slots root asked span none =
     let unknown = property_none (slots root) asked none in
     let P : ExprType → Option PropertyModel → Type 0 = λ (t : ExprType) (o : Option PropertyModel). IsSomeAnd o (λ p. p.type_of ≡ declared t) in
     let Q : Option PropertyModel → Type 0 =
-        λ (o : Option PropertyModel). MatchOption o (TypeFaultCode.UnknownProperty ≡ TypeFaultCode.UnknownProperty) (λ p. PropertyReason p.type_of TypeFaultCode.UnknownProperty) in
+    λ (o : Option PropertyModel). MatchOption o (TypeFaultCode.UnknownProperty ≡ TypeFaultCode.UnknownProperty) (λ p. PropertyReason p.type_of TypeFaultCode.UnknownProperty) in
     first_name slots root asked span TypeFaultCode.UnknownProperty (λ type typed. subst (P type) unknown typed) (subst Q (sym unknown) refl)
 
 -- the property at a slot of a name
@@ -101,3 +103,16 @@ pub boxed_answer :
     → IsAnswer schema n tree r
 boxed_answer schema n tree checked_node (Ok b) ok err checked = let P : CheckedNode → Type 0 = λ (c : CheckedNode). IsCheckedTree schema n tree c in subst P (sym ok) checked
 boxed_answer schema n tree checked_node (Err u) ok err checked = rw err tt
+
+pub property_right :
+    (schema : SchemaModel) (n : ℕ) (span : Span) (edm_type : EdmType) (asked : List ℕ) (slot : ℕ) (written : _)
+    → string_bytes written ≡ asked
+    → slot_named (slots_of schema (type_name_at schema n)) asked ≡ Some slot
+    → PropertyTyped (slots_of schema (type_name_at schema n)) asked (expr_type schema edm_type)
+    → IsCheckedTree schema n (node span.start span.stop (name asked)) (Property span edm_type written slot)
+property_right schema n span edm_type asked slot written same found typed =
+    let P : List ℕ → Type 0 = λ (b : List ℕ). IsCheckedProperty (slots_of schema (type_name_at schema n)) [] b slot (expr_type schema edm_type) in
+    record {
+      right = subst P (sym same) (record { free = refl; place = found; typed = typed });
+      stands_for = ap (λ (b : List ℕ). node span.start span.stop (name b)) same;
+    }

@@ -1,8 +1,9 @@
 -- Nodes by their number.
-use Rattle.std.proofs.Common.{◌≡◌, refl, sym, ap, subst, ◌∙◌, inl, inr, ◌⊎◌, ℕ, zero, suc, ◌<◌, ◌≤◌, ◌+◌, List, [], ◌∷◌, ◌++◌, length, length-append, map, Option, Some, None, slice_get, IsSomeAnd, arith}
+use Rattle.std.proofs.Common.{◌≡◌, refl, sym, ap, subst, ◌∙◌, inl, inr, ◌⊎◌, ℕ, zero, suc, ◌<◌, ◌≤◌, ◌+◌, ◌-◌, ◌^◌, List, [], ◌∷◌, ◌++◌, length, length-append, map, Option, Some, None, slice_get, IsSomeAnd, arith}
 use Rattle.std.specs.Option.{option_map}
 use Rattle.std.proofs.lemmas.List.{length-map, map-append}
 use Rattle.std.proofs.lemmas.Option.{slice_get_past, slice_get_within, slice_get-map, none-some}
+use Rattle.odata_syntax.specs.Tokens.{token_limit}
 use Rattle.odata_syntax.specs.Tree.{Tree, node, literal, name, binary}
 use Rattle.odata_filter.specs.csdl_schema.SchemaModel.{SchemaModel, slots_of, type_name_at}
 use Rattle.odata_filter.specs.declared.odata_typing.checked_node.CheckedNode.{CheckedNode, Lit, Property, Binary'}
@@ -10,7 +11,7 @@ use Rattle.odata_filter.specs.odata_typing.Calls.{TakesMemory, UsesNow}
 use Rattle.odata_filter.specs.odata_typing.CheckedPreOrder.{checked_pre_order}
 use Rattle.odata_filter.specs.odata_typing.Filter.{Filter, IsFilter, IsTypeAt}
 use Rattle.odata_filter.specs.odata_typing.IsChecked.{IsChecked, named, type_of_node}
-use Rattle.odata_filter.specs.odata_typing.PreOrder.{pre_order}
+use Rattle.odata_filter.specs.odata_typing.PreOrder.{pre_order, span_of_tree}
 use Rattle.odata_filter.specs.odata_typing.Typed.{Scope, Typed}
 use Rattle.odata_filter.specs.odata_typing.TypeView.{expr_type}
 use Rattle.odata_filter.proofs.TypingLaws.Right.{IsChecked-typed}
@@ -67,7 +68,7 @@ right_at schema n scope (Binary' span edm_type operator p left q right) found ze
     subst P (some-same (Binary' span edm_type operator p left q right) found at) all
 right_at schema n scope (Binary' span edm_type operator p left q right) found (suc k) all at =
     elim (get_parts (checked_pre_order left) (checked_pre_order right) k found at) [
-        inl h ↦ right_at schema n scope left found h.0 all.0 h.1
+      | inl h ↦ right_at schema n scope left found h.0 all.0 h.1
       | inr h ↦ right_at schema n scope right found h.0 all.1 h.1
     ]
 
@@ -76,7 +77,7 @@ pub type_at : (filter : Filter) (found : CheckedNode) (k : ℕ) → IsFilter fil
 type_at filter found k is_filter at =
     let typed = IsChecked-typed filter.schema filter.filtered [] found (right_at filter.schema filter.filtered [] filter.root found k is_filter.checked at) in
     let P : Option Tree → Type 0 =
-        λ (o : Option Tree). IsSomeAnd o (λ place. Typed (slots_of filter.schema) (type_name_at filter.schema filter.filtered) [] place (expr_type filter.schema (type_of_node found))) in
+    λ (o : Option Tree). IsSomeAnd o (λ place. Typed (slots_of filter.schema) (type_name_at filter.schema filter.filtered) [] place (expr_type filter.schema (type_of_node found))) in
     subst P (sym (at-named filter.root k ∙ ap (option_map named) at)) typed
 
 pub past_end : (c : CheckedNode) (k rest : ℕ) → k ≡ length (checked_pre_order c) + rest → slice_get (pre_order (named c)) k ≡ None
@@ -97,3 +98,42 @@ no_now (node start stop (literal kind spelling)) uses = uses
 no_now (node start stop (name asked)) uses = uses
 no_now (node start stop (binary operator left right)) (inl uses) = no_now left uses
 no_now (node start stop (binary operator left right)) (inr uses) = no_now right uses
+
+-- the first node is the node itself
+pub first_node : (c : CheckedNode) → slice_get (checked_pre_order c) 0 ≡ Some c
+first_node (Lit span edm_type kind text value) = refl
+first_node (Property span edm_type asked slot) = refl
+first_node (Binary' span edm_type operator p left q right) = refl
+
+-- the nodes below a node, by number: those of its left operand, and then those of its right one
+pub at_left : (x found : CheckedNode) (xs ys : List CheckedNode) (k : ℕ) → 1 ≤ k → slice_get xs (k - 1) ≡ Some found → slice_get (x ∷ (xs ++ ys)) k ≡ Some found
+at_left x found xs ys zero later at = let h : 1 ≤ 0 = later in absurd (omega arith)
+at_left x found xs ys (suc k) later at =
+    let e : suc k - 1 ≡ k = omega arith in
+    get_front xs ys k found (ap (slice_get xs) (sym e) ∙ at)
+
+pub at_right :
+    (x found : CheckedNode) (xs ys : List CheckedNode) (k rest : ℕ) → 1 ≤ k → k - 1 ≡ length xs + rest → slice_get ys rest ≡ Some found → slice_get (x ∷ (xs ++ ys)) k ≡ Some found
+at_right x found xs ys zero rest later past at = let h : 1 ≤ 0 = later in absurd (omega arith)
+at_right x found xs ys (suc k) rest later past at =
+    let e : k ≡ length xs + rest = omega arith in
+    ap (slice_get (xs ++ ys)) e ∙ get_behind xs ys rest ∙ at
+
+pub few_checked : (c d : CheckedNode) → c ≡ d → length (pre_order (named d)) ≤ token_limit → length (checked_pre_order c) < 2 ^ 64
+few_checked c d same few =
+    let e : length (checked_pre_order c) ≡ length (pre_order (named d)) = ap (λ (x : CheckedNode). length (checked_pre_order x)) same ∙ count-named d in
+    let below : length (pre_order (named d)) ≤ 4096 = few in
+    omega arith
+
+pub span_at :
+    (c found : CheckedNode) (k : ℕ) → slice_get (checked_pre_order c) k ≡ Some found → option_map span_of_tree (slice_get (pre_order (named c)) k) ≡ Some (span_of_tree (named found))
+span_at c found k at = ap (option_map span_of_tree) (at-named c k ∙ ap (option_map named) at)
+
+pub within : (c found : CheckedNode) (k : ℕ) → slice_get (checked_pre_order c) k ≡ Some found → k < length (pre_order (named c))
+within c found k at = slice_get_within (pre_order (named c)) k (named found) (at-named c k ∙ ap (option_map named) at)
+
+pub beyond : (c : CheckedNode) (k rest : ℕ) → k ≡ length (checked_pre_order c) + rest → ¬ (k < length (pre_order (named c)))
+beyond c k rest past below =
+    let e : length (checked_pre_order c) ≡ length (pre_order (named c)) = count-named c in
+    let h : k < length (pre_order (named c)) = below in
+    omega arith

@@ -1,8 +1,8 @@
-use Rattle.std.proofs.Common.{◌≡◌, refl, sym, ap, ◌∙◌, ℕ, List}
-use Rattle.odata_syntax.specs.Tree.{Tree, node, name}
+use Rattle.std.proofs.Common.{sym}
+use Rattle.odata_syntax.specs.Tree.{node, name}
 use Rattle.odata_filter.specs.csdl_schema.SchemaModel.{slots_of, type_name_at}
 use Rattle.odata_filter.specs.odata_typing.TypeView.{expr_type}
-use Rattle.odata_filter.proofs.TypingLaws.Names.{first_unknown, first_refused, property_typed, boxed_answer}
+use Rattle.odata_filter.proofs.TypingLaws.Names.{first_unknown, first_refused, property_typed, property_right, boxed_answer}
 use Rattle.odata_filter.proofs.odata_typing.property.checked_name.Goals as goal
 
 pub returns-in-None : goal.returns-in-None
@@ -13,8 +13,10 @@ pub returns-in-Ok-from_str : goal.returns-in-Ok-from_str
 returns-in-Ok-from_str c =
     let schema = c.args.schema.now in
     let n = c.args.filtered_type in
-    let written : (λ (b : List ℕ). b) c.args.asked.now ≡ c.args.asked.now = refl in
-    boxed_answer schema n (node c.args.span.start c.args.span.stop (name c.args.asked.now)) _ c.boxed.result c.boxed.ensures.ok c.boxed.ensures.memory ?
+    let asked = c.args.asked.now in
+    boxed_answer schema n (node c.args.span.start c.args.span.stop (name asked)) _ c.boxed.result c.boxed.ensures.ok c.boxed.ensures.memory
+    (property_right schema n c.args.span c.in-Ok.edm_type asked c.in-Some.slot c.in-Ok-from_str.name c.in-Ok-from_str.ensures.ok (sym c.in-Some.ensures)
+    (property_typed (slots_of schema (type_name_at schema n)) asked c.in-Some.slot (expr_type schema c.in-Ok.edm_type) _ _ (sym c.in-Some.ensures) c.property.ensures (c.in-Ok.ensures.declared schema)))
 
 pub returns-in-Err : goal.returns-in-Err
 returns-in-Err c =
