@@ -2,6 +2,7 @@ pub mod EntitySlots
 pub mod ExampleRows
 pub mod FitsHasType
 pub mod FitsOnce
+pub mod MemberWalk
 pub mod Numbers
 pub mod OneFirstFault
 pub mod ReadEntities

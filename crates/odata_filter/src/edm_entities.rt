@@ -3,5 +3,6 @@ pub mod entity;
 pub mod fault;
 mod flaw;
 pub mod laws;
+mod members;
 mod primitive;
 mod slots;
