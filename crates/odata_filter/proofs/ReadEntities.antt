@@ -33,6 +33,6 @@ is_entity schema id json values ordered is_object fits =
     }
 
 -- what is read as an object of these members is that object
-pub object_is : (json : Data) (members : Members) → Some members ≡ as_object json → json ≡ object members
-object_is (object ms) members e = cc
-object_is _ members e = absurd (cc)
+pub object_is : (json : Data) (held : Members) → Some held ≡ as_object json → json ≡ object held
+object_is (object ms) held e = cc
+object_is _ held e = absurd (cc)

@@ -16,7 +16,7 @@ loop-slot-init c =
     record {
       fit = rw c.in-Ok.ensures.items tt;
       ordered = c.of-members.ensures.ordered;
-      ahead = rw c.of-members.ensures.all (all_ahead _ _)
+      ahead = rw c.of-members.ensures.all (all_ahead _ _);
     }
 
 pub returns-in-Err-clause-first_fault : goal.returns-in-Err-clause-first_fault
@@ -26,9 +26,9 @@ returns-in-Err-clause-first_fault c =
     let left = members_view (entries_from c.loop-slot.members.first c.loop-slot.members.others) in
     let found = found_ahead all left (properties_at c.args.schema.now c.args.type_id) c.loop-slot.slot c.slot_name.result.now c.loop-slot.invariant.ahead c.slot_name.ensures in
     row_fault (slots_of c.args.schema.now) (type_name_at c.args.schema.now c.args.type_id) (object all) c.loop-slot.slot
-        c.loop-slot.values.items c.in-Err.fault within refl c.loop-slot.invariant.fit
-        (at_slot (λ type member name. IsSlotFault type member name c.in-Err.fault) (object all) (properties_at c.args.schema.now c.args.type_id) c.loop-slot.slot
-            c.slot_name.result.now (option_map (λ json. view json.now) c.find-found.result) c.slot_name.ensures (c.find-found.ensures.found ∙ found) c.in-Err.ensures.fault)
+    c.loop-slot.values.items c.in-Err.fault within refl c.loop-slot.invariant.fit
+    (at_slot (λ type member name. IsSlotFault type member name c.in-Err.fault) (object all) (properties_at c.args.schema.now c.args.type_id) c.loop-slot.slot
+    c.slot_name.result.now (option_map (λ json. view json.now) c.find-found.result) c.slot_name.ensures (c.find-found.ensures.found ∙ found) c.in-Err.ensures.fault)
 
 pub loop-slot-preserved : goal.loop-slot-preserved
 loop-slot-preserved c =
@@ -40,11 +40,11 @@ loop-slot-preserved c =
     let found = found_ahead all left (properties_at c.args.schema.now c.args.type_id) c.loop-slot.slot c.slot_name.result.now c.loop-slot.invariant.ahead c.slot_name.ensures in
     record {
       fit = rw (pushed, add-one) (fit_push slots (object all) (properties_at c.args.schema.now c.args.type_id)
-        c.loop-slot.slot c.loop-slot.values.items c.in-Ok-read_slot.value within c.loop-slot.invariant.fit
-        (at_slot (λ type member name. FitsProperty type member (held_of slots type (val_of c.in-Ok-read_slot.value))) (object all)
-            (properties_at c.args.schema.now c.args.type_id) c.loop-slot.slot c.slot_name.result.now (option_map (λ json. view json.now) c.find-found.result)
-            c.slot_name.ensures (c.find-found.ensures.found ∙ found) (c.in-Ok-read_slot.ensures.fits slots)));
+          c.loop-slot.slot c.loop-slot.values.items c.in-Ok-read_slot.value within c.loop-slot.invariant.fit
+          (at_slot (λ type member name. FitsProperty type member (held_of slots type (val_of c.in-Ok-read_slot.value))) (object all)
+          (properties_at c.args.schema.now c.args.type_id) c.loop-slot.slot c.slot_name.result.now (option_map (λ json. view json.now) c.find-found.result)
+          c.slot_name.ensures (c.find-found.ensures.found ∙ found) (c.in-Ok-read_slot.ensures.fits slots)));
       ordered = c.find-found.ensures.ordered;
       ahead = rw add-one (still_ahead all left _ (properties_at c.args.schema.now c.args.type_id) c.loop-slot.slot c.slot_name.result.now
-        c.slots-count.ensures.ordered c.slot_name.ensures c.find-found.ensures.kept c.loop-slot.invariant.ahead)
+          c.slots-count.ensures.ordered c.slot_name.ensures c.find-found.ensures.kept c.loop-slot.invariant.ahead);
     }

@@ -13,5 +13,5 @@ invariant-loop-slot l =
     record {
       fit : FitSlots (slots_of l.schema) (object (members_view l.object.entries)) (take l.slot (properties_at l.schema l.type_id)) l.values.items;
       ordered : AreInOrder (entries_from l.members.first l.members.others);
-      ahead : AreAhead (members_view l.object.entries) (members_view (entries_from l.members.first l.members.others)) (drop l.slot (properties_at l.schema l.type_id))
+      ahead : AreAhead (members_view l.object.entries) (members_view (entries_from l.members.first l.members.others)) (drop l.slot (properties_at l.schema l.type_id));
     }

@@ -22,7 +22,7 @@ pub returns-in-Err-clause-none_fits : goal.returns-in-Err-clause-none_fits
 returns-in-Err-clause-none_fits c no_memory =
     let is = object_is (view c.args.row.now) (members_view c.in-Some.object.now.entries) (sym (ap (option_map (λ m. members_view m.now.entries)) c.in-Some.is) ∙ c.as_object.ensures) in
     rw is (fault_refuses (slots_of c.args.schema.now) (type_name_at c.args.schema.now c.args.type_id) (object (members_view c.in-Some.object.now.entries)) c.in-Err.fault
-        (c.in-Err.ensures.first_fault no_memory))
+    (c.in-Err.ensures.first_fault no_memory))
 
 pub returns-in-Err-clause-first_fault : goal.returns-in-Err-clause-first_fault
 returns-in-Err-clause-first_fault c no_memory =

@@ -27,7 +27,7 @@ loop-self-preserved c =
     record {
       ordered = subst AreInOrder (sym left) (ordered_behind c.in-Some.key.now c.in-Some.json.now c.loop-self.self.others (subst AreInOrder here_is c.loop-self.invariant.ordered));
       kept = λ other up_to. found_in other left ∙ (passed c.in-Some.key.now c.in-Some.json.now c.loop-self.self.others c.args.name.now other below up_to
-        ∙ (found_in other (sym here_is) ∙ c.loop-self.invariant.kept other up_to))
+          ∙ (found_in other (sym here_is) ∙ c.loop-self.invariant.kept other up_to));
     }
 
 pub returns-in-Equal-clause-found : goal.returns-in-Equal-clause-found

@@ -10,8 +10,8 @@ invariant-loop-self l =
     record {
       ordered : AreInOrder (entries_from l.self.first l.self.others);
       kept : (other : List ℕ) → IsUpTo l.name other
-        → get_member other (members_view (entries_from l.self.first l.self.others))
-        ≡ get_member other (members_view (entries_from l.initial.self.first l.initial.self.others))
+          → get_member other (members_view (entries_from l.self.first l.self.others))
+          ≡ get_member other (members_view (entries_from l.initial.self.first l.initial.self.others));
     }
 
 abbrev pub decreases-loop-self : goal.decreases-loop-self
