@@ -10,3 +10,4 @@ pub mod RowFaultRefuses
 pub mod SlotWalk
 pub mod SlotsByName
 pub mod SchemaLookUps
+pub mod SchemaReading
