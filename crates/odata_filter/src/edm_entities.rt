@@ -6,3 +6,5 @@ pub mod laws;
 mod members;
 mod primitive;
 mod slots;
+#[cfg(test)]
+mod tests;
