@@ -3,6 +3,7 @@ pub mod ExampleRows
 pub mod FitsHasType
 pub mod FitsOnce
 pub mod MeansLaws
+pub mod MemberWalk
 pub mod Numbers
 pub mod OneFirstFault
 pub mod ReadEntities
