@@ -1,2 +1,4 @@
 pub mod SchemaLookUps
 pub mod SchemaReading
+pub mod SchemaLaws
+pub mod SchemaWorked
