@@ -18,3 +18,5 @@ mod RunLemmas
 mod WriteLemmas
 pub mod SchemaReading
 pub mod RowJudges
+pub mod SchemaLaws
+pub mod SchemaWorked

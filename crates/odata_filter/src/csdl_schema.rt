@@ -2,6 +2,7 @@
 mod declaration;
 pub mod fault;
 pub mod ids;
+pub mod laws;
 mod member;
 mod names;
 mod namespaces;
