@@ -1,5 +1,5 @@
 -- Look-ups in a schema, over the lists that it is seen as.
-use Rattle.std.proofs.Common.{◌≡◌, ℕ, zero, suc, ◌<◌, List, [], ◌∷◌, ◌++◌, length, map, Option, Some, None, option_map, slice_get, position, Bool, true, false, cond, nat_eq, nat_lt, refl, sym, ap, subst, ◌∙◌, IfSome, Ordering, Less, Equal, Greater, is_eq, arith}
+use Rattle.std.proofs.Common.{◌≡◌, ℕ, zero, suc, ◌<◌, List, [], ◌∷◌, ◌++◌, length, map, Option, Some, None, option_map, slice_get, position, Bool, true, false, cond, ◌||◌, nat_eq, nat_lt, refl, sym, ap, subst, ◌∙◌, IfSome, Ordering, Less, Equal, Greater, is_eq, arith}
 use Rattle.std.specs.Ordering.{nat_cmp}
 use Rattle.std.specs.List.{AllByRecursion, position_or_len}
 use Rattle.std.specs.List.Sorted.{IsStrictlySortedBy}
@@ -48,9 +48,12 @@ properties_own (t ∷ ts) zero ordered = rw (equal_itself (qualified_name t))
 properties_own (t ∷ ts) (suc n) ordered =
     rw (apart (qualified_name t) ts n ordered.0 (named t.namespace t.name)) (properties_own ts n ordered.1)
 
--- what holds of each type holds of the one at a place
-pub ordered_own : (types : List TypeModel) (n : ℕ) → AllByRecursion (λ t. IsInNameOrder t.properties) types → IsInNameOrder (own_properties (slice_get types n))
+-- no properties are in order
+pub none_ordered : (ps : List PropertyModel) → ps ≡ [] → IsInNameOrder ps
 unfolding IsStrictlySortedBy
-ordered_own [] n all = tt
-ordered_own (t ∷ ts) zero all = all.0
-ordered_own (t ∷ ts) (suc n) all = ordered_own ts n all.1
+none_ordered ps none = subst IsInNameOrder (sym none) tt
+
+-- one name or the other
+pub either_name : (a b : Bool) (x y : Option ℕ) → cond a x (cond b x y) ≡ cond (a || b) x y
+either_name true b x y = refl
+either_name false b x y = refl

@@ -1,1 +1,10 @@
 pub mod Literals
+pub mod OneType
+pub mod Places
+pub mod Right
+pub mod Untypable
+pub mod Answers
+pub mod Names
+pub mod Sizes
+pub mod PreOrders
+pub mod Checks

@@ -6,3 +6,4 @@ pub mod SchemaView
 pub mod Declared
 pub mod Faults
 pub mod Document
+pub mod DocumentView

@@ -1,7 +1,15 @@
 //! Rows in, rows out: the filter over lines of JSON, and the command line.
 #![tactic(auto)]
 
+pub mod command_line;
 pub mod csdl_schema;
 pub mod edm_entities;
+mod failure;
+pub mod lines;
 pub mod odata_eval;
 pub mod odata_typing;
+mod planner;
+mod runner;
+
+pub use planner::plan;
+pub use runner::run;

@@ -2,10 +2,12 @@
 //! public calls alone.
 pub mod checked;
 pub mod checked_node;
-pub mod checker;
+mod checker;
 pub mod edm_type;
 mod literal;
+mod node;
 mod operator;
+mod pre_order;
 mod property;
 pub mod refusal;
 mod untyped;

@@ -123,7 +123,7 @@ stopped_none ts (SyntaxFault.TooDeep span) s h = absurd s
 stopped_none ts SyntaxFault.Memory s h = absurd (h refl)
 
 -- the fault of an end
-ended_none : (ts : List Piece) (m : Machine) → run ts start ≡ Some m → finish m ≡ None → HasNoParse ts
+pub ended_none : (ts : List Piece) (m : Machine) → run ts start ≡ Some m → finish m ≡ None → HasNoParse ts
 ended_none ts m taken ended tree parse =
     let ends = derived_finishes parse.derived in
     let same : ends.ended ≡ m = same_Some ends.ended m (sym ends.taken ∙ taken) in
@@ -139,3 +139,9 @@ pub unended_none : (ts : List Piece) (m : Machine) (len : ℕ) (fault : SyntaxFa
 unended_none ts m len (SyntaxFault.Unexpected span) taken r h = ended_none ts m taken r.2
 unended_none ts m len (SyntaxFault.TooDeep span) taken r h = absurd r
 unended_none ts m len SyntaxFault.Memory taken r h = absurd (h refl)
+
+-- tokens are at most one tree
+pub derived_once : (ts : List Piece) (tree other : Tree) → Derives 1 ts tree → Derives 1 ts other → tree ≡ other
+derived_once ts tree other d e =
+    let ends = derived_finishes e in
+    run_only ts ends.ended other ends.taken ends.finished tree d

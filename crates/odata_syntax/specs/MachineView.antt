@@ -5,9 +5,11 @@ use Rattle.odata_syntax.specs.declared.syntax_fault.SyntaxFault.{SyntaxFault}
 use Rattle.odata_syntax.specs.declared.parser.state.Frame.{Frame}
 use Rattle.odata_syntax.specs.declared.parser.state.Stage.{Stage}
 use Rattle.odata_syntax.specs.declared.parser.state.State.{State}
-use Rattle.odata_syntax.specs.Piece.{Piece}
+use Rattle.odata_syntax.specs.Piece.{Piece, piece_of}
+use Rattle.odata_syntax.specs.declared.node.Node.{Node}
+use Rattle.odata_syntax.specs.declared.odata_text.token.Token.{Token}
 use Rattle.odata_syntax.specs.TreeView.{tree_of}
-use Rattle.odata_syntax.specs.Machine.{Waiting, behind, Expected, operand, closed, Machine, run, step, start}
+use Rattle.odata_syntax.specs.Machine.{Waiting, behind, Expected, operand, closed, Machine, Reduced, step_at, run, step, start}
 use Rattle.odata_syntax.specs.Tree.{Tree}
 use Rattle.odata_syntax.specs.Parse.{IsSpanOf}
 
@@ -24,6 +26,17 @@ expected_of (Stage.Closed read) = closed (tree_of read.value)
 
 abbrev pub machine_of : State → Machine
 machine_of s = record { waiting = stack_of s.frames.items; expected = expected_of s.stage }
+
+-- what waits, and the operand that has grown
+abbrev pub reduced_of : List Frame → Node → Reduced
+reduced_of frames grown = record { waiting = stack_of frames; tree = tree_of grown }
+
+-- the machine behind a token where an operand is expected, and behind the operand that has been read
+abbrev pub operand_step : List Frame → Token → Option Machine
+operand_step frames token = step_at operand (stack_of frames) (piece_of token)
+
+abbrev pub operator_step : List Frame → Node → Token → Option Machine
+operator_step frames read token = step_at (closed (tree_of read)) (stack_of frames) (piece_of token)
 
 -- what a refusal of a step says: it has no next machine, and the span is the token's
 abbrev pub Refuses : Option Machine → Piece → SyntaxFault → Type 0

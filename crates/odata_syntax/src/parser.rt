@@ -10,10 +10,12 @@ ghost use Rattle.odata_syntax.specs.Parse.{IsParse, HasNoParse, IsSyntaxFault};
 ghost use Rattle.odata_syntax.specs.Machine.{run, start};
 ghost use Rattle.odata_syntax.specs.MachineView.{machine_of, StopsAt};
 
+mod frames;
 mod operand;
 mod operator;
 mod state;
 mod step;
+mod word;
 
 use crate::parser::state::State;
 use crate::{Expr, Node, SyntaxFault, Token};

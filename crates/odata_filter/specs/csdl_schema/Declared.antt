@@ -1,9 +1,9 @@
 -- What a CSDL JSON document declares (CSDL JSON 4.01, sections 2 to 7), as far as entity types go.
-use Rattle.std.specs.Prelude.{ℕ, ◌++◌, [], ◌∷◌, ◌&&◌, ◌||◌, ◌==◌, List, Bool, true, false, not, Option, Some, None, is_some, is_none, option_and_then, unwrap_or, if◌then◌else◌, codes, map, filter, nat_eq, nat_le, count_by}
+use Rattle.std.specs.Prelude.{ℕ, ◌++◌, [], ◌∷◌, ◌&&◌, ◌||◌, ◌==◌, List, Bool, true, false, not, Option, Some, None, is_some, is_none, option_and_then, unwrap_or, if◌then◌else◌, codes, map, nat_eq, nat_le, count_by}
 use Rattle.std.specs.Ordering.{nat_cmp, match_ordering}
 use Rattle.std.specs.List.{list_any, list_all, flat_map}
 use Rattle.std.specs.Cmp.Lexicographic.{pointwise, slice_cmp}
-use Rattle.serde_json.specs.Data.{Data, null, boolean, number, string, array, object, Members, no_members, member}
+use Rattle.serde_json.specs.Data.{Data, Members, no_members, member}
 use Rattle.serde_json.specs.Find.{get, as_str, as_bool, as_array, as_object}
 use Rattle.edm_values.specs.declared.primitive.PrimitiveType.{PrimitiveType}
 use Rattle.edm_values.specs.declared.primitive.PrimitiveType.TheVariants as prim
@@ -40,13 +40,12 @@ declared_among no_members = []
 declared_among (member k d ms) = if is_read_over k then declared_among ms else (k, d) ∷ declared_among ms
 
 -- of a value that is no object, none
+abbrev pub declared_of : Option Members → List (List ℕ × Data)
+declared_of None = []
+declared_of (Some ms) = declared_among ms
+
 abbrev pub declared_in : Data → List (List ℕ × Data)
-declared_in null = []
-declared_in (boolean b) = []
-declared_in (number n) = []
-declared_in (string s) = []
-declared_in (array ds) = []
-declared_in (object ms) = declared_among ms
+declared_in d = declared_of (as_object d)
 
 abbrev pub is_object : Data → Bool
 is_object d = is_some (as_object d)
@@ -117,12 +116,16 @@ is_entity_type d = is_text (codes "EntityType") (text_at (codes "$Kind") d)
 abbrev pub is_other_kind : Data → Bool
 is_other_kind d = is_some (as_array d) || (is_some (text_at (codes "$Kind") d) && not (is_entity_type d))
 
-abbrev pub type_in : List ℕ × Data → List ℕ × Data → TypeDeclaration
-type_in schema m = record { namespace = schema.0; alias = text_at (codes "$Alias") schema.1; name = m.0; body = m.1 }
+abbrev pub type_in : List ℕ → Option (List ℕ) → List ℕ × Data → TypeDeclaration
+type_in namespace alias m = record { namespace = namespace; alias = alias; name = m.0; body = m.1 }
+
+abbrev pub types_among : List ℕ → Option (List ℕ) → List (List ℕ × Data) → List TypeDeclaration
+types_among namespace alias [] = []
+types_among namespace alias (m ∷ ms) = if is_other_kind m.1 then types_among namespace alias ms else type_in namespace alias m ∷ types_among namespace alias ms
 
 -- the types of one schema, well formed or not
 abbrev pub types_in : List ℕ × Data → List TypeDeclaration
-types_in schema = map (type_in schema) (filter (λ m. not (is_other_kind m.1)) (declared_in schema.1))
+types_in schema = types_among schema.0 (text_at (codes "$Alias") schema.1) (declared_in schema.1)
 
 -- the types of all schemas of a document
 abbrev pub types_declared : Data → List TypeDeclaration
@@ -145,8 +148,11 @@ in_name_order (t ∷ ts) = put_type t (in_name_order ts)
 abbrev pub types_in_order : Data → List TypeDeclaration
 types_in_order document = in_name_order (types_declared document)
 
+abbrev pub entity_type : TypeDeclaration → List PropertyModel → TypeModel
+entity_type t properties = record { namespace = t.namespace; alias = t.alias; name = t.name; is_entity = true; properties = properties }
+
 abbrev pub declared_type : TypeDeclaration → TypeModel
-declared_type t = record { namespace = t.namespace; alias = t.alias; name = t.name; is_entity = true; properties = map declared_property (declared_in t.body) }
+declared_type t = entity_type t (map declared_property (declared_in t.body))
 
 -- the schema that a document without faults stands for
 abbrev pub declared_schema : Data → SchemaModel

@@ -38,17 +38,20 @@ is_alias_of_other schemas namespace alias = list_any (λ m. not (pointwise nat_e
 abbrev pub is_namespace : List (List ℕ × Data) → List ℕ → Bool
 is_namespace schemas name = list_any (λ m. pointwise nat_eq m.0 name) schemas
 
+abbrev pub is_alias_text : List (List ℕ × Data) → List ℕ → Option (List ℕ) → Bool
+is_alias_text schemas namespace None = false
+is_alias_text schemas namespace (Some alias) = not (is_namespace schemas alias) && not (is_alias_of_other schemas namespace alias)
+
 -- a given alias is a text, no namespace and no other alias
 abbrev pub is_alias : List (List ℕ × Data) → List ℕ → Option Data → Bool
 is_alias schemas namespace None = true
 is_alias schemas namespace (Some given) = is_alias_text schemas namespace (as_str given)
-  where
-    is_alias_text : List (List ℕ × Data) → List ℕ → Option (List ℕ) → Bool
-    is_alias_text schemas namespace None = false
-    is_alias_text schemas namespace (Some alias) = not (is_namespace schemas alias) && not (is_alias_of_other schemas namespace alias)
+
+abbrev pub is_schema : List (List ℕ × Data) → List ℕ × Data → Bool
+is_schema schemas m = is_object m.1 && is_alias schemas m.0 (get (codes "$Alias") m.1)
 
 abbrev pub namespace_faults : List (List ℕ × Data) → List ℕ × Data → List Fault
-namespace_faults schemas m = unless (is_object m.1 && is_alias schemas m.0 (get (codes "$Alias") m.1)) (bad_type m.0)
+namespace_faults schemas m = unless (is_schema schemas m) (bad_type m.0)
 
 -- ---- types and properties (sections 6 and 7)
 
@@ -86,10 +89,10 @@ base_faults t = unless (is_none (get (codes "$BaseType") t.body)) (unknown_base 
 abbrev pub object_faults : Data → List Fault
 object_faults document =
     unless (is_version (text_at (codes "$Version") document)) version
-    ++ flat_map (namespace_faults (declared_in document)) (declared_in document)
-    ++ unless (not (nat_lt 4096 (type_count document))) too_large
-    ++ flat_map type_faults (types_in_order document)
-    ++ flat_map base_faults (types_in_order document)
+    ++ (flat_map (namespace_faults (declared_in document)) (declared_in document)
+    ++ (unless (not (nat_lt 4096 (type_count document))) too_large
+    ++ (flat_map type_faults (types_in_order document)
+    ++ flat_map base_faults (types_in_order document))))
 
 abbrev pub document_faults : Data → List Fault
 document_faults document = if is_object document then object_faults document else not_object ∷ []

@@ -57,14 +57,17 @@ type_name_at schema = name_in schema.types
 abbrev pub properties_at : SchemaModel → ℕ → List PropertyModel
 properties_at schema n = slots_of schema (type_name_at schema n)
 
--- a type's name with the alias of its namespace, joined by a dot
-abbrev pub is_named_by_alias : Option (List ℕ) → List ℕ → List ℕ → Bool
-is_named_by_alias None name asked = false
-is_named_by_alias (Some alias) name asked = pointwise nat_eq asked (alias ++ 46 ∷ name)
+-- a type's name with the alias of its namespace, if that has one
+abbrev pub alias_name : TypeModel → Option (List ℕ)
+alias_name t = option_map (λ alias. alias ++ 46 ∷ t.name) t.alias
+
+abbrev pub is_text_of : Option (List ℕ) → List ℕ → Bool
+is_text_of None asked = false
+is_text_of (Some text) asked = pointwise nat_eq text asked
 
 -- whether a type goes by the asked name: by its namespace or by the alias of it
 abbrev pub is_named : TypeModel → List ℕ → Bool
-is_named t asked = pointwise nat_eq asked (qualified_name t) || is_named_by_alias t.alias t.name asked
+is_named t asked = pointwise nat_eq (qualified_name t) asked || is_text_of (alias_name t) asked
 
 -- the place of the first type of the asked name
 abbrev pub place_named : SchemaModel → List ℕ → Option ℕ

@@ -2,23 +2,24 @@
 use Rattle.std.specs.Prelude.{◌≡◌, ℕ, List, [], Option, Some, None, map}
 use Rattle.std.specs.Ordering.{nat_cmp}
 use Rattle.std.specs.Cmp.Lexicographic.{slice_cmp}
-use Rattle.std.specs.List.{AllByRecursion}
 use Rattle.std.specs.List.Sorted.{IsStrictlySortedBy}
 use Rattle.indexmap.specs.IndexMap.{get_by_text}
 use Rattle.odata_filter.specs.declared.csdl_schema.schema.Schema.TheInside.{Inside}
-use Rattle.odata_filter.specs.csdl_schema.SchemaModel.{SchemaModel, PropertyModel, TypeModel, qualified_name, place_named, IsInNameOrder}
+use Rattle.odata_filter.specs.csdl_schema.SchemaModel.{SchemaModel, PropertyModel, TypeModel, qualified_name, place_named}
+
+abbrev pub schema_of : List TypeModel → SchemaModel
+schema_of types = record { types = types }
 
 abbrev pub schema_model : Inside → SchemaModel
-schema_model s = record { types = s.types.items }
+schema_model s = schema_of s.types.items
 
 -- the types' whole names rise in byte order
 abbrev pub AreInOrder : List TypeModel → Type 0
 AreInOrder types = IsStrictlySortedBy (slice_cmp nat_cmp) (map qualified_name types)
 
--- what holds of each schema: its types and their slots are in order, and its index finds what the model finds
+-- what holds of each schema: its types are in order, and its index finds what the model finds
 pub record IsKeptSchema (s : Inside) : Type 0 where
   pub types_ordered : AreInOrder s.types.items
-  pub slots_ordered : AllByRecursion (λ t. IsInNameOrder t.properties) s.types.items
   pub indexed : (asked : List ℕ) → get_by_text s.places asked ≡ place_named (schema_model s) asked
 
 -- the properties of a type, where there is one; for private clauses

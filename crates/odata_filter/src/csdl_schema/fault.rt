@@ -1,3 +1,5 @@
+use std::alloc::{AllocError, AllocFailed};
+
 /// Why a document is no schema. `owner` is a qualified name.
 #[derive(Debug, Drop)]
 pub enum SchemaFault {
@@ -12,4 +14,26 @@ pub enum SchemaFault {
     BadEnumMember { owner: String, name: String },
     TooLarge,
     Memory,
+}
+
+impl From<AllocError> for SchemaFault {
+    ghost use Rattle.std.specs.Prelude.{◌≡◌};
+    ghost use Rattle.odata_filter.specs.declared.csdl_schema.fault.SchemaFault.TheVariants.{Memory};
+
+    ghost from_gives = { λ _ e. e ≡ Memory };
+
+    fn from(_refused: AllocError) -> SchemaFault {
+        SchemaFault::Memory
+    }
+}
+
+impl<T: Drop> From<AllocFailed<T>> for SchemaFault {
+    ghost use Rattle.std.specs.Prelude.{◌≡◌};
+    ghost use Rattle.odata_filter.specs.declared.csdl_schema.fault.SchemaFault.TheVariants.{Memory};
+
+    ghost from_gives = { λ _ e. e ≡ Memory };
+
+    fn from(_refused: AllocFailed<T>) -> SchemaFault {
+        SchemaFault::Memory
+    }
 }

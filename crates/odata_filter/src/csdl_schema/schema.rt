@@ -1,12 +1,15 @@
-ghost use Rattle.std.specs.Prelude.{◌≡◌, ◌<◌, ◌↔◌, length, map, slice_get, Some, IsTrue, IsSome, IfSome, option_map};
-ghost use Rattle.odata_filter.specs.csdl_schema.SchemaModel.{place_named, properties_at, slot_named, type_name_of, IsEntityAt, IsInNameOrder};
-ghost use Rattle.odata_filter.specs.csdl_schema.SchemaView.{own_properties};
+ghost use Rattle.std.specs.Prelude.{ℕ, List, position, if◌then◌else◌, IfOk, IfErr, OnOk, ◌≡◌, ◌<◌, ◌↔◌, length, map, slice_get, Some, IsTrue, IsSome, IfSome, option_map};
+ghost use Rattle.odata_filter.specs.csdl_schema.SchemaModel.{alias_name, is_named, is_text_of, place_named, properties_at, slot_named, type_name_of, IsEntityAt, IsInNameOrder};
+ghost use Rattle.indexmap.specs.IndexMap.{get_by_text};
+ghost use Rattle.odata_filter.specs.csdl_schema.SchemaView.{own_properties, schema_of, AreInOrder};
 ghost use Rattle.odata_filter.specs.csdl_schema.PropertyView.{property_type};
 
+use super::fault::SchemaFault;
 use super::ids::TypeId;
 use super::property::Property;
 use super::structured_type::StructuredType;
 use indexmap::IndexMap;
+use std::alloc::Global;
 use std::marker::Model;
 
 /// The entity types of a document, by name and by place.
@@ -29,6 +32,16 @@ impl Model for Schema {
 }
 
 impl Schema {
+    /// The schema of types in the order of their whole names.
+    pub(super) fn new(alloc: Global, types: Vec<StructuredType>) -> Result<Schema, SchemaFault>
+        requires { AreInOrder types.items }
+        ensures refused { IfErr result (λ e. e ≡ SchemaFault.Memory) }
+        ensures made { IfOk result (λ s. s ≡ schema_of types.items) }
+    {
+        let places = index_types(alloc, &types)?;
+        Ok(Schema { types, places })
+    }
+
     /// The place of an entity or complex type, by its name with its namespace or the alias of that.
     pub fn type_named(&self, name: &str) -> Option<TypeId>
         ensures { result ≡ place_named self.now name.now }
@@ -49,7 +62,6 @@ impl Schema {
     fn type_at(&self, id: TypeId) -> Option<&StructuredType>
         ensures found { option_map (λ t. t.now) result ≡ slice_get self.now.types id }
         ensures properties { properties_at self.now id ≡ own_properties (option_map (λ t. t.now) result) }
-        ensures ordered { IsInNameOrder (properties_at self.now id) }
     {
         self.types.get(id.place())
     }
@@ -116,5 +128,58 @@ impl Schema {
             Some(found) => Some(found.qualified_name()),
             None => None,
         }
+    }
+}
+
+/// The place of each type by its names; of equal names the first place.
+fn index_types(
+    alloc: Global,
+    types: &[StructuredType],
+) -> Result<IndexMap<String, usize>, SchemaFault>
+    ensures refused { IfErr result (λ e. e ≡ SchemaFault.Memory) }
+    ensures indexed { IfOk result (λ m. (asked : List ℕ) → get_by_text m asked ≡ position (λ t. is_named t asked) types.now) }
+{
+    let mut places = IndexMap::new(alloc);
+    let mut place = types.len();
+    while place > 0 {
+        place -= 1;
+        add_names(alloc, &types[place], place, &mut places)?;
+    }
+    Ok(places)
+}
+
+/// Gives both names of a type its place.
+fn add_names(
+    alloc: Global,
+    found: &StructuredType,
+    place: usize,
+    places: &mut IndexMap<String, usize>,
+) -> Result<(), SchemaFault>
+    ensures refused { IfErr result (λ e. e ≡ SchemaFault.Memory) }
+    ensures added { OnOk result ((asked : List ℕ) → get_by_text places.new asked
+        ≡ (if is_named found.now asked then Some place else get_by_text places.old asked)) }
+{
+    add_alias_name(alloc, found, place, places)?;
+    let name = found.qualified_name().to_owned(alloc)?;
+    places.insert(name, place)?;
+    Ok(())
+}
+
+fn add_alias_name(
+    alloc: Global,
+    found: &StructuredType,
+    place: usize,
+    places: &mut IndexMap<String, usize>,
+) -> Result<(), SchemaFault>
+    ensures refused { IfErr result (λ e. e ≡ SchemaFault.Memory) }
+    ensures added { OnOk result ((asked : List ℕ) → get_by_text places.new asked
+        ≡ (if is_text_of (alias_name found.now) asked then Some place else get_by_text places.old asked)) }
+{
+    match found.name_by_alias(alloc)? {
+        Some(name) => {
+            places.insert(name, place)?;
+            Ok(())
+        }
+        None => Ok(()),
     }
 }

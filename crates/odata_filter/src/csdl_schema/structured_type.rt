@@ -1,9 +1,14 @@
-ghost use Rattle.std.specs.Prelude.{◌≡◌, ◌<◌, length, map, slice_get, Some, IfSome};
-ghost use Rattle.odata_filter.specs.csdl_schema.SchemaModel.{qualified_name, slot_named, IsInNameOrder};
+ghost use Rattle.std.specs.Prelude.{◌≡◌, ◌<◌, length, map, slice_get, Some, IfSome, IfOk, option_map, string_bytes};
+ghost use Rattle.odata_filter.specs.csdl_schema.SchemaModel.{alias_name, qualified_name, slot_named, IsInNameOrder};
 ghost use Rattle.odata_filter.specs.csdl_schema.PropertyView.{type_of_kind};
+ghost use Rattle.odata_filter.specs.csdl_schema.TypeView.{property_model};
+ghost use Rattle.odata_filter.specs.csdl_schema.Declared.{full_name, entity_type};
+ghost use Rattle.odata_filter.specs.csdl_schema.DocumentView.{declaration_view};
 
+use super::declaration::{Declaration, join};
 use super::property::Property;
 use indexmap::IndexMap;
+use std::alloc::{AllocError, Global};
 use std::marker::Model;
 
 /// An entity or complex type, with its properties by name in slot order.
@@ -30,10 +35,45 @@ impl Model for StructuredType {
 }
 
 impl StructuredType {
+    /// The entity type of a declaration, with its whole name and properties.
+    pub(super) fn new(
+        alloc: Global,
+        declaration: &Declaration<'_>,
+        name: &str,
+        properties: IndexMap<String, Property>,
+    ) -> Result<StructuredType, AllocError>
+        requires named { name.now ≡ full_name (declaration_view declaration.now) }
+        requires ordered { IsInNameOrder (map property_model properties.entries) }
+        ensures { IfOk result (λ t. t ≡ entity_type (declaration_view declaration.now) (map property_model properties.entries)) }
+    {
+        let alias = match declaration.alias {
+            Some(alias) => Some(alias.to_owned(alloc)?),
+            None => None,
+        };
+        Ok(StructuredType {
+            namespace: declaration.namespace.to_owned(alloc)?,
+            alias,
+            name: declaration.name.to_owned(alloc)?,
+            qualified: name.to_owned(alloc)?,
+            is_entity: true,
+            properties,
+        })
+    }
+
     pub(super) fn qualified_name(&self) -> &str
         ensures { result.now ≡ qualified_name self.now }
     {
         self.qualified.as_str()
+    }
+
+    /// The type's name with the alias of its namespace, where that has one.
+    pub(super) fn name_by_alias(&self, alloc: Global) -> Result<Option<String>, AllocError>
+        ensures { IfOk result (λ name. option_map string_bytes name ≡ alias_name self.now) }
+    {
+        match &self.alias {
+            Some(alias) => Ok(Some(join(alloc, alias.as_str(), self.name.as_str())?)),
+            None => Ok(None),
+        }
     }
 
     pub(super) fn is_entity(&self) -> bool

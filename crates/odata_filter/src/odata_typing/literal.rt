@@ -1,26 +1,63 @@
-ghost use Rattle.std.specs.Prelude.{◌≡◌, ℤ, Bool, IfOk, IfErr, IfSome, IfNone};
+ghost use Rattle.std.specs.Prelude.{◌≡◌, ℕ, ℤ, Bool, IfOk, IfErr, IfSome, IfNone};
 ghost use Rattle.edm_values.specs.StringLiteral.{OnForm};
 ghost use Rattle.odata_filter.specs.csdl_schema.ExprType.{ExprType, single, primitive};
+ghost use Rattle.odata_syntax.specs.Tree.{node, literal};
+ghost use Rattle.odata_filter.specs.csdl_schema.SchemaModel.{SchemaModel};
+ghost use Rattle.odata_filter.specs.odata_typing.Answer.{IsAnswer};
 ghost use Rattle.odata_filter.specs.odata_typing.IsChecked.{IsCheckedLiteral};
 ghost use Rattle.odata_filter.specs.odata_typing.LiteralValue.{BooleanValue, IntTyped, LiteralTyped};
 
+use super::checked_node::{CheckedNode, boxed};
+use super::edm_type::{EdmType, ValueType};
+use super::refusal::{TypeFault, TypeFaultCode};
+use super::untyped::Untyped;
 use edm_values::{LitFault, Prim, Value, read_int, read_string};
-use odata_syntax::LiteralKind;
+use odata_syntax::{LiteralKind, Span};
 use std::alloc::Global;
+
+/// The literal with its value and its type.
+pub(super) fn checked_literal(
+    alloc: Global,
+    span: Span,
+    kind: LiteralKind,
+    spelling: &str,
+) -> Result<Box<CheckedNode>, Untyped>
+    ensures { (schema : SchemaModel) (n : ℕ) → IsAnswer schema n (node span.start span.stop (literal kind spelling.now)) result }
+{
+    match read_literal(alloc, kind, spelling) {
+        Ok(Reading { prim, value }) => match String::from_str(alloc, spelling) {
+            Ok(text) => {
+                let edm_type = EdmType::Single(ValueType::Prim(prim));
+                boxed(
+                    alloc,
+                    CheckedNode::Lit {
+                        span,
+                        edm_type,
+                        kind,
+                        text,
+                        value,
+                    },
+                )
+            }
+            Err(_) => Err(Untyped::Memory),
+        },
+        Err(LitFault::Form) => Err(Untyped::Fault(TypeFault {
+            code: TypeFaultCode::LiteralRange,
+            span,
+        })),
+        Err(LitFault::Memory) => Err(Untyped::Memory),
+    }
+}
 
 /// A literal's value with its type.
 #[derive(Drop)]
-pub(super) struct Reading {
-    pub prim: Prim,
-    pub value: Value,
+struct Reading {
+    prim: Prim,
+    value: Value,
 }
 
 /// What a literal of this kind and spelling stands for. `Form` where it has no value.
-pub(super) fn read_literal(
-    alloc: Global,
-    kind: LiteralKind,
-    spelling: &str,
-) -> Result<Reading, LitFault>
+fn read_literal(alloc: Global, kind: LiteralKind, spelling: &str) -> Result<Reading, LitFault>
     ensures right { IfOk result (λ r. IsCheckedLiteral kind spelling.now r.value (single (primitive r.prim))) }
     ensures fault { IfErr result (λ f. OnForm f ((type : ExprType) → ¬ LiteralTyped kind spelling.now type)) }
 {

@@ -1,12 +1,56 @@
 ghost use Rattle.std.specs.Prelude.{◌≡◌, IfOk, IfErr};
+ghost use Rattle.odata_syntax.specs.Tree.{node, name};
 ghost use Rattle.odata_filter.specs.csdl_schema.PropertyView.{property_type};
 ghost use Rattle.odata_filter.specs.csdl_schema.SchemaModel.{SchemaModel, declared};
+ghost use Rattle.odata_filter.specs.odata_typing.Answer.{IsAnswer};
 ghost use Rattle.odata_filter.specs.odata_typing.FirstUntypable.{PropertyReason};
 ghost use Rattle.odata_filter.specs.odata_typing.TypeView.{expr_type};
 
+use super::checked_node::{CheckedNode, boxed};
 use super::edm_type::{EdmType, ValueType};
-use super::refusal::TypeFaultCode;
+use super::refusal::{TypeFault, TypeFaultCode};
+use super::untyped::Untyped;
+use crate::csdl_schema::ids::TypeId;
 use crate::csdl_schema::property::{Property, PropertyKind};
+use crate::csdl_schema::schema::Schema;
+use odata_syntax::Span;
+use std::alloc::Global;
+
+/// The property of that name of the filtered type.
+pub(super) fn checked_name(
+    alloc: Global,
+    schema: &Schema,
+    filtered_type: TypeId,
+    span: Span,
+    asked: &str,
+) -> Result<Box<CheckedNode>, Untyped>
+    ensures { IsAnswer schema.now filtered_type (node span.start span.stop (name asked.now)) result }
+{
+    let slot = match schema.slot(filtered_type, asked) {
+        Some(slot) => slot,
+        None => {
+            return Err(Untyped::Fault(TypeFault {
+                code: TypeFaultCode::UnknownProperty,
+                span,
+            }));
+        }
+    };
+    match property_edm_type(schema.property(filtered_type, slot)) {
+        Ok(edm_type) => match String::from_str(alloc, asked) {
+            Ok(name) => boxed(
+                alloc,
+                CheckedNode::Property {
+                    span,
+                    edm_type,
+                    name,
+                    slot,
+                },
+            ),
+            Err(_) => Err(Untyped::Memory),
+        },
+        Err(code) => Err(Untyped::Fault(TypeFault { code, span })),
+    }
+}
 
 /// The type of a property, or why a filter may not name it.
 fn property_edm_type(property: &Property) -> Result<EdmType, TypeFaultCode>

@@ -1,10 +1,12 @@
-ghost use Rattle.std.specs.Prelude.{◌≡◌, IfOk};
+ghost use Rattle.std.specs.Prelude.{◌≡◌, Some, IfOk, IfErr};
 ghost use Rattle.odata_syntax.specs.Piece.{piece_of};
 ghost use Rattle.odata_syntax.specs.TreeView.{tree_of};
 ghost use Rattle.odata_syntax.specs.Machine.{word_leaf as machine_word, leaf_of_kind, leaf_tree};
+ghost use Rattle.odata_syntax.specs.MachineView.{machine_of, operand_step, Refuses};
 
-use crate::parser::operator::is_word;
-use crate::{LiteralKind, Node, Token, TokenKind};
+use crate::parser::state::{Frame, Stage, State};
+use crate::parser::word::is_word;
+use crate::{LiteralKind, Node, SyntaxFault, Token, TokenKind};
 use std::alloc::{AllocError, Global};
 
 /// An operand of one token.
@@ -14,8 +16,29 @@ pub enum Leaf {
     Name,
 }
 
-/// The operand that a token is, where one may stand.
-pub fn read_leaf(token: &Token<'_>) -> Option<Leaf>
+/// Takes a token where an operand is expected.
+pub fn take_operand(
+    alloc: Global,
+    frames: Vec<Frame>,
+    token: &Token<'_>,
+) -> Result<State, SyntaxFault>
+    ensures taken { IfOk result (λ next. operand_step frames.items token.now ≡ Some (machine_of next)) }
+    ensures refused { IfErr result (Refuses (operand_step frames.items token.now) (piece_of token.now)) }
+{
+    match read_leaf(token) {
+        Some(leaf) => {
+            let read = leaf_node(alloc, leaf, token)?;
+            Ok(State {
+                frames,
+                stage: Stage::Closed(read),
+            })
+        }
+        None => Err(SyntaxFault::Unexpected { span: token.span }),
+    }
+}
+
+/// The operand that a token is.
+fn read_leaf(token: &Token<'_>) -> Option<Leaf>
     ensures { result ≡ leaf_of_kind token.now.kind token.now.text.now }
 {
     match token.kind {
@@ -26,7 +49,7 @@ pub fn read_leaf(token: &Token<'_>) -> Option<Leaf>
     }
 }
 
-/// The operand that a word is: every word but `null` and `not`.
+/// The operand that a word is: each word but `null` and `not` is one.
 #[tactic(auto, unfolding(crate::specs::Machine::word_leaf))]
 fn word_leaf(text: &str) -> Option<Leaf>
     ensures { result ≡ machine_word text.now }
@@ -41,7 +64,7 @@ fn word_leaf(text: &str) -> Option<Leaf>
 }
 
 /// The node of an operand of one token.
-pub fn leaf_node(alloc: Global, leaf: Leaf, token: &Token<'_>) -> Result<Box<Node>, AllocError>
+fn leaf_node(alloc: Global, leaf: Leaf, token: &Token<'_>) -> Result<Box<Node>, AllocError>
     ensures { IfOk result (λ read. tree_of read.value ≡ leaf_tree leaf (piece_of token.now)) }
 {
     let span = token.span;

@@ -1,19 +1,40 @@
-ghost use Rattle.std.specs.Prelude.{◌≡◌};
-ghost use Rattle.std.specs.Str.{str_eq_ignore_ascii_case};
+ghost use Rattle.std.specs.Prelude.{◌≡◌, Some, IfOk, IfErr};
 ghost use Rattle.odata_syntax.specs.Grammar.{operator_level};
+ghost use Rattle.odata_syntax.specs.Piece.{piece_of};
 ghost use Rattle.odata_syntax.specs.Machine.{word_operator as machine_word, operator_of_kind};
+ghost use Rattle.odata_syntax.specs.MachineView.{machine_of, operator_step, Refuses};
 
-use crate::{BinaryOperator, Token, TokenKind};
+use crate::parser::frames::reduce;
+use crate::parser::state::{Frame, Stage, State};
+use crate::parser::word::is_word;
+use crate::{BinaryOperator, Node, SyntaxFault, Token, TokenKind};
+use std::alloc::Global;
 
-/// Whether `text` is `word`, in any ASCII case.
-pub fn is_word(text: &str, word: &str) -> bool
-    ensures { result ≡ str_eq_ignore_ascii_case text.now word.now }
+/// Takes a token behind the operand `read`.
+pub fn take_operator(
+    alloc: Global,
+    mut frames: Vec<Frame>,
+    read: Box<Node>,
+    token: &Token<'_>,
+) -> Result<State, SyntaxFault>
+    ensures taken { IfOk result (λ next. operator_step frames.items read.value token.now ≡ Some (machine_of next)) }
+    ensures refused { IfErr result (Refuses (operator_step frames.items read.value token.now) (piece_of token.now)) }
 {
-    text.eq_ignore_ascii_case(word)
+    match read_operator(token) {
+        Some(operator) => {
+            let left = reduce(alloc, &mut frames, level_of(operator), read)?;
+            frames.push(Frame::Behind { operator, left })?;
+            Ok(State {
+                frames,
+                stage: Stage::Operand,
+            })
+        }
+        None => Err(SyntaxFault::Unexpected { span: token.span }),
+    }
 }
 
-/// The operator that a token is where one may stand.
-pub fn operator(token: &Token<'_>) -> Option<BinaryOperator>
+/// The operator that a token is.
+fn read_operator(token: &Token<'_>) -> Option<BinaryOperator>
     ensures { result ≡ operator_of_kind token.now.kind token.now.text.now }
 {
     match token.kind {
@@ -37,7 +58,7 @@ fn word_operator(text: &str) -> Option<BinaryOperator>
 }
 
 /// How tightly an operator binds: its row in the grammar's table, from 1, the loosest.
-pub fn level(operator: BinaryOperator) -> u8
+pub fn level_of(operator: BinaryOperator) -> u8
     ensures { result ≡ operator_level operator }
 {
     match operator {

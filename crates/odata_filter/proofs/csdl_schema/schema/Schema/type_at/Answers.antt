@@ -1,9 +1,9 @@
-use Rattle.std.proofs.Common.{◌≡◌, ◌∙◌, sym, ap, subst, Option, arith, option_map, slice_get, Bor}
+use Rattle.std.proofs.Common.{◌≡◌, ◌∙◌, sym, ap, Option, arith, option_map, slice_get, Bor}
 use Rattle.std.proofs.lemmas.Option.{gets}
 use Rattle.std.proofs.lemmas.Grind.{common_steps}
-use Rattle.odata_filter.specs.csdl_schema.SchemaModel.{TypeModel, SchemaModel, properties_at, IsInNameOrder}
-use Rattle.odata_filter.specs.csdl_schema.SchemaView.{own_properties, schema_model}
-use Rattle.odata_filter.proofs.SchemaLookUps.{properties_own, ordered_own}
+use Rattle.odata_filter.specs.csdl_schema.SchemaModel.{TypeModel, properties_at}
+use Rattle.odata_filter.specs.csdl_schema.SchemaView.{own_properties}
+use Rattle.odata_filter.proofs.SchemaLookUps.{properties_own}
 use Rattle.odata_filter.proofs.csdl_schema.schema.Schema.type_at.Goals as goal
 
 pub returns-clause-properties : goal.returns-clause-properties
@@ -13,10 +13,3 @@ returns-clause-properties c =
     ap (λ s. properties_at s c.args.id) (sym c.self.view_is)
     ∙ properties_own types c.args.id c.self.invariant.types_ordered
     ∙ ap own_properties (sym found)
-
-pub returns-clause-ordered : goal.returns-clause-ordered
-returns-clause-ordered c =
-    let types = c.self.inside.types.items in
-    let P : SchemaModel → Type 0 = λ s. IsInNameOrder (properties_at s c.args.id) in
-    subst P c.self.view_is (subst IsInNameOrder (sym (properties_own types c.args.id c.self.invariant.types_ordered))
-    (ordered_own types c.args.id c.self.invariant.slots_ordered))

@@ -2,7 +2,7 @@ use Rattle.std.proofs.Common.{◌≡◌, vec_len}
 use Rattle.odata_syntax.specs.TreeView.{tree_of}
 use Rattle.odata_syntax.specs.Machine.{reduce}
 use Rattle.odata_syntax.specs.MachineView.{stack_of}
-use Rattle.odata_syntax.proofs.parser.step.reduce.Given as goal
+use Rattle.odata_syntax.proofs.parser.frames.reduce.Given as goal
 
 -- what is left grows to what was asked
 abbrev pub invariant-loop-frame : goal.invariant-loop-frame

@@ -1,0 +1,11 @@
+use Rattle.std.proofs.Common.{◌≡◌, ℕ, ◌+◌, ◌++◌, ◌≤◌, ◌<◌, [], List, map, drop, length, option_map, count_by}
+use Rattle.std.specs.List.{flat_map}
+use Rattle.odata_filter.specs.csdl_schema.Declared.{types_among}
+use Rattle.odata_filter.specs.csdl_schema.DocumentView.{members_of, declarations_of}
+use Rattle.odata_filter.proofs.csdl_schema.declaration.add_members.Given as goal
+
+-- the types so far and those of the rest
+abbrev pub invariant-loop-member : goal.invariant-loop-member
+invariant-loop-member l =
+    declarations_of l.types.items ++ types_among l.namespace (option_map (λ s. s.now) l.alias) (members_of (drop l.member-index l.members))
+    ≡ declarations_of l.fn.types.items ++ types_among l.namespace (option_map (λ s. s.now) l.alias) (members_of l.members)

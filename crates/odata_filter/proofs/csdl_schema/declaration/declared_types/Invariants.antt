@@ -1,0 +1,10 @@
+use Rattle.std.proofs.Common.{◌≡◌, ℕ, ◌+◌, ◌++◌, ◌≤◌, ◌<◌, [], List, map, drop, length, option_map, count_by}
+use Rattle.std.specs.List.{flat_map}
+use Rattle.odata_filter.specs.csdl_schema.Declared.{types_in}
+use Rattle.odata_filter.specs.csdl_schema.DocumentView.{members_of, declarations_of}
+use Rattle.odata_filter.proofs.csdl_schema.declaration.declared_types.Given as goal
+
+-- the types so far and those of the rest
+abbrev pub invariant-loop-schema : goal.invariant-loop-schema
+invariant-loop-schema l =
+    declarations_of l.types.items ++ flat_map types_in (members_of (drop l.schema-index l.schemas)) ≡ flat_map types_in (members_of l.schemas)

@@ -1,0 +1,9 @@
+use Rattle.std.proofs.Common.{◌≡◌, ℕ, ◌+◌, ◌++◌, ◌≤◌, ◌<◌, [], List, map, drop, length, option_map, count_by}
+use Rattle.std.specs.List.{flat_map}
+use Rattle.odata_filter.specs.csdl_schema.Faults.{is_namespace}
+use Rattle.odata_filter.specs.csdl_schema.DocumentView.{members_of}
+use Rattle.odata_filter.proofs.csdl_schema.namespaces.is_namespace.Given as goal
+
+-- the rest decides
+abbrev pub invariant-loop-schema : goal.invariant-loop-schema
+invariant-loop-schema l = is_namespace (members_of (drop l.schema-index l.schemas)) l.name ≡ is_namespace (members_of l.schemas) l.name

@@ -1,0 +1,11 @@
+use Rattle.std.proofs.Common.{◌≡◌, ℕ, ◌+◌, ◌++◌, ◌≤◌, ◌<◌, [], List, map, drop, length, option_map, count_by}
+use Rattle.std.specs.List.{flat_map}
+use Rattle.odata_filter.specs.csdl_schema.Declared.{is_entity_type}
+use Rattle.odata_filter.specs.csdl_schema.DocumentView.{declarations_of}
+use Rattle.odata_filter.proofs.csdl_schema.read.count_types.Given as goal
+
+-- those so far and those of the rest are all
+abbrev pub invariant-loop-declaration : goal.invariant-loop-declaration
+invariant-loop-declaration l =
+    (l.count ≤ l.declaration-index)
+    × (l.count + count_by (λ t. is_entity_type t.body) (declarations_of (drop l.declaration-index l.declarations)) ≡ count_by (λ t. is_entity_type t.body) (declarations_of l.declarations))

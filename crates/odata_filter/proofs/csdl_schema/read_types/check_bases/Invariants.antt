@@ -1,0 +1,10 @@
+use Rattle.std.proofs.Common.{◌≡◌, ℕ, ◌+◌, ◌++◌, ◌≤◌, ◌<◌, [], List, map, drop, length, option_map, count_by}
+use Rattle.std.specs.List.{flat_map}
+use Rattle.odata_filter.specs.csdl_schema.Faults.{base_faults}
+use Rattle.odata_filter.specs.csdl_schema.DocumentView.{types_of, AreNamed}
+use Rattle.odata_filter.proofs.csdl_schema.read_types.check_bases.Given as goal
+
+-- the faults are those of the rest
+abbrev pub invariant-loop-name : goal.invariant-loop-name
+invariant-loop-name l =
+    AreNamed l.name-iterator × (flat_map base_faults (types_of l.name-iterator) ≡ flat_map base_faults (types_of l.ordered.entries))

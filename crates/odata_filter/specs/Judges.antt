@@ -1,0 +1,39 @@
+-- What a filter says of a row, a line of JSON (OData JSON Format 4.01, sections 4.5 and 7; URL Conventions 4.01, section 5.1.1).
+use Rattle.std.specs.Prelude.{◌≡◌, ◌≢◌, ℕ, List, [], true, Some}
+use Rattle.serde_json.specs.Data.{Data}
+use Rattle.edm_values.specs.MomentParts.{MomentParts}
+use Rattle.edm_values.specs.Val.{Val, boolean}
+use Rattle.odata_filter.specs.csdl_schema.Document.{IsJsonOf, IsNoJson}
+use Rattle.odata_filter.specs.csdl_schema.SchemaModel.{slots_of, type_name_at}
+use Rattle.odata_filter.specs.declared.edm_entities.fault.RowFault.{RowFault}
+use Rattle.odata_filter.specs.declared.lines.said.Judgment.{Judgment}
+use Rattle.odata_filter.specs.declared.lines.said.Judgment.TheVariants.{Kept, LeftOut, NotJson, NoEntity, NoValue}
+use Rattle.odata_filter.specs.edm_entities.Fits.{Fits}
+use Rattle.odata_filter.specs.edm_entities.RowFaults.{IsRowFault}
+use Rattle.odata_filter.specs.odata_eval.Means.{Means}
+use Rattle.odata_filter.specs.odata_eval.Outcome.{Outcome, gives}
+use Rattle.odata_filter.specs.odata_eval.VerdictView.{fault_outcome}
+use Rattle.odata_filter.specs.odata_typing.Filter.{Filter, tree_of_filter}
+
+-- the line is JSON that fits a value, and on that value the filter has this outcome and no other
+pub record HasOutcome (filter : Filter) (now : MomentParts) (line : List ℕ) (outcome : Outcome) : Type 0 where
+  pub json : Data
+  pub is_json : IsJsonOf line json
+  pub value : Val
+  pub fits : Fits (slots_of filter.schema) (type_name_at filter.schema filter.filtered) json value
+  pub related : Means (slots_of filter.schema) (type_name_at filter.schema filter.filtered) now value [] (tree_of_filter filter) outcome
+  pub only : (other : Outcome) → Means (slots_of filter.schema) (type_name_at filter.schema filter.filtered) now value [] (tree_of_filter filter) other → other ≡ outcome
+
+-- the line is JSON with this fault
+pub record HasRowFault (filter : Filter) (line : List ℕ) (fault : RowFault) : Type 0 where
+  pub json : Data
+  pub is_json : IsJsonOf line json
+  pub faulty : IsRowFault (slots_of filter.schema) (type_name_at filter.schema filter.filtered) json fault
+
+-- a row is kept where its outcome is true, and left out at any other value
+abbrev pub JudgesRow : Filter → MomentParts → List ℕ → Judgment → Type 0
+JudgesRow filter now line Kept = HasOutcome filter now line (gives (boolean true))
+JudgesRow filter now line LeftOut = (value : Val) × ((value ≢ boolean true) × HasOutcome filter now line (gives value))
+JudgesRow filter now line NotJson = IsNoJson line
+JudgesRow filter now line (NoEntity fault) = HasRowFault filter line fault
+JudgesRow filter now line (NoValue fault) = (outcome : Outcome) × ((fault_outcome fault ≡ Some outcome) × HasOutcome filter now line outcome)

@@ -1,0 +1,38 @@
+-- What the walk over the lines keeps from line to line. Private clauses alone cite these.
+use Rattle.std.specs.Prelude.{◌≡◌, ℕ, ◌+◌, List, [], ◌∷◌, length, MatchOption}
+use Rattle.odata_filter.specs.Kept.{Says, Filters, Stops}
+use Rattle.odata_filter.specs.declared.lines.each.Progress.{Progress as ProgressModel}
+use Rattle.odata_filter.specs.declared.lines.each.Step.{Step as StepModel}
+use Rattle.odata_filter.specs.declared.lines.each.Step.TheVariants.{Passed, Stopped}
+use Rattle.odata_filter.specs.declared.lines.said.Judgment.{Judgment as JudgmentModel}
+use Rattle.odata_filter.specs.declared.lines.said.Judgment.TheVariants.{NotJson, NoEntity, NoValue}
+use Rattle.odata_filter.specs.declared.lines.said.Said.TheVariants.{TooLong, Judged}
+use Rattle.odata_filter.specs.declared.lines.run_fault.RunFault.{RunFault as RunFaultModel}
+use Rattle.odata_filter.specs.declared.lines.run_fault.RunFault.TheVariants.{Json, Row, Arithmetic, LineTooLong, NotACollection, Read, Write, Memory}
+use Rattle.odata_filter.specs.declared.lines.tally.Tally.{Tally as TallyModel}
+
+-- the tallies of lines and of the lines behind them, together
+abbrev pub sum_of : TallyModel → TallyModel → TallyModel
+sum_of a b = record { rows = a.rows + b.rows; kept = a.kept + b.kept }
+
+-- the fault is said of this line, at this place
+abbrev pub StopsHere : (List ℕ → JudgmentModel → Type 0) → List ℕ → ℕ → RunFaultModel → Type 0
+StopsHere judge line place (Json n) = (n ≡ place) × Says judge line (Judged NotJson)
+StopsHere judge line place (Row n fault) = (n ≡ place) × Says judge line (Judged (NoEntity fault))
+StopsHere judge line place (Arithmetic n fault) = (n ≡ place) × Says judge line (Judged (NoValue fault))
+StopsHere judge line place (LineTooLong n) = (n ≡ place) × Says judge line TooLong
+StopsHere judge line place NotACollection = ⊥
+StopsHere judge line place (Read n) = ⊥
+StopsHere judge line place Write = ⊥
+StopsHere judge line place (Memory n) = n ≡ place
+
+-- what became of one line, and the text that it adds
+abbrev pub Steps : (List ℕ → JudgmentModel → Type 0) → List ℕ → ℕ → List ℕ → StepModel → Type 0
+Steps judge line place text (Passed tally) = Filters judge (line ∷ []) text tally
+Steps judge line place text (Stopped fault) = (text ≡ []) × StopsHere judge line place fault
+
+-- how far the lines went, and the text that they gave
+abbrev pub Goes : (List ℕ → JudgmentModel → Type 0) → List (List ℕ) → List ℕ → ProgressModel → Type 0
+Goes judge lines text progress = MatchOption progress.fault
+    (Filters judge lines text progress.tally × (progress.lines ≡ length lines))
+    (λ fault. Stops judge lines text fault)

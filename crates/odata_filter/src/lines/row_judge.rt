@@ -1,0 +1,54 @@
+ghost use Rattle.odata_filter.specs.Judges.{JudgesRow};
+
+use super::judge::Judge;
+use super::said::Judgment;
+use crate::edm_entities::entity::Entity;
+use crate::edm_entities::fault::RowFault;
+use crate::odata_eval::{EvalFault, Verdict, evaluate};
+use crate::odata_typing::Checked;
+use edm_values::Moment;
+use serde_json::Value;
+use std::alloc::{AllocError, Global};
+
+/// Judges rows by a filter.
+#[derive(Drop)]
+pub struct RowJudge<'c, 's> {
+    pub alloc: Global,
+    pub checked: &'c Checked<'s>,
+    pub now: &'c Moment,
+}
+
+impl RowJudge<'_, '_> {
+    /// Judges a JSON value.
+    fn judge_value(&self, json: &Value) -> Result<Judgment, AllocError> {
+        let (schema, type_id) = (self.checked.schema(), self.checked.filtered_type());
+        let entity = match Entity::from_json(self.alloc, schema, type_id, json) {
+            Ok(entity) => entity,
+            Err(RowFault::Memory) => return Err(AllocError),
+            Err(fault) => return Ok(Judgment::NoEntity(fault)),
+        };
+        match evaluate(self.alloc, self.checked, &entity, self.now) {
+            Ok(Verdict::True) => Ok(Judgment::Kept),
+            Ok(Verdict::False) | Ok(Verdict::Null) => Ok(Judgment::LeftOut),
+            Err(EvalFault::Memory) => Err(AllocError),
+            Err(fault) => Ok(Judgment::NoValue(fault)),
+        }
+    }
+}
+
+impl Judge for RowJudge<'_, '_> {
+    ghost says = { λ judge. JudgesRow judge.checked.now judge.now.now };
+
+    fn judge(&self, line: &[u8]) -> Result<Judgment, AllocError> {
+        match Value::from_slice(self.alloc, line) {
+            Ok(json) => self.judge_value(&json),
+            Err(error) => {
+                if error.is_memory() {
+                    Err(AllocError)
+                } else {
+                    Ok(Judgment::NotJson)
+                }
+            }
+        }
+    }
+}

@@ -1,0 +1,20 @@
+use crate::edm_entities::fault::RowFault;
+use crate::odata_eval::fault::EvalFault;
+
+/// What a judge says of a line that is neither too long nor blank.
+#[derive(Debug, Drop)]
+pub enum Judgment {
+    Kept,
+    LeftOut,
+    NotJson,
+    NoEntity(RowFault),
+    NoValue(EvalFault),
+}
+
+/// What is said of any line.
+#[derive(Debug, Drop)]
+pub enum Said {
+    TooLong,
+    PassedOver,
+    Judged(Judgment),
+}

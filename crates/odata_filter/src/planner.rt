@@ -1,0 +1,91 @@
+use crate::command_line::{Plan, PlanFault, Verb};
+use clap::error::ErrorKind;
+use clap::{Arg, ArgAction, ArgMatches, Command, Error};
+use std::alloc::{AllocError, Global};
+
+/// An option that takes a text.
+fn text_option<'a>(alloc: Global, name: &'a str, value: &'a str, help: &'a str) -> Arg<'a> {
+    Arg::new(alloc, name)
+        .long(name)
+        .value_name(value)
+        .help(help)
+        .action(ArgAction::Set)
+}
+
+/// The subcommand `filter`.
+fn filter_command<'a>(alloc: Global) -> Result<Command<'a>, AllocError> {
+    let schema = text_option(alloc, "schema", "FILE", "CSDL JSON that declares the type").required(
+        true,
+    );
+    let named = text_option(
+        alloc,
+        "type",
+        "NAME",
+        "The entity type of the rows, with its namespace",
+    )
+    .required(true);
+    let filter = text_option(alloc, "filter", "TEXT", "The text of a $filter");
+    let rows = text_option(
+        alloc,
+        "rows",
+        "FILE",
+        "Rows, one JSON object a line; else standard input",
+    );
+    Command::new(alloc, "filter")
+        .about("Writes the rows whose outcome is true")
+        .arg(schema)?
+        .arg(named)?
+        .arg(filter)?
+        .arg(rows)
+}
+
+/// The command line as `clap` reads it.
+fn command<'a>(alloc: Global) -> Result<Command<'a>, AllocError> {
+    Command::new(alloc, "odfilter")
+        .about("Checks an OData $filter against a type, and filters rows by it")
+        .subcommand_required(true)
+        .subcommand(filter_command(alloc)?)
+}
+
+fn fault_of(error: Error) -> PlanFault {
+    match error.kind() {
+        ErrorKind::OutOfMemory => PlanFault::Memory,
+        _ => PlanFault::Clap(error),
+    }
+}
+
+/// The plan of what stands behind `filter`.
+fn plan_of<'a>(matches: &ArgMatches<'a>) -> Result<Plan<'a>, PlanFault> {
+    let filter = matches.get_str("filter");
+    if filter.is_none() {
+        return Err(PlanFault::OneOf);
+    }
+    Ok(Plan {
+        verb: Verb::Filter,
+        schema: matches.get_str("schema").unwrap_or(""),
+        named: matches.get_str("type").unwrap_or(""),
+        filter,
+        query: None,
+        rows: matches.get_str("rows"),
+        now: None,
+        collection: false,
+    })
+}
+
+/// Reads a command line, the program's name first.
+///
+/// `OneOf` comes where no filter is given, `Clap` where `clap` refuses the words or is asked for help.
+pub fn plan<'a>(alloc: Global, words: &'a [&'a str]) -> Result<Plan<'a>, PlanFault> {
+    let command = match command(alloc) {
+        Ok(command) => command,
+        Err(_) => return Err(PlanFault::Memory),
+    };
+    let matches = match command.try_get_matches_from(words) {
+        Ok(matches) => matches,
+        Err(error) => return Err(fault_of(error)),
+    };
+    match matches.subcommand_matches("filter") {
+        Some(inner) => plan_of(inner),
+        None => Err(PlanFault::OneOf),
+    }
+}

@@ -1,0 +1,5 @@
+use Rattle.odata_syntax.proofs.FirstRuns.{name_eq_unended}
+use Rattle.odata_syntax.proofs.syntax_laws.name_eq_is_unended.Goals as goal
+
+pub returns : goal.returns
+returns c = name_eq_unended
