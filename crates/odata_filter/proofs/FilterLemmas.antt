@@ -120,13 +120,7 @@ pub record HasPassed (judge : JudgeModel) (lines : List (List ℕ)) (rest : List
 
 pub HasPassed-none : (judge : JudgeModel) (bytes : List ℕ) (a : Option (List ℕ)) (held : List ℕ) → held ≡ [] → HasPassed judge (lines_of bytes) bytes a a held 0 (record { rows = 0; kept = 0 })
 HasPassed-none judge bytes a held none = record {
-  before = [];
-  text = [];
-  whole = refl;
-  counted = refl;
-  filtered = Filters-none judge;
-  holds = ([], Appends-nil a, sym none);
-}
+  before = []; text = []; whole = refl; counted = refl; filtered = Filters-none judge; holds = ([], Appends-nil a, sym none) }
 
 -- one line more
 pub HasPassed-more : (judge : JudgeModel) (lines : List (List ℕ)) (line rest after text : List ℕ) (a b c : Option (List ℕ)) (h₁ h₂ : List ℕ) (passed : ℕ) (m n : TallyModel)
@@ -147,90 +141,38 @@ HasPassed-more judge lines line rest after text a b c h₁ h₂ passed m n first
 pub StopsHere-stops : (judge : JudgeModel) (before after : List (List ℕ)) (line text : List ℕ) (tally : TallyModel) (place : ℕ) (fault : RunFaultModel)
     → Filters judge before text tally → place ≡ length before + 1 → StopsHere judge line place fault → Stops judge (before ++ line ∷ after) text fault
 StopsHere-stops judge before after line text tally place (Json n) filtered counted (is, says) = record {
-  before = before;
-  bad = line;
-  after = after;
-  tally = tally;
-  whole = refl;
-  counted = is ∙ counted;
-  filtered = filtered;
-  fault = says;
-}
+  before = before; bad = line; after = after; tally = tally; whole = refl; counted = is ∙ counted; filtered = filtered; fault = says }
 StopsHere-stops judge before after line text tally place (Row n fault) filtered counted (is, says) = record {
-  before = before;
-  bad = line;
-  after = after;
-  tally = tally;
-  whole = refl;
-  counted = is ∙ counted;
-  filtered = filtered;
-  fault = says;
-}
+  before = before; bad = line; after = after; tally = tally; whole = refl; counted = is ∙ counted; filtered = filtered; fault = says }
 StopsHere-stops judge before after line text tally place (Arithmetic n fault) filtered counted (is, says) = record {
-  before = before;
-  bad = line;
-  after = after;
-  tally = tally;
-  whole = refl;
-  counted = is ∙ counted;
-  filtered = filtered;
-  fault = says;
-}
+  before = before; bad = line; after = after; tally = tally; whole = refl; counted = is ∙ counted; filtered = filtered; fault = says }
 StopsHere-stops judge before after line text tally place (LineTooLong n) filtered counted (is, says) = record {
-  before = before;
-  bad = line;
-  after = after;
-  tally = tally;
-  whole = refl;
-  counted = is ∙ counted;
-  filtered = filtered;
-  fault = says;
-}
+  before = before; bad = line; after = after; tally = tally; whole = refl; counted = is ∙ counted; filtered = filtered; fault = says }
 StopsHere-stops judge before after line text tally place NotACollection filtered counted never = absurd never
 StopsHere-stops judge before after line text tally place (Read n) filtered counted never = absurd never
 StopsHere-stops judge before after line text tally place Write filtered counted never = absurd never
 StopsHere-stops judge before after line text tally place (Memory n) filtered counted is = record {
-  before = before;
-  after = line ∷ after;
-  tally = tally;
-  whole = refl;
-  counted = is ∙ counted;
-  filtered = filtered;
-}
+  before = before; after = line ∷ after; tally = tally; whole = refl; counted = is ∙ counted; filtered = filtered }
 
 -- lines behind those that were looked at change nothing
 StopsAt-more : (judge : JudgeModel) (lines more : List (List ℕ)) (text : List ℕ) (place : ℕ) (said : SaidModel)
     → StopsAt judge lines text place said → StopsAt judge (lines ++ more) text place said
 StopsAt-more judge lines more text place said stop = record {
-  before = stop.before;
-  bad = stop.bad;
-  after = stop.after ++ more;
-  tally = stop.tally;
+  before = stop.before; bad = stop.bad; after = stop.after ++ more; tally = stop.tally;
   whole = ap (λ l. l ++ more) stop.whole ∙ append_assoc stop.before (stop.bad ∷ stop.after) more;
-  counted = stop.counted;
-  filtered = stop.filtered;
-  fault = stop.fault;
-}
+  counted = stop.counted; filtered = stop.filtered; fault = stop.fault }
 
 StopsBefore-more : (judge : JudgeModel) (lines more : List (List ℕ)) (text : List ℕ) (place : ℕ) → StopsBefore judge lines text place → StopsBefore judge (lines ++ more) text place
 StopsBefore-more judge lines more text place stop = record {
-  before = stop.before;
-  after = stop.after ++ more;
-  tally = stop.tally;
+  before = stop.before; after = stop.after ++ more; tally = stop.tally;
   whole = ap (λ l. l ++ more) stop.whole ∙ append_assoc stop.before stop.after more;
-  counted = stop.counted;
-  filtered = stop.filtered;
-}
+  counted = stop.counted; filtered = stop.filtered }
 
 pub StopsWithin-more : (judge : JudgeModel) (lines more : List (List ℕ)) (text : List ℕ) → StopsWithin judge lines text → StopsWithin judge (lines ++ more) text
 StopsWithin-more judge lines more text stop = record {
-  before = stop.before;
-  after = stop.after ++ more;
-  tally = stop.tally;
-  unwritten = stop.unwritten;
+  before = stop.before; after = stop.after ++ more; tally = stop.tally; unwritten = stop.unwritten;
   whole = ap (λ l. l ++ more) stop.whole ∙ append_assoc stop.before stop.after more;
-  filtered = stop.filtered;
-}
+  filtered = stop.filtered }
 
 pub Stops-more : (judge : JudgeModel) (lines more : List (List ℕ)) (text : List ℕ) (fault : RunFaultModel) → Stops judge lines text fault → Stops judge (lines ++ more) text fault
 Stops-more judge lines more text (Json n) stop = StopsAt-more judge lines more text n _ stop
@@ -245,43 +187,20 @@ Stops-more judge lines more text (Memory n) stop = StopsBefore-more judge lines 
 -- of the text that was to be written, a beginning was
 StopsAt-within : (judge : JudgeModel) (lines : List (List ℕ)) (text rest : List ℕ) (place : ℕ) (said : SaidModel) → StopsAt judge lines (text ++ rest) place said → StopsWithin judge lines text
 StopsAt-within judge lines text rest place said stop = record {
-  before = stop.before;
-  after = stop.bad ∷ stop.after;
-  tally = stop.tally;
-  unwritten = rest;
-  whole = stop.whole;
-  filtered = stop.filtered;
-}
+  before = stop.before; after = stop.bad ∷ stop.after; tally = stop.tally; unwritten = rest; whole = stop.whole; filtered = stop.filtered }
 
 StopsBefore-within : (judge : JudgeModel) (lines : List (List ℕ)) (text rest : List ℕ) (place : ℕ) → StopsBefore judge lines (text ++ rest) place → StopsWithin judge lines text
 StopsBefore-within judge lines text rest place stop = record {
-  before = stop.before;
-  after = stop.after;
-  tally = stop.tally;
-  unwritten = rest;
-  whole = stop.whole;
-  filtered = stop.filtered;
-}
+  before = stop.before; after = stop.after; tally = stop.tally; unwritten = rest; whole = stop.whole; filtered = stop.filtered }
 
 pub Filters-within : (judge : JudgeModel) (lines more : List (List ℕ)) (text rest : List ℕ) (tally : TallyModel) → Filters judge lines (text ++ rest) tally → StopsWithin judge (lines ++ more) text
 Filters-within judge lines more text rest tally filtered = record {
-  before = lines;
-  after = more;
-  tally = tally;
-  unwritten = rest;
-  whole = refl;
-  filtered = filtered;
-}
+  before = lines; after = more; tally = tally; unwritten = rest; whole = refl; filtered = filtered }
 
 StopsWithin-within : (judge : JudgeModel) (lines : List (List ℕ)) (text rest : List ℕ) → StopsWithin judge lines (text ++ rest) → StopsWithin judge lines text
 StopsWithin-within judge lines text rest stop = record {
-  before = stop.before;
-  after = stop.after;
-  tally = stop.tally;
-  unwritten = rest ++ stop.unwritten;
-  whole = stop.whole;
-  filtered = subst (λ l. Filters judge stop.before l stop.tally) (append_assoc text rest stop.unwritten) stop.filtered;
-}
+  before = stop.before; after = stop.after; tally = stop.tally; unwritten = rest ++ stop.unwritten; whole = stop.whole;
+  filtered = subst (λ l. Filters judge stop.before l stop.tally) (append_assoc text rest stop.unwritten) stop.filtered }
 
 pub Stops-within : (judge : JudgeModel) (lines : List (List ℕ)) (text rest : List ℕ) (fault : RunFaultModel) → Stops judge lines (text ++ rest) fault → StopsWithin judge lines text
 Stops-within judge lines text rest (Json n) stop = StopsAt-within judge lines text rest n _ stop

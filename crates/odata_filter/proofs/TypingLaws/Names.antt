@@ -33,7 +33,7 @@ first_name slots root asked span code untyped reason = record {
   first = λ at other found. same_start [] span.start span.stop asked at other found.considered;
   reason = reason;
   starts = refl;
-  stops = refl;
+  stops = refl
 }
 
 -- there is no property of the name
@@ -45,7 +45,7 @@ first_unknown slots root asked span none =
     let unknown = property_none (slots root) asked none in
     let P : ExprType → Option PropertyModel → Type 0 = λ (t : ExprType) (o : Option PropertyModel). IsSomeAnd o (λ p. p.type_of ≡ declared t) in
     let Q : Option PropertyModel → Type 0 =
-    λ (o : Option PropertyModel). MatchOption o (TypeFaultCode.UnknownProperty ≡ TypeFaultCode.UnknownProperty) (λ p. PropertyReason p.type_of TypeFaultCode.UnknownProperty) in
+        λ (o : Option PropertyModel). MatchOption o (TypeFaultCode.UnknownProperty ≡ TypeFaultCode.UnknownProperty) (λ p. PropertyReason p.type_of TypeFaultCode.UnknownProperty) in
     first_name slots root asked span TypeFaultCode.UnknownProperty (λ type typed. subst (P type) unknown typed) (subst Q (sym unknown) refl)
 
 -- the property at a slot of a name

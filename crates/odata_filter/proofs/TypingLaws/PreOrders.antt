@@ -67,7 +67,7 @@ right_at schema n scope (Binary' span edm_type operator p left q right) found ze
     subst P (some-same (Binary' span edm_type operator p left q right) found at) all
 right_at schema n scope (Binary' span edm_type operator p left q right) found (suc k) all at =
     elim (get_parts (checked_pre_order left) (checked_pre_order right) k found at) [
-      | inl h ↦ right_at schema n scope left found h.0 all.0 h.1
+        inl h ↦ right_at schema n scope left found h.0 all.0 h.1
       | inr h ↦ right_at schema n scope right found h.0 all.1 h.1
     ]
 
@@ -76,7 +76,7 @@ pub type_at : (filter : Filter) (found : CheckedNode) (k : ℕ) → IsFilter fil
 type_at filter found k is_filter at =
     let typed = IsChecked-typed filter.schema filter.filtered [] found (right_at filter.schema filter.filtered [] filter.root found k is_filter.checked at) in
     let P : Option Tree → Type 0 =
-    λ (o : Option Tree). IsSomeAnd o (λ place. Typed (slots_of filter.schema) (type_name_at filter.schema filter.filtered) [] place (expr_type filter.schema (type_of_node found))) in
+        λ (o : Option Tree). IsSomeAnd o (λ place. Typed (slots_of filter.schema) (type_name_at filter.schema filter.filtered) [] place (expr_type filter.schema (type_of_node found))) in
     subst P (sym (at-named filter.root k ∙ ap (option_map named) at)) typed
 
 pub past_end : (c : CheckedNode) (k rest : ℕ) → k ≡ length (checked_pre_order c) + rest → slice_get (pre_order (named c)) k ≡ None
