@@ -11,8 +11,6 @@ pub mod SlotWalk
 pub mod TypingLaws
 pub mod SlotsByName
 pub mod SchemaLookUps
-pub mod TypingLaws
-pub mod SchemaLookUps
 mod FilterLemmas
 mod LineLemmas
 mod WriteLemmas

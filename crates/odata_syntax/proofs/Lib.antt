@@ -14,9 +14,3 @@ pub mod Fronts
 pub mod Spanned
 pub mod Faults
 pub mod FirstRuns
-pub mod ByteClasses
-pub mod Longest
-pub mod Places
-pub mod Quotes
-pub mod Reaches
-pub mod Scans
