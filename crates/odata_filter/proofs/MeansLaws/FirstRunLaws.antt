@@ -18,9 +18,10 @@ use Rattle.odata_filter.proofs.MeansLaws.OneMeaning.{Means-one}
 -- one outcome of a tree is the only one
 comes_to : (tree : Tree) (value : Val) (outcome : Outcome)
     → ((slots : Slots) (root : List ℕ) (now : MomentParts) → Means slots root now value [] tree outcome) → ComesTo tree value outcome
-comes_to tree value outcome related = λ slots root now o.
-    (λ of_o. Means-one slots root now value [] tree o outcome of_o (related slots root now),
-     λ same. subst (Means slots root now value [] tree) (sym same) (related slots root now))
+comes_to tree value outcome related = λ slots root now o. (
+  λ of_o. Means-one slots root now value [] tree o outcome of_o (related slots root now),
+  λ same. subst (Means slots root now value [] tree) (sym same) (related slots root now),
+)
 
 numeral : IsNumeral 10 (codes "1")
 numeral = search rules
@@ -32,30 +33,62 @@ one : IntValue (codes "1") (pos 1)
 one = (inr (inr (numeral, refl)), small)
 
 pub kept : ComesTo first_run (row (pos 1) (codes "a") true) (gives (boolean true))
-kept = comes_to first_run (row (pos 1) (codes "a") true) (gives (boolean true)) (λ slots root now.
-    (gives (boolean true),
-     ((gives (boolean true), (refl,
-        (gives (boolean true),
-         ((gives (whole (pos 1)), (refl, (gives (whole (pos 1)), (one, (λ _. refl, λ _. refl))))),
-          refl)))),
-      (gives (boolean true),
-       ((gives (text (codes "a")), (refl, (gives (text (codes "a")), (refl, (λ _. refl, λ _. refl))))),
-        refl)))))
+kept = comes_to first_run (row (pos 1) (codes "a") true) (gives (boolean true)) (λ slots root now. (
+  gives (boolean true),
+  (
+    (
+      gives (boolean true),
+      (
+        refl,
+        (
+          gives (boolean true),
+          (
+            (gives (whole (pos 1)), (refl, (gives (whole (pos 1)), (one, (λ _. refl, λ _. refl))))),
+            refl,
+          ),
+        ),
+      ),
+    ),
+    (
+      gives (boolean true),
+      (
+        (gives (text (codes "a")), (refl, (gives (text (codes "a")), (refl, (λ _. refl, λ _. refl))))),
+        refl,
+      ),
+    ),
+  ),
+))
 
 -- 98 is no 97
 other_text : codes "b" ≡ codes "a" → false ≡ true
 other_text same = ap (λ (xs : List ℕ). pointwise nat_eq xs (codes "a")) same
 
 pub other_name : ComesTo first_run (row (pos 1) (codes "b") true) (gives (boolean false))
-other_name = comes_to first_run (row (pos 1) (codes "b") true) (gives (boolean false)) (λ slots root now.
-    (gives (boolean true),
-     ((gives (boolean true), (refl,
-        (gives (boolean true),
-         ((gives (whole (pos 1)), (refl, (gives (whole (pos 1)), (one, (λ _. refl, λ _. refl))))),
-          refl)))),
-      (gives (boolean false),
-       ((gives (text (codes "b")), (refl, (gives (text (codes "a")), (refl, (λ no. cc, λ same. other_text same))))),
-        refl)))))
+other_name = comes_to first_run (row (pos 1) (codes "b") true) (gives (boolean false)) (λ slots root now. (
+  gives (boolean true),
+  (
+    (
+      gives (boolean true),
+      (
+        refl,
+        (
+          gives (boolean true),
+          (
+            (gives (whole (pos 1)), (refl, (gives (whole (pos 1)), (one, (λ _. refl, λ _. refl))))),
+            refl,
+          ),
+        ),
+      ),
+    ),
+    (
+      gives (boolean false),
+      (
+        (gives (text (codes "b")), (refl, (gives (text (codes "a")), (refl, (λ no. cc, λ same. other_text same))))),
+        refl,
+      ),
+    ),
+  ),
+))
 
 pub inactive : ComesTo first_run (row (pos 2) (codes "a") false) (gives (boolean false))
 inactive = comes_to first_run (row (pos 2) (codes "a") false) (gives (boolean false)) (λ slots root now.

@@ -14,10 +14,10 @@ use Rattle.odata_filter.specs.odata_eval.Outcome.{Outcome}
 abbrev pub first_run : Tree
 first_run =
     node 0 34 (binary BinaryOperator.And
-        (node 0 18 (binary BinaryOperator.And
-            (node 0 6 (name (codes "Active")))
-            (node 11 18 (binary BinaryOperator.Eq (node 11 13 (name (codes "ID"))) (node 17 18 (literal LiteralKind.Int (codes "1")))))))
-        (node 23 34 (binary BinaryOperator.Eq (node 23 27 (name (codes "Name"))) (node 31 34 (literal LiteralKind.Str (codes "'a'"))))))
+    (node 0 18 (binary BinaryOperator.And
+    (node 0 6 (name (codes "Active")))
+    (node 11 18 (binary BinaryOperator.Eq (node 11 13 (name (codes "ID"))) (node 17 18 (literal LiteralKind.Int (codes "1")))))))
+    (node 23 34 (binary BinaryOperator.Eq (node 23 27 (name (codes "Name"))) (node 31 34 (literal LiteralKind.Str (codes "'a'"))))))
 
 -- the tree of `false and Missing`
 abbrev pub decided : Tree

@@ -18,5 +18,4 @@ pub fn first_run_comes_to()
     ensures other_name { ComesTo first_run (row (pos 1) (codes "b") true) (gives (boolean false)) }
     ensures inactive { ComesTo first_run (row (pos 2) (codes "a") false) (gives (boolean false)) }
     ensures right_side_left_out { (value : Val) → ComesTo decided value (gives (boolean false)) }
-{
-}
+{}
