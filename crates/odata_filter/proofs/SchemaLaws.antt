@@ -1,12 +1,11 @@
 -- A document has one answer.
-use Rattle.std.proofs.Common.{◌≡◌, ℕ, ◌<◌, ◌≤◌, ◌⊎◌, inl, inr, List, [], ◌∷◌, length, Option, Some, None, refl, sym, ap, ◌∙◌, IsUtf8, arith, map, Bool, true, false, cond, nat_eq, Ordering, Less, Equal, Greater}
+use Rattle.std.proofs.Common.{◌≡◌, ℕ, inl, inr, List, [], ◌∷◌, Some, None, refl, sym, ap, ◌∙◌, arith, map, Bool, true, false, cond, nat_eq, Ordering, Less, Equal, Greater}
 use Rattle.std.specs.Ordering.{nat_cmp, match_ordering}
 use Rattle.std.specs.Cmp.Lexicographic.{pointwise, slice_cmp}
 use Rattle.std.proofs.lemmas.Cmp.{nat_list_cmp_total, tied_itself}
 use Rattle.std.proofs.lemmas.Map.Lookups.{exact_bytes}
 use Rattle.std.proofs.lemmas.Slice.Eq.{bytes_eq-Decides}
 use Rattle.serde_json.specs.Data.{Data}
-use Rattle.serde_json.specs.Read.{read}
 use Rattle.odata_filter.specs.csdl_schema.SchemaModel.{PropertyModel, SchemaModel, properties_in, slots_of}
 use Rattle.odata_filter.specs.csdl_schema.Declared.{TypeDeclaration, full_name, declared_in, declared_property, declared_type, put_type, in_name_order, declared_slots, types_declared, declared_schema}
 use Rattle.odata_filter.specs.csdl_schema.Faults.{Fault, document_faults}

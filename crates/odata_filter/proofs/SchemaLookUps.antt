@@ -1,5 +1,5 @@
 -- Look-ups in a schema, over the lists that it is seen as.
-use Rattle.std.proofs.Common.{◌≡◌, ℕ, zero, suc, ◌<◌, List, [], ◌∷◌, ◌++◌, length, map, Option, Some, None, option_map, slice_get, position, Bool, true, false, cond, ◌||◌, nat_eq, nat_lt, refl, sym, ap, subst, ◌∙◌, IfSome, Ordering, Less, Equal, Greater, is_eq, arith}
+use Rattle.std.proofs.Common.{◌≡◌, ℕ, zero, suc, List, [], ◌∷◌, ◌++◌, length, map, Option, slice_get, position, Bool, true, false, cond, ◌||◌, nat_eq, refl, sym, ap, subst, ◌∙◌, Ordering, Less, is_eq}
 use Rattle.std.specs.Ordering.{nat_cmp}
 use Rattle.std.specs.List.{AllByRecursion, position_or_len}
 use Rattle.std.specs.List.Sorted.{IsStrictlySortedBy}
@@ -7,7 +7,7 @@ use Rattle.std.specs.Cmp.Lexicographic.{pointwise, slice_cmp}
 use Rattle.std.proofs.lemmas.Map.Text.{is_eq-slice_cmp}
 use Rattle.std.proofs.lemmas.Slice.Eq.{bytes_eq-Decides}
 use Rattle.odata_filter.specs.csdl_schema.SchemaView.{own_properties}
-use Rattle.odata_filter.specs.csdl_schema.SchemaModel.{PropertyModel, TypeModel, SchemaModel, qualified_name, properties_in, name_in, properties_at, IsInNameOrder}
+use Rattle.odata_filter.specs.csdl_schema.SchemaModel.{PropertyModel, TypeModel, qualified_name, properties_in, name_in, IsInNameOrder}
 
 -- the first place of a test in a list made of another
 pub position_or_len-map : {A B : Type 0} (f : A → B) (p : B → Bool) (xs : List A) → position_or_len p (map f xs) ≡ position_or_len (λ x. p (f x)) xs

@@ -1,5 +1,5 @@
 -- Worked documents.
-use Rattle.std.proofs.Common.{◌≡◌, ℕ, zero, suc, ◌<◌, List, [], ◌∷◌, inl, inr, Some, Bool, true, false, ◌&&◌, nat_lt, refl, codes, lit≤, lit<, arith}
+use Rattle.std.proofs.Common.{◌≡◌, ℕ, zero, suc, ◌<◌, List, [], ◌∷◌, inr, Some, Bool, true, false, ◌&&◌, nat_lt, refl, codes, lit≤, lit<, arith}
 use Rattle.std.specs.List.{list_all}
 use Rattle.std.specs.Str.{IsAscii}
 use Rattle.std.proofs.lemmas.Bool.{false≢true}

@@ -1,5 +1,5 @@
 -- What a CSDL JSON document declares (CSDL JSON 4.01, sections 2 to 7), as far as entity types go.
-use Rattle.std.specs.Prelude.{ℕ, ◌++◌, [], ◌∷◌, ◌&&◌, ◌||◌, ◌==◌, List, Bool, true, false, not, Option, Some, None, is_some, is_none, option_and_then, unwrap_or, if◌then◌else◌, codes, map, nat_eq, nat_le, count_by}
+use Rattle.std.specs.Prelude.{ℕ, ◌++◌, [], ◌∷◌, ◌&&◌, ◌||◌, ◌==◌, List, Bool, true, false, not, Option, Some, None, is_some, option_and_then, unwrap_or, if◌then◌else◌, codes, map, nat_eq, nat_le, count_by}
 use Rattle.std.specs.Ordering.{nat_cmp, match_ordering}
 use Rattle.std.specs.List.{list_any, list_all, flat_map}
 use Rattle.std.specs.Cmp.Lexicographic.{pointwise, slice_cmp}

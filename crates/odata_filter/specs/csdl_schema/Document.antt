@@ -1,5 +1,5 @@
 -- Which schema a document stands for, and which fault is its first (CSDL JSON 4.01).
-use Rattle.std.specs.Prelude.{◌≡◌, ℕ, ◌<◌, ◌≤◌, ◌⊎◌, ◌∷◌, [], List, length, Option, Some, None, IsUtf8, string_bytes}
+use Rattle.std.specs.Prelude.{◌≡◌, ℕ, ◌<◌, ◌≤◌, ◌⊎◌, ◌∷◌, [], List, length, Some, None, IsUtf8, string_bytes}
 use Rattle.serde_json.specs.Data.{Data}
 use Rattle.serde_json.specs.Read.{read}
 use Rattle.odata_filter.specs.declared.csdl_schema.fault.SchemaFault.{SchemaFault}

@@ -1,5 +1,5 @@
 -- A structured type of the code, as the model says it.
-use Rattle.std.specs.Prelude.{◌≡◌, ◌∷◌, ◌++◌, List, map, option_map, String, string_bytes}
+use Rattle.std.specs.Prelude.{◌≡◌, map, option_map, String, string_bytes}
 use Rattle.std.specs.declared.alloc.Global.{Global}
 use Rattle.odata_filter.specs.declared.csdl_schema.property.Property.{Property}
 use Rattle.odata_filter.specs.declared.csdl_schema.structured_type.StructuredType.TheInside.{Inside}

@@ -3,7 +3,6 @@ ghost use Rattle.std.specs.Prelude.{◌≡◌, ⊤, map, IfOk, IfErr};
 ghost use Rattle.std.specs.BTreeMap.{IsOrdered};
 ghost use Rattle.std.specs.String.{string_cmp};
 ghost use Rattle.std.specs.List.{flat_map};
-ghost use Rattle.serde_json.specs.View.{view};
 ghost use Rattle.odata_filter.specs.csdl_schema.Declared.{declared_type, full_name, in_name_order};
 ghost use Rattle.odata_filter.specs.csdl_schema.Faults.{is_type, type_faults, base_faults};
 ghost use Rattle.odata_filter.specs.csdl_schema.DocumentView.{declaration_view, declarations_of, types_of, AreNamed, Reads};
@@ -15,7 +14,7 @@ use super::names::is_identifier;
 use super::read_properties::read_properties;
 use super::refusals::{bad_type, unknown_base};
 use super::structured_type::StructuredType;
-use std::alloc::{AllocError, Global};
+use std::alloc::Global;
 use std::collections::BTreeMap;
 
 const MAX_PROPERTIES: usize = 1024;

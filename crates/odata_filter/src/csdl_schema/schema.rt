@@ -1,4 +1,4 @@
-ghost use Rattle.std.specs.Prelude.{ℕ, List, position, if◌then◌else◌, IfOk, IfErr, OnOk, ◌≡◌, ◌<◌, ◌↔◌, length, map, slice_get, Some, IsTrue, IsSome, IfSome, option_map};
+ghost use Rattle.std.specs.Prelude.{ℕ, List, position, if◌then◌else◌, IfOk, IfErr, OnOk, ◌≡◌, ◌<◌, ◌↔◌, length, map, slice_get, Some, IsTrue, IfSome, option_map};
 ghost use Rattle.odata_filter.specs.csdl_schema.SchemaModel.{alias_name, is_named, is_text_of, place_named, properties_at, slot_named, type_name_of, IsEntityAt, IsInNameOrder};
 ghost use Rattle.indexmap.specs.IndexMap.{get_by_text};
 ghost use Rattle.odata_filter.specs.csdl_schema.SchemaView.{own_properties, schema_of, AreInOrder};

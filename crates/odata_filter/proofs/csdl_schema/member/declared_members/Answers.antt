@@ -1,4 +1,4 @@
-use Rattle.std.proofs.Common.{◌∙◌, sym, ap, option_map}
+use Rattle.std.proofs.Common.{sym}
 use Rattle.odata_filter.proofs.SchemaReading.{none_in_order}
 use Rattle.odata_filter.proofs.csdl_schema.member.declared_members.Goals as goal
 

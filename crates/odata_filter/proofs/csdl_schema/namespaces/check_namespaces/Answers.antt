@@ -1,4 +1,4 @@
-use Rattle.std.proofs.Common.{◌≡◌, ◌+◌, ◌∷◌, ◌∙◌, sym, ap, drop, length}
+use Rattle.std.proofs.Common.{◌+◌, ◌∙◌, sym, ap, drop}
 use Rattle.std.specs.List.{flat_map}
 use Rattle.odata_filter.specs.csdl_schema.Faults.{namespace_faults, is_schema, bad_type}
 use Rattle.odata_filter.specs.csdl_schema.DocumentView.{members_of, member_view, fault_of}

@@ -1,5 +1,4 @@
-use Rattle.std.proofs.Common.{◌≡◌, ℕ, ◌+◌, ◌++◌, ◌≤◌, ◌<◌, [], List, map, drop, length, option_map, count_by}
-use Rattle.std.specs.List.{flat_map}
+use Rattle.std.proofs.Common.{◌≡◌, List, drop}
 use Rattle.odata_filter.specs.csdl_schema.Faults.{is_namespace}
 use Rattle.odata_filter.specs.csdl_schema.DocumentView.{members_of}
 use Rattle.odata_filter.proofs.csdl_schema.namespaces.is_namespace.Given as goal

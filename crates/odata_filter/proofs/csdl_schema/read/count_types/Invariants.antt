@@ -1,5 +1,4 @@
-use Rattle.std.proofs.Common.{◌≡◌, ℕ, ◌+◌, ◌++◌, ◌≤◌, ◌<◌, [], List, map, drop, length, option_map, count_by}
-use Rattle.std.specs.List.{flat_map}
+use Rattle.std.proofs.Common.{◌≡◌, ◌+◌, ◌≤◌, List, drop, count_by}
 use Rattle.odata_filter.specs.csdl_schema.Declared.{is_entity_type}
 use Rattle.odata_filter.specs.csdl_schema.DocumentView.{declarations_of}
 use Rattle.odata_filter.proofs.csdl_schema.read.count_types.Given as goal

@@ -1,10 +1,9 @@
-use Rattle.std.proofs.Common.{◌≡◌, ◌+◌, ◌++◌, ◌∷◌, ◌∙◌, [], sym, ap, subst, map, drop, List, ℕ}
+use Rattle.std.proofs.Common.{◌≡◌, ◌+◌, ◌++◌, ◌∷◌, ◌∙◌, [], sym, ap, map, drop, List}
 use Rattle.std.specs.List.{flat_map}
-use Rattle.odata_filter.specs.csdl_schema.SchemaModel.{PropertyModel, IsInNameOrder}
 use Rattle.odata_filter.specs.csdl_schema.TypeView.{property_model}
 use Rattle.odata_filter.specs.csdl_schema.Declared.{declared_property}
 use Rattle.odata_filter.specs.csdl_schema.Faults.{property_faults, is_property, bad_property}
-use Rattle.odata_filter.specs.csdl_schema.DocumentView.{members_of, member_view, fault_of}
+use Rattle.odata_filter.specs.csdl_schema.DocumentView.{members_of, member_view}
 use Rattle.odata_filter.proofs.SchemaReading.{at_place, faultless_step, unless_none, insert_last, properties_in_order, same_property, property_step}
 use Rattle.odata_filter.proofs.csdl_schema.read_properties.read_properties.Goals as goal
 

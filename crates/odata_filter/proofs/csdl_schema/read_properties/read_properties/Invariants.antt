@@ -1,4 +1,4 @@
-use Rattle.std.proofs.Common.{◌≡◌, ℕ, ◌+◌, ◌++◌, ◌≤◌, ◌<◌, [], List, map, drop, length, option_map, count_by}
+use Rattle.std.proofs.Common.{◌≡◌, ◌++◌, List, map, drop}
 use Rattle.std.specs.List.{flat_map}
 use Rattle.odata_filter.specs.csdl_schema.TypeView.{property_model}
 use Rattle.odata_filter.specs.csdl_schema.Declared.{declared_property}

@@ -1,4 +1,4 @@
-use Rattle.std.proofs.Common.{◌≡◌, ◌∙◌, sym, ap, subst, codes, is_none, is_some, not, nat_lt, length, List, ℕ}
+use Rattle.std.proofs.Common.{◌∙◌, sym, subst, codes, is_none, is_some, not, nat_lt, length, List, ℕ}
 use Rattle.serde_json.specs.Find.{get}
 use Rattle.odata_filter.specs.csdl_schema.Declared.{declared_in}
 use Rattle.odata_filter.specs.csdl_schema.Faults.{unless, unknown_base, too_large}

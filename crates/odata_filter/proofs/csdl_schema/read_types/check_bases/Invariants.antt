@@ -1,4 +1,4 @@
-use Rattle.std.proofs.Common.{◌≡◌, ℕ, ◌+◌, ◌++◌, ◌≤◌, ◌<◌, [], List, map, drop, length, option_map, count_by}
+use Rattle.std.proofs.Common.{◌≡◌, List}
 use Rattle.std.specs.List.{flat_map}
 use Rattle.odata_filter.specs.csdl_schema.Faults.{base_faults}
 use Rattle.odata_filter.specs.csdl_schema.DocumentView.{types_of, AreNamed}

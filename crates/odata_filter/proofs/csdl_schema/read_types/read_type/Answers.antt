@@ -1,4 +1,4 @@
-use Rattle.std.proofs.Common.{◌≡◌, ◌∙◌, sym, ap, subst, map, List, ℕ}
+use Rattle.std.proofs.Common.{◌∙◌, sym, ap, subst, map, List, ℕ}
 use Rattle.std.specs.List.{flat_map}
 use Rattle.odata_filter.specs.csdl_schema.Declared.{declared_in, declared_property, full_name}
 use Rattle.odata_filter.specs.csdl_schema.Faults.{is_type, bad_type, property_faults}

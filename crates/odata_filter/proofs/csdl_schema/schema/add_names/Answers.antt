@@ -1,4 +1,4 @@
-use Rattle.std.proofs.Common.{◌∙◌, sym, ap, Some, List, ℕ, nat_eq, string_bytes, if◌then◌else◌}
+use Rattle.std.proofs.Common.{◌∙◌, ap, Some, List, ℕ, nat_eq, string_bytes, if◌then◌else◌}
 use Rattle.std.proofs.lemmas.Map.Text.{hash_map_updates_text}
 use Rattle.std.specs.Cmp.Lexicographic.{pointwise}
 use Rattle.indexmap.specs.IndexMap.{get_by_text}

@@ -1,5 +1,4 @@
-use Rattle.std.proofs.Common.{◌≡◌, ℕ, ◌+◌, ◌++◌, ◌≤◌, ◌<◌, [], List, map, drop, length, option_map, count_by}
-use Rattle.std.specs.List.{flat_map}
+use Rattle.std.proofs.Common.{◌≡◌, ℕ, ◌≤◌, List, drop, length}
 use Rattle.indexmap.specs.IndexMap.{get_by_text}
 use Rattle.std.specs.List.{position_from}
 use Rattle.odata_filter.specs.csdl_schema.SchemaModel.{is_named}

@@ -1,4 +1,4 @@
-use Rattle.std.proofs.Common.{◌≡◌, ◌∙◌, refl, sym, ap, subst, Option, Some, IfSome, option_map, slice_get, map}
+use Rattle.std.proofs.Common.{◌≡◌, ◌∙◌, refl, sym, ap, subst, Option, IfSome, option_map, slice_get}
 use Rattle.std.proofs.lemmas.Option.{slice_get-map}
 use Rattle.odata_filter.specs.csdl_schema.SchemaModel.{PropertyModel, TypeModel}
 use Rattle.odata_filter.specs.csdl_schema.PropertyView.{type_of_kind}

@@ -1,4 +1,4 @@
-use Rattle.std.proofs.Common.{◌≡◌, ◌∙◌, sym, ap, Some, option_map, slice_get, map}
+use Rattle.std.proofs.Common.{◌∙◌, sym, ap, Some, option_map, slice_get, map}
 use Rattle.std.proofs.lemmas.Option.{slice_get-map}
 use Rattle.odata_filter.specs.csdl_schema.SchemaModel.{PropertyModel, TypeModel}
 use Rattle.odata_filter.specs.csdl_schema.TypeView.{property_model}
