@@ -5,5 +5,6 @@ pub mod Ints
 pub mod MomentLaws
 pub mod Moments
 pub mod Offsets
+pub mod OneValue
 pub mod Places
 pub mod Quotes

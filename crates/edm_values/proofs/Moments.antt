@@ -18,7 +18,7 @@ use Rattle.edm_values.specs.MomentLiteral.{IsClock, MinutesValue, SecondsValue, 
 use Rattle.edm_values.proofs.Offsets.{OffsetValue-within, signed_clock}
 
 -- a time of day is its hour, minute, second and fraction
-same_clock : (a b : Time) → a.hour ≡ b.hour → a.minute ≡ b.minute → a.second ≡ b.second → a.subsec_nanosecond ≡ b.subsec_nanosecond → a ≡ b
+pub same_clock : (a b : Time) → a.hour ≡ b.hour → a.minute ≡ b.minute → a.second ≡ b.second → a.subsec_nanosecond ≡ b.subsec_nanosecond → a ≡ b
 same_clock a b hour minute second subsec = same_time a b (rw (hour, minute, second, subsec) refl)
 
 time_made : {E : Type 0} (r : Result Time E) (t : Time)

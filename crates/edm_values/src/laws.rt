@@ -50,3 +50,13 @@ pub fn moments_read_back()
         → MomentValue (moment_spelling m) m }
     ensures spelled { (text : List ℕ) (m : MomentParts) → MomentValue text m → IsMomentSpelling text }
 {}
+
+/// A text has at most one value of each kind.
+pub fn texts_have_one_value()
+    ensures int { (text : List ℕ) (m n : ℤ) → IntValue text m → IntValue text n → m ≡ n }
+    ensures date { (text : List ℕ) (a b : Date) → DateValue text a → DateValue text b → a ≡ b }
+    ensures moment { (text : List ℕ) (a b : MomentParts) → MomentValue text a → MomentValue text b
+        → a ≡ b }
+    ensures guid { (text a b : List ℕ) → GuidValue text a → GuidValue text b → a ≡ b }
+    ensures string { (text a b : List ℕ) → StringValue text a → StringValue text b → a ≡ b }
+{}

@@ -187,16 +187,22 @@ fn moments(rt: HostRuntime) -> Result<(), Fail> {
 
 #[test]
 fn fractions(rt: HostRuntime) -> Result<(), Fail> {
-    let mut places = String::new(rt.alloc());
-    let mut unit = 1_000_000_000;
-    let mut nanosecond = 0;
-    for place in 1..=9 {
-        places.push('1')?;
-        unit = unit / 10;
-        nanosecond = nanosecond + unit;
+    for (places, nanosecond) in [
+        ("1", 100_000_000),
+        ("11", 110_000_000),
+        ("111", 111_000_000),
+        ("1111", 111_100_000),
+        ("11111", 111_110_000),
+        ("111111", 111_111_000),
+        ("1111111", 111_111_100),
+        ("11111111", 111_111_110),
+        ("111111111", 111_111_111),
+        ("000000001", 1),
+        ("090909", 90_909_000),
+    ] {
         let text = format!(in rt.alloc(); "2020-01-01T00:00:00.{places}Z")?;
         let read = read_moment(text.as_str()).ok_or("no moment")?;
-        assert_eq!(rt; read.civil().subsec_nanosecond(), nanosecond, "{place}");
+        assert_eq!(rt; read.civil().subsec_nanosecond(), nanosecond, "{places}");
         let mut out = String::new(rt.alloc());
         write_moment(&mut out, &read)?;
         assert_eq!(rt; out.as_str(), text.as_str());
@@ -208,10 +214,6 @@ fn fractions(rt: HostRuntime) -> Result<(), Fail> {
     ] {
         assert!(rt; read_moment(text).is_none(), "{text}");
     }
-    let read = read_moment("2020-01-01T00:00:00.000000001Z").ok_or("no moment")?;
-    let mut out = String::new(rt.alloc());
-    write_moment(&mut out, &read)?;
-    assert_eq!(rt; out.as_str(), "2020-01-01T00:00:00.000000001Z");
     Ok(())
 }
 
@@ -274,4 +276,66 @@ fn moments_of_parts(rt: HostRuntime) -> Result<(), Fail> {
         }
     }
     Ok(())
+}
+
+// Run with each allocation refused in turn: a call that fails leaves its String as it was.
+#[test]
+fn refused_allocations(rt: HostRuntime) -> Result<(), Fail> {
+    let mut out = String::new(rt.alloc());
+    let wrote = write_int(&mut out, -42).is_ok();
+    assert_eq!(rt; out.as_str(), if wrote { "-42" } else { "" });
+    println!(rt; "write_int {}", outcome(wrote))?;
+
+    let mut out = String::new(rt.alloc());
+    let date = read_date("2020-02-29").ok_or("no date")?;
+    let wrote = write_date(&mut out, date).is_ok();
+    assert_eq!(rt; out.as_str(), if wrote { "2020-02-29" } else { "" });
+    println!(rt; "write_date {}", outcome(wrote))?;
+
+    let mut out = String::new(rt.alloc());
+    let moment = read_moment("2020-02-29T01:02:03.04+05:06").ok_or("no moment")?;
+    let wrote = write_moment(&mut out, &moment).is_ok();
+    assert_eq!(rt;
+        out.as_str(),
+        if wrote {
+            "2020-02-29T01:02:03.04+05:06"
+        } else {
+            ""
+        }
+    );
+    println!(rt; "write_moment {}", outcome(wrote))?;
+
+    let mut out = String::new(rt.alloc());
+    let guid = read_guid("01234567-89ab-cdef-0123-456789abcdef").ok_or("no Guid")?;
+    let wrote = write_guid(&mut out, guid).is_ok();
+    assert_eq!(rt;
+        out.as_str(),
+        if wrote {
+            "01234567-89ab-cdef-0123-456789abcdef"
+        } else {
+            ""
+        }
+    );
+    println!(rt; "write_guid {}", outcome(wrote))?;
+
+    let mut out = String::new(rt.alloc());
+    let wrote = write_string(&mut out, "O'Neil").is_ok();
+    assert_eq!(rt; out.as_str(), if wrote { "'O''Neil'" } else { "" });
+    println!(rt; "write_string {}", outcome(wrote))?;
+
+    match read_string(rt.alloc(), "'O''Neil'") {
+        Ok(value) => {
+            assert_eq!(rt; value.as_str(), "O'Neil");
+            println!(rt; "read_string ample")?;
+        }
+        Err(fault) => {
+            assert!(rt; matches!(fault, LitFault::Memory));
+            println!(rt; "read_string no memory")?;
+        }
+    }
+    Ok(())
+}
+
+fn outcome(wrote: bool) -> &'static str {
+    if wrote { "ample" } else { "no memory" }
 }
