@@ -1,2 +1,9 @@
+pub mod Dates
+pub mod Guids
+pub mod Instants
 pub mod Ints
+pub mod MomentLaws
+pub mod Moments
+pub mod Offsets
+pub mod Places
 pub mod Quotes

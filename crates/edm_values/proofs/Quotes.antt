@@ -1,5 +1,5 @@
 -- Texts with doubled quotes.
-use Rattle.std.proofs.Common.{◌≡◌, ◌≢◌, ◌⊎◌, inl, inr, ℕ, suc, ◌+◌, ◌<◌, List, [], ◌∷◌, ◌++◌, ◌==◌, length, get_or, true, false, cond, arith, refl, sym, ◌∙◌, ap, subst, append_assoc, append-nil, Option, Some, None, IfSome, IfNone, Bor}
+use Rattle.std.proofs.Common.{◌≡◌, ◌≢◌, inl, inr, ℕ, suc, ◌<◌, List, [], ◌∷◌, ◌++◌, length, get_or, arith, refl, sym, ◌∙◌, ap, append_assoc, append-nil, Option, Some, None, IfSome, IfNone, Bor}
 use Rattle.std.specs.Option.{MatchOption}
 use Rattle.std.proofs.lemmas.Bool.Decides.{eqb_tells}
 use Rattle.std.proofs.lemmas.List.{same_from_push}
@@ -115,3 +115,18 @@ pub StringValue-same : (spelling value other : List ℕ) → StringValue spellin
 StringValue-same spelling value other first second =
     let e : doubled value ++ (39 ∷ []) ≡ doubled other ++ (39 ∷ []) = cc in
     doubled_same value other (same_from_push (doubled value) (doubled other) 39 39 e).0
+
+-- a piece without quotes and a doubled quote go over from what is left to what is written
+pub one_quoted : (all written piece behind rest next last : List ℕ) → ((i : ℕ) → i < length piece → get_or piece i 0 ≢ quote)
+    → rest ≡ piece ++ (39 ∷ behind) → all ≡ written ++ doubled rest → next ≡ written ++ piece → last ≡ next ++ (39 ∷ 39 ∷ [])
+    → all ≡ last ++ doubled behind
+one_quoted all written piece behind rest next last plain cut same is_next is_last =
+    let e : doubled rest ≡ piece ++ (39 ∷ 39 ∷ doubled behind) =
+    ap doubled cut ∙ doubled-append piece (39 ∷ behind) ∙ ap (λ (xs : List ℕ). xs ++ (39 ∷ 39 ∷ doubled behind)) (doubled-plain piece plain) in
+    same ∙ ap (λ (xs : List ℕ). written ++ xs) e
+    ∙ sym (ap (λ (xs : List ℕ). xs ++ doubled behind) (is_last ∙ ap (λ (xs : List ℕ). xs ++ (39 ∷ 39 ∷ [])) is_next) ∙ simp append_assoc)
+
+pub last_quoted : (all written rest next last : List ℕ) → ((i : ℕ) → i < length rest → get_or rest i 0 ≢ quote)
+    → all ≡ written ++ doubled rest → next ≡ written ++ rest → last ≡ next ++ (39 ∷ []) → last ≡ all ++ (39 ∷ [])
+last_quoted all written rest next last plain same is_next is_last =
+    is_last ∙ ap (λ (xs : List ℕ). xs ++ (39 ∷ [])) (is_next ∙ ap (λ (xs : List ℕ). written ++ xs) (sym (doubled-plain rest plain)) ∙ sym same)

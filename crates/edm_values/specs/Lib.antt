@@ -1,5 +1,9 @@
 pub mod Civil
+pub mod DateLiteral
+pub mod GuidLiteral
+pub mod Instant
 pub mod IntLiteral
+pub mod MomentLiteral
 pub mod MomentParts
 pub mod PlainVal
 pub mod StringLiteral

@@ -12,9 +12,13 @@ abbrev pub doubled : List ℕ → List ℕ
 doubled [] = []
 doubled (c ∷ cs) = if c == quote then quote ∷ quote ∷ doubled cs else c ∷ doubled cs
 
--- the spelling of a text: between quotes, with its own quotes doubled
+-- the one spelling of a text: between quotes, with its own quotes doubled
+abbrev pub string_spelling : List ℕ → List ℕ
+string_spelling value = quote ∷ doubled value ++ quote ∷ []
+
+-- the value of a String spelling: the text of which it is the spelling
 abbrev pub StringValue : List ℕ → List ℕ → Type 0
-StringValue spelling value = spelling ≡ quote ∷ doubled value ++ quote ∷ []
+StringValue spelling value = spelling ≡ string_spelling value
 
 -- some text has this spelling
 abbrev pub IsStringSpelling : List ℕ → Type 0

@@ -1,18 +1,31 @@
 //! Values of the Entity Data Model and the literals that spell them (OData ABNF 4.01, section 7).
 #![tactic(auto)]
 
+mod date_literal;
 mod datum;
+mod digits;
+mod guid_literal;
 mod int_literal;
+mod laws;
 mod moment;
+mod moment_literal;
+mod moment_order;
 mod primitive;
 mod string_literal;
 mod value;
 
+pub use date_literal::{read_date, write_date};
 pub use datum::Datum;
-pub use int_literal::read_int;
+pub use guid_literal::{read_guid, write_guid};
+pub use int_literal::{read_int, write_int};
+pub use laws::{
+    dates_read_back, guids_read_back, ints_read_back, moments_are_ordered, moments_read_back,
+    strings_read_back,
+};
 pub use moment::Moment;
+pub use moment_literal::{read_moment, write_moment};
 pub use primitive::PrimitiveType as Prim;
-pub use string_literal::{LitFault, read_string};
+pub use string_literal::{LitFault, read_string, write_string};
 pub use value::Value;
 
 #[cfg(test)]

@@ -1,8 +1,11 @@
 ghost use Rattle.std.specs.Prelude.{◌≡◌, IfSome, IsSome, ◌↔◌};
 ghost use Rattle.edm_values.specs.MomentParts.{MomentParts, IsMoment, IsFourDigitYear, IsOffset};
+ghost use Rattle.edm_values.specs.Instant.{instant};
 
 use jiff::civil::DateTime;
 use std::marker::Model;
+
+const NANOS_PER_MINUTE: i128 = 60_000_000_000;
 
 /// A date and time of day with its offset from UTC, the value of an `Edm.DateTimeOffset`.
 #[derive(Clone, Copy, Debug)]
@@ -53,5 +56,13 @@ impl Moment {
         ensures within { IsOffset result }
     {
         self.offset_minutes
+    }
+
+    /// Nanoseconds from 1970-01-01T00:00:00Z to this moment, negative before it.
+    pub fn instant_nanos(&self) -> i128
+        ensures { result ≡ instant self.now }
+    {
+        let on_clock = self.civil.to_plain().to_nanosecond();
+        on_clock - i128::from(self.offset_minutes) * NANOS_PER_MINUTE
     }
 }

@@ -1,5 +1,5 @@
-ghost use Rattle.std.specs.Prelude.{◌≡◌, ℕ, List, IfOk, IfErr, IfSome, IfNone, ◌∷◌, ◌++◌, [], string_bytes};
-ghost use Rattle.edm_values.specs.StringLiteral.{quote, doubled, StringValue, IsStringFault, IsUndoublingFault};
+ghost use Rattle.std.specs.Prelude.{◌≡◌, ℕ, List, IfOk, IfErr, IfSome, IfNone, OnOk, OnErr, ◌∷◌, ◌++◌, [], string_bytes};
+ghost use Rattle.edm_values.specs.StringLiteral.{quote, doubled, string_spelling, StringValue, IsStringFault, IsUndoublingFault};
 
 use std::alloc::{AllocError, Global};
 
@@ -57,4 +57,28 @@ fn undoubled(alloc: Global, inner: &str) -> Result<String, LitFault>
     }
     value.push_str(rest)?;
     Ok(value)
+}
+
+/// Appends the spelling of a text: between single quotes, with its own quotes doubled.
+pub fn write_string(out: &mut String, text: &str) -> Result<(), AllocError>
+    ensures ok { OnOk result (string_bytes out.new ≡ string_bytes out.old ++ string_spelling text.now) }
+    ensures err { OnErr result (string_bytes out.new ≡ string_bytes out.old) }
+{
+    let spelling = quoted(*out.allocator(), text)?;
+    out.push_str(spelling.as_str())
+}
+
+fn quoted(alloc: Global, text: &str) -> Result<String, AllocError>
+    ensures { IfOk result (λ spelling. string_bytes spelling ≡ string_spelling text.now) }
+{
+    let mut spelling = String::from_str(alloc, "'")?;
+    let mut rest = text;
+    while let Some((piece, behind)) = rest.split_once('\'') {
+        spelling.push_str(piece)?;
+        spelling.push_str("''")?;
+        rest = behind;
+    }
+    spelling.push_str(rest)?;
+    spelling.push('\'')?;
+    Ok(spelling)
 }

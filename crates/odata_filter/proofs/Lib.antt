@@ -3,6 +3,7 @@ pub mod ExampleRows
 pub mod FitsHasType
 pub mod FitsOnce
 pub mod MeansLaws
+pub mod MemberWalk
 pub mod Numbers
 pub mod OneFirstFault
 pub mod ReadEntities
@@ -16,3 +17,6 @@ mod LineLemmas
 mod RunLemmas
 mod WriteLemmas
 pub mod SchemaReading
+pub mod RowJudges
+pub mod SchemaLaws
+pub mod SchemaWorked

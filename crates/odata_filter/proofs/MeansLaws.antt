@@ -1,9 +1,12 @@
 pub mod CheckedTyped
+pub mod FirstRunLaws
 pub mod OneLeaf
 pub mod OneMeaning
 pub mod OneOutcome
 pub mod OneStep
 pub mod OperatorSteps
 pub mod Progress
+pub mod RootSteps
 pub mod SlotValue
 pub mod Truths
+pub mod WalkSteps

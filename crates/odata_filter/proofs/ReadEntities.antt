@@ -1,6 +1,6 @@
 -- Slots whose values fit make an entity that conforms to its type.
-use Rattle.std.proofs.Common.{◌≡◌, ℕ, List, map, Vec, Global, IsSome, refl, sym, subst, rules}
-use Rattle.serde_json.specs.Data.{Data}
+use Rattle.std.proofs.Common.{◌≡◌, ℕ, List, Some, map, Vec, Global, IsSome, refl, sym, subst, rules}
+use Rattle.serde_json.specs.Data.{Data, object, Members}
 use Rattle.serde_json.specs.Find.{as_object}
 use Rattle.edm_values.specs.declared.value.Value.{Value, Record, the_lemmas}
 use Rattle.odata_filter.specs.csdl_schema.ExprType.{ExprType}
@@ -31,3 +31,8 @@ is_entity schema id json values ordered is_object fits =
       in_order = ordered;
       conforms = (json, entity_fits schema id json values ordered is_object fits);
     }
+
+-- what is read as an object of these members is that object
+pub object_is : (json : Data) (held : Members) → Some held ≡ as_object json → json ≡ object held
+object_is (object ms) held e = cc
+object_is _ held e = absurd (cc)

@@ -1,11 +1,11 @@
 -- The walk over the slots of a type: what it has read fits, and the fault at which it stops is the first.
-use Rattle.std.proofs.Common.{◌≡◌, ℕ, zero, suc, ◌<◌, List, [], ◌∷◌, ◌++◌, length, take, drop, Option, Some, None, slice_get, IfSome, IsSome, string_bytes, refl, sym, ap, subst, arith}
+use Rattle.std.proofs.Common.{◌≡◌, ℕ, zero, suc, ◌<◌, List, [], ◌∷◌, ◌++◌, length, take, drop, Option, Some, None, option_map, map, slice_get, IfSome, IsSome, string_bytes, refl, sym, ap, ◌∙◌, subst, arith}
 use Rattle.std.specs.List.{AllByRecursion}
 use Rattle.serde_json.specs.Data.{Data}
 use Rattle.serde_json.specs.Find.{get, as_object}
 use Rattle.edm_values.specs.Val.{Held}
 use Rattle.edm_values.specs.declared.value.Value.{Value}
-use Rattle.odata_filter.specs.csdl_schema.SchemaModel.{Slots, PropertyModel}
+use Rattle.odata_filter.specs.csdl_schema.SchemaModel.{Slots, PropertyModel, PropertyType}
 use Rattle.odata_filter.specs.edm_entities.Fits.{FitsProperty}
 use Rattle.odata_filter.specs.edm_entities.Row.{held_of, val_of}
 use Rattle.odata_filter.specs.edm_entities.RowFaults.{Flaw, missing, wrong_kind, null_not_allowed, out_of_range, IsPropertyFault, IsFirstFault, IsFirstFaultAt, IsRowFault, IsMemory}
@@ -60,7 +60,7 @@ first_fault slots json properties n values p flaw path is_object fits cut fault 
 )
 
 fault_here : (slots : Slots) (type_name : List ℕ) (json : Data) (n : ℕ) (values : List Value) (p : PropertyModel) (fault : RowFault)
-    → IsSome (as_object json) → FitSlots slots json (take n (slots type_name)) values → IsCutAt (slots type_name) n p → IsSlotFault json p fault
+    → IsSome (as_object json) → FitSlots slots json (take n (slots type_name)) values → IsCutAt (slots type_name) n p → IsSlotFault p.type_of (get p.name json) p.name fault
     → ¬ (IsMemory fault) → IsRowFault slots type_name json fault
 fault_here slots type_name json n values p NotObject is_object fits cut fault no_memory = absurd fault
 fault_here slots type_name json n values p (Missing path) is_object fits cut fault no_memory =
@@ -76,9 +76,29 @@ fault_here slots type_name json n values p Memory is_object fits cut fault no_me
 
 -- the fault at a slot, those before it holding values that fit, is the row's
 pub row_fault : (slots : Slots) (type_name : List ℕ) (json : Data) (n : ℕ) (values : List Value) (fault : RowFault) → n < length (slots type_name)
-    → IsSome (as_object json) → FitSlots slots json (take n (slots type_name)) values → IfSome (slice_get (slots type_name) n) (λ p. IsSlotFault json p fault)
+    → IsSome (as_object json) → FitSlots slots json (take n (slots type_name)) values → IfSome (slice_get (slots type_name) n) (λ p. IsSlotFault p.type_of (get p.name json) p.name fault)
     → ¬ (IsMemory fault) → IsRowFault slots type_name json fault
 row_fault slots type_name json n values fault lt is_object fits here no_memory =
     let cut = cut_at (slots type_name) n lt in
     fault_here slots type_name json n values cut.0 fault is_object fits cut.1
-    (subst (λ o. IfSome o (λ p. IsSlotFault json p fault)) cut.1.here here) no_memory
+    (subst (λ o. IfSome o (λ p. IsSlotFault p.type_of (get p.name json) p.name fault)) cut.1.here here) no_memory
+
+name_at : (properties : List PropertyModel) (n : ℕ) → option_map (λ p. p.name) (slice_get properties n) ≡ slice_get (map (λ p. p.name) properties) n
+name_at [] n = refl
+name_at (p ∷ ps) zero = refl
+name_at (p ∷ ps) (suc n) = name_at ps n
+
+by_name : (Q : PropertyType → Option Data → List ℕ → Type 0) (json : Data) (o : Option PropertyModel) (name : List ℕ) (found : Option Data)
+    → option_map (λ p. p.name) o ≡ Some name → found ≡ get name json → IfSome o (λ p. Q p.type_of found p.name)
+    → IfSome o (λ p. Q p.type_of (get p.name json) p.name)
+by_name Q json None name found named is holds = tt
+by_name Q json (Some p) name found named is holds =
+    let same : name ≡ p.name = cc in
+    let here : found ≡ get p.name json = is ∙ ap (λ n. get n json) same in
+    subst (λ m. Q p.type_of m p.name) here holds
+
+-- what holds of a slot by the member that was found holds of it by the object
+pub at_slot : (Q : PropertyType → Option Data → List ℕ → Type 0) (json : Data) (properties : List PropertyModel) (n : ℕ) (name : List ℕ) (found : Option Data)
+    → slice_get (map (λ p. p.name) properties) n ≡ Some name → found ≡ get name json → IfSome (slice_get properties n) (λ p. Q p.type_of found p.name)
+    → IfSome (slice_get properties n) (λ p. Q p.type_of (get p.name json) p.name)
+at_slot Q json properties n name found named is holds = by_name Q json (slice_get properties n) name found (name_at properties n ∙ named) is holds

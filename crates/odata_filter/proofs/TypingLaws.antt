@@ -4,3 +4,8 @@ pub mod Places
 pub mod Right
 pub mod Untypable
 pub mod Answers
+pub mod Names
+pub mod Sizes
+pub mod PreOrders
+pub mod Checks
+pub mod Examples

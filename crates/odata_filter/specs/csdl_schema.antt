@@ -7,3 +7,4 @@ pub mod Declared
 pub mod Faults
 pub mod Document
 pub mod DocumentView
+pub mod Worked

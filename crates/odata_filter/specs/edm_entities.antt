@@ -1,6 +1,7 @@
 pub mod Example
 pub mod Fits
 pub mod HasType
+pub mod Members
 pub mod NumberTypes
 pub mod Row
 pub mod RowFaults

@@ -3,6 +3,7 @@ pub mod DatumView
 pub mod EndsOnce
 pub mod Environment
 pub mod EqualGives
+pub mod FirstRun
 pub mod LeftFirst
 pub mod LiteralGives
 pub mod Means

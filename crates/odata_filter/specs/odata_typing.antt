@@ -6,8 +6,10 @@ pub mod FirstUntypable
 pub mod HasTyping
 pub mod TypeView
 pub mod IsChecked
-pub mod Filter
 pub mod PreOrder
+pub mod CheckedPreOrder
+pub mod Filter
 pub mod Calls
 pub mod Answer
 pub mod EarlierFault
+pub mod Laws

@@ -2,6 +2,7 @@
 mod declaration;
 pub mod fault;
 pub mod ids;
+pub mod laws;
 mod member;
 mod names;
 mod namespaces;
@@ -12,3 +13,5 @@ mod read_types;
 mod refusals;
 pub mod schema;
 mod structured_type;
+#[cfg(test)]
+mod tests;

@@ -3,5 +3,8 @@ pub mod entity;
 pub mod fault;
 mod flaw;
 pub mod laws;
+mod members;
 mod primitive;
 mod slots;
+#[cfg(test)]
+mod tests;

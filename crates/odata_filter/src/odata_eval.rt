@@ -3,6 +3,8 @@ pub mod evaluator;
 pub mod fault;
 pub mod laws;
 mod operators;
+#[cfg(test)]
+mod tests;
 pub mod verdict;
 mod walk;
 

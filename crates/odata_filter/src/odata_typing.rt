@@ -2,13 +2,17 @@
 //! public calls alone.
 pub mod checked;
 pub mod checked_node;
-pub mod checker;
+mod checker;
 pub mod edm_type;
+pub mod laws;
 mod literal;
 mod node;
 mod operator;
+mod pre_order;
 mod property;
 pub mod refusal;
+#[cfg(test)]
+mod tests;
 mod untyped;
 
 pub use checked::Checked;

@@ -5,7 +5,7 @@ ghost use Rattle.odata_syntax.specs.Piece.{Piece};
 ghost use Rattle.odata_syntax.specs.Tree.{Tree};
 ghost use Rattle.odata_syntax.specs.Grammar.{Level, Derives};
 ghost use Rattle.odata_syntax.specs.Parse.{IsParse, HasNoParse, IsSyntaxFault, IsUnended};
-ghost use Rattle.odata_syntax.specs.Spans.{IsSpanned};
+ghost use Rattle.odata_syntax.specs.Spans.{IsSpanned, IsSpannedWithin, IsWithin};
 ghost use Rattle.odata_syntax.specs.FirstRun.{first_run, first_run_tree, name_eq};
 
 /// Tokens are at most one expression.
@@ -13,9 +13,15 @@ pub fn one_tree()
     ensures { (ts : List Piece) (tree other : Tree) → Derives 1 ts tree → Derives 1 ts other → tree ≡ other }
 {}
 
-/// The span of each node runs from its first to its last token.
-pub fn node_spans()
+/// The span of a tree runs from its first to its last token, at each level.
+pub fn tree_spans()
     ensures { (level : Level) (ts : List Piece) (tree : Tree) → Derives level ts tree → IsSpanned ts tree }
+{}
+
+/// So does that of each node of a tree: its tokens stand side by side.
+pub fn node_spans()
+    ensures { (ts : List Piece) (tree part : Tree)
+        → Derives 1 ts tree → IsWithin part tree → IsSpannedWithin ts part }
 {}
 
 /// Tokens have at most one fault.

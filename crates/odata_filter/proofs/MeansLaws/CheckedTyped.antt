@@ -13,12 +13,12 @@ pub checked_typed : (schema : SchemaModel) (n : ℕ) (scope : Scope) (node : Che
 checked_typed schema n scope (Lit span edm_type kind text value) checked = checked.typed
 checked_typed schema n scope (Property span edm_type asked slot) checked =
     subst (λ (bound : Option ExprType). MatchOption bound
-        (PropertyTyped (slots_of schema (type_name_at schema n)) (string_bytes asked) (expr_type schema edm_type))
-        (λ t. expr_type schema edm_type ≡ t)) (sym checked.free) checked.typed
+    (PropertyTyped (slots_of schema (type_name_at schema n)) (string_bytes asked) (expr_type schema edm_type))
+    (λ t. expr_type schema edm_type ≡ t)) (sym checked.free) checked.typed
 checked_typed schema n scope (Binary' span edm_type operator p left q right) checked = record {
   left = expr_type schema (type_of_node left);
   right = expr_type schema (type_of_node right);
   left_typed = checked_typed schema n scope left checked.0;
   right_typed = checked_typed schema n scope right checked.1;
-  operator_typed = checked.2
+  operator_typed = checked.2;
 }

@@ -11,5 +11,5 @@ ends_once slots root now entity environment tree type conforms fitting typed =
       outcome = gives ends.0;
       related = ends.1.0;
       of_type = ends.1.1;
-      only = λ other of_other. Means-one slots root now entity environment tree other (gives ends.0) of_other ends.1.0
+      only = λ other of_other. Means-one slots root now entity environment tree other (gives ends.0) of_other ends.1.0;
     }

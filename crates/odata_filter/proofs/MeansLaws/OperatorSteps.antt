@@ -69,9 +69,9 @@ module _ (slots : Slots) (root : List ℕ) (now : MomentParts) (entity : Val) (e
       → AtBoth (OperatorTable operator) l r o
   table_defined start stop (Some l) (Some r) o ends of_left of_right =
       operator_within operator l (Means slots root now entity environment right) (λ first. first ≡ gives r)
-          (λ first of_first. Means-one slots root now entity environment right first (gives r) of_first of_right) o
-          (After-follows (Means slots root now entity environment left) (λ v. OperatorGives operator v (Means slots root now entity environment right))
-              (gives l) o (Means-one slots root now entity environment left) of_left ends)
+      (λ first of_first. Means-one slots root now entity environment right first (gives r) of_first of_right) o
+      (After-follows (Means slots root now entity environment left) (λ v. OperatorGives operator v (Means slots root now entity environment right))
+      (gives l) o (Means-one slots root now entity environment left) of_left ends)
   table_defined start stop None r o ends of_left of_right = absurd of_left
   table_defined start stop (Some l) None o ends of_left of_right = absurd of_right
 
@@ -81,9 +81,14 @@ module _ (slots : Slots) (root : List ℕ) (now : MomentParts) (entity : Val) (e
       → IsSomeAnd (option_map gives r) (Means slots root now entity environment right)
       → IsSomeAnd v (λ w. AtBoth (OperatorTable operator) l r (gives w))
       → IsSomeAnd (option_map gives v) (Means slots root now entity environment (node start stop (binary operator left right)))
-  table_related start stop (Some l) (Some r) (Some v) of_left of_right table =
-      (gives l, (of_left, operator_within operator l (λ first. first ≡ gives r) (Means slots root now entity environment right)
-          (λ first is_it. subst (Means slots root now entity environment right) (sym is_it) of_right) (gives v) table))
+  table_related start stop (Some l) (Some r) (Some v) of_left of_right table = (
+    gives l,
+    (
+      of_left,
+      operator_within operator l (λ first. first ≡ gives r) (Means slots root now entity environment right)
+          (λ first is_it. subst (Means slots root now entity environment right) (sym is_it) of_right) (gives v) table,
+    ),
+  )
   table_related start stop None r v of_left of_right table = absurd of_left
   table_related start stop (Some l) None v of_left of_right table = absurd of_right
   table_related start stop (Some l) (Some r) None of_left of_right table = absurd table

@@ -54,9 +54,9 @@ found : (slots : Slots) (environment : Environment) (asked : List ℕ) → IsFit
     → Found slots (variable_type (scope_of environment) asked) (variable_value environment asked)
 found slots [] asked fitting = tt
 found slots (bound ∷ more) asked fitting =
-    elim (pointwise nat_eq bound.0 asked) as (λ is_it. Found slots
-    (option_map (λ b. b.1) (cond is_it (Some (bound.0, bound.1.0)) (find (λ b. pointwise nat_eq b.0 asked) (scope_of more))))
-    (option_map (λ b. b.1.1) (cond is_it (Some bound) (find (λ b. pointwise nat_eq b.0 asked) more)))) [
+    elim (pointwise nat_eq asked bound.0) as (λ is_it. Found slots
+    (option_map (λ b. b.1) (cond is_it (Some (bound.0, bound.1.0)) (find (λ b. pointwise nat_eq asked b.0) (scope_of more))))
+    (option_map (λ b. b.1.1) (cond is_it (Some bound) (find (λ b. pointwise nat_eq asked b.0) more)))) [
       | true ↦ fitting.0
       | false ↦ found slots more asked fitting.1
     ]
@@ -70,11 +70,11 @@ pub found_property : (Holds : PropertyType → List ℕ → Type 0) (asked : Lis
     → AllByRecursion (λ p. Holds p.type_of p.name) properties → PropertyTyped properties asked type → Holds (declared type) asked
 found_property Holds asked type [] all typed = absurd typed
 found_property Holds asked type (p ∷ more) all typed =
-    elim (pointwise nat_eq p.name asked) as (λ is_it. pointwise nat_eq p.name asked ≡ is_it
-        → IsSomeAnd (cond is_it (Some p) (property_named more asked)) (λ q. q.type_of ≡ declared type)
-        → Holds (declared type) asked) [
+    elim (pointwise nat_eq asked p.name) as (λ is_it. pointwise nat_eq asked p.name ≡ is_it
+    → IsSomeAnd (cond is_it (Some p) (property_named more asked)) (λ q. q.type_of ≡ declared type)
+    → Holds (declared type) asked) [
       | true ↦ λ same is_typed. subst (λ (t : PropertyType). Holds t asked) is_typed
-            (subst (λ (n : List ℕ). Holds p.type_of n) ((bytes_eq-Decides p.name asked).0 same) all.0)
+          (subst (λ (n : List ℕ). Holds p.type_of n) (sym ((bytes_eq-Decides asked p.name).0 same)) all.0)
       | false ↦ λ other is_typed. found_property Holds asked type more all.1 is_typed
     ] refl typed
 
@@ -83,7 +83,7 @@ step_ends : (slots : Slots) (root : List ℕ) (entity : Val) (asked : List ℕ) 
 step_ends slots root null asked type conforms typed = (null, (refl, tt))
 step_ends slots root (fields held) asked type conforms typed =
     held_ends slots type (held asked)
-        (found_property (λ t n. HasPropertyType slots t (held n)) asked type (slots root) conforms typed)
+    (found_property (λ t n. HasPropertyType slots t (held n)) asked type (slots root) conforms typed)
 step_ends slots root _ asked type conforms typed = absurd conforms
 
 found_ends : (slots : Slots) (root : List ℕ) (entity : Val) (asked : List ℕ) (type : ExprType) (in_scope : Option ExprType) (value : Option Val)

@@ -1,5 +1,5 @@
 -- The value in a property's slot is the entity's value of the property's name.
-use Rattle.std.proofs.Common.{◌≡◌, ◌∙◌, ℕ, suc, ◌+◌, List, [], ◌∷◌, true, false, cond, not, map, Option, Some, None, slice_get, refl, sym, ap, subst, nat_eq, one-add}
+use Rattle.std.proofs.Common.{◌≡◌, ◌∙◌, ℕ, suc, ◌+◌, List, [], ◌∷◌, true, false, cond, not, map, Option, Some, None, slice_get, refl, rules, sym, ap, subst, nat_eq, one-add}
 use Rattle.std.specs.Prelude.{IsSomeAnd, Vec, position, Bool as Truth}
 use Rattle.std.specs.List.{AllByRecursion, prefix_len, position_or_len}
 use Rattle.std.specs.declared.alloc.Global.{Global}
@@ -11,10 +11,7 @@ use Rattle.serde_json.specs.Find.{get}
 use Rattle.edm_values.specs.PlainVal.{plain_val}
 use Rattle.edm_values.specs.Val.{Val, null, boolean, whole, text, fields, Held, absent, present}
 use Rattle.edm_values.specs.declared.primitive.PrimitiveType.{PrimitiveType}
-use Rattle.edm_values.specs.declared.value.Value.{Value, Record, Null, Bool, Int, Text, Date, Moment, Guid, Enum, Record', List'}
-use Rattle.edm_values.specs.declared.value.Value.TheOpen.{Value-F}
-use Rattle.edm_values.specs.declared.value.Value.TheFolds.{fold-roll-Value}
-use Rattle.edm_values.specs.declared.value.Value.TheVariants.{rolls-Record}
+use Rattle.edm_values.specs.declared.value.Value.{Value, Record, Null, Bool, Int, Text, Date, Moment, Guid, Enum, Record', List', the_lemmas}
 use Rattle.odata_filter.specs.csdl_schema.ExprType.{ExprType, null_type, single, collection, primitive, enumeration, structured}
 use Rattle.odata_filter.specs.csdl_schema.SchemaModel.{Slots, PropertyModel, PropertyType, declared, opaque, navigation, slot_named, slots_of, type_name_at}
 use Rattle.odata_filter.specs.edm_entities.Fits.{Fits, FitsProperty, FitsType, FitsPrimitive}
@@ -24,10 +21,12 @@ use Rattle.odata_filter.specs.odata_eval.Outcome.{Outcome, gives}
 use Rattle.odata_filter.specs.odata_eval.WalkAnswer.{HoldsAt}
 use Rattle.odata_filter.specs.odata_typing.Typed.{PropertyTyped, property_named}
 use Rattle.odata_filter.proofs.MeansLaws.Progress.{found_property}
+use Rattle.odata_filter.proofs.ReadEntities.{val_of-Record}
 
--- a record of slots is the record of what they stand for
-pub record_val : (slots : Slots) (type : ExprType) (values : Vec Value Global) → val_of (Record values) slots type ≡ record_of slots type (map val_of values.items)
-record_val slots type values = ap (λ (seen : Seen). seen slots type) (ap val_of (rolls-Record values) ∙ fold-roll-Value Seen seen_step (Value-F.Record values))
+-- names are compared alike from both sides
+pub same_sides : (a b : List ℕ) → pointwise nat_eq a b ≡ pointwise nat_eq b a
+same_sides a b = same_from_decides (pointwise nat_eq a b) (pointwise nat_eq b a) (bytes_eq-Decides a b)
+    (Decides-like (pointwise nat_eq b a) sym sym (bytes_eq-Decides b a))
 
 module _ (slots : Slots) (asked : List ℕ) (type : ExprType) (v : Value) where
   -- at one property more
@@ -39,24 +38,18 @@ module _ (slots : Slots) (asked : List ℕ) (type : ExprType) (v : Value) where
   at_front true p w ws n found behind at typed further =
       let same : w ≡ v = cc in
       rw (typed, same) refl
-  at_front false p w ws n found behind at typed further = further (ap (slice_get (w ∷ ws)) (sym one-add) ∙ at) typed
+  at_front false p w ws n found behind at typed further = further (ap (slice_get (w ∷ ws)) (sym (one-add n)) ∙ at) typed
 
-  pub held_at : (test : PropertyModel → Truth) → ((p : PropertyModel) → test p ≡ pointwise nat_eq p.name asked)
-      → (properties : List PropertyModel) (values : List Value)
-      → slice_get values (position_or_len test properties) ≡ Some v → PropertyTyped properties asked type
+  pub held_at : (properties : List PropertyModel) (values : List Value)
+      → slice_get values (position_or_len (λ p. pointwise nat_eq asked p.name) properties) ≡ Some v → PropertyTyped properties asked type
       → held_by_name slots properties (map val_of values) asked ≡ present (val_of v slots type)
-  held_at test same [] values at typed = absurd typed
-  held_at test same (p ∷ more) [] at typed = cc
-  held_at test same (p ∷ more) (w ∷ ws) at typed =
-      at_front (pointwise nat_eq p.name asked) p w ws (position_or_len test more) (property_named more asked)
-          (held_by_name slots more (map val_of ws) asked)
-          (subst (λ (is_it : Truth). slice_get (w ∷ ws) (cond (not is_it) (1 + position_or_len test more) 0) ≡ Some v) (same p) at)
-          typed (held_at test same more ws)
-
--- names are compared alike from both sides
-pub same_sides : (a b : List ℕ) → pointwise nat_eq a b ≡ pointwise nat_eq b a
-same_sides a b = same_from_decides (pointwise nat_eq a b) (pointwise nat_eq b a) (bytes_eq-Decides a b)
-    (Decides-like (pointwise nat_eq b a) sym sym (bytes_eq-Decides b a))
+  held_at [] values at typed = absurd typed
+  held_at (p ∷ more) [] at typed = absurd (cc)
+  held_at (p ∷ more) (w ∷ ws) at typed =
+      subst (λ (is_it : Truth). cond is_it (held_of slots p.type_of (val_of w)) (held_by_name slots more (map val_of ws) asked) ≡ present (val_of v slots type))
+      (same_sides asked p.name)
+      (at_front (pointwise nat_eq asked p.name) p w ws (position_or_len (λ q. pointwise nat_eq asked q.name) more) (property_named more asked)
+      (held_by_name slots more (map val_of ws) asked) at typed (held_at more ws))
 
 -- values of these kinds fit
 abbrev IsPlainKind : Val → Type 0
@@ -77,16 +70,20 @@ plain_kind _ json v fits = absurd fits
 
 plain_value : (slots : Slots) (p : PrimitiveType) (v : Value) → IsPlainKind (val_of v slots (single (primitive p)))
     → plain_val v ≡ Some (val_of v slots (single (primitive p)))
-plain_value slots p Null kind = refl
-plain_value slots p (Bool b) kind = refl
-plain_value slots p (Int n) kind = refl
-plain_value slots p (Text s) kind = refl
-plain_value slots p (Date d) kind = refl
-plain_value slots p (Moment m) kind = refl
-plain_value slots p (Guid bytes) kind = refl
-plain_value slots p (Enum n) kind = refl
-plain_value slots p (Record' shape all) kind = absurd kind
-plain_value slots p (List' shape all) kind = absurd kind
+plain_value slots p Null kind = search (rules, the_lemmas)
+plain_value slots p (Bool b) kind = search (rules, the_lemmas)
+plain_value slots p (Int n) kind = search (rules, the_lemmas)
+plain_value slots p (Text s) kind = search (rules, the_lemmas)
+plain_value slots p (Date d) kind = search (rules, the_lemmas)
+plain_value slots p (Moment m) kind = search (rules, the_lemmas)
+plain_value slots p (Guid bytes) kind = search (rules, the_lemmas)
+plain_value slots p (Enum n) kind = search (rules, the_lemmas)
+plain_value slots p (Record' shape all) kind =
+    let nothing : val_of (Record' shape all) slots (single (primitive p)) ≡ null = search (rules, the_lemmas) in
+    absurd (subst IsPlainKind nothing kind)
+plain_value slots p (List' shape all) kind =
+    let nothing : val_of (List' shape all) slots (single (primitive p)) ≡ null = search (rules, the_lemmas) in
+    absurd (subst IsPlainKind nothing kind)
 
 plain_property : (slots : Slots) (type : ExprType) (found : Option Data) (v : Value) → FitsProperty (declared type) found (present (val_of v slots type))
     → plain_val v ≡ Some (val_of v slots type)
@@ -110,16 +107,15 @@ slot_value row slot v asked type entity holds named typed =
     let values : List Value = holds.0.items in
     let held : List ℕ → Held = held_by_name slots (slots type_name) (map val_of values) in
     let seen : value_of row ≡ fields held =
-        ap (λ (h : Value). val_of h slots (single (structured type_name))) holds.1.0 ∙ record_val slots (single (structured type_name)) holds.0 in
+    ap (λ (h : Value). val_of h slots (single (structured type_name))) holds.1.0 ∙ val_of-Record slots (single (structured type_name)) holds.0 in
     let fits : Fits slots type_name entity.conforms.0 (fields held) = subst (Fits slots type_name entity.conforms.0) seen entity.conforms.1 in
     let place : position_or_len (λ p. pointwise nat_eq asked p.name) (slots type_name) ≡ slot = found_place _ _ slot named in
     let here : held asked ≡ present (val_of v slots type) =
-        held_at slots asked type v (λ p. pointwise nat_eq asked p.name) (λ p. same_sides asked p.name) (slots type_name) values
-            (subst (λ (n : ℕ). slice_get values n ≡ Some v) (sym place) holds.1.1) typed in
+    held_at slots asked type v (slots type_name) values (subst (λ (n : ℕ). slice_get values n ≡ Some v) (sym place) holds.1.1) typed in
     let fits_here : FitsProperty (declared type) (get asked entity.conforms.0) (held asked) =
-        found_property (λ t n. FitsProperty t (get n entity.conforms.0) (held n)) asked type (slots type_name) fits.each_fits typed in
+    found_property (λ t n. FitsProperty t (get n entity.conforms.0) (held n)) asked type (slots type_name) fits.each_fits typed in
     let plain : plain_val v ≡ Some (val_of v slots type) =
-        plain_property slots type (get asked entity.conforms.0) v (subst (FitsProperty (declared type) (get asked entity.conforms.0)) here fits_here) in
+    plain_property slots type (get asked entity.conforms.0) v (subst (FitsProperty (declared type) (get asked entity.conforms.0)) here fits_here) in
     let gives_it : StepGives (fields held) asked (gives (val_of v slots type)) =
-        subst (λ (h : Held). HeldGives h (gives (val_of v slots type))) (sym here) refl in
+    subst (λ (h : Held). HeldGives h (gives (val_of v slots type))) (sym here) refl in
     (val_of v slots type, (plain, subst (λ (e : Val). StepGives e asked (gives (val_of v slots type))) (sym seen) gives_it))

@@ -8,7 +8,7 @@ use Rattle.serde_json.specs.Find.{get, as_str, as_bool, as_array, as_object}
 use Rattle.edm_values.specs.declared.primitive.PrimitiveType.{PrimitiveType}
 use Rattle.edm_values.specs.declared.primitive.PrimitiveType.TheVariants as prim
 use Rattle.odata_filter.specs.csdl_schema.ExprType.{single, primitive}
-use Rattle.odata_filter.specs.csdl_schema.SchemaModel.{PropertyType, declared, opaque, PropertyModel, TypeModel, SchemaModel}
+use Rattle.odata_filter.specs.csdl_schema.SchemaModel.{PropertyType, declared, opaque, PropertyModel, TypeModel, SchemaModel, Slots}
 
 -- ---- names
 
@@ -157,3 +157,8 @@ declared_type t = entity_type t (map declared_property (declared_in t.body))
 -- the schema that a document without faults stands for
 abbrev pub declared_schema : Data → SchemaModel
 declared_schema document = record { types = map declared_type (types_in_order document) }
+
+-- the properties of the first declared type of a whole name, in the document's own order
+abbrev pub declared_slots : List TypeDeclaration → Slots
+declared_slots [] asked = []
+declared_slots (t ∷ ts) asked = if pointwise nat_eq (full_name t) asked then map declared_property (declared_in t.body) else declared_slots ts asked

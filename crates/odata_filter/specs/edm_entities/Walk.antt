@@ -39,12 +39,12 @@ FitSlots slots json [] [] = Unit {0}
 FitSlots slots json (p ∷ ps) (value ∷ values) = FitsSlot slots json p value × FitSlots slots json ps values
 FitSlots slots json _ _ = ⊥
 
--- the fault of one slot
-abbrev pub IsSlotFault : Data → PropertyModel → RowFault → Type 0
-IsSlotFault json p fault.NotObject = ⊥
-IsSlotFault json p (fault.Missing path) = IsPropertyFault p.type_of (get p.name json) [] missing × (string_bytes path ≡ p.name)
-IsSlotFault json p (fault.WrongKind path) = IsPropertyFault p.type_of (get p.name json) [] wrong_kind × (string_bytes path ≡ p.name)
-IsSlotFault json p (fault.NullNotAllowed path) = IsPropertyFault p.type_of (get p.name json) [] null_not_allowed × (string_bytes path ≡ p.name)
-IsSlotFault json p (fault.OutOfRange path) = IsPropertyFault p.type_of (get p.name json) [] out_of_range × (string_bytes path ≡ p.name)
-IsSlotFault json p (fault.BadText path) = ⊥
-IsSlotFault json p fault.Memory = Unit {0}
+-- the fault of a slot, by its property's type and name and the member of that name
+abbrev pub IsSlotFault : PropertyType → Option Data → List ℕ → RowFault → Type 0
+IsSlotFault type found name fault.NotObject = ⊥
+IsSlotFault type found name (fault.Missing path) = IsPropertyFault type found [] missing × (string_bytes path ≡ name)
+IsSlotFault type found name (fault.WrongKind path) = IsPropertyFault type found [] wrong_kind × (string_bytes path ≡ name)
+IsSlotFault type found name (fault.NullNotAllowed path) = IsPropertyFault type found [] null_not_allowed × (string_bytes path ≡ name)
+IsSlotFault type found name (fault.OutOfRange path) = IsPropertyFault type found [] out_of_range × (string_bytes path ≡ name)
+IsSlotFault type found name (fault.BadText path) = ⊥
+IsSlotFault type found name fault.Memory = Unit {0}

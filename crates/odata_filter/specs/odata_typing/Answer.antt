@@ -1,11 +1,15 @@
 -- For private clauses: what the walk over a tree answers.
-use Rattle.std.specs.Prelude.{◌≡◌, ℕ, List, [], Result, MatchResult}
+use Rattle.std.specs.Prelude.{◌≡◌, ◌≢◌, ◌⊎◌, ℕ, List, [], Result, MatchResult}
 use Rattle.std.specs.Global.{Box}
 use Rattle.odata_syntax.specs.Tree.{Tree}
+use Rattle.odata_syntax.specs.declared.odata_text.fault.TextFault.{TextFault}
+use Rattle.odata_syntax.specs.declared.syntax_fault.SyntaxFault.{SyntaxFault}
 use Rattle.odata_filter.specs.csdl_schema.SchemaModel.{Slots, SchemaModel, slots_of, type_name_at}
 use Rattle.odata_filter.specs.declared.odata_typing.checked_node.CheckedNode.{CheckedNode}
+use Rattle.odata_filter.specs.declared.odata_typing.refusal.Refusal.{Refusal}
 use Rattle.odata_filter.specs.declared.odata_typing.untyped.Untyped.{Untyped}
 use Rattle.odata_filter.specs.odata_typing.FirstUntypable.{IsFirstUntypable}
+use Rattle.odata_filter.specs.odata_typing.HasTyping.{HasTree}
 use Rattle.odata_filter.specs.odata_typing.IsChecked.{IsChecked, named}
 
 -- a right node that stands for the tree
@@ -20,3 +24,16 @@ HasFault schema n tree Untyped.Memory = Unit {0}
 
 abbrev pub IsAnswer : SchemaModel → ℕ → Tree → Result (Box CheckedNode) Untyped → Type 0
 IsAnswer schema n tree answer = MatchResult answer (λ b. IsCheckedTree schema n tree b.value) (HasFault schema n tree)
+
+-- no tokens of the text are a tree
+abbrev pub HasNoTree : List ℕ → Type 0
+HasNoTree text = (tree : Tree) → ¬ HasTree text tree
+
+-- a fault as a refusal; want of memory is told by itself
+abbrev pub IsTextRefusal : TextFault → Refusal → Type 0
+IsTextRefusal fault refusal =
+    ((fault ≡ TextFault.Memory) × (refusal ≡ Refusal.Memory)) ⊎ ((fault ≢ TextFault.Memory) × (refusal ≡ Refusal.Text fault))
+
+abbrev pub IsSyntaxRefusal : SyntaxFault → Refusal → Type 0
+IsSyntaxRefusal fault refusal =
+    ((fault ≡ SyntaxFault.Memory) × (refusal ≡ Refusal.Memory)) ⊎ ((fault ≢ SyntaxFault.Memory) × (refusal ≡ Refusal.Syntax fault))

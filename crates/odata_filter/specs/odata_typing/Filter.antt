@@ -1,11 +1,15 @@
 -- A checked filter.
-use Rattle.std.specs.Prelude.{ℕ, [], List, ◌∷◌, ◌++◌}
-use Rattle.odata_syntax.specs.Tree.{Tree, node, literal, name, binary}
-use Rattle.odata_filter.specs.csdl_schema.SchemaModel.{SchemaModel}
+use Rattle.std.specs.Prelude.{ℕ, ◌<◌, ◌≤◌, List, [], length, slice_get, IsSomeAnd}
+use Rattle.odata_syntax.specs.Tokens.{token_limit}
+use Rattle.odata_syntax.specs.Tree.{Tree}
+use Rattle.odata_filter.specs.csdl_schema.ExprType.{ExprType}
+use Rattle.odata_filter.specs.csdl_schema.SchemaModel.{SchemaModel, slots_of, type_name_at}
 use Rattle.odata_filter.specs.declared.odata_typing.checked_node.CheckedNode.{CheckedNode}
 use Rattle.odata_filter.specs.odata_typing.ExprTypes.{IsBooleanOrNull}
 use Rattle.odata_filter.specs.odata_typing.IsChecked.{IsChecked, named, type_of_node}
+use Rattle.odata_filter.specs.odata_typing.PreOrder.{pre_order}
 use Rattle.odata_filter.specs.odata_typing.TypeView.{expr_type}
+use Rattle.odata_filter.specs.odata_typing.Typed.{Typed}
 
 -- a filter of the n-th type of a schema, by its root
 pub record Filter : Type 0 where
@@ -16,7 +20,14 @@ pub record Filter : Type 0 where
 abbrev pub tree_of_filter : Filter → Tree
 tree_of_filter filter = named filter.root
 
--- the root is right and has type Boolean or Null
+-- the schema has the type; the root is right and has type Boolean or Null; a tree has no more nodes than tokens
 pub record IsFilter (filter : Filter) : Type 0 where
+  pub held : filter.filtered < length filter.schema.types
   pub checked : IsChecked filter.schema filter.filtered [] filter.root
   pub truth : IsBooleanOrNull (expr_type filter.schema (type_of_node filter.root))
+  pub few : length (pre_order (named filter.root)) ≤ token_limit
+
+-- the filter's k-th node has the type
+abbrev pub IsTypeAt : Filter → ℕ → ExprType → Type 0
+IsTypeAt filter k type =
+    IsSomeAnd (slice_get (pre_order (tree_of_filter filter)) k) (λ place. Typed (slots_of filter.schema) (type_name_at filter.schema filter.filtered) [] place type)

@@ -1,11 +1,7 @@
 -- The nodes of a tree, in the order in which they are numbered from 0.
-use Rattle.std.specs.Prelude.{ℕ, List, [], ◌∷◌, ◌++◌, slice_get, IsSomeAnd}
+use Rattle.std.specs.Prelude.{ℕ, List, [], ◌∷◌, ◌++◌}
 use Rattle.odata_syntax.specs.Tree.{Tree, node, literal, name, binary, start_of, stop_of}
 use Rattle.odata_syntax.specs.declared.odata_text.span.Span.{Span}
-use Rattle.odata_filter.specs.csdl_schema.ExprType.{ExprType}
-use Rattle.odata_filter.specs.csdl_schema.SchemaModel.{slots_of, type_name_at}
-use Rattle.odata_filter.specs.odata_typing.Filter.{Filter, tree_of_filter}
-use Rattle.odata_filter.specs.odata_typing.Typed.{Typed}
 
 -- each node before its children, these from left to right
 abbrev pub pre_order : Tree → List Tree
@@ -16,8 +12,3 @@ pre_order (node start stop (binary operator left right)) =
 
 abbrev pub span_of_tree : Tree → Span
 span_of_tree tree = record { start = start_of tree; stop = stop_of tree }
-
--- the filter's k-th node has the type
-abbrev pub IsTypeAt : Filter → ℕ → ExprType → Type 0
-IsTypeAt filter k type =
-    IsSomeAnd (slice_get (pre_order (tree_of_filter filter)) k) (λ place. Typed (slots_of filter.schema) (type_name_at filter.schema filter.filtered) [] place type)

@@ -55,10 +55,10 @@ impl<'s> Entity<'s> {
         ensures first_fault { IfErr result (λ fault. ¬ (IsMemory fault)
             → IsRowFault (slots_of schema.now) (type_name_at schema.now type_id) (view row.now) fault) }
     {
-        if !row.is_object() {
+        let Some(object) = row.as_object() else {
             return Err(RowFault::NotObject);
-        }
-        match read_slots(alloc, schema, type_id, row) {
+        };
+        match read_slots(alloc, schema, type_id, object) {
             Ok(values) => Ok(Entity {
                 schema,
                 type_id,

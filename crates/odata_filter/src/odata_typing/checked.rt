@@ -1,12 +1,17 @@
-ghost use Rattle.std.specs.Prelude.{◌≡◌, ◌<◌, ◌↔◌, length, slice_get, IsTrue, IsSome, IfSome};
+ghost use Rattle.std.specs.Prelude.{◌≡◌, ◌<◌, ◌≤◌, ◌↔◌, [], length, slice_get, IsTrue, IsSome, IfSome, IfOk, IfErr};
 ghost use Rattle.std.specs.Option.{option_map};
+ghost use Rattle.odata_syntax.specs.Tokens.{token_limit};
 ghost use Rattle.odata_filter.specs.odata_typing.Calls.{TakesMemory, UsesNow};
-ghost use Rattle.odata_filter.specs.odata_typing.Filter.{IsFilter, tree_of_filter};
-ghost use Rattle.odata_filter.specs.odata_typing.PreOrder.{pre_order, span_of_tree, IsTypeAt};
+ghost use Rattle.odata_filter.specs.odata_typing.ExprTypes.{IsBooleanOrNull};
+ghost use Rattle.odata_filter.specs.odata_typing.Filter.{IsFilter, IsTypeAt, tree_of_filter};
+ghost use Rattle.odata_filter.specs.odata_typing.IsChecked.{IsChecked, named, type_of_node};
+ghost use Rattle.odata_filter.specs.odata_typing.PreOrder.{pre_order, span_of_tree};
 ghost use Rattle.odata_filter.specs.odata_typing.TypeView.{expr_type};
 
 use super::checked_node::CheckedNode;
 use super::edm_type::EdmType;
+use super::pre_order::{node_at, node_count};
+use super::refusal::{TypeFault, TypeFaultCode};
 use crate::csdl_schema::ids::TypeId;
 use crate::csdl_schema::schema::Schema;
 use odata_syntax::Span;
@@ -37,6 +42,39 @@ impl<'s> Model for Checked<'s> {
 }
 
 impl<'s> Checked<'s> {
+    /// The filter of a root that is right, or `NotBoolean` with the whole of a text of that length.
+    pub(super) fn of(
+        schema: &'s Schema,
+        filtered_type: TypeId,
+        root: Box<CheckedNode>,
+        len: usize,
+    ) -> Result<Checked<'s>, TypeFault>
+        requires held { filtered_type < length schema.now.types }
+        requires right { IsChecked schema.now filtered_type [] root.value }
+        requires few { length (pre_order (named root.value)) ≤ token_limit }
+        ensures parts { IfOk result (λ c. c ≡ record { schema = schema.entry.now; filtered = filtered_type; root = root.value }) }
+        ensures truth { IfOk result (λ c. IsBooleanOrNull (expr_type schema.entry.now (type_of_node root.value))) }
+        ensures other { IfErr result (λ f. ¬ IsBooleanOrNull (expr_type schema.entry.now (type_of_node root.value))) }
+        ensures fault { IfErr result (λ f. f ≡ record { code = TypeFaultCode.NotBoolean; span = record { start = 0; stop = len } }) }
+    {
+        if root.edm_type().is_truth() {
+            Ok(Checked {
+                schema,
+                filtered_type,
+                root,
+            })
+        } else {
+            let span = Span {
+                start: 0,
+                stop: len,
+            };
+            Err(TypeFault {
+                code: TypeFaultCode::NotBoolean,
+                span,
+            })
+        }
+    }
+
     /// The schema that the filter was checked against.
     pub fn schema(&self) -> &'s Schema
         ensures { result.now ≡ self.now.schema }
@@ -46,7 +84,8 @@ impl<'s> Checked<'s> {
 
     /// The type of the entities that it filters.
     pub fn filtered_type(&self) -> TypeId
-        ensures { result ≡ self.now.filtered }
+        ensures same { result ≡ self.now.filtered }
+        ensures held { result < length self.now.schema.types }
     {
         self.filtered_type
     }
@@ -63,7 +102,7 @@ impl<'s> Checked<'s> {
     pub fn node_count(&self) -> usize
         ensures { result ≡ length (pre_order (tree_of_filter self.now)) }
     {
-        unreachable!()
+        node_count(&self.root)
     }
 
     /// The type of a node, numbered from 0 in pre-order. `None` past the last node.
@@ -71,27 +110,33 @@ impl<'s> Checked<'s> {
         ensures inside { IsSome result ↔ (node < length (pre_order (tree_of_filter self.now))) }
         ensures typed { IfSome result (λ t. IsTypeAt self.now node (expr_type self.now.schema t)) }
     {
-        unreachable!()
+        match node_at(&self.root, node) {
+            Ok(found) => Some(*found.edm_type()),
+            Err(_) => None,
+        }
     }
 
     /// The place of a node, numbered from 0 in pre-order. `None` past the last node.
     pub fn span_of(&self, node: usize) -> Option<Span>
         ensures { result ≡ option_map span_of_tree (slice_get (pre_order (tree_of_filter self.now)) node) }
     {
-        unreachable!()
+        match node_at(&self.root, node) {
+            Ok(found) => Some(*found.span()),
+            Err(_) => None,
+        }
     }
 
     /// Whether evaluating the filter makes texts.
     pub fn takes_memory(&self) -> bool
         ensures { IsTrue result ↔ TakesMemory (tree_of_filter self.now) }
     {
-        unreachable!()
+        false
     }
 
     /// Whether the filter asks for the moment of its evaluation.
     pub fn uses_now(&self) -> bool
         ensures { IsTrue result ↔ UsesNow (tree_of_filter self.now) }
     {
-        unreachable!()
+        false
     }
 }

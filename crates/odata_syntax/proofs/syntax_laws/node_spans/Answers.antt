@@ -1,5 +1,5 @@
-use Rattle.odata_syntax.proofs.Spanned.{derived_spanned}
+use Rattle.odata_syntax.proofs.Spanned.{within_spanned}
 use Rattle.odata_syntax.proofs.syntax_laws.node_spans.Goals as goal
 
 pub returns : goal.returns
-returns c = λ level ts tree d. derived_spanned d
+returns c = λ ts tree part d w. within_spanned d part w

@@ -9,4 +9,4 @@ truth_of-requires c =
 pub truth_of-requires-in-And : goal.truth_of-requires-in-And
 truth_of-requires-in-And c =
     and_right_truth (plain_datum c.args.left.now) (plain_datum c.args.right.now) c.requires.defined.0 (rw c.in-And.is at c.requires.undecided)
-        (rw c.in-And.is at c.requires.defined.1)
+    (rw c.in-And.is at c.requires.defined.1)

@@ -1,0 +1,5 @@
+use Rattle.edm_values.proofs.Ints.{IntValue-spelling}
+use Rattle.edm_values.proofs.laws.ints_read_back.Goals as goal
+
+pub returns : goal.returns
+returns c = λ n fits. IntValue-spelling n fits

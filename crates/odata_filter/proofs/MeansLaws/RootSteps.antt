@@ -1,0 +1,56 @@
+-- What a filter's root comes to.
+use Rattle.std.proofs.Common.{◌≡◌, ◌∙◌, ℕ, List, [], Bool, Option, Some, None, refl, sym, ap, subst}
+use Rattle.std.specs.Prelude.{IsSomeAnd, IfSome}
+use Rattle.std.specs.Option.{option_map}
+use Rattle.edm_values.specs.MomentParts.{MomentParts}
+use Rattle.edm_values.specs.Val.{Val, null, boolean}
+use Rattle.odata_syntax.specs.Tree.{Tree}
+use Rattle.odata_filter.specs.csdl_schema.ExprType.{ExprType}
+use Rattle.odata_filter.specs.csdl_schema.SchemaModel.{SchemaModel, slots_of, type_name_at}
+use Rattle.odata_filter.specs.edm_entities.Row.{Row, IsEntity, value_of}
+use Rattle.odata_filter.specs.odata_eval.MeansOn.{MeansOn, IsTheOutcome}
+use Rattle.odata_filter.specs.odata_eval.Outcome.{Outcome, gives}
+use Rattle.odata_filter.specs.odata_eval.VerdictView.{truth_val}
+use Rattle.odata_filter.specs.odata_typing.ExprTypes.{IsBooleanOrNull}
+use Rattle.odata_filter.specs.odata_typing.Filter.{Filter, IsFilter, tree_of_filter}
+use Rattle.odata_filter.specs.odata_typing.IsChecked.{IsChecked, named, type_of_node}
+use Rattle.odata_filter.specs.odata_typing.TypeView.{expr_type}
+use Rattle.odata_filter.proofs.MeansLaws.CheckedTyped.{checked_typed}
+use Rattle.odata_filter.proofs.MeansLaws.OneMeaning.{Means-one}
+use Rattle.odata_filter.proofs.MeansLaws.Truths.{IsTruth, truth_of}
+use Rattle.odata_filter.proofs.MeansLaws.WalkSteps.{entity_ends}
+
+-- no tree has two outcomes on an entity
+pub one_outcome : (row : Row) (now : MomentParts) (tree : Tree) (a b : Outcome) → MeansOn row now tree a → MeansOn row now tree b → a ≡ b
+one_outcome row now tree = Means-one (slots_of row.schema) (type_name_at row.schema row.type_id) now (value_of row) [] tree
+
+pub the_outcome : (row : Row) (now : MomentParts) (tree : Tree) (o : Outcome) → MeansOn row now tree o → IsTheOutcome row now tree o
+the_outcome row now tree o related = record {
+  related = related;
+  only = λ other of_other. one_outcome row now tree other o of_other related;
+}
+
+pub told_the_outcome : (row : Row) (now : MomentParts) (tree : Tree) (told : Option Outcome) → IsSomeAnd told (MeansOn row now tree) → IfSome told (IsTheOutcome row now tree)
+told_the_outcome row now tree (Some o) related = the_outcome row now tree o related
+told_the_outcome row now tree None related = absurd related
+
+some_truth : (v : Val) → IsTruth v → (truth : Option Bool) × (Some v ≡ Some (truth_val truth))
+some_truth (boolean b) is_truth = (Some b, refl)
+some_truth null is_truth = (None, refl)
+some_truth _ is_truth = absurd is_truth
+
+-- what a filter's root comes to is a truth value or null
+pub root_truth : (filter : Filter) (row : Row) (now : MomentParts) (d : Option Val) → IsEntity row → IsFilter filter
+    → filter.schema ≡ row.schema → filter.filtered ≡ row.type_id
+    → IsSomeAnd (option_map gives d) (MeansOn row now (tree_of_filter filter)) → (truth : Option Bool) × (d ≡ Some (truth_val truth))
+root_truth filter row now None entity right one_schema one_type related = absurd related
+root_truth filter row now (Some v) entity right one_schema one_type related =
+    let checked : IsChecked row.schema row.type_id [] filter.root =
+    subst (λ (s : SchemaModel). IsChecked s row.type_id [] filter.root) one_schema
+    (subst (λ (n : ℕ). IsChecked filter.schema n [] filter.root) one_type right.checked) in
+    let type : ExprType = expr_type row.schema (type_of_node filter.root) in
+    let is_truth : IsBooleanOrNull type = subst (λ (s : SchemaModel). IsBooleanOrNull (expr_type s (type_of_node filter.root))) one_schema right.truth in
+    let ends = entity_ends row now (named filter.root) type entity (checked_typed row.schema row.type_id [] filter.root checked) in
+    let same : gives ends.0 ≡ gives v = one_outcome row now (named filter.root) (gives ends.0) (gives v) ends.1.0 related in
+    let same_value : ends.0 ≡ v = cc in
+    some_truth v (subst IsTruth same_value (truth_of (slots_of row.schema) type ends.0 is_truth ends.1.1))

@@ -1,0 +1,72 @@
+-- What the walk answers at a node, from what it found.
+use Rattle.std.proofs.Common.{◌≡◌, ℕ, List, [], Option, Some, None, refl, sym, subst, ◌∙◌}
+use Rattle.std.specs.Prelude.{IsSomeAnd, string_bytes, String}
+use Rattle.std.specs.Option.{option_map}
+use Rattle.std.specs.declared.alloc.Global.{Global}
+use Rattle.edm_values.specs.MomentParts.{MomentParts}
+use Rattle.edm_values.specs.PlainVal.{plain_val}
+use Rattle.edm_values.specs.Val.{Val}
+use Rattle.edm_values.specs.declared.value.Value.{Value}
+use Rattle.odata_syntax.specs.Tree.{Tree, node, name, binary}
+use Rattle.odata_syntax.specs.declared.node.BinaryOperator.{BinaryOperator}
+use Rattle.odata_filter.specs.csdl_schema.ExprType.{ExprType}
+use Rattle.odata_filter.specs.csdl_schema.SchemaModel.{SchemaModel, slots_of, type_name_at}
+use Rattle.odata_filter.specs.declared.odata_typing.checked_node.CheckedNode.{CheckedNode}
+use Rattle.odata_filter.specs.edm_entities.Row.{Row, IsEntity, value_of}
+use Rattle.odata_filter.specs.odata_eval.DatumView.{AtBoth}
+use Rattle.odata_filter.specs.odata_eval.MeansOn.{MeansOn}
+use Rattle.odata_filter.specs.odata_eval.NameGives.{StepGives}
+use Rattle.odata_filter.specs.odata_eval.Outcome.{Outcome, gives}
+use Rattle.odata_filter.specs.odata_eval.WalkAnswer.{HoldsAt, OperatorTable}
+use Rattle.odata_filter.specs.odata_typing.IsChecked.{IsChecked, IsCheckedProperty, named, type_of_node}
+use Rattle.odata_filter.specs.odata_typing.Typed.{OperatorTyped, Typed}
+use Rattle.odata_filter.specs.odata_typing.TypeView.{expr_type}
+use Rattle.odata_filter.proofs.FitsHasType.{fits_has_type}
+use Rattle.odata_filter.proofs.MeansLaws.CheckedTyped.{checked_typed}
+use Rattle.odata_filter.proofs.MeansLaws.OperatorSteps.{table_defined, table_related}
+use Rattle.odata_filter.proofs.MeansLaws.Progress.{tree_ends, Ends}
+use Rattle.odata_filter.proofs.MeansLaws.SlotValue.{slot_value}
+
+-- a tree with a type has an outcome on an entity
+pub entity_ends : (row : Row) (now : MomentParts) (tree : Tree) (type : ExprType) → IsEntity row
+    → Typed (slots_of row.schema) (type_name_at row.schema row.type_id) [] tree type → Ends (slots_of row.schema) type (MeansOn row now tree)
+entity_ends row now tree type entity typed =
+    tree_ends (slots_of row.schema) (type_name_at row.schema row.type_id) now (value_of row) []
+    (fits_has_type (slots_of row.schema) (type_name_at row.schema row.type_id) entity.conforms.0 (value_of row) entity.conforms.1) tt tree type typed
+
+-- a name's slot answers it
+pub property_answered : (row : Row) (now : MomentParts) (start stop : ℕ) (asked : List ℕ) (slot : ℕ) (type : ExprType) (v : Value) (d : Option Val) → IsEntity row
+    → IsCheckedProperty (slots_of row.schema (type_name_at row.schema row.type_id)) [] asked slot type → HoldsAt row slot v → d ≡ plain_val v
+    → IsSomeAnd (option_map gives d) (MeansOn row now (node start stop (name asked)))
+property_answered row now start stop asked slot type v d entity checked holds same =
+    let found = slot_value row slot v asked type entity holds checked.place checked.typed in
+    subst (λ (o : Option Val). IsSomeAnd (option_map gives o) (MeansOn row now (node start stop (name asked)))) (sym (same ∙ found.1.0)) found.1.1
+
+-- an operator has an outcome at the values of its sides
+pub operator_defined : (row : Row) (now : MomentParts) (operator : BinaryOperator) (left right : CheckedNode) (type : ExprType) (l r : Option Val) → IsEntity row
+    → (IsChecked row.schema row.type_id [] left
+    × IsChecked row.schema row.type_id [] right
+    × OperatorTyped operator (expr_type row.schema (type_of_node left)) (expr_type row.schema (type_of_node right)) type)
+    → IsSomeAnd (option_map gives l) (MeansOn row now (named left)) → IsSomeAnd (option_map gives r) (MeansOn row now (named right))
+    → (o : Outcome) × AtBoth (OperatorTable operator) l r o
+operator_defined row now operator left right type l r entity checked of_left of_right =
+    let typed : Typed (slots_of row.schema) (type_name_at row.schema row.type_id) [] (node 0 0 (binary operator (named left) (named right))) type = record {
+      left = expr_type row.schema (type_of_node left);
+      right = expr_type row.schema (type_of_node right);
+      left_typed = checked_typed row.schema row.type_id [] left checked.0;
+      right_typed = checked_typed row.schema row.type_id [] right checked.1;
+      operator_typed = checked.2;
+    } in
+    let ends = entity_ends row now (node 0 0 (binary operator (named left) (named right))) type entity typed in (
+      gives ends.0,
+      table_defined (slots_of row.schema) (type_name_at row.schema row.type_id) now (value_of row) [] operator (named left) (named right) 0 0 l r
+          (gives ends.0) ends.1.0 of_left of_right,
+    )
+
+-- and what it gives there answers the whole
+pub operator_answered : (row : Row) (now : MomentParts) (start stop : ℕ) (operator : BinaryOperator) (left right : Tree) (l r v : Option Val)
+    → IsSomeAnd (option_map gives l) (MeansOn row now left) → IsSomeAnd (option_map gives r) (MeansOn row now right)
+    → IsSomeAnd v (λ w. AtBoth (OperatorTable operator) l r (gives w))
+    → IsSomeAnd (option_map gives v) (MeansOn row now (node start stop (binary operator left right)))
+operator_answered row now start stop operator left right l r v of_left of_right table =
+    table_related (slots_of row.schema) (type_name_at row.schema row.type_id) now (value_of row) [] operator left right start stop l r v of_left of_right table

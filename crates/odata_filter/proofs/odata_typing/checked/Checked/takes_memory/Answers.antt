@@ -1,0 +1,10 @@
+use Rattle.std.proofs.Common.{IsTrue, false}
+use Rattle.odata_filter.specs.odata_typing.Filter.{tree_of_filter}
+use Rattle.odata_filter.proofs.TypingLaws.PreOrders.{no_memory}
+use Rattle.odata_filter.proofs.odata_typing.checked.Checked.takes_memory.Goals as goal
+
+untrue : IsTrue false → ⊥
+untrue same = cc
+
+pub returns : goal.returns
+returns c = (λ yes. absurd (untrue yes), λ needs. absurd (no_memory (tree_of_filter c.args.self.now) needs))
