@@ -8,6 +8,8 @@ use Rattle.odata_filter.specs.csdl_schema.SchemaModel.{slots_of, type_name_at}
 use Rattle.odata_filter.specs.declared.edm_entities.fault.RowFault.{RowFault}
 use Rattle.odata_filter.specs.declared.lines.said.Judgment.{Judgment}
 use Rattle.odata_filter.specs.declared.lines.said.Judgment.TheVariants.{Kept, LeftOut, NotJson, NoEntity, NoValue}
+use Rattle.odata_filter.specs.declared.odata_eval.verdict.Verdict.{Verdict}
+use Rattle.odata_filter.specs.declared.odata_eval.verdict.Verdict.TheVariants.{True, False, Null}
 use Rattle.odata_filter.specs.edm_entities.Fits.{Fits}
 use Rattle.odata_filter.specs.edm_entities.RowFaults.{IsRowFault}
 use Rattle.odata_filter.specs.odata_eval.Means.{Means}
@@ -29,6 +31,12 @@ JudgesValue filter now json LeftOut = (value : Val) × ((value ≢ boolean true)
 JudgesValue filter now json NotJson = ⊥
 JudgesValue filter now json (NoEntity fault) = IsRowFault (slots_of filter.schema) (type_name_at filter.schema filter.filtered) json fault
 JudgesValue filter now json (NoValue fault) = (outcome : Outcome) × ((fault_outcome fault ≡ Some outcome) × HasOutcome filter now json outcome)
+
+-- what a verdict says of its row
+abbrev pub judgment_of : Verdict → Judgment
+judgment_of True = Kept
+judgment_of False = LeftOut
+judgment_of Null = LeftOut
 
 -- the line is a JSON value, of which that is said
 pub record JudgesJson (filter : Filter) (now : MomentParts) (line : List ℕ) (judgment : Judgment) : Type 0 where

@@ -1,6 +1,6 @@
-ghost use Rattle.std.specs.Prelude.{IfOk};
+ghost use Rattle.std.specs.Prelude.{◌≡◌, IfOk};
 ghost use Rattle.serde_json.specs.View.{view};
-ghost use Rattle.odata_filter.specs.Judges.{JudgesValue, JudgesRow};
+ghost use Rattle.odata_filter.specs.Judges.{JudgesValue, JudgesRow, judgment_of};
 
 use super::judge::Judge;
 use super::said::Judgment;
@@ -32,11 +32,20 @@ impl RowJudge<'_, '_> {
             Err(fault) => return Ok(Judgment::NoEntity(fault)),
         };
         match evaluate(self.alloc, self.checked, &entity, self.moment) {
-            Ok(Verdict::True) => Ok(Judgment::Kept),
-            Ok(Verdict::False) | Ok(Verdict::Null) => Ok(Judgment::LeftOut),
+            Ok(verdict) => Ok(judgment_of(verdict)),
             Err(EvalFault::Memory) => Err(AllocError),
             Err(fault) => Ok(Judgment::NoValue(fault)),
         }
+    }
+}
+
+/// What a verdict says of its row.
+fn judgment_of(verdict: Verdict) -> Judgment
+    ensures { result ≡ judgment_of verdict }
+{
+    match verdict {
+        Verdict::True => Judgment::Kept,
+        Verdict::False | Verdict::Null => Judgment::LeftOut,
     }
 }
 
