@@ -1,3 +1,6 @@
+ghost use Rattle.std.specs.Prelude.{◌<◌, length, IfOk};
+ghost use Rattle.odata_filter.specs.csdl_schema.SchemaModel.{IsEntityAt};
+
 use crate::command_line::{Plan, Verb};
 use crate::csdl_schema::ids::TypeId;
 use crate::csdl_schema::schema::Schema;
@@ -42,9 +45,12 @@ fn filter_text<'p>(plan: &Plan<'p>) -> Result<&'p str, Failure<'p>> {
 }
 
 /// The entity type that the plan names.
-fn entity_type<'p>(schema: &Schema, named: &'p str) -> Result<TypeId, Failure<'p>> {
+fn entity_type<'p>(schema: &Schema, named: &'p str) -> Result<TypeId, Failure<'p>>
+    ensures held { IfOk result (λ id. id < length schema.now.types) }
+    ensures entity { IfOk result (IsEntityAt schema.now) }
+{
     match schema.type_named(named) {
-        Some(id) if schema.is_entity(id) => Ok(id),
+        Some(id) if schema.holds(id) && schema.is_entity(id) => Ok(id),
         _ => Err(Failure::UnknownType(named)),
     }
 }

@@ -63,7 +63,7 @@ right_typing schema n text tree c has_tree checked truth = record {
   has_tree = subst (HasTree text) (sym checked.stands_for) has_tree;
   type_of = expr_type schema (type_of_node c);
   typed = IsChecked-typed schema n [] c checked.right;
-  truth = truth
+  truth = truth;
 }
 
 pub few_checked_nodes :
