@@ -19,7 +19,9 @@ fn words(rt: &HostRuntime) -> io::Result<Vec<String>> {
 /// The bytes of the schema file, as many as matter.
 fn schema_bytes(rt: &HostRuntime, name: &str) -> io::Result<Vec<u8>> {
     let mut bytes = Vec::new(rt.alloc());
-    File::open(rt, name)?.take(SCHEMA_BYTES).read_to_end(&mut bytes)?;
+    File::open(rt, name)?
+        .take(SCHEMA_BYTES)
+        .read_to_end(&mut bytes)?;
     Ok(bytes)
 }
 
@@ -57,7 +59,14 @@ fn carried_out(rt: &HostRuntime, plan: &Plan<'_>) -> io::Result<u8> {
     let (alloc, document) = (rt.alloc(), document.as_slice());
     let (mut out, mut err) = (rt.stdout(), rt.stderr());
     Ok(match plan.rows {
-        Some(name) => run(alloc, plan, document, File::open(rt, name).ok(), &mut out, &mut err),
+        Some(name) => run(
+            alloc,
+            plan,
+            document,
+            File::open(rt, name).ok(),
+            &mut out,
+            &mut err,
+        ),
         None => run(alloc, plan, document, Some(rt.stdin()), &mut out, &mut err),
     })
 }
