@@ -7,3 +7,4 @@ pub mod Judges
 pub mod Kept
 pub mod Passing
 pub mod Writes
+pub mod FilterPlan

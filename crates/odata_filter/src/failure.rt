@@ -1,3 +1,5 @@
+ghost use Rattle.std.specs.Prelude.{◌<◌};
+
 use crate::csdl_schema::fault::SchemaFault;
 use crate::edm_entities::fault::RowFault;
 use crate::lines::run_fault::RunFault;
@@ -20,7 +22,9 @@ pub enum Failure<'p> {
 
 impl Failure<'_> {
     /// The status that the program ends with.
-    pub fn status(&self) -> u8 {
+    pub fn status(&self) -> u8
+        ensures { (0 < result) × (result < 7) }
+    {
         match self {
             Failure::Schema(SchemaFault::Memory) | Failure::Refused(Refusal::Memory) => 6,
             Failure::Rows(RunFault::Memory { .. }) => 6,

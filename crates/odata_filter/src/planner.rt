@@ -1,3 +1,6 @@
+ghost use Rattle.std.specs.Prelude.{IfOk};
+ghost use Rattle.odata_filter.specs.FilterPlan.{IsFilterPlan};
+
 use crate::command_line::{Plan, PlanFault, Verb};
 use clap::error::ErrorKind;
 use clap::{Arg, ArgAction, ArgMatches, Command, Error};
@@ -55,7 +58,9 @@ fn fault_of(error: Error) -> PlanFault {
 }
 
 /// The plan of what stands behind `filter`.
-fn plan_of<'a>(matches: &ArgMatches<'a>) -> Result<Plan<'a>, PlanFault> {
+fn plan_of<'a>(matches: &ArgMatches<'a>) -> Result<Plan<'a>, PlanFault>
+    ensures { IfOk result IsFilterPlan }
+{
     let filter = matches.get_str("filter");
     if filter.is_none() {
         return Err(PlanFault::OneOf);
@@ -75,7 +80,9 @@ fn plan_of<'a>(matches: &ArgMatches<'a>) -> Result<Plan<'a>, PlanFault> {
 /// Reads a command line, the program's name first.
 ///
 /// `OneOf` comes where no filter is given, `Clap` where `clap` refuses the words or is asked for help.
-pub fn plan<'a>(alloc: Global, words: &'a [&'a str]) -> Result<Plan<'a>, PlanFault> {
+pub fn plan<'a>(alloc: Global, words: &'a [&'a str]) -> Result<Plan<'a>, PlanFault>
+    ensures { IfOk result IsFilterPlan }
+{
     let command = match command(alloc) {
         Ok(command) => command,
         Err(_) => return Err(PlanFault::Memory),

@@ -111,7 +111,9 @@ pub fn run<R: Read + Drop, W: Write, E: Write>(
     rows: Option<R>,
     out: &mut W,
     err: &mut E,
-) -> u8 {
+) -> u8
+    ensures { result < 7 }
+{
     match carry_out(alloc, plan, document, rows, out) {
         Ok(_) => 0,
         Err(failure) => {
