@@ -6,5 +6,3 @@ pub mod laws;
 mod members;
 mod primitive;
 mod slots;
-#[cfg(test)]
-mod tests;

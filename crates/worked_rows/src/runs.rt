@@ -88,6 +88,18 @@ fn faulty_rows(rt: HostRuntime) {
             "{\"ID\":1,\"Name\":2,\"Active\":3}",
             "row 1 WrongKind Active\n",
         ),
+        (
+            "{\"ID\":18446744073709551615,\"Name\":\"a\",\"Active\":true}",
+            "row 1 OutOfRange ID\n",
+        ),
+        (
+            "{\"ID\":-0,\"Name\":\"a\",\"Active\":true}",
+            "row 1 WrongKind ID\n",
+        ),
+        (
+            "{\"ID\":1e0,\"Name\":\"a\",\"Active\":true}",
+            "row 1 WrongKind ID\n",
+        ),
         ("{}", "row 1 Missing Active\n"),
         ("[]", "row 1 NotObject\n"),
         ("{\"ID\":1", "row 1 Json\n"),
