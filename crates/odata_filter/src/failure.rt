@@ -5,7 +5,8 @@ use crate::edm_entities::fault::RowFault;
 use crate::lines::run_fault::RunFault;
 use crate::odata_eval::EvalFault;
 use crate::odata_typing::{Refusal, TypeFaultCode};
-use odata_syntax::{Span, SyntaxFault, TextFault};
+use odata_syntax::SyntaxFault;
+use odata_text::{Span, TextFault};
 use std::fmt;
 
 /// Why a run ended before the end of its rows. Its `Display` is the one line that is told.

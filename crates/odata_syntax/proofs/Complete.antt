@@ -4,7 +4,7 @@ use Rattle.std.specs.Prelude.{option_and_then}
 use Rattle.std.proofs.lemmas.Bool.{le-leb, lt-leb}
 use Rattle.odata_syntax.specs.declared.node.BinaryOperator.{BinaryOperator}
 use Rattle.odata_syntax.specs.declared.parser.operand.Leaf.{Leaf}
-use Rattle.odata_syntax.specs.Piece.{Piece}
+use Rattle.odata_text.specs.Piece.{Piece}
 use Rattle.odata_syntax.specs.Tree.{Tree}
 use Rattle.odata_syntax.specs.Grammar.{Level, operator_level, Derives, looser, derives_literal, derives_name, derives_binary}
 use Rattle.odata_syntax.specs.Machine.{Waiting, behind, operand, closed, Machine, waiting_level, joined_to, IsHeld, reduce, run, start, finish, leaf_of_kind, leaf_tree, operator_of_kind}

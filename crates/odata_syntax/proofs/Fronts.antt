@@ -3,10 +3,10 @@ use Rattle.std.proofs.Common.{◌≡◌, ◌≢◌, refl, ap, subst, sym, ◌∙
 use Rattle.std.specs.Prelude.{count_by, fold}
 use Rattle.std.proofs.lemmas.List.{append-nil, take-append-drop}
 use Rattle.std.proofs.lemmas.Option.{same_Some, option_and_then_some}
-use Rattle.odata_syntax.specs.declared.odata_text.span.Span.{Span}
-use Rattle.odata_syntax.specs.declared.odata_text.token.TokenKind.{TokenKind}
+use Rattle.odata_text.specs.declared.span.Span.{Span}
+use Rattle.odata_text.specs.declared.token.TokenKind.{TokenKind}
 use Rattle.odata_syntax.specs.declared.syntax_fault.SyntaxFault.{SyntaxFault}
-use Rattle.odata_syntax.specs.Piece.{Piece}
+use Rattle.odata_text.specs.Piece.{Piece}
 use Rattle.odata_syntax.specs.Tree.{Tree, node, literal}
 use Rattle.odata_syntax.specs.declared.node.LiteralKind.{LiteralKind}
 use Rattle.odata_syntax.specs.Grammar.{Derives}

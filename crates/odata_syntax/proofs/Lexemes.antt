@@ -7,9 +7,9 @@ use Rattle.std.proofs.lemmas.Slice.Eq.{bytes_eq-Decides}
 use Rattle.std.proofs.lemmas.Option.{same_Some}
 use Rattle.odata_syntax.specs.declared.node.BinaryOperator.{BinaryOperator}
 use Rattle.odata_syntax.specs.declared.node.LiteralKind.{LiteralKind}
-use Rattle.odata_syntax.specs.declared.odata_text.token.TokenKind.{TokenKind}
+use Rattle.odata_text.specs.declared.token.TokenKind.{TokenKind}
 use Rattle.odata_syntax.specs.declared.parser.operand.Leaf.{Leaf}
-use Rattle.odata_syntax.specs.Piece.{Piece}
+use Rattle.odata_text.specs.Piece.{Piece}
 use Rattle.odata_syntax.specs.Lexeme.{IsWord, operator_word, IsOperator, SpellsLiteral, IsLiteral, IsName, reserved_words, same_word}
 use Rattle.odata_syntax.specs.Grammar.{Derives, derives_literal, derives_name}
 use Rattle.odata_syntax.specs.Machine.{word_operator, operator_of_kind, word_leaf, leaf_of_kind, leaf_tree}

@@ -1,11 +1,3 @@
-pub mod ByteClasses
-pub mod Examples
-pub mod Longest
-pub mod OneReading
-pub mod Places
-pub mod Quotes
-pub mod Reaches
-pub mod Scans
 pub mod Run
 pub mod Lexemes
 pub mod Complete

@@ -1,11 +1,11 @@
 -- Runs of the machine over lists put together.
 use Rattle.std.proofs.Common.{◌≡◌, refl, ℕ, ◌+◌, ◌<◌, List, [], ◌∷◌, ◌++◌, length, take, drop, get_or, Option, Some, None, ap, sym, ◌∙◌, add-one, drop-cons}
 use Rattle.std.proofs.lemmas.List.{map-append, take-append-drop, take_more}
-use Rattle.odata_syntax.specs.declared.odata_text.token.Token.{Token}
+use Rattle.odata_text.specs.declared.token.Token.{Token}
 use Rattle.odata_syntax.specs.declared.syntax_fault.SyntaxFault.{SyntaxFault}
 use Rattle.odata_syntax.specs.MachineView.{Refuses, StopsAt}
 use Rattle.std.specs.Prelude.{option_and_then}
-use Rattle.odata_syntax.specs.Piece.{Piece, piece_of, pieces_of}
+use Rattle.odata_text.specs.Piece.{Piece, piece_of, pieces_of}
 use Rattle.odata_syntax.specs.Machine.{Machine, run, step, start}
 
 -- the second list is run behind the first

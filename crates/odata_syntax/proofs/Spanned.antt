@@ -3,7 +3,7 @@ use Rattle.std.proofs.Common.{ℕ, ◌⊎◌, inl, inr, subst, ◌≡◌, refl, 
 use Rattle.std.proofs.lemmas.List.{append-nil}
 use Rattle.odata_syntax.specs.declared.node.BinaryOperator.{BinaryOperator}
 use Rattle.odata_syntax.specs.declared.node.LiteralKind.{LiteralKind}
-use Rattle.odata_syntax.specs.Piece.{Piece}
+use Rattle.odata_text.specs.Piece.{Piece}
 use Rattle.odata_syntax.specs.Tree.{Tree, node, literal, name, binary, start_of, stop_of}
 use Rattle.odata_syntax.specs.Grammar.{Level, joined, Derives, looser, derives_literal, derives_name, derives_binary}
 use Rattle.odata_syntax.specs.Spans.{IsWithin, is_root, in_left, in_right, IsSpanned, IsSpannedWithin}

@@ -2,8 +2,8 @@
 use Rattle.std.specs.Prelude.{ℕ, List, [], ◌∷◌, codes}
 use Rattle.odata_syntax.specs.declared.node.BinaryOperator.{BinaryOperator}
 use Rattle.odata_syntax.specs.declared.node.LiteralKind.{LiteralKind}
-use Rattle.odata_syntax.specs.declared.odata_text.token.TokenKind.{TokenKind}
-use Rattle.odata_syntax.specs.Piece.{Piece}
+use Rattle.odata_text.specs.declared.token.TokenKind.{TokenKind}
+use Rattle.odata_text.specs.Piece.{Piece}
 use Rattle.odata_syntax.specs.Tree.{Tree, node, literal, name, binary}
 
 abbrev pub piece : TokenKind → ℕ → ℕ → List ℕ → Piece

@@ -1,7 +1,7 @@
 -- Tokens that an expression may begin with.
 use Rattle.std.specs.Prelude.{ℕ, ◌+◌, ◌≤◌, List, ◌++◌, take, Bool, true, false, count_by}
-use Rattle.odata_syntax.specs.declared.odata_text.token.TokenKind.{TokenKind}
-use Rattle.odata_syntax.specs.Piece.{Piece}
+use Rattle.odata_text.specs.declared.token.TokenKind.{TokenKind}
+use Rattle.odata_text.specs.Piece.{Piece}
 use Rattle.odata_syntax.specs.Tree.{Tree}
 use Rattle.odata_syntax.specs.Grammar.{Derives}
 

@@ -4,8 +4,8 @@ use Rattle.std.specs.List.{list_any}
 use Rattle.std.specs.Str.{str_eq_ignore_ascii_case}
 use Rattle.odata_syntax.specs.declared.node.BinaryOperator.{BinaryOperator}
 use Rattle.odata_syntax.specs.declared.node.LiteralKind.{LiteralKind}
-use Rattle.odata_syntax.specs.declared.odata_text.token.TokenKind.{TokenKind}
-use Rattle.odata_syntax.specs.Piece.{Piece}
+use Rattle.odata_text.specs.declared.token.TokenKind.{TokenKind}
+use Rattle.odata_text.specs.Piece.{Piece}
 
 -- two texts are equal in all but the case of ASCII letters
 abbrev pub same_word : List ℕ → List ℕ → Bool

@@ -1,11 +1,7 @@
 pub use Rattle.edm_values.specs.IntLiteral
 pub use Rattle.edm_values.specs.StringLiteral
-pub mod ByteClass
-pub mod Lengths
-pub mod Piece
-pub mod Spelling
-pub mod TokenExamples
-pub mod Tokens
+pub use Rattle.odata_text.specs.Piece
+pub use Rattle.odata_text.specs.Tokens
 pub mod Tree
 pub mod TreeView
 pub mod Lexeme

@@ -3,9 +3,9 @@ use Rattle.std.specs.Prelude.{ℕ, ◌<◌, List, [], ◌∷◌, if◌then◌els
 use Rattle.std.specs.Str.{str_eq_ignore_ascii_case}
 use Rattle.odata_syntax.specs.declared.node.BinaryOperator.{BinaryOperator}
 use Rattle.odata_syntax.specs.declared.node.LiteralKind.{LiteralKind}
-use Rattle.odata_syntax.specs.declared.odata_text.token.TokenKind.{TokenKind}
+use Rattle.odata_text.specs.declared.token.TokenKind.{TokenKind}
 use Rattle.odata_syntax.specs.declared.parser.operand.Leaf.{Leaf}
-use Rattle.odata_syntax.specs.Piece.{Piece}
+use Rattle.odata_text.specs.Piece.{Piece}
 use Rattle.odata_syntax.specs.Tree.{Tree, node, literal, name}
 use Rattle.odata_syntax.specs.Grammar.{Level, operator_level, joined}
 

@@ -1,13 +1,13 @@
 -- The machine on lists that the code's machine stands for. For private clauses.
 use Rattle.std.specs.Prelude.{◌≡◌, ℕ, List, ◌∷◌, ◌++◌, map, reverse, Option, None, Some}
-use Rattle.odata_syntax.specs.declared.odata_text.span.Span.{Span}
+use Rattle.odata_text.specs.declared.span.Span.{Span}
 use Rattle.odata_syntax.specs.declared.syntax_fault.SyntaxFault.{SyntaxFault}
 use Rattle.odata_syntax.specs.declared.parser.state.Frame.{Frame}
 use Rattle.odata_syntax.specs.declared.parser.state.Stage.{Stage}
 use Rattle.odata_syntax.specs.declared.parser.state.State.{State}
-use Rattle.odata_syntax.specs.Piece.{Piece, piece_of}
+use Rattle.odata_text.specs.Piece.{Piece, piece_of}
 use Rattle.odata_syntax.specs.declared.node.Node.{Node}
-use Rattle.odata_syntax.specs.declared.odata_text.token.Token.{Token}
+use Rattle.odata_text.specs.declared.token.Token.{Token}
 use Rattle.odata_syntax.specs.TreeView.{tree_of}
 use Rattle.odata_syntax.specs.Machine.{Waiting, behind, Expected, operand, closed, Machine, Reduced, step_at, run, step, start}
 use Rattle.odata_syntax.specs.Tree.{Tree}

@@ -1,8 +1,8 @@
 -- What the tokens of a text stand for, and why some stand for nothing.
 use Rattle.std.specs.Prelude.{◌≡◌, ◌⊎◌, ℕ, List, [], ◌∷◌, ◌++◌}
-use Rattle.odata_syntax.specs.declared.odata_text.span.Span.{Span}
+use Rattle.odata_text.specs.declared.span.Span.{Span}
 use Rattle.odata_syntax.specs.declared.syntax_fault.SyntaxFault.{SyntaxFault}
-use Rattle.odata_syntax.specs.Piece.{Piece}
+use Rattle.odata_text.specs.Piece.{Piece}
 use Rattle.odata_syntax.specs.Tree.{Tree}
 use Rattle.odata_syntax.specs.Grammar.{Derives}
 use Rattle.odata_syntax.specs.Front.{IsShallow, IsFront, IsWideFront}

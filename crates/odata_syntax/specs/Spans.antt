@@ -1,7 +1,7 @@
 -- Which tokens the nodes of a tree take in.
 use Rattle.std.specs.Prelude.{◌≡◌, ℕ, List, [], ◌∷◌, ◌++◌}
 use Rattle.odata_syntax.specs.declared.node.BinaryOperator.{BinaryOperator}
-use Rattle.odata_syntax.specs.Piece.{Piece}
+use Rattle.odata_text.specs.Piece.{Piece}
 use Rattle.odata_syntax.specs.Tree.{Tree, node, binary, start_of, stop_of}
 
 -- a node of a tree: its root, or one of an operand

@@ -1,4 +1,4 @@
-use crate::Span;
+use odata_text::Span;
 
 /// An operator between two operands.
 #[derive(Clone, Copy, Debug, PartialEq, Eq)]

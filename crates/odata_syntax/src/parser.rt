@@ -4,7 +4,7 @@ ghost use Rattle.std.specs.Prelude.{◌≡◌, ◌≢◌, Some, IfOk, IfErr};
 ghost use Rattle.odata_syntax.specs.declared.syntax_fault.SyntaxFault.{SyntaxFault};
 ghost use Rattle.odata_syntax.specs.Tree.{Tree};
 ghost use Rattle.odata_syntax.specs.TreeView.{tree_of};
-ghost use Rattle.odata_syntax.specs.Piece.{pieces_of};
+ghost use Rattle.odata_text.specs.Piece.{pieces_of};
 ghost use Rattle.odata_syntax.specs.Grammar.{Derives};
 ghost use Rattle.odata_syntax.specs.Parse.{IsParse, HasNoParse, IsSyntaxFault};
 ghost use Rattle.odata_syntax.specs.Machine.{run, start};
@@ -20,7 +20,8 @@ mod tests;
 mod word;
 
 use crate::parser::state::State;
-use crate::{Expr, Node, SyntaxFault, Token};
+use crate::{Expr, Node, SyntaxFault};
+use odata_text::Token;
 use std::alloc::Global;
 
 /// The tree of the tokens of one text. `len` is the length of the text in bytes.

@@ -1,4 +1,4 @@
-use crate::Span;
+use odata_text::Span;
 use std::alloc::{AllocError, AllocFailed};
 
 /// Why tokens are no expression.

@@ -1,7 +1,7 @@
 //! Laws of the grammar (OData URL Conventions 4.01, section 5.1.1). Each function is one; its body is empty.
 ghost use Rattle.std.specs.Prelude.{◌≡◌, ℕ, List};
 ghost use Rattle.odata_syntax.specs.declared.syntax_fault.SyntaxFault.{SyntaxFault};
-ghost use Rattle.odata_syntax.specs.Piece.{Piece};
+ghost use Rattle.odata_text.specs.Piece.{Piece};
 ghost use Rattle.odata_syntax.specs.Tree.{Tree};
 ghost use Rattle.odata_syntax.specs.Grammar.{Level, Derives};
 ghost use Rattle.odata_syntax.specs.Parse.{IsParse, HasNoParse, IsSyntaxFault, IsUnended};

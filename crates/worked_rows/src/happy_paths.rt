@@ -10,7 +10,8 @@ use odata_filter::lines::filter_lines;
 use odata_filter::odata_eval::{Verdict, evaluate};
 use odata_filter::odata_typing::{EdmType, ValueType, check};
 use odata_filter::plan;
-use odata_syntax::{Node, Span, TokenKind, parse, tokens};
+use odata_syntax::{Node, parse};
+use odata_text::{Span, TokenKind, tokens};
 use serde_json::Value;
 use std::test::Fail;
 

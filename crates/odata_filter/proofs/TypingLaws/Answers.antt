@@ -2,7 +2,7 @@
 use Rattle.std.proofs.Common.{◌≡◌, refl, sym, ◌∙◌, ℕ, List, [], subst, Result, Ok, Err, MatchResult}
 use Rattle.odata_syntax.specs.Tree.{Tree, node, binary}
 use Rattle.odata_syntax.specs.declared.node.BinaryOperator.{BinaryOperator}
-use Rattle.odata_syntax.specs.declared.odata_text.span.Span.{Span}
+use Rattle.odata_text.specs.declared.span.Span.{Span}
 use Rattle.odata_filter.specs.csdl_schema.SchemaModel.{SchemaModel, slots_of, type_name_at}
 use Rattle.odata_filter.specs.declared.odata_typing.checked_node.CheckedNode.{CheckedNode}
 use Rattle.odata_filter.specs.declared.odata_typing.edm_type.EdmType.{EdmType}

@@ -1,6 +1,6 @@
 -- A text, its tree and its fault.
 use Rattle.std.proofs.Common.{◌≡◌, sym, subst, ℕ, ◌≤◌, List, [], length}
-use Rattle.odata_syntax.specs.Tokens.{token_limit}
+use Rattle.odata_text.specs.Tokens.{token_limit}
 use Rattle.odata_syntax.specs.Tree.{Tree}
 use Rattle.odata_filter.specs.csdl_schema.ExprType.{ExprType}
 use Rattle.odata_filter.specs.csdl_schema.SchemaModel.{SchemaModel, Slots, slots_of, type_name_at}

@@ -4,7 +4,7 @@ use Rattle.std.specs.Global.{Box}
 use Rattle.std.specs.Prelude.{string_bytes}
 use Rattle.std.proofs.lemmas.Option.{slice_get_cases}
 use Rattle.odata_syntax.specs.Tree.{Tree, node, name, start_of}
-use Rattle.odata_syntax.specs.declared.odata_text.span.Span.{Span}
+use Rattle.odata_text.specs.declared.span.Span.{Span}
 use Rattle.odata_filter.specs.csdl_schema.ExprType.{ExprType}
 use Rattle.odata_filter.specs.csdl_schema.SchemaModel.{PropertyModel, PropertyType, SchemaModel, Slots, declared, slot_named, slots_of, type_name_at}
 use Rattle.odata_filter.specs.declared.odata_typing.checked_node.CheckedNode.{CheckedNode, Property}

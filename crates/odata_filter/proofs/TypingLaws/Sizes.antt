@@ -1,8 +1,8 @@
 -- A tree has no more nodes than tokens.
 use Rattle.std.proofs.Common.{◌≡◌, ℕ, ◌≤◌, ◌+◌, List, [], ◌∷◌, ◌++◌, length, length-append, arith}
 use Rattle.odata_syntax.specs.Grammar.{Level, Derives, looser, derives_literal, derives_name, derives_binary}
-use Rattle.odata_syntax.specs.Piece.{Piece}
-use Rattle.odata_syntax.specs.Tokens.{token_limit}
+use Rattle.odata_text.specs.Piece.{Piece}
+use Rattle.odata_text.specs.Tokens.{token_limit}
 use Rattle.odata_syntax.specs.Tree.{Tree, node, literal, name, binary}
 use Rattle.odata_filter.specs.odata_typing.HasTyping.{HasTree}
 use Rattle.odata_filter.specs.odata_typing.PreOrder.{pre_order}

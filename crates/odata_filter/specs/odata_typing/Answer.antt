@@ -2,7 +2,7 @@
 use Rattle.std.specs.Prelude.{◌≡◌, ◌≢◌, ◌⊎◌, ℕ, List, [], Result, MatchResult}
 use Rattle.std.specs.Global.{Box}
 use Rattle.odata_syntax.specs.Tree.{Tree}
-use Rattle.odata_syntax.specs.declared.odata_text.fault.TextFault.{TextFault}
+use Rattle.odata_text.specs.declared.fault.TextFault.{TextFault}
 use Rattle.odata_syntax.specs.declared.syntax_fault.SyntaxFault.{SyntaxFault}
 use Rattle.odata_filter.specs.csdl_schema.SchemaModel.{Slots, SchemaModel, slots_of, type_name_at}
 use Rattle.odata_filter.specs.declared.odata_typing.checked_node.CheckedNode.{CheckedNode}

@@ -1,6 +1,6 @@
 -- A checked filter.
 use Rattle.std.specs.Prelude.{ℕ, ◌<◌, ◌≤◌, List, [], length, slice_get, IsSomeAnd}
-use Rattle.odata_syntax.specs.Tokens.{token_limit}
+use Rattle.odata_text.specs.Tokens.{token_limit}
 use Rattle.odata_syntax.specs.Tree.{Tree}
 use Rattle.odata_filter.specs.csdl_schema.ExprType.{ExprType}
 use Rattle.odata_filter.specs.csdl_schema.SchemaModel.{SchemaModel, slots_of, type_name_at}

@@ -5,7 +5,7 @@ use Rattle.edm_values.specs.Val.{Val}
 use Rattle.edm_values.specs.declared.value.Value.{Value}
 use Rattle.odata_syntax.specs.Tree.{Tree, node, literal, name, binary}
 use Rattle.odata_syntax.specs.declared.node.LiteralKind.{LiteralKind}
-use Rattle.odata_syntax.specs.declared.odata_text.span.Span.{Span}
+use Rattle.odata_text.specs.declared.span.Span.{Span}
 use Rattle.odata_filter.specs.csdl_schema.ExprType.{ExprType}
 use Rattle.odata_filter.specs.csdl_schema.SchemaModel.{PropertyModel, SchemaModel, slots_of, type_name_at, slot_named}
 use Rattle.odata_filter.specs.declared.odata_typing.checked_node.CheckedNode.{CheckedNode, Lit, Property, Binary'}

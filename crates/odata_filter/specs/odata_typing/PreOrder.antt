@@ -1,7 +1,7 @@
 -- The nodes of a tree, in the order in which they are numbered from 0.
 use Rattle.std.specs.Prelude.{ℕ, List, [], ◌∷◌, ◌++◌}
 use Rattle.odata_syntax.specs.Tree.{Tree, node, literal, name, binary, start_of, stop_of}
-use Rattle.odata_syntax.specs.declared.odata_text.span.Span.{Span}
+use Rattle.odata_text.specs.declared.span.Span.{Span}
 
 -- each node before its children, these from left to right
 abbrev pub pre_order : Tree → List Tree

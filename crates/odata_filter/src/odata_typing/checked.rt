@@ -1,6 +1,6 @@
 ghost use Rattle.std.specs.Prelude.{◌≡◌, ◌<◌, ◌≤◌, ◌↔◌, [], length, slice_get, IsTrue, IsSome, IfSome, IfOk, IfErr};
 ghost use Rattle.std.specs.Option.{option_map};
-ghost use Rattle.odata_syntax.specs.Tokens.{token_limit};
+ghost use Rattle.odata_text.specs.Tokens.{token_limit};
 ghost use Rattle.odata_filter.specs.odata_typing.Calls.{TakesMemory, UsesNow};
 ghost use Rattle.odata_filter.specs.odata_typing.ExprTypes.{IsBooleanOrNull};
 ghost use Rattle.odata_filter.specs.odata_typing.Filter.{IsFilter, IsTypeAt, tree_of_filter};
@@ -14,7 +14,7 @@ use super::pre_order::{node_at, node_count};
 use super::refusal::{TypeFault, TypeFaultCode};
 use crate::csdl_schema::ids::TypeId;
 use crate::csdl_schema::schema::Schema;
-use odata_syntax::Span;
+use odata_text::Span;
 use std::marker::Model;
 
 /// A filter whose expression has type Boolean or Null for its type in its schema.

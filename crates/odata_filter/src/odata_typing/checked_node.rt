@@ -5,7 +5,8 @@ ghost use Rattle.odata_filter.specs.odata_typing.PreOrder.{span_of_tree};
 use super::edm_type::EdmType;
 use super::untyped::Untyped;
 use edm_values::Value;
-use odata_syntax::{BinaryOperator, LiteralKind, Span};
+use odata_syntax::{BinaryOperator, LiteralKind};
+use odata_text::Span;
 use std::alloc::Global;
 
 /// A node of a checked filter with its type. Beside what the evaluator needs (a literal's value, a property's slot) it

@@ -12,7 +12,8 @@ use super::refusal::Refusal;
 use super::untyped::Untyped;
 use crate::csdl_schema::ids::TypeId;
 use crate::csdl_schema::schema::Schema;
-use odata_syntax::{Expr, SyntaxFault, TextFault, parse, tokens};
+use odata_syntax::{Expr, SyntaxFault, parse};
+use odata_text::{TextFault, tokens};
 use std::alloc::Global;
 
 /// The text as a filter of the entities of a type, which the schema holds.

@@ -12,7 +12,8 @@ use super::edm_type::{EdmType, ValueType};
 use super::refusal::{TypeFault, TypeFaultCode};
 use super::untyped::Untyped;
 use edm_values::{LitFault, Prim, Value, read_int, read_string};
-use odata_syntax::{LiteralKind, Span};
+use odata_syntax::LiteralKind;
+use odata_text::Span;
 use std::alloc::Global;
 
 /// The literal with its value and its type.

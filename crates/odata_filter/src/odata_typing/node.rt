@@ -14,7 +14,8 @@ use super::refusal::{TypeFault, TypeFaultCode};
 use super::untyped::Untyped;
 use crate::csdl_schema::ids::TypeId;
 use crate::csdl_schema::schema::Schema;
-use odata_syntax::{BinaryOperator, Node, Span};
+use odata_syntax::{BinaryOperator, Node};
+use odata_text::Span;
 use std::alloc::Global;
 
 /// The tree with its types, values and slots, or its first untypable place.

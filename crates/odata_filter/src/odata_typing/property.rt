@@ -13,7 +13,7 @@ use super::untyped::Untyped;
 use crate::csdl_schema::ids::TypeId;
 use crate::csdl_schema::property::{Property, PropertyKind};
 use crate::csdl_schema::schema::Schema;
-use odata_syntax::Span;
+use odata_text::Span;
 use std::alloc::Global;
 
 /// The property of that name of the filtered type.

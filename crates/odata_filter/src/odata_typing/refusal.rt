@@ -1,4 +1,5 @@
-use odata_syntax::{Span, SyntaxFault, TextFault};
+use odata_syntax::SyntaxFault;
+use odata_text::{Span, TextFault};
 
 /// Why a node has no type.
 #[derive(Clone, Copy, Debug, PartialEq, Eq)]

@@ -2,7 +2,8 @@
 use super::{EdmType, Refusal, TypeFault, TypeFaultCode, ValueType, check};
 use crate::csdl_schema::schema::Schema;
 use edm_values::Prim;
-use odata_syntax::{Span, SyntaxFault, TextFault};
+use odata_syntax::SyntaxFault;
+use odata_text::{Span, TextFault};
 use std::test::Fail;
 
 const MINI: &str =

@@ -1,5 +1,5 @@
 use super::refusal::{TypeFault, TypeFaultCode};
-use odata_syntax::Span;
+use odata_text::Span;
 use std::alloc::{AllocError, AllocFailed};
 
 /// Why a tree is not typed.

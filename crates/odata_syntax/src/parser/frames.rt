@@ -5,7 +5,8 @@ ghost use Rattle.odata_syntax.specs.MachineView.{waiting_of, stack_of, reduced_o
 
 use crate::parser::operator::level_of;
 use crate::parser::state::Frame;
-use crate::{Node, Span};
+use crate::Node;
+use odata_text::Span;
 use std::alloc::{AllocError, Global};
 
 /// The operand that `read` grows to before an operator of this level: each frame that holds it as tightly is closed.

@@ -1,12 +1,13 @@
 ghost use Rattle.std.specs.Prelude.{◌≡◌, Some, IfOk, IfErr};
-ghost use Rattle.odata_syntax.specs.Piece.{piece_of};
+ghost use Rattle.odata_text.specs.Piece.{piece_of};
 ghost use Rattle.odata_syntax.specs.TreeView.{tree_of};
 ghost use Rattle.odata_syntax.specs.Machine.{word_leaf as machine_word, leaf_of_kind, leaf_tree};
 ghost use Rattle.odata_syntax.specs.MachineView.{machine_of, operand_step, Refuses};
 
 use crate::parser::state::{Frame, Stage, State};
 use crate::parser::word::is_word;
-use crate::{LiteralKind, Node, SyntaxFault, Token, TokenKind};
+use crate::{LiteralKind, Node, SyntaxFault};
+use odata_text::{Token, TokenKind};
 use std::alloc::{AllocError, Global};
 
 /// An operand of one token.

@@ -1,13 +1,14 @@
 ghost use Rattle.std.specs.Prelude.{◌≡◌, Some, IfOk, IfErr};
 ghost use Rattle.odata_syntax.specs.Grammar.{operator_level};
-ghost use Rattle.odata_syntax.specs.Piece.{piece_of};
+ghost use Rattle.odata_text.specs.Piece.{piece_of};
 ghost use Rattle.odata_syntax.specs.Machine.{word_operator as machine_word, operator_of_kind};
 ghost use Rattle.odata_syntax.specs.MachineView.{machine_of, operator_step, Refuses};
 
 use crate::parser::frames::reduce;
 use crate::parser::state::{Frame, Stage, State};
 use crate::parser::word::is_word;
-use crate::{BinaryOperator, Node, SyntaxFault, Token, TokenKind};
+use crate::{BinaryOperator, Node, SyntaxFault};
+use odata_text::{Token, TokenKind};
 use std::alloc::Global;
 
 /// Takes a token behind the operand `read`.

@@ -1,5 +1,5 @@
 ghost use Rattle.std.specs.Prelude.{◌≡◌, Some, IfOk, IfErr};
-ghost use Rattle.odata_syntax.specs.Piece.{piece_of};
+ghost use Rattle.odata_text.specs.Piece.{piece_of};
 ghost use Rattle.odata_syntax.specs.TreeView.{tree_of};
 ghost use Rattle.odata_syntax.specs.Machine.{step as machine_step, finish as machine_finish};
 ghost use Rattle.odata_syntax.specs.MachineView.{machine_of, Refuses, RefusesEnd};
@@ -8,7 +8,8 @@ use crate::parser::frames::reduce;
 use crate::parser::operand::take_operand;
 use crate::parser::operator::take_operator;
 use crate::parser::state::{Stage, State};
-use crate::{Node, Span, SyntaxFault, Token};
+use crate::{Node, SyntaxFault};
+use odata_text::{Span, Token};
 use std::alloc::Global;
 
 /// The machine behind one more token.

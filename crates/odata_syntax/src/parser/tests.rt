@@ -1,4 +1,5 @@
-use crate::{BinaryOperator, LiteralKind, Node, Span, SyntaxFault, Token, TokenKind, parse};
+use crate::{BinaryOperator, LiteralKind, Node, SyntaxFault, parse};
+use odata_text::{Span, Token, TokenKind};
 use std::test::Fail;
 
 fn token(kind: TokenKind, start: usize, text: &str) -> Token<'_> {

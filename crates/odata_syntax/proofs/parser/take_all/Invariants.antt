@@ -1,5 +1,5 @@
 use Rattle.std.proofs.Common.{◌≡◌, Some, take}
-use Rattle.odata_syntax.specs.Piece.{pieces_of}
+use Rattle.odata_text.specs.Piece.{pieces_of}
 use Rattle.odata_syntax.specs.Machine.{run, start}
 use Rattle.odata_syntax.specs.MachineView.{machine_of}
 use Rattle.odata_syntax.proofs.parser.take_all.Given as goal

@@ -1,7 +1,7 @@
 use Rattle.std.proofs.Common.{◌≡◌, sym, ap, subst, ◌∙◌, inl, inr, List}
 use Rattle.odata_syntax.specs.Grammar.{Derives}
 use Rattle.odata_syntax.specs.Parse.{IsParse}
-use Rattle.odata_syntax.specs.Piece.{Piece, pieces_of}
+use Rattle.odata_text.specs.Piece.{Piece, pieces_of}
 use Rattle.odata_filter.proofs.odata_typing.checker.tree_of_text.Goals as goal
 
 pub returns-in-Err-clause-none : goal.returns-in-Err-clause-none

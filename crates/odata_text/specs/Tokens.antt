@@ -1,0 +1,150 @@
+-- The tokens of a filter's text and its first fault (OData URL Conventions 4.01, section 5.1.1; OData ABNF 4.01, section 6).
+use Rattle.std.specs.Prelude.{◌≡◌, ℕ, ◌+◌, ◌-◌, ◌<◌, ◌≤◌, ◌⊎◌, Bool, true, false, IsTrue, List, [], ◌∷◌, length, drop, take, slice_index, slice_range, encode_utf8}
+use Rattle.std.specs.Char.{IsScalar, len_utf8}
+use Rattle.odata_text.specs.ByteClass.{class_of}
+use Rattle.odata_text.specs.Piece.{Piece}
+use Rattle.odata_text.specs.Spelling.{Spells, identifier_length}
+use Rattle.odata_text.specs.declared.byte_class.ByteClass.TheVariants.{Space, Quote}
+use Rattle.odata_text.specs.declared.fault.TextFault.{TextFault}
+use Rattle.odata_text.specs.declared.fault.TextFault.TheVariants.{BadCharacter, UnclosedString, LeftOutLiteral, RunOn, TooLong, Memory}
+use Rattle.odata_text.specs.declared.span.Span.{Span}
+use Rattle.odata_text.specs.declared.token.TokenKind.{TokenKind}
+use Rattle.odata_text.specs.declared.token.TokenKind.TheVariants.{Int, Date, Moment, Guid}
+
+-- no text of a filter is longer, in bytes, and none has more tokens
+abbrev pub text_limit : ℕ
+text_limit = 16384
+
+abbrev pub token_limit : ℕ
+token_limit = 4096
+
+-- Pieces.
+
+-- the first n bytes are spelled by the kind, and no kind spells a longer beginning
+pub record IsLongest (kind : TokenKind) (n : ℕ) (rest : List ℕ) : Type 0 where
+  pub within : n ≤ length rest
+  pub spelled : Spells kind (take n rest)
+  pub longest : (other : TokenKind) (m : ℕ) → m ≤ length rest → Spells other (take m rest) → m ≤ n
+
+-- no kind spells any beginning
+abbrev pub NoneSpelled : List ℕ → Type 0
+NoneSpelled rest = (kind : TokenKind) (m : ℕ) → Spells kind (take m rest) → ⊥
+
+-- a literal that no delimiter of its own ends
+abbrev pub is_undelimited : TokenKind → Bool
+is_undelimited Int = true
+is_undelimited Date = true
+is_undelimited Moment = true
+is_undelimited Guid = true
+is_undelimited _ = false
+
+-- an identifier character stands directly behind such a literal, rest being what is behind
+abbrev pub RunsOn : TokenKind → List ℕ → Type 0
+RunsOn kind rest = IsTrue (is_undelimited kind) × (0 < identifier_length rest)
+
+-- the piece is the longest at its place
+pub record IsPieceAt (text : List ℕ) (piece : Piece) : Type 0 where
+  pub order : piece.start ≤ piece.stop
+  pub longest : IsLongest piece.kind (piece.stop - piece.start) (drop piece.start text)
+  pub bytes : piece.text ≡ slice_range text piece.start piece.stop
+
+-- a faultless token
+pub record IsTokenAt (text : List ℕ) (piece : Piece) : Type 0 where
+  pub longest : IsPieceAt text piece
+  pub ends : RunsOn piece.kind (drop piece.stop text) → ⊥
+
+-- Token lists.
+
+-- from one place to another there is white space alone
+pub record IsGap (text : List ℕ) (from to : ℕ) : Type 0 where
+  pub order : from ≤ to
+  pub within : to ≤ length text
+  pub white : (i : ℕ) → from ≤ i → i < to → class_of (slice_index text i) ≡ Space
+
+-- where the last of the pieces stops
+abbrev pub end_of : ℕ → List Piece → ℕ
+end_of from [] = from
+end_of from (piece ∷ pieces) = end_of piece.stop pieces
+
+-- faultless tokens that follow one another from a place on, with white space alone before and between them
+abbrev pub AreTokensFrom : List ℕ → ℕ → List Piece → Type 0
+AreTokensFrom text from [] = Unit {0}
+AreTokensFrom text from (piece ∷ pieces) =
+    IsGap text from piece.start × (IsTokenAt text piece × AreTokensFrom text piece.stop pieces)
+
+-- the tokens of a whole text
+pub record IsTokenList (text : List ℕ) (pieces : List Piece) : Type 0 where
+  pub short : length text ≤ text_limit
+  pub few : length pieces ≤ token_limit
+  pub tokens : AreTokensFrom text 0 pieces
+  pub ends : IsGap text (end_of 0 pieces) (length text)
+
+-- Faults.
+
+-- no token begins at the place, though it is no white space
+pub record IsNoToken (text : List ℕ) (place : ℕ) : Type 0 where
+  pub inside : place < length text
+  pub solid : class_of (slice_index text place) ≡ Space → ⊥
+  pub none : NoneSpelled (drop place text)
+
+-- the span is that of the character c
+pub record IsCharacterAt (text : List ℕ) (span : Span) (c : ℕ) : Type 0 where
+  pub scalar : IsScalar c
+  pub stop : span.stop ≡ span.start + len_utf8 c
+  pub bytes : slice_range text span.start span.stop ≡ encode_utf8 c
+
+-- a character other than `'` where no token begins
+pub record IsBadCharacter (text : List ℕ) (span : Span) : Type 0 where
+  pub no_token : IsNoToken text span.start
+  pub unquoted : class_of (slice_index text span.start) ≡ Quote → ⊥
+  pub character : (c : ℕ) × IsCharacterAt text span c
+
+-- a `'` where no token begins, up to the end of the text
+pub record IsUnclosed (text : List ℕ) (span : Span) : Type 0 where
+  pub no_token : IsNoToken text span.start
+  pub quoted : class_of (slice_index text span.start) ≡ Quote
+  pub stop : span.stop ≡ length text
+
+-- a piece with identifier characters directly behind it, up to the last of these
+pub record IsRunOn (text : List ℕ) (span : Span) : Type 0 where
+  pub piece : Piece
+  pub longest : IsPieceAt text piece
+  pub runs_on : RunsOn piece.kind (drop piece.stop text)
+  pub start : span.start ≡ piece.start
+  pub stop : span.stop ≡ piece.stop + identifier_length (drop piece.stop text)
+
+-- a faultless token more than there may be
+pub record IsOneTooMany (text : List ℕ) (before : ℕ) (span : Span) : Type 0 where
+  pub count : before ≡ token_limit
+  pub piece : Piece
+  pub token : IsTokenAt text piece
+  pub start : span.start ≡ piece.start
+  pub stop : span.stop ≡ piece.stop
+
+-- the fault's span starts at the place, behind so many tokens
+abbrev pub IsFaultAt : List ℕ → ℕ → ℕ → TextFault → Type 0
+IsFaultAt text place before (BadCharacter span) = (span.start ≡ place) × IsBadCharacter text span
+IsFaultAt text place before (UnclosedString span) = (span.start ≡ place) × IsUnclosed text span
+IsFaultAt text place before (LeftOutLiteral span) = ⊥
+IsFaultAt text place before (RunOn span) = (span.start ≡ place) × IsRunOn text span
+IsFaultAt text place before (TooLong span) = (span.start ≡ place) × IsOneTooMany text before span
+IsFaultAt text place before Memory = ⊥
+
+-- faultless tokens, white space, and then the fault
+pub record IsFaultBehind (text : List ℕ) (fault : TextFault) : Type 0 where
+  pub short : length text ≤ text_limit
+  pub before : List Piece
+  pub few : length before ≤ token_limit
+  pub tokens : AreTokensFrom text 0 before
+  pub place : ℕ
+  pub gap : IsGap text (end_of 0 before) place
+  pub fault_at : IsFaultAt text place (length before) fault
+
+-- the whole text is too long
+pub record IsOverlong (text : List ℕ) (fault : TextFault) : Type 0 where
+  pub long : text_limit < length text
+  pub whole : fault ≡ TooLong (record { start = 0; stop = length text })
+
+-- the first fault of a text, with its span
+abbrev pub IsTextFault : List ℕ → TextFault → Type 0
+IsTextFault text fault = IsOverlong text fault ⊎ IsFaultBehind text fault

@@ -1,0 +1,56 @@
+ghost use Rattle.std.specs.Prelude.{◌≡◌, ◌≤◌, length};
+ghost use Rattle.std.specs.Char.{is_ascii_digit};
+ghost use Rattle.std.specs.List.{prefix_len};
+ghost use Rattle.edm_values.specs.IntLiteral.{IsIntSpelling};
+ghost use Rattle.odata_text.specs.Lengths.{IsReach, sign_length};
+ghost use Rattle.odata_text.specs.Spelling.{IsIdentifier, identifier_length};
+
+use super::byte_class::{ByteClass, class_of};
+
+/// How many bytes the run of identifier characters at the front takes.
+pub fn identifier_length(rest: &[u8]) -> usize
+    ensures value { result ≡ identifier_length rest.now }
+    ensures within { result ≤ length rest.now }
+{
+    rest.iter()
+        .take_while(|byte| matches!(class_of(**byte), ByteClass::Letter | ByteClass::Digit))
+        .count()
+}
+
+fn digits_length(rest: &[u8]) -> usize
+    ensures value { result ≡ prefix_len is_ascii_digit rest.now }
+    ensures within { result ≤ length rest.now }
+{
+    rest.iter().take_while(|byte| byte.is_ascii_digit()).count()
+}
+
+/// How many bytes the word at the front takes, 0 if there is none.
+pub fn word_length(rest: &[u8]) -> usize
+    ensures { IsReach IsIdentifier result rest.now }
+{
+    match rest.first() {
+        Some(first) if class_of(*first) == ByteClass::Letter => identifier_length(rest),
+        _ => 0,
+    }
+}
+
+fn sign_length(rest: &[u8]) -> usize
+    ensures value { result ≡ sign_length rest.now }
+    ensures within { result ≤ length rest.now }
+{
+    match rest.first() {
+        Some(b'+' | b'-') => 1,
+        _ => 0,
+    }
+}
+
+/// How many bytes the whole number at the front takes, 0 if there is none.
+pub fn int_length(rest: &[u8]) -> usize
+    ensures { IsReach IsIntSpelling result rest.now }
+{
+    let sign = sign_length(rest);
+    match digits_length(&rest[sign..]) {
+        0 => 0,
+        digits => sign + digits,
+    }
+}

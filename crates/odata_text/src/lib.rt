@@ -1,0 +1,21 @@
+//! Query strings, identifiers and tokens of OData texts (OData URL Conventions 4.01, section 5; OData ABNF 4.01).
+#![tactic(auto)]
+
+mod byte_class;
+mod fault;
+mod laws;
+mod lengths;
+mod longest;
+mod quoted;
+mod scan;
+mod span;
+mod token;
+
+pub use fault::TextFault;
+pub use laws::{one_reading, plain_reading, run_on_reading};
+pub use scan::tokens;
+pub use span::Span;
+pub use token::{Token, TokenKind};
+
+#[cfg(test)]
+mod tests;
