@@ -95,7 +95,7 @@ type_of_property d =
     if is_navigation d || (is_true_at (codes "$Collection") d || is_true_at (codes "$Nullable") d) then opaque else named_type (type_text d)
 
 abbrev pub declared_property : List ℕ × Data → PropertyModel
-declared_property m = record { name = m.0; type_of = type_of_property m.1; nullable = is_true_at (codes "$Nullable") m.1 }
+declared_property m = record { name = m.0; type_of = type_of_property m.1; many = is_true_at (codes "$Collection") m.1; nullable = is_true_at (codes "$Nullable") m.1 }
 
 -- ---- types (section 6)
 
