@@ -1,5 +1,5 @@
 -- What the walk over the lines keeps from line to line. Private clauses alone cite these.
-use Rattle.std.specs.Prelude.{◌≡◌, ℕ, ◌+◌, List, [], ◌∷◌, ◌++◌, length, MatchOption, MatchResult, Result, Err}
+use Rattle.std.specs.Prelude.{◌≡◌, ℕ, ◌+◌, List, [], ◌∷◌, length, MatchOption, MatchResult, Result, Err}
 use Rattle.odata_filter.specs.Lines.{lines_of, ended}
 use Rattle.odata_filter.specs.Kept.{Says, Filters, Stops}
 use Rattle.odata_filter.specs.declared.lines.input.Ending.{Ending as EndingModel}
