@@ -1,19 +1,18 @@
 -- What an entity holds at a slot: the value that its record has under the property's name, and of the property's type.
-use Rattle.std.proofs.Common.{◌≡◌, ℕ, zero, suc, List, [], ◌∷◌, Bool, true, false, map, length, Option, Some, None, slice_get, refl, sym, ap, ◌∙◌, subst, arith}
+use Rattle.std.proofs.Common.{◌≡◌, ℕ, zero, suc, List, [], ◌∷◌, map, length, Some, slice_get, refl, ap, ◌∙◌, subst, arith}
 use Rattle.std.specs.Cmp.Lexicographic.{slice_cmp}
 use Rattle.std.specs.Ordering.{nat_cmp}
 use Rattle.std.specs.List.{AllByRecursion}
 use Rattle.std.specs.List.Sorted.{IsStrictlySortedBy}
 use Rattle.std.proofs.Common.{Less}
-use Rattle.serde_json.specs.Data.{Data}
 use Rattle.serde_json.specs.Find.{get}
-use Rattle.edm_values.specs.Val.{Val, fields, Held, present}
-use Rattle.edm_values.specs.declared.value.Value.{Value, Record}
+use Rattle.edm_values.specs.Val.{fields, Held, present}
+use Rattle.edm_values.specs.declared.value.Value.{Value}
 use Rattle.odata_filter.specs.csdl_schema.ExprType.{ExprType, single, structured}
 use Rattle.odata_filter.specs.csdl_schema.SchemaModel.{Slots, PropertyModel, declared, slots_of, type_name_at, properties_at, IsInNameOrder}
 use Rattle.odata_filter.specs.edm_entities.Fits.{Fits, FitsProperty, FitsRecord}
 use Rattle.odata_filter.specs.edm_entities.HasType.{HasPropertyType}
-use Rattle.odata_filter.specs.edm_entities.Row.{Row, IsEntity, Seen, val_of, value_of, held_of, held_by_name}
+use Rattle.odata_filter.specs.edm_entities.Row.{Row, IsEntity, val_of, value_of, held_of, held_by_name}
 use Rattle.odata_filter.specs.edm_entities.SlotValue.{IsSlotValue}
 use Rattle.odata_filter.proofs.SchemaLookUps.{each_at}
 use Rattle.odata_filter.proofs.FitsHasType.{held_has_type}

@@ -1,5 +1,5 @@
 -- Look-ups in a schema, over the lists that it is seen as.
-use Rattle.std.proofs.Common.{◌≡◌, ℕ, zero, suc, List, [], ◌∷◌, ◌++◌, length, map, Option, Some, slice_get, position, Bool, true, false, cond, ◌||◌, nat_eq, refl, sym, ap, subst, ◌∙◌, Ordering, Less, is_eq}
+use Rattle.std.proofs.Common.{◌≡◌, ℕ, zero, suc, List, [], ◌∷◌, ◌++◌, length, map, Option, Some, slice_get, position, Bool, true, false, cond, ◌||◌, nat_eq, refl, sym, ap, subst, ◌∙◌, Less, is_eq}
 use Rattle.std.specs.Ordering.{nat_cmp}
 use Rattle.std.specs.List.{AllByRecursion, position_or_len}
 use Rattle.std.specs.List.Sorted.{IsStrictlySortedBy}

@@ -67,7 +67,7 @@ first_of_more (Some t) faults more h = (h.0 ++ more, ap (λ fs. fs ++ more) h.1)
 
 -- ---- properties by name
 
-unequal_later : (xs ys : List ℕ) → slice_cmp nat_cmp xs ys ≡ Less → pointwise nat_eq ys xs ≡ false
+pub unequal_later : (xs ys : List ℕ) → slice_cmp nat_cmp xs ys ≡ Less → pointwise nat_eq ys xs ≡ false
 unequal_later xs ys below = sym (is_eq-slice_cmp ys xs) ∙ ap is_eq (nat_list_cmp_total.antisymm ys xs ∙ ap ordering_reverse below)
 
 above_at : (first : List ℕ) (ps : List PropertyModel) (p : PropertyModel) (rest : List PropertyModel) → AllAbove first (map (λ q. q.name) (ps ++ p ∷ rest)) → slice_cmp nat_cmp first p.name ≡ Less

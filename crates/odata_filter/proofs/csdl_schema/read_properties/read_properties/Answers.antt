@@ -1,4 +1,4 @@
-use Rattle.std.proofs.Common.{◌≡◌, ◌+◌, ◌++◌, ◌∷◌, ◌∙◌, [], sym, ap, subst, map, drop, List}
+use Rattle.std.proofs.Common.{◌≡◌, ◌+◌, ◌++◌, ◌∷◌, ◌∙◌, [], sym, ap, subst, map, drop}
 use Rattle.std.specs.List.{flat_map}
 use Rattle.odata_filter.specs.csdl_schema.PropertyView.{IsReadKind}
 use Rattle.odata_filter.specs.csdl_schema.TypeView.{property_model, AreOfReadKinds}
