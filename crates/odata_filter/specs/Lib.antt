@@ -8,3 +8,5 @@ pub mod Kept
 pub mod Passing
 pub mod Writes
 pub mod FilterPlan
+pub mod Run
+pub mod Failures
