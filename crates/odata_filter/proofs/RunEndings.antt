@@ -1,17 +1,15 @@
 -- What a run answers, by its first failure.
-use Rattle.std.proofs.Common.{◌≡◌, ℕ, List, [], ◌++◌, Option, None, Some, Result, Ok, Err, inl, inr, sym, subst, append-nil}
-use Rattle.std.specs.Prelude.{◌⊎◌, IfOk, IfErr, OnOk, IsSomeAnd}
+use Rattle.std.proofs.Common.{◌≡◌, ℕ, List, [], Option, None, Some, Result, Ok, Err, inl, inr, sym, subst, append-nil}
+use Rattle.std.specs.Prelude.{IfOk, IfErr, OnOk, IsSomeAnd}
 use Rattle.std.specs.Io.KnownBytes.{Keeps}
 use Rattle.std.proofs.KnownBytes.{Keeps-trans, Appends-kept}
 use Rattle.edm_values.specs.MomentParts.{MomentParts}
-use Rattle.odata_filter.specs.FilterPlan.{IsFilterPlan}
 use Rattle.odata_filter.specs.Judges.{JudgesRow}
-use Rattle.odata_filter.specs.Kept.{Filters, Stops, StopsWithin, StopsAt}
+use Rattle.odata_filter.specs.Kept.{Filters, Stops, StopsWithin}
 use Rattle.odata_filter.specs.Lines.{lines_of}
 use Rattle.odata_filter.specs.Failures.{ending_of, ending_of_refusal, StopsOver}
 use Rattle.odata_filter.specs.Run.{IsFirstMoment, NamesType, IsFilterOf, HasNoFilter, OverRows, OfLines, ByFilter, FiltersAll, StopsAtFault, Ending, done, refused, misused, without_type, at_fault, unread, without_memory, Ends, Begins}
-use Rattle.odata_filter.specs.csdl_schema.Document.{StandsFor}
-use Rattle.odata_filter.specs.csdl_schema.SchemaModel.{SchemaModel, IsEntityAt, place_named, slots_of, type_name_at}
+use Rattle.odata_filter.specs.csdl_schema.SchemaModel.{SchemaModel, slots_of, type_name_at}
 use Rattle.odata_filter.specs.declared.command_line.Plan.{Plan}
 use Rattle.odata_filter.specs.declared.failure.Failure.{Failure}
 use Rattle.odata_filter.specs.declared.failure.Failure.TheVariants.{NotYet, NoFilter, Schema, UnknownType, Refused, RowsFile, Rows}
@@ -37,9 +35,9 @@ pub is_filter_of : (plan : Plan) (document : List ℕ) (schema : SchemaModel) (p
     → filter.schema ≡ schema → filter.filtered ≡ place
     → HasTyping (slots_of filter.schema) (type_name_at filter.schema filter.filtered) text (tree_of_filter filter) → IsFilterOf plan document filter
 is_filter_of plan document schema place text filter names is same at typed = record {
-    names = subst (λ s. NamesType plan document s filter.filtered) (sym same) (subst (NamesType plan document schema) (sym at) names);
-    typed = given plan.filter (λ t. t.now) text (λ l. HasTyping (slots_of filter.schema) (type_name_at filter.schema filter.filtered) l (tree_of_filter filter)) is typed
-  }
+  names = subst (λ s. NamesType plan document s filter.filtered) (sym same) (subst (NamesType plan document schema) (sym at) names);
+  typed = given plan.filter (λ t. t.now) text (λ l. HasTyping (slots_of filter.schema) (type_name_at filter.schema filter.filtered) l (tree_of_filter filter)) is typed;
+}
 
 refused_as : (plan : Plan) (document : List ℕ) (rows : Option (Option (List ℕ))) (out : Option (List ℕ)) (fault : Refusal) (P : Type 0)
     → (P → HasNoFilter plan document) → Keeps out out → UnlessMemory fault P → Ends (ending_of_refusal fault) plan document rows out out
@@ -57,7 +55,7 @@ refused_by plan document schema place text rows out fault names is kept none =
       schema = schema;
       place = place;
       names = names;
-      none = given plan.filter (λ t. t.now) text (λ l. HasNoTyping (slots_of schema) (type_name_at schema place) l) is none
+      none = given plan.filter (λ t. t.now) text (λ l. HasNoTyping (slots_of schema) (type_name_at schema place) l) is none;
     })
     kept none
 
@@ -78,12 +76,12 @@ by_filter : (P Q : OfLines) (plan : Plan) (document : List ℕ) (rows : Option (
     → IsFilterOf plan document filter → IsFirstMoment now → ((lines : List (List ℕ)) (text : List ℕ) → P (JudgesRow filter now) lines text → Q (JudgesRow filter now) lines text)
     → OverRows rows old new (λ bytes. P (JudgesRow filter now) (lines_of bytes)) → ByFilter Q plan document rows old new
 by_filter P Q plan document rows old new filter now is_filter is_first f held = record {
-    filter = filter;
-    is_filter = is_filter;
-    now = now;
-    is_first = is_first;
-    written = over rows old new (λ bytes. P (JudgesRow filter now) (lines_of bytes)) (λ bytes. Q (JudgesRow filter now) (lines_of bytes)) (λ bytes text. f (lines_of bytes) text) held
-  }
+  filter = filter;
+  is_filter = is_filter;
+  now = now;
+  is_first = is_first;
+  written = over rows old new (λ bytes. P (JudgesRow filter now) (lines_of bytes)) (λ bytes. Q (JudgesRow filter now) (lines_of bytes)) (λ bytes text. f (lines_of bytes) text) held;
+}
 
 pub done_by : (plan : Plan) (document : List ℕ) (rows : Option (Option (List ℕ))) (old new : Option (List ℕ)) (filter : Filter) (now : MomentParts) (answer : Result Tally Failure)
     → IsFilterOf plan document filter → IsFirstMoment now
@@ -153,12 +151,12 @@ begins_by plan document rows old new filter now (Err (Refused fault)) is_filter 
 by_filter_kept : (P : OfLines) (plan : Plan) (document : List ℕ) (rows : Option (Option (List ℕ))) (a b c : Option (List ℕ))
     → ByFilter P plan document rows a b → Keeps b c → ByFilter P plan document rows a c
 by_filter_kept P plan document rows a b c by kept = record {
-    filter = by.filter;
-    is_filter = by.is_filter;
-    now = by.now;
-    is_first = by.is_first;
-    written = over_kept rows a b c (λ bytes. P (JudgesRow by.filter by.now) (lines_of bytes)) by.written kept
-  }
+  filter = by.filter;
+  is_filter = by.is_filter;
+  now = by.now;
+  is_first = by.is_first;
+  written = over_kept rows a b c (λ bytes. P (JudgesRow by.filter by.now) (lines_of bytes)) by.written kept;
+}
 
 pub Ends-kept : (ending : Ending) (plan : Plan) (document : List ℕ) (rows : Option (Option (List ℕ))) (a b c : Option (List ℕ))
     → Ends ending plan document rows a b → Keeps b c → Ends ending plan document rows a c

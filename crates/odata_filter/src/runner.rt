@@ -1,5 +1,4 @@
-ghost use Rattle.std.specs.Prelude.{◌≡◌, ◌<◌, false, List, ℕ, Some, length, option_map, MatchOption, IfOk, IfErr, IfSome, OnOk, OnErr, IsNone, IsSomeAnd};
-ghost use Rattle.std.specs.Io.KnownBytes.{Keeps};
+ghost use Rattle.std.specs.Prelude.{◌≡◌, ◌<◌, false, ℕ, Some, length, option_map, MatchOption, IfOk, IfErr, OnOk, OnErr, IsNone, IsSomeAnd};
 ghost use Rattle.odata_filter.specs.FilterPlan.{IsFilterPlan};
 ghost use Rattle.odata_filter.specs.Judges.{JudgesRow};
 ghost use Rattle.odata_filter.specs.Kept.{Filters, Stops};

@@ -6,9 +6,9 @@ use odata_filter::command_line::{PlanFault, Verb};
 use odata_filter::csdl_schema::property::PropertyKind;
 use odata_filter::csdl_schema::schema::Schema;
 use odata_filter::edm_entities::entity::Entity;
+use odata_filter::lines::run_fault::RunFault;
 use odata_filter::odata_eval::{Verdict, evaluate};
 use odata_filter::odata_typing::{EdmType, ValueType, check};
-use odata_filter::lines::run_fault::RunFault;
 use odata_filter::{filter_lines, filter_slice, plan};
 use odata_syntax::{Node, parse};
 use odata_text::{Span, TokenKind, tokens};
@@ -94,13 +94,7 @@ fn rows_in_memory(rt: HostRuntime) -> Result<(), Fail> {
     let tally = filter_slice(rt.alloc(), &checked, &moment, A.as_bytes(), &mut out)?;
     assert!(rt; tally.rows == 1 && tally.kept == 1);
     let faulty = b"{\"ID\":1,\"Name\":\"a\",\"Active\":true}\n\n{}\n";
-    let answer = filter_slice(
-        rt.alloc(),
-        &checked,
-        &moment,
-        faulty.as_slice(),
-        &mut out,
-    );
+    let answer = filter_slice(rt.alloc(), &checked, &moment, faulty.as_slice(), &mut out);
     assert!(rt; matches!(answer, Err(RunFault::Row { line: 3, .. })));
     let written =
         b"kept\n{\"ID\":1,\"Name\":\"a\",\"Active\":true}\n{\"ID\":1,\"Name\":\"a\",\"Active\":true}\n";
