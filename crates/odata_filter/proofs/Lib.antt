@@ -15,6 +15,7 @@ pub mod SlotsByName
 pub mod SchemaLookUps
 mod FilterLemmas
 mod LineLemmas
+mod RunEndings
 mod RunLemmas
 mod WriteLemmas
 pub mod SchemaReading

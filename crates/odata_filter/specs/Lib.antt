@@ -22,3 +22,5 @@ pub use Rattle.serde_json.specs.Data as JsonData
 pub use Rattle.serde_json.specs.Find as JsonFind
 pub use Rattle.serde_json.specs.Read as JsonRead
 pub use Rattle.serde_json.specs.View as JsonView
+pub mod Run
+pub mod Failures

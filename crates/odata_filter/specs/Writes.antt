@@ -6,6 +6,10 @@ use Rattle.std.specs.Io.KnownBytes.{Appends}
 abbrev pub Writes : Option (List ℕ) → Option (List ℕ) → (List ℕ → Type 0) → Type 0
 Writes old new P = (text : List ℕ) × Appends old new text × P text
 
+-- bytes grow by some text of which P holds
+abbrev pub Grows : List ℕ → List ℕ → (List ℕ → Type 0) → Type 0
+Grows old new P = (text : List ℕ) × (new ≡ old ++ text) × P text
+
 -- known bytes grow by a beginning of the text
 abbrev pub AppendsFront : Option (List ℕ) → Option (List ℕ) → List ℕ → Type 0
 AppendsFront old new text = Writes old new (λ front. (rest : List ℕ) × (text ≡ front ++ rest))

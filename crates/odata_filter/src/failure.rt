@@ -1,4 +1,6 @@
-ghost use Rattle.std.specs.Prelude.{◌<◌};
+ghost use Rattle.std.specs.Prelude.{◌≡◌, ◌<◌};
+ghost use Rattle.odata_filter.specs.Failures.{ending_of};
+ghost use Rattle.odata_filter.specs.Run.{status_number};
 
 use crate::csdl_schema::fault::SchemaFault;
 use crate::edm_entities::fault::RowFault;
@@ -24,7 +26,8 @@ pub enum Failure<'p> {
 impl Failure<'_> {
     /// The status that the program ends with.
     pub fn status(&self) -> u8
-        ensures { (0 < result) × (result < 7) }
+        ensures exact { result ≡ status_number (ending_of self.now) }
+        ensures known { (0 < result) × (result < 7) }
     {
         match self {
             Failure::Schema(SchemaFault::Memory) | Failure::Refused(Refusal::Memory) => 6,

@@ -11,6 +11,6 @@ pub mod said;
 pub(crate) mod split;
 pub mod tally;
 
-pub use rows::filter_lines;
+pub use rows::{filter_lines, filter_slice};
 pub use run_fault::RunFault;
 pub use tally::Tally;

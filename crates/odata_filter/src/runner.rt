@@ -1,5 +1,11 @@
-ghost use Rattle.std.specs.Prelude.{◌<◌, length, IfOk};
-ghost use Rattle.odata_filter.specs.csdl_schema.SchemaModel.{IsEntityAt};
+ghost use Rattle.std.specs.Prelude.{◌≡◌, ◌<◌, false, ℕ, Some, length, option_map, MatchOption, IfOk, IfErr, OnOk, OnErr, IsNone, IsSomeAnd};
+ghost use Rattle.odata_filter.specs.FilterPlan.{IsFilterPlan};
+ghost use Rattle.odata_filter.specs.Judges.{JudgesRow};
+ghost use Rattle.odata_filter.specs.Kept.{Filters, Stops};
+ghost use Rattle.odata_filter.specs.Lines.{lines_of};
+ghost use Rattle.odata_filter.specs.Run.{Answers, Begins, Ends, IsFirstMoment, OverRows, done, misused, without_type};
+ghost use Rattle.odata_filter.specs.Failures.{StopsOver, ending_of};
+ghost use Rattle.odata_filter.specs.csdl_schema.SchemaModel.{IsEntityAt, place_named};
 
 use crate::command_line::{Plan, Verb};
 use crate::csdl_schema::ids::TypeId;
@@ -14,7 +20,10 @@ use std::alloc::Global;
 use std::io::{Read, Write};
 
 /// What a plan asks for that is not there yet.
-fn not_yet(plan: &Plan<'_>) -> Option<&'static str> {
+fn not_yet(plan: &Plan<'_>) -> Option<&'static str>
+    ensures { MatchOption result (IsNone plan.entry.now.query × IsNone plan.entry.now.now × (plan.entry.now.verb ≡ Verb.Filter) × (plan.entry.now.collection ≡ false))
+        (λ option. ¬ IsFilterPlan plan.entry.now) }
+{
     match plan.verb {
         Verb::Check => return Some("check"),
         Verb::Explain => return Some("explain"),
@@ -34,29 +43,45 @@ fn not_yet(plan: &Plan<'_>) -> Option<&'static str> {
 }
 
 /// The text of the plan's filter.
-fn filter_text<'p>(plan: &Plan<'p>) -> Result<&'p str, Failure<'p>> {
-    if let Some(option) = not_yet(plan) {
-        return Err(Failure::NotYet(option));
-    }
-    match plan.filter {
-        Some(text) => Ok(text),
-        None => Err(Failure::NoFilter),
+fn filter_text<'p>(plan: &Plan<'p>) -> Result<&'p str, Failure<'p>>
+    ensures planned { IfOk result (λ text. IsFilterPlan plan.entry.now) }
+    ensures text { IfOk result (λ text. IsSomeAnd plan.entry.now.filter (λ given. given.now ≡ text.now)) }
+    ensures other { OnErr result (¬ IsFilterPlan plan.entry.now) }
+    ensures ending { IfErr result (λ failure. ending_of failure ≡ misused) }
+{
+    match not_yet(plan) {
+        Some(option) => Err(Failure::NotYet(option)),
+        None => match plan.filter {
+            Some(text) => Ok(text),
+            None => Err(Failure::NoFilter),
+        },
     }
 }
 
 /// The entity type that the plan names.
 fn entity_type<'p>(schema: &Schema, named: &'p str) -> Result<TypeId, Failure<'p>>
     ensures held { IfOk result (λ id. id < length schema.now.types) }
+    ensures found { IfOk result (λ id. place_named schema.now named.entry.now ≡ Some id) }
     ensures entity { IfOk result (IsEntityAt schema.now) }
+    ensures none { OnErr result ((id : ℕ) → place_named schema.now named.entry.now ≡ Some id → ¬ IsEntityAt schema.now id) }
+    ensures ending { IfErr result (λ failure. ending_of failure ≡ without_type) }
 {
     match schema.type_named(named) {
-        Some(id) if schema.holds(id) && schema.is_entity(id) => Ok(id),
-        _ => Err(Failure::UnknownType(named)),
+        Some(id) => {
+            if schema.is_entity(id) {
+                Ok(id)
+            } else {
+                Err(Failure::UnknownType(named))
+            }
+        }
+        None => Err(Failure::UnknownType(named)),
     }
 }
 
 /// The moment that is handed in where none is given, the first one of year 1.
-fn first_moment() -> Moment {
+fn first_moment() -> Moment
+    ensures { IsFirstMoment result }
+{
     match Moment::new(civil::date(1, 1, 1).at(0, 0, 0, 0), 0) {
         Some(moment) => moment,
         None => unreachable!(),
@@ -67,16 +92,22 @@ fn first_moment() -> Moment {
 fn filter_rows<'p, R: Read + Drop, W: Write>(
     alloc: Global,
     checked: &Checked<'_>,
+    now: &Moment,
     plan: &Plan<'p>,
     rows: Option<R>,
     out: &mut W,
-) -> Result<Tally, Failure<'p>> {
-    let Some(rows) = rows else {
-        return Err(Failure::RowsFile(plan.rows.unwrap_or("rows")));
-    };
-    match filter_lines(alloc, checked, &first_moment(), rows, out) {
-        Ok(tally) => Ok(tally),
-        Err(fault) => Err(Failure::Rows(fault)),
+) -> Result<Tally, Failure<'p>>
+    ensures done { IfOk result (λ tally. OverRows (option_map (λ r. R.remaining r) rows) (W.contents out.old) (W.contents out.new)
+        (λ bytes text. Filters (JudgesRow checked.now now.now) (lines_of bytes) text tally)) }
+    ensures failed { IfErr result (λ failure.
+        StopsOver (JudgesRow checked.now now.now) failure (option_map (λ r. R.remaining r) rows) (W.contents out.old) (W.contents out.new)) }
+{
+    match rows {
+        Some(rows) => match filter_lines(alloc, checked, now, rows, out) {
+            Ok(tally) => Ok(tally),
+            Err(fault) => Err(Failure::Rows(fault)),
+        },
+        None => Err(Failure::RowsFile(plan.rows.unwrap_or("rows"))),
     }
 }
 
@@ -87,15 +118,26 @@ fn carry_out<'p, R: Read + Drop, W: Write>(
     document: &[u8],
     rows: Option<R>,
     out: &mut W,
-) -> Result<Tally, Failure<'p>> {
-    let text = filter_text(plan)?;
+) -> Result<Tally, Failure<'p>>
+    ensures done { OnOk result (Ends done plan.entry.now document.now (option_map (λ r. R.remaining r) rows) (W.contents out.old) (W.contents out.new)) }
+    ensures failed { IfErr result (λ failure.
+        Ends (ending_of failure) plan.entry.now document.now (option_map (λ r. R.remaining r) rows) (W.contents out.old) (W.contents out.new)) }
+    ensures begins { Begins plan.entry.now document.now (option_map (λ r. R.remaining r) rows) (W.contents out.old) (W.contents out.new) }
+{
+    let text = match filter_text(plan) {
+        Ok(text) => text,
+        Err(failure) => return Err(failure),
+    };
     let schema = match Schema::read(alloc, document) {
         Ok(schema) => schema,
         Err(fault) => return Err(Failure::Schema(fault)),
     };
-    let id = entity_type(&schema, plan.named)?;
+    let id = match entity_type(&schema, plan.named) {
+        Ok(id) => id,
+        Err(failure) => return Err(failure),
+    };
     match check(alloc, &schema, id, text) {
-        Ok(checked) => filter_rows(alloc, &checked, plan, rows, out),
+        Ok(checked) => filter_rows(alloc, &checked, &first_moment(), plan, rows, out),
         Err(refusal) => Err(Failure::Refused(refusal)),
     }
 }
@@ -112,7 +154,8 @@ pub fn run<R: Read + Drop, W: Write, E: Write>(
     out: &mut W,
     err: &mut E,
 ) -> u8
-    ensures { result < 7 }
+    ensures known { result < 7 }
+    ensures answers { Answers result plan.entry.now document.now (option_map (λ r. R.remaining r) rows) (W.contents out.old) (W.contents out.new) }
 {
     match carry_out(alloc, plan, document, rows, out) {
         Ok(_) => 0,

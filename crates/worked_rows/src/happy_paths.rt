@@ -6,10 +6,10 @@ use odata_filter::command_line::{PlanFault, Verb};
 use odata_filter::csdl_schema::property::PropertyKind;
 use odata_filter::csdl_schema::schema::Schema;
 use odata_filter::edm_entities::entity::Entity;
-use odata_filter::lines::filter_lines;
+use odata_filter::lines::run_fault::RunFault;
 use odata_filter::odata_eval::{Verdict, evaluate};
 use odata_filter::odata_typing::{EdmType, ValueType, check};
-use odata_filter::plan;
+use odata_filter::{filter_lines, filter_slice, plan};
 use odata_syntax::{Node, parse};
 use odata_text::{Span, TokenKind, tokens};
 use serde_json::Value;
@@ -100,6 +100,27 @@ fn filter_and_row(rt: HostRuntime) -> Result<(), Fail> {
     let tally = filter_lines(rt.alloc(), &checked, &moment, A.as_bytes(), &mut out)?;
     assert!(rt; tally.rows == 1 && tally.kept == 1);
     assert!(rt; out.as_slice() == A.as_bytes());
+    Ok(())
+}
+
+/// What is written goes behind what is there, and stays where a later row is at fault.
+#[test]
+fn rows_in_memory(rt: HostRuntime) -> Result<(), Fail> {
+    let schema = Schema::read(rt.alloc(), SCHEMA.as_bytes())?;
+    let id = schema.type_named("Mini.Item").ok_or("the type")?;
+    assert!(rt; schema.holds(id));
+    let checked = check(rt.alloc(), &schema, id, FIRST)?;
+    let moment = Moment::new(civil::date(1, 1, 1).at(0, 0, 0, 0), 0).ok_or("a moment")?;
+    let mut out = Vec::new(rt.alloc());
+    out.extend_from_slice(b"kept\n")?;
+    let tally = filter_slice(rt.alloc(), &checked, &moment, A.as_bytes(), &mut out)?;
+    assert!(rt; tally.rows == 1 && tally.kept == 1);
+    let faulty = b"{\"ID\":1,\"Name\":\"a\",\"Active\":true}\n\n{}\n";
+    let answer = filter_slice(rt.alloc(), &checked, &moment, faulty.as_slice(), &mut out);
+    assert!(rt; matches!(answer, Err(RunFault::Row { line: 3, .. })));
+    let written =
+        b"kept\n{\"ID\":1,\"Name\":\"a\",\"Active\":true}\n{\"ID\":1,\"Name\":\"a\",\"Active\":true}\n";
+    assert!(rt; out.as_slice() == written.as_slice());
     Ok(())
 }
 

@@ -2,7 +2,7 @@ ghost use Rattle.std.specs.Prelude.{IfOk, IfErr, IfSome};
 ghost use Rattle.odata_filter.specs.Judges.{JudgesRow};
 ghost use Rattle.odata_filter.specs.Kept.{Filters, Stops};
 ghost use Rattle.odata_filter.specs.Lines.{lines_of};
-ghost use Rattle.odata_filter.specs.Writes.{Writes};
+ghost use Rattle.odata_filter.specs.Writes.{Grows, Writes};
 
 use super::filter::filter_with;
 use super::row_judge::RowJudge;
@@ -36,4 +36,18 @@ pub fn filter_lines<R: Read + Drop, W: Write>(
         moment: now,
     };
     filter_with(alloc, &judge, rows, out)
+}
+
+/// [`filter_lines`] over rows that stand in memory. What it writes goes behind what `out` has already.
+pub fn filter_slice(
+    alloc: Global,
+    checked: &Checked<'_>,
+    now: &Moment,
+    rows: &[u8],
+    out: &mut Vec<u8>,
+) -> Result<Tally, RunFault>
+    ensures filters { IfOk result (λ tally. Grows out.old.items out.new.items (λ text. Filters (JudgesRow checked.now now.now) (lines_of rows.now) text tally)) }
+    ensures stops { IfErr result (λ fault. Grows out.old.items out.new.items (λ text. Stops (JudgesRow checked.now now.now) (lines_of rows.now) text fault)) }
+{
+    filter_lines(alloc, checked, now, rows, out)
 }

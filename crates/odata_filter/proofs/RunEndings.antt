@@ -1,0 +1,174 @@
+-- What a run answers, by its first failure.
+use Rattle.std.proofs.Common.{◌≡◌, ℕ, List, [], Option, None, Some, Result, Ok, Err, inl, inr, sym, subst, append-nil}
+use Rattle.std.specs.Prelude.{IfOk, IfErr, OnOk, IsSomeAnd}
+use Rattle.std.specs.Io.KnownBytes.{Keeps}
+use Rattle.std.proofs.KnownBytes.{Keeps-trans, Appends-kept}
+use Rattle.edm_values.specs.MomentParts.{MomentParts}
+use Rattle.odata_filter.specs.Judges.{JudgesRow}
+use Rattle.odata_filter.specs.Kept.{Filters, Stops, StopsWithin}
+use Rattle.odata_filter.specs.Lines.{lines_of}
+use Rattle.odata_filter.specs.Failures.{ending_of, ending_of_refusal, StopsOver}
+use Rattle.odata_filter.specs.Run.{IsFirstMoment, NamesType, IsFilterOf, HasNoFilter, OverRows, OfLines, ByFilter, FiltersAll, StopsAtFault, Ending, done, refused, misused, without_type, at_fault, unread, without_memory, Ends, Begins}
+use Rattle.odata_filter.specs.csdl_schema.SchemaModel.{SchemaModel, slots_of, type_name_at}
+use Rattle.odata_filter.specs.declared.command_line.Plan.{Plan}
+use Rattle.odata_filter.specs.declared.failure.Failure.{Failure}
+use Rattle.odata_filter.specs.declared.failure.Failure.TheVariants.{NotYet, NoFilter, Schema, UnknownType, Refused, RowsFile, Rows}
+use Rattle.odata_filter.specs.declared.lines.run_fault.RunFault.TheVariants.{Json, Row, Arithmetic, LineTooLong, NotACollection, Read, Write, Memory}
+use Rattle.odata_filter.specs.declared.lines.said.Judgment.TheVariants.{NotJson, NoEntity, NoValue}
+use Rattle.odata_filter.specs.declared.lines.said.Said.TheVariants.{TooLong, Judged}
+use Rattle.odata_filter.specs.declared.lines.tally.Tally.{Tally}
+use Rattle.odata_filter.specs.declared.odata_typing.refusal.Refusal.{Refusal}
+use Rattle.odata_filter.specs.declared.odata_typing.refusal.Refusal.TheVariants as refusal
+use Rattle.odata_filter.specs.odata_typing.Filter.{Filter, tree_of_filter}
+use Rattle.odata_filter.specs.odata_typing.HasTyping.{HasTyping, HasNoTyping, UnlessMemory}
+use Rattle.odata_filter.proofs.FilterLemmas.{JudgeModel, Filters-within, Stops-within}
+
+-- what holds of the bytes of the text that was read holds of those that were given
+given : {T : Type 0} (o : Option T) (bytes : T → List ℕ) (text : List ℕ) (P : List ℕ → Type 0) → IsSomeAnd o (λ t. bytes t ≡ text) → P text → IsSomeAnd o (λ t. P (bytes t))
+given None bytes text P is p = is
+given (Some t) bytes text P is p = subst P (sym is) p
+
+-- ---- the plan's text is a filter, or is none
+
+pub is_filter_of : (plan : Plan) (document : List ℕ) (schema : SchemaModel) (place : ℕ) (text : List ℕ) (filter : Filter)
+    → NamesType plan document schema place → IsSomeAnd plan.filter (λ t. t.now ≡ text)
+    → filter.schema ≡ schema → filter.filtered ≡ place
+    → HasTyping (slots_of filter.schema) (type_name_at filter.schema filter.filtered) text (tree_of_filter filter) → IsFilterOf plan document filter
+is_filter_of plan document schema place text filter names is same at typed = record {
+  names = subst (λ s. NamesType plan document s filter.filtered) (sym same) (subst (NamesType plan document schema) (sym at) names);
+  typed = given plan.filter (λ t. t.now) text (λ l. HasTyping (slots_of filter.schema) (type_name_at filter.schema filter.filtered) l (tree_of_filter filter)) is typed;
+}
+
+refused_as : (plan : Plan) (document : List ℕ) (rows : Option (Option (List ℕ))) (out : Option (List ℕ)) (fault : Refusal) (P : Type 0)
+    → (P → HasNoFilter plan document) → Keeps out out → UnlessMemory fault P → Ends (ending_of_refusal fault) plan document rows out out
+refused_as plan document rows out (refusal.Text fault) P none kept p = (none p, kept)
+refused_as plan document rows out (refusal.Syntax fault) P none kept p = (none p, kept)
+refused_as plan document rows out (refusal.Typing fault) P none kept p = (none p, kept)
+refused_as plan document rows out refusal.Memory P none kept p = tt
+
+pub refused_by : (plan : Plan) (document : List ℕ) (schema : SchemaModel) (place : ℕ) (text : List ℕ) (rows : Option (Option (List ℕ))) (out : Option (List ℕ)) (fault : Refusal)
+    → NamesType plan document schema place → IsSomeAnd plan.filter (λ t. t.now ≡ text) → Keeps out out
+    → UnlessMemory fault (HasNoTyping (slots_of schema) (type_name_at schema place) text) → Ends (ending_of_refusal fault) plan document rows out out
+refused_by plan document schema place text rows out fault names is kept none =
+    refused_as plan document rows out fault (HasNoTyping (slots_of schema) (type_name_at schema place) text)
+    (λ none. record {
+      schema = schema;
+      place = place;
+      names = names;
+      none = given plan.filter (λ t. t.now) text (λ l. HasNoTyping (slots_of schema) (type_name_at schema place) l) is none;
+    })
+    kept none
+
+-- ---- what was written
+
+over : (rows : Option (Option (List ℕ))) (old new : Option (List ℕ)) (P Q : List ℕ → List ℕ → Type 0)
+    → ((bytes text : List ℕ) → P bytes text → Q bytes text) → OverRows rows old new P → OverRows rows old new Q
+over None old new P Q f held = held
+over (Some None) old new P Q f held = tt
+over (Some (Some bytes)) old new P Q f (text, wrote, said) = (text, wrote, f bytes text said)
+
+over_kept : (rows : Option (Option (List ℕ))) (a b c : Option (List ℕ)) (P : List ℕ → List ℕ → Type 0) → OverRows rows a b P → Keeps b c → OverRows rows a c P
+over_kept None a b c P held kept = held
+over_kept (Some None) a b c P held kept = tt
+over_kept (Some (Some bytes)) a b c P (text, wrote, said) kept = (text, Appends-kept a b c text wrote kept, said)
+
+by_filter : (P Q : OfLines) (plan : Plan) (document : List ℕ) (rows : Option (Option (List ℕ))) (old new : Option (List ℕ)) (filter : Filter) (now : MomentParts)
+    → IsFilterOf plan document filter → IsFirstMoment now → ((lines : List (List ℕ)) (text : List ℕ) → P (JudgesRow filter now) lines text → Q (JudgesRow filter now) lines text)
+    → OverRows rows old new (λ bytes. P (JudgesRow filter now) (lines_of bytes)) → ByFilter Q plan document rows old new
+by_filter P Q plan document rows old new filter now is_filter is_first f held = record {
+  filter = filter;
+  is_filter = is_filter;
+  now = now;
+  is_first = is_first;
+  written = over rows old new (λ bytes. P (JudgesRow filter now) (lines_of bytes)) (λ bytes. Q (JudgesRow filter now) (lines_of bytes)) (λ bytes text. f (lines_of bytes) text) held;
+}
+
+pub done_by : (plan : Plan) (document : List ℕ) (rows : Option (Option (List ℕ))) (old new : Option (List ℕ)) (filter : Filter) (now : MomentParts) (answer : Result Tally Failure)
+    → IsFilterOf plan document filter → IsFirstMoment now
+    → IfOk answer (λ tally. OverRows rows old new (λ bytes text. Filters (JudgesRow filter now) (lines_of bytes) text tally))
+    → OnOk answer (ByFilter FiltersAll plan document rows old new)
+done_by plan document rows old new filter now (Ok tally) is_filter is_first held =
+    by_filter (λ judge lines text. Filters judge lines text tally) FiltersAll plan document rows old new filter now is_filter is_first (λ lines text filtered. (tally, filtered)) held
+done_by plan document rows old new filter now (Err failure) is_filter is_first held = tt
+
+failed : (plan : Plan) (document : List ℕ) (rows : Option (Option (List ℕ))) (old new : Option (List ℕ)) (filter : Filter) (now : MomentParts) (failure : Failure)
+    → IsFilterOf plan document filter → IsFirstMoment now → StopsOver (JudgesRow filter now) failure rows old new → Ends (ending_of failure) plan document rows old new
+failed plan document rows old new filter now (NotYet option) is_filter is_first held = absurd held
+failed plan document rows old new filter now NoFilter is_filter is_first held = absurd held
+failed plan document rows old new filter now (Schema fault) is_filter is_first held = absurd held
+failed plan document rows old new filter now (UnknownType name) is_filter is_first held = absurd held
+failed plan document rows old new filter now (Refused fault) is_filter is_first held = absurd held
+failed plan document rows old new filter now (RowsFile name) is_filter is_first held = (filter, is_filter)
+failed plan document rows old new filter now (Rows (Json line)) is_filter is_first held =
+    by_filter (λ judge lines text. Stops judge lines text (Json line)) StopsAtFault plan document rows old new filter now is_filter is_first
+    (λ lines text stops. (line, Judged NotJson, (λ sound. sound), stops)) held
+failed plan document rows old new filter now (Rows (Row line fault)) is_filter is_first held =
+    by_filter (λ judge lines text. Stops judge lines text (Row line fault)) StopsAtFault plan document rows old new filter now is_filter is_first
+    (λ lines text stops. (line, Judged (NoEntity fault), (λ sound. sound), stops)) held
+failed plan document rows old new filter now (Rows (Arithmetic line fault)) is_filter is_first held =
+    by_filter (λ judge lines text. Stops judge lines text (Arithmetic line fault)) StopsAtFault plan document rows old new filter now is_filter is_first
+    (λ lines text stops. (line, Judged (NoValue fault), (λ sound. sound), stops)) held
+failed plan document rows old new filter now (Rows (LineTooLong line)) is_filter is_first held =
+    by_filter (λ judge lines text. Stops judge lines text (LineTooLong line)) StopsAtFault plan document rows old new filter now is_filter is_first
+    (λ lines text stops. (line, TooLong, (λ sound. sound), stops)) held
+failed plan document rows old new filter now (Rows NotACollection) is_filter is_first held =
+    by_filter (λ judge lines text. Stops judge lines text NotACollection) StopsAtFault plan document rows old new filter now is_filter is_first (λ lines text stops. absurd stops) held
+failed plan document rows old new filter now (Rows (Read line)) is_filter is_first held = (filter, is_filter)
+failed plan document rows old new filter now (Rows Write) is_filter is_first held = (filter, is_filter)
+failed plan document rows old new filter now (Rows (Memory line)) is_filter is_first held = tt
+
+pub failed_by : (plan : Plan) (document : List ℕ) (rows : Option (Option (List ℕ))) (old new : Option (List ℕ)) (filter : Filter) (now : MomentParts) (answer : Result Tally Failure)
+    → IsFilterOf plan document filter → IsFirstMoment now → IfErr answer (λ failure. StopsOver (JudgesRow filter now) failure rows old new)
+    → IfErr answer (λ failure. Ends (ending_of failure) plan document rows old new)
+failed_by plan document rows old new filter now (Ok tally) is_filter is_first held = tt
+failed_by plan document rows old new filter now (Err failure) is_filter is_first held = failed plan document rows old new filter now failure is_filter is_first held
+
+-- ---- a beginning was written
+
+within_all : (judge : JudgeModel) (lines : List (List ℕ)) (text : List ℕ) (tally : Tally) → Filters judge lines text tally → StopsWithin judge lines text
+within_all judge lines text tally filtered =
+    subst (λ l. StopsWithin judge l text) (append-nil lines) (Filters-within judge lines [] text [] tally (subst (λ t. Filters judge lines t tally) (sym (append-nil text)) filtered))
+
+pub begins_by : (plan : Plan) (document : List ℕ) (rows : Option (Option (List ℕ))) (old new : Option (List ℕ)) (filter : Filter) (now : MomentParts) (answer : Result Tally Failure)
+    → IsFilterOf plan document filter → IsFirstMoment now
+    → IfOk answer (λ tally. OverRows rows old new (λ bytes text. Filters (JudgesRow filter now) (lines_of bytes) text tally))
+    → IfErr answer (λ failure. StopsOver (JudgesRow filter now) failure rows old new) → Begins plan document rows old new
+begins_by plan document rows old new filter now (Ok tally) is_filter is_first held stopped =
+    inr (by_filter (λ judge lines text. Filters judge lines text tally) StopsWithin plan document rows old new filter now is_filter is_first
+    (λ lines text. within_all (JudgesRow filter now) lines text tally) held)
+begins_by plan document rows old new filter now (Err (Rows fault)) is_filter is_first held stopped =
+    inr (by_filter (λ judge lines text. Stops judge lines text fault) StopsWithin plan document rows old new filter now is_filter is_first
+    (λ lines text stops. Stops-within (JudgesRow filter now) lines text [] fault (subst (λ t. Stops (JudgesRow filter now) lines t fault) (sym (append-nil text)) stops)) stopped)
+begins_by plan document rows old new filter now (Err (RowsFile name)) is_filter is_first held stopped = inl stopped
+begins_by plan document rows old new filter now (Err (NotYet option)) is_filter is_first held stopped = absurd stopped
+begins_by plan document rows old new filter now (Err NoFilter) is_filter is_first held stopped = absurd stopped
+begins_by plan document rows old new filter now (Err (Schema fault)) is_filter is_first held stopped = absurd stopped
+begins_by plan document rows old new filter now (Err (UnknownType name)) is_filter is_first held stopped = absurd stopped
+begins_by plan document rows old new filter now (Err (Refused fault)) is_filter is_first held stopped = absurd stopped
+
+-- ---- standard output was flushed
+
+by_filter_kept : (P : OfLines) (plan : Plan) (document : List ℕ) (rows : Option (Option (List ℕ))) (a b c : Option (List ℕ))
+    → ByFilter P plan document rows a b → Keeps b c → ByFilter P plan document rows a c
+by_filter_kept P plan document rows a b c by kept = record {
+  filter = by.filter;
+  is_filter = by.is_filter;
+  now = by.now;
+  is_first = by.is_first;
+  written = over_kept rows a b c (λ bytes. P (JudgesRow by.filter by.now) (lines_of bytes)) by.written kept;
+}
+
+pub Ends-kept : (ending : Ending) (plan : Plan) (document : List ℕ) (rows : Option (Option (List ℕ))) (a b c : Option (List ℕ))
+    → Ends ending plan document rows a b → Keeps b c → Ends ending plan document rows a c
+Ends-kept done plan document rows a b c ends kept = by_filter_kept FiltersAll plan document rows a b c ends kept
+Ends-kept refused plan document rows a b c ends kept = (ends.0, Keeps-trans a b c ends.1 kept)
+Ends-kept misused plan document rows a b c ends kept = (ends.0, Keeps-trans a b c ends.1 kept)
+Ends-kept without_type plan document rows a b c ends kept = (ends.0, Keeps-trans a b c ends.1 kept)
+Ends-kept at_fault plan document rows a b c ends kept = by_filter_kept StopsAtFault plan document rows a b c ends kept
+Ends-kept unread plan document rows a b c ends kept = ends
+Ends-kept without_memory plan document rows a b c ends kept = tt
+
+pub Begins-kept : (plan : Plan) (document : List ℕ) (rows : Option (Option (List ℕ))) (a b c : Option (List ℕ))
+    → Begins plan document rows a b → Keeps b c → Begins plan document rows a c
+Begins-kept plan document rows a b c (inl none) kept = inl (Keeps-trans a b c none kept)
+Begins-kept plan document rows a b c (inr by) kept = inr (by_filter_kept StopsWithin plan document rows a b c by kept)

@@ -1,0 +1,118 @@
+-- What a run says by its status: of its plan, of its schema's bytes, and of what standard output got.
+use Rattle.std.specs.Prelude.{◌≡◌, ℕ, pos, ◌⊎◌, List, Option, Some, IfSome, IsSomeAnd}
+use Rattle.std.specs.Io.KnownBytes.{Keeps}
+use Rattle.edm_values.specs.Civil.{IsYmd, IsHms}
+use Rattle.edm_values.specs.MomentParts.{MomentParts}
+use Rattle.odata_filter.specs.FilterPlan.{IsFilterPlan}
+use Rattle.odata_filter.specs.Judges.{JudgesRow}
+use Rattle.odata_filter.specs.Kept.{Filters, StopsAt, StopsWithin, IsSound}
+use Rattle.odata_filter.specs.Lines.{lines_of}
+use Rattle.odata_filter.specs.Writes.{Writes}
+use Rattle.odata_filter.specs.csdl_schema.Document.{StandsFor, IsFirstFault}
+use Rattle.odata_filter.specs.csdl_schema.Faults.{Fault}
+use Rattle.odata_filter.specs.csdl_schema.SchemaModel.{SchemaModel, IsEntityAt, place_named, slots_of, type_name_at}
+use Rattle.odata_filter.specs.declared.command_line.Plan.{Plan}
+use Rattle.odata_filter.specs.declared.lines.said.Judgment.{Judgment}
+use Rattle.odata_filter.specs.declared.lines.said.Said.{Said}
+use Rattle.odata_filter.specs.declared.lines.tally.Tally.{Tally}
+use Rattle.odata_filter.specs.odata_typing.Filter.{Filter, tree_of_filter}
+use Rattle.odata_filter.specs.odata_typing.HasTyping.{HasTyping, HasNoTyping}
+
+-- the moment that is handed in where none is given: 0001-01-01T00:00:00Z
+abbrev pub IsFirstMoment : MomentParts → Type 0
+IsFirstMoment now = IsYmd (pos 1) (pos 1) (pos 1) now.civil.date × IsHms (pos 0) (pos 0) (pos 0) (pos 0) now.civil.time × (now.offset_minutes ≡ pos 0)
+
+-- The schema's bytes stand for this schema, and the type that the plan names is the entity type at this place in it.
+pub record NamesType (plan : Plan) (document : List ℕ) (schema : SchemaModel) (place : ℕ) : Type 0 where
+  pub planned : IsFilterPlan plan
+  pub stands : StandsFor document schema
+  pub named : place_named schema plan.named.now ≡ Some place
+  pub entity : IsEntityAt schema place
+
+-- The plan's text is this filter of the type that the plan names (OData URL Conventions 4.01, section 5.1.1).
+pub record IsFilterOf (plan : Plan) (document : List ℕ) (filter : Filter) : Type 0 where
+  pub names : NamesType plan document filter.schema filter.filtered
+  pub typed : IsSomeAnd plan.filter (λ text. HasTyping (slots_of filter.schema) (type_name_at filter.schema filter.filtered) text.now (tree_of_filter filter))
+
+-- the plan's text is a filter
+abbrev pub HasFilter : Plan → List ℕ → Type 0
+HasFilter plan document = (filter : Filter) × IsFilterOf plan document filter
+
+-- The plan names a type, and its text is no filter of that.
+pub record HasNoFilter (plan : Plan) (document : List ℕ) : Type 0 where
+  pub schema : SchemaModel
+  pub place : ℕ
+  pub names : NamesType plan document schema place
+  pub none : IsSomeAnd plan.filter (λ text. HasNoTyping (slots_of schema) (type_name_at schema place) text.now)
+
+-- the schema's bytes have a fault, or the schema has no entity type of that name (CSDL JSON 4.01)
+abbrev pub HasNoType : Plan → List ℕ → Type 0
+HasNoType plan document =
+    ((fault : Fault) × IsFirstFault document fault)
+    ⊎ ((schema : SchemaModel) × StandsFor document schema × ((place : ℕ) → place_named schema plan.named.now ≡ Some place → ¬ IsEntityAt schema place))
+
+-- There are rows, and where their bytes are known and what standard output has, P holds of the bytes and of the text that was written.
+abbrev pub OverRows : Option (Option (List ℕ)) → Option (List ℕ) → Option (List ℕ) → (List ℕ → List ℕ → Type 0) → Type 0
+OverRows rows old new P = IsSomeAnd rows (λ known. IfSome known (λ bytes. Writes old new (P bytes)))
+
+-- what is said of lines and of a text, given what may be said of a line
+abbrev pub OfLines : Type 1
+OfLines = (List ℕ → Judgment → Type 0) → List (List ℕ) → List ℕ → Type 0
+
+-- The plan's text is a filter, and P holds of what it says of the rows' lines and of the text that was written.
+pub record ByFilter (P : OfLines) (plan : Plan) (document : List ℕ) (rows : Option (Option (List ℕ))) (old new : Option (List ℕ)) : Type 0 where
+  pub filter : Filter
+  pub is_filter : IsFilterOf plan document filter
+  pub now : MomentParts
+  pub is_first : IsFirstMoment now
+  pub written : OverRows rows old new (λ bytes. P (JudgesRow filter now) (lines_of bytes))
+
+-- no line is at fault, and the text is that of the kept ones
+abbrev pub FiltersAll : OfLines
+FiltersAll judge lines text = (tally : Tally) × Filters judge lines text tally
+
+-- some line is the first at fault, and the text is that of the kept lines before it
+abbrev pub StopsAtFault : OfLines
+StopsAtFault judge lines text = (place : ℕ) × (said : Said) × (¬ IsSound said) × StopsAt judge lines text place said
+
+-- how a run ends
+pub data Ending : Type 0 where
+  done : Ending
+  refused : Ending
+  misused : Ending
+  without_type : Ending
+  at_fault : Ending
+  unread : Ending
+  without_memory : Ending
+
+-- the status that the program ends with
+abbrev pub status_number : Ending → ℕ
+status_number done = 0
+status_number refused = 1
+status_number misused = 2
+status_number without_type = 3
+status_number at_fault = 4
+status_number unread = 5
+status_number without_memory = 6
+
+-- What each says: all rows were filtered; the text is no filter; the plan is none to filter rows; there is no such entity type;
+-- a row is at fault; there is a filter, and its rows were not read or written whole. Nothing was written in the second to fourth.
+abbrev pub Ends : Ending → Plan → List ℕ → Option (Option (List ℕ)) → Option (List ℕ) → Option (List ℕ) → Type 0
+Ends done plan document rows old new = ByFilter FiltersAll plan document rows old new
+Ends refused plan document rows old new = HasNoFilter plan document × Keeps old new
+Ends misused plan document rows old new = (¬ IsFilterPlan plan) × Keeps old new
+Ends without_type plan document rows old new = HasNoType plan document × Keeps old new
+Ends at_fault plan document rows old new = ByFilter StopsAtFault plan document rows old new
+Ends unread plan document rows old new = HasFilter plan document
+Ends without_memory plan document rows old new = Unit {0}
+
+-- nothing was written, or a beginning of the text of the kept lines among some first lines of which none is at fault
+abbrev pub Begins : Plan → List ℕ → Option (Option (List ℕ)) → Option (List ℕ) → Option (List ℕ) → Type 0
+Begins plan document rows old new = Keeps old new ⊎ ByFilter StopsWithin plan document rows old new
+
+-- A status, what it says, and what was written by then.
+pub record Answers (status : ℕ) (plan : Plan) (document : List ℕ) (rows : Option (Option (List ℕ))) (old new : Option (List ℕ)) : Type 0 where
+  pub ending : Ending
+  pub is_status : status ≡ status_number ending
+  pub ends : Ends ending plan document rows old new
+  pub begins : Begins plan document rows old new
