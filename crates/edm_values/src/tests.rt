@@ -278,7 +278,7 @@ fn moments_of_parts(rt: HostRuntime) -> Result<(), Fail> {
     Ok(())
 }
 
-// Run with each allocation refused in turn: a call that fails leaves its String as it was.
+// `bench/refused` refuses each allocation in turn: a call that fails leaves its String as it was.
 #[test]
 fn refused_allocations(rt: HostRuntime) -> Result<(), Fail> {
     let mut out = String::new(rt.alloc());

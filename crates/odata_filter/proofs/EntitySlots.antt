@@ -1,20 +1,20 @@
 -- What an entity holds at a slot: the value that its record has under the property's name, and of the property's type.
-use Rattle.std.proofs.Common.{◌≡◌, ℕ, zero, suc, List, [], ◌∷◌, Bool, true, false, map, length, Option, Some, None, slice_get, refl, sym, ap, ◌∙◌, subst, arith}
+use Rattle.std.proofs.Common.{◌≡◌, ℕ, zero, suc, List, [], ◌∷◌, map, length, Some, slice_get, refl, ap, ◌∙◌, subst, arith}
 use Rattle.std.specs.Cmp.Lexicographic.{slice_cmp}
 use Rattle.std.specs.Ordering.{nat_cmp}
 use Rattle.std.specs.List.{AllByRecursion}
 use Rattle.std.specs.List.Sorted.{IsStrictlySortedBy}
 use Rattle.std.proofs.Common.{Less}
-use Rattle.serde_json.specs.Data.{Data}
 use Rattle.serde_json.specs.Find.{get}
-use Rattle.edm_values.specs.Val.{Val, fields, Held, present}
-use Rattle.edm_values.specs.declared.value.Value.{Value, Record}
+use Rattle.edm_values.specs.Val.{fields, Held, present}
+use Rattle.edm_values.specs.declared.value.Value.{Value}
 use Rattle.odata_filter.specs.csdl_schema.ExprType.{ExprType, single, structured}
 use Rattle.odata_filter.specs.csdl_schema.SchemaModel.{Slots, PropertyModel, declared, slots_of, type_name_at, properties_at, IsInNameOrder}
 use Rattle.odata_filter.specs.edm_entities.Fits.{Fits, FitsProperty, FitsRecord}
 use Rattle.odata_filter.specs.edm_entities.HasType.{HasPropertyType}
-use Rattle.odata_filter.specs.edm_entities.Row.{Row, IsEntity, Seen, val_of, value_of, held_of, held_by_name}
+use Rattle.odata_filter.specs.edm_entities.Row.{Row, IsEntity, val_of, value_of, held_of, held_by_name}
 use Rattle.odata_filter.specs.edm_entities.SlotValue.{IsSlotValue}
+use Rattle.odata_filter.proofs.SchemaLookUps.{each_at}
 use Rattle.odata_filter.proofs.FitsHasType.{held_has_type}
 use Rattle.odata_filter.proofs.ReadEntities.{val_of-Record}
 use Rattle.odata_filter.proofs.SlotsByName.{here, behind, other_name}
@@ -43,11 +43,6 @@ found slots (q ∷ ps) (v ∷ values) (suc n) p ordered long at =
     let rest = found slots ps values n p ordered.1 (omega (arith, long)) at in
     record { value = rest.value; at_slot = rest.at_slot; by_name = behind slots q ps (val_of v) (map val_of values) p.name (other_name q.name p.name (below_at q.name ps n p ordered.0 at)) ∙ rest.by_name }
 
-all_at : (P : PropertyModel → Type 0) (ps : List PropertyModel) (n : ℕ) (p : PropertyModel) → AllByRecursion P ps → slice_get ps n ≡ Some p → P p
-all_at P [] n p all at = absurd (cc)
-all_at P (q ∷ ps) zero p all at = let same : q ≡ p = cc in subst P same all.0
-all_at P (q ∷ ps) (suc n) p all at = all_at P ps n p all.1 at
-
 pub slot_value : (row : Row) (entity : IsEntity row) (slot : ℕ) (p : PropertyModel) (type : ExprType)
     → slice_get (properties_at row.schema row.type_id) slot ≡ Some p → p.type_of ≡ declared type
     → IsSlotValue row entity.holds_slots.slots.items slot p.name type
@@ -64,7 +59,7 @@ slot_value row entity slot p type at is_declared =
     let under : f p.name ≡ present (val_of here_found.value slots type) =
     here_found.by_name ∙ ap (λ t. held_of slots t (val_of here_found.value)) is_declared in
     let fits_here : FitsProperty p.type_of (get p.name entity.conforms.0) (f p.name) =
-    all_at (λ q. FitsProperty q.type_of (get q.name entity.conforms.0) (f q.name)) properties slot p fits.each_fits at in
+    each_at (λ q. FitsProperty q.type_of (get q.name entity.conforms.0) (f q.name)) properties slot p fits.each_fits at in
     let typed : HasPropertyType slots p.type_of (f p.name) = held_has_type slots p.type_of (get p.name entity.conforms.0) (f p.name) fits_here in
     record {
       value = here_found.value;

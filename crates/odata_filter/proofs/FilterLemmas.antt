@@ -1,20 +1,20 @@
 -- Runs over lines, one after the other.
-use Rattle.std.proofs.Common.{◌≡◌, ℕ, zero, suc, ◌+◌, ◌≤◌, Bool, cond, List, [], ◌∷◌, ◌++◌, length, refl, sym, ap, ◌∙◌, subst, append_assoc, append-nil, arith, length-append}
+use Rattle.std.proofs.Common.{◌≡◌, ℕ, zero, suc, ◌+◌, ◌<◌, ◌≤◌, Bool, cond, List, [], ◌∷◌, ◌++◌, length, refl, sym, ap, ◌∙◌, subst, append_assoc, append-nil, arith, length-append}
 use Rattle.std.specs.Prelude.{Option, map, filter, flat_map, count_by, All}
 use Rattle.std.proofs.lemmas.List.{map-append, length-map}
 use Rattle.std.proofs.lemmas.List.Elements.{All-append, filter-append}
 use Rattle.std.proofs.lemmas.List.Sums.{sum_by-append, count_by-le-length}
 use Rattle.std.proofs.lemmas.Grind.{flat_map-append}
 use Rattle.odata_filter.specs.Kept.{Says, IsSound, is_kept, is_row, SaidLine, kept_text, Filters, StopsAt, StopsBefore, StopsWithin, Stops}
-use Rattle.odata_filter.specs.Lines.{lines_of}
+use Rattle.odata_filter.specs.Lines.{lines_of, ended}
 use Rattle.odata_filter.specs.Passing.{sum_of, StopsHere}
 use Rattle.odata_filter.specs.Writes.{Writes, AppendsFront, Holds}
 use Rattle.odata_filter.proofs.WriteLemmas.{Holds-more, held_both}
 use Rattle.std.proofs.KnownBytes.{Appends-nil, Appends-trans}
 use Rattle.odata_filter.specs.declared.lines.said.Judgment.{Judgment as JudgmentModel}
-use Rattle.odata_filter.specs.declared.lines.said.Judgment.TheVariants.{Kept, LeftOut}
+use Rattle.odata_filter.specs.declared.lines.said.Judgment.TheVariants.{Kept, LeftOut, NotJson, NoEntity, NoValue}
 use Rattle.odata_filter.specs.declared.lines.said.Said.{Said as SaidModel}
-use Rattle.odata_filter.specs.declared.lines.said.Said.TheVariants.{PassedOver, Judged}
+use Rattle.odata_filter.specs.declared.lines.said.Said.TheVariants.{TooLong, PassedOver, Judged}
 use Rattle.odata_filter.specs.declared.lines.run_fault.RunFault.{RunFault as RunFaultModel}
 use Rattle.odata_filter.specs.declared.lines.run_fault.RunFault.TheVariants.{Json, Row, Arithmetic, LineTooLong, NotACollection, Read, Write, Memory}
 use Rattle.odata_filter.specs.declared.lines.tally.Tally.{Tally as TallyModel}
@@ -35,6 +35,9 @@ Sound judge l = Says judge l.line l.said × IsSound l.said
 
 abbrev line_text : SaidLine → List ℕ
 line_text l = l.line ++ 10 ∷ []
+
+abbrev ended_line : List ℕ → List ℕ
+ended_line line = line ++ 10 ∷ []
 
 abbrev kept_said : SaidLine → Bool
 kept_said l = is_kept l.said
@@ -109,33 +112,42 @@ Filters-rows {judge} {xs} {s} {m} filtered =
     let kept = count_by-le-length kept_said filtered.all in
     (omega (arith, filtered.rows_counted, rows), omega (arith, filtered.kept_counted, kept))
 
--- The walk has come so far: these lines passed, and this text of them is kept, but for what is held back of its end.
-pub record HasPassed (judge : JudgeModel) (lines : List (List ℕ)) (rest : List ℕ) (old new : Option (List ℕ)) (held : List ℕ) (passed : ℕ) (tally : TallyModel) : Type 0 where
+-- The walk has come so far: these lines passed, each ended by an LF if anything stands behind them, and this text of them is kept, but for what is held back of its end.
+pub record HasPassed (judge : JudgeModel) (bytes rest : List ℕ) (old new : Option (List ℕ)) (held : List ℕ) (passed : ℕ) (tally : TallyModel) : Type 0 where
   pub before : List (List ℕ)
   pub text : List ℕ
-  pub whole : lines ≡ before ++ lines_of rest
+  pub whole : lines_of bytes ≡ before ++ lines_of rest
+  pub complete : 0 < length rest → bytes ≡ ended before ++ rest
   pub counted : passed ≡ length before
   pub filtered : Filters judge before text tally
   pub holds : Holds old new held text
 
-pub HasPassed-none : (judge : JudgeModel) (bytes : List ℕ) (a : Option (List ℕ)) (held : List ℕ) → held ≡ [] → HasPassed judge (lines_of bytes) bytes a a held 0 (record { rows = 0; kept = 0 })
+pub HasPassed-none : (judge : JudgeModel) (bytes : List ℕ) (a : Option (List ℕ)) (held : List ℕ) → held ≡ [] → HasPassed judge bytes bytes a a held 0 (record { rows = 0; kept = 0 })
 HasPassed-none judge bytes a held none = record {
   before = [];
   text = [];
   whole = refl;
+  complete = λ some. refl;
   counted = refl;
   filtered = Filters-none judge;
   holds = ([], Appends-nil a, sym none);
 }
 
 -- one line more
-pub HasPassed-more : (judge : JudgeModel) (lines : List (List ℕ)) (line rest after text : List ℕ) (a b c : Option (List ℕ)) (h₁ h₂ : List ℕ) (passed : ℕ) (m n : TallyModel)
-    → lines_of rest ≡ line ∷ lines_of after → Holds b c h₂ (h₁ ++ text) → Filters judge (line ∷ []) text n
-    → HasPassed judge lines rest a b h₁ passed m → HasPassed judge lines after a c h₂ (passed + 1) (sum_of m n)
-HasPassed-more judge lines line rest after text a b c h₁ h₂ passed m n first more one so_far = record {
+-- one line more and the LF behind it
+ended-more : (before : List (List ℕ)) (line after : List ℕ) → ended before ++ (line ++ 10 ∷ after) ≡ ended (before ++ line ∷ []) ++ after
+ended-more before line after =
+    let one : ended (line ∷ []) ++ after ≡ line ++ 10 ∷ after = ap (λ l. l ++ after) (append-nil (line ++ 10 ∷ [])) ∙ append_assoc line (10 ∷ []) after in
+    sym (ap (λ l. l ++ after) (flat_map-append ended_line before (line ∷ [])) ∙ append_assoc (ended before) (ended (line ∷ [])) after ∙ ap (λ l. ended before ++ l) one)
+
+pub HasPassed-more : (judge : JudgeModel) (bytes line rest after text : List ℕ) (a b c : Option (List ℕ)) (h₁ h₂ : List ℕ) (passed : ℕ) (m n : TallyModel)
+    → lines_of rest ≡ line ∷ lines_of after → (0 < length after → rest ≡ line ++ 10 ∷ after) → 0 < length rest → Holds b c h₂ (h₁ ++ text) → Filters judge (line ∷ []) text n
+    → HasPassed judge bytes rest a b h₁ passed m → HasPassed judge bytes after a c h₂ (passed + 1) (sum_of m n)
+HasPassed-more judge bytes line rest after text a b c h₁ h₂ passed m n first behind more_rest more one so_far = record {
   before = so_far.before ++ line ∷ [];
   text = so_far.text ++ text;
   whole = so_far.whole ∙ ap (λ l. so_far.before ++ l) first ∙ sym (append_assoc so_far.before (line ∷ []) (lines_of after));
+  complete = λ some. so_far.complete more_rest ∙ ap (λ l. ended so_far.before ++ l) (behind some) ∙ ended-more so_far.before line after;
   counted = ap (λ k. k + 1) so_far.counted ∙ sym (length-append so_far.before (line ∷ []));
   filtered = Filters-append judge so_far.before (line ∷ []) so_far.text text m n so_far.filtered one;
   holds = Holds-more a b c h₁ h₂ so_far.text text so_far.holds more;
@@ -144,56 +156,59 @@ HasPassed-more judge lines line rest after text a b c h₁ h₂ passed m n first
 -- ---- where a run stops
 
 -- the lines before a fault of one line are those that passed
-pub StopsHere-stops : (judge : JudgeModel) (before after : List (List ℕ)) (line text : List ℕ) (tally : TallyModel) (place : ℕ) (fault : RunFaultModel)
-    → Filters judge before text tally → place ≡ length before + 1 → StopsHere judge line place fault → Stops judge (before ++ line ∷ after) text fault
-StopsHere-stops judge before after line text tally place (Json n) filtered counted (is, says) = record {
+StopsHere-stops : (judge : JudgeModel) (bytes : List ℕ) (before after : List (List ℕ)) (line rest text : List ℕ) (tally : TallyModel) (place : ℕ) (fault : RunFaultModel)
+    → lines_of bytes ≡ before ++ line ∷ after → bytes ≡ ended before ++ rest → Filters judge before text tally → place ≡ length before + 1 → StopsHere judge line place fault
+    → Stops judge bytes text fault
+StopsHere-stops judge bytes before after line rest text tally place (Json n) whole complete filtered counted (is, says) = record {
   before = before;
   bad = line;
   after = after;
   tally = tally;
-  whole = refl;
+  whole = whole;
   counted = is ∙ counted;
   filtered = filtered;
   fault = says;
 }
-StopsHere-stops judge before after line text tally place (Row n fault) filtered counted (is, says) = record {
+StopsHere-stops judge bytes before after line rest text tally place (Row n fault) whole complete filtered counted (is, says) = record {
   before = before;
   bad = line;
   after = after;
   tally = tally;
-  whole = refl;
+  whole = whole;
   counted = is ∙ counted;
   filtered = filtered;
   fault = says;
 }
-StopsHere-stops judge before after line text tally place (Arithmetic n fault) filtered counted (is, says) = record {
+StopsHere-stops judge bytes before after line rest text tally place (Arithmetic n fault) whole complete filtered counted (is, says) = record {
   before = before;
   bad = line;
   after = after;
   tally = tally;
-  whole = refl;
+  whole = whole;
   counted = is ∙ counted;
   filtered = filtered;
   fault = says;
 }
-StopsHere-stops judge before after line text tally place (LineTooLong n) filtered counted (is, says) = record {
+StopsHere-stops judge bytes before after line rest text tally place (LineTooLong n) whole complete filtered counted (is, says) = record {
   before = before;
   bad = line;
   after = after;
   tally = tally;
-  whole = refl;
+  whole = whole;
   counted = is ∙ counted;
   filtered = filtered;
   fault = says;
 }
-StopsHere-stops judge before after line text tally place NotACollection filtered counted never = absurd never
-StopsHere-stops judge before after line text tally place (Read n) filtered counted never = absurd never
-StopsHere-stops judge before after line text tally place Write filtered counted never = absurd never
-StopsHere-stops judge before after line text tally place (Memory n) filtered counted is = record {
+StopsHere-stops judge bytes before after line rest text tally place NotACollection whole complete filtered counted never = absurd never
+StopsHere-stops judge bytes before after line rest text tally place (Read n) whole complete filtered counted never = absurd never
+StopsHere-stops judge bytes before after line rest text tally place Write whole complete filtered counted never = absurd never
+StopsHere-stops judge bytes before after line rest text tally place (Memory n) whole complete filtered counted is = record {
   before = before;
   after = line ∷ after;
+  rest = rest;
   tally = tally;
-  whole = refl;
+  whole = whole;
+  complete = complete;
   counted = is ∙ counted;
   filtered = filtered;
 }
@@ -212,12 +227,15 @@ StopsAt-more judge lines more text place said stop = record {
   fault = stop.fault;
 }
 
-StopsBefore-more : (judge : JudgeModel) (lines more : List (List ℕ)) (text : List ℕ) (place : ℕ) → StopsBefore judge lines text place → StopsBefore judge (lines ++ more) text place
-StopsBefore-more judge lines more text place stop = record {
+StopsBefore-more : (judge : JudgeModel) (bytes more : List ℕ) (text : List ℕ) (place : ℕ) → lines_of (bytes ++ more) ≡ lines_of bytes ++ lines_of more
+    → StopsBefore judge bytes text place → StopsBefore judge (bytes ++ more) text place
+StopsBefore-more judge bytes more text place apart stop = record {
   before = stop.before;
-  after = stop.after ++ more;
+  after = stop.after ++ lines_of more;
+  rest = stop.rest ++ more;
   tally = stop.tally;
-  whole = ap (λ l. l ++ more) stop.whole ∙ append_assoc stop.before stop.after more;
+  whole = apart ∙ ap (λ l. l ++ lines_of more) stop.whole ∙ append_assoc stop.before stop.after (lines_of more);
+  complete = ap (λ l. l ++ more) stop.complete ∙ append_assoc (ended stop.before) stop.rest more;
   counted = stop.counted;
   filtered = stop.filtered;
 }
@@ -232,15 +250,16 @@ StopsWithin-more judge lines more text stop = record {
   filtered = stop.filtered;
 }
 
-pub Stops-more : (judge : JudgeModel) (lines more : List (List ℕ)) (text : List ℕ) (fault : RunFaultModel) → Stops judge lines text fault → Stops judge (lines ++ more) text fault
-Stops-more judge lines more text (Json n) stop = StopsAt-more judge lines more text n _ stop
-Stops-more judge lines more text (Row n fault) stop = StopsAt-more judge lines more text n _ stop
-Stops-more judge lines more text (Arithmetic n fault) stop = StopsAt-more judge lines more text n _ stop
-Stops-more judge lines more text (LineTooLong n) stop = StopsAt-more judge lines more text n _ stop
-Stops-more judge lines more text NotACollection never = absurd never
-Stops-more judge lines more text (Read n) stop = StopsBefore-more judge lines more text n stop
-Stops-more judge lines more text Write stop = StopsWithin-more judge lines more text stop
-Stops-more judge lines more text (Memory n) stop = StopsBefore-more judge lines more text n stop
+pub Stops-more : (judge : JudgeModel) (bytes more : List ℕ) (text : List ℕ) (fault : RunFaultModel) → lines_of (bytes ++ more) ≡ lines_of bytes ++ lines_of more
+    → Stops judge bytes text fault → Stops judge (bytes ++ more) text fault
+Stops-more judge bytes more text (Json n) apart stop = subst (λ l. StopsAt judge l text n (Judged NotJson)) (sym apart) (StopsAt-more judge (lines_of bytes) (lines_of more) text n _ stop)
+Stops-more judge bytes more text (Row n fault) apart stop = subst (λ l. StopsAt judge l text n (Judged (NoEntity fault))) (sym apart) (StopsAt-more judge (lines_of bytes) (lines_of more) text n _ stop)
+Stops-more judge bytes more text (Arithmetic n fault) apart stop = subst (λ l. StopsAt judge l text n (Judged (NoValue fault))) (sym apart) (StopsAt-more judge (lines_of bytes) (lines_of more) text n _ stop)
+Stops-more judge bytes more text (LineTooLong n) apart stop = subst (λ l. StopsAt judge l text n TooLong) (sym apart) (StopsAt-more judge (lines_of bytes) (lines_of more) text n _ stop)
+Stops-more judge bytes more text NotACollection apart never = absurd never
+Stops-more judge bytes more text (Read n) apart stop = StopsBefore-more judge bytes more text n apart stop
+Stops-more judge bytes more text Write apart stop = subst (λ l. StopsWithin judge l text) (sym apart) (StopsWithin-more judge (lines_of bytes) (lines_of more) text stop)
+Stops-more judge bytes more text (Memory n) apart stop = StopsBefore-more judge bytes more text n apart stop
 
 -- of the text that was to be written, a beginning was
 StopsAt-within : (judge : JudgeModel) (lines : List (List ℕ)) (text rest : List ℕ) (place : ℕ) (said : SaidModel) → StopsAt judge lines (text ++ rest) place said → StopsWithin judge lines text
@@ -253,8 +272,8 @@ StopsAt-within judge lines text rest place said stop = record {
   filtered = stop.filtered;
 }
 
-StopsBefore-within : (judge : JudgeModel) (lines : List (List ℕ)) (text rest : List ℕ) (place : ℕ) → StopsBefore judge lines (text ++ rest) place → StopsWithin judge lines text
-StopsBefore-within judge lines text rest place stop = record {
+StopsBefore-within : (judge : JudgeModel) (bytes text rest : List ℕ) (place : ℕ) → StopsBefore judge bytes (text ++ rest) place → StopsWithin judge (lines_of bytes) text
+StopsBefore-within judge bytes text rest place stop = record {
   before = stop.before;
   after = stop.after;
   tally = stop.tally;
@@ -283,25 +302,25 @@ StopsWithin-within judge lines text rest stop = record {
   filtered = subst (λ l. Filters judge stop.before l stop.tally) (append_assoc text rest stop.unwritten) stop.filtered;
 }
 
-pub Stops-within : (judge : JudgeModel) (lines : List (List ℕ)) (text rest : List ℕ) (fault : RunFaultModel) → Stops judge lines (text ++ rest) fault → StopsWithin judge lines text
-Stops-within judge lines text rest (Json n) stop = StopsAt-within judge lines text rest n _ stop
-Stops-within judge lines text rest (Row n fault) stop = StopsAt-within judge lines text rest n _ stop
-Stops-within judge lines text rest (Arithmetic n fault) stop = StopsAt-within judge lines text rest n _ stop
-Stops-within judge lines text rest (LineTooLong n) stop = StopsAt-within judge lines text rest n _ stop
-Stops-within judge lines text rest NotACollection never = absurd never
-Stops-within judge lines text rest (Read n) stop = StopsBefore-within judge lines text rest n stop
-Stops-within judge lines text rest Write stop = StopsWithin-within judge lines text rest stop
-Stops-within judge lines text rest (Memory n) stop = StopsBefore-within judge lines text rest n stop
+pub Stops-within : (judge : JudgeModel) (bytes text rest : List ℕ) (fault : RunFaultModel) → Stops judge bytes (text ++ rest) fault → StopsWithin judge (lines_of bytes) text
+Stops-within judge bytes text rest (Json n) stop = StopsAt-within judge (lines_of bytes) text rest n _ stop
+Stops-within judge bytes text rest (Row n fault) stop = StopsAt-within judge (lines_of bytes) text rest n _ stop
+Stops-within judge bytes text rest (Arithmetic n fault) stop = StopsAt-within judge (lines_of bytes) text rest n _ stop
+Stops-within judge bytes text rest (LineTooLong n) stop = StopsAt-within judge (lines_of bytes) text rest n _ stop
+Stops-within judge bytes text rest NotACollection never = absurd never
+Stops-within judge bytes text rest (Read n) stop = StopsBefore-within judge bytes text rest n stop
+Stops-within judge bytes text rest Write stop = StopsWithin-within judge (lines_of bytes) text rest stop
+Stops-within judge bytes text rest (Memory n) stop = StopsBefore-within judge bytes text rest n stop
 
 -- the line behind those that passed is kept, and not all of it could be written
-pub HasPassed-failed : (judge : JudgeModel) (lines : List (List ℕ)) (line rest after : List ℕ) (a b c : Option (List ℕ)) (held : List ℕ) (passed : ℕ) (tally : TallyModel)
+pub HasPassed-failed : (judge : JudgeModel) (bytes line rest after : List ℕ) (a b c : Option (List ℕ)) (held : List ℕ) (passed : ℕ) (tally : TallyModel)
     → lines_of rest ≡ line ∷ lines_of after → Says judge line (Judged Kept) → AppendsFront b c (held ++ (line ++ 10 ∷ []))
-    → HasPassed judge lines rest a b held passed tally → Writes a c (StopsWithin judge lines)
-HasPassed-failed judge lines line rest after a b c held passed tally first says (second_text, more, (unwritten, f)) so_far =
+    → HasPassed judge bytes rest a b held passed tally → Writes a c (StopsWithin judge (lines_of bytes))
+HasPassed-failed judge bytes line rest after a b c held passed tally first says (second_text, more, (unwritten, f)) so_far =
     let (first_text, wrote, e) = so_far.holds in
     let one : TallyModel = record { rows = 1; kept = 1 } in
     let all = Filters-append judge so_far.before (line ∷ []) so_far.text (line ++ 10 ∷ []) tally one so_far.filtered (Filters-kept judge line says) in
-    let stop : StopsWithin judge lines (first_text ++ second_text) = record {
+    let stop : StopsWithin judge (lines_of bytes) (first_text ++ second_text) = record {
       before = so_far.before ++ line ∷ [];
       after = lines_of after;
       tally = sum_of tally one;
@@ -312,12 +331,12 @@ HasPassed-failed judge lines line rest after a b c held passed tally first says 
     (first_text ++ second_text, Appends-trans a b c first_text second_text wrote more, stop)
 
 -- the line behind those that passed is at fault
-pub HasPassed-stopped : (judge : JudgeModel) (lines : List (List ℕ)) (line rest after text : List ℕ) (a b c : Option (List ℕ)) (h₁ h₂ : List ℕ) (passed : ℕ) (tally : TallyModel) (fault : RunFaultModel)
-    → lines_of rest ≡ line ∷ lines_of after → Holds b c h₂ (h₁ ++ text) → text ≡ [] → StopsHere judge line (passed + 1) fault
-    → HasPassed judge lines rest a b h₁ passed tally → (all : List ℕ) × Holds a c h₂ all × Stops judge lines all fault
-HasPassed-stopped judge lines line rest after text a b c h₁ h₂ passed tally fault first more none here so_far =
+pub HasPassed-stopped : (judge : JudgeModel) (bytes line rest after text : List ℕ) (a b c : Option (List ℕ)) (h₁ h₂ : List ℕ) (passed : ℕ) (tally : TallyModel) (fault : RunFaultModel)
+    → lines_of rest ≡ line ∷ lines_of after → 0 < length rest → Holds b c h₂ (h₁ ++ text) → text ≡ [] → StopsHere judge line (passed + 1) fault
+    → HasPassed judge bytes rest a b h₁ passed tally → (all : List ℕ) × Holds a c h₂ all × Stops judge bytes all fault
+HasPassed-stopped judge bytes line rest after text a b c h₁ h₂ passed tally fault first some more none here so_far =
     let holds = Holds-more a b c h₁ h₂ so_far.text text so_far.holds more in
     let same : so_far.text ++ text ≡ so_far.text = ap (λ l. so_far.text ++ l) none ∙ append-nil so_far.text in
-    let whole : lines ≡ so_far.before ++ line ∷ lines_of after = so_far.whole ∙ ap (λ l. so_far.before ++ l) first in
-    let stop = StopsHere-stops judge so_far.before (lines_of after) line so_far.text tally (passed + 1) fault so_far.filtered (ap (λ k. k + 1) so_far.counted) here in
-    (so_far.text, subst (Holds a c h₂) same holds, subst (λ l. Stops judge l so_far.text fault) (sym whole) stop)
+    let whole : lines_of bytes ≡ so_far.before ++ line ∷ lines_of after = so_far.whole ∙ ap (λ l. so_far.before ++ l) first in
+    let stop = StopsHere-stops judge bytes so_far.before (lines_of after) line rest so_far.text tally (passed + 1) fault whole (so_far.complete some) so_far.filtered (ap (λ k. k + 1) so_far.counted) here in
+    (so_far.text, subst (Holds a c h₂) same holds, stop)

@@ -4,6 +4,7 @@ pub mod FitsHasType
 pub mod FitsOnce
 pub mod MeansLaws
 pub mod MemberWalk
+pub mod NameOrder
 pub mod Numbers
 pub mod OneFirstFault
 pub mod ReadEntities

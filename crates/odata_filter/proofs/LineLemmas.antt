@@ -1,7 +1,8 @@
 -- Where the first line of a byte list ends.
-use Rattle.std.proofs.Common.{◌≡◌, ◌==◌, ℕ, zero, suc, ◌+◌, ◌<◌, List, [], ◌∷◌, ◌++◌, length, take, drop, slice_index, true, false, inl, inr, refl, ap, ◌∙◌, arith, add-one}
-use Rattle.std.proofs.lemmas.Bool.{cases_Bool}
-use Rattle.odata_filter.specs.Lines.{lines_of, with_first}
+use Rattle.std.proofs.Common.{◌≡◌, ◌≢◌, ◌==◌, ℕ, zero, suc, ◌+◌, ◌-◌, ◌<◌, ◌≤◌, All, length-drop, List, [], ◌∷◌, ◌++◌, length, take, drop, slice_index, true, false, inl, inr, ◌⊎◌, refl, sym, ap, ◌∙◌, arith, add-one, append_assoc, append-nil}
+use Rattle.std.proofs.lemmas.List.{get_or_default, get_or-drop}
+use Rattle.std.proofs.lemmas.Bool.{cases_Bool, eqb-true}
+use Rattle.odata_filter.specs.Lines.{lines_of, with_first, ended}
 use Rattle.odata_filter.specs.Passing.{IsComplete}
 
 -- no byte below the place is an LF
@@ -29,6 +30,26 @@ lines_of-last (b ∷ c ∷ bs) some none =
     let no = not_first b (c ∷ bs) (suc (length bs)) none in
     rw no (ap (with_first b) (lines_of-last (c ∷ bs) (omega arith) (later b (c ∷ bs) (suc (length bs)) none)))
 
+-- where no byte is an LF
+pub all_from : (bs : List ℕ) → ((k : ℕ) → 0 ≤ k → k < length bs → (slice_index bs k == 10) ≡ true → ⊥) → All (λ b. b ≢ 10) bs
+all_from bs none k d within is =
+    let here : slice_index bs k ≡ 10 = get_or_default bs k 0 d within ∙ is in
+    none k (omega arith) within (rw here refl)
+
+pub all_behind : (bs : List ℕ) (last : ℕ) → ((k : ℕ) → last + 1 ≤ k → k < length bs → (slice_index bs k == 10) ≡ true → ⊥) → All (λ b. b ≢ 10) (drop (last + 1) bs)
+all_behind bs last none k d within is =
+    let long : length (drop (last + 1) bs) ≡ length bs - (last + 1) = length-drop (last + 1) bs in
+    let inside : last + 1 + k < length bs = omega (arith, long, within) in
+    let here : slice_index bs (last + 1 + k) ≡ 10 = get_or_default bs (last + 1 + k) 0 d inside ∙ sym (get_or-drop (last + 1) bs k d) ∙ is in
+    none (last + 1 + k) (omega arith) inside (rw here refl)
+
+-- a first byte before more lines
+with_first-append : (b : ℕ) (lines more : List (List ℕ)) (l : List ℕ) (ls : List (List ℕ)) → lines ≡ l ∷ ls → with_first b (lines ++ more) ≡ with_first b lines ++ more
+with_first-append b lines more l ls e = rw e refl
+
+with_first-ended : (b : ℕ) (lines : List (List ℕ)) (l : List ℕ) (ls : List (List ℕ)) → lines ≡ l ∷ ls → ended (with_first b lines) ≡ b ∷ ended lines
+with_first-ended b lines l ls e = rw e refl
+
 -- bytes that end with an LF have a line
 has_line : (bs : List ℕ) → (l : List ℕ) × (ls : List (List ℕ)) × (lines_of (bs ++ 10 ∷ []) ≡ l ∷ ls)
 has_line [] = ([], [], refl)
@@ -37,15 +58,37 @@ has_line (b ∷ bs) = elim (cases_Bool (b == 10)) [
   | inr is ↦ let (l, ls, e) = has_line bs in (b ∷ l, ls, rw is (ap (with_first b) e))
 ]
 
-with_first-append : (b : ℕ) (lines more : List (List ℕ)) (l : List ℕ) (ls : List (List ℕ)) → lines ≡ l ∷ ls → with_first b (lines ++ more) ≡ with_first b lines ++ more
-with_first-append b lines more l ls e = rw e refl
-
--- what stands behind an LF begins a line
+-- bytes that end with an LF are of whole lines
 pub IsComplete-line : (bs : List ℕ) → IsComplete (bs ++ 10 ∷ [])
-IsComplete-line [] more = refl
-IsComplete-line (b ∷ bs) more = elim (cases_Bool (b == 10)) [
-  | inl is ↦ rw is (ap (λ l. [] ∷ l) (IsComplete-line bs more))
+IsComplete-line [] = refl
+IsComplete-line (b ∷ bs) = elim (cases_Bool (b == 10)) [
+  | inl is ↦ rw is (ap (λ l. b ∷ l) (IsComplete-line bs) ∙ ap (λ k. k ∷ ended (lines_of (bs ++ 10 ∷ []))) (eqb-true b 10 is))
   | inr is ↦
       let (l, ls, e) = has_line bs in
-      rw is (ap (with_first b) (IsComplete-line bs more) ∙ with_first-append b (lines_of (bs ++ 10 ∷ [])) (lines_of more) l ls e)
+      rw is (ap (λ l. b ∷ l) (IsComplete-line bs) ∙ sym (with_first-ended b (lines_of (bs ++ 10 ∷ [])) l ls e))
+]
+
+-- what stands behind an LF begins a line
+line-apart : (bs more : List ℕ) → lines_of ((bs ++ 10 ∷ []) ++ more) ≡ lines_of (bs ++ 10 ∷ []) ++ lines_of more
+line-apart [] more = refl
+line-apart (b ∷ bs) more = elim (cases_Bool (b == 10)) [
+  | inl is ↦ rw is (ap (λ l. [] ∷ l) (line-apart bs more))
+  | inr is ↦
+      let (l, ls, e) = has_line bs in
+      rw is (ap (with_first b) (line-apart bs more) ∙ with_first-append b (lines_of (bs ++ 10 ∷ [])) (lines_of more) l ls e)
+]
+
+-- lines that are each ended by an LF are nothing, or end with an LF
+ended-last : (lines : List (List ℕ)) → (ended lines ≡ []) ⊎ ((bs : List ℕ) × (ended lines ≡ bs ++ 10 ∷ []))
+ended-last [] = inl refl
+ended-last (line ∷ lines) = elim (ended-last lines) [
+  | inl e ↦ inr (line, ap (λ l. (line ++ 10 ∷ []) ++ l) e ∙ append-nil (line ++ 10 ∷ []))
+  | inr (bs, e) ↦ inr ((line ++ 10 ∷ []) ++ bs, ap (λ l. (line ++ 10 ∷ []) ++ l) e ∙ sym (append_assoc (line ++ 10 ∷ []) bs (10 ∷ [])))
+]
+
+-- what stands behind whole lines begins a line
+pub IsComplete-apart : (bs more : List ℕ) → IsComplete bs → lines_of (bs ++ more) ≡ lines_of bs ++ lines_of more
+IsComplete-apart bs more complete = elim (ended-last (lines_of bs)) [
+  | inl e ↦ let none : bs ≡ [] = complete ∙ e in rw none refl
+  | inr (front, e) ↦ let last : bs ≡ front ++ 10 ∷ [] = complete ∙ e in rw last (line-apart front more)
 ]

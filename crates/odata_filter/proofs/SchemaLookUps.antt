@@ -1,5 +1,5 @@
 -- Look-ups in a schema, over the lists that it is seen as.
-use Rattle.std.proofs.Common.{◌≡◌, ℕ, zero, suc, List, [], ◌∷◌, ◌++◌, length, map, Option, slice_get, position, Bool, true, false, cond, ◌||◌, nat_eq, refl, sym, ap, subst, ◌∙◌, Ordering, Less, is_eq}
+use Rattle.std.proofs.Common.{◌≡◌, ℕ, zero, suc, List, [], ◌∷◌, ◌++◌, length, map, Option, Some, slice_get, position, Bool, true, false, cond, ◌||◌, nat_eq, refl, sym, ap, subst, ◌∙◌, Less, is_eq}
 use Rattle.std.specs.Ordering.{nat_cmp}
 use Rattle.std.specs.List.{AllByRecursion, position_or_len}
 use Rattle.std.specs.List.Sorted.{IsStrictlySortedBy}
@@ -52,6 +52,17 @@ properties_own (t ∷ ts) (suc n) ordered =
 pub none_ordered : (ps : List PropertyModel) → ps ≡ [] → IsInNameOrder ps
 unfolding IsStrictlySortedBy
 none_ordered ps none = subst IsInNameOrder (sym none) tt
+
+-- what holds of each item holds of the one at a place
+pub each_at : {X : Type 0} (P : X → Type 0) (xs : List X) (n : ℕ) (x : X) → AllByRecursion P xs → slice_get xs n ≡ Some x → P x
+each_at P [] n x all at = absurd (cc)
+each_at P (y ∷ ys) zero x all at = let same : y ≡ x = cc in subst P same all.0
+each_at P (y ∷ ys) (suc n) x all at = each_at P ys n x all.1 at
+
+-- what holds of each item and of one more
+pub each_pushed : {X : Type 0} (P : X → Type 0) (xs : List X) (x : X) → AllByRecursion P xs → P x → AllByRecursion P (xs ++ x ∷ [])
+each_pushed P [] x all last = (last, tt)
+each_pushed P (y ∷ ys) x all last = (all.0, each_pushed P ys x all.1 last)
 
 -- one name or the other
 pub either_name : (a b : Bool) (x y : Option ℕ) → cond a x (cond b x y) ≡ cond (a || b) x y

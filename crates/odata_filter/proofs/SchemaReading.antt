@@ -67,7 +67,7 @@ first_of_more (Some t) faults more h = (h.0 ++ more, ap (λ fs. fs ++ more) h.1)
 
 -- ---- properties by name
 
-unequal_later : (xs ys : List ℕ) → slice_cmp nat_cmp xs ys ≡ Less → pointwise nat_eq ys xs ≡ false
+pub unequal_later : (xs ys : List ℕ) → slice_cmp nat_cmp xs ys ≡ Less → pointwise nat_eq ys xs ≡ false
 unequal_later xs ys below = sym (is_eq-slice_cmp ys xs) ∙ ap is_eq (nat_list_cmp_total.antisymm ys xs ∙ ap ordering_reverse below)
 
 above_at : (first : List ℕ) (ps : List PropertyModel) (p : PropertyModel) (rest : List PropertyModel) → AllAbove first (map (λ q. q.name) (ps ++ p ∷ rest)) → slice_cmp nat_cmp first p.name ≡ Less
@@ -128,9 +128,9 @@ pub properties_in_order : (ps : List PropertyModel) (ms : List (List ℕ × Data
 properties_in_order ps ms same ordered =
     subst IsInNameOrder (sym same) (subst (λ names. IsStrictlySortedBy (slice_cmp nat_cmp) names) (sym (property_names ms)) ordered)
 
-pub same_property : (e : String Global × Property) (p : PropertyModel) → string_bytes e.0 ≡ p.name → type_of_kind e.1.kind e.1.many ≡ p.type_of → e.1.nullable ≡ p.nullable
+pub same_property : (e : String Global × Property) (p : PropertyModel) → string_bytes e.0 ≡ p.name → type_of_kind e.1.kind e.1.many ≡ p.type_of → e.1.many ≡ p.many → e.1.nullable ≡ p.nullable
     → property_model e ≡ p
-same_property e p a b c = λ j. record { name = a j; type_of = b j; nullable = c j }
+same_property e p a b m c = λ j. record { name = a j; type_of = b j; many = m j; nullable = c j }
 
 pub property_step : (es new : List (String Global × Property)) (e : String Global × Property) (p : PropertyModel) (rest all : List PropertyModel)
     → new ≡ es ++ e ∷ [] → property_model e ≡ p → map property_model es ++ p ∷ rest ≡ all → map property_model new ++ rest ≡ all

@@ -5,7 +5,6 @@ use Rattle.edm_values.specs.MomentParts.{MomentParts}
 use Rattle.edm_values.specs.Val.{Val, boolean}
 use Rattle.odata_filter.specs.csdl_schema.Document.{IsJsonOf, IsNoJson}
 use Rattle.odata_filter.specs.csdl_schema.SchemaModel.{slots_of, type_name_at}
-use Rattle.odata_filter.specs.declared.edm_entities.fault.RowFault.{RowFault}
 use Rattle.odata_filter.specs.declared.lines.said.Judgment.{Judgment}
 use Rattle.odata_filter.specs.declared.lines.said.Judgment.TheVariants.{Kept, LeftOut, NotJson, NoEntity, NoValue}
 use Rattle.odata_filter.specs.declared.odata_eval.verdict.Verdict.{Verdict}

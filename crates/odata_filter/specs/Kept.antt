@@ -1,6 +1,6 @@
 -- What is kept of lines, given what is said of each of them.
 use Rattle.std.specs.Prelude.{◌≡◌, ℕ, ◌+◌, ◌<◌, ◌≤◌, List, [], ◌∷◌, ◌++◌, Bool, true, false, length, map, filter, flat_map, count_by, All}
-use Rattle.odata_filter.specs.Lines.{IsBlank}
+use Rattle.odata_filter.specs.Lines.{lines_of, ended, IsBlank}
 use Rattle.odata_filter.specs.declared.lines.said.Judgment.{Judgment as JudgmentModel}
 use Rattle.odata_filter.specs.declared.lines.said.Judgment.TheVariants.{Kept, LeftOut, NotJson, NoEntity, NoValue}
 use Rattle.odata_filter.specs.declared.lines.said.Said.{Said as SaidModel}
@@ -64,12 +64,14 @@ pub record StopsAt (judge : List ℕ → JudgmentModel → Type 0) (lines : List
   pub filtered : Filters judge before text tally
   pub fault : Says judge bad said
 
--- None of the lines before this place is at fault, and the text is that of the kept ones among them.
-pub record StopsBefore (judge : List ℕ → JudgmentModel → Type 0) (lines : List (List ℕ)) (text : List ℕ) (place : ℕ) : Type 0 where
+-- The lines before this place all ended with an LF, none of them is at fault, and the text is that of the kept ones among them.
+pub record StopsBefore (judge : List ℕ → JudgmentModel → Type 0) (bytes : List ℕ) (text : List ℕ) (place : ℕ) : Type 0 where
   pub before : List (List ℕ)
   pub after : List (List ℕ)
+  pub rest : List ℕ
   pub tally : TallyModel
-  pub whole : lines ≡ before ++ after
+  pub whole : lines_of bytes ≡ before ++ after
+  pub complete : bytes ≡ ended before ++ rest
   pub counted : place ≡ length before + 1
   pub filtered : Filters judge before text tally
 
@@ -82,13 +84,13 @@ pub record StopsWithin (judge : List ℕ → JudgmentModel → Type 0) (lines : 
   pub whole : lines ≡ before ++ after
   pub filtered : Filters judge before (text ++ unwritten) tally
 
--- what a fault of a run says of the lines that were there and the text that was written
-abbrev pub Stops : (List ℕ → JudgmentModel → Type 0) → List (List ℕ) → List ℕ → RunFaultModel → Type 0
-Stops judge lines text (Json line) = StopsAt judge lines text line (Judged NotJson)
-Stops judge lines text (Row line fault) = StopsAt judge lines text line (Judged (NoEntity fault))
-Stops judge lines text (Arithmetic line fault) = StopsAt judge lines text line (Judged (NoValue fault))
-Stops judge lines text (LineTooLong line) = StopsAt judge lines text line TooLong
-Stops judge lines text NotACollection = ⊥
-Stops judge lines text (Read line) = StopsBefore judge lines text line
-Stops judge lines text Write = StopsWithin judge lines text
-Stops judge lines text (Memory line) = StopsBefore judge lines text line
+-- what a fault of a run says of the bytes that were there and the text that was written
+abbrev pub Stops : (List ℕ → JudgmentModel → Type 0) → List ℕ → List ℕ → RunFaultModel → Type 0
+Stops judge bytes text (Json line) = StopsAt judge (lines_of bytes) text line (Judged NotJson)
+Stops judge bytes text (Row line fault) = StopsAt judge (lines_of bytes) text line (Judged (NoEntity fault))
+Stops judge bytes text (Arithmetic line fault) = StopsAt judge (lines_of bytes) text line (Judged (NoValue fault))
+Stops judge bytes text (LineTooLong line) = StopsAt judge (lines_of bytes) text line TooLong
+Stops judge bytes text NotACollection = ⊥
+Stops judge bytes text (Read line) = StopsBefore judge bytes text line
+Stops judge bytes text Write = StopsWithin judge (lines_of bytes) text
+Stops judge bytes text (Memory line) = StopsBefore judge bytes text line

@@ -1,5 +1,5 @@
 -- The lines of a byte list (JSON Lines: one JSON value a line, LF between them).
-use Rattle.std.specs.Prelude.{ℕ, ◌==◌, ◌||◌, List, [], ◌∷◌, Bool, if◌then◌else◌}
+use Rattle.std.specs.Prelude.{ℕ, ◌==◌, ◌||◌, List, [], ◌∷◌, ◌++◌, flat_map, Bool, if◌then◌else◌}
 use Rattle.std.specs.List.{AllPass}
 
 -- a first byte goes to the front of the first line
@@ -11,6 +11,10 @@ with_first b (line ∷ lines) = (b ∷ line) ∷ lines
 abbrev pub lines_of : List ℕ → List (List ℕ)
 lines_of [] = []
 lines_of (b ∷ bs) = if b == 10 then [] ∷ lines_of bs else with_first b (lines_of bs)
+
+-- each line and the LF behind it
+abbrev pub ended : List (List ℕ) → List ℕ
+ended lines = flat_map (λ line. line ++ 10 ∷ []) lines
 
 -- a space, a tab or a CR
 abbrev pub is_space : ℕ → Bool

@@ -1,6 +1,6 @@
 -- What the walk over the lines keeps from line to line. Private clauses alone cite these.
-use Rattle.std.specs.Prelude.{◌≡◌, ℕ, ◌+◌, List, [], ◌∷◌, ◌++◌, length, MatchOption, MatchResult, Result, Err}
-use Rattle.odata_filter.specs.Lines.{lines_of}
+use Rattle.std.specs.Prelude.{◌≡◌, ℕ, ◌+◌, List, [], ◌∷◌, length, MatchOption, MatchResult, Result, Err}
+use Rattle.odata_filter.specs.Lines.{lines_of, ended}
 use Rattle.odata_filter.specs.Kept.{Says, Filters, Stops}
 use Rattle.odata_filter.specs.declared.lines.input.Ending.{Ending as EndingModel}
 use Rattle.odata_filter.specs.declared.lines.input.Ending.TheVariants.{AtEnd, ReadFailed, NoMemory}
@@ -35,10 +35,10 @@ Steps judge line place text (Passed tally) = Filters judge (line ∷ []) text ta
 Steps judge line place text (Stopped fault) = (text ≡ []) × StopsHere judge line place fault
 
 -- how far the lines went, and the text that they gave
-abbrev pub Goes : (List ℕ → JudgmentModel → Type 0) → List (List ℕ) → List ℕ → ProgressModel → Type 0
-Goes judge lines text progress = MatchOption progress.fault
-    (Filters judge lines text progress.tally × (progress.lines ≡ length lines))
-    (λ fault. Stops judge lines text fault)
+abbrev pub Goes : (List ℕ → JudgmentModel → Type 0) → List ℕ → List ℕ → ProgressModel → Type 0
+Goes judge bytes text progress = MatchOption progress.fault
+    (Filters judge (lines_of bytes) text progress.tally × (progress.lines ≡ length (lines_of bytes)))
+    (λ fault. Stops judge bytes text fault)
 
 -- what a run answers where no line that was judged is at fault
 abbrev pub Closes : ProgressModel → EndingModel → Result TallyModel RunFaultModel → Type 0
@@ -50,6 +50,6 @@ Closes progress NoMemory answer = answer ≡ Err (Memory (progress.lines + 1))
 abbrev pub Ends : ProgressModel → EndingModel → Result TallyModel RunFaultModel → Type 0
 Ends progress ending answer = MatchOption progress.fault (Closes progress ending answer) (λ fault. answer ≡ Err fault)
 
--- whatever stands behind these bytes begins a line of its own
+-- an LF stands behind each line of these bytes, the last among them
 abbrev pub IsComplete : List ℕ → Type 0
-IsComplete bytes = (more : List ℕ) → lines_of (bytes ++ more) ≡ lines_of bytes ++ lines_of more
+IsComplete bytes = bytes ≡ ended (lines_of bytes)

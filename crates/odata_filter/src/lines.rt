@@ -8,7 +8,7 @@ pub(crate) mod row_judge;
 pub mod rows;
 pub mod run_fault;
 pub mod said;
-pub mod split;
+pub(crate) mod split;
 pub mod tally;
 
 pub use rows::{filter_lines, filter_slice};

@@ -1,6 +1,7 @@
 //! Readers and writers that fail.
-use crate::told::{FIRST, SCHEMA, plan_of};
+use crate::told::{FIRST, SCHEMA, Told, plan_of};
 use odata_filter::run;
+use std::alloc::Global;
 use std::io;
 use std::io::{Read, Write};
 
@@ -48,54 +49,52 @@ impl Write for FailingWriter {
     }
 }
 
-/// Two whole lines and a beginning of a third come, and then the reader fails.
-#[test]
-fn complete_lines_are_judged_before_a_failed_read(rt: HostRuntime) {
-    let text =
-        b"{\"ID\":1,\"Name\":\"a\",\"Active\":true}\n{\"ID\":1,\"Name\":\"b\",\"Active\":true}\n{\"ID\":1,";
-    for piece in [1, 7, 1000] {
-        let rows = FailingReader {
-            text: text.as_slice(),
-            piece,
-        };
-        let mut out = Vec::new(rt.alloc());
-        let mut err = Vec::new(rt.alloc());
-        let plan = plan_of("Mini.Item", FIRST);
-        let status = run(
-            rt.alloc(),
-            &plan,
-            SCHEMA.as_bytes(),
-            Some(rows),
-            &mut out,
-            &mut err,
-        );
-        assert_eq!(rt; status, 5);
-        assert!(rt; out.as_slice() == A.as_bytes());
-        assert!(rt; err.as_slice() == b"read rows 3\n".as_slice());
-    }
-}
-
-/// A fault of a complete line goes before the failed read.
-#[test]
-fn a_faulty_line_goes_before_a_failed_read(rt: HostRuntime) {
-    let rows = FailingReader {
-        text: b"{\"ID\":1,\"Name\":\"a\",\"Active\":true}\n{\n{".as_slice(),
-        piece: 5,
-    };
-    let mut out = Vec::new(rt.alloc());
-    let mut err = Vec::new(rt.alloc());
+/// A run over rows that come in pieces, and then fail to come.
+fn run_of_failing(alloc: Global, text: &[u8], piece: usize) -> Told {
+    let rows = FailingReader { text, piece };
+    let mut out = Vec::new(alloc);
+    let mut err = Vec::new(alloc);
     let plan = plan_of("Mini.Item", FIRST);
     let status = run(
-        rt.alloc(),
+        alloc,
         &plan,
         SCHEMA.as_bytes(),
         Some(rows),
         &mut out,
         &mut err,
     );
-    assert_eq!(rt; status, 4);
-    assert!(rt; out.as_slice() == A.as_bytes());
-    assert!(rt; err.as_slice() == b"row 2 Json\n".as_slice());
+    Told { out, err, status }
+}
+
+/// Two whole lines and a beginning of a third come, and then the reader fails.
+#[test]
+fn complete_lines_are_judged_before_a_failed_read(rt: HostRuntime) {
+    let text =
+        b"{\"ID\":1,\"Name\":\"a\",\"Active\":true}\n{\"ID\":1,\"Name\":\"b\",\"Active\":true}\n{\"ID\":1,";
+    for piece in [1, 7, 1000] {
+        assert!(rt; run_of_failing(rt.alloc(), text, piece).is(A, "read rows 3\n", 5));
+    }
+}
+
+/// A fault of a complete line goes before the failed read; a line that is not complete is not judged.
+#[test]
+fn a_faulty_line_goes_before_a_failed_read(rt: HostRuntime) {
+    for (behind, line, status) in [
+        ("{\n{", "row 2 Json\n", 4),
+        ("{}\n{", "row 2 Missing Active\n", 4),
+        ("{}\n", "row 2 Missing Active\n", 4),
+        ("\n[]\n{}\n", "row 3 NotObject\n", 4),
+        ("{}", "read rows 2\n", 5),
+        ("\n", "read rows 3\n", 5),
+    ] {
+        let mut text = Vec::new(rt.alloc());
+        assert!(rt; text.extend_from_slice(A.as_bytes()).is_ok());
+        assert!(rt; text.extend_from_slice(behind.as_bytes()).is_ok());
+        assert!(rt;
+            run_of_failing(rt.alloc(), text.as_slice(), 5).is(A, line, status),
+            "behind {behind}"
+        );
+    }
 }
 
 /// Of the kept text a beginning has been written.

@@ -1,6 +1,6 @@
 //! Each public call once, with what it answers.
 use crate::told::{FIRST, SCHEMA};
-use edm_values::{Moment, Prim, read_int, read_string};
+use edm_values::{Moment, Prim, Value as Held, read_int, read_string};
 use jiff::civil;
 use odata_filter::command_line::{PlanFault, Verb};
 use odata_filter::csdl_schema::property::PropertyKind;
@@ -59,6 +59,14 @@ fn schema(rt: HostRuntime) -> Result<(), Fail> {
     Ok(())
 }
 
+/// Whether the values are those of the first row in slot order: Active, ID, Name.
+fn is_first_row(items: &[Held]) -> bool {
+    match items {
+        [Held::Bool(true), Held::Int(1), Held::Text(name)] => name.as_str() == "a",
+        _ => false,
+    }
+}
+
 #[test]
 fn filter_and_row(rt: HostRuntime) -> Result<(), Fail> {
     let schema = Schema::read(rt.alloc(), SCHEMA.as_bytes())?;
@@ -70,9 +78,23 @@ fn filter_and_row(rt: HostRuntime) -> Result<(), Fail> {
     assert!(rt; checked.type_of(9).is_none());
     assert!(rt; checked.span_of(1) == Some(Span { start: 0, stop: 18 }));
     assert!(rt; !checked.takes_memory() && !checked.uses_now());
+    assert!(rt; checked.filtered_type() == id && checked.schema().slots(id) == 3);
+    assert!(rt;
+        *checked.nodes().span()
+            == Span {
+                start: 0,
+                stop: FIRST.len()
+            }
+    );
     let moment = Moment::new(civil::date(1, 1, 1).at(0, 0, 0, 0), 0).ok_or("a moment")?;
     let row = Value::from_str(rt.alloc(), A)?;
     let entity = Entity::from_json(rt.alloc(), &schema, id, &row)?;
+    assert!(rt; entity.type_id() == id && entity.schema().slots(id) == 3);
+    let is_row = match entity.value() {
+        Held::Record(items) => is_first_row(items.as_slice()),
+        _ => false,
+    };
+    assert!(rt; is_row);
     assert!(rt; evaluate(rt.alloc(), &checked, &entity, &moment)? == Verdict::True);
     let mut out = Vec::new(rt.alloc());
     let tally = filter_lines(rt.alloc(), &checked, &moment, A.as_bytes(), &mut out)?;

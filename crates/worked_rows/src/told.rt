@@ -9,7 +9,7 @@ pub const SCHEMA: &str =
 pub const FIRST: &str = "Active and ID eq 1 and Name eq 'a'";
 
 /// The plan of the verb `filter` with this type and filter.
-pub fn plan_of<'a>(named: &'a str, filter: &'a str) -> Plan<'a> {
+pub(crate) fn plan_of<'a>(named: &'a str, filter: &'a str) -> Plan<'a> {
     Plan {
         verb: Verb::Filter,
         schema: "schema.json",
@@ -31,7 +31,7 @@ pub struct Told {
 }
 
 impl Told {
-    pub fn is(&self, out: &str, err: &str, status: u8) -> bool {
+    pub(crate) fn is(&self, out: &str, err: &str, status: u8) -> bool {
         self.out.as_slice() == out.as_bytes()
             && self.err.as_slice() == err.as_bytes()
             && self.status == status
@@ -39,7 +39,12 @@ impl Told {
 }
 
 /// A run over the plan's type of a schema; `None` stands for rows that cannot be opened.
-pub fn outcome_of(alloc: Global, schema: &str, plan: &Plan<'_>, rows: Option<&[u8]>) -> Told {
+pub(crate) fn outcome_of(
+    alloc: Global,
+    schema: &str,
+    plan: &Plan<'_>,
+    rows: Option<&[u8]>,
+) -> Told {
     let mut out = Vec::new(alloc);
     let mut err = Vec::new(alloc);
     let status = run(alloc, plan, schema.as_bytes(), rows, &mut out, &mut err);
@@ -47,6 +52,6 @@ pub fn outcome_of(alloc: Global, schema: &str, plan: &Plan<'_>, rows: Option<&[u
 }
 
 /// A run over rows of `Mini.Item`.
-pub fn run_of(alloc: Global, filter: &str, rows: &[u8]) -> Told {
+pub(crate) fn run_of(alloc: Global, filter: &str, rows: &[u8]) -> Told {
     outcome_of(alloc, SCHEMA, &plan_of("Mini.Item", filter), Some(rows))
 }

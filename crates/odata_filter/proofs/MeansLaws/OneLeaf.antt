@@ -57,7 +57,9 @@ BothGive-one _ _ a b p q = absurd p
 
 pub AndGives-one : (v : Val) (Right : Outcome → Type 0) → AtMostOne Right → AtMostOne (AndGives v Right)
 AndGives-one (boolean false) Right one a b p q = same_one (gives (boolean false)) a b p q
-AndGives-one v Right one a b p q = After-one Right (BothGive v) one (BothGive-one v) a b p q
+AndGives-one (boolean true) Right one a b p q = After-one Right (BothGive (boolean true)) one (BothGive-one (boolean true)) a b p q
+AndGives-one null Right one a b p q = After-one Right (BothGive null) one (BothGive-one null) a b p q
+AndGives-one _ Right one a b p q = absurd p
 
 pub OperatorGives-one : (operator : BinaryOperator) (v : Val) (Right : Outcome → Type 0) → AtMostOne Right → AtMostOne (OperatorGives operator v Right)
 OperatorGives-one BinaryOperator.And v Right one a b p q = AndGives-one v Right one a b p q

@@ -28,7 +28,7 @@ after_value v Goes o after = subst (λ (first : Outcome). Then first Goes o) aft
 and_left : (l r : Val) (o : Outcome) → OperatorTable And l r o → (truth : Option Bool) × (Some l ≡ Some (truth_val truth))
 and_left (boolean b) r o table = (Some b, refl)
 and_left null r o table = (None, refl)
-and_left l r o table = absurd (after_value r (BothGive l) o table)
+and_left l r o table = absurd table
 
 and_right : (l r : Val) (o : Outcome) → ¬ (IsDecided And (Some l)) → OperatorTable And l r o → (truth : Option Bool) × (Some r ≡ Some (truth_val truth))
 and_right (boolean false) r o undecided table = absurd (undecided tt)
@@ -36,7 +36,7 @@ and_right l (boolean b) o undecided table = (Some b, refl)
 and_right l null o undecided table = (None, refl)
 and_right (boolean true) r o undecided table = absurd (after_value r (BothGive (boolean true)) o table)
 and_right null r o undecided table = absurd (after_value r (BothGive null) o table)
-and_right l r o undecided table = absurd (after_value r (BothGive l) o table)
+and_right l r o undecided table = absurd table
 
 -- both sides of an `and` that has an outcome are truths
 pub and_left_truth : (l r : Option Val) (o : Outcome) → AtBoth (OperatorTable And) l r o → (truth : Option Bool) × (l ≡ Some (truth_val truth))
@@ -53,7 +53,8 @@ and_right_truth (Some l) None o undecided table = absurd table
 and_within : (l : Val) (Right More : Outcome → Type 0) → ((o : Outcome) → Right o → More o) → (o : Outcome) → AndGives l Right o → AndGives l More o
 and_within (boolean false) Right More within o table = table
 and_within (boolean true) Right More within o table = (table.0, (within table.0 table.1.0, table.1.1))
-and_within l Right More within o table = (table.0, (within table.0 table.1.0, table.1.1))
+and_within null Right More within o table = (table.0, (within table.0 table.1.0, table.1.1))
+and_within _ Right More within o table = absurd table
 
 operator_within : (operator : BinaryOperator) (l : Val) (Right More : Outcome → Type 0) → ((o : Outcome) → Right o → More o)
     → (o : Outcome) → OperatorGives operator l Right o → OperatorGives operator l More o

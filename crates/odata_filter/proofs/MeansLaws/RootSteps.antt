@@ -13,12 +13,11 @@ use Rattle.odata_filter.specs.odata_eval.Outcome.{Outcome, gives}
 use Rattle.odata_filter.specs.odata_eval.VerdictView.{truth_val}
 use Rattle.odata_filter.specs.odata_typing.ExprTypes.{IsBooleanOrNull}
 use Rattle.odata_filter.specs.odata_typing.Filter.{Filter, IsFilter, tree_of_filter}
-use Rattle.odata_filter.specs.odata_typing.IsChecked.{IsChecked, named, type_of_node}
+use Rattle.odata_filter.specs.odata_typing.IsChecked.{IsChecked, type_of_node}
 use Rattle.odata_filter.specs.odata_typing.TypeView.{expr_type}
-use Rattle.odata_filter.proofs.MeansLaws.CheckedTyped.{checked_typed}
 use Rattle.odata_filter.proofs.MeansLaws.OneMeaning.{Means-one}
 use Rattle.odata_filter.proofs.MeansLaws.Truths.{IsTruth, truth_of}
-use Rattle.odata_filter.proofs.MeansLaws.WalkSteps.{entity_ends}
+use Rattle.odata_filter.proofs.MeansLaws.WalkSteps.{node_value}
 
 -- no tree has two outcomes on an entity
 pub one_outcome : (row : Row) (now : MomentParts) (tree : Tree) (a b : Outcome) → MeansOn row now tree a → MeansOn row now tree b → a ≡ b
@@ -50,7 +49,4 @@ root_truth filter row now (Some v) entity right one_schema one_type related =
     (subst (λ (n : ℕ). IsChecked filter.schema n [] filter.root) one_type right.checked) in
     let type : ExprType = expr_type row.schema (type_of_node filter.root) in
     let is_truth : IsBooleanOrNull type = subst (λ (s : SchemaModel). IsBooleanOrNull (expr_type s (type_of_node filter.root))) one_schema right.truth in
-    let ends = entity_ends row now (named filter.root) type entity (checked_typed row.schema row.type_id [] filter.root checked) in
-    let same : gives ends.0 ≡ gives v = one_outcome row now (named filter.root) (gives ends.0) (gives v) ends.1.0 related in
-    let same_value : ends.0 ≡ v = cc in
-    some_truth v (subst IsTruth same_value (truth_of (slots_of row.schema) type ends.0 is_truth ends.1.1))
+    some_truth v (truth_of (slots_of row.schema) type v is_truth (node_value row now filter.root v entity checked related))

@@ -1,31 +1,40 @@
 -- What the walk answers at a node, from what it found.
-use Rattle.std.proofs.Common.{◌≡◌, ℕ, List, [], Option, Some, None, refl, sym, subst, ◌∙◌}
+use Rattle.std.proofs.Common.{◌≡◌, ℕ, List, [], true, false, Option, Some, None, refl, sym, subst, ◌∙◌}
 use Rattle.std.specs.Prelude.{IsSomeAnd, string_bytes, String}
 use Rattle.std.specs.Option.{option_map}
 use Rattle.std.specs.declared.alloc.Global.{Global}
 use Rattle.edm_values.specs.MomentParts.{MomentParts}
 use Rattle.edm_values.specs.PlainVal.{plain_val}
-use Rattle.edm_values.specs.Val.{Val}
+use Rattle.edm_values.specs.Val.{Val, null, boolean}
 use Rattle.edm_values.specs.declared.value.Value.{Value}
 use Rattle.odata_syntax.specs.Tree.{Tree, node, name, binary}
 use Rattle.odata_syntax.specs.declared.node.BinaryOperator.{BinaryOperator}
+use Rattle.odata_syntax.specs.declared.node.BinaryOperator.TheVariants.{And, Eq}
 use Rattle.odata_filter.specs.csdl_schema.ExprType.{ExprType}
 use Rattle.odata_filter.specs.csdl_schema.SchemaModel.{SchemaModel, slots_of, type_name_at}
 use Rattle.odata_filter.specs.declared.odata_typing.checked_node.CheckedNode.{CheckedNode}
+use Rattle.odata_filter.specs.declared.odata_eval.fault.EvalFault.{EvalFault}
+use Rattle.odata_filter.specs.edm_entities.HasType.{HasType}
 use Rattle.odata_filter.specs.edm_entities.Row.{Row, IsEntity, value_of}
+use Rattle.odata_filter.specs.odata_eval.AndGives.{BothGive}
 use Rattle.odata_filter.specs.odata_eval.DatumView.{AtBoth}
+use Rattle.odata_filter.specs.odata_eval.LeftFirst.{After}
 use Rattle.odata_filter.specs.odata_eval.MeansOn.{MeansOn}
 use Rattle.odata_filter.specs.odata_eval.NameGives.{StepGives}
-use Rattle.odata_filter.specs.odata_eval.Outcome.{Outcome, gives}
-use Rattle.odata_filter.specs.odata_eval.WalkAnswer.{HoldsAt, OperatorTable}
+use Rattle.odata_filter.specs.odata_eval.OperatorGives.{OperatorGives}
+use Rattle.odata_filter.specs.odata_eval.Outcome.{Outcome, gives, overflow, divides_by_zero}
+use Rattle.odata_filter.specs.odata_eval.VerdictView.{fault_outcome}
+use Rattle.odata_filter.specs.odata_eval.WalkAnswer.{HoldsAt, IsDecided, OperatorTable}
 use Rattle.odata_filter.specs.odata_typing.IsChecked.{IsChecked, IsCheckedProperty, named, type_of_node}
 use Rattle.odata_filter.specs.odata_typing.Typed.{OperatorTyped, Typed}
 use Rattle.odata_filter.specs.odata_typing.TypeView.{expr_type}
 use Rattle.odata_filter.proofs.FitsHasType.{fits_has_type}
 use Rattle.odata_filter.proofs.MeansLaws.CheckedTyped.{checked_typed}
+use Rattle.odata_filter.proofs.MeansLaws.OneMeaning.{Means-one}
 use Rattle.odata_filter.proofs.MeansLaws.OperatorSteps.{table_defined, table_related}
 use Rattle.odata_filter.proofs.MeansLaws.Progress.{tree_ends, Ends}
 use Rattle.odata_filter.proofs.MeansLaws.SlotValue.{slot_value}
+use Rattle.odata_filter.proofs.MeansLaws.Truths.{IsTruth, truth_of}
 
 -- a tree with a type has an outcome on an entity
 pub entity_ends : (row : Row) (now : MomentParts) (tree : Tree) (type : ExprType) → IsEntity row
@@ -70,3 +79,43 @@ pub operator_answered : (row : Row) (now : MomentParts) (start stop : ℕ) (oper
     → IsSomeAnd (option_map gives v) (MeansOn row now (node start stop (binary operator left right)))
 operator_answered row now start stop operator left right l r v of_left of_right table =
     table_related (slots_of row.schema) (type_name_at row.schema row.type_id) now (value_of row) [] operator left right start stop l r v of_left of_right table
+
+-- what a right node comes to is of its type
+pub node_value : (row : Row) (now : MomentParts) (c : CheckedNode) (v : Val) → IsEntity row → IsChecked row.schema row.type_id [] c
+    → MeansOn row now (named c) (gives v) → HasType (slots_of row.schema) (expr_type row.schema (type_of_node c)) v
+node_value row now c v entity checked related =
+    let type : ExprType = expr_type row.schema (type_of_node c) in
+    let ends = entity_ends row now (named c) type entity (checked_typed row.schema row.type_id [] c checked) in
+    let same : gives ends.0 ≡ gives v =
+    Means-one (slots_of row.schema) (type_name_at row.schema row.type_id) now (value_of row) [] (named c) (gives ends.0) (gives v) ends.1.0 related in
+    let same_value : ends.0 ≡ v = cc in
+    subst (λ (w : Val). HasType (slots_of row.schema) type w) same_value ends.1.1
+
+-- behind a truth that does not decide, `and` goes by its right side
+and_goes : (l : Val) (Right : Outcome → Type 0) (o : Outcome) → IsTruth l → ¬ (IsDecided And (Some l)) → After Right (BothGive l) o → OperatorGives And l Right o
+and_goes (boolean false) Right o is_truth undecided goes = absurd (undecided tt)
+and_goes (boolean true) Right o is_truth undecided goes = goes
+and_goes null Right o is_truth undecided goes = goes
+and_goes _ Right o is_truth undecided goes = absurd is_truth
+
+-- a fault of the right side answers the whole, where the left value does not decide
+pub fault_answered : (row : Row) (now : MomentParts) (start stop : ℕ) (operator : BinaryOperator) (left right : CheckedNode) (type : ExprType) (l : Option Val) (fault : EvalFault)
+    → IsEntity row
+    → (IsChecked row.schema row.type_id [] left
+    × IsChecked row.schema row.type_id [] right
+    × OperatorTyped operator (expr_type row.schema (type_of_node left)) (expr_type row.schema (type_of_node right)) type)
+    → ¬ (IsDecided operator l)
+    → IsSomeAnd (option_map gives l) (MeansOn row now (named left)) → IsSomeAnd (fault_outcome fault) (MeansOn row now (named right))
+    → IsSomeAnd (fault_outcome fault) (MeansOn row now (node start stop (binary operator (named left) (named right))))
+fault_answered row now start stop And left right type (Some l) EvalFault.Overflow entity checked undecided of_left of_right =
+    let is_truth = truth_of (slots_of row.schema) (expr_type row.schema (type_of_node left)) l checked.2.0 (node_value row now left l entity checked.0 of_left) in
+    (gives l, (of_left, and_goes l (MeansOn row now (named right)) overflow is_truth undecided (overflow, (of_right, refl))))
+fault_answered row now start stop And left right type (Some l) EvalFault.DivideByZero entity checked undecided of_left of_right =
+    let is_truth = truth_of (slots_of row.schema) (expr_type row.schema (type_of_node left)) l checked.2.0 (node_value row now left l entity checked.0 of_left) in
+    (gives l, (of_left, and_goes l (MeansOn row now (named right)) divides_by_zero is_truth undecided (divides_by_zero, (of_right, refl))))
+fault_answered row now start stop Eq left right type (Some l) EvalFault.Overflow entity checked undecided of_left of_right =
+    (gives l, (of_left, (overflow, (of_right, refl))))
+fault_answered row now start stop Eq left right type (Some l) EvalFault.DivideByZero entity checked undecided of_left of_right =
+    (gives l, (of_left, (divides_by_zero, (of_right, refl))))
+fault_answered row now start stop operator left right type (Some l) EvalFault.Memory entity checked undecided of_left of_right = absurd of_right
+fault_answered row now start stop operator left right type None fault entity checked undecided of_left of_right = absurd of_left

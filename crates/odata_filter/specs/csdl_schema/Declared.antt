@@ -1,11 +1,11 @@
 -- What a CSDL JSON document declares (CSDL JSON 4.01, sections 2 to 7), as far as entity types go.
-use Rattle.std.specs.Prelude.{ℕ, ◌++◌, [], ◌∷◌, ◌&&◌, ◌||◌, ◌==◌, List, Bool, true, false, not, Option, Some, None, is_some, option_and_then, unwrap_or, if◌then◌else◌, codes, map, nat_eq, nat_le, count_by}
+use Rattle.std.specs.Prelude.{◌≡◌, ℕ, ◌++◌, [], ◌∷◌, ◌&&◌, ◌||◌, ◌==◌, List, Bool, true, false, not, Option, Some, None, is_some, option_and_then, unwrap_or, if◌then◌else◌, codes, map, nat_eq, nat_le, count_by}
 use Rattle.std.specs.Ordering.{nat_cmp, match_ordering}
 use Rattle.std.specs.List.{list_any, list_all, flat_map}
+use Rattle.std.specs.List.Sorted.{IsStrictlySortedBy}
 use Rattle.std.specs.Cmp.Lexicographic.{pointwise, slice_cmp}
 use Rattle.serde_json.specs.Data.{Data, Members, no_members, member}
 use Rattle.serde_json.specs.Find.{get, as_str, as_bool, as_array, as_object}
-use Rattle.edm_values.specs.declared.primitive.PrimitiveType.{PrimitiveType}
 use Rattle.edm_values.specs.declared.primitive.PrimitiveType.TheVariants as prim
 use Rattle.odata_filter.specs.csdl_schema.ExprType.{single, primitive}
 use Rattle.odata_filter.specs.csdl_schema.SchemaModel.{PropertyType, declared, opaque, PropertyModel, TypeModel, SchemaModel, Slots}
@@ -95,7 +95,7 @@ type_of_property d =
     if is_navigation d || (is_true_at (codes "$Collection") d || is_true_at (codes "$Nullable") d) then opaque else named_type (type_text d)
 
 abbrev pub declared_property : List ℕ × Data → PropertyModel
-declared_property m = record { name = m.0; type_of = type_of_property m.1; nullable = is_true_at (codes "$Nullable") m.1 }
+declared_property m = record { name = m.0; type_of = type_of_property m.1; many = is_true_at (codes "$Collection") m.1; nullable = is_true_at (codes "$Nullable") m.1 }
 
 -- ---- types (section 6)
 
@@ -135,12 +135,22 @@ types_declared document = flat_map types_in (declared_in document)
 abbrev pub type_count : Data → ℕ
 type_count document = count_by (λ t. is_entity_type t.body) (types_declared document)
 
+-- the first type of a whole name
+abbrev pub first_named : List TypeDeclaration → List ℕ → Option TypeDeclaration
+first_named [] asked = None
+first_named (t ∷ ts) asked = if pointwise nat_eq (full_name t) asked then Some t else first_named ts asked
+
+-- some types by name: whole names rise in byte order, and each whole name has the first type of that name
+pub record AreByName (types ordered : List TypeDeclaration) : Type 0 where
+  pub rising : IsStrictlySortedBy (slice_cmp nat_cmp) (map full_name ordered)
+  pub first : (asked : List ℕ) → first_named ordered asked ≡ first_named types asked
+
 -- a type goes before those of higher whole names, and in place of one of the same
 abbrev pub put_type : TypeDeclaration → List TypeDeclaration → List TypeDeclaration
 put_type t [] = t ∷ []
 put_type t (u ∷ us) = match_ordering (slice_cmp nat_cmp (full_name t) (full_name u)) (t ∷ u ∷ us) (t ∷ us) (u ∷ put_type t us)
 
--- in the byte order of whole names; of equal names the first stands
+-- the types by name, as the law `types_by_name` says
 abbrev pub in_name_order : List TypeDeclaration → List TypeDeclaration
 in_name_order [] = []
 in_name_order (t ∷ ts) = put_type t (in_name_order ts)

@@ -11,10 +11,11 @@ pub data PropertyType : Type 0 where
   opaque : PropertyType
   navigation : PropertyType
 
--- a property of a type
+-- a property of a type: of a collection, `nullable` speaks of the items
 pub record PropertyModel : Type 0 where
   pub name : List ℕ
   pub type_of : PropertyType
+  pub many : Bool
   pub nullable : Bool
 
 -- an entity or complex type, with its properties in slot order

@@ -9,7 +9,7 @@ abbrev pub mini_text : List ℕ
 mini_text = codes "{\"$Version\":\"4.01\",\"Mini\":{\"Item\":{\"$Kind\":\"EntityType\",\"ID\":{\"$Type\":\"Edm.Int32\"},\"Name\":{},\"Active\":{\"$Type\":\"Edm.Boolean\"}}}}"
 
 abbrev pub simple : List ℕ → PrimitiveType → PropertyModel
-simple name p = record { name = name; type_of = declared (single (primitive p)); nullable = false }
+simple name p = record { name = name; type_of = declared (single (primitive p)); many = false; nullable = false }
 
 -- the slots are in the byte order of names
 abbrev pub mini_schema : SchemaModel

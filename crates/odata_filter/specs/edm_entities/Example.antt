@@ -9,7 +9,7 @@ use Rattle.odata_filter.specs.csdl_schema.ExprType.{single, primitive}
 use Rattle.odata_filter.specs.csdl_schema.SchemaModel.{PropertyModel, declared}
 
 abbrev pub item_property : List ℕ → PrimitiveType → PropertyModel
-item_property name type = record { name = name; type_of = declared (single (primitive type)); nullable = false }
+item_property name type = record { name = name; type_of = declared (single (primitive type)); many = false; nullable = false }
 
 -- the slots Active, ID and Name
 abbrev pub item_properties : List PropertyModel

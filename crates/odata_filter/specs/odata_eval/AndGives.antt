@@ -14,7 +14,9 @@ BothGive null (boolean false) o = o ≡ gives (boolean false)
 BothGive null null o = o ≡ gives null
 BothGive _ _ o = ⊥
 
--- false on the left decides; else the right side is evaluated too
+-- false on the left decides; behind true and null the right side is evaluated too
 abbrev pub AndGives : Val → (Outcome → Type 0) → Outcome → Type 0
 AndGives (boolean false) Right o = o ≡ gives (boolean false)
-AndGives l Right o = After Right (BothGive l) o
+AndGives (boolean true) Right o = After Right (BothGive (boolean true)) o
+AndGives null Right o = After Right (BothGive null) o
+AndGives _ Right o = ⊥

@@ -22,7 +22,7 @@ TypedIsClear =
 
 -- one value of a primitive type, never null
 abbrev pub plain_property : List ℕ → PrimitiveType → PropertyModel
-plain_property asked p = record { name = asked; type_of = declared (single (primitive p)); nullable = false }
+plain_property asked p = record { name = asked; type_of = declared (single (primitive p)); many = false; nullable = false }
 
 -- every type has the three properties of an item
 abbrev pub item_slots : Slots

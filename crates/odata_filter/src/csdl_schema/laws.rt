@@ -1,7 +1,8 @@
 //! Laws of documents, stated on functions that do nothing.
 ghost use Rattle.std.specs.Prelude.{◌≡◌, ℕ, List, codes};
+ghost use Rattle.serde_json.specs.Data.{Data};
 ghost use Rattle.odata_filter.specs.csdl_schema.SchemaModel.{SchemaModel, slots_of};
-ghost use Rattle.odata_filter.specs.csdl_schema.Declared.{declared_slots, types_declared};
+ghost use Rattle.odata_filter.specs.csdl_schema.Declared.{TypeDeclaration, AreByName, declared_slots, types_declared, types_in_order};
 ghost use Rattle.odata_filter.specs.csdl_schema.Faults.{Fault, not_object};
 ghost use Rattle.odata_filter.specs.csdl_schema.Document.{StandsFor, IsFirstFault};
 ghost use Rattle.odata_filter.specs.csdl_schema.Worked as worked;
@@ -11,6 +12,12 @@ pub fn one_answer()
     ensures schema { (document : List ℕ) (a b : SchemaModel) → StandsFor document a → StandsFor document b → a ≡ b }
     ensures fault { (document : List ℕ) (f g : Fault) → IsFirstFault document f → IsFirstFault document g → f ≡ g }
     ensures apart { (document : List ℕ) (a : SchemaModel) (f : Fault) → StandsFor document a → IsFirstFault document f → ⊥ }
+{}
+
+/// The types that a schema keeps are the declared ones by name, which are one list.
+pub fn types_by_name()
+    ensures are { (document : Data) → AreByName (types_declared document) (types_in_order document) }
+    ensures only { (types a b : List TypeDeclaration) → AreByName types a → AreByName types b → a ≡ b }
 {}
 
 /// A whole name has the slots of the first declared type of that name, in whatever order the schema keeps its types.

@@ -1,10 +1,10 @@
 //! Properties of a type (CSDL JSON 4.01, section 7).
-ghost use Rattle.std.specs.Prelude.{◌≡◌, codes, map, false};
+ghost use Rattle.std.specs.Prelude.{◌≡◌, codes, map, false, IfOk};
 ghost use Rattle.std.specs.List.{flat_map};
 ghost use Rattle.serde_json.specs.Find.{get};
 ghost use Rattle.serde_json.specs.View.{view};
-ghost use Rattle.odata_filter.specs.csdl_schema.PropertyView.{type_of_kind};
-ghost use Rattle.odata_filter.specs.csdl_schema.TypeView.{property_model};
+ghost use Rattle.odata_filter.specs.csdl_schema.PropertyView.{type_of_kind, IsReadKind};
+ghost use Rattle.odata_filter.specs.csdl_schema.TypeView.{property_model, AreOfReadKinds};
 ghost use Rattle.odata_filter.specs.csdl_schema.Declared.{declared_property, is_navigation, is_true_at, named_type, type_text, type_of_property};
 ghost use Rattle.odata_filter.specs.csdl_schema.Faults.{is_property, is_property_kind, is_property_type, property_faults};
 ghost use Rattle.odata_filter.specs.csdl_schema.DocumentView.{member_view, members_of, AreNamesInOrder, Reads};
@@ -56,7 +56,8 @@ fn is_property(member: Member<'_>) -> bool
 
 /// The kind of a property of one value by its type's name; types that are not read yet are opaque.
 fn named_kind(name: &str) -> PropertyKind
-    ensures { type_of_kind result false ≡ named_type name.now }
+    ensures type_of { type_of_kind result false ≡ named_type name.now }
+    ensures kind { IsReadKind result }
 {
     if name == "Edm.Boolean" {
         PropertyKind::Prim(Prim::Bool)
@@ -80,7 +81,9 @@ fn type_text(value: &Value) -> &str
 
 /// Navigation, collections and what may be null are opaque for now.
 fn property_of(value: &Value) -> Property
-    ensures kind { type_of_kind result.kind result.many ≡ type_of_property (view value.now) }
+    ensures type_of { type_of_kind result.kind result.many ≡ type_of_property (view value.now) }
+    ensures kind { IsReadKind result.kind }
+    ensures many { result.many ≡ is_true_at (codes "$Collection") (view value.now) }
     ensures nullable { result.nullable ≡ is_true_at (codes "$Nullable") (view value.now) }
 {
     let many = is_true_at(value, "$Collection");
@@ -104,8 +107,9 @@ pub(super) fn read_properties(
     members: &[Member<'_>],
 ) -> Result<IndexMap<String, Property>, SchemaFault>
     requires { AreNamesInOrder (members_of members.now) }
-    ensures { Reads result (flat_map (property_faults owner.now) (members_of members.now))
+    ensures read { Reads result (flat_map (property_faults owner.now) (members_of members.now))
         (λ read. map property_model read.entries ≡ map declared_property (members_of members.now)) }
+    ensures kinds { IfOk result (λ read. AreOfReadKinds read.entries) }
 {
     let mut properties = IndexMap::new(alloc);
     for member in members {

@@ -2,7 +2,7 @@ ghost use Rattle.std.specs.Prelude.{ℕ, List, position, if◌then◌else◌, If
 ghost use Rattle.odata_filter.specs.csdl_schema.SchemaModel.{alias_name, is_named, is_text_of, place_named, properties_at, slot_named, type_name_of, IsEntityAt, IsInNameOrder};
 ghost use Rattle.indexmap.specs.IndexMap.{get_by_text};
 ghost use Rattle.odata_filter.specs.csdl_schema.SchemaView.{own_properties, schema_of, AreInOrder};
-ghost use Rattle.odata_filter.specs.csdl_schema.PropertyView.{property_type};
+ghost use Rattle.odata_filter.specs.csdl_schema.PropertyView.{property_type, IsReadAs};
 
 use super::fault::SchemaFault;
 use super::ids::TypeId;
@@ -112,7 +112,7 @@ impl Schema {
     pub fn property(&self, id: TypeId, slot: usize) -> &Property
         requires { slot < length (properties_at self.now id) }
         ensures { IfSome (slice_get (properties_at self.now id) slot)
-            (λ p. (property_type self.now result.now ≡ p.type_of) × (result.now.nullable ≡ p.nullable)) }
+            (λ p. (property_type self.now result.now ≡ p.type_of) × IsReadAs p result.now) }
     {
         match self.type_at(id) {
             Some(found) => found.property(slot),

@@ -1,7 +1,7 @@
 ghost use Rattle.std.specs.Prelude.{◌≡◌, ◌<◌, length, map, slice_get, Some, IfSome, IfOk, option_map, string_bytes};
 ghost use Rattle.odata_filter.specs.csdl_schema.SchemaModel.{alias_name, qualified_name, slot_named, IsInNameOrder};
-ghost use Rattle.odata_filter.specs.csdl_schema.PropertyView.{type_of_kind};
-ghost use Rattle.odata_filter.specs.csdl_schema.TypeView.{property_model};
+ghost use Rattle.odata_filter.specs.csdl_schema.PropertyView.{type_of_kind, IsReadAs};
+ghost use Rattle.odata_filter.specs.csdl_schema.TypeView.{property_model, AreOfReadKinds};
 ghost use Rattle.odata_filter.specs.csdl_schema.Declared.{full_name, entity_type};
 ghost use Rattle.odata_filter.specs.csdl_schema.DocumentView.{declaration_view};
 
@@ -44,6 +44,7 @@ impl StructuredType {
     ) -> Result<StructuredType, AllocError>
         requires named { name.now ≡ full_name (declaration_view declaration.now) }
         requires ordered { IsInNameOrder (map property_model properties.entries) }
+        requires kinds { AreOfReadKinds properties.entries }
         ensures { IfOk result (λ t. t ≡ entity_type (declaration_view declaration.now) (map property_model properties.entries)) }
     {
         let alias = match declaration.alias {
@@ -108,7 +109,7 @@ impl StructuredType {
     pub(super) fn property(&self, slot: usize) -> &Property
         requires { slot < length self.now.properties }
         ensures { IfSome (slice_get self.now.properties slot)
-            (λ p. (type_of_kind result.now.kind result.now.many ≡ p.type_of) × (result.now.nullable ≡ p.nullable)) }
+            (λ p. (type_of_kind result.now.kind result.now.many ≡ p.type_of) × IsReadAs p result.now) }
     {
         match self.properties.get_index(slot) {
             Some((_, property)) => property,

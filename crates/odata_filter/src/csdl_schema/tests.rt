@@ -109,12 +109,15 @@ fn look_ups(rt: HostRuntime) -> Result<(), Fail> {
 #[test]
 fn names_by_alias(rt: HostRuntime) -> Result<(), Fail> {
     let document =
-        "{\"$Version\":\"4.0\",\"A.B\":{\"$Alias\":\"S\",\"T\":{\"$Kind\":\"EntityType\",\"P\":{\"$Nullable\":true}}}}";
+        "{\"$Version\":\"4.0\",\"A.B\":{\"$Alias\":\"S\",\"T\":{\"$Kind\":\"EntityType\",\"P\":{\"$Nullable\":true},\"Q\":{\"$Collection\":true}}}}";
     let schema = Schema::read(rt.alloc(), document.as_bytes())?;
     let by_alias = schema.type_named("S.T").ok_or("no type")?;
     assert_eq!(rt; schema.type_name(by_alias).ok_or("no name")?, "A.B.T");
     let count = schema.slots(by_alias);
-    assert_eq!(rt; count, 1);
-    assert!(rt; schema.property(by_alias, 0).kind == PropertyKind::Opaque);
+    assert_eq!(rt; count, 2);
+    let p = schema.property(by_alias, 0);
+    let q = schema.property(by_alias, 1);
+    assert!(rt; p.kind == PropertyKind::Opaque && !p.many && p.nullable);
+    assert!(rt; q.kind == PropertyKind::Opaque && q.many && !q.nullable);
     Ok(())
 }

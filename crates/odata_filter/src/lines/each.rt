@@ -81,7 +81,7 @@ fn judge_lines<J: Judge, W: Write>(
     requires { held.old.items ≡ [] }
     ensures ok { IfOk result (λ progress. (text : List ℕ)
         × Holds (W.contents out.old) (W.contents out.new) held.new.items text
-        × Goes (J.says judge.now) (lines_of bytes.now) text progress) }
+        × Goes (J.says judge.now) bytes.now text progress) }
     ensures counted { IfOk result (λ progress. progress.lines ≤ length bytes.now) }
     ensures err { OnErr result (Writes (W.contents out.old) (W.contents out.new) (StopsWithin (J.says judge.now) (lines_of bytes.now))) }
 {
@@ -123,7 +123,7 @@ pub fn filter_bytes<J: Judge, W: Write>(
     out: &mut W,
 ) -> Result<Progress, NotWritten>
     ensures ok { IfOk result (λ progress. Writes (W.contents out.old) (W.contents out.new)
-        (λ text. Goes (J.says judge.now) (lines_of bytes.now) text progress)) }
+        (λ text. Goes (J.says judge.now) bytes.now text progress)) }
     ensures counted { IfOk result (λ progress. progress.lines ≤ length bytes.now) }
     ensures err { OnErr result (Writes (W.contents out.old) (W.contents out.new) (StopsWithin (J.says judge.now) (lines_of bytes.now))) }
 {

@@ -1,4 +1,4 @@
-ghost use Rattle.std.specs.Prelude.{◌≡◌, ◌≢◌, ℕ, ◌+◌, ◌<◌, ◌≤◌, ◌^◌, ◌++◌, List, [], length, IfOk, IfErr, IfSome};
+ghost use Rattle.std.specs.Prelude.{◌≡◌, ◌≢◌, ℕ, ◌+◌, ◌<◌, ◌≤◌, ◌^◌, ◌++◌, List, [], All, length, IfOk, IfErr, IfSome};
 ghost use Rattle.std.specs.Io.KnownBytes.{Keeps};
 ghost use Rattle.odata_filter.specs.Lines.{lines_of};
 ghost use Rattle.odata_filter.specs.Kept.{Filters, Stops};
@@ -40,7 +40,7 @@ fn finish<W: Write>(progress: Progress, ending: Ending, out: &mut W) -> Result<T
 
 /// The bytes whose lines are judged: all of them, or without the reader's end the lines that are complete.
 fn judged_part(input: &Input) -> &[u8]
-    ensures begins { (rest : List ℕ) × (input.now.bytes.items ≡ result.now ++ rest) × (input.now.ending ≡ Ending.AtEnd → rest ≡ []) }
+    ensures begins { (rest : List ℕ) × (input.now.bytes.items ≡ result.now ++ rest) × (input.now.ending ≡ Ending.AtEnd → rest ≡ []) × All (λ b. b ≢ 10) rest }
     ensures complete { input.now.ending ≢ Ending.AtEnd → IsComplete result.now }
     ensures shorter { length result.now ≤ length input.now.bytes.items }
 {
@@ -60,7 +60,7 @@ pub fn filter_with<J: Judge, R: Read + Drop, W: Write>(
     ensures filters { IfOk result (λ tally. IfSome (R.remaining reader) (λ bytes.
         Writes (W.contents out.old) (W.contents out.new) (λ text. Filters (J.says judge.now) (lines_of bytes) text tally))) }
     ensures stops { IfErr result (λ fault. IfSome (R.remaining reader) (λ bytes.
-        Writes (W.contents out.old) (W.contents out.new) (λ text. Stops (J.says judge.now) (lines_of bytes) text fault))) }
+        Writes (W.contents out.old) (W.contents out.new) (λ text. Stops (J.says judge.now) bytes text fault))) }
 {
     let input = read_input(alloc, &mut reader);
     match filter_bytes(alloc, judge, judged_part(&input), out) {

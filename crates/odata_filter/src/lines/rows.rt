@@ -28,7 +28,7 @@ pub fn filter_lines<R: Read + Drop, W: Write>(
     ensures filters { IfOk result (λ tally. IfSome (R.remaining rows) (λ bytes.
         Writes (W.contents out.old) (W.contents out.new) (λ text. Filters (JudgesRow checked.now now.now) (lines_of bytes) text tally))) }
     ensures stops { IfErr result (λ fault. IfSome (R.remaining rows) (λ bytes.
-        Writes (W.contents out.old) (W.contents out.new) (λ text. Stops (JudgesRow checked.now now.now) (lines_of bytes) text fault))) }
+        Writes (W.contents out.old) (W.contents out.new) (λ text. Stops (JudgesRow checked.now now.now) bytes text fault))) }
 {
     let judge = RowJudge {
         alloc,

@@ -1,4 +1,4 @@
-ghost use Rattle.std.specs.Prelude.{◌≡◌, ℕ, List, ◌<◌, ◌≤◌, ◌∷◌, ◌++◌, length};
+ghost use Rattle.std.specs.Prelude.{◌≡◌, ◌≢◌, ℕ, List, All, ◌<◌, ◌≤◌, ◌∷◌, ◌++◌, length};
 ghost use Rattle.odata_filter.specs.Lines.{lines_of};
 ghost use Rattle.odata_filter.specs.Passing.{IsComplete};
 
@@ -8,6 +8,7 @@ use memchr::{memchr, memrchr};
 pub fn first_line(bytes: &[u8]) -> (&[u8], &[u8])
     requires { 0 < length bytes.now }
     ensures lines { lines_of bytes.now ≡ result.0.now ∷ lines_of result.1.now }
+    ensures behind { 0 < length result.1.now → bytes.now ≡ result.0.now ++ 10 ∷ result.1.now }
     ensures shorter { length result.1.now < length bytes.now }
 {
     match memchr(b'\n', bytes) {
@@ -18,7 +19,7 @@ pub fn first_line(bytes: &[u8]) -> (&[u8], &[u8])
 
 /// The bytes up to the last LF: the lines that are complete.
 pub fn complete_lines(bytes: &[u8]) -> &[u8]
-    ensures begins { (rest : List ℕ) × (bytes.now ≡ result.now ++ rest) }
+    ensures begins { (rest : List ℕ) × (bytes.now ≡ result.now ++ rest) × All (λ b. b ≢ 10) rest }
     ensures complete { IsComplete result.now }
     ensures shorter { length result.now ≤ length bytes.now }
 {

@@ -1,9 +1,11 @@
-use Rattle.std.proofs.Common.{◌≡◌, ◌+◌, ◌++◌, ◌∷◌, ◌∙◌, [], sym, ap, map, drop, List}
+use Rattle.std.proofs.Common.{◌≡◌, ◌+◌, ◌++◌, ◌∷◌, ◌∙◌, [], sym, ap, subst, map, drop}
 use Rattle.std.specs.List.{flat_map}
-use Rattle.odata_filter.specs.csdl_schema.TypeView.{property_model}
+use Rattle.odata_filter.specs.csdl_schema.PropertyView.{IsReadKind}
+use Rattle.odata_filter.specs.csdl_schema.TypeView.{property_model, AreOfReadKinds}
 use Rattle.odata_filter.specs.csdl_schema.Declared.{declared_property}
 use Rattle.odata_filter.specs.csdl_schema.Faults.{property_faults, is_property, bad_property}
 use Rattle.odata_filter.specs.csdl_schema.DocumentView.{members_of, member_view}
+use Rattle.odata_filter.proofs.SchemaLookUps.{each_pushed}
 use Rattle.odata_filter.proofs.SchemaReading.{at_place, faultless_step, unless_none, insert_last, properties_in_order, same_property, property_step}
 use Rattle.odata_filter.proofs.csdl_schema.read_properties.read_properties.Goals as goal
 
@@ -28,5 +30,6 @@ loop-member-preserved c =
       faultless_step F (member_view m) rest _
           (unless_none (is_property (member_view m)) (bad_property c.args.owner.now m.name.now) (sym c.is_property.ensures ∙ c.if-not-is_property.false))
           (ap (λ ms. flat_map F (members_of ms)) (sym step) ∙ c.loop-member.invariant.0),
-      property_step es _ (k, v) p ps _ added (same_property (k, v) p c.in_ok-name.ensures.ok c.property_of.ensures.kind c.property_of.ensures.nullable) whole,
+      property_step es _ (k, v) p ps _ added (same_property (k, v) p c.in_ok-name.ensures.ok c.property_of.ensures.type_of c.property_of.ensures.many c.property_of.ensures.nullable) whole,
+      subst AreOfReadKinds (sym added) (each_pushed (λ e. IsReadKind e.1.kind) es (k, v) c.loop-member.invariant.2 c.property_of.ensures.kind),
     )

@@ -18,5 +18,5 @@ pub new-requires-clause-ordered : goal.new-requires-clause-ordered
 new-requires-clause-ordered c =
     let t = declaration_view c.args.declaration.now in
     properties_in_order _ (declared_in t.body)
-    (c.in_ok-properties.ensures.1 ∙ ap (map declared_property) (rw c.deref.ensures.value c.in_ok-members.ensures.members))
+    (c.in_ok-properties.ensures.read.1 ∙ ap (map declared_property) (rw c.deref.ensures.value c.in_ok-members.ensures.members))
     c.in_ok-members.ensures.ordered

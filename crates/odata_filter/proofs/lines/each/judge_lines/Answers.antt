@@ -18,7 +18,7 @@ returns-in-Stopped-clause-ok g c =
     let (text, holds, steps) = c.in_ok-one.ensures.ok in
     let here = rw c.in-Stopped.is at steps in
     HasPassed-stopped _ _ c.first_line.result.0.now c.loop-rest.rest.now c.first_line.result.1.now text _ _ _ c.loop-rest.held.items c.pass_line.new.held.items c.loop-rest.lines c.loop-rest.tally c.in-Stopped.fault
-    c.first_line.ensures.lines holds here.0 here.1 c.loop-rest.invariant.1
+    c.first_line.ensures.lines (omega (arith, c.first_line.ensures.shorter)) holds here.0 here.1 c.loop-rest.invariant.1
 
 pub loop-rest-preserved : goal.loop-rest-preserved
 loop-rest-preserved g c =
@@ -27,5 +27,5 @@ loop-rest-preserved g c =
     let room : c.loop-rest.lines + 1 + length c.first_line.result.1.now ≤ length c.args.bytes.now = omega (arith, c.loop-rest.invariant.0, c.first_line.ensures.shorter) in (
       room,
       HasPassed-more _ _ c.first_line.result.0.now c.loop-rest.rest.now c.first_line.result.1.now text _ _ _ c.loop-rest.held.items c.pass_line.new.held.items c.loop-rest.lines c.loop-rest.tally c.in-Passed.one
-          c.first_line.ensures.lines holds one c.loop-rest.invariant.1,
+          c.first_line.ensures.lines c.first_line.ensures.behind (omega (arith, c.first_line.ensures.shorter)) holds one c.loop-rest.invariant.1,
     )

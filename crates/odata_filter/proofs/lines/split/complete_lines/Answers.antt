@@ -1,14 +1,18 @@
-use Rattle.std.proofs.Common.{◌≡◌, ◌+◌, ◌++◌, ◌∷◌, [], slice_index, take, drop, sym, ap, ◌∙◌, subst, take-append-drop}
+use Rattle.std.proofs.Common.{◌≡◌, ◌+◌, ◌++◌, ◌∷◌, [], slice_index, take, drop, refl, sym, ap, ◌∙◌, subst, take-append-drop}
 use Rattle.std.proofs.lemmas.Bool.{eqb-true}
 use Rattle.std.proofs.lemmas.List.{take_more}
 use Rattle.odata_filter.specs.Passing.{IsComplete}
-use Rattle.odata_filter.proofs.LineLemmas.{IsComplete-line}
+use Rattle.odata_filter.proofs.LineLemmas.{IsComplete-line, all_behind, all_from}
 use Rattle.odata_filter.proofs.lines.split.complete_lines.Goals as goal
 
 pub returns-in-Some-clause-begins : goal.returns-in-Some-clause-begins
 returns-in-Some-clause-begins c =
     let last = c.in-Some.last in
-    (drop (last + 1) c.args.bytes.now, sym (take-append-drop (last + 1) c.args.bytes.now))
+    let bytes = c.args.bytes.now in
+    (drop (last + 1) bytes, sym (take-append-drop (last + 1) bytes), all_behind bytes last c.in-Some.ensures.0.after)
+
+pub returns-in-None-clause-begins : goal.returns-in-None-clause-begins
+returns-in-None-clause-begins c = (c.args.bytes.now, refl, all_from c.args.bytes.now c.in-None.ensures)
 
 pub returns-in-Some-clause-complete : goal.returns-in-Some-clause-complete
 returns-in-Some-clause-complete c =

@@ -1,8 +1,10 @@
+use Rattle.std.proofs.Common.{◌≡◌, true, false}
 use Rattle.std.specs.Prelude.{string_bytes}
 use Rattle.odata_filter.specs.odata_eval.DatumView.{plain_datum}
+use Rattle.odata_filter.specs.odata_eval.WalkAnswer.{IsDecided}
 use Rattle.odata_filter.specs.odata_typing.IsChecked.{named}
 use Rattle.odata_filter.specs.odata_typing.TypeView.{expr_type}
-use Rattle.odata_filter.proofs.MeansLaws.WalkSteps.{property_answered, operator_defined, operator_answered}
+use Rattle.odata_filter.proofs.MeansLaws.WalkSteps.{property_answered, operator_defined, operator_answered, fault_answered}
 use Rattle.odata_filter.proofs.odata_eval.walk.+walk.Goals as goal
 
 pub returns-in-Property : goal.returns-in-Property
@@ -18,6 +20,14 @@ apply-requires-clause-defined t c =
     (expr_type c.args.entity.now.schema c.in-Binary.edm_type) (plain_datum c.in-Ok.datum) (plain_datum c.in-Ok-walk.datum)
     c.requires.entity (rw c.in-Binary.is at c.requires.right)
     (rw c.deref.ensures at c.in-Ok.ensures) (rw c.deref-in-Binary.ensures at c.in-Ok-walk.ensures)
+
+pub returns-in-Err-walk : goal.returns-in-Err-walk
+returns-in-Err-walk t c =
+    let undecided : ¬ (IsDecided c.in-Binary.operator (plain_datum c.in-Ok.datum)) = λ decided. let yes : c.decides.result ≡ true = c.decides.ensures.1 decided in let no : c.decides.result ≡ false = c.if-decides.false in cc in
+    rw c.in-Binary.is (fault_answered c.args.entity.now c.args.now.now c.in-Binary.span.start c.in-Binary.span.stop c.in-Binary.operator
+    c.in-Binary.left.value c.in-Binary.right.value (expr_type c.args.entity.now.schema c.in-Binary.edm_type) (plain_datum c.in-Ok.datum) c.in-Err-walk.fault
+    c.requires.entity (rw c.in-Binary.is at c.requires.right) undecided
+    (rw c.deref.ensures at c.in-Ok.ensures) (rw c.deref-in-Binary.ensures at c.in-Err-walk.ensures))
 
 pub returns-in-Ok-walk : goal.returns-in-Ok-walk
 returns-in-Ok-walk t c =
