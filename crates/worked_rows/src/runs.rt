@@ -1,5 +1,7 @@
 //! Filters and rows of one entity type: what is written, what is told, and the status.
 use crate::told::{FIRST, SCHEMA, outcome_of, plan_of, run_of};
+use odata_filter::command_line::{Plan, Verb};
+use std::alloc::Global;
 
 const A: &str = "{\"ID\":1,\"Name\":\"a\",\"Active\":true}\n";
 
@@ -179,6 +181,32 @@ fn schemas_types_and_files(rt: HostRuntime) {
         )
     );
     assert!(rt; outcome_of(rt.alloc(), SCHEMA, &plan, None).is("", "read rows.json\n", 5));
+}
+
+/// The line and status 2 of a plan that is none to filter rows by a filter's text.
+fn is_misused(alloc: Global, plan: &Plan<'_>, line: &str) -> bool {
+    outcome_of(alloc, SCHEMA, plan, Some(A.as_bytes())).is("", line, 2)
+}
+
+#[test]
+fn what_is_still_to_come(rt: HostRuntime) {
+    let mut plan = plan_of("Mini.Item", FIRST);
+    plan.verb = Verb::Check;
+    assert!(rt; is_misused(rt.alloc(), &plan, "usage check is still to come\n"));
+    plan.verb = Verb::Explain;
+    assert!(rt; is_misused(rt.alloc(), &plan, "usage explain is still to come\n"));
+    plan.verb = Verb::Filter;
+    plan.query = Some("$filter=true");
+    assert!(rt; is_misused(rt.alloc(), &plan, "usage query is still to come\n"));
+    plan.query = None;
+    plan.now = Some("2020-01-01T00:00:00Z");
+    assert!(rt; is_misused(rt.alloc(), &plan, "usage now is still to come\n"));
+    plan.now = None;
+    plan.collection = true;
+    assert!(rt; is_misused(rt.alloc(), &plan, "usage collection is still to come\n"));
+    plan.collection = false;
+    plan.filter = None;
+    assert!(rt; is_misused(rt.alloc(), &plan, "usage give one of filter and query\n"));
 }
 
 #[test]
