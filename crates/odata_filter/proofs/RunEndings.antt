@@ -72,15 +72,15 @@ over_kept None a b c P held kept = held
 over_kept (Some None) a b c P held kept = tt
 over_kept (Some (Some bytes)) a b c P (text, wrote, said) kept = (text, Appends-kept a b c text wrote kept, said)
 
-by_filter : (P Q : OfLines) (plan : Plan) (document : List ℕ) (rows : Option (Option (List ℕ))) (old new : Option (List ℕ)) (filter : Filter) (now : MomentParts)
-    → IsFilterOf plan document filter → IsFirstMoment now → ((lines : List (List ℕ)) (text : List ℕ) → P (JudgesRow filter now) lines text → Q (JudgesRow filter now) lines text)
-    → OverRows rows old new (λ bytes. P (JudgesRow filter now) (lines_of bytes)) → ByFilter Q plan document rows old new
+by_filter : (P : JudgeModel → List ℕ → List ℕ → Type 0) (Q : OfLines) (plan : Plan) (document : List ℕ) (rows : Option (Option (List ℕ))) (old new : Option (List ℕ)) (filter : Filter) (now : MomentParts)
+    → IsFilterOf plan document filter → IsFirstMoment now → ((bytes text : List ℕ) → P (JudgesRow filter now) bytes text → Q (JudgesRow filter now) (lines_of bytes) text)
+    → OverRows rows old new (P (JudgesRow filter now)) → ByFilter Q plan document rows old new
 by_filter P Q plan document rows old new filter now is_filter is_first f held = record {
   filter = filter;
   is_filter = is_filter;
   now = now;
   is_first = is_first;
-  written = over rows old new (λ bytes. P (JudgesRow filter now) (lines_of bytes)) (λ bytes. Q (JudgesRow filter now) (lines_of bytes)) (λ bytes text. f (lines_of bytes) text) held;
+  written = over rows old new (P (JudgesRow filter now)) (λ bytes. Q (JudgesRow filter now) (lines_of bytes)) f held;
 }
 
 pub done_by : (plan : Plan) (document : List ℕ) (rows : Option (Option (List ℕ))) (old new : Option (List ℕ)) (filter : Filter) (now : MomentParts) (answer : Result Tally Failure)
@@ -88,7 +88,7 @@ pub done_by : (plan : Plan) (document : List ℕ) (rows : Option (Option (List �
     → IfOk answer (λ tally. OverRows rows old new (λ bytes text. Filters (JudgesRow filter now) (lines_of bytes) text tally))
     → OnOk answer (ByFilter FiltersAll plan document rows old new)
 done_by plan document rows old new filter now (Ok tally) is_filter is_first held =
-    by_filter (λ judge lines text. Filters judge lines text tally) FiltersAll plan document rows old new filter now is_filter is_first (λ lines text filtered. (tally, filtered)) held
+    by_filter (λ judge bytes text. Filters judge (lines_of bytes) text tally) FiltersAll plan document rows old new filter now is_filter is_first (λ bytes text filtered. (tally, filtered)) held
 done_by plan document rows old new filter now (Err failure) is_filter is_first held = tt
 
 failed : (plan : Plan) (document : List ℕ) (rows : Option (Option (List ℕ))) (old new : Option (List ℕ)) (filter : Filter) (now : MomentParts) (failure : Failure)
@@ -100,19 +100,19 @@ failed plan document rows old new filter now (UnknownType name) is_filter is_fir
 failed plan document rows old new filter now (Refused fault) is_filter is_first held = absurd held
 failed plan document rows old new filter now (RowsFile name) is_filter is_first held = (filter, is_filter)
 failed plan document rows old new filter now (Rows (Json line)) is_filter is_first held =
-    by_filter (λ judge lines text. Stops judge lines text (Json line)) StopsAtFault plan document rows old new filter now is_filter is_first
-    (λ lines text stops. (line, Judged NotJson, (λ sound. sound), stops)) held
+    by_filter (λ judge bytes text. Stops judge bytes text (Json line)) StopsAtFault plan document rows old new filter now is_filter is_first
+    (λ bytes text stops. (line, Judged NotJson, (λ sound. sound), stops)) held
 failed plan document rows old new filter now (Rows (Row line fault)) is_filter is_first held =
-    by_filter (λ judge lines text. Stops judge lines text (Row line fault)) StopsAtFault plan document rows old new filter now is_filter is_first
-    (λ lines text stops. (line, Judged (NoEntity fault), (λ sound. sound), stops)) held
+    by_filter (λ judge bytes text. Stops judge bytes text (Row line fault)) StopsAtFault plan document rows old new filter now is_filter is_first
+    (λ bytes text stops. (line, Judged (NoEntity fault), (λ sound. sound), stops)) held
 failed plan document rows old new filter now (Rows (Arithmetic line fault)) is_filter is_first held =
-    by_filter (λ judge lines text. Stops judge lines text (Arithmetic line fault)) StopsAtFault plan document rows old new filter now is_filter is_first
-    (λ lines text stops. (line, Judged (NoValue fault), (λ sound. sound), stops)) held
+    by_filter (λ judge bytes text. Stops judge bytes text (Arithmetic line fault)) StopsAtFault plan document rows old new filter now is_filter is_first
+    (λ bytes text stops. (line, Judged (NoValue fault), (λ sound. sound), stops)) held
 failed plan document rows old new filter now (Rows (LineTooLong line)) is_filter is_first held =
-    by_filter (λ judge lines text. Stops judge lines text (LineTooLong line)) StopsAtFault plan document rows old new filter now is_filter is_first
-    (λ lines text stops. (line, TooLong, (λ sound. sound), stops)) held
+    by_filter (λ judge bytes text. Stops judge bytes text (LineTooLong line)) StopsAtFault plan document rows old new filter now is_filter is_first
+    (λ bytes text stops. (line, TooLong, (λ sound. sound), stops)) held
 failed plan document rows old new filter now (Rows NotACollection) is_filter is_first held =
-    by_filter (λ judge lines text. Stops judge lines text NotACollection) StopsAtFault plan document rows old new filter now is_filter is_first (λ lines text stops. absurd stops) held
+    by_filter (λ judge bytes text. Stops judge bytes text NotACollection) StopsAtFault plan document rows old new filter now is_filter is_first (λ bytes text stops. absurd stops) held
 failed plan document rows old new filter now (Rows (Read line)) is_filter is_first held = (filter, is_filter)
 failed plan document rows old new filter now (Rows Write) is_filter is_first held = (filter, is_filter)
 failed plan document rows old new filter now (Rows (Memory line)) is_filter is_first held = tt
@@ -134,11 +134,11 @@ pub begins_by : (plan : Plan) (document : List ℕ) (rows : Option (Option (List
     → IfOk answer (λ tally. OverRows rows old new (λ bytes text. Filters (JudgesRow filter now) (lines_of bytes) text tally))
     → IfErr answer (λ failure. StopsOver (JudgesRow filter now) failure rows old new) → Begins plan document rows old new
 begins_by plan document rows old new filter now (Ok tally) is_filter is_first held stopped =
-    inr (by_filter (λ judge lines text. Filters judge lines text tally) StopsWithin plan document rows old new filter now is_filter is_first
-    (λ lines text. within_all (JudgesRow filter now) lines text tally) held)
+    inr (by_filter (λ judge bytes text. Filters judge (lines_of bytes) text tally) StopsWithin plan document rows old new filter now is_filter is_first
+    (λ bytes text. within_all (JudgesRow filter now) (lines_of bytes) text tally) held)
 begins_by plan document rows old new filter now (Err (Rows fault)) is_filter is_first held stopped =
-    inr (by_filter (λ judge lines text. Stops judge lines text fault) StopsWithin plan document rows old new filter now is_filter is_first
-    (λ lines text stops. Stops-within (JudgesRow filter now) lines text [] fault (subst (λ t. Stops (JudgesRow filter now) lines t fault) (sym (append-nil text)) stops)) stopped)
+    inr (by_filter (λ judge bytes text. Stops judge bytes text fault) StopsWithin plan document rows old new filter now is_filter is_first
+    (λ bytes text stops. Stops-within (JudgesRow filter now) bytes text [] fault (subst (λ t. Stops (JudgesRow filter now) bytes t fault) (sym (append-nil text)) stops)) stopped)
 begins_by plan document rows old new filter now (Err (RowsFile name)) is_filter is_first held stopped = inl stopped
 begins_by plan document rows old new filter now (Err (NotYet option)) is_filter is_first held stopped = absurd stopped
 begins_by plan document rows old new filter now (Err NoFilter) is_filter is_first held stopped = absurd stopped

@@ -2,7 +2,6 @@
 use Rattle.std.specs.Prelude.{ℕ, List, Option}
 use Rattle.std.specs.Io.KnownBytes.{Keeps}
 use Rattle.odata_filter.specs.Kept.{Stops}
-use Rattle.odata_filter.specs.Lines.{lines_of}
 use Rattle.odata_filter.specs.Run.{OverRows, Ending, refused, misused, without_type, at_fault, unread, without_memory}
 use Rattle.odata_filter.specs.declared.lines.said.Judgment.{Judgment}
 use Rattle.odata_filter.specs.declared.csdl_schema.fault.SchemaFault.{SchemaFault}
@@ -43,6 +42,6 @@ ending_of (Rows fault) = ending_of_rows fault
 
 -- what a failure over the rows says of them and of what was written
 abbrev pub StopsOver : (List ℕ → Judgment → Type 0) → Failure → Option (Option (List ℕ)) → Option (List ℕ) → Option (List ℕ) → Type 0
-StopsOver judge (Rows fault) rows old new = OverRows rows old new (λ bytes text. Stops judge (lines_of bytes) text fault)
+StopsOver judge (Rows fault) rows old new = OverRows rows old new (λ bytes text. Stops judge bytes text fault)
 StopsOver judge (RowsFile name) rows old new = Keeps old new
 StopsOver judge other rows old new = ⊥

@@ -47,7 +47,7 @@ pub fn filter_slice(
     out: &mut Vec<u8>,
 ) -> Result<Tally, RunFault>
     ensures filters { IfOk result (λ tally. Grows out.old.items out.new.items (λ text. Filters (JudgesRow checked.now now.now) (lines_of rows.now) text tally)) }
-    ensures stops { IfErr result (λ fault. Grows out.old.items out.new.items (λ text. Stops (JudgesRow checked.now now.now) (lines_of rows.now) text fault)) }
+    ensures stops { IfErr result (λ fault. Grows out.old.items out.new.items (λ text. Stops (JudgesRow checked.now now.now) rows.now text fault)) }
 {
     filter_lines(alloc, checked, now, rows, out)
 }
