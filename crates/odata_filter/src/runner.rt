@@ -1,7 +1,7 @@
 ghost use Rattle.std.specs.Prelude.{◌≡◌, ◌<◌, false, ℕ, Some, length, option_map, MatchOption, IfOk, IfErr, OnOk, OnErr, IsNone, IsSomeAnd};
 ghost use Rattle.odata_filter.specs.FilterPlan.{IsFilterPlan};
 ghost use Rattle.odata_filter.specs.Judges.{JudgesRow};
-ghost use Rattle.odata_filter.specs.Kept.{Filters, Stops};
+ghost use Rattle.odata_filter.specs.Kept.{Filters};
 ghost use Rattle.odata_filter.specs.Lines.{lines_of};
 ghost use Rattle.odata_filter.specs.Run.{Answers, Begins, Ends, IsFirstMoment, OverRows, done, misused, without_type};
 ghost use Rattle.odata_filter.specs.Failures.{StopsOver, ending_of};
