@@ -3,9 +3,9 @@ ghost use Rattle.odata_syntax.specs.TreeView.{tree_of};
 ghost use Rattle.odata_syntax.specs.Machine.{waiting_level, joined_to, IsHeld, reduce as machine_reduce};
 ghost use Rattle.odata_syntax.specs.MachineView.{waiting_of, stack_of, reduced_of};
 
+use crate::Node;
 use crate::parser::operator::level_of;
 use crate::parser::state::Frame;
-use crate::Node;
 use odata_text::Span;
 use std::alloc::{AllocError, Global};
 
