@@ -1,5 +1,6 @@
 pub mod ByteClasses
 pub mod Examples
+pub mod Identifiers
 pub mod LongestPieces
 pub mod OneReading
 pub mod Places

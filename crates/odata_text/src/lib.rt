@@ -3,6 +3,7 @@
 
 mod byte_class;
 mod fault;
+mod identifier;
 mod laws;
 mod lengths;
 mod longest;
@@ -12,6 +13,7 @@ mod span;
 mod token;
 
 pub use fault::TextFault;
+pub use identifier::is_identifier;
 pub use laws::{one_reading, plain_reading, run_on_reading};
 pub use scan::tokens;
 pub use span::Span;
