@@ -4,6 +4,8 @@ pub mod Identifiers
 pub mod LongestPieces
 pub mod OneReading
 pub mod Places
+pub mod Queries
+pub mod QueryLoops
 pub mod Quotes
 pub mod Reaches
 pub mod Scans
