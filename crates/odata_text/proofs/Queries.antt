@@ -1,5 +1,5 @@
 -- What the definition of a query's filter and faults says of itself.
-use Rattle.std.proofs.Common.{◌≡◌, inl, inr, ◌⊎◌, ⊎_elim, ℕ, suc, zero, ◌+◌, ◌<◌, ◌≤◌, true, cond, List, [], ◌∷◌, length, take, get_or, Option, Some, None, arith, refl, sym, ◌∙◌, ap, subst, IsUtf8}
+use Rattle.std.proofs.Common.{◌≡◌, inl, inr, ◌⊎◌, ⊎_elim, ℕ, suc, zero, ◌+◌, ◌<◌, ◌≤◌, Bool, true, cond, List, [], ◌∷◌, length, take, get_or, Option, Some, None, arith, refl, sym, ◌∙◌, ap, subst, IsUtf8}
 use Rattle.std.specs.List.{count_by}
 use Rattle.std.proofs.lemmas.Bool.{both_ways, cases_order, cond-true}
 use Rattle.std.proofs.lemmas.List.{get_or-take, length-take-le, get_or_default}
@@ -21,15 +21,15 @@ take-take (suc n) (suc m) (x ∷ xs) order = ap (λ ys. x ∷ ys) (take-take n m
 -- one that passes is counted
 pub counted : {X : Type 0} (p : X → Bool) (xs : List X) (i : ℕ) (d : X) → i < length xs → p (get_or xs i d) ≡ true → 0 < count_by p xs
 counted p xs i d inside passes =
-    let least = get_or-le-sum_by (λ x. cond (p x) 1 0) xs i d inside in
-    let one = cond-true (p (get_or xs i d)) 1 0 passes in
+    let least : cond {A = ℕ} (p (get_or xs i d)) 1 0 ≤ count_by p xs = get_or-le-sum_by (λ x. cond (p x) 1 0) xs i d inside in
+    let one : cond {A = ℕ} (p (get_or xs i d)) 1 0 ≡ 1 = cond-true (p (get_or xs i d)) 1 0 passes in
     omega arith
 
 -- where at most one passes, none passes before one that does
 pub alone : {X : Type 0} (p : X → Bool) (xs : List X) (j : ℕ) (d : X) → count_by p xs ≤ 1 → j < length xs → p (get_or xs j d) ≡ true → count_by p (take j xs) ≡ 0
 alone p xs j d few inside passes =
-    let sum = sum_by_more_le (λ x. cond (p x) 1 0) xs j d inside in
-    let one = cond-true (p (get_or xs j d)) 1 0 passes in
+    let sum : count_by p (take j xs) + cond {A = ℕ} (p (get_or xs j d)) 1 0 ≤ count_by p xs = sum_by_more_le (λ x. cond (p x) 1 0) xs j d inside in
+    let one : cond {A = ℕ} (p (get_or xs j d)) 1 0 ≡ 1 = cond-true (p (get_or xs j d)) 1 0 passes in
     omega arith
 
 none-before : {X : Type 0} (p : X → Bool) (xs : List X) (i j : ℕ) (d : X) → count_by p xs ≤ 1 → i < j → j < length xs → p (get_or xs i d) ≡ true → p (get_or xs j d) ≡ true → ⊥
@@ -43,7 +43,7 @@ none-before p xs i j d few order inside passes_i passes_j =
 
 unsound : (part : List ℕ) (number start : ℕ) (fault : QueryFault) → IsSound part → IsPartFault part number start fault → ⊥
 unsound part number start (BadEscape place) sound fault = both_ways _ (sound.escapes fault.within) fault.bad
-unsound part number start (NotUtf8 option) sound fault = let no = fault.1 in no.not_utf8 sound.utf8
+unsound part number start (NotUtf8 option) sound fault = let none = fault.1 in none.not_utf8 sound.utf8
 unsound part number start (Repeated option) sound fault = fault
 unsound part number start (OtherOption option) sound fault = fault
 unsound part number start Memory sound fault = fault
@@ -54,7 +54,7 @@ same-within part start place other f g (inr (inl earlier)) = absurd (both_ways _
 same-within part start place other f g (inr (inr later)) = absurd (both_ways _ (f.first g.within later) g.bad)
 
 escaped-text : (part : List ℕ) (start place : ℕ) → IsFirstBadEscape part start place → IsNoText part → ⊥
-escaped-text part start place bad no = both_ways _ (no.escapes bad.within) bad.bad
+escaped-text part start place bad none = both_ways _ (none.escapes bad.within) bad.bad
 
 part-fault-same : (part : List ℕ) (number start : ℕ) (f g : QueryFault) → IsPartFault part number start f → IsPartFault part number start g → f ≡ g
 part-fault-same part number start (BadEscape place) (BadEscape other) f g =
@@ -79,11 +79,11 @@ filter-not_other name filter other =
 
 name-fault-same : (name : List ℕ) (number filters : ℕ) (f g : QueryFault) → IsNameFault name number filters f → IsNameFault name number filters g → f ≡ g
 name-fault-same name number filters (Repeated option) (Repeated other) f g = ap Repeated (f.0 ∙ sym g.0)
-name-fault-same name number filters (Repeated option) (OtherOption other) f g = absurd (filter-not_other name f.1.0 g.1)
+name-fault-same name number filters (Repeated option) (OtherOption other) f g = absurd (filter-not_other name f.1 g.1)
 name-fault-same name number filters (Repeated option) (BadEscape place) f g = absurd g
 name-fault-same name number filters (Repeated option) (NotUtf8 other) f g = absurd g
 name-fault-same name number filters (Repeated option) Memory f g = absurd g
-name-fault-same name number filters (OtherOption option) (Repeated other) f g = absurd (filter-not_other name g.1.0 f.1)
+name-fault-same name number filters (OtherOption option) (Repeated other) f g = absurd (filter-not_other name g.1 f.1)
 name-fault-same name number filters (OtherOption option) (OtherOption other) f g = ap OtherOption (f.0 ∙ sym g.0)
 name-fault-same name number filters (OtherOption option) (BadEscape place) f g = absurd g
 name-fault-same name number filters (OtherOption option) (NotUtf8 other) f g = absurd g
@@ -98,14 +98,14 @@ option-fault-same option number start filters f g (inl a) (inr (inl b)) = absurd
 option-fault-same option number start filters f g (inl a) (inr (inr b)) = absurd (unsound (name_of option) number start f b.0 a)
 option-fault-same option number start filters f g (inr (inl a)) (inl b) = absurd (unsound (name_of option) number start g a.0 b)
 option-fault-same option number start filters f g (inr (inl a)) (inr (inl b)) = part-fault-same (value_of option) number (start + length (name_of option) + 1) f g a.1 b.1
-option-fault-same option number start filters f g (inr (inl a)) (inr (inr b)) = absurd (unsound (value_of option) number (start + length (name_of option) + 1) f b.1.0 a.1)
+option-fault-same option number start filters f g (inr (inl a)) (inr (inr b)) = absurd (unsound (value_of option) number (start + length (name_of option) + 1) f b.1 a.1)
 option-fault-same option number start filters f g (inr (inr a)) (inl b) = absurd (unsound (name_of option) number start g a.0 b)
-option-fault-same option number start filters f g (inr (inr a)) (inr (inl b)) = absurd (unsound (value_of option) number (start + length (name_of option) + 1) g a.1.0 b.1)
-option-fault-same option number start filters f g (inr (inr a)) (inr (inr b)) = name-fault-same (decoded_name option) number filters f g a.1.1 b.1.1
+option-fault-same option number start filters f g (inr (inr a)) (inr (inl b)) = absurd (unsound (value_of option) number (start + length (name_of option) + 1) g a.1 b.1)
+option-fault-same option number start filters f g (inr (inr a)) (inr (inr b)) = name-fault-same (decoded_name option) number filters f g a.2 b.2
 
 -- a readable option has no fault, unless it is a second filter
 name-fault-read : (option : List ℕ) (number filters : ℕ) (fault : QueryFault) → IsReadable option → IsNameFault (decoded_name option) number filters fault → (is_filter option ≡ true) × (0 < filters)
-name-fault-read option number filters (Repeated other) read fault = fault.1
+name-fault-read option number filters (Repeated other) read fault = (fault.1, fault.2)
 name-fault-read option number filters (OtherOption other) read fault = absurd (both_ways _ read.known fault.1)
 name-fault-read option number filters (BadEscape place) read fault = absurd fault
 name-fault-read option number filters (NotUtf8 other) read fault = absurd fault
@@ -114,7 +114,7 @@ name-fault-read option number filters Memory read fault = absurd fault
 option-fault-read : (option : List ℕ) (number start filters : ℕ) (fault : QueryFault) → IsReadable option → IsOptionFault option number start filters fault → (is_filter option ≡ true) × (0 < filters)
 option-fault-read option number start filters fault read (inl a) = absurd (unsound (name_of option) number start fault read.name a)
 option-fault-read option number start filters fault read (inr (inl a)) = absurd (unsound (value_of option) number (start + length (name_of option) + 1) fault read.value a.1)
-option-fault-read option number start filters fault read (inr (inr a)) = name-fault-read option number filters fault read a.1.1
+option-fault-read option number start filters fault read (inr (inr a)) = name-fault-read option number filters fault read a.2
 
 -- Options.
 
@@ -134,21 +134,21 @@ faultless-read options n m start fault order inside faultless faulty =
 pub no_fault : (query : List ℕ) (filter : Option (List ℕ)) → IsFilterOf query filter → (fault : QueryFault) → IsQueryFault query fault → ⊥
 no_fault query filter asked fault faulty =
     let options = options_of query in
-    faultless-read options faulty.number (length options) (option_start options faulty.number) fault faulty.within (omega arith) (subst AreFaultless (sym (take-length options)) asked.faultless) faulty.fault
+    faultless-read options faulty.number (length options) (option_start options faulty.number) fault faulty.within (omega arith) (subst AreFaultless (sym (take-length options)) asked.faultless) faulty.at
 
 same-number : (query : List ℕ) (f g : QueryFault) → (a : IsQueryFault query f) → (b : IsQueryFault query g) → (a.number ≡ b.number) ⊎ ((a.number < b.number) ⊎ (b.number < a.number)) → f ≡ g
 same-number query f g a b (inl same) =
     let options = options_of query in
-    let fault = subst (λ (n : ℕ). IsOptionFault (get_or options n []) n (option_start options n) (count_by is_filter (take n options)) f) same a.fault in
-    option-fault-same (get_or options b.number []) b.number (option_start options b.number) (count_by is_filter (take b.number options)) f g fault b.fault
+    let fault = subst (λ (n : ℕ). IsOptionFault (get_or options n []) n (option_start options n) (count_by is_filter (take n options)) f) same a.at in
+    option-fault-same (get_or options b.number []) b.number (option_start options b.number) (count_by is_filter (take b.number options)) f g fault b.at
 same-number query f g a b (inr (inl earlier)) =
     let options = options_of query in
     let within : b.number < length options = b.within in
-    absurd (faultless-read options a.number b.number (option_start options a.number) f earlier (omega arith) b.before a.fault)
+    absurd (faultless-read options a.number b.number (option_start options a.number) f earlier (omega arith) b.before a.at)
 same-number query f g a b (inr (inr later)) =
     let options = options_of query in
     let within : a.number < length options = a.within in
-    absurd (faultless-read options b.number a.number (option_start options b.number) g later (omega arith) a.before b.fault)
+    absurd (faultless-read options b.number a.number (option_start options b.number) g later (omega arith) a.before b.at)
 
 pub one_fault : (query : List ℕ) (f g : QueryFault) → IsQueryFault query f → IsQueryFault query g → f ≡ g
 one_fault query f g a b = same-number query f g a b (cases_order a.number b.number)
@@ -160,7 +160,7 @@ abbrev IsTextOf : List ℕ → List ℕ → Type 0
 IsTextOf text option = (is_filter option ≡ true) × (percent_decode (value_of option) ≡ text)
 
 pub filter-counted : (options : List (List ℕ)) (text : List ℕ) → HasFilter options (Some text) → 0 < count_by is_filter options
-filter-counted options text (k, (option, (inside, (is, says)))) = counted is_filter options k option inside (ap is_filter is ∙ says.0)
+filter-counted options text (k, option, inside, is, says) = counted is_filter options k option inside (ap is_filter is ∙ says.0)
 
 same-text : (options : List (List ℕ)) (i j : ℕ) (a b : List ℕ) (one other : List ℕ) → count_by is_filter options ≤ 1 → i < length options → j < length options → get_or options i a ≡ a → get_or options j b ≡ b → IsTextOf one a → IsTextOf other b → (i ≡ j) ⊎ ((i < j) ⊎ (j < i)) → one ≡ other
 same-text options i j a b one other few inside_i inside_j is_a is_b says_a says_b (inl same) =
@@ -175,8 +175,8 @@ same-filter : (options : List (List ℕ)) (f g : Option (List ℕ)) → count_by
 same-filter options None None few a b = refl
 same-filter options None (Some text) few a b = let some = filter-counted options text b in let none : count_by is_filter options ≡ 0 = a in absurd (omega arith)
 same-filter options (Some text) None few a b = let some = filter-counted options text a in let none : count_by is_filter options ≡ 0 = b in absurd (omega arith)
-same-filter options (Some text) (Some other) few (i, (a, (inside_i, (is_a, says_a)))) (j, (b, (inside_j, (is_b, says_b)))) =
+same-filter options (Some text) (Some other) few (i, a, inside_i, is_a, says_a) (j, b, inside_j, is_b, says_b) =
     ap Some (same-text options i j a b text other few inside_i inside_j is_a is_b says_a says_b (cases_order i j))
 
 pub one_filter : (query : List ℕ) (f g : Option (List ℕ)) → IsFilterOf query f → IsFilterOf query g → f ≡ g
-one_filter query f g a b = same-filter (options_of query) f g a.faultless.single a.filter b.filter
+one_filter query f g a b = same-filter (options_of query) f g a.faultless.single a.has b.has

@@ -37,17 +37,19 @@ pub record IsSound (part : List ℕ) : Type 0 where
   pub escapes : (place : ℕ) → is_bad_escape part place ≡ false
   pub utf8 : IsUtf8 (percent_decode part)
 
--- what is wrong with a name or a value of the option with this number, which begins at this byte of the query
+-- the first bad escape of a part, by its place in the query; the part begins at start
 pub record IsFirstBadEscape (part : List ℕ) (start place : ℕ) : Type 0 where
   pub within : ℕ
   pub bad : is_bad_escape part within ≡ true
   pub first : (earlier : ℕ) → earlier < within → is_bad_escape part earlier ≡ false
   pub global : place ≡ start + within
 
+-- a part whose escapes are whole and decode to no UTF-8
 pub record IsNoText (part : List ℕ) : Type 0 where
   pub escapes : (place : ℕ) → is_bad_escape part place ≡ false
   pub not_utf8 : IsUtf8 (percent_decode part) → ⊥
 
+-- what is wrong with the name or the value of the option with this number
 abbrev pub IsPartFault : List ℕ → ℕ → ℕ → QueryFault → Type 0
 IsPartFault part number start (BadEscape place) = IsFirstBadEscape part start place
 IsPartFault part number start (NotUtf8 option) = (option ≡ number) × IsNoText part
@@ -106,7 +108,7 @@ HasFilter options (Some text) =
 -- what a query without a fault asks for
 pub record IsFilterOf (query : List ℕ) (filter : Option (List ℕ)) : Type 0 where
   pub faultless : AreFaultless (options_of query)
-  pub filter : HasFilter (options_of query) filter
+  pub has : HasFilter (options_of query) filter
 
 -- Faults.
 
@@ -129,4 +131,4 @@ pub record IsQueryFault (query : List ℕ) (fault : QueryFault) : Type 0 where
   pub number : ℕ
   pub within : number < length (options_of query)
   pub before : AreFaultless (take number (options_of query))
-  pub fault : IsOptionFault (slice_index_or (options_of query) number []) number (option_start (options_of query) number) (count_by is_filter (take number (options_of query))) fault
+  pub at : IsOptionFault (slice_index_or (options_of query) number []) number (option_start (options_of query) number) (count_by is_filter (take number (options_of query))) fault

@@ -2,7 +2,7 @@ ghost use Rattle.std.specs.Prelude.{◌≡◌, ◌≢◌, ℕ, ◌+◌, ◌<◌,
 ghost use Rattle.std.specs.Cow.{cow_str_bytes};
 ghost use Rattle.std.specs.List.{position_or_len};
 ghost use Rattle.odata_text.specs.Query.{IsFilterOf, IsOptionFault, IsQueryFault, IsReadable, name_of, value_of};
-ghost use Rattle.odata_text.specs.QueryParts.{Says};
+ghost use Rattle.odata_text.specs.QueryParts.{AreTwo, Joins, Says};
 
 use super::query_fault::QueryFault;
 use super::query_name::{is_filter_name, is_other_name};
@@ -77,6 +77,25 @@ fn filter_of_option(
     }
 }
 
+/// The filter behind one more option, which may be the filter too.
+fn with_found(
+    filter: Option<String>,
+    found: Option<String>,
+    number: usize,
+) -> Result<Option<String>, QueryFault>
+    ensures ok { IfOk result (λ kept. Joins (option_map string_bytes filter)
+        (option_map string_bytes found) (option_map string_bytes kept)) }
+    ensures fault { IfErr result (λ fault. (fault ≡ QueryFault.Repeated number)
+        × AreTwo (option_map string_bytes filter) (option_map string_bytes found)) }
+{
+    match (filter, found) {
+        (Some(_), Some(_)) => Err(QueryFault::Repeated { option: number }),
+        (Some(text), None) => Ok(Some(text)),
+        (None, Some(text)) => Ok(Some(text)),
+        (None, None) => Ok(None),
+    }
+}
+
 /// The text of the filter that a query string asks for, decoded; `None` where it asks for none.
 ///
 /// The options are the pieces between `&`; the filter is the one named `filter` or `$filter` in any ASCII case. Custom
@@ -94,16 +113,14 @@ pub fn filter_of_query(alloc: Global, query: &[u8]) -> Result<Option<String>, Qu
     let mut number = 0;
     let mut start = 0;
     for option in query.split(|byte| *byte == b'&') {
-        match filter_of_option(alloc, option, number, start) {
-            Ok(Some(text)) => {
-                if filter.is_some() {
-                    return Err(QueryFault::Repeated { option: number });
-                }
-                filter = Some(text);
-            }
-            Ok(None) => {}
+        let found = match filter_of_option(alloc, option, number, start) {
+            Ok(found) => found,
             Err(fault) => return Err(fault),
-        }
+        };
+        filter = match with_found(filter, found, number) {
+            Ok(kept) => kept,
+            Err(fault) => return Err(fault),
+        };
         number += 1;
         start += option.len() + 1;
     }

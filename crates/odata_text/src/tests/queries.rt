@@ -73,7 +73,10 @@ fn escapes_and_texts(rt: HostRuntime) -> Result<(), Fail> {
 #[test]
 fn other_options(rt: HostRuntime) -> Result<(), Fail> {
     let rows = [
-        ("$top=5&$filter=Active", QueryFault::OtherOption { option: 0 }),
+        (
+            "$top=5&$filter=Active",
+            QueryFault::OtherOption { option: 0 },
+        ),
         ("a=1&Skip=1", QueryFault::OtherOption { option: 1 }),
         ("&&$top", QueryFault::OtherOption { option: 2 }),
         ("$", QueryFault::OtherOption { option: 0 }),
@@ -83,11 +86,20 @@ fn other_options(rt: HostRuntime) -> Result<(), Fail> {
         ("$deltatoken=1", QueryFault::OtherOption { option: 0 }),
         ("$filters=1", QueryFault::OtherOption { option: 0 }),
         ("$top=%zz", QueryFault::BadEscape { place: 5 }),
-        ("$filter=Active&$FILTER=Active", QueryFault::Repeated { option: 1 }),
+        (
+            "$filter=Active&$FILTER=Active",
+            QueryFault::Repeated { option: 1 },
+        ),
         ("filter=a&&Filter=b", QueryFault::Repeated { option: 2 }),
         ("filter=a&filter=%FF", QueryFault::NotUtf8 { option: 1 }),
-        ("filter=a&$top=1&filter=b", QueryFault::OtherOption { option: 1 }),
-        ("filter=a&filter=b&$top=1", QueryFault::Repeated { option: 1 }),
+        (
+            "filter=a&$top=1&filter=b",
+            QueryFault::OtherOption { option: 1 },
+        ),
+        (
+            "filter=a&filter=b&$top=1",
+            QueryFault::Repeated { option: 1 },
+        ),
     ];
     for (query, fault) in rows {
         assert!(rt; fault_of(rt.alloc(), query) == Some(fault));
@@ -126,7 +138,9 @@ fn names_in_three_cases(rt: HostRuntime) -> Result<(), Fail> {
             assert!(rt; asks(rt.alloc(), name, None));
         }
     }
-    for name in ["filter", "FILTER", "Filter", "$filter", "$FILTER", "$fILTER"] {
+    for name in [
+        "filter", "FILTER", "Filter", "$filter", "$FILTER", "$fILTER",
+    ] {
         assert!(rt; asks(rt.alloc(), name, Some("")));
     }
     Ok(())
