@@ -1,12 +1,15 @@
 -- What the functions that read a query's options rest on.
 use Rattle.std.proofs.Common.{◌≡◌, inl, inr, ⊎_elim, ℕ, ◌+◌, ◌<◌, ◌≤◌, ◌==◌, true, false, not, List, [], ◌∷◌, ◌++◌, length, take, get_or, Option, Some, None, All, Any, arith, refl, sym, ◌∙◌, ap, subst}
+use Rattle.std.specs.Iterator.{Yields}
 use Rattle.std.specs.List.{count_by, onto_first, position_or_len, slice_split, sum_by}
 use Rattle.std.proofs.lemmas.Bool.{both_ways, and_left, cases_lt, cases_Bool}
+use Rattle.std.proofs.lemmas.Iterator.{YieldsList}
+use Rattle.std.proofs.lemmas.Iterator.Consumers.{YieldsList-end, YieldsList-turn}
 use Rattle.std.proofs.lemmas.List.{get_or_default, get_or_past, get_or-take, length-drop, length-take-le, take_more}
 use Rattle.std.proofs.lemmas.List.Elements.{All-push}
 use Rattle.std.proofs.lemmas.List.Quantifiers.{Any-push}
 use Rattle.std.proofs.lemmas.List.Splits.{length-slice_split, slice_split-cons_yes, slice_split-cons_no}
-use Rattle.std.proofs.lemmas.List.Sums.{count_by-le-length, count_by_more_yes, count_by_more_no, prefix_len-le-length, sum_by-cons, sum_by_more, sum_by_more_le}
+use Rattle.std.proofs.lemmas.List.Sums.{count_by_more_yes, count_by_more_no, prefix_len-le-length, sum_by-cons, sum_by_more, sum_by_more_le}
 use Rattle.std.proofs.Math.Seq.{take-length}
 use Rattle.percent_encoding.specs.Percent.{percent_decode}
 use Rattle.odata_text.specs.Query.{AreFaultless, HasFilter, IsFilterOf, IsOptionFault, IsQueryFault, IsReadable, is_bad_escape, is_filter, name_of, option_start, options_of, value_of}
@@ -95,20 +98,23 @@ pub record IsNext (query : List ℕ) (number : ℕ) (option : List ℕ) : Type 0
   pub within : number < length (options_of query)
   pub at : get_or (options_of query) number [] ≡ option
 
-pub next-option : (query option : List ℕ) (number k : ℕ) → number ≡ k → k < length (options_of query) → option ≡ get_or (options_of query) k option → IsNext query number option
+next-option : (query option : List ℕ) (number k : ℕ) → number ≡ k → k < length (options_of query) → option ≡ get_or (options_of query) k option → IsNext query number option
 next-option query option number k same inside at =
     record {
       within = omega arith;
       at = ap (λ (n : ℕ). get_or (options_of query) n []) same ∙ get_or_default (options_of query) k [] option inside ∙ sym at;
     }
 
--- there are no more options than bytes and one
-pub number-room : (query option : List ℕ) (number : ℕ) → IsNext query number option → number ≤ length query
-number-room query option number next =
-    let all = length-slice_split (λ b. b == 38) query in
-    let few = count_by-le-length (λ b. b == 38) query in
-    let within = next.within in
-    omega arith
+-- what an iterator over the options gives after xs: the next of them, or the end
+pub next-given : {S A : Type 0} {steps : S → Option A → S → Type 0} {s : S} (query : List ℕ) (number : ℕ) (xs : List A) (v : A → List ℕ) (t : S) → Yields steps s xs t → number ≡ length xs → (r : Option A) (u : S) (x : A) → r ≡ Some x → steps t r u → YieldsList steps v s (options_of query) → IsNext query number (v x)
+next-given query number xs v t given same r u x is step road =
+    let turn = YieldsList-turn road xs t given r u x is step in
+    next-option query (v x) number (length xs) same turn.0 turn.1
+
+pub all-given : {S A : Type 0} {steps : S → Option A → S → Type 0} {s : S} (query : List ℕ) (number : ℕ) (xs : List A) (v : A → List ℕ) (t : S) → Yields steps s xs t → number ≡ length xs → (r : Option A) (u : S) → r ≡ None → steps t r u → YieldsList steps v s (options_of query) → number ≡ length (options_of query)
+all-given query number xs v t given same r u is step road =
+    let end = YieldsList-end road xs t given r u is step in
+    same ∙ end.1
 
 pub read-room : (query option : List ℕ) (number start : ℕ) (filter : Option (List ℕ)) → IsReadSoFar query number start filter → IsNext query number option → start + length option ≤ length query
 read-room query option number start filter so_far next =
