@@ -1,5 +1,5 @@
 -- What the functions that measure identifiers rest on.
-use Rattle.std.proofs.Common.{◌≡◌, inl, inr, ⊎_elim, ℕ, ◌+◌, ◌<◌, ◌≤◌, ◌==◌, Bool, true, false, cond, List, [], ◌∷◌, ◌++◌, length, take, drop, get_or, map, arith, refl, sym, ◌∙◌, ap, subst, append-nil, append_assoc, map-id, take-append-drop, IsUtf8, IsCharBoundary, chars}
+use Rattle.std.proofs.Common.{◌≡◌, ⊎_elim, ℕ, ◌+◌, ◌<◌, ◌≤◌, ◌==◌, true, false, List, [], ◌∷◌, ◌++◌, length, take, drop, get_or, map, arith, refl, sym, ◌∙◌, ap, subst, append-nil, map-id, take-append-drop, IsUtf8, IsCharBoundary, chars}
 use Rattle.std.specs.List.{list_all, take_while}
 use Rattle.std.specs.Char.{len_utf8}
 use Rattle.std.specs.Str.{encode_utf8_all, all_scalars}
@@ -9,7 +9,7 @@ use Rattle.std.proofs.Math.Seq.{take-append_seam, take-length}
 use Rattle.std.proofs.lemmas.List.Folds.{list_all-append}
 use Rattle.std.proofs.lemmas.List.Sums.{take_while-cons}
 use Rattle.std.proofs.Math.Utf8.{scalar, encode}
-use Rattle.std.proofs.lemmas.Str.{chars-nil, chars-append, chars-encodes, encodes-append, encodes-chars, scalars-chars, length-encode, IsUtf8-drop, IsUtf8-take, IsCharBoundary-at_seam, IsCharBoundary-from_take, IsCharBoundary-start}
+use Rattle.std.proofs.lemmas.Str.{chars-nil, chars-append, chars-encodes, encodes-append, encodes-chars, scalars-chars, length-encode, IsCharBoundary-at_seam, IsCharBoundary-from_take}
 use Rattle.odata_text.specs.Identifier.{IsIdentifier, begins_identifier, continues_identifier, identifier_run, is_identifier}
 use Rattle.odata_text.specs.Lengths.{IsReach}
 

@@ -1,5 +1,5 @@
 -- What the functions that read a query's options rest on.
-use Rattle.std.proofs.Common.{◌≡◌, inl, inr, ⊎_elim, ℕ, ◌+◌, ◌<◌, ◌≤◌, ◌==◌, true, false, not, List, [], ◌∷◌, ◌++◌, length, take, get_or, Option, Some, None, All, Any, arith, refl, sym, ◌∙◌, ap, subst}
+use Rattle.std.proofs.Common.{◌≡◌, inr, ⊎_elim, ℕ, ◌+◌, ◌<◌, ◌≤◌, ◌==◌, true, false, not, List, [], ◌∷◌, length, take, get_or, Option, Some, None, All, arith, refl, sym, ◌∙◌, ap, subst}
 use Rattle.std.specs.Iterator.{Yields}
 use Rattle.std.specs.List.{count_by, onto_first, position_or_len, slice_split, sum_by}
 use Rattle.std.proofs.lemmas.Bool.{both_ways, and_left, cases_lt, cases_Bool}

@@ -4,7 +4,7 @@ use Rattle.std.specs.List.{after_first, before_first, count_by, list_any, slice_
 use Rattle.std.specs.Str.{str_eq_ignore_ascii_case}
 use Rattle.percent_encoding.specs.Percent.{is_escape, percent_decode, percent_sign}
 use Rattle.odata_text.specs.declared.query_fault.QueryFault.{QueryFault}
-use Rattle.odata_text.specs.declared.query_fault.QueryFault.TheVariants.{BadEscape, NotUtf8, Repeated, OtherOption, Memory}
+use Rattle.odata_text.specs.declared.query_fault.QueryFault.TheVariants.{BadEscape, NotUtf8, Repeated, OtherOption}
 
 -- Options.
 

@@ -1,8 +1,7 @@
-use Rattle.std.proofs.Common.{◌≡◌, true, false, length, arith, sym, ◌∙◌, ap, subst, map-id}
+use Rattle.std.proofs.Common.{arith, sym, ◌∙◌, map-id}
 use Rattle.std.proofs.lemmas.Iterator.{YieldsList-from_chars}
 use Rattle.std.proofs.lemmas.Iterator.Consumers.{YieldsList-end, YieldsList-so_far, YieldsList-turn}
-use Rattle.odata_text.specs.Identifier.{continues_identifier}
-use Rattle.odata_text.proofs.Identifiers.{IsNextIn, IsRunSoFar, next-in, run-boundary, run-room, run-more, run-stops, run-whole, run-end}
+use Rattle.odata_text.proofs.Identifiers.{next-in, run-boundary, run-room, run-more, run-stops, run-whole, run-end}
 use Rattle.odata_text.proofs.identifier.identifier_run.Goals as goal
 
 pub returns-then-not-continues_identifier-clause-value :
@@ -28,7 +27,7 @@ overflow_add-length c =
     let next = next-in c.args.rest.now c.loop-character.yielded c.in-Some.character (YieldsList-so_far road c.loop-character.yielded c.loop-character.character-iterator c.loop-character.yielded_by) turn.0 turn.1 in
     let room = run-room c.args.rest.now c.loop-character.yielded c.loop-character.length c.in-Some.character c.utf8.rest c.loop-character.invariant next in
     let one = c.len_utf8-length.ensures.value in
-    omega (arith, c.type_inv.rest)
+    omega arith
 
 pub loop-character-preserved : goal.loop-character-preserved
 loop-character-preserved c =

@@ -1,4 +1,4 @@
-use Rattle.std.proofs.Common.{◌≡◌, sym, ◌∙◌}
+use Rattle.std.proofs.Common.{sym, ◌∙◌}
 use Rattle.odata_text.proofs.QueryLoops.{good-more}
 use Rattle.odata_text.proofs.query_part.bad_escape.Goals as goal
 
