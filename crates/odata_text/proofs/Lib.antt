@@ -1,8 +1,11 @@
 pub mod ByteClasses
 pub mod Examples
+pub mod Identifiers
 pub mod LongestPieces
 pub mod OneReading
 pub mod Places
+pub mod Queries
+pub mod QueryLoops
 pub mod Quotes
 pub mod Reaches
 pub mod Scans

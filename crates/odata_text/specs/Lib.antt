@@ -1,8 +1,11 @@
 pub use Rattle.edm_values.specs.IntLiteral
 pub use Rattle.edm_values.specs.StringLiteral
 pub mod ByteClass
+pub mod Identifier
 pub mod Lengths
 pub mod Piece
+pub mod Query
+pub mod QueryParts
 pub mod Spelling
 pub mod TokenExamples
 pub mod Tokens

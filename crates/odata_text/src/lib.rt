@@ -3,16 +3,26 @@
 
 mod byte_class;
 mod fault;
+mod identifier;
 mod laws;
 mod lengths;
 mod longest;
+mod query;
+mod query_fault;
+mod query_laws;
+mod query_name;
+mod query_part;
 mod quoted;
 mod scan;
 mod span;
 mod token;
 
 pub use fault::TextFault;
+pub use identifier::is_identifier;
 pub use laws::{one_reading, plain_reading, run_on_reading};
+pub use query::filter_of_query;
+pub use query_fault::QueryFault;
+pub use query_laws::one_query_reading;
 pub use scan::tokens;
 pub use span::Span;
 pub use token::{Token, TokenKind};
