@@ -17,6 +17,7 @@ mod FilterLemmas
 mod LineLemmas
 mod RunEndings
 mod RunLemmas
+mod PlanLemmas
 mod WriteLemmas
 pub mod SchemaReading
 pub mod RowJudges

@@ -8,6 +8,8 @@ pub mod Kept
 pub mod Passing
 pub mod Writes
 pub mod FilterPlan
+pub mod CommandLine
+pub mod PlanSteps
 pub use Rattle.edm_values.specs.IntLiteral
 pub use Rattle.edm_values.specs.MomentParts
 pub use Rattle.edm_values.specs.PlainVal
