@@ -20,6 +20,7 @@ pub use Rattle.odata_text.specs.Tokens
 pub use Rattle.odata_syntax.specs.Parse
 pub use Rattle.odata_syntax.specs.Tree
 pub use Rattle.odata_syntax.specs.TreeView
+pub use Rattle.clap.specs.Words as ClapWords
 pub use Rattle.serde_json.specs.Data as JsonData
 pub use Rattle.serde_json.specs.Find as JsonFind
 pub use Rattle.serde_json.specs.Read as JsonRead

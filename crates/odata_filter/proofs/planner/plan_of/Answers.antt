@@ -1,4 +1,4 @@
-use Rattle.std.proofs.Common.{rules, ◌≡◌, refl, codes}
+use Rattle.std.proofs.Common.{rules, refl, codes}
 use Rattle.clap.specs.Words.{found_of}
 use Rattle.odata_filter.proofs.PlanLemmas.{text_given, text_lacks, text_or_empty}
 use Rattle.odata_filter.proofs.planner.plan_of.Goals as goal
