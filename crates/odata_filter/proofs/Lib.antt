@@ -23,4 +23,4 @@ pub mod SchemaReading
 pub mod RowJudges
 pub mod SchemaLaws
 pub mod SchemaWorked
-pub mod CommandLineWorked
+mod CommandLineWorked

@@ -10,6 +10,7 @@ pub mod Writes
 pub mod FilterPlan
 pub mod CommandLine
 pub mod PlanSteps
+pub mod WorkedLines
 pub use Rattle.edm_values.specs.IntLiteral
 pub use Rattle.edm_values.specs.MomentParts
 pub use Rattle.edm_values.specs.PlainVal
