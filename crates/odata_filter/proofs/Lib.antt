@@ -17,8 +17,10 @@ mod FilterLemmas
 mod LineLemmas
 mod RunEndings
 mod RunLemmas
+mod PlanLemmas
 mod WriteLemmas
 pub mod SchemaReading
 pub mod RowJudges
 pub mod SchemaLaws
 pub mod SchemaWorked
+mod CommandLineWorked

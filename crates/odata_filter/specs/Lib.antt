@@ -8,6 +8,9 @@ pub mod Kept
 pub mod Passing
 pub mod Writes
 pub mod FilterPlan
+pub mod CommandLine
+pub mod PlanSteps
+pub mod WorkedLines
 pub use Rattle.edm_values.specs.IntLiteral
 pub use Rattle.edm_values.specs.MomentParts
 pub use Rattle.edm_values.specs.PlainVal
@@ -18,6 +21,7 @@ pub use Rattle.odata_text.specs.Tokens
 pub use Rattle.odata_syntax.specs.Parse
 pub use Rattle.odata_syntax.specs.Tree
 pub use Rattle.odata_syntax.specs.TreeView
+pub use Rattle.clap.specs.Words as ClapWords
 pub use Rattle.serde_json.specs.Data as JsonData
 pub use Rattle.serde_json.specs.Find as JsonFind
 pub use Rattle.serde_json.specs.Read as JsonRead

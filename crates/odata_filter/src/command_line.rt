@@ -1,4 +1,6 @@
 //! What a command line asks for.
+pub mod laws;
+
 use clap::Error;
 
 /// What the program is to do.

@@ -1,5 +1,8 @@
-ghost use Rattle.std.specs.Prelude.{IfOk};
+ghost use Rattle.std.specs.Prelude.{◌≡◌, IfOk, MatchResult, false, map};
+ghost use Rattle.clap.specs.Words.{found_of, rows_of, rule_of};
 ghost use Rattle.odata_filter.specs.FilterPlan.{IsFilterPlan};
+ghost use Rattle.odata_filter.specs.CommandLine.{HasValues, IsPlanOf, IsRefusedBy, filter_app, odfilter_app, text_rule};
+ghost use Rattle.odata_filter.specs.PlanSteps.{IsApp, LacksFilterIn, Tells};
 
 use crate::command_line::{Plan, PlanFault, Verb};
 use clap::error::ErrorKind;
@@ -7,7 +10,10 @@ use clap::{Arg, ArgAction, ArgMatches, Command, Error};
 use std::alloc::{AllocError, Global};
 
 /// An option that takes a text.
-fn text_option<'a>(alloc: Global, name: &'a str, value: &'a str, help: &'a str) -> Arg<'a> {
+fn text_option<'a>(alloc: Global, name: &'a str, value: &'a str, help: &'a str) -> Arg<'a>
+    ensures rule { rule_of result ≡ text_rule name.entry.now false }
+    ensures local { result.global ≡ false }
+{
     Arg::new(alloc, name)
         .long(name)
         .value_name(value)
@@ -16,7 +22,9 @@ fn text_option<'a>(alloc: Global, name: &'a str, value: &'a str, help: &'a str) 
 }
 
 /// The subcommand `filter`.
-fn filter_command<'a>(alloc: Global) -> Result<Command<'a>, AllocError> {
+fn filter_command<'a>(alloc: Global) -> Result<Command<'a>, AllocError>
+    ensures { IfOk result (IsApp filter_app) }
+{
     let schema = text_option(alloc, "schema", "FILE", "CSDL JSON that declares the type").required(
         true,
     );
@@ -43,14 +51,18 @@ fn filter_command<'a>(alloc: Global) -> Result<Command<'a>, AllocError> {
 }
 
 /// The command line as `clap` reads it.
-fn command<'a>(alloc: Global) -> Result<Command<'a>, AllocError> {
+fn command<'a>(alloc: Global) -> Result<Command<'a>, AllocError>
+    ensures { IfOk result (IsApp odfilter_app) }
+{
     Command::new(alloc, "odfilter")
         .about("Checks an OData $filter against a type, and filters rows by it")
         .subcommand_required(true)
         .subcommand(filter_command(alloc)?)
 }
 
-fn fault_of(error: Error) -> PlanFault {
+fn fault_of(error: Error) -> PlanFault
+    ensures { Tells error result }
+{
     match error.kind() {
         ErrorKind::OutOfMemory => PlanFault::Memory,
         _ => PlanFault::Clap(error),
@@ -59,7 +71,8 @@ fn fault_of(error: Error) -> PlanFault {
 
 /// The plan of what stands behind `filter`.
 fn plan_of<'a>(matches: &ArgMatches<'a>) -> Result<Plan<'a>, PlanFault>
-    ensures { IfOk result IsFilterPlan }
+    ensures { MatchResult result (HasValues (rows_of (found_of matches.now)))
+        (LacksFilterIn (rows_of (found_of matches.now))) }
 {
     let filter = matches.get_str("filter");
     if filter.is_none() {
@@ -81,7 +94,9 @@ fn plan_of<'a>(matches: &ArgMatches<'a>) -> Result<Plan<'a>, PlanFault>
 ///
 /// `OneOf` comes where no filter is given, `Clap` where `clap` refuses the words or is asked for help.
 pub fn plan<'a>(alloc: Global, words: &'a [&'a str]) -> Result<Plan<'a>, PlanFault>
-    ensures { IfOk result IsFilterPlan }
+    ensures filters { IfOk result IsFilterPlan }
+    ensures asked { MatchResult result (IsPlanOf (map (λ s. s.now) words.entry.now))
+        (IsRefusedBy (map (λ s. s.now) words.entry.now)) }
 {
     let command = match command(alloc) {
         Ok(command) => command,

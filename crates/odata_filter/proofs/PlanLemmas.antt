@@ -1,0 +1,47 @@
+-- What a command line asks for, from what `clap` found.
+use Rattle.std.proofs.Common.{◌≡◌, ◌∙◌, [], true, false, Option, None, Some, sym, ap, ap₂, option_map}
+use Rattle.std.specs.Prelude.{◌||◌, is_none, unwrap_or}
+use Rattle.std.specs.Borrow.{Bor}
+use Rattle.clap.specs.Words.{AddsArg, App, Rule, Text, first_of, first_value, rows_of, rule_of, with_rule}
+use Rattle.clap.specs.Simple.{app_of_fields}
+use Rattle.clap.specs.declared.builder.arg.Arg.{Arg}
+use Rattle.clap.specs.declared.builder.command.Command.{Command}
+use Rattle.clap.specs.declared.builder.command.Command.TheViews.{out-Command}
+use Rattle.clap.specs.declared.parser.matches.Found.{Found}
+use Rattle.clap.proofs.WalkLemmas.{first_value-rows}
+use Rattle.odata_filter.specs.CommandLine.{text_rule}
+use Rattle.odata_filter.specs.PlanSteps.{IsApp}
+
+-- ---- a command grows
+
+-- the text at the top of help changes nothing
+pub app_about : (c d : Command) (app : App) (text : _) → out-Command d ≡ record (out-Command c) { about = text } → IsApp app c → IsApp app d
+app_about c d app text made is = record { whole = ap app_of_fields made ∙ is.whole; local = ap (λ f. f.has_globals) made ∙ is.local }
+
+-- one more option
+pub app_arg : (c d : Command) (a : Arg) (app : App) (rule : Rule) → rule_of a ≡ rule → a.global ≡ false → AddsArg c a d → IsApp app c → IsApp (with_rule app rule) d
+app_arg c d a app rule same local added is = record {
+  whole = added.shape local ∙ ap₂ with_rule is.whole same;
+  local = added.globals ∙ (ap (λ b. b || a.global) is.local ∙ ap (λ b. false || b) local);
+}
+
+-- an option that the words must have
+pub required_rule : (a b : Arg) (name : Text) → rule_of a ≡ text_rule name false → b ≡ record a { required = true } → rule_of b ≡ text_rule name true
+required_rule a b name same made = ap rule_of made ∙ ap (λ (r : Rule). record r { required = true }) same
+
+-- ---- the texts of options
+
+-- the value that was found
+pub text_given : (f : Found) (id : Text) (o : Option (Bor Text)) → option_map (λ s. s.now) o ≡ first_value f id → option_map (λ s. s.now) o ≡ first_of id (rows_of f)
+text_given f id o same = same ∙ first_value-rows f id
+
+-- none was found
+pub text_lacks : (f : Found) (id : Text) (o : Option (Bor Text)) → option_map (λ s. s.now) o ≡ first_value f id → is_none o ≡ true → first_of id (rows_of f) ≡ None
+text_lacks f id None same none = sym (text_given f id None same)
+text_lacks f id (Some t) same none = cc
+
+-- the value, or the empty text
+pub text_or_empty : (f : Found) (id : Text) (o : Option (Bor Text)) (t other : Bor Text) → option_map (λ s. s.now) o ≡ first_value f id → t ≡ unwrap_or o other → other.now ≡ []
+    → t.now ≡ unwrap_or (first_of id (rows_of f)) []
+text_or_empty f id None t other same is empty = ap (λ s. s.now) is ∙ empty ∙ ap (λ o. unwrap_or o []) (text_given f id None same)
+text_or_empty f id (Some x) t other same is empty = ap (λ s. s.now) is ∙ ap (λ o. unwrap_or o []) (text_given f id (Some x) same)

@@ -1,0 +1,26 @@
+use Rattle.odata_filter.proofs.CommandLineWorked as line
+use Rattle.odata_filter.proofs.command_line.laws.worked_lines.Goals as goal
+
+pub returns-clause-taken : goal.returns-clause-taken
+returns-clause-taken c = line.whole_taken
+
+pub returns-clause-schema : goal.returns-clause-schema
+returns-clause-schema c = line.whole_schema
+
+pub returns-clause-named : goal.returns-clause-named
+returns-clause-named c = line.whole_type
+
+pub returns-clause-filter : goal.returns-clause-filter
+returns-clause-filter c = line.whole_filter
+
+pub returns-clause-rows : goal.returns-clause-rows
+returns-clause-rows c = line.whole_rows
+
+pub returns-clause-lacks : goal.returns-clause-lacks
+returns-clause-lacks c = line.no_filter
+
+pub returns-clause-missing : goal.returns-clause-missing
+returns-clause-missing c = line.no_schema
+
+pub returns-clause-unknown : goal.returns-clause-unknown
+returns-clause-unknown c = line.no_query

@@ -1,0 +1,25 @@
+-- What the steps of reading a command line say to one another.
+use Rattle.std.specs.Prelude.{◌≡◌, ⊤, List, None, codes, false}
+use Rattle.clap.specs.Words.{App, Row, app_of, first_of, kind_of}
+use Rattle.clap.specs.declared.builder.command.Command.{Command}
+use Rattle.clap.specs.declared.builder.command.Command.TheViews.{out-Command}
+use Rattle.clap.specs.declared.error.Error.{Error}
+use Rattle.clap.specs.declared.error.kind.ErrorKind.TheVariants.{OutOfMemory}
+use Rattle.odata_filter.specs.declared.command_line.PlanFault.{PlanFault}
+use Rattle.odata_filter.specs.declared.command_line.PlanFault.TheVariants.{Clap, OneOf, Memory}
+
+-- `clap` reads the command as this one, and none of its options is global
+pub record IsApp (app : App) (command : Command) : Type 0 where
+  pub whole : app_of command ≡ app
+  pub local : (out-Command command).has_globals ≡ false
+
+-- the fault that an error of `clap` becomes
+abbrev pub Tells : Error → PlanFault → Type 0
+Tells error (Clap e) = (e ≡ error) × (kind_of e ≡ OutOfMemory → ⊥)
+Tells error OneOf = ⊥
+Tells error Memory = ⊤
+
+-- the one fault behind words that were taken: no filter is among them
+abbrev pub LacksFilterIn : List Row → PlanFault → Type 0
+LacksFilterIn rows OneOf = first_of (codes "filter") rows ≡ None
+LacksFilterIn rows _ = ⊥
