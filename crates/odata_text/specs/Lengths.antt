@@ -1,8 +1,11 @@
 -- Words of private contracts alone: what the functions that measure pieces answer.
-use Rattle.std.specs.Prelude.{ℕ, ◌<◌, ◌≤◌, ◌==◌, ◌||◌, slice_index, if◌then◌else◌, List, length, take, fold, Option, Some, None}
+use Rattle.std.specs.Prelude.{◌≡◌, ℕ, ◌<◌, ◌≤◌, ◌==◌, ◌||◌, Bool, true, slice_index, slice_index_or as get_or, if◌then◌else◌, List, [], ◌∷◌, length, take, fold, Option, Some, None}
+use Rattle.std.specs.Char.{is_ascii_digit, is_ascii_hexdigit}
 use Rattle.odata_text.specs.declared.quoted.Quoted.{Quoted}
 use Rattle.odata_text.specs.declared.quoted.Quoted.TheVariants.{Before, Open, Closed, Over}
-use Rattle.odata_text.specs.declared.token.TokenKind.{TokenKind}
+use Rattle.odata_text.specs.declared.form.Form.{Form}
+use Rattle.odata_text.specs.declared.pattern.ByteTest.{ByteTest}
+use Rattle.odata_text.specs.declared.pattern.ByteTest.TheVariants.{Digit, Hexadecimal, Hyphen, Colon, TimeMark}
 
 -- n is the length of the longest spelling at the front, 0 if there is none
 pub record IsReach (IsSpelling : List ℕ → Type 0) (n : ℕ) (rest : List ℕ) : Type 0 where
@@ -10,9 +13,28 @@ pub record IsReach (IsSpelling : List ℕ → Type 0) (n : ℕ) (rest : List ℕ
   pub found : 0 < n → IsSpelling (take n rest)
   pub reaches : (m : ℕ) → m ≤ length rest → IsSpelling (take m rest) → m ≤ n
 
--- a piece of n bytes, none if there are none
-abbrev pub found_piece : TokenKind → ℕ → Option (TokenKind × ℕ)
-found_piece kind n = (if n == 0 then None else Some (kind, n))
+-- some candidate of the list, if any takes a byte or more, and none takes more bytes
+abbrev pub IsBestOf : List (Form × ℕ) → Option (Form × ℕ) → Type 0
+IsBestOf candidates None = (i : ℕ) (d : Form × ℕ) → i < length candidates → (get_or candidates i d).1 ≡ 0
+IsBestOf candidates (Some best) =
+    (0 < best.1)
+    × ((i : ℕ) × (i < length candidates) × ((d : Form × ℕ) → get_or candidates i d ≡ best))
+    × ((i : ℕ) (d : Form × ℕ) → i < length candidates → (get_or candidates i d).1 ≤ best.1)
+
+-- what may stand at one place of a pattern
+abbrev pub passes : ByteTest → ℕ → Bool
+passes Digit b = is_ascii_digit b
+passes Hexadecimal b = is_ascii_hexdigit b
+passes Hyphen b = b == 45
+passes Colon b = b == 58
+passes TimeMark b = (b == 84) || (b == 116)
+
+-- the bytes fit the pattern one by one
+abbrev pub Fits : List ByteTest → List ℕ → Type 0
+Fits [] [] = Unit {0}
+Fits [] (b ∷ bytes) = ⊥
+Fits (test ∷ tests) [] = ⊥
+Fits (test ∷ tests) (b ∷ bytes) = (passes test b ≡ true) × Fits tests bytes
 
 -- how many bytes the sign at the front takes
 abbrev pub sign_length : List ℕ → ℕ

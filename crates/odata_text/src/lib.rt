@@ -3,13 +3,19 @@
 
 mod byte_class;
 mod fault;
+mod form;
+mod guid;
+mod identifier;
 mod laws;
-mod lengths;
 mod longest;
+mod number;
+mod pattern;
 mod quoted;
 mod scan;
 mod span;
+mod time;
 mod token;
+mod word;
 
 pub use fault::TextFault;
 pub use laws::{one_reading, plain_reading, run_on_reading};

@@ -1,34 +1,64 @@
-ghost use Rattle.std.specs.Prelude.{◌≡◌, MatchOption};
-ghost use Rattle.odata_text.specs.Lengths.{found_piece};
+ghost use Rattle.std.specs.Prelude.{MatchOption};
+ghost use Rattle.odata_text.specs.Lengths.{IsBestOf, IsReach};
+ghost use Rattle.odata_text.specs.Spelling.{IsByte};
 ghost use Rattle.odata_text.specs.Tokens.{IsLongest, NoneSpelled};
 
-use super::byte_class::{ByteClass, class_of};
-use super::lengths::{int_length, word_length};
+use super::form::{Form, LeftOutKind};
+use super::guid::guid_length;
+use super::number::{int_length, number_length};
 use super::quoted::string_length;
+use super::time::{clock_length, date_length, moment_length};
 use super::token::TokenKind;
+use super::word::{dollar_length, enum_length, quoted_length, word_length};
 
-fn found_piece(kind: TokenKind, length: usize) -> Option<(TokenKind, usize)>
-    ensures { result ≡ found_piece kind length }
+/// 1 if the byte stands at the front, else 0.
+fn byte_length(byte: u8, rest: &[u8]) -> usize
+    ensures { IsReach (IsByte byte) result rest.now }
 {
-    if length == 0 {
-        None
-    } else {
-        Some((kind, length))
+    match rest.first() {
+        Some(first) if *first == byte => 1,
+        _ => 0,
     }
 }
 
-/// The longest piece at the front: its kind and how many bytes it takes.
-pub fn longest(rest: &[u8]) -> Option<(TokenKind, usize)>
+/// The first of the longest.
+fn best_of(candidates: &[(Form, usize)]) -> Option<(Form, usize)>
+    ensures { IsBestOf candidates.now result }
+{
+    let mut best = None;
+    let mut length = 0;
+    for candidate in candidates {
+        if length < candidate.1 {
+            length = candidate.1;
+            best = Some(*candidate);
+        }
+    }
+    best
+}
+
+/// The longest piece at the front: its form and how many bytes it takes.
+pub fn longest(rest: &str) -> Option<(Form, usize)>
     ensures { MatchOption result (NoneSpelled rest.now) (λ found. IsLongest found.0 found.1 rest.now) }
 {
-    let first = match rest.first() {
-        Some(first) => *first,
-        None => return None,
-    };
-    match class_of(first) {
-        ByteClass::Letter => found_piece(TokenKind::Word, word_length(rest)),
-        ByteClass::Digit | ByteClass::Sign => found_piece(TokenKind::Int, int_length(rest)),
-        ByteClass::Quote => found_piece(TokenKind::Str, string_length(rest)),
-        ByteClass::Space | ByteClass::Other => None,
-    }
+    let bytes = rest.as_bytes();
+    let candidates = [
+        (Form::Token(TokenKind::Word), word_length(rest)),
+        (Form::Token(TokenKind::Dollar), dollar_length(rest)),
+        (Form::Token(TokenKind::Int), int_length(bytes)),
+        (Form::Token(TokenKind::Date), date_length(bytes)),
+        (Form::Token(TokenKind::Moment), moment_length(bytes)),
+        (Form::Token(TokenKind::Guid), guid_length(bytes)),
+        (Form::Token(TokenKind::Str), string_length(bytes)),
+        (Form::Token(TokenKind::EnumLit), enum_length(rest)),
+        (Form::Token(TokenKind::Open), byte_length(b'(', bytes)),
+        (Form::Token(TokenKind::Close), byte_length(b')', bytes)),
+        (Form::Token(TokenKind::Comma), byte_length(b',', bytes)),
+        (Form::Token(TokenKind::Slash), byte_length(b'/', bytes)),
+        (Form::Token(TokenKind::Colon), byte_length(b':', bytes)),
+        (Form::Token(TokenKind::Minus), byte_length(b'-', bytes)),
+        (Form::LeftOut(LeftOutKind::Number), number_length(bytes)),
+        (Form::LeftOut(LeftOutKind::Clock), clock_length(bytes)),
+        (Form::LeftOut(LeftOutKind::Quoted), quoted_length(rest)),
+    ];
+    best_of(&candidates)
 }

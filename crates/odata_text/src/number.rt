@@ -1,0 +1,80 @@
+ghost use Rattle.std.specs.Prelude.{◌≡◌, ◌≤◌, length};
+ghost use Rattle.std.specs.Str.Parse.{IsNumeral};
+ghost use Rattle.edm_values.specs.IntLiteral.{IsIntSpelling};
+ghost use Rattle.odata_text.specs.Lengths.{IsReach, sign_length};
+ghost use Rattle.odata_text.specs.Spelling.{IsDecimals, IsExponent, IsFraction, SpellsLeftOut};
+
+/// How many bytes the digits at the front take.
+pub fn digits_length(rest: &[u8]) -> usize
+    ensures { IsReach (IsNumeral 10) result rest.now }
+{
+    rest.iter().take_while(|byte| byte.is_ascii_digit()).count()
+}
+
+fn sign_length(rest: &[u8]) -> usize
+    ensures value { result ≡ sign_length rest.now }
+    ensures within { result ≤ length rest.now }
+{
+    match rest.first() {
+        Some(b'+' | b'-') => 1,
+        _ => 0,
+    }
+}
+
+/// How many bytes the whole number at the front takes, 0 if there is none.
+pub fn int_length(rest: &[u8]) -> usize
+    ensures { IsReach IsIntSpelling result rest.now }
+{
+    let sign = sign_length(rest);
+    match digits_length(&rest[sign..]) {
+        0 => 0,
+        digits => sign + digits,
+    }
+}
+
+/// How many bytes the dot and digits at the front take, 0 if there are none.
+pub fn fraction_length(rest: &[u8]) -> usize
+    ensures { IsReach IsFraction result rest.now }
+{
+    match rest.first() {
+        Some(b'.') => match digits_length(&rest[1..]) {
+            0 => 0,
+            digits => 1 + digits,
+        },
+        _ => 0,
+    }
+}
+
+/// How many bytes the exponent at the front takes, 0 if there is none.
+fn exponent_length(rest: &[u8]) -> usize
+    ensures { IsReach IsExponent result rest.now }
+{
+    match rest.first() {
+        Some(b'e' | b'E') => match int_length(&rest[1..]) {
+            0 => 0,
+            power => 1 + power,
+        },
+        _ => 0,
+    }
+}
+
+/// How many bytes the fraction, the exponent or both take at the front, 0 if there is neither.
+fn decimals_length(rest: &[u8]) -> usize
+    ensures { IsReach IsDecimals result rest.now }
+{
+    let fraction = fraction_length(rest);
+    fraction + exponent_length(&rest[fraction..])
+}
+
+/// How many bytes the number with a fraction, an exponent or both at the front takes, 0 if there is none.
+pub fn number_length(rest: &[u8]) -> usize
+    ensures { IsReach (SpellsLeftOut LeftOutKind.Number) result rest.now }
+{
+    match int_length(rest) {
+        0 => 0,
+        whole => match decimals_length(&rest[whole..]) {
+            0 => 0,
+            decimals => whole + decimals,
+        },
+    }
+}
