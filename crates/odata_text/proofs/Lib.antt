@@ -1,8 +1,2 @@
 pub mod ByteClasses
-pub mod Examples
-pub mod LongestPieces
-pub mod OneReading
-pub mod Places
-pub mod Quotes
-pub mod Reaches
-pub mod Scans
+pub mod Reach
