@@ -1,2 +1,10 @@
 pub mod ByteClasses
 pub mod Reach
+pub mod Examples
+pub mod Identifiers
+pub mod LongestPieces
+pub mod OneReading
+pub mod Places
+pub mod Quotes
+pub mod Reaches
+pub mod Scans

@@ -18,6 +18,7 @@ mod token;
 mod word;
 
 pub use fault::TextFault;
+pub use identifier::is_identifier;
 pub use laws::{one_reading, plain_reading, run_on_reading};
 pub use scan::tokens;
 pub use span::Span;

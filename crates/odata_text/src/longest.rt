@@ -1,25 +1,15 @@
 ghost use Rattle.std.specs.Prelude.{MatchOption};
-ghost use Rattle.odata_text.specs.Lengths.{IsBestOf, IsReach};
-ghost use Rattle.odata_text.specs.Spelling.{IsByte};
+ghost use Rattle.odata_text.specs.Lengths.{IsBestOf};
 ghost use Rattle.odata_text.specs.Tokens.{IsLongest, NoneSpelled};
 
 use super::form::{Form, LeftOutKind};
 use super::guid::guid_length;
 use super::number::{int_length, number_length};
+use super::pattern::byte_length;
 use super::quoted::string_length;
 use super::time::{clock_length, date_length, moment_length};
 use super::token::TokenKind;
 use super::word::{dollar_length, enum_length, quoted_length, word_length};
-
-/// 1 if the byte stands at the front, else 0.
-fn byte_length(byte: u8, rest: &[u8]) -> usize
-    ensures { IsReach (IsByte byte) result rest.now }
-{
-    match rest.first() {
-        Some(first) if *first == byte => 1,
-        _ => 0,
-    }
-}
 
 /// The first of the longest.
 fn best_of(candidates: &[(Form, usize)]) -> Option<(Form, usize)>
@@ -58,7 +48,7 @@ pub fn longest(rest: &str) -> Option<(Form, usize)>
         (Form::Token(TokenKind::Minus), byte_length(b'-', bytes)),
         (Form::LeftOut(LeftOutKind::Number), number_length(bytes)),
         (Form::LeftOut(LeftOutKind::Clock), clock_length(bytes)),
-        (Form::LeftOut(LeftOutKind::Quoted), quoted_length(rest)),
+        (Form::LeftOut(LeftOutKind::Quoted), quoted_length(bytes)),
     ];
     best_of(&candidates)
 }

@@ -1,12 +1,19 @@
 ghost use Rattle.std.specs.Prelude.{◌≡◌, ◌≤◌, length};
+ghost use Rattle.std.specs.Char.{is_ascii_digit};
+ghost use Rattle.std.specs.List.{prefix_len};
 ghost use Rattle.std.specs.Str.Parse.{IsNumeral};
 ghost use Rattle.edm_values.specs.IntLiteral.{IsIntSpelling};
 ghost use Rattle.odata_text.specs.Lengths.{IsReach, sign_length};
 ghost use Rattle.odata_text.specs.Spelling.{IsDecimals, IsExponent, IsFraction, SpellsLeftOut};
 
+use super::form::LeftOutKind;
+use super::pattern::{ByteTest, byte_length, pattern_length};
+
 /// How many bytes the digits at the front take.
-pub fn digits_length(rest: &[u8]) -> usize
-    ensures { IsReach (IsNumeral 10) result rest.now }
+fn digits_length(rest: &[u8]) -> usize
+    ensures value { result ≡ prefix_len is_ascii_digit rest.now }
+    ensures within { result ≤ length rest.now }
+    ensures reach { IsReach (IsNumeral 10) result rest.now }
 {
     rest.iter().take_while(|byte| byte.is_ascii_digit()).count()
 }
@@ -36,12 +43,12 @@ pub fn int_length(rest: &[u8]) -> usize
 pub fn fraction_length(rest: &[u8]) -> usize
     ensures { IsReach IsFraction result rest.now }
 {
-    match rest.first() {
-        Some(b'.') => match digits_length(&rest[1..]) {
+    match byte_length(b'.', rest) {
+        0 => 0,
+        dot => match digits_length(&rest[dot..]) {
             0 => 0,
-            digits => 1 + digits,
+            digits => dot + digits,
         },
-        _ => 0,
     }
 }
 
@@ -49,12 +56,12 @@ pub fn fraction_length(rest: &[u8]) -> usize
 fn exponent_length(rest: &[u8]) -> usize
     ensures { IsReach IsExponent result rest.now }
 {
-    match rest.first() {
-        Some(b'e' | b'E') => match int_length(&rest[1..]) {
+    match pattern_length(&[ByteTest::ExponentMark], rest) {
+        0 => 0,
+        mark => match int_length(&rest[mark..]) {
             0 => 0,
-            power => 1 + power,
+            power => mark + power,
         },
-        _ => 0,
     }
 }
 

@@ -1,5 +1,6 @@
 ghost use Rattle.std.specs.Prelude.{◌≡◌};
 ghost use Rattle.odata_text.specs.Lengths.{Fits, IsReach, passes};
+ghost use Rattle.odata_text.specs.Spelling.{IsByte};
 
 /// What may stand at one place of a pattern.
 #[derive(Clone, Copy, Debug, PartialEq, Eq)]
@@ -8,7 +9,10 @@ pub enum ByteTest {
     Hexadecimal,
     Hyphen,
     Colon,
+    Sign,
     TimeMark,
+    OffsetMark,
+    ExponentMark,
 }
 
 fn passes(test: ByteTest, byte: u8) -> bool
@@ -19,7 +23,10 @@ fn passes(test: ByteTest, byte: u8) -> bool
         ByteTest::Hexadecimal => byte.is_ascii_hexdigit(),
         ByteTest::Hyphen => byte == b'-',
         ByteTest::Colon => byte == b':',
+        ByteTest::Sign => byte == b'+' || byte == b'-',
         ByteTest::TimeMark => byte == b'T' || byte == b't',
+        ByteTest::OffsetMark => byte == b'Z' || byte == b'z',
+        ByteTest::ExponentMark => byte == b'e' || byte == b'E',
     }
 }
 
@@ -30,10 +37,20 @@ pub fn pattern_length(pattern: &[ByteTest], rest: &[u8]) -> usize
     if rest.len() < pattern.len() {
         return 0;
     }
-    for (i, test) in pattern.iter().enumerate() {
-        if !passes(*test, rest[i]) {
+    for i in 0..pattern.len() {
+        if !passes(pattern[i], rest[i]) {
             return 0;
         }
     }
     pattern.len()
+}
+
+/// 1 if the byte stands at the front, else 0.
+pub fn byte_length(byte: u8, rest: &[u8]) -> usize
+    ensures { IsReach (IsByte byte) result rest.now }
+{
+    match rest.first() {
+        Some(first) if *first == byte => 1,
+        _ => 0,
+    }
 }

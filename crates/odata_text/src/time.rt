@@ -1,9 +1,9 @@
 ghost use Rattle.edm_values.specs.DateLiteral.{IsDateSpelling};
-ghost use Rattle.edm_values.specs.GuidLiteral.{IsGuidSpelling};
 ghost use Rattle.edm_values.specs.MomentLiteral.{IsMomentSpelling, IsOffsetSpelling, IsSecondsSpelling};
-ghost use Rattle.odata_text.specs.Lengths.{IsReach};
-ghost use Rattle.odata_text.specs.Spelling.{SpellsLeftOut};
+ghost use Rattle.odata_text.specs.Lengths.{IsMarkedClock, IsReach};
+ghost use Rattle.odata_text.specs.Spelling.{FollowedBy, SpellsLeftOut};
 
+use super::form::LeftOutKind;
 use super::number::fraction_length;
 use super::pattern::{ByteTest, pattern_length};
 
@@ -33,19 +33,19 @@ const DATE: [ByteTest; 10] = [
     ByteTest::Digit,
 ];
 
-/// `YYYY-MM-DDThh:mm`.
-const MINUTES: [ByteTest; 16] = [
-    ByteTest::Digit,
-    ByteTest::Digit,
-    ByteTest::Digit,
-    ByteTest::Digit,
-    ByteTest::Hyphen,
-    ByteTest::Digit,
-    ByteTest::Digit,
-    ByteTest::Hyphen,
-    ByteTest::Digit,
-    ByteTest::Digit,
+/// `Thh:mm`.
+const MARKED_CLOCK: [ByteTest; 6] = [
     ByteTest::TimeMark,
+    ByteTest::Digit,
+    ByteTest::Digit,
+    ByteTest::Colon,
+    ByteTest::Digit,
+    ByteTest::Digit,
+];
+
+/// A sign and `hh:mm`.
+const AHEAD: [ByteTest; 6] = [
+    ByteTest::Sign,
     ByteTest::Digit,
     ByteTest::Digit,
     ByteTest::Colon,
@@ -74,13 +74,33 @@ fn seconds_length(rest: &[u8]) -> usize
 fn offset_length(rest: &[u8]) -> usize
     ensures { IsReach IsOffsetSpelling result rest.now }
 {
-    match rest.first() {
-        Some(b'Z' | b'z') => 1,
-        Some(b'+' | b'-') => match pattern_length(&CLOCK, &rest[1..]) {
+    match pattern_length(&[ByteTest::OffsetMark], rest) {
+        0 => pattern_length(&AHEAD, rest),
+        mark => mark,
+    }
+}
+
+/// How many bytes the seconds, if any, and the offset at the front take, 0 if there is no offset.
+fn zoned_length(rest: &[u8]) -> usize
+    ensures { IsReach (FollowedBy IsSecondsSpelling IsOffsetSpelling) result rest.now }
+{
+    let seconds = seconds_length(rest);
+    match offset_length(&rest[seconds..]) {
+        0 => 0,
+        offset => seconds + offset,
+    }
+}
+
+/// How many bytes the part of a moment behind its date takes at the front, 0 if there is none.
+fn timed_length(rest: &[u8]) -> usize
+    ensures { IsReach (FollowedBy IsMarkedClock (FollowedBy IsSecondsSpelling IsOffsetSpelling)) result rest.now }
+{
+    match pattern_length(&MARKED_CLOCK, rest) {
+        0 => 0,
+        clock => match zoned_length(&rest[clock..]) {
             0 => 0,
-            clock => 1 + clock,
+            zoned => clock + zoned,
         },
-        _ => 0,
     }
 }
 
@@ -88,15 +108,12 @@ fn offset_length(rest: &[u8]) -> usize
 pub fn moment_length(rest: &[u8]) -> usize
     ensures { IsReach IsMomentSpelling result rest.now }
 {
-    match pattern_length(&MINUTES, rest) {
+    match date_length(rest) {
         0 => 0,
-        minutes => {
-            let clock = minutes + seconds_length(&rest[minutes..]);
-            match offset_length(&rest[clock..]) {
-                0 => 0,
-                offset => clock + offset,
-            }
-        }
+        date => match timed_length(&rest[date..]) {
+            0 => 0,
+            timed => date + timed,
+        },
     }
 }
 

@@ -1,9 +1,12 @@
-ghost use Rattle.std.specs.Prelude.{IsCharBoundary};
-ghost use Rattle.odata_text.specs.Lengths.{IsReach};
+ghost use Rattle.std.specs.Prelude.{◌≡◌, IsCharBoundary, max};
+ghost use Rattle.odata_text.specs.Lengths.{IsNamed, IsReach};
 ghost use Rattle.odata_text.specs.Spelling.{IsDottedWord, IsLeftOutName, IsWord, Spells, SpellsLeftOut};
 
+use super::form::LeftOutKind;
 use super::identifier::identifier_length;
+use super::pattern::byte_length;
 use super::quoted::string_length;
+use super::token::TokenKind;
 
 /// How many bytes the word at the front takes, with all its dots, 0 if there is none.
 pub fn word_length(rest: &str) -> usize
@@ -37,14 +40,14 @@ fn dotted_length(rest: &str) -> usize
 
 /// How many bytes the `$` and the identifier at the front take, 0 if there are none.
 pub fn dollar_length(rest: &str) -> usize
-    ensures { IsReach (Spells TokenKind.Dollar) result rest.now }
+    ensures reach { IsReach (Spells TokenKind.Dollar) result rest.now }
 {
-    match rest.as_bytes().first() {
-        Some(b'$') => match identifier_length(&rest[1..]) {
+    match byte_length(b'$', rest.as_bytes()) {
+        0 => 0,
+        mark => match identifier_length(&rest[mark..]) {
             0 => 0,
-            name => 1 + name,
+            name => mark + name,
         },
-        _ => 0,
     }
 }
 
@@ -61,27 +64,42 @@ pub fn enum_length(rest: &str) -> usize
     }
 }
 
-/// How many bytes the name at the front takes if it is that of a type that is left out, else 0.
-fn left_out_name_length(rest: &str) -> usize {
-    let length = identifier_length(rest);
-    let name = &rest[..length];
-    if name.eq_ignore_ascii_case("duration")
-        || name.eq_ignore_ascii_case("binary")
-        || name.eq_ignore_ascii_case("geography")
-        || name.eq_ignore_ascii_case("geometry")
-    {
-        return length;
+/// The length of the name, if it stands at the front in any case of its letters, else 0.
+fn name_length(name: &[u8], rest: &[u8]) -> usize
+    ensures { IsReach (IsNamed name.now) result rest.now }
+{
+    if name.len() <= rest.len() && rest[..name.len()].eq_ignore_ascii_case(name) {
+        return name.len();
     }
     0
 }
 
+/// How many bytes the name of a type that is left out takes at the front, 0 if there is none.
+fn left_out_name_length(rest: &[u8]) -> usize
+    ensures { IsReach IsLeftOutName result rest.now }
+{
+    longer(
+        longer(name_length(b"duration", rest), name_length(b"binary", rest)),
+        longer(
+            name_length(b"geography", rest),
+            name_length(b"geometry", rest),
+        ),
+    )
+}
+
+fn longer(first: usize, second: usize) -> usize
+    ensures { result ≡ max first second }
+{
+    if first < second { second } else { first }
+}
+
 /// How many bytes the name of a type that is left out and the text in quotes at the front take, 0 if there are none.
-pub fn quoted_length(rest: &str) -> usize
+pub fn quoted_length(rest: &[u8]) -> usize
     ensures { IsReach (SpellsLeftOut LeftOutKind.Quoted) result rest.now }
 {
     match left_out_name_length(rest) {
         0 => 0,
-        name => match string_length(&rest.as_bytes()[name..]) {
+        name => match string_length(&rest[name..]) {
             0 => 0,
             text => name + text,
         },

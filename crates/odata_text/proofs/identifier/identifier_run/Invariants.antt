@@ -1,0 +1,5 @@
+use Rattle.odata_text.proofs.Identifiers.{IsRunSoFar}
+use Rattle.odata_text.proofs.identifier.identifier_run.Given as goal
+
+abbrev pub invariant-loop-character : goal.invariant-loop-character
+invariant-loop-character l = IsRunSoFar l.yielded l.length
