@@ -167,7 +167,7 @@ has-front rest m utf8 inside identifier =
       bytes = ap length (encodes-chars (take m rest) identifier.utf8) ∙ length-take-le m rest inside;
     }
 
-all-from_identifier : (cs : List ℕ) → is_identifier cs ≡ true → list_all continues_identifier cs ≡ true
+pub all-from_identifier : (cs : List ℕ) → is_identifier cs ≡ true → list_all continues_identifier cs ≡ true
 all-from_identifier [] identifier = refl
 all-from_identifier (c ∷ cs) identifier =
     let parts = and_parts (begins_identifier c) (list_all continues_identifier cs) identifier in

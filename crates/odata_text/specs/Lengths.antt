@@ -1,11 +1,10 @@
 -- Words of private contracts alone: what the functions that measure pieces answer.
-use Rattle.std.specs.Prelude.{◌≡◌, ◌⊎◌, ℕ, ◌<◌, ◌≤◌, ◌==◌, ◌||◌, Bool, true, slice_index, slice_index_or as get_or, if◌then◌else◌, List, [], ◌∷◌, length, take, fold, Option, Some, None}
+use Rattle.std.specs.Prelude.{◌≡◌, ◌⊎◌, ℕ, ◌<◌, ◌≤◌, ◌==◌, ◌||◌, Bool, true, slice_index, if◌then◌else◌, List, [], ◌∷◌, length, take, fold}
 use Rattle.std.specs.Char.{is_ascii_digit, is_ascii_hexdigit}
 use Rattle.std.specs.Str.{str_eq_ignore_ascii_case}
 use Rattle.edm_values.specs.MomentLiteral.{IsClockSpelling}
 use Rattle.odata_text.specs.declared.quoted.Quoted.{Quoted}
 use Rattle.odata_text.specs.declared.quoted.Quoted.TheVariants.{Before, Open, Closed, Over}
-use Rattle.odata_text.specs.declared.form.Form.{Form}
 use Rattle.odata_text.specs.declared.pattern.ByteTest.{ByteTest}
 use Rattle.odata_text.specs.declared.pattern.ByteTest.TheVariants.{Digit, Hexadecimal, Hyphen, Colon, Sign, TimeMark, OffsetMark, ExponentMark}
 
@@ -14,14 +13,6 @@ pub record IsReach (IsSpelling : List ℕ → Type 0) (n : ℕ) (rest : List ℕ
   pub within : n ≤ length rest
   pub found : 0 < n → IsSpelling (take n rest)
   pub reaches : (m : ℕ) → m ≤ length rest → IsSpelling (take m rest) → m ≤ n
-
--- some candidate of the list, if any takes a byte or more, and none takes more bytes
-abbrev pub IsBestOf : List (Form × ℕ) → Option (Form × ℕ) → Type 0
-IsBestOf candidates None = (i : ℕ) (d : Form × ℕ) → i < length candidates → (get_or candidates i d).1 ≡ 0
-IsBestOf candidates (Some best) =
-    (0 < best.1)
-    × ((i : ℕ) × (i < length candidates) × ((d : Form × ℕ) → get_or candidates i d ≡ best))
-    × ((i : ℕ) (d : Form × ℕ) → i < length candidates → (get_or candidates i d).1 ≤ best.1)
 
 -- what may stand at one place of a pattern
 abbrev pub passes : ByteTest → ℕ → Bool

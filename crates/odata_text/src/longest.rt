@@ -1,5 +1,4 @@
-ghost use Rattle.std.specs.Prelude.{MatchOption};
-ghost use Rattle.odata_text.specs.Lengths.{IsBestOf};
+ghost use Rattle.std.specs.Prelude.{◌<◌, ◌≤◌, ℕ, MatchOption, length, slice_index_or};
 ghost use Rattle.odata_text.specs.Tokens.{IsLongest, NoneSpelled};
 
 use super::form::{Form, LeftOutKind};
@@ -11,16 +10,17 @@ use super::time::{clock_length, date_length, moment_length};
 use super::token::TokenKind;
 use super::word::{dollar_length, enum_length, quoted_length, word_length};
 
-/// The first of the longest.
-fn best_of(candidates: &[(Form, usize)]) -> Option<(Form, usize)>
-    ensures { IsBestOf candidates.now result }
+/// The place of the longest candidate.
+fn best_of(candidates: &[(Form, usize)]) -> usize
+    requires { 0 < length candidates.now }
+    ensures within { result < length candidates.now }
+    ensures most { (k : ℕ) (d : Form × ℕ) → k < length candidates.now
+        → (slice_index_or candidates.now k d).1 ≤ (slice_index_or candidates.now result d).1 }
 {
-    let mut best = None;
-    let mut length = 0;
-    for candidate in candidates {
-        if length < candidate.1 {
-            length = candidate.1;
-            best = Some(*candidate);
+    let mut best = 0;
+    for i in 1..candidates.len() {
+        if candidates[best].1 < candidates[i].1 {
+            best = i;
         }
     }
     best
@@ -50,5 +50,9 @@ pub fn longest(rest: &str) -> Option<(Form, usize)>
         (Form::LeftOut(LeftOutKind::Clock), clock_length(bytes)),
         (Form::LeftOut(LeftOutKind::Quoted), quoted_length(bytes)),
     ];
-    best_of(&candidates)
+    let best = candidates[best_of(&candidates)];
+    if best.1 == 0 {
+        return None;
+    }
+    Some(best)
 }

@@ -9,13 +9,18 @@ ghost use Rattle.odata_text.specs.Spelling.{IsDecimals, IsExponent, IsFraction, 
 use super::form::LeftOutKind;
 use super::pattern::{ByteTest, byte_length, pattern_length};
 
-/// How many bytes the digits at the front take.
-fn digits_length(rest: &[u8]) -> usize
+fn digit_run(rest: &[u8]) -> usize
     ensures value { result ≡ prefix_len is_ascii_digit rest.now }
     ensures within { result ≤ length rest.now }
-    ensures reach { IsReach (IsNumeral 10) result rest.now }
 {
     rest.iter().take_while(|byte| byte.is_ascii_digit()).count()
+}
+
+/// How many bytes the digits at the front take.
+fn digits_length(rest: &[u8]) -> usize
+    ensures { IsReach (IsNumeral 10) result rest.now }
+{
+    digit_run(rest)
 }
 
 fn sign_length(rest: &[u8]) -> usize
@@ -33,7 +38,7 @@ pub fn int_length(rest: &[u8]) -> usize
     ensures { IsReach IsIntSpelling result rest.now }
 {
     let sign = sign_length(rest);
-    match digits_length(&rest[sign..]) {
+    match digit_run(&rest[sign..]) {
         0 => 0,
         digits => sign + digits,
     }

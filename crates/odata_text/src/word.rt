@@ -78,13 +78,8 @@ fn name_length(name: &[u8], rest: &[u8]) -> usize
 fn left_out_name_length(rest: &[u8]) -> usize
     ensures { IsReach IsLeftOutName result rest.now }
 {
-    longer(
-        longer(name_length(b"duration", rest), name_length(b"binary", rest)),
-        longer(
-            name_length(b"geography", rest),
-            name_length(b"geometry", rest),
-        ),
-    )
+    let geo = longer(name_length(b"geography", rest), name_length(b"geometry", rest));
+    longer(name_length(b"duration", rest), longer(name_length(b"binary", rest), geo))
 }
 
 fn longer(first: usize, second: usize) -> usize

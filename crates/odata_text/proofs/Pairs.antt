@@ -48,11 +48,11 @@ exact-by_length A B a rest sized = record {
 }
 
 -- the first byte of a second piece stands nowhere in a first
-pub exact-by_byte : (A B : List ℕ → Type 0) (Starts : ℕ → Type 0) (a : ℕ) (rest : List ℕ) → 0 < a → IsReach A a rest
+pub exact-by_byte : (A B : List ℕ → Type 0) (Starts : ℕ → Type 0) (a : ℕ) (rest : List ℕ) → IsReach A a rest
     → ((xs : List ℕ) → A xs → (i : ℕ) → i < length xs → Starts (get_or xs i 0) → ⊥)
     → ((ys : List ℕ) → B ys → (0 < length ys) × Starts (get_or ys 0 0))
     → IsExact A B a rest
-exact-by_byte A B Starts a rest some reach never starts = record {
+exact-by_byte A B Starts a rest reach never starts = record {
   exact = λ k m inside first second.
       let most = reach.reaches k (omega arith) first in
       let within = reach.within in
@@ -65,7 +65,7 @@ exact-by_byte A B Starts a rest some reach never starts = record {
       let byte : get_or (take m (drop k rest)) 0 0 ≡ get_or (take a rest) k 0 =
       get_or-take m (drop k rest) 0 0 (omega arith) ∙ get_or-drop k rest 0 0 ∙ ap (λ (i : ℕ). get_or rest i 0) (add-zero k) ∙ sym (get_or-take a rest k 0 below) in
       let whole = length-take-le a rest within in
-      absurd (never (take a rest) (reach.found some) k (omega arith) (subst Starts byte start.1)))
+      absurd (never (take a rest) (reach.found (omega arith)) k (omega arith) (subst Starts byte start.1)))
       (λ reached. omega arith)
       (cases_lt k a);
 }
