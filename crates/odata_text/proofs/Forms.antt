@@ -1,5 +1,5 @@
 -- Bytes have one form at most.
-use Rattle.std.proofs.Common.{◌≡◌, ◌⊎◌, inl, inr, ⊎_elim, ℕ, zero, suc, ◌+◌, ◌-◌, ◌<◌, ◌≤◌, ◌==◌, ◌||◌, nat_le, Bool, true, false, cond, List, [], ◌∷◌, ◌++◌, length, get_or, take, drop, arith, refl, sym, ◌∙◌, ap, subst, length-append, append_assoc}
+use Rattle.std.proofs.Common.{◌≡◌, ◌⊎◌, inl, inr, ⊎_elim, ℕ, zero, suc, ◌+◌, ◌-◌, ◌<◌, ◌≤◌, ◌==◌, ◌||◌, nat_le, Bool, true, false, cond, List, [], ◌∷◌, ◌++◌, length, get_or, arith, refl, sym, ◌∙◌, ap, length-append, append_assoc}
 use Rattle.std.specs.Char.{is_ascii_alphabetic, is_ascii_digit}
 use Rattle.std.specs.List.{AllByRecursion as AllOf, prefix_len}
 use Rattle.std.proofs.Math.ListN.{get_or-append}
@@ -11,16 +11,16 @@ use Rattle.std.proofs.lemmas.Str.Parse.{digit_at}
 use Rattle.edm_values.specs.IntLiteral.{IsIntSpelling}
 use Rattle.edm_values.specs.StringLiteral.{IsStringSpelling}
 use Rattle.odata_text.specs.Identifier.{IsIdentifier}
-use Rattle.odata_text.specs.Spelling.{FollowedBy, IsByte, IsDottedWord, IsFormed, IsLeftOutName, IsWord, joined}
+use Rattle.odata_text.specs.Spelling.{FollowedBy, IsDottedWord, IsFormed, IsLeftOutName, IsWord, joined}
 use Rattle.odata_text.specs.declared.form.Form.{Form}
 use Rattle.odata_text.specs.declared.form.Form.TheVariants.{Token, LeftOut}
-use Rattle.odata_text.specs.declared.form.LeftOutKind.TheVariants.{Number, Clock, Quoted}
-use Rattle.odata_text.specs.declared.token.TokenKind.TheVariants.{Word, Dollar, Int, Date, Moment, Guid, Str, EnumLit, Open, Close, Comma, Slash, Colon, Minus}
+use Rattle.odata_text.specs.declared.form.LeftOutKind.TheVariants.{Quoted}
+use Rattle.odata_text.specs.declared.token.TokenKind.TheVariants.{Word, Dollar, Int, Str, EnumLit, Open, Close, Comma, Slash, Colon, Minus}
 use Rattle.odata_text.proofs.IdentifierBytes.{identifier-byte, identifier-nonempty, is_name_byte}
 use Rattle.odata_text.proofs.Names.{left_out-letters}
 use Rattle.odata_text.proofs.Reaches.{digit_test, prefix_len-reaches}
-use Rattle.odata_text.proofs.Starts.{front-first, is_int_start, is_word_start, started}
-use Rattle.odata_text.proofs.Words.{DotAndWord, dotted-pair, word-cases}
+use Rattle.odata_text.proofs.Starts.{front-first, is_word_start, started}
+use Rattle.odata_text.proofs.Words.{dotted-pair}
 
 -- Runs of bytes.
 
@@ -42,7 +42,7 @@ run_is p xs n within passes stops =
     (λ most. omega arith)
     (cases_lt n (prefix_len p xs))
 
-seam : (front back : List ℕ) → get_or (front ++ back) (length front) 0 ≡ get_or back 0 0
+pub seam : (front back : List ℕ) → get_or (front ++ back) (length front) 0 ≡ get_or back 0 0
 seam [] back = refl
 seam (x ∷ front) back = seam front back
 
@@ -135,7 +135,7 @@ word-byte part (next ∷ more) identifier all i inside =
     behind zero below = refl
     behind (suc k) below = word-byte next more all.0 all.1 k (omega arith)
 
-is_word : (xs : List ℕ) → IsWord xs → (i : ℕ) → i < length xs → is_word_byte (get_or xs i 0) ≡ true
+pub is_word : (xs : List ℕ) → IsWord xs → (i : ℕ) → i < length xs → is_word_byte (get_or xs i 0) ≡ true
 is_word xs word i inside =
     ap (λ (ys : List ℕ). is_word_byte (get_or ys i 0)) word.whole
     ∙ word-byte word.part word.more word.identifier word.identifiers i (omega (arith, ap length word.whole))
@@ -172,11 +172,11 @@ form-named xs pair =
 form-enum : (xs : List ℕ) (pair : FollowedBy IsDottedWord IsStringSpelling xs) → form_of xs ≡ Token EnumLit
 form-enum xs pair =
     let word = pair.is_front.word in
-    let started-word = started (Token Word) pair.front word in
+    let front_start = started (Token Word) pair.front word in
     let quoted = started (Token Str) pair.back pair.is_back in
     let size = ap length pair.whole ∙ length-append pair.front pair.back in
     let some = quoted.nonempty in
-    let first = front-first xs pair.front pair.back pair.whole started-word.nonempty in
+    let first = front-first xs pair.front pair.back pair.whole front_start.nonempty in
     let quote : get_or pair.back 0 0 ≡ 39 = is_quote (get_or pair.back 0 0) quoted.first in
     let run = run-front is_word_byte xs pair.front pair.back pair.whole (is_word pair.front word) (ap is_word_byte quote) in
     let dotted = dotted-pair pair.front pair.is_front in
@@ -187,7 +187,7 @@ form-enum xs pair =
     let inner : xs ≡ dotted.front ++ (dotted.back ++ pair.back) = pair.whole ∙ ap (λ (ys : List ℕ). ys ++ pair.back) dotted.whole ∙ append_assoc dotted.front dotted.back pair.back in
     let byte : get_or (dotted.back ++ pair.back) 0 0 ≡ 46 = ap (λ (ys : List ℕ). get_or (ys ++ pair.back) 0 0) (dot.whole ∙ ap (λ (ys : List ℕ). ys ++ dot.back) dot.is_front) in
     let short = run-front is_part_byte xs dotted.front (dotted.back ++ pair.back) inner (part-byte dotted.front dotted.is_front) (ap is_part_byte byte) in
-    first-letters (get_or xs 0 0) xs (ap is_word_start first.1 ∙ started-word.first)
+    first-letters (get_or xs 0 0) xs (ap is_word_start first.1 ∙ front_start.first)
     ∙ cond-false (prefix_len is_word_byte xs == length xs) _ _ (unequal (prefix_len is_word_byte xs) (length xs) (omega arith))
     ∙ cond-false (prefix_len is_part_byte xs == prefix_len is_word_byte xs) _ _ (unequal (prefix_len is_part_byte xs) (prefix_len is_word_byte xs) (omega arith))
 
@@ -204,9 +204,11 @@ form-int (c ∷ ds) int =
       ]
     ]
   where
+    over : (m : ℕ) → 1 < m → (m == 1) ≡ false
+    over m more = grind (arith, nat_tests)
+
     long : (b : ℕ) (bs : List ℕ) → 0 < length bs → by_sign (b ∷ bs) ≡ Token Int
-    long b [] some = absurd (omega arith)
-    long b (d ∷ bs) some = refl
+    long b bs some = cond-false (length (b ∷ bs) == 1) (Token Minus) (Token Int) (over (length (b ∷ bs)) (omega arith))
 
 form-by_front : (xs front back : List ℕ) (b : ℕ) → xs ≡ front ++ back → front ≡ b ∷ [] → get_or xs 0 0 ≡ b
 form-by_front xs front back b whole is = ap (λ (ys : List ℕ). get_or ys 0 0) (whole ∙ ap (λ (ys : List ℕ). ys ++ back) is)
@@ -229,3 +231,26 @@ form-is (LeftOut _) xs formed = absurd formed
 
 pub same_form : (xs : List ℕ) (f g : Form) → IsFormed f xs → IsFormed g xs → f ≡ g
 same_form xs f g first second = sym (form-is f xs first) ∙ form-is g xs second
+
+-- What the parts of quoted pieces begin and end with.
+
+pub no_quote-word : (xs : List ℕ) → IsDottedWord xs → (i : ℕ) → i < length xs → get_or xs i 0 ≡ 39 → ⊥
+no_quote-word xs dotted i inside quote = both_ways (is_word_byte 39) refl (sym (ap is_word_byte quote) ∙ is_word xs dotted.word i inside)
+
+pub no_quote-name : (xs : List ℕ) → IsLeftOutName xs → (i : ℕ) → i < length xs → get_or xs i 0 ≡ 39 → ⊥
+no_quote-name xs name i inside quote = both_ways (is_ascii_alphabetic 39) refl (sym (ap is_ascii_alphabetic quote) ∙ (left_out-letters xs name).letters i inside)
+
+pub string-starts : (ys : List ℕ) → IsStringSpelling ys → (0 < length ys) × (get_or ys 0 0 ≡ 39)
+string-starts ys spelled = let quoted = started (Token Str) ys spelled in (quoted.nonempty, is_quote (get_or ys 0 0) quoted.first)
+
+pub string-none : IsStringSpelling [] → ⊥
+string-none spelled = let some = (string-starts [] spelled).0 in absurd (omega arith)
+
+pub dotted-none : IsDottedWord [] → ⊥
+dotted-none dotted = let some = (started (Token Word) [] dotted.word).nonempty in absurd (omega arith)
+
+pub name-none : IsLeftOutName [] → ⊥
+name-none name = let some = (left_out-letters [] name).nonempty in absurd (omega arith)
+
+pub identifier-none : IsIdentifier [] → ⊥
+identifier-none identifier = let some = identifier-nonempty [] identifier in absurd (omega arith)

@@ -4,7 +4,6 @@ use Rattle.std.specs.Char.{is_ascii_alphabetic, is_ascii_alphanumeric}
 use Rattle.std.specs.Bool.{beq}
 use Rattle.std.specs.List.{list_all}
 use Rattle.std.specs.Str.{NonePass, encode_utf8_all}
-use Rattle.std.proofs.Math.Utf8.{encode}
 use Rattle.std.proofs.lemmas.Bool.{and_parts, both_ways, not-false}
 use Rattle.std.proofs.lemmas.Str.{NoCharPasses-byte, char_from_byte, chars-nil, encodes-chars}
 use Rattle.unicode.specs.GeneralCategory.{general_category}

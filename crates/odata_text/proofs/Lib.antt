@@ -1,5 +1,4 @@
 pub mod ByteClasses
-pub mod Examples
 pub mod Forms
 pub mod IdentifierBytes
 pub mod Identifiers
@@ -7,7 +6,6 @@ pub mod LongestPieces
 pub mod Names
 pub mod OneReading
 pub mod Pairs
-pub mod Patterns
 pub mod Places
 pub mod Quotes
 pub mod Reaches

@@ -1,9 +1,10 @@
 -- The length of a piece that is made of two, from the lengths of these.
-use Rattle.std.proofs.Common.{◌≡◌, ⊎_elim, ℕ, zero, suc, ◌+◌, ◌-◌, ◌<◌, ◌≤◌, List, [], ◌∷◌, ◌++◌, length, get_or, take, drop, arith, refl, sym, ◌∙◌, ap, subst, length-append, add-zero}
+use Rattle.std.proofs.Common.{◌≡◌, ◌⊎◌, inl, inr, ⊎_elim, ℕ, ◌+◌, ◌-◌, ◌<◌, ◌≤◌, max, List, [], ◌∷◌, ◌++◌, length, get_or, take, drop, IsUtf8, IsCharBoundary, arith, refl, sym, ◌∙◌, ap, subst, length-append, add-zero}
 use Rattle.std.proofs.lemmas.Bool.{cases_lt}
-use Rattle.std.proofs.lemmas.List.{take_at, drop_at, drop-take, take-take, take-append-drop, get_or-take, get_or-drop, length-take-le, length-drop}
+use Rattle.std.proofs.lemmas.List.{take_at, drop_at, drop-take, take-take, take-append-drop, get_or-take, get_or-drop, length-take-le, length-drop, take_rest}
+use Rattle.std.proofs.lemmas.Str.{IsCharBoundary-after_ascii}
 use Rattle.odata_text.specs.Lengths.{IsReach}
-use Rattle.odata_text.specs.Spelling.{FollowedBy}
+use Rattle.odata_text.specs.Spelling.{FollowedBy, IsByte}
 
 -- the two pieces at the front of a text
 pub record IsPairAt (A B : List ℕ → Type 0) (rest : List ℕ) (m : ℕ) : Type 0 where
@@ -116,3 +117,65 @@ followed-both A B rest a b first second inside exact reach =
           let most = reach.reaches j (omega arith) (subst (λ (k : ℕ). B (take j (drop k rest))) here at_front.is_second) in
           omega arith;
     }
+
+-- The same, as the code measures: a second piece in what is left behind the first.
+
+pub measured-no_first : (A B : List ℕ → Type 0) (rest : List ℕ) (a : ℕ) → (A [] → ⊥) → IsReach A a rest → a ≡ 0 → IsReach (FollowedBy A B) 0 rest
+measured-no_first A B rest a nonempty reach none = followed-no_first A B rest nonempty (subst (λ (n : ℕ). IsReach A n rest) none reach)
+
+pub measured-no_second : (A B : List ℕ → Type 0) (rest left : List ℕ) (a b : ℕ) → left ≡ drop a rest → (B [] → ⊥) → IsExact A B a rest → IsReach B b left → b ≡ 0 → IsReach (FollowedBy A B) 0 rest
+measured-no_second A B rest left a b behind nonempty exact reach none =
+    followed-no_second A B rest a nonempty exact (subst (IsReach B 0) behind (subst (λ (n : ℕ). IsReach B n left) none reach))
+
+pub measured-both : (A B : List ℕ → Type 0) (rest left : List ℕ) (a b : ℕ) → left ≡ drop a rest → IsExact A B a rest → IsReach A a rest → IsReach B b left → 0 < a → 0 < b → IsReach (FollowedBy A B) (a + b) rest
+measured-both A B rest left a b behind exact first second some some_more =
+    let reach = subst (IsReach B b) behind second in
+    followed-both A B rest a b (first.found some) (reach.found some_more) first.within exact reach
+
+-- what is left of a text behind its first bytes
+pub left_of : (text bytes : List ℕ) (n : ℕ) → bytes ≡ text → take (length bytes - n) (drop n bytes) ≡ drop n text
+left_of text bytes n same = take_rest bytes n ∙ ap (drop n) same
+
+-- the longer of two
+pub reach-either : (P Q : List ℕ → Type 0) (rest : List ℕ) (p q n : ℕ) → IsReach P p rest → IsReach Q q rest → n ≡ max p q → IsReach (λ xs. P xs ⊎ Q xs) n rest
+reach-either P Q rest p q n first second is =
+    let one = first.within in
+    let two = second.within in
+    ⊎_elim
+    (λ below. let here : q ≡ n = omega arith in subst (λ (k : ℕ). IsReach (λ xs. P xs ⊎ Q xs) k rest) here (record {
+      within = two;
+      found = λ positive. inr (second.found positive);
+      reaches = λ m inside spelled. ⊎_elim (λ left. let most = first.reaches m inside left in omega arith) (λ right. second.reaches m inside right) spelled;
+    }))
+    (λ above. let here : p ≡ n = omega arith in subst (λ (k : ℕ). IsReach (λ xs. P xs ⊎ Q xs) k rest) here (record {
+      within = one;
+      found = λ positive. inl (first.found positive);
+      reaches = λ m inside spelled. ⊎_elim (λ left. first.reaches m inside left) (λ right. let most = second.reaches m inside right in omega arith) spelled;
+    }))
+    (cases_lt p q)
+
+-- One byte.
+
+pub byte-length : (b : ℕ) (xs : List ℕ) → IsByte b xs → length xs ≡ 1
+byte-length b xs is = ap length is
+
+pub byte-none : (b : ℕ) → IsByte b [] → ⊥
+byte-none b is = let size : 0 ≡ 1 = ap length is in absurd (omega arith)
+
+-- the byte that was found stands at the front
+pub byte-front : (b n : ℕ) (rest : List ℕ) → IsReach (IsByte b) n rest → 0 < n → (n ≡ 1) × (get_or rest 0 0 ≡ b)
+byte-front b n rest reach some =
+    let found = reach.found some in
+    let within = reach.within in
+    let size = ap length found in
+    let taken = length-take-le n rest within in
+    (omega arith, sym (get_or-take n rest 0 0 some) ∙ ap (λ (xs : List ℕ). get_or xs 0 0) found)
+
+pub byte-boundary : (b n : ℕ) (rest : List ℕ) → IsUtf8 rest → b < 128 → IsReach (IsByte b) n rest → 0 < n → IsCharBoundary rest n
+byte-boundary b n rest utf8 ascii reach some =
+    let front = byte-front b n rest reach some in
+    let one = front.0 in
+    let byte = front.1 in
+    let within = reach.within in
+    let next : 0 + 1 ≡ n = omega arith in
+    subst (IsCharBoundary rest) next (IsCharBoundary-after_ascii rest 0 utf8 (omega arith) (omega arith))

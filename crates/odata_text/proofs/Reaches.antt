@@ -6,7 +6,7 @@ use Rattle.std.specs.List.{prefix_len}
 use Rattle.std.specs.Str.Parse.{IsNumeral, digits_value}
 use Rattle.std.proofs.lemmas.Bool.{both_ways, cases_lt, cond_both}
 use Rattle.std.proofs.lemmas.Bool.Decides.{eqb_tells, nat_tests}
-use Rattle.std.proofs.lemmas.List.{get_or_default, get_or-take, length-take-le, length-drop, drop-take, take_rest}
+use Rattle.std.proofs.lemmas.List.{get_or-take, length-take-le, length-drop, drop-take, take_rest}
 use Rattle.std.proofs.lemmas.List.Sums.{prefix_len-le-length, prefix_len_passes, prefix_len_stops}
 use Rattle.std.proofs.lemmas.Str.Parse.{digit_at, numerals_by_value, tells_by_index}
 use Rattle.edm_values.specs.IntLiteral.{IsIntSpelling}

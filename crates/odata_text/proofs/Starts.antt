@@ -13,9 +13,9 @@ use Rattle.odata_text.specs.Spelling.{FollowedBy, IsByte, IsDottedWord, IsFormed
 use Rattle.odata_text.specs.declared.byte_class.ByteClass.TheVariants.{Space}
 use Rattle.odata_text.specs.declared.form.Form.{Form}
 use Rattle.odata_text.specs.declared.form.Form.TheVariants.{Token, LeftOut}
-use Rattle.odata_text.specs.declared.form.LeftOutKind.TheVariants.{Number, Clock, Quoted}
+use Rattle.odata_text.specs.declared.form.LeftOutKind.TheVariants.{Quoted}
 use Rattle.odata_text.specs.declared.token.TokenKind.{TokenKind}
-use Rattle.odata_text.specs.declared.token.TokenKind.TheVariants.{Word, Dollar, Int, Date, Moment, Guid, Str, EnumLit, Open, Close, Comma, Slash, Colon, Minus}
+use Rattle.odata_text.specs.declared.token.TokenKind.TheVariants.{Word, Dollar, Int, Str, EnumLit, Open, Close, Comma, Slash, Colon, Minus}
 use Rattle.odata_text.proofs.ByteClasses.{space-from_class}
 use Rattle.odata_text.proofs.IdentifierBytes.{identifier-first, identifier-nonempty, is_first_byte}
 use Rattle.odata_text.proofs.Names.{left_out-letters}

@@ -1,14 +1,14 @@
 -- Words, read identifier by identifier.
-use Rattle.std.proofs.Common.{◌≡◌, ◌⊎◌, inl, inr, ⊎_elim, ℕ, zero, suc, ◌+◌, ◌-◌, ◌<◌, ◌≤◌, ◌||◌, ◌==◌, true, false, List, [], ◌∷◌, ◌++◌, length, get_or, take, drop, IsUtf8, IsCharBoundary, arith, refl, sym, ◌∙◌, ap, subst, length-append, append_assoc, add-zero}
+use Rattle.std.proofs.Common.{◌≡◌, ◌⊎◌, inl, inr, ⊎_elim, ℕ, zero, ◌+◌, ◌-◌, ◌<◌, ◌≤◌, ◌||◌, ◌==◌, List, [], ◌∷◌, ◌++◌, length, get_or, take, drop, IsUtf8, IsCharBoundary, arith, refl, sym, ◌∙◌, ap, subst, append_assoc, add-zero}
 use Rattle.std.specs.List.{AllByRecursion as AllOf}
-use Rattle.std.proofs.lemmas.Bool.{both_ways, cases_lt}
+use Rattle.std.proofs.lemmas.Bool.{both_ways}
 use Rattle.std.proofs.lemmas.List.{drop-drop, get_or-drop, get_or-take, length-drop, length-take-le}
 use Rattle.std.proofs.lemmas.Str.{IsCharBoundary-from_drop, IsUtf8-drop}
 use Rattle.odata_text.specs.Identifier.{IsIdentifier}
 use Rattle.odata_text.specs.Lengths.{IsReach}
 use Rattle.odata_text.specs.Spelling.{FollowedBy, IsByte, IsDottedWord, IsWord, joined}
 use Rattle.odata_text.proofs.IdentifierBytes.{identifier-byte, identifier-nonempty, is_name_byte}
-use Rattle.odata_text.proofs.Pairs.{IsExact, exact-by_byte, pair-found, pair_at}
+use Rattle.odata_text.proofs.Pairs.{exact-by_byte, pair-found, pair_at}
 
 -- A word is one identifier, or one with a dot and a word behind it.
 

@@ -1,12 +1,8 @@
-pub use Rattle.edm_values.specs.DateLiteral
-pub use Rattle.edm_values.specs.GuidLiteral
 pub use Rattle.edm_values.specs.IntLiteral
-pub use Rattle.edm_values.specs.MomentLiteral
 pub use Rattle.edm_values.specs.StringLiteral
 pub mod ByteClass
 pub mod Identifier
 pub mod Lengths
 pub mod Piece
 pub mod Spelling
-pub mod TokenExamples
 pub mod Tokens

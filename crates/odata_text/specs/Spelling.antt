@@ -2,19 +2,15 @@
 use Rattle.std.specs.Prelude.{◌≡◌, ℕ, ◌<◌, ◌⊎◌, true, List, [], ◌∷◌, ◌++◌, codes, length}
 use Rattle.std.specs.List.{AllByRecursion as AllOf}
 use Rattle.std.specs.Str.{str_eq_ignore_ascii_case}
-use Rattle.std.specs.Str.Parse.{IsNumeral}
-use Rattle.edm_values.specs.DateLiteral.{IsDateSpelling}
-use Rattle.edm_values.specs.GuidLiteral.{IsGuidSpelling}
 use Rattle.edm_values.specs.IntLiteral.{IsIntSpelling}
-use Rattle.edm_values.specs.MomentLiteral.{IsClockSpelling, IsMomentSpelling, IsSecondsSpelling}
 use Rattle.edm_values.specs.StringLiteral.{IsStringSpelling}
 use Rattle.odata_text.specs.Identifier.{IsIdentifier}
 use Rattle.odata_text.specs.declared.form.Form.{Form}
 use Rattle.odata_text.specs.declared.form.Form.TheVariants.{Token, LeftOut}
 use Rattle.odata_text.specs.declared.form.LeftOutKind.{LeftOutKind}
-use Rattle.odata_text.specs.declared.form.LeftOutKind.TheVariants.{Number, Clock, Quoted}
+use Rattle.odata_text.specs.declared.form.LeftOutKind.TheVariants.{Quoted}
 use Rattle.odata_text.specs.declared.token.TokenKind.{TokenKind}
-use Rattle.odata_text.specs.declared.token.TokenKind.TheVariants.{Word, Dollar, Int, Date, Moment, Guid, Str, EnumLit, Open, Close, Comma, Slash, Colon, Minus}
+use Rattle.odata_text.specs.declared.token.TokenKind.TheVariants.{Word, Dollar, Int, Str, EnumLit, Open, Close, Comma, Slash, Colon, Minus}
 
 -- this one byte
 abbrev pub IsByte : ℕ → List ℕ → Type 0
@@ -50,18 +46,6 @@ pub record IsDottedWord (bytes : List ℕ) : Type 0 where
 
 -- Literals that are left out.
 
--- a dot and digits
-abbrev pub IsFraction : List ℕ → Type 0
-IsFraction bytes = FollowedBy (IsByte 46) (IsNumeral 10) bytes
-
--- `e` or `E`, perhaps a sign, digits
-abbrev pub IsExponent : List ℕ → Type 0
-IsExponent bytes = FollowedBy (λ e. IsByte 101 e ⊎ IsByte 69 e) IsIntSpelling bytes
-
--- a fraction, an exponent or both
-abbrev pub IsDecimals : List ℕ → Type 0
-IsDecimals bytes = IsFraction bytes ⊎ (IsExponent bytes ⊎ FollowedBy IsFraction IsExponent bytes)
-
 -- the name of a type that is left out, in any case of its letters
 abbrev pub IsLeftOutName : List ℕ → Type 0
 IsLeftOutName bytes =
@@ -69,22 +53,18 @@ IsLeftOutName bytes =
     ⊎ ((str_eq_ignore_ascii_case bytes (codes "binary") ≡ true)
     ⊎ ((str_eq_ignore_ascii_case bytes (codes "geography") ≡ true) ⊎ (str_eq_ignore_ascii_case bytes (codes "geometry") ≡ true)))
 
--- a number that is not whole (decimalValue, doubleValue); a time of day (timeOfDayValue); such a name and a text in quotes
+-- such a name and a text in quotes; the other two have no spelling yet
 abbrev pub SpellsLeftOut : LeftOutKind → List ℕ → Type 0
-SpellsLeftOut Number bytes = FollowedBy IsIntSpelling IsDecimals bytes
-SpellsLeftOut Clock bytes = FollowedBy IsClockSpelling IsSecondsSpelling bytes
 SpellsLeftOut Quoted bytes = FollowedBy IsLeftOutName IsStringSpelling bytes
+SpellsLeftOut _ bytes = ⊥
 
 -- Tokens.
 
--- the bytes are spelled as a token of the kind
+-- the bytes are spelled as a token of the kind; the kinds without a row have no spelling yet
 abbrev pub Spells : TokenKind → List ℕ → Type 0
 Spells Word bytes = IsWord bytes
 Spells Dollar bytes = FollowedBy (IsByte 36) IsIdentifier bytes
 Spells Int bytes = IsIntSpelling bytes
-Spells Date bytes = IsDateSpelling bytes
-Spells Moment bytes = IsMomentSpelling bytes
-Spells Guid bytes = IsGuidSpelling bytes
 Spells Str bytes = IsStringSpelling bytes
 Spells EnumLit bytes = FollowedBy IsDottedWord IsStringSpelling bytes
 Spells Open bytes = IsByte 40 bytes
@@ -93,6 +73,7 @@ Spells Comma bytes = IsByte 44 bytes
 Spells Slash bytes = IsByte 47 bytes
 Spells Colon bytes = IsByte 58 bytes
 Spells Minus bytes = IsByte 45 bytes
+Spells _ bytes = ⊥
 
 -- the bytes are such a piece
 abbrev pub IsFormed : Form → List ℕ → Type 0

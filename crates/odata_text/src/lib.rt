@@ -4,7 +4,6 @@
 mod byte_class;
 mod fault;
 mod form;
-mod guid;
 mod identifier;
 mod laws;
 mod longest;
@@ -13,13 +12,12 @@ mod pattern;
 mod quoted;
 mod scan;
 mod span;
-mod time;
 mod token;
 mod word;
 
 pub use fault::TextFault;
 pub use identifier::is_identifier;
-pub use laws::{one_reading, plain_reading, run_on_reading};
+pub use laws::one_reading;
 pub use scan::tokens;
 pub use span::Span;
 pub use token::{Token, TokenKind};

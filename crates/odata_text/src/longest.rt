@@ -2,11 +2,9 @@ ghost use Rattle.std.specs.Prelude.{◌<◌, ◌≤◌, ℕ, MatchOption, length
 ghost use Rattle.odata_text.specs.Tokens.{IsLongest, NoneSpelled};
 
 use super::form::{Form, LeftOutKind};
-use super::guid::guid_length;
-use super::number::{int_length, number_length};
+use super::number::int_length;
 use super::pattern::byte_length;
 use super::quoted::string_length;
-use super::time::{clock_length, date_length, moment_length};
 use super::token::TokenKind;
 use super::word::{dollar_length, enum_length, quoted_length, word_length};
 
@@ -35,9 +33,6 @@ pub fn longest(rest: &str) -> Option<(Form, usize)>
         (Form::Token(TokenKind::Word), word_length(rest)),
         (Form::Token(TokenKind::Dollar), dollar_length(rest)),
         (Form::Token(TokenKind::Int), int_length(bytes)),
-        (Form::Token(TokenKind::Date), date_length(bytes)),
-        (Form::Token(TokenKind::Moment), moment_length(bytes)),
-        (Form::Token(TokenKind::Guid), guid_length(bytes)),
         (Form::Token(TokenKind::Str), string_length(bytes)),
         (Form::Token(TokenKind::EnumLit), enum_length(rest)),
         (Form::Token(TokenKind::Open), byte_length(b'(', bytes)),
@@ -46,8 +41,6 @@ pub fn longest(rest: &str) -> Option<(Form, usize)>
         (Form::Token(TokenKind::Slash), byte_length(b'/', bytes)),
         (Form::Token(TokenKind::Colon), byte_length(b':', bytes)),
         (Form::Token(TokenKind::Minus), byte_length(b'-', bytes)),
-        (Form::LeftOut(LeftOutKind::Number), number_length(bytes)),
-        (Form::LeftOut(LeftOutKind::Clock), clock_length(bytes)),
         (Form::LeftOut(LeftOutKind::Quoted), quoted_length(bytes)),
     ];
     let best = candidates[best_of(&candidates)];

@@ -1,26 +1,14 @@
 ghost use Rattle.std.specs.Prelude.{◌≡◌, ◌≤◌, length};
 ghost use Rattle.std.specs.Char.{is_ascii_digit};
 ghost use Rattle.std.specs.List.{prefix_len};
-ghost use Rattle.std.specs.Str.Parse.{IsNumeral};
 ghost use Rattle.edm_values.specs.IntLiteral.{IsIntSpelling};
 ghost use Rattle.odata_text.specs.Lengths.{IsReach, sign_length};
-ghost use Rattle.odata_text.specs.Spelling.{IsDecimals, IsExponent, IsFraction, SpellsLeftOut};
-
-use super::form::LeftOutKind;
-use super::pattern::{ByteTest, byte_length, pattern_length};
 
 fn digit_run(rest: &[u8]) -> usize
     ensures value { result ≡ prefix_len is_ascii_digit rest.now }
     ensures within { result ≤ length rest.now }
 {
     rest.iter().take_while(|byte| byte.is_ascii_digit()).count()
-}
-
-/// How many bytes the digits at the front take.
-fn digits_length(rest: &[u8]) -> usize
-    ensures { IsReach (IsNumeral 10) result rest.now }
-{
-    digit_run(rest)
 }
 
 fn sign_length(rest: &[u8]) -> usize
@@ -41,52 +29,5 @@ pub fn int_length(rest: &[u8]) -> usize
     match digit_run(&rest[sign..]) {
         0 => 0,
         digits => sign + digits,
-    }
-}
-
-/// How many bytes the dot and digits at the front take, 0 if there are none.
-pub fn fraction_length(rest: &[u8]) -> usize
-    ensures { IsReach IsFraction result rest.now }
-{
-    match byte_length(b'.', rest) {
-        0 => 0,
-        dot => match digits_length(&rest[dot..]) {
-            0 => 0,
-            digits => dot + digits,
-        },
-    }
-}
-
-/// How many bytes the exponent at the front takes, 0 if there is none.
-fn exponent_length(rest: &[u8]) -> usize
-    ensures { IsReach IsExponent result rest.now }
-{
-    match pattern_length(&[ByteTest::ExponentMark], rest) {
-        0 => 0,
-        mark => match int_length(&rest[mark..]) {
-            0 => 0,
-            power => mark + power,
-        },
-    }
-}
-
-/// How many bytes the fraction, the exponent or both take at the front, 0 if there is neither.
-fn decimals_length(rest: &[u8]) -> usize
-    ensures { IsReach IsDecimals result rest.now }
-{
-    let fraction = fraction_length(rest);
-    fraction + exponent_length(&rest[fraction..])
-}
-
-/// How many bytes the number with a fraction, an exponent or both at the front takes, 0 if there is none.
-pub fn number_length(rest: &[u8]) -> usize
-    ensures { IsReach (SpellsLeftOut LeftOutKind.Number) result rest.now }
-{
-    match int_length(rest) {
-        0 => 0,
-        whole => match decimals_length(&rest[whole..]) {
-            0 => 0,
-            decimals => whole + decimals,
-        },
     }
 }
