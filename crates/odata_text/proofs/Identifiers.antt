@@ -52,18 +52,18 @@ IsRun-any [] = record { rest = []; parts = refl; run = refl }
 IsRun-any (c ∷ cs) =
     ⊎_elim
     (λ goes.
-        let more = IsRun-any cs in
-        let front : take_while continues_identifier (c ∷ cs) ≡ c ∷ take_while continues_identifier cs = take_while-cons continues_identifier c cs ∙ cond-true (continues_identifier c) _ _ goes in
-        record {
-          rest = more.rest;
-          parts = ap (λ (xs : List ℕ). c ∷ xs) more.parts ∙ sym (ap (λ (xs : List ℕ). xs ++ more.rest) front);
-          run = ap (list_all continues_identifier) front ∙ and_from _ _ goes more.run;
-        })
+    let more = IsRun-any cs in
+    let front : take_while continues_identifier (c ∷ cs) ≡ c ∷ take_while continues_identifier cs = take_while-cons continues_identifier c cs ∙ cond-true (continues_identifier c) _ _ goes in
+    record {
+      rest = more.rest;
+      parts = ap (λ (xs : List ℕ). c ∷ xs) more.parts ∙ sym (ap (λ (xs : List ℕ). xs ++ more.rest) front);
+      run = ap (list_all continues_identifier) front ∙ and_from _ _ goes more.run;
+    })
     (λ stops. record {
-        rest = c ∷ cs;
-        parts = sym (ap (λ (xs : List ℕ). xs ++ (c ∷ cs)) (take_while-stops c cs stops));
-        run = ap (list_all continues_identifier) (take_while-stops c cs stops);
-      })
+      rest = c ∷ cs;
+      parts = sym (ap (λ (xs : List ℕ). xs ++ (c ∷ cs)) (take_while-stops c cs stops));
+      run = ap (list_all continues_identifier) (take_while-stops c cs stops);
+    })
     (cases_Bool (continues_identifier c))
 
 -- The run at the front of a text.
@@ -130,18 +130,18 @@ pub run-stops : (rest read : List ℕ) (n c : ℕ) → continues_identifier c �
 run-stops rest read n c stops so_far next =
     so_far.bytes
     ∙ sym (ap (λ (xs : List ℕ). length (encode_utf8_all xs)) (
-      ap (take_while continues_identifier) next.parts
-      ∙ take_while-front read (c ∷ next.left) so_far.run
-      ∙ ap (λ (xs : List ℕ). read ++ xs) (take_while-stops c next.left stops)
-      ∙ append-nil read))
+    ap (take_while continues_identifier) next.parts
+    ∙ take_while-front read (c ∷ next.left) so_far.run
+    ∙ ap (λ (xs : List ℕ). read ++ xs) (take_while-stops c next.left stops)
+    ∙ append-nil read))
 
 pub run-whole : (rest read : List ℕ) (n : ℕ) → IsRunSoFar read n → read ≡ chars rest → n ≡ identifier_run rest
 run-whole rest read n so_far whole =
     so_far.bytes
     ∙ sym (ap (λ (xs : List ℕ). length (encode_utf8_all xs)) (
-      ap (take_while continues_identifier) (sym whole ∙ sym (append-nil read))
-      ∙ take_while-front read [] so_far.run
-      ∙ append-nil read))
+    ap (take_while continues_identifier) (sym whole ∙ sym (append-nil read))
+    ∙ take_while-front read [] so_far.run
+    ∙ append-nil read))
 
 pub run-end : (rest read : List ℕ) (n : ℕ) → IsUtf8 rest → IsRunSoFar read n → read ≡ chars rest → IsCharBoundary rest n
 run-end rest read n utf8 so_far whole = boundary-split rest read [] n utf8 (sym whole ∙ sym (append-nil read)) so_far.bytes
@@ -186,11 +186,11 @@ run-identifier rest cs c utf8 first begins =
     let run = take_while continues_identifier (chars rest) in
     let whole = IsRun-any (chars rest) in
     let bytes : take (identifier_run rest) rest ≡ encode_utf8_all run =
-        ap (take (identifier_run rest)) (bytes-split rest run whole.rest utf8 whole.parts) ∙ take-append_seam (encode_utf8_all run) (encode_utf8_all whole.rest) in
+    ap (take (identifier_run rest)) (bytes-split rest run whole.rest utf8 whole.parts) ∙ take-append_seam (encode_utf8_all run) (encode_utf8_all whole.rest) in
     let scalars = scalars-left run whole.rest (subst (λ (zs : List ℕ). all_scalars zs ≡ true) whole.parts (scalars-chars rest utf8)) in
     let more = IsRun-any cs in
     let front : run ≡ c ∷ take_while continues_identifier cs =
-        ap (take_while continues_identifier) first ∙ take_while-cons continues_identifier c cs ∙ cond-true (continues_identifier c) _ _ (continues-from_begins c begins) in
+    ap (take_while continues_identifier) first ∙ take_while-cons continues_identifier c cs ∙ cond-true (continues_identifier c) _ _ (continues-from_begins c begins) in
     record {
       utf8 = (run, (scalars, sym bytes));
       characters = ap is_identifier (ap chars bytes ∙ chars-encodes run scalars ∙ front) ∙ and_from _ _ begins more.run;
@@ -248,9 +248,9 @@ identifier-nonempty (b ∷ bs) identifier = omega arith
 pub reach-tells-none : (text : List ℕ) (n : ℕ) → IsUtf8 text → IsReach IsIdentifier n text → n ≡ 0 → false ≡ is_identifier (chars text)
 reach-tells-none text n utf8 reach none =
     sym (false_from_ne_true _ (λ identifier.
-        let whole = whole-reached text n utf8 reach identifier in
-        let some = identifier-nonempty text identifier in
-        omega arith))
+    let whole = whole-reached text n utf8 reach identifier in
+    let some = identifier-nonempty text identifier in
+    omega arith))
 
 pub reach-tells : (text : List ℕ) (n : ℕ) → IsUtf8 text → IsReach IsIdentifier n text → 0 < n → (n == length text) ≡ is_identifier (chars text)
 reach-tells text n utf8 reach some =

@@ -7,6 +7,8 @@ pub mod Names
 pub mod OneReading
 pub mod Pairs
 pub mod Places
+pub mod Queries
+pub mod QueryLoops
 pub mod Quotes
 pub mod Reaches
 pub mod Scans

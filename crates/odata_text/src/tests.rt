@@ -1,3 +1,6 @@
+mod identifiers;
+mod queries;
+
 use super::fault::TextFault;
 use super::scan::tokens;
 use super::span::Span;

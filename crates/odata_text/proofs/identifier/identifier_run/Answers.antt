@@ -1,5 +1,4 @@
-use Rattle.std.proofs.Common.{◌≡◌, true, false, length, arith, sym, ◌∙◌, ap, subst, map-id, not}
-use Rattle.std.proofs.lemmas.Bool.{not-true, not-false}
+use Rattle.std.proofs.Common.{◌≡◌, true, false, length, arith, sym, ◌∙◌, ap, subst, map-id}
 use Rattle.std.proofs.lemmas.Iterator.{YieldsList-from_chars}
 use Rattle.std.proofs.lemmas.Iterator.Consumers.{YieldsList-end, YieldsList-so_far, YieldsList-turn}
 use Rattle.odata_text.specs.Identifier.{continues_identifier}
@@ -12,7 +11,7 @@ returns-then-not-continues_identifier-clause-value c =
     let road = YieldsList-from_chars c.args.rest.now c.utf8.rest cc in
     let turn = YieldsList-turn road c.loop-character.yielded c.loop-character.character-iterator c.loop-character.yielded_by _ _ c.in-Some.character c.in-Some.is c.next.ensures.steps in
     let next = next-in c.args.rest.now c.loop-character.yielded c.in-Some.character (YieldsList-so_far road c.loop-character.yielded c.loop-character.character-iterator c.loop-character.yielded_by) turn.0 turn.1 in
-    run-stops c.args.rest.now c.loop-character.yielded c.loop-character.length c.in-Some.character (sym c.continues_identifier.ensures ∙ not-true c.continues_identifier.result c.if-not-continues_identifier.true) c.loop-character.invariant next
+    run-stops c.args.rest.now c.loop-character.yielded c.loop-character.length c.in-Some.character (sym c.continues_identifier.ensures ∙ c.if-not-continues_identifier.true) c.loop-character.invariant next
 
 pub returns-then-not-continues_identifier-clause-boundary :
     goal.returns-then-not-continues_identifier-clause-boundary
@@ -34,7 +33,7 @@ overflow_add-length c =
 pub loop-character-preserved : goal.loop-character-preserved
 loop-character-preserved c =
     rw c.len_utf8-length.ensures.value
-    (run-more c.loop-character.yielded c.loop-character.length c.in-Some.character (sym c.continues_identifier.ensures ∙ not-false c.continues_identifier.result c.if-not-continues_identifier.false) c.loop-character.invariant)
+    (run-more c.loop-character.yielded c.loop-character.length c.in-Some.character (sym c.continues_identifier.ensures ∙ c.if-not-continues_identifier.false) c.loop-character.invariant)
 
 pub returns-clause-value : goal.returns-clause-value
 returns-clause-value c =

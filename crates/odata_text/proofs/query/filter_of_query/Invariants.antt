@@ -1,0 +1,6 @@
+use Rattle.std.proofs.Common.{◌≡◌, length, option_map, string_bytes}
+use Rattle.odata_text.proofs.QueryLoops.{IsReadSoFar}
+use Rattle.odata_text.proofs.query.filter_of_query.Given as goal
+
+abbrev pub invariant-loop-option : goal.invariant-loop-option
+invariant-loop-option l = IsReadSoFar l.query l.number l.start (option_map string_bytes l.filter) × (l.number ≡ length l.yielded)

@@ -1,0 +1,5 @@
+use Rattle.odata_text.proofs.QueryLoops.{IsGoodSoFar}
+use Rattle.odata_text.proofs.query_part.bad_escape.Given as goal
+
+abbrev pub invariant-loop-place : goal.invariant-loop-place
+invariant-loop-place l = IsGoodSoFar l.part l.place

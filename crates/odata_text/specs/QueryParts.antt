@@ -1,0 +1,25 @@
+-- Words of private contracts alone: what the functions that read a query's options answer.
+use Rattle.std.specs.Prelude.{◌≡◌, ℕ, ◌<◌, true, false, ⊤, List, Option, Some, None}
+use Rattle.percent_encoding.specs.Percent.{percent_decode}
+use Rattle.odata_text.specs.Query.{is_bad_escape, is_filter, value_of}
+
+-- a bad escape, and none before it
+pub record IsFirstBad (part : List ℕ) (place : ℕ) : Type 0 where
+  pub bad : is_bad_escape part place ≡ true
+  pub first : (earlier : ℕ) → earlier < place → is_bad_escape part earlier ≡ false
+
+-- what a readable option says: its value, decoded, if it is the filter
+abbrev pub Says : List ℕ → Option (List ℕ) → Type 0
+Says option None = is_filter option ≡ false
+Says option (Some text) = (is_filter option ≡ true) × (text ≡ percent_decode (value_of option))
+
+-- two options are the filter
+abbrev pub AreTwo : Option (List ℕ) → Option (List ℕ) → Type 0
+AreTwo (Some text) (Some other) = ⊤
+AreTwo _ _ = ⊥
+
+-- the filter behind one more option, unless there are two
+abbrev pub Joins : Option (List ℕ) → Option (List ℕ) → Option (List ℕ) → Type 0
+Joins None found kept = kept ≡ found
+Joins (Some text) None kept = kept ≡ Some text
+Joins (Some text) (Some other) kept = ⊥

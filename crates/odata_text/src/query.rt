@@ -1,0 +1,128 @@
+ghost use Rattle.std.specs.Prelude.{◌≡◌, ◌≢◌, ℕ, ◌+◌, ◌<◌, ◌≤◌, ◌==◌, ◌^◌, IfErr, IfOk, List, Option, length, option_map, string_bytes};
+ghost use Rattle.std.specs.Cow.{cow_str_bytes};
+ghost use Rattle.std.specs.List.{position_or_len};
+ghost use Rattle.odata_text.specs.Query.{IsFilterOf, IsOptionFault, IsQueryFault, IsReadable, name_of, value_of};
+ghost use Rattle.odata_text.specs.QueryParts.{AreTwo, Joins, Says};
+
+use super::query_fault::QueryFault;
+use super::query_name::{is_filter_name, is_other_name};
+use super::query_part::decoded_part;
+use std::alloc::Global;
+use std::borrow::CowStr;
+
+/// How many bytes stand before the first `=` of an option.
+fn name_length(option: &[u8]) -> usize
+    ensures value { result ≡ position_or_len (λ b. b == 61) option.now }
+    ensures within { result ≤ length option.now }
+{
+    option.iter().take_while(|byte| **byte != b'=').count()
+}
+
+/// What stands before and behind the first `=` of an option.
+#[tactic(auto, unfolding(crate::specs::Query::name_of, crate::specs::Query::value_of))]
+fn name_and_value(option: &[u8]) -> (&[u8], &[u8])
+    ensures name { result.0.now ≡ name_of option.now }
+    ensures value { result.1.now ≡ value_of option.now }
+{
+    let end = name_length(option);
+    if end < option.len() {
+        (&option[..end], &option[end + 1..])
+    } else {
+        (option, &[])
+    }
+}
+
+/// The text as a string of its own.
+fn owned_text(alloc: Global, text: CowStr<'_, Global>) -> Result<String, QueryFault>
+    ensures text { IfOk result (λ owned. string_bytes owned ≡ cow_str_bytes text.entry) }
+    ensures fault { IfErr result (λ fault. fault ≡ QueryFault.Memory) }
+{
+    match text.into_owned(alloc) {
+        Ok(owned) => Ok(owned),
+        Err(_) => Err(QueryFault::Memory),
+    }
+}
+
+/// The text of an option that is the filter, or nothing if it is a custom one.
+fn filter_of_option(
+    alloc: Global,
+    option: &[u8],
+    number: usize,
+    start: usize,
+) -> Result<Option<String>, QueryFault>
+    requires { start + length option.now < 2 ^ 63 }
+    ensures readable { IfOk result (λ filter. IsReadable option.now) }
+    ensures says { IfOk result (λ filter. Says option.now (option_map string_bytes filter)) }
+    ensures fault { IfErr result (λ fault. fault ≢ QueryFault.Memory
+        → (filters : ℕ) → IsOptionFault option.now number start filters fault) }
+{
+    let (name, value) = name_and_value(option);
+    let name_text = match decoded_part(alloc, name, number, start) {
+        Ok(text) => text,
+        Err(fault) => return Err(fault),
+    };
+    let value_text = match decoded_part(alloc, value, number, start + name.len() + 1) {
+        Ok(text) => text,
+        Err(fault) => return Err(fault),
+    };
+    if is_other_name(name_text.as_str()) {
+        return Err(QueryFault::OtherOption { option: number });
+    }
+    if !is_filter_name(name_text.as_str()) {
+        return Ok(None);
+    }
+    match owned_text(alloc, value_text) {
+        Ok(text) => Ok(Some(text)),
+        Err(fault) => Err(fault),
+    }
+}
+
+/// The filter behind one more option, which may be the filter too.
+fn with_found(
+    filter: Option<String>,
+    found: Option<String>,
+    number: usize,
+) -> Result<Option<String>, QueryFault>
+    ensures ok { IfOk result (λ kept. Joins (option_map string_bytes filter)
+        (option_map string_bytes found) (option_map string_bytes kept)) }
+    ensures fault { IfErr result (λ fault. (fault ≡ QueryFault.Repeated number)
+        × AreTwo (option_map string_bytes filter) (option_map string_bytes found)) }
+{
+    match (filter, found) {
+        (Some(_), Some(_)) => Err(QueryFault::Repeated { option: number }),
+        (Some(text), None) => Ok(Some(text)),
+        (None, Some(text)) => Ok(Some(text)),
+        (None, None) => Ok(None),
+    }
+}
+
+/// The text of the filter that a query string asks for, decoded; `None` where it asks for none.
+///
+/// The options are the pieces between `&`; the filter is the one named `filter` or `$filter` in any ASCII case. Custom
+/// options are passed over, but they too are decoded; a `+` is a `+`, as RFC 3986 has it. A refusal other than `Memory`
+/// is the first fault from the left, the name of an option before its value.
+pub fn filter_of_query(alloc: Global, query: &[u8]) -> Result<Option<String>, QueryFault>
+    ensures filter { IfOk result (λ filter. IsFilterOf query.now (option_map string_bytes filter)) }
+    ensures only { IfOk result (λ filter. (other : Option (List ℕ))
+        → IsFilterOf query.now other → other ≡ option_map string_bytes filter) }
+    ensures fault { IfErr result (λ fault. fault ≢ QueryFault.Memory → IsQueryFault query.now fault) }
+    ensures none { IfErr result (λ fault. fault ≢ QueryFault.Memory → (filter : Option (List ℕ))
+        → IsFilterOf query.now filter → ⊥) }
+{
+    let mut filter = None;
+    let mut number = 0;
+    let mut start = 0;
+    for option in query.split(|byte| *byte == b'&') {
+        let found = match filter_of_option(alloc, option, number, start) {
+            Ok(found) => found,
+            Err(fault) => return Err(fault),
+        };
+        filter = match with_found(filter, found, number) {
+            Ok(kept) => kept,
+            Err(fault) => return Err(fault),
+        };
+        number += 1;
+        start += option.len() + 1;
+    }
+    Ok(filter)
+}

@@ -1,0 +1,14 @@
+/// Why a query has no filter to give: its first fault.
+#[derive(Clone, Copy, Debug, PartialEq, Eq)]
+pub enum QueryFault {
+    /// A `%` without two hexadecimal digits behind it, at this byte of the query.
+    BadEscape { place: usize },
+    /// The name or the value of this option is no UTF-8 once it is decoded. Options count from 0, empty ones too.
+    NotUtf8 { option: usize },
+    /// This option is a second filter.
+    Repeated { option: usize },
+    /// This option is a system query option other than the filter.
+    OtherOption { option: usize },
+    /// No memory was left for the text.
+    Memory,
+}

@@ -1,0 +1,15 @@
+//! What the definitions of a query's filter and of its first fault say of every query.
+
+ghost use Rattle.std.specs.Prelude.{◌≡◌, ℕ, List, Option};
+ghost use Rattle.odata_text.specs.Query.{IsFilterOf, IsQueryFault};
+ghost use Rattle.odata_text.specs.declared.query_fault.QueryFault.{QueryFault};
+
+/// A query has at most one filter or first fault, and never both.
+pub fn one_query_reading()
+    ensures filter { (query : List ℕ) (first second : Option (List ℕ))
+        → IsFilterOf query first → IsFilterOf query second → first ≡ second }
+    ensures fault { (query : List ℕ) (first second : QueryFault)
+        → IsQueryFault query first → IsQueryFault query second → first ≡ second }
+    ensures not_both { (query : List ℕ) (filter : Option (List ℕ)) (fault : QueryFault)
+        → IsFilterOf query filter → IsQueryFault query fault → ⊥ }
+{}
