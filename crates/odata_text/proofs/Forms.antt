@@ -123,17 +123,17 @@ part-byte xs identifier i inside =
 word-byte-part : (b : ℕ) → is_part_byte b ≡ true → is_word_byte b ≡ true
 word-byte-part b part = ap (λ (t : Bool). t || (b == 46)) part
 
+after-dot : (xs : List ℕ) → ((k : ℕ) → k < length xs → is_word_byte (get_or xs k 0) ≡ true) → (k : ℕ) → k < length (46 ∷ xs) → is_word_byte (get_or (46 ∷ xs) k 0) ≡ true
+after-dot xs each zero below = refl
+after-dot xs each (suc k) below = each k (omega arith)
+
 pub word-byte : (part : List ℕ) (more : List (List ℕ)) → IsIdentifier part → AllOf IsIdentifier more → (i : ℕ) → i < length (joined part more) → is_word_byte (get_or (joined part more) i 0) ≡ true
 word-byte part [] identifier all i inside = word-byte-part (get_or part i 0) (part-byte part identifier i inside)
 word-byte part (next ∷ more) identifier all i inside =
     ⊎_elim
     (λ below. ap is_word_byte (get_or-append part (46 ∷ joined next more) 0 i below) ∙ word-byte-part (get_or part i 0) (part-byte part identifier i below))
-    (λ above. ap is_word_byte (get_or-append_right part (46 ∷ joined next more) i 0 above) ∙ behind (i - length part) (omega (arith, length-append part (46 ∷ joined next more))))
+    (λ above. ap is_word_byte (get_or-append_right part (46 ∷ joined next more) i 0 above) ∙ after-dot (joined next more) (λ k below. word-byte next more all.0 all.1 k below) (i - length part) (omega (arith, length-append part (46 ∷ joined next more))))
     (cases_lt i (length part))
-  where
-    behind : (k : ℕ) → k < length (46 ∷ joined next more) → is_word_byte (get_or (46 ∷ joined next more) k 0) ≡ true
-    behind zero below = refl
-    behind (suc k) below = word-byte next more all.0 all.1 k (omega arith)
 
 pub is_word : (xs : List ℕ) → IsWord xs → (i : ℕ) → i < length xs → is_word_byte (get_or xs i 0) ≡ true
 is_word xs word i inside =

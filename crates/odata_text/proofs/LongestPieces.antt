@@ -89,7 +89,3 @@ covers a b c d e f g h i j k l (Token Minus) xs formed = record { place = 10; wi
 covers a b c d e f g h i j k l (Token _) xs formed = absurd formed
 covers a b c d e f g h i j k l (LeftOut Quoted) xs formed = record { place = 11; within = omega arith; form_at = λ o. refl }
 covers a b c d e f g h i j k l (LeftOut _) xs formed = absurd formed
-
--- what is measured in the bytes of a text is measured in the text
-pub on_text : (P : List ℕ → Type 0) (n : ℕ) (bytes text : List ℕ) → bytes ≡ text → IsReach P n bytes → IsReach P n text
-on_text P n bytes text same reach = subst (IsReach P n) same reach

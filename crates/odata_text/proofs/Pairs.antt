@@ -160,7 +160,7 @@ pub byte-length : (b : ℕ) (xs : List ℕ) → IsByte b xs → length xs ≡ 1
 byte-length b xs is = ap length is
 
 pub byte-none : (b : ℕ) → IsByte b [] → ⊥
-byte-none b is = let size : 0 ≡ 1 = ap length is in absurd (omega arith)
+byte-none b is = cc
 
 -- the byte that was found stands at the front
 pub byte-front : (b n : ℕ) (rest : List ℕ) → IsReach (IsByte b) n rest → 0 < n → (n ≡ 1) × (get_or rest 0 0 ≡ b)
@@ -179,3 +179,12 @@ byte-boundary b n rest utf8 ascii reach some =
     let within = reach.within in
     let next : 0 + 1 ≡ n = omega arith in
     subst (IsCharBoundary rest) next (IsCharBoundary-after_ascii rest 0 utf8 (omega arith) (omega arith))
+
+pub byte-exact : (b : ℕ) (B : List ℕ → Type 0) (n : ℕ) (rest : List ℕ) → IsReach (IsByte b) n rest → 0 < n → IsExact (IsByte b) B n rest
+byte-exact b B n rest reach some =
+    let one = (byte-front b n rest reach some).0 in
+    exact-by_length (IsByte b) B n rest (λ xs is. byte-length b xs is ∙ sym one)
+
+-- what is measured in the bytes of a text is measured in the text
+pub on_text : (P : List ℕ → Type 0) (n : ℕ) (bytes text : List ℕ) → bytes ≡ text → IsReach P n bytes → IsReach P n text
+on_text P n bytes text same reach = subst (IsReach P n) same reach

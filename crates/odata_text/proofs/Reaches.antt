@@ -13,7 +13,7 @@ use Rattle.edm_values.specs.IntLiteral.{IsIntSpelling}
 use Rattle.odata_text.specs.Lengths.{IsReach, sign_length}
 
 -- what passes from the front on is within the run
-prefix_len-reaches : (p : ℕ → Bool) (rest : List ℕ) (m : ℕ) → m ≤ length rest → ((k : ℕ) → k < m → p (get_or rest k 0) ≡ true) → m ≤ prefix_len p rest
+pub prefix_len-reaches : (p : ℕ → Bool) (rest : List ℕ) (m : ℕ) → m ≤ length rest → ((k : ℕ) → k < m → p (get_or rest k 0) ≡ true) → m ≤ prefix_len p rest
 prefix_len-reaches p rest m within passes =
     ⊎_elim (λ below. absurd (both_ways _ (prefix_len_stops p rest 0 (omega arith)) (passes (prefix_len p rest) below))) (λ reached. reached) (cases_lt (prefix_len p rest) m)
 

@@ -150,10 +150,10 @@ word-start rest n reach some boundary = record {
 
 -- no dot stands behind the word
 pub word-end : (rest : List ℕ) (n : ℕ) → IsWordSoFar rest n → (n < length rest → get_or rest n 0 ≡ 46 → ⊥) → IsReach IsWord n rest
-word-end rest n so_far no = record {
+word-end rest n so_far dotless = record {
   within = so_far.within;
   found = λ positive. so_far.word;
-  reaches = λ m inside word. ⊎_elim (λ most. most) (λ more. let below = more.below in absurd (no (omega arith) more.dot)) (so_far.reaches m inside word);
+  reaches = λ m inside word. ⊎_elim (λ most. most) (λ more. let below = more.below in absurd (dotless (omega arith) more.dot)) (so_far.reaches m inside word);
 }
 
 -- no identifier stands behind the dot

@@ -29,19 +29,31 @@ pub fn longest(rest: &str) -> Option<(Form, usize)>
     ensures { MatchOption result (NoneSpelled rest.now) (λ found. IsLongest found.0 found.1 rest.now) }
 {
     let bytes = rest.as_bytes();
+    let word = word_length(rest);
+    let dollar = dollar_length(rest);
+    let int = int_length(bytes);
+    let text = string_length(bytes);
+    let literal = enum_length(rest);
+    let opening = byte_length(b'(', bytes);
+    let closing = byte_length(b')', bytes);
+    let comma = byte_length(b',', bytes);
+    let slash = byte_length(b'/', bytes);
+    let colon = byte_length(b':', bytes);
+    let minus = byte_length(b'-', bytes);
+    let quoted = quoted_length(bytes);
     let candidates = [
-        (Form::Token(TokenKind::Word), word_length(rest)),
-        (Form::Token(TokenKind::Dollar), dollar_length(rest)),
-        (Form::Token(TokenKind::Int), int_length(bytes)),
-        (Form::Token(TokenKind::Str), string_length(bytes)),
-        (Form::Token(TokenKind::EnumLit), enum_length(rest)),
-        (Form::Token(TokenKind::Open), byte_length(b'(', bytes)),
-        (Form::Token(TokenKind::Close), byte_length(b')', bytes)),
-        (Form::Token(TokenKind::Comma), byte_length(b',', bytes)),
-        (Form::Token(TokenKind::Slash), byte_length(b'/', bytes)),
-        (Form::Token(TokenKind::Colon), byte_length(b':', bytes)),
-        (Form::Token(TokenKind::Minus), byte_length(b'-', bytes)),
-        (Form::LeftOut(LeftOutKind::Quoted), quoted_length(bytes)),
+        (Form::Token(TokenKind::Word), word),
+        (Form::Token(TokenKind::Dollar), dollar),
+        (Form::Token(TokenKind::Int), int),
+        (Form::Token(TokenKind::Str), text),
+        (Form::Token(TokenKind::EnumLit), literal),
+        (Form::Token(TokenKind::Open), opening),
+        (Form::Token(TokenKind::Close), closing),
+        (Form::Token(TokenKind::Comma), comma),
+        (Form::Token(TokenKind::Slash), slash),
+        (Form::Token(TokenKind::Colon), colon),
+        (Form::Token(TokenKind::Minus), minus),
+        (Form::LeftOut(LeftOutKind::Quoted), quoted),
     ];
     let best = candidates[best_of(&candidates)];
     if best.1 == 0 {

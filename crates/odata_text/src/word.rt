@@ -40,7 +40,7 @@ fn dotted_length(rest: &str) -> usize
 
 /// How many bytes the `$` and the identifier at the front take, 0 if there are none.
 pub fn dollar_length(rest: &str) -> usize
-    ensures reach { IsReach (Spells TokenKind.Dollar) result rest.now }
+    ensures { IsReach (Spells TokenKind.Dollar) result rest.now }
 {
     match byte_length(b'$', rest.as_bytes()) {
         0 => 0,
@@ -78,8 +78,11 @@ fn name_length(name: &[u8], rest: &[u8]) -> usize
 fn left_out_name_length(rest: &[u8]) -> usize
     ensures { IsReach IsLeftOutName result rest.now }
 {
-    let geo = longer(name_length(b"geography", rest), name_length(b"geometry", rest));
-    longer(name_length(b"duration", rest), longer(name_length(b"binary", rest), geo))
+    let duration = name_length(b"duration", rest);
+    let binary = name_length(b"binary", rest);
+    let geography = name_length(b"geography", rest);
+    let geometry = name_length(b"geometry", rest);
+    longer(duration, longer(binary, longer(geography, geometry)))
 }
 
 fn longer(first: usize, second: usize) -> usize
