@@ -89,3 +89,7 @@ covers a b c d e f g h i j k l (Token Minus) xs formed = record { place = 10; wi
 covers a b c d e f g h i j k l (Token _) xs formed = absurd formed
 covers a b c d e f g h i j k l (LeftOut Quoted) xs formed = record { place = 11; within = omega arith; form_at = λ o. refl }
 covers a b c d e f g h i j k l (LeftOut _) xs formed = absurd formed
+
+pub IsBest-at : (candidates : List (Form × ℕ)) (i : ℕ) (d : Form × ℕ) → i < length candidates
+    → ((k : ℕ) (e : Form × ℕ) → k < length candidates → (get_or candidates k e).1 ≤ (get_or candidates i e).1) → IsBest candidates i (get_or candidates i d)
+IsBest-at candidates i d inside most = record { inside = inside; is = get_or_default candidates i d (get_or candidates i d) inside; most = most }
