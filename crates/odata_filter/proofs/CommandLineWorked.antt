@@ -3,8 +3,8 @@ use Rattle.std.proofs.Common.{◌≡◌, [], ◌∷◌, Some, refl, codes}
 use Rattle.clap.specs.Words.{fault_of, first_of}
 use Rattle.clap.specs.declared.error.kind.ErrorKind.TheVariants.{MissingRequiredArgument, UnknownArgument}
 use Rattle.clap.proofs.OnLiterals.{clap_on_literals}
-use Rattle.odata_filter.specs.CommandLine.{IsTaken, LacksFilter, given, odfilter_app}
-use Rattle.odata_filter.specs.WorkedLines.{queried, typed, unfiltered, whole}
+use Rattle.odata_filter.specs.CommandLine.{GivesNotOne, IsTaken, given, odfilter_app}
+use Rattle.odata_filter.specs.WorkedLines.{both, queried, timed, typed, unfiltered, whole}
 
 pub whole_taken : IsTaken whole
 unfolding clap_on_literals
@@ -26,14 +26,26 @@ pub whole_rows : first_of (codes "rows") (given whole) ≡ Some (codes "r")
 unfolding clap_on_literals
 whole_rows = refl
 
-pub no_filter : LacksFilter unfiltered
+pub query_taken : IsTaken queried
 unfolding clap_on_literals
-no_filter = record { taken = refl; lacks = refl }
+query_taken = refl
+
+pub query_found : first_of (codes "query") (given queried) ≡ Some (codes "x")
+unfolding clap_on_literals
+query_found = refl
+
+pub neither : GivesNotOne unfiltered
+unfolding clap_on_literals
+neither = record { taken = refl; lacks = λ one. one }
+
+pub two : GivesNotOne both
+unfolding clap_on_literals
+two = record { taken = refl; lacks = λ one. one }
 
 pub no_schema : fault_of odfilter_app typed ≡ MissingRequiredArgument ∷ []
 unfolding clap_on_literals
 no_schema = refl
 
-pub no_query : fault_of odfilter_app queried ≡ UnknownArgument ∷ []
+pub no_moment : fault_of odfilter_app timed ≡ UnknownArgument ∷ []
 unfolding clap_on_literals
-no_query = refl
+no_moment = refl

@@ -1,6 +1,7 @@
 -- What a command line asks for, from what `clap` found.
-use Rattle.std.proofs.Common.{◌≡◌, ◌∙◌, [], true, false, Option, None, Some, sym, ap, ap₂, option_map}
-use Rattle.std.specs.Prelude.{◌||◌, is_none, unwrap_or}
+use Rattle.std.proofs.Common.{◌≡◌, ◌∙◌, [], true, false, Option, None, Some, sym, subst, ap, ap₂, codes, option_map}
+use Rattle.std.specs.Prelude.{◌||◌, is_some, unwrap_or}
+use Rattle.std.proofs.Math.Bool.{beq}
 use Rattle.std.specs.Borrow.{Bor}
 use Rattle.clap.specs.Words.{AddsArg, App, Rule, Text, first_of, first_value, rows_of, rule_of, with_rule}
 use Rattle.clap.specs.Simple.{app_of_fields}
@@ -9,7 +10,8 @@ use Rattle.clap.specs.declared.builder.command.Command.{Command}
 use Rattle.clap.specs.declared.builder.command.Command.TheViews.{out-Command}
 use Rattle.clap.specs.declared.parser.matches.Found.{Found}
 use Rattle.clap.proofs.WalkLemmas.{first_value-rows}
-use Rattle.odata_filter.specs.CommandLine.{text_rule}
+use Rattle.odata_filter.specs.CommandLine.{LacksOneOf, text_rule}
+use Rattle.odata_filter.specs.FilterPlan.{IsOneOf}
 use Rattle.odata_filter.specs.PlanSteps.{IsApp}
 
 -- ---- a command grows
@@ -35,10 +37,25 @@ required_rule a b name same made = ap rule_of made ∙ ap (λ (r : Rule). record
 pub text_given : (f : Found) (id : Text) (o : Option (Bor Text)) → option_map (λ s. s.now) o ≡ first_value f id → option_map (λ s. s.now) o ≡ first_of id (rows_of f)
 text_given f id o same = same ∙ first_value-rows f id
 
--- none was found
-pub text_lacks : (f : Found) (id : Text) (o : Option (Bor Text)) → option_map (λ s. s.now) o ≡ first_value f id → is_none o ≡ true → first_of id (rows_of f) ≡ None
-text_lacks f id None same none = sym (text_given f id None same)
-text_lacks f id (Some t) same none = cc
+-- exactly one of two texts is there, or not
+IsOneOf-apart : (o p : Option (Bor Text)) → beq (is_some o) (is_some p) ≡ true → ¬ IsOneOf (option_map (λ s. s.now) o) (option_map (λ s. s.now) p)
+IsOneOf-apart None None same one = one
+IsOneOf-apart (Some a) (Some b) same one = one
+IsOneOf-apart None (Some b) same one = cc
+IsOneOf-apart (Some a) None same one = cc
+
+pub one_found : (o p : Option (Bor Text)) → beq (is_some o) (is_some p) ≡ false → IsOneOf o p
+one_found None None apart = cc
+one_found (Some a) (Some b) apart = cc
+one_found None (Some b) apart = tt
+one_found (Some a) None apart = tt
+
+pub one_found-not : (f : Found) (o p : Option (Bor Text)) → option_map (λ s. s.now) o ≡ first_value f (codes "filter") → option_map (λ s. s.now) p ≡ first_value f (codes "query")
+    → beq (is_some o) (is_some p) ≡ true → LacksOneOf (rows_of f)
+one_found-not f o p filter query same one =
+    IsOneOf-apart o p same
+    (subst (λ x. IsOneOf x (option_map (λ s. s.now) p)) (sym (text_given f (codes "filter") o filter))
+    (subst (λ x. IsOneOf (first_of (codes "filter") (rows_of f)) x) (sym (text_given f (codes "query") p query)) one))
 
 -- the value, or the empty text
 pub text_or_empty : (f : Found) (id : Text) (o : Option (Bor Text)) (t other : Bor Text) → option_map (λ s. s.now) o ≡ first_value f id → t ≡ unwrap_or o other → other.now ≡ []

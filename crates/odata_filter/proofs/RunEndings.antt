@@ -1,18 +1,23 @@
 -- What a run answers, by its first failure.
-use Rattle.std.proofs.Common.{◌≡◌, ℕ, List, [], Option, None, Some, Result, Ok, Err, inl, inr, sym, subst, append-nil}
-use Rattle.std.specs.Prelude.{IfOk, IfErr, OnOk, IsSomeAnd}
+use Rattle.std.proofs.Common.{◌≡◌, ◌≢◌, ℕ, List, [], Option, None, Some, Result, Ok, Err, inl, inr, sym, subst, append-nil}
+use Rattle.std.specs.Borrow.{Bor}
+use Rattle.std.specs.Prelude.{IfOk, IfErr, IsSomeAnd}
 use Rattle.std.specs.Io.KnownBytes.{Keeps}
 use Rattle.std.proofs.KnownBytes.{Keeps-trans, Appends-kept}
 use Rattle.edm_values.specs.MomentParts.{MomentParts}
+use Rattle.odata_text.specs.Query as query_model
+use Rattle.odata_text.specs.Query.{IsQueryFault}
+use Rattle.odata_text.specs.declared.query_fault.QueryFault.{QueryFault}
+use Rattle.odata_text.specs.declared.query_fault.QueryFault.TheVariants as query
 use Rattle.odata_filter.specs.Judges.{JudgesRow}
 use Rattle.odata_filter.specs.Kept.{Filters, Stops, StopsWithin}
 use Rattle.odata_filter.specs.Lines.{lines_of}
-use Rattle.odata_filter.specs.Failures.{status_of, status_of_refusal, StopsOver}
-use Rattle.odata_filter.specs.Run.{IsFirstMoment, NamesType, IsFilterOf, HasNoFilter, OverRows, OfLines, ByFilter, FiltersAll, StopsAtFault, Status, done, refused, misused, without_type, at_fault, unread, without_memory, StatusSays, Begins}
+use Rattle.odata_filter.specs.Failures.{AnswerSays, status_of, status_of_query, status_of_refusal, StopsOver}
+use Rattle.odata_filter.specs.Run.{IsFirstMoment, NamesType, AsksFor, IsFilterOf, HasNoFilter, OverRows, OfLines, ByFilter, FiltersAll, StopsAtFault, Status, done, refused, misused, without_type, at_fault, unread, without_memory, StatusSays, Begins}
 use Rattle.odata_filter.specs.csdl_schema.SchemaModel.{SchemaModel, slots_of, type_name_at}
 use Rattle.odata_filter.specs.declared.command_line.Plan.{Plan}
 use Rattle.odata_filter.specs.declared.failure.Failure.{Failure}
-use Rattle.odata_filter.specs.declared.failure.Failure.TheVariants.{NotYet, NoFilter, Schema, UnknownType, Refused, RowsFile, Rows}
+use Rattle.odata_filter.specs.declared.failure.Failure.TheVariants.{NotYet, OneOf, Schema, UnknownType, Query, NoOption, Refused, RowsFile, Rows}
 use Rattle.odata_filter.specs.declared.lines.run_fault.RunFault.TheVariants.{Json, Row, Arithmetic, LineTooLong, NotACollection, Read, Write, Memory}
 use Rattle.odata_filter.specs.declared.lines.said.Judgment.TheVariants.{NotJson, NoEntity, NoValue}
 use Rattle.odata_filter.specs.declared.lines.said.Said.TheVariants.{TooLong, Judged}
@@ -23,20 +28,17 @@ use Rattle.odata_filter.specs.odata_typing.Filter.{Filter, tree_of_filter}
 use Rattle.odata_filter.specs.odata_typing.HasTyping.{HasTyping, HasNoTyping, UnlessMemory}
 use Rattle.odata_filter.proofs.FilterLemmas.{JudgeModel, Filters-within, Stops-within}
 
--- what holds of the bytes of the text that was read holds of those that were given
-given : {T : Type 0} (o : Option T) (bytes : T → List ℕ) (text : List ℕ) (P : List ℕ → Type 0) → IsSomeAnd o (λ t. bytes t ≡ text) → P text → IsSomeAnd o (λ t. P (bytes t))
-given None bytes text P is p = is
-given (Some t) bytes text P is p = subst P (sym is) p
-
 -- ---- the plan's text is a filter, or is none
 
 pub is_filter_of : (plan : Plan) (document : List ℕ) (schema : SchemaModel) (place : ℕ) (text : List ℕ) (filter : Filter)
-    → NamesType plan document schema place → IsSomeAnd plan.filter (λ t. t.now ≡ text)
+    → NamesType plan document schema place → AsksFor plan text
     → filter.schema ≡ schema → filter.filtered ≡ place
     → HasTyping (slots_of filter.schema) (type_name_at filter.schema filter.filtered) text (tree_of_filter filter) → IsFilterOf plan document filter
-is_filter_of plan document schema place text filter names is same at typed = record {
+is_filter_of plan document schema place text filter names asked same at typed = record {
   names = subst (λ s. NamesType plan document s filter.filtered) (sym same) (subst (NamesType plan document schema) (sym at) names);
-  typed = given plan.filter (λ t. t.now) text (λ l. HasTyping (slots_of filter.schema) (type_name_at filter.schema filter.filtered) l (tree_of_filter filter)) is typed;
+  text = text;
+  asked = asked;
+  typed = typed;
 }
 
 refused_as : (plan : Plan) (document : List ℕ) (rows : Option (Option (List ℕ))) (out : Option (List ℕ)) (fault : Refusal) (P : Type 0)
@@ -47,17 +49,40 @@ refused_as plan document rows out (refusal.Typing fault) P none kept p = (none p
 refused_as plan document rows out refusal.Memory P none kept p = tt
 
 pub refused_by : (plan : Plan) (document : List ℕ) (schema : SchemaModel) (place : ℕ) (text : List ℕ) (rows : Option (Option (List ℕ))) (out : Option (List ℕ)) (fault : Refusal)
-    → NamesType plan document schema place → IsSomeAnd plan.filter (λ t. t.now ≡ text) → Keeps out out
+    → NamesType plan document schema place → AsksFor plan text → Keeps out out
     → UnlessMemory fault (HasNoTyping (slots_of schema) (type_name_at schema place) text) → StatusSays (status_of_refusal fault) plan document rows out out
-refused_by plan document schema place text rows out fault names is kept none =
+refused_by plan document schema place text rows out fault names asked kept none =
     refused_as plan document rows out fault (HasNoTyping (slots_of schema) (type_name_at schema place) text)
     (λ none. record {
       schema = schema;
       place = place;
       names = names;
-      none = given plan.filter (λ t. t.now) text (λ l. HasNoTyping (slots_of schema) (type_name_at schema place) l) is none;
+      none = inl (text, asked, none);
     })
     kept none
+
+-- ---- the plan's query has a fault, or no filter
+
+query_given : (given : Option (Bor (List ℕ))) (query : Bor (List ℕ)) (P : List ℕ → Type 0) → given ≡ Some query → P query.now → IsSomeAnd given (λ q. P q.now)
+query_given given query P is p = subst (λ g. IsSomeAnd g (λ q. P q.now)) (sym is) p
+
+refused_query : (plan : Plan) (document : List ℕ) (schema : SchemaModel) (place : ℕ) (given : Bor (List ℕ)) (fault : QueryFault)
+    → NamesType plan document schema place → plan.query ≡ Some given → IsQueryFault given.now fault → HasNoFilter plan document
+refused_query plan document schema place given fault names is at = record {
+  schema = schema;
+  place = place;
+  names = names;
+  none = inr (query_given plan.query given (λ q. (f : QueryFault) × IsQueryFault q f) is (fault, at));
+}
+
+pub query_refused : (plan : Plan) (document : List ℕ) (schema : SchemaModel) (place : ℕ) (given : Bor (List ℕ)) (rows : Option (Option (List ℕ))) (out : Option (List ℕ)) (fault : QueryFault)
+    → NamesType plan document schema place → plan.query ≡ Some given → Keeps out out → (fault ≢ query.Memory → IsQueryFault given.now fault)
+    → StatusSays (status_of_query fault) plan document rows out out
+query_refused plan document schema place given rows out query.Memory names is kept at = tt
+query_refused plan document schema place given rows out (query.BadEscape n) names is kept at = (refused_query plan document schema place given _ names is (at (λ e. cc)), kept)
+query_refused plan document schema place given rows out (query.NotUtf8 n) names is kept at = (refused_query plan document schema place given _ names is (at (λ e. cc)), kept)
+query_refused plan document schema place given rows out (query.Repeated n) names is kept at = (refused_query plan document schema place given _ names is (at (λ e. cc)), kept)
+query_refused plan document schema place given rows out (query.OtherOption n) names is kept at = (refused_query plan document schema place given _ names is (at (λ e. cc)), kept)
 
 -- ---- what was written
 
@@ -83,18 +108,12 @@ by_filter P Q plan document rows old new filter now is_filter is_first f held = 
   written = over rows old new (P (JudgesRow filter now)) (λ bytes. Q (JudgesRow filter now) (lines_of bytes)) f held;
 }
 
-pub done_by : (plan : Plan) (document : List ℕ) (rows : Option (Option (List ℕ))) (old new : Option (List ℕ)) (filter : Filter) (now : MomentParts) (answer : Result Tally Failure)
-    → IsFilterOf plan document filter → IsFirstMoment now
-    → IfOk answer (λ tally. OverRows rows old new (λ bytes text. Filters (JudgesRow filter now) (lines_of bytes) text tally))
-    → OnOk answer (ByFilter FiltersAll plan document rows old new)
-done_by plan document rows old new filter now (Ok tally) is_filter is_first held =
-    by_filter (λ judge bytes text. Filters judge (lines_of bytes) text tally) FiltersAll plan document rows old new filter now is_filter is_first (λ bytes text filtered. (tally, filtered)) held
-done_by plan document rows old new filter now (Err failure) is_filter is_first held = tt
-
 failed : (plan : Plan) (document : List ℕ) (rows : Option (Option (List ℕ))) (old new : Option (List ℕ)) (filter : Filter) (now : MomentParts) (failure : Failure)
     → IsFilterOf plan document filter → IsFirstMoment now → StopsOver (JudgesRow filter now) failure rows old new → StatusSays (status_of failure) plan document rows old new
 failed plan document rows old new filter now (NotYet option) is_filter is_first held = absurd held
-failed plan document rows old new filter now NoFilter is_filter is_first held = absurd held
+failed plan document rows old new filter now OneOf is_filter is_first held = absurd held
+failed plan document rows old new filter now (Query fault) is_filter is_first held = absurd held
+failed plan document rows old new filter now NoOption is_filter is_first held = absurd held
 failed plan document rows old new filter now (Schema fault) is_filter is_first held = absurd held
 failed plan document rows old new filter now (UnknownType name) is_filter is_first held = absurd held
 failed plan document rows old new filter now (Refused fault) is_filter is_first held = absurd held
@@ -117,11 +136,13 @@ failed plan document rows old new filter now (Rows (Read line)) is_filter is_fir
 failed plan document rows old new filter now (Rows Write) is_filter is_first held = (filter, is_filter)
 failed plan document rows old new filter now (Rows (Memory line)) is_filter is_first held = tt
 
-pub failed_by : (plan : Plan) (document : List ℕ) (rows : Option (Option (List ℕ))) (old new : Option (List ℕ)) (filter : Filter) (now : MomentParts) (answer : Result Tally Failure)
-    → IsFilterOf plan document filter → IsFirstMoment now → IfErr answer (λ failure. StopsOver (JudgesRow filter now) failure rows old new)
-    → IfErr answer (λ failure. StatusSays (status_of failure) plan document rows old new)
-failed_by plan document rows old new filter now (Ok tally) is_filter is_first held = tt
-failed_by plan document rows old new filter now (Err failure) is_filter is_first held = failed plan document rows old new filter now failure is_filter is_first held
+pub says_by : (plan : Plan) (document : List ℕ) (rows : Option (Option (List ℕ))) (old new : Option (List ℕ)) (filter : Filter) (now : MomentParts) (answer : Result Tally Failure)
+    → IsFilterOf plan document filter → IsFirstMoment now
+    → IfOk answer (λ tally. OverRows rows old new (λ bytes text. Filters (JudgesRow filter now) (lines_of bytes) text tally))
+    → IfErr answer (λ failure. StopsOver (JudgesRow filter now) failure rows old new) → AnswerSays answer plan document rows old new
+says_by plan document rows old new filter now (Ok tally) is_filter is_first held stopped =
+    by_filter (λ judge bytes text. Filters judge (lines_of bytes) text tally) FiltersAll plan document rows old new filter now is_filter is_first (λ bytes text filtered. (tally, filtered)) held
+says_by plan document rows old new filter now (Err failure) is_filter is_first held stopped = failed plan document rows old new filter now failure is_filter is_first stopped
 
 -- ---- a beginning was written
 
@@ -141,7 +162,9 @@ begins_by plan document rows old new filter now (Err (Rows fault)) is_filter is_
     (λ bytes text stops. Stops-within (JudgesRow filter now) bytes text [] fault (subst (λ t. Stops (JudgesRow filter now) bytes t fault) (sym (append-nil text)) stops)) stopped)
 begins_by plan document rows old new filter now (Err (RowsFile name)) is_filter is_first held stopped = inl stopped
 begins_by plan document rows old new filter now (Err (NotYet option)) is_filter is_first held stopped = absurd stopped
-begins_by plan document rows old new filter now (Err NoFilter) is_filter is_first held stopped = absurd stopped
+begins_by plan document rows old new filter now (Err OneOf) is_filter is_first held stopped = absurd stopped
+begins_by plan document rows old new filter now (Err (Query fault)) is_filter is_first held stopped = absurd stopped
+begins_by plan document rows old new filter now (Err NoOption) is_filter is_first held stopped = absurd stopped
 begins_by plan document rows old new filter now (Err (Schema fault)) is_filter is_first held stopped = absurd stopped
 begins_by plan document rows old new filter now (Err (UnknownType name)) is_filter is_first held stopped = absurd stopped
 begins_by plan document rows old new filter now (Err (Refused fault)) is_filter is_first held stopped = absurd stopped

@@ -5,7 +5,7 @@ use Rattle.std.specs.Str.{bytes_eq}
 use Rattle.clap.specs.Words.{App, Row, Rule, Text, IsAmong, fault_of, first_of, kind_of}
 use Rattle.clap.specs.Words.{new_app, new_rule, subcommand_of, with_rule, with_subcommand}
 use Rattle.clap.specs.declared.builder.action.ArgAction.TheVariants.{Set}
-use Rattle.odata_filter.specs.FilterPlan.{IsFilterPlan}
+use Rattle.odata_filter.specs.FilterPlan.{IsFilterPlan, IsOneOf}
 use Rattle.odata_filter.specs.declared.command_line.Plan.{Plan}
 use Rattle.odata_filter.specs.declared.command_line.PlanFault.{PlanFault}
 use Rattle.odata_filter.specs.declared.command_line.PlanFault.TheVariants.{Clap, OneOf, Memory}
@@ -21,9 +21,9 @@ text_rule name required = record (new_rule name) {
 
 -- the subcommand `filter` with its options
 abbrev pub filter_app : App
-filter_app = with_rule (with_rule (with_rule (with_rule (new_app (codes "filter"))
+filter_app = with_rule (with_rule (with_rule (with_rule (with_rule (new_app (codes "filter"))
     (text_rule (codes "schema") true)) (text_rule (codes "type") true))
-    (text_rule (codes "filter") false)) (text_rule (codes "rows") false)
+    (text_rule (codes "filter") false)) (text_rule (codes "query") false)) (text_rule (codes "rows") false)
 
 -- a command that wants one of its subcommands
 abbrev pub wanting_subcommand : App → App
@@ -52,6 +52,7 @@ pub record HasValues (found : List Row) (plan : Plan) : Type 0 where
   pub schema : plan.schema.now ≡ unwrap_or (first_of (codes "schema") found) []
   pub named : plan.named.now ≡ unwrap_or (first_of (codes "type") found) []
   pub filter : option_map (λ s. s.now) plan.filter ≡ first_of (codes "filter") found
+  pub query : option_map (λ s. s.now) plan.query ≡ first_of (codes "query") found
   pub rows : option_map (λ s. s.now) plan.rows ≡ first_of (codes "rows") found
 
 -- the words ask for this plan
@@ -59,13 +60,17 @@ pub record IsPlanOf (words : List Text) (plan : Plan) : Type 0 where
   pub taken : IsTaken words
   pub values : HasValues (given words) plan
 
--- `clap` takes the words, and no filter is among them
-pub record LacksFilter (words : List Text) : Type 0 where
+-- the options' values do not have exactly one of filter and query
+abbrev pub LacksOneOf : List Row → Type 0
+LacksOneOf found = ¬ IsOneOf (first_of (codes "filter") found) (first_of (codes "query") found)
+
+-- `clap` takes the words, and not exactly one of filter and query is among them
+pub record GivesNotOne (words : List Text) : Type 0 where
   pub taken : IsTaken words
-  pub lacks : first_of (codes "filter") (given words) ≡ None
+  pub lacks : LacksOneOf (given words)
 
 -- why the words ask for no plan; an error of `clap` has a kind that its reading of them gives
 abbrev pub IsRefusedBy : List Text → PlanFault → Type 0
 IsRefusedBy words (Clap e) = IsAmong (kind_of e) (fault_of odfilter_app words)
-IsRefusedBy words OneOf = LacksFilter words
+IsRefusedBy words OneOf = GivesNotOne words
 IsRefusedBy words Memory = ⊤

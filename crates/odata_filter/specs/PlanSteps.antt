@@ -1,10 +1,11 @@
 -- What the steps of reading a command line say to one another.
-use Rattle.std.specs.Prelude.{◌≡◌, ⊤, List, None, codes, false}
-use Rattle.clap.specs.Words.{App, Row, app_of, first_of, kind_of}
+use Rattle.std.specs.Prelude.{◌≡◌, ⊤, List, false}
+use Rattle.clap.specs.Words.{App, Row, app_of, kind_of}
 use Rattle.clap.specs.declared.builder.command.Command.{Command}
 use Rattle.clap.specs.declared.builder.command.Command.TheViews.{out-Command}
 use Rattle.clap.specs.declared.error.Error.{Error}
 use Rattle.clap.specs.declared.error.kind.ErrorKind.TheVariants.{OutOfMemory}
+use Rattle.odata_filter.specs.CommandLine.{LacksOneOf}
 use Rattle.odata_filter.specs.declared.command_line.PlanFault.{PlanFault}
 use Rattle.odata_filter.specs.declared.command_line.PlanFault.TheVariants.{Clap, OneOf, Memory}
 
@@ -19,7 +20,7 @@ Tells error (Clap e) = (e ≡ error) × (kind_of e ≡ OutOfMemory → ⊥)
 Tells error OneOf = ⊥
 Tells error Memory = ⊤
 
--- the one fault behind words that were taken: no filter is among them
-abbrev pub LacksFilterIn : List Row → PlanFault → Type 0
-LacksFilterIn rows OneOf = first_of (codes "filter") rows ≡ None
-LacksFilterIn rows _ = ⊥
+-- the one fault behind words that were taken
+abbrev pub IsNotOneFault : List Row → PlanFault → Type 0
+IsNotOneFault found OneOf = LacksOneOf found
+IsNotOneFault found _ = ⊥

@@ -1,8 +1,10 @@
 -- What a run says by its status: of its plan, of its schema's bytes, and of what standard output got.
-use Rattle.std.specs.Prelude.{◌≡◌, ℕ, pos, ◌⊎◌, List, Option, Some, IfSome, IsSomeAnd}
+use Rattle.std.specs.Prelude.{◌≡◌, ℕ, pos, ◌⊎◌, List, Option, Some, None, IfSome, IsSomeAnd}
 use Rattle.std.specs.Io.KnownBytes.{Keeps}
 use Rattle.edm_values.specs.Civil.{IsYmd, IsHms}
 use Rattle.edm_values.specs.MomentParts.{MomentParts}
+use Rattle.odata_text.specs.Query as query
+use Rattle.odata_text.specs.declared.query_fault.QueryFault.{QueryFault}
 use Rattle.odata_filter.specs.FilterPlan.{IsFilterPlan}
 use Rattle.odata_filter.specs.Judges.{JudgesRow}
 use Rattle.odata_filter.specs.Kept.{Filters, StopsAt, StopsWithin, IsSound}
@@ -29,21 +31,38 @@ pub record NamesType (plan : Plan) (document : List ℕ) (schema : SchemaModel) 
   pub named : place_named schema plan.named.now ≡ Some place
   pub entity : IsEntityAt schema place
 
+-- the text of the filter that the plan asks for: its own, or that of its query's filter option (OData URL Conventions 4.01, section 5.1)
+abbrev pub AsksFor : Plan → List ℕ → Type 0
+AsksFor plan text = IsSomeAnd plan.filter (λ given. given.now ≡ text) ⊎ IsSomeAnd plan.query (λ given. query.IsFilterOf given.now (Some text))
+
 -- The plan's text is this filter of the type that the plan names (OData URL Conventions 4.01, section 5.1.1).
 pub record IsFilterOf (plan : Plan) (document : List ℕ) (filter : Filter) : Type 0 where
   pub names : NamesType plan document filter.schema filter.filtered
-  pub typed : IsSomeAnd plan.filter (λ text. HasTyping (slots_of filter.schema) (type_name_at filter.schema filter.filtered) text.now (tree_of_filter filter))
+  pub text : List ℕ
+  pub asked : AsksFor plan text
+  pub typed : HasTyping (slots_of filter.schema) (type_name_at filter.schema filter.filtered) text (tree_of_filter filter)
 
 -- the plan's text is a filter
 abbrev pub HasFilter : Plan → List ℕ → Type 0
 HasFilter plan document = (filter : Filter) × IsFilterOf plan document filter
 
--- The plan names a type, and its text is no filter of that.
+-- the plan's query has a fault
+abbrev pub HasQueryFault : Plan → Type 0
+HasQueryFault plan = IsSomeAnd plan.query (λ given. (fault : QueryFault) × query.IsQueryFault given.now fault)
+
+-- The plan names a type, and its text is no filter of that, or its query has a fault.
 pub record HasNoFilter (plan : Plan) (document : List ℕ) : Type 0 where
   pub schema : SchemaModel
   pub place : ℕ
   pub names : NamesType plan document schema place
-  pub none : IsSomeAnd plan.filter (λ text. HasNoTyping (slots_of schema) (type_name_at schema place) text.now)
+  pub none : ((text : List ℕ) × AsksFor plan text × HasNoTyping (slots_of schema) (type_name_at schema place) text) ⊎ HasQueryFault plan
+
+-- The plan names a type, and its query has no filter option.
+pub record HasNoOption (plan : Plan) (document : List ℕ) : Type 0 where
+  pub schema : SchemaModel
+  pub place : ℕ
+  pub names : NamesType plan document schema place
+  pub none : IsSomeAnd plan.query (λ given. query.IsFilterOf given.now None)
 
 -- the schema's bytes have a fault, or the schema has no entity type of that name (CSDL JSON 4.01)
 abbrev pub HasNoType : Plan → List ℕ → Type 0
@@ -95,12 +114,12 @@ status_number at_fault = 4
 status_number unread = 5
 status_number without_memory = 6
 
--- What each says: all rows were filtered; the text is no filter; the plan is none to filter rows; there is no such entity type;
+-- What each says: all rows were filtered; the text is no filter; the plan is none to filter rows or its query has no filter; there is no such entity type;
 -- a row is at fault; there is a filter, and its rows were not read or written whole. Nothing was written in the second to fourth.
 abbrev pub StatusSays : Status → Plan → List ℕ → Option (Option (List ℕ)) → Option (List ℕ) → Option (List ℕ) → Type 0
 StatusSays done plan document rows old new = ByFilter FiltersAll plan document rows old new
 StatusSays refused plan document rows old new = HasNoFilter plan document × Keeps old new
-StatusSays misused plan document rows old new = (¬ IsFilterPlan plan) × Keeps old new
+StatusSays misused plan document rows old new = ((¬ IsFilterPlan plan) ⊎ HasNoOption plan document) × Keeps old new
 StatusSays without_type plan document rows old new = HasNoType plan document × Keeps old new
 StatusSays at_fault plan document rows old new = ByFilter StopsAtFault plan document rows old new
 StatusSays unread plan document rows old new = HasFilter plan document

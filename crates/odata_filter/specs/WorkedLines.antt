@@ -13,6 +13,14 @@ unfiltered = typed ++ codes "--schema=s" ∷ []
 abbrev pub whole : List Text
 whole = unfiltered ++ codes "--filter" ∷ codes "true" ∷ codes "--rows=r" ∷ []
 
--- with an option that the program has not
+-- with a query in place of a filter
 abbrev pub queried : List Text
 queried = unfiltered ++ codes "--query=x" ∷ []
+
+-- with both
+abbrev pub both : List Text
+both = whole ++ codes "--query=x" ∷ []
+
+-- with an option that the program has not
+abbrev pub timed : List Text
+timed = whole ++ codes "--now=x" ∷ []

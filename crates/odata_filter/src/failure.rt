@@ -8,16 +8,18 @@ use crate::lines::run_fault::RunFault;
 use crate::odata_eval::EvalFault;
 use crate::odata_typing::{Refusal, TypeFaultCode};
 use odata_syntax::SyntaxFault;
-use odata_text::{Span, TextFault};
+use odata_text::{QueryFault, Span, TextFault};
 use std::fmt;
 
 /// Why a run ended before the end of its rows. Its `Display` is the one line that is told.
 #[derive(Debug, Drop)]
 pub enum Failure<'p> {
     NotYet(&'static str),
-    NoFilter,
+    OneOf,
     Schema(SchemaFault),
     UnknownType(&'p str),
+    Query(QueryFault),
+    NoOption,
     Refused(Refusal),
     RowsFile(&'p str),
     Rows(RunFault),
@@ -30,10 +32,10 @@ impl Failure<'_> {
         ensures known { (0 < result) × (result < 7) }
     {
         match self {
-            Failure::Schema(SchemaFault::Memory) | Failure::Refused(Refusal::Memory) => 6,
-            Failure::Rows(RunFault::Memory { .. }) => 6,
-            Failure::Refused(_) => 1,
-            Failure::NotYet(_) | Failure::NoFilter => 2,
+            Failure::Schema(SchemaFault::Memory) | Failure::Query(QueryFault::Memory) => 6,
+            Failure::Refused(Refusal::Memory) | Failure::Rows(RunFault::Memory { .. }) => 6,
+            Failure::Query(_) | Failure::Refused(_) => 1,
+            Failure::NotYet(_) | Failure::OneOf | Failure::NoOption => 2,
             Failure::Schema(_) | Failure::UnknownType(_) => 3,
             Failure::RowsFile(_)
             | Failure::Rows(RunFault::Read { .. })
@@ -47,9 +49,11 @@ impl fmt::Display for Failure<'_> {
     fn fmt<W: fmt::Write>(&self, f: &mut fmt::Formatter<W>) -> fmt::Result {
         match self {
             Failure::NotYet(option) => write!(f, "usage {option} is still to come"),
-            Failure::NoFilter => write!(f, "usage give one of filter and query"),
+            Failure::OneOf => write!(f, "usage give one of filter and query"),
             Failure::Schema(fault) => write_schema_fault(f, fault),
             Failure::UnknownType(name) => write!(f, "schema UnknownType {name}"),
+            Failure::Query(fault) => write_query_fault(f, fault),
+            Failure::NoOption => write!(f, "usage no filter option"),
             Failure::Refused(refusal) => write_refusal(f, refusal),
             Failure::RowsFile(name) => write!(f, "read {name}"),
             Failure::Rows(fault) => write_run_fault(f, fault),
@@ -79,6 +83,16 @@ fn write_schema_fault<W: fmt::Write>(
         ),
         SchemaFault::TooLarge => write!(f, "schema TooLarge"),
         SchemaFault::Memory => write!(f, "memory"),
+    }
+}
+
+fn write_query_fault<W: fmt::Write>(f: &mut fmt::Formatter<W>, fault: &QueryFault) -> fmt::Result {
+    match fault {
+        QueryFault::BadEscape { place } => write!(f, "refused query BadEscape {place}"),
+        QueryFault::NotUtf8 { option } => write!(f, "refused query NotUtf8 {option}"),
+        QueryFault::Repeated { option } => write!(f, "refused query Repeated {option}"),
+        QueryFault::OtherOption { option } => write!(f, "refused query OtherOption {option}"),
+        QueryFault::Memory => write!(f, "memory"),
     }
 }
 

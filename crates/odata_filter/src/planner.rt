@@ -2,7 +2,7 @@ ghost use Rattle.std.specs.Prelude.{◌≡◌, IfOk, MatchResult, false, map};
 ghost use Rattle.clap.specs.Words.{found_of, rows_of, rule_of};
 ghost use Rattle.odata_filter.specs.FilterPlan.{IsFilterPlan};
 ghost use Rattle.odata_filter.specs.CommandLine.{HasValues, IsPlanOf, IsRefusedBy, filter_app, odfilter_app, text_rule};
-ghost use Rattle.odata_filter.specs.PlanSteps.{IsApp, LacksFilterIn, Tells};
+ghost use Rattle.odata_filter.specs.PlanSteps.{IsApp, IsNotOneFault, Tells};
 
 use crate::command_line::{Plan, PlanFault, Verb};
 use clap::error::ErrorKind;
@@ -36,6 +36,12 @@ fn filter_command<'a>(alloc: Global) -> Result<Command<'a>, AllocError>
     )
     .required(true);
     let filter = text_option(alloc, "filter", "TEXT", "The text of a $filter");
+    let query = text_option(
+        alloc,
+        "query",
+        "TEXT",
+        "A query string with one filter option, as it stands in a URL",
+    );
     let rows = text_option(
         alloc,
         "rows",
@@ -47,6 +53,7 @@ fn filter_command<'a>(alloc: Global) -> Result<Command<'a>, AllocError>
         .arg(schema)?
         .arg(named)?
         .arg(filter)?
+        .arg(query)?
         .arg(rows)
 }
 
@@ -72,10 +79,11 @@ fn fault_of(error: Error) -> PlanFault
 /// The plan of what stands behind `filter`.
 fn plan_of<'a>(matches: &ArgMatches<'a>) -> Result<Plan<'a>, PlanFault>
     ensures { MatchResult result (HasValues (rows_of (found_of matches.now)))
-        (LacksFilterIn (rows_of (found_of matches.now))) }
+        (IsNotOneFault (rows_of (found_of matches.now))) }
 {
     let filter = matches.get_str("filter");
-    if filter.is_none() {
+    let query = matches.get_str("query");
+    if filter.is_some() == query.is_some() {
         return Err(PlanFault::OneOf);
     }
     Ok(Plan {
@@ -83,7 +91,7 @@ fn plan_of<'a>(matches: &ArgMatches<'a>) -> Result<Plan<'a>, PlanFault>
         schema: matches.get_str("schema").unwrap_or(""),
         named: matches.get_str("type").unwrap_or(""),
         filter,
-        query: None,
+        query,
         rows: matches.get_str("rows"),
         now: None,
         collection: false,
@@ -92,7 +100,7 @@ fn plan_of<'a>(matches: &ArgMatches<'a>) -> Result<Plan<'a>, PlanFault>
 
 /// Reads a command line, the program's name first.
 ///
-/// `OneOf` comes where no filter is given, `Clap` where `clap` refuses the words or is asked for help.
+/// `OneOf` comes where not exactly one of filter and query is given, `Clap` where `clap` refuses the words or is asked for help.
 pub fn plan<'a>(alloc: Global, words: &'a [&'a str]) -> Result<Plan<'a>, PlanFault>
     ensures filters { IfOk result IsFilterPlan }
     ensures asked { MatchResult result (IsPlanOf (map (λ s. s.now) words.entry.now))

@@ -1,10 +1,10 @@
-ghost use Rattle.std.specs.Prelude.{◌≡◌, ◌<◌, false, ℕ, Some, length, option_map, MatchOption, IfOk, IfErr, OnOk, OnErr, IsNone, IsSomeAnd};
+ghost use Rattle.std.specs.Prelude.{◌≡◌, ◌<◌, false, ℕ, List, Some, length, option_map, MatchOption, IfOk, IfErr, OnOk, OnErr, IsNone};
 ghost use Rattle.odata_filter.specs.FilterPlan.{IsFilterPlan};
 ghost use Rattle.odata_filter.specs.Judges.{JudgesRow};
 ghost use Rattle.odata_filter.specs.Kept.{Filters};
 ghost use Rattle.odata_filter.specs.Lines.{lines_of};
-ghost use Rattle.odata_filter.specs.Run.{Answers, Begins, StatusSays, IsFirstMoment, OverRows, done, misused, without_type};
-ghost use Rattle.odata_filter.specs.Failures.{StopsOver, status_of};
+ghost use Rattle.odata_filter.specs.Run.{Answers, AsksFor, Begins, IsFirstMoment, NamesType, OverRows, misused, without_type};
+ghost use Rattle.odata_filter.specs.Failures.{AnswerSays, StopsOver, status_of};
 ghost use Rattle.odata_filter.specs.csdl_schema.SchemaModel.{IsEntityAt, place_named};
 
 use crate::command_line::{Plan, Verb};
@@ -16,21 +16,19 @@ use crate::lines::tally::Tally;
 use crate::odata_typing::{Checked, check};
 use edm_values::Moment;
 use jiff::civil;
+use odata_text::filter_of_query;
 use std::alloc::Global;
 use std::io::{Read, Write};
 
 /// What a plan asks for that is not there yet.
 fn not_yet(plan: &Plan<'_>) -> Option<&'static str>
-    ensures { MatchOption result (IsNone plan.entry.now.query × IsNone plan.entry.now.now × (plan.entry.now.verb ≡ Verb.Filter) × (plan.entry.now.collection ≡ false))
+    ensures { MatchOption result (IsNone plan.entry.now.now × (plan.entry.now.verb ≡ Verb.Filter) × (plan.entry.now.collection ≡ false))
         (λ option. ¬ IsFilterPlan plan.entry.now) }
 {
     match plan.verb {
         Verb::Check => return Some("check"),
         Verb::Explain => return Some("explain"),
         Verb::Filter => {}
-    }
-    if plan.query.is_some() {
-        return Some("query");
     }
     if plan.now.is_some() {
         return Some("now");
@@ -42,19 +40,18 @@ fn not_yet(plan: &Plan<'_>) -> Option<&'static str>
     }
 }
 
-/// The text of the plan's filter.
-fn filter_text<'p>(plan: &Plan<'p>) -> Result<&'p str, Failure<'p>>
-    ensures planned { IfOk result (λ text. IsFilterPlan plan.entry.now) }
-    ensures text { IfOk result (λ text. IsSomeAnd plan.entry.now.filter (λ given. given.now ≡ text.now)) }
+/// Whether the plan is one that can be carried out.
+fn is_planned<'p>(plan: &Plan<'p>) -> Result<(), Failure<'p>>
+    ensures planned { OnOk result (IsFilterPlan plan.entry.now) }
     ensures other { OnErr result (¬ IsFilterPlan plan.entry.now) }
     ensures status { IfErr result (λ failure. status_of failure ≡ misused) }
 {
-    match not_yet(plan) {
-        Some(option) => Err(Failure::NotYet(option)),
-        None => match plan.filter {
-            Some(text) => Ok(text),
-            None => Err(Failure::NoFilter),
-        },
+    if let Some(option) = not_yet(plan) {
+        return Err(Failure::NotYet(option));
+    }
+    match (plan.filter, plan.query) {
+        (Some(_), None) | (None, Some(_)) => Ok(()),
+        _ => Err(Failure::OneOf),
     }
 }
 
@@ -111,6 +108,56 @@ fn filter_rows<'p, R: Read + Drop, W: Write>(
     }
 }
 
+/// The rows of the plan by the text of its filter.
+fn filter_by<'p, R: Read + Drop, W: Write>(
+    alloc: Global,
+    schema: &Schema,
+    id: TypeId,
+    text: &str,
+    plan: &Plan<'p>,
+    rows: Option<R>,
+    out: &mut W,
+) -> Result<Tally, Failure<'p>>
+    requires held { id < length schema.now.types }
+    requires asked { AsksFor plan.now text.now }
+    ensures says { (document : List ℕ) → NamesType plan.entry.now document schema.now id
+        → AnswerSays result plan.entry.now document (option_map (λ r. R.remaining r) rows) (W.contents out.old) (W.contents out.new) }
+    ensures begins { (document : List ℕ) → NamesType plan.entry.now document schema.now id
+        → Begins plan.entry.now document (option_map (λ r. R.remaining r) rows) (W.contents out.old) (W.contents out.new) }
+{
+    match check(alloc, schema, id, text) {
+        Ok(checked) => filter_rows(alloc, &checked, &first_moment(), plan, rows, out),
+        Err(refusal) => Err(Failure::Refused(refusal)),
+    }
+}
+
+/// The rows of the plan by its filter, or by that of its query.
+fn filter_asked<'p, R: Read + Drop, W: Write>(
+    alloc: Global,
+    schema: &Schema,
+    id: TypeId,
+    plan: &Plan<'p>,
+    rows: Option<R>,
+    out: &mut W,
+) -> Result<Tally, Failure<'p>>
+    requires held { id < length schema.now.types }
+    requires planned { IsFilterPlan plan.now }
+    ensures says { (document : List ℕ) → NamesType plan.entry.now document schema.now id
+        → AnswerSays result plan.entry.now document (option_map (λ r. R.remaining r) rows) (W.contents out.old) (W.contents out.new) }
+    ensures begins { (document : List ℕ) → NamesType plan.entry.now document schema.now id
+        → Begins plan.entry.now document (option_map (λ r. R.remaining r) rows) (W.contents out.old) (W.contents out.new) }
+{
+    match (plan.filter, plan.query) {
+        (Some(text), _) => filter_by(alloc, schema, id, text, plan, rows, out),
+        (None, Some(query)) => match filter_of_query(alloc, query.as_bytes()) {
+            Ok(Some(text)) => filter_by(alloc, schema, id, &text, plan, rows, out),
+            Ok(None) => Err(Failure::NoOption),
+            Err(fault) => Err(Failure::Query(fault)),
+        },
+        (None, None) => Err(Failure::OneOf),
+    }
+}
+
 /// The whole run, up to its first failure.
 fn carry_out<'p, R: Read + Drop, W: Write>(
     alloc: Global,
@@ -119,26 +166,19 @@ fn carry_out<'p, R: Read + Drop, W: Write>(
     rows: Option<R>,
     out: &mut W,
 ) -> Result<Tally, Failure<'p>>
-    ensures done { OnOk result (StatusSays done plan.entry.now document.now (option_map (λ r. R.remaining r) rows) (W.contents out.old) (W.contents out.new)) }
-    ensures failed { IfErr result (λ failure.
-        StatusSays (status_of failure) plan.entry.now document.now (option_map (λ r. R.remaining r) rows) (W.contents out.old) (W.contents out.new)) }
+    ensures says { AnswerSays result plan.entry.now document.now (option_map (λ r. R.remaining r) rows) (W.contents out.old) (W.contents out.new) }
     ensures begins { Begins plan.entry.now document.now (option_map (λ r. R.remaining r) rows) (W.contents out.old) (W.contents out.new) }
 {
-    let text = match filter_text(plan) {
-        Ok(text) => text,
-        Err(failure) => return Err(failure),
-    };
+    if let Err(failure) = is_planned(plan) {
+        return Err(failure);
+    }
     let schema = match Schema::read(alloc, document) {
         Ok(schema) => schema,
         Err(fault) => return Err(Failure::Schema(fault)),
     };
-    let id = match entity_type(&schema, plan.named) {
-        Ok(id) => id,
-        Err(failure) => return Err(failure),
-    };
-    match check(alloc, &schema, id, text) {
-        Ok(checked) => filter_rows(alloc, &checked, &first_moment(), plan, rows, out),
-        Err(refusal) => Err(Failure::Refused(refusal)),
+    match entity_type(&schema, plan.named) {
+        Ok(id) => filter_asked(alloc, &schema, id, plan, rows, out),
+        Err(failure) => Err(failure),
     }
 }
 

@@ -135,8 +135,17 @@ fn command_line(rt: HostRuntime) -> Result<(), Fail> {
     assert!(rt; whole.query.is_none() && whole.now.is_none() && !whole.collection);
     let without = ["odfilter", "filter", "--schema", "s", "--type", "N.T"];
     assert!(rt; matches!(plan(rt.alloc(), without.as_slice()), Err(PlanFault::OneOf)));
-    let unknown = [
+    let queried = [
         "odfilter", "filter", "--schema", "s", "--type", "N.T", "--query", "x",
+    ];
+    let by_query = plan(rt.alloc(), queried.as_slice())?;
+    assert!(rt; by_query.query == Some("x") && by_query.filter.is_none());
+    let both = [
+        "odfilter", "filter", "--schema", "s", "--type", "N.T", "--query", "x", "--filter", "true",
+    ];
+    assert!(rt; matches!(plan(rt.alloc(), both.as_slice()), Err(PlanFault::OneOf)));
+    let unknown = [
+        "odfilter", "filter", "--schema", "s", "--type", "N.T", "--now", "x",
     ];
     assert!(rt;
         matches!(

@@ -8,6 +8,8 @@ mod happy_paths;
 #[cfg(test)]
 mod limits;
 #[cfg(test)]
+mod queries;
+#[cfg(test)]
 mod refused;
 #[cfg(test)]
 mod runs;

@@ -196,15 +196,19 @@ fn what_is_still_to_come(rt: HostRuntime) {
     plan.verb = Verb::Explain;
     assert!(rt; is_misused(rt.alloc(), &plan, "usage explain is still to come\n"));
     plan.verb = Verb::Filter;
-    plan.query = Some("$filter=true");
-    assert!(rt; is_misused(rt.alloc(), &plan, "usage query is still to come\n"));
-    plan.query = None;
     plan.now = Some("2020-01-01T00:00:00Z");
     assert!(rt; is_misused(rt.alloc(), &plan, "usage now is still to come\n"));
     plan.now = None;
     plan.collection = true;
     assert!(rt; is_misused(rt.alloc(), &plan, "usage collection is still to come\n"));
-    plan.collection = false;
+}
+
+#[test]
+fn one_of_filter_and_query(rt: HostRuntime) {
+    let mut plan = plan_of("Mini.Item", FIRST);
+    plan.query = Some("$filter=true");
+    assert!(rt; is_misused(rt.alloc(), &plan, "usage give one of filter and query\n"));
+    plan.query = None;
     plan.filter = None;
     assert!(rt; is_misused(rt.alloc(), &plan, "usage give one of filter and query\n"));
 }

@@ -2,18 +2,21 @@
 ghost use Rattle.std.specs.Prelude.{◌≡◌, ◌∷◌, [], Some, codes};
 ghost use Rattle.clap.specs.Words.{fault_of, first_of};
 ghost use Rattle.clap.specs.declared.error.kind.ErrorKind.TheVariants.{MissingRequiredArgument, UnknownArgument};
-ghost use Rattle.odata_filter.specs.CommandLine.{IsTaken, LacksFilter, given, odfilter_app};
+ghost use Rattle.odata_filter.specs.CommandLine.{GivesNotOne, IsTaken, given, odfilter_app};
 ghost use Rattle.odata_filter.specs.WorkedLines as worked;
 
-/// A whole line is taken with its four values. A line without a filter is taken and lacks it. Lines without a schema and with an
-/// unknown option are not taken.
+/// A whole line is taken with its four values, and one with a query in place of the filter with that. Lines with neither and with
+/// both are taken and give not one of them. Lines without a schema and with an unknown option are not taken.
 pub fn worked_lines()
     ensures taken { IsTaken worked.whole }
     ensures schema { first_of (codes "schema") (given worked.whole) ≡ Some (codes "s") }
     ensures named { first_of (codes "type") (given worked.whole) ≡ Some (codes "N.T") }
     ensures filter { first_of (codes "filter") (given worked.whole) ≡ Some (codes "true") }
     ensures rows { first_of (codes "rows") (given worked.whole) ≡ Some (codes "r") }
-    ensures lacks { LacksFilter worked.unfiltered }
+    ensures queried { IsTaken worked.queried }
+    ensures query { first_of (codes "query") (given worked.queried) ≡ Some (codes "x") }
+    ensures neither { GivesNotOne worked.unfiltered }
+    ensures both { GivesNotOne worked.both }
     ensures missing { fault_of odfilter_app worked.typed ≡ MissingRequiredArgument ∷ [] }
-    ensures unknown { fault_of odfilter_app worked.queried ≡ UnknownArgument ∷ [] }
+    ensures unknown { fault_of odfilter_app worked.timed ≡ UnknownArgument ∷ [] }
 {}

@@ -15,4 +15,5 @@ returns c =
     let one = app_arg c.about.result c.in_ok-arg.field-0 c.required-schema.result _ (text_rule (codes "schema") true) schema_is (ap (λ a. a.global) c.required-schema.ensures ∙ c.text_option.ensures.local) c.in_ok-arg.ensures about in
     let two = app_arg c.in_ok-arg.field-0 c.in_ok-arg-2.field-0 c.required-named.result _ (text_rule (codes "type") true) named_is (ap (λ a. a.global) c.required-named.ensures ∙ c.text_option-2.ensures.local) c.in_ok-arg-2.ensures one in
     let three = app_arg c.in_ok-arg-2.field-0 c.in_ok-arg-3.field-0 c.text_option-filter.result _ (text_rule (codes "filter") false) c.text_option-filter.ensures.rule c.text_option-filter.ensures.local c.in_ok-arg-3.ensures two in
-    IfOk-weaker c.arg-4.result _ _ (λ d added. app_arg c.in_ok-arg-3.field-0 d c.text_option-rows.result _ (text_rule (codes "rows") false) c.text_option-rows.ensures.rule c.text_option-rows.ensures.local added three) c.arg-4.ensures
+    let four = app_arg c.in_ok-arg-3.field-0 c.in_ok-arg-4.field-0 c.text_option-query.result _ (text_rule (codes "query") false) c.text_option-query.ensures.rule c.text_option-query.ensures.local c.in_ok-arg-4.ensures three in
+    IfOk-weaker c.arg-5.result _ _ (λ d added. app_arg c.in_ok-arg-4.field-0 d c.text_option-rows.result _ (text_rule (codes "rows") false) c.text_option-rows.ensures.rule c.text_option-rows.ensures.local added four) c.arg-5.ensures

@@ -16,11 +16,20 @@ returns-clause-filter c = line.whole_filter
 pub returns-clause-rows : goal.returns-clause-rows
 returns-clause-rows c = line.whole_rows
 
-pub returns-clause-lacks : goal.returns-clause-lacks
-returns-clause-lacks c = line.no_filter
+pub returns-clause-queried : goal.returns-clause-queried
+returns-clause-queried c = line.query_taken
+
+pub returns-clause-query : goal.returns-clause-query
+returns-clause-query c = line.query_found
+
+pub returns-clause-neither : goal.returns-clause-neither
+returns-clause-neither c = line.neither
+
+pub returns-clause-both : goal.returns-clause-both
+returns-clause-both c = line.two
 
 pub returns-clause-missing : goal.returns-clause-missing
 returns-clause-missing c = line.no_schema
 
 pub returns-clause-unknown : goal.returns-clause-unknown
-returns-clause-unknown c = line.no_query
+returns-clause-unknown c = line.no_moment

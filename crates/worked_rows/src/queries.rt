@@ -1,0 +1,76 @@
+//! Query strings in place of a filter: what is written, what is told, and the status.
+use crate::told::{SCHEMA, Told, outcome_of, plan_of};
+use std::alloc::Global;
+
+const A: &str = "{\"ID\":1,\"Name\":\"a+b&c\",\"Active\":true}\n";
+
+const B: &str = "{\"ID\":2,\"Name\":\"b\",\"Active\":false}\n";
+
+/// A run over both rows by the filter of a query.
+fn run_by_query(alloc: Global, query: &str) -> Told {
+    let rows =
+        b"{\"ID\":1,\"Name\":\"a+b&c\",\"Active\":true}\n{\"ID\":2,\"Name\":\"b\",\"Active\":false}\n";
+    let mut plan = plan_of("Mini.Item", "");
+    plan.filter = None;
+    plan.query = Some(query);
+    outcome_of(alloc, SCHEMA, &plan, Some(rows))
+}
+
+#[test]
+fn the_filter_of_a_query(rt: HostRuntime) {
+    for (query, out) in [
+        ("$filter=Active", A),
+        ("%24FILTER=Active", A),
+        ("filter=ID%20eq%202", B),
+        ("x=1&$Filter=Name%20eq%20'a%2Bb%26c'", A),
+        ("&&filter=Name%20eq%20'a+b%26c'&skiptoken=%C3%A9", A),
+    ] {
+        assert!(rt;
+            run_by_query(rt.alloc(), query).is(out, "", 0),
+            "at {query}"
+        );
+    }
+}
+
+#[test]
+fn refused_queries(rt: HostRuntime) {
+    for (query, line) in [
+        ("$filter=Name%2", "refused query BadEscape 12\n"),
+        ("x=%zz", "refused query BadEscape 2\n"),
+        ("x=%FF", "refused query NotUtf8 0\n"),
+        (
+            "$filter=Active&$FILTER=Active",
+            "refused query Repeated 1\n",
+        ),
+        ("$top=5&$filter=Active", "refused query OtherOption 0\n"),
+        ("a=1&Skip=1", "refused query OtherOption 1\n"),
+        ("&&filter=", "refused Unexpected 0..0\n"),
+        ("filter=ID+eq+1", "refused BadCharacter 2..3\n"),
+        ("%24FILTER=Active=1", "refused BadCharacter 6..7\n"),
+    ] {
+        assert!(rt;
+            run_by_query(rt.alloc(), query).is("", line, 1),
+            "at {query}"
+        );
+    }
+}
+
+#[test]
+fn queries_without_a_filter(rt: HostRuntime) {
+    for query in ["", "x=1", "&&", "deltatoken=1&id=$filter"] {
+        assert!(rt;
+            run_by_query(rt.alloc(), query).is("", "usage no filter option\n", 2),
+            "at {query}"
+        );
+    }
+}
+
+#[test]
+fn a_query_is_read_behind_the_type(rt: HostRuntime) {
+    let mut plan = plan_of("Mini.Thing", "");
+    plan.filter = None;
+    plan.query = Some("x=%zz");
+    assert!(rt;
+        outcome_of(rt.alloc(), SCHEMA, &plan, None).is("", "schema UnknownType Mini.Thing\n", 3)
+    );
+}
