@@ -7,7 +7,7 @@ use Rattle.std.proofs.lemmas.List.Sums.{sum_by-append, count_by-le-length}
 use Rattle.std.proofs.lemmas.Grind.{flat_map-append}
 use Rattle.odata_filter.specs.Kept.{Says, IsSound, is_kept, is_row, SaidLine, kept_text, Filters, StopsAt, StopsBefore, StopsWithin, Stops}
 use Rattle.odata_filter.specs.Lines.{lines_of, ended}
-use Rattle.odata_filter.specs.Passing.{sum_of, StopsHere}
+use Rattle.odata_filter.specs.Passing.{sum_of, IsOfLine, StopsHere}
 use Rattle.odata_filter.specs.Writes.{Writes, AppendsFront, Holds}
 use Rattle.odata_filter.proofs.WriteLemmas.{Holds-more, held_both}
 use Rattle.std.proofs.KnownBytes.{Appends-nil, Appends-trans}
@@ -154,6 +154,16 @@ HasPassed-more judge bytes line rest after text a b c h₁ h₂ passed m n first
 }
 
 -- ---- where a run stops
+
+pub StopsHere-of_line : (judge : JudgeModel) (line : List ℕ) (place : ℕ) (fault : RunFaultModel) → StopsHere judge line place fault → IsOfLine fault
+StopsHere-of_line judge line place (Json n) here = tt
+StopsHere-of_line judge line place (Row n fault) here = tt
+StopsHere-of_line judge line place (Arithmetic n fault) here = tt
+StopsHere-of_line judge line place (LineTooLong n) here = tt
+StopsHere-of_line judge line place NotACollection never = absurd never
+StopsHere-of_line judge line place (Read n) never = absurd never
+StopsHere-of_line judge line place Write never = absurd never
+StopsHere-of_line judge line place (Memory n) here = tt
 
 -- the lines before a fault of one line are those that passed
 StopsHere-stops : (judge : JudgeModel) (bytes : List ℕ) (before after : List (List ℕ)) (line rest text : List ℕ) (tally : TallyModel) (place : ℕ) (fault : RunFaultModel)

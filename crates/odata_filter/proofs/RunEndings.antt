@@ -7,8 +7,8 @@ use Rattle.edm_values.specs.MomentParts.{MomentParts}
 use Rattle.odata_filter.specs.Judges.{JudgesRow}
 use Rattle.odata_filter.specs.Kept.{Filters, Stops, StopsWithin}
 use Rattle.odata_filter.specs.Lines.{lines_of}
-use Rattle.odata_filter.specs.Failures.{ending_of, ending_of_refusal, StopsOver}
-use Rattle.odata_filter.specs.Run.{IsFirstMoment, NamesType, IsFilterOf, HasNoFilter, OverRows, OfLines, ByFilter, FiltersAll, StopsAtFault, Ending, done, refused, misused, without_type, at_fault, unread, without_memory, Ends, Begins}
+use Rattle.odata_filter.specs.Failures.{status_of, status_of_refusal, StopsOver}
+use Rattle.odata_filter.specs.Run.{IsFirstMoment, NamesType, IsFilterOf, HasNoFilter, OverRows, OfLines, ByFilter, FiltersAll, StopsAtFault, Status, done, refused, misused, without_type, at_fault, unread, without_memory, StatusSays, Begins}
 use Rattle.odata_filter.specs.csdl_schema.SchemaModel.{SchemaModel, slots_of, type_name_at}
 use Rattle.odata_filter.specs.declared.command_line.Plan.{Plan}
 use Rattle.odata_filter.specs.declared.failure.Failure.{Failure}
@@ -40,7 +40,7 @@ is_filter_of plan document schema place text filter names is same at typed = rec
 }
 
 refused_as : (plan : Plan) (document : List ℕ) (rows : Option (Option (List ℕ))) (out : Option (List ℕ)) (fault : Refusal) (P : Type 0)
-    → (P → HasNoFilter plan document) → Keeps out out → UnlessMemory fault P → Ends (ending_of_refusal fault) plan document rows out out
+    → (P → HasNoFilter plan document) → Keeps out out → UnlessMemory fault P → StatusSays (status_of_refusal fault) plan document rows out out
 refused_as plan document rows out (refusal.Text fault) P none kept p = (none p, kept)
 refused_as plan document rows out (refusal.Syntax fault) P none kept p = (none p, kept)
 refused_as plan document rows out (refusal.Typing fault) P none kept p = (none p, kept)
@@ -48,7 +48,7 @@ refused_as plan document rows out refusal.Memory P none kept p = tt
 
 pub refused_by : (plan : Plan) (document : List ℕ) (schema : SchemaModel) (place : ℕ) (text : List ℕ) (rows : Option (Option (List ℕ))) (out : Option (List ℕ)) (fault : Refusal)
     → NamesType plan document schema place → IsSomeAnd plan.filter (λ t. t.now ≡ text) → Keeps out out
-    → UnlessMemory fault (HasNoTyping (slots_of schema) (type_name_at schema place) text) → Ends (ending_of_refusal fault) plan document rows out out
+    → UnlessMemory fault (HasNoTyping (slots_of schema) (type_name_at schema place) text) → StatusSays (status_of_refusal fault) plan document rows out out
 refused_by plan document schema place text rows out fault names is kept none =
     refused_as plan document rows out fault (HasNoTyping (slots_of schema) (type_name_at schema place) text)
     (λ none. record {
@@ -92,7 +92,7 @@ done_by plan document rows old new filter now (Ok tally) is_filter is_first held
 done_by plan document rows old new filter now (Err failure) is_filter is_first held = tt
 
 failed : (plan : Plan) (document : List ℕ) (rows : Option (Option (List ℕ))) (old new : Option (List ℕ)) (filter : Filter) (now : MomentParts) (failure : Failure)
-    → IsFilterOf plan document filter → IsFirstMoment now → StopsOver (JudgesRow filter now) failure rows old new → Ends (ending_of failure) plan document rows old new
+    → IsFilterOf plan document filter → IsFirstMoment now → StopsOver (JudgesRow filter now) failure rows old new → StatusSays (status_of failure) plan document rows old new
 failed plan document rows old new filter now (NotYet option) is_filter is_first held = absurd held
 failed plan document rows old new filter now NoFilter is_filter is_first held = absurd held
 failed plan document rows old new filter now (Schema fault) is_filter is_first held = absurd held
@@ -119,7 +119,7 @@ failed plan document rows old new filter now (Rows (Memory line)) is_filter is_f
 
 pub failed_by : (plan : Plan) (document : List ℕ) (rows : Option (Option (List ℕ))) (old new : Option (List ℕ)) (filter : Filter) (now : MomentParts) (answer : Result Tally Failure)
     → IsFilterOf plan document filter → IsFirstMoment now → IfErr answer (λ failure. StopsOver (JudgesRow filter now) failure rows old new)
-    → IfErr answer (λ failure. Ends (ending_of failure) plan document rows old new)
+    → IfErr answer (λ failure. StatusSays (status_of failure) plan document rows old new)
 failed_by plan document rows old new filter now (Ok tally) is_filter is_first held = tt
 failed_by plan document rows old new filter now (Err failure) is_filter is_first held = failed plan document rows old new filter now failure is_filter is_first held
 
@@ -158,15 +158,15 @@ by_filter_kept P plan document rows a b c by kept = record {
   written = over_kept rows a b c (λ bytes. P (JudgesRow by.filter by.now) (lines_of bytes)) by.written kept;
 }
 
-pub Ends-kept : (ending : Ending) (plan : Plan) (document : List ℕ) (rows : Option (Option (List ℕ))) (a b c : Option (List ℕ))
-    → Ends ending plan document rows a b → Keeps b c → Ends ending plan document rows a c
-Ends-kept done plan document rows a b c ends kept = by_filter_kept FiltersAll plan document rows a b c ends kept
-Ends-kept refused plan document rows a b c ends kept = (ends.0, Keeps-trans a b c ends.1 kept)
-Ends-kept misused plan document rows a b c ends kept = (ends.0, Keeps-trans a b c ends.1 kept)
-Ends-kept without_type plan document rows a b c ends kept = (ends.0, Keeps-trans a b c ends.1 kept)
-Ends-kept at_fault plan document rows a b c ends kept = by_filter_kept StopsAtFault plan document rows a b c ends kept
-Ends-kept unread plan document rows a b c ends kept = ends
-Ends-kept without_memory plan document rows a b c ends kept = tt
+pub StatusSays-kept : (status : Status) (plan : Plan) (document : List ℕ) (rows : Option (Option (List ℕ))) (a b c : Option (List ℕ))
+    → StatusSays status plan document rows a b → Keeps b c → StatusSays status plan document rows a c
+StatusSays-kept done plan document rows a b c ends kept = by_filter_kept FiltersAll plan document rows a b c ends kept
+StatusSays-kept refused plan document rows a b c ends kept = (ends.0, Keeps-trans a b c ends.1 kept)
+StatusSays-kept misused plan document rows a b c ends kept = (ends.0, Keeps-trans a b c ends.1 kept)
+StatusSays-kept without_type plan document rows a b c ends kept = (ends.0, Keeps-trans a b c ends.1 kept)
+StatusSays-kept at_fault plan document rows a b c ends kept = by_filter_kept StopsAtFault plan document rows a b c ends kept
+StatusSays-kept unread plan document rows a b c ends kept = ends
+StatusSays-kept without_memory plan document rows a b c ends kept = tt
 
 pub Begins-kept : (plan : Plan) (document : List ℕ) (rows : Option (Option (List ℕ))) (a b c : Option (List ℕ))
     → Begins plan document rows a b → Keeps b c → Begins plan document rows a c

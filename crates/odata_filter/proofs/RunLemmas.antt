@@ -5,12 +5,13 @@ use Rattle.std.specs.Io.KnownBytes.{Consumes, IsAtEnd, Keeps}
 use Rattle.std.proofs.KnownBytes.{Appends-kept}
 use Rattle.odata_filter.specs.Lines.{lines_of}
 use Rattle.odata_filter.specs.Kept.{Filters, StopsBefore, StopsWithin, Stops}
-use Rattle.odata_filter.specs.Passing.{Goes, Closes, Ends, IsComplete}
+use Rattle.odata_filter.specs.Passing.{Goes, Closes, Ends, IsComplete, IsOfLine}
 use Rattle.odata_filter.specs.Writes.{Writes, AppendsFront, Holds}
 use Rattle.odata_filter.specs.declared.lines.each.Progress.{Progress as ProgressModel}
 use Rattle.odata_filter.specs.declared.lines.input.Ending.{Ending as EndingModel}
 use Rattle.odata_filter.specs.declared.lines.input.Ending.TheVariants.{AtEnd, ReadFailed, NoMemory}
 use Rattle.odata_filter.specs.declared.lines.run_fault.RunFault.{RunFault as RunFaultModel}
+use Rattle.odata_filter.specs.declared.lines.run_fault.RunFault.TheVariants.{Json, Row, Arithmetic, LineTooLong, NotACollection, Read, Write, Memory}
 use Rattle.odata_filter.specs.declared.lines.tally.Tally.{Tally as TallyModel}
 use Rattle.odata_filter.proofs.FilterLemmas.{JudgeModel, Filters-within, StopsWithin-more, Stops-more, Stops-within}
 use Rattle.odata_filter.proofs.LineLemmas.{IsComplete-apart}
@@ -81,6 +82,47 @@ finished : (judge : JudgeModel) (part rest text : List ℕ) (progress : Progress
 finished judge part rest text progress ending answer None split goes ends = closed judge part rest text progress ending answer split goes.0 goes.1 ends
 finished judge part rest text progress ending answer (Some fault) split goes ends =
     subst (Answers judge (part ++ rest) text) (sym ends) (Stops-more judge part rest text fault (split_of part rest ending split) goes)
+
+-- bytes that stand in memory are judged whole
+all_answered : (judge : JudgeModel) (bytes : List ℕ) (u v w : Option (List ℕ)) (progress : ProgressModel) (answer : Result TallyModel RunFaultModel)
+    → Writes u v (λ text. Goes judge bytes text progress) → Keeps v w → Ends progress AtEnd answer → Writes u w (λ text. Answers judge bytes text answer)
+all_answered judge bytes u v w progress answer (text, wrote, goes) kept ends =
+    let split : IsSplit bytes [] AtEnd = record { none = λ e. refl; complete = λ apart. absurd (apart refl) } in
+    let answers = finished judge bytes [] text progress AtEnd answer progress.fault split goes ends in
+    (text, Appends-kept u v w text wrote kept, subst (λ l. Answers judge l text answer) (append-nil bytes) answers)
+
+pub all_answered-ok : (judge : JudgeModel) (bytes : List ℕ) (u v w : Option (List ℕ)) (progress : ProgressModel) (answer : Result TallyModel RunFaultModel)
+    → Writes u v (λ text. Goes judge bytes text progress) → Keeps v w → Ends progress AtEnd answer → IfOk answer (λ tally. Writes u w (λ text. Filters judge (lines_of bytes) text tally))
+all_answered-ok judge bytes u v w progress (Ok tally) goes kept ends = all_answered judge bytes u v w progress (Ok tally) goes kept ends
+all_answered-ok judge bytes u v w progress (Err fault) goes kept ends = tt
+
+pub all_answered-err : (judge : JudgeModel) (bytes : List ℕ) (u v w : Option (List ℕ)) (progress : ProgressModel) (answer : Result TallyModel RunFaultModel)
+    → Writes u v (λ text. Goes judge bytes text progress) → Keeps v w → Ends progress AtEnd answer → IfErr answer (λ fault. Writes u w (λ text. Stops judge bytes text fault))
+all_answered-err judge bytes u v w progress (Ok tally) goes kept ends = tt
+all_answered-err judge bytes u v w progress (Err fault) goes kept ends = all_answered judge bytes u v w progress (Err fault) goes kept ends
+
+-- the reader's end and a line's fault are no failed read
+IsOfLine-unread : (fault : RunFaultModel) → IsOfLine fault → (line : ℕ) → fault ≢ Read line
+IsOfLine-unread (Read n) of_line line same = absurd of_line
+IsOfLine-unread (Json n) of_line line same = cc
+IsOfLine-unread (Row n f) of_line line same = cc
+IsOfLine-unread (Arithmetic n f) of_line line same = cc
+IsOfLine-unread (LineTooLong n) of_line line same = cc
+IsOfLine-unread NotACollection of_line line same = cc
+IsOfLine-unread Write of_line line same = cc
+IsOfLine-unread (Memory n) of_line line same = cc
+
+ends_unread : (progress : ProgressModel) (answer : Result TallyModel RunFaultModel) (fault : Option RunFaultModel) → IfSome fault IsOfLine
+    → MatchOption fault (Closes progress AtEnd answer) (λ f. answer ≡ Err f) → IfErr answer (λ f. (line : ℕ) → f ≢ Read line)
+ends_unread progress (Ok tally) fault of_line ends = tt
+ends_unread progress (Err f) None of_line ends = λ line same. cc
+ends_unread progress (Err f) (Some fault) of_line ends =
+    let same : f ≡ fault = cc in
+    subst (λ g. (line : ℕ) → g ≢ Read line) (sym same) (IsOfLine-unread fault of_line)
+
+pub Ends-unread : (progress : ProgressModel) (answer : Result TallyModel RunFaultModel) → IfSome progress.fault IsOfLine → Ends progress AtEnd answer
+    → IfErr answer (λ fault. (line : ℕ) → fault ≢ Read line)
+Ends-unread progress answer of_line ends = ends_unread progress answer progress.fault of_line ends
 
 -- of known bytes, what was read is the front, and all of them where the reader came to its end
 known_input : (a b : Option (List ℕ)) (read : List ℕ) (P : List ℕ → Type 0) → Consumes a b read → ((rest : List ℕ) → (IsAtEnd b → rest ≡ []) → P (read ++ rest)) → IfSome a P

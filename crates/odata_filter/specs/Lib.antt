@@ -1,16 +1,3 @@
-pub mod csdl_schema
-pub mod edm_entities
-pub mod odata_eval
-pub mod odata_typing
-pub mod Lines
-pub mod Judges
-pub mod Kept
-pub mod Passing
-pub mod Writes
-pub mod FilterPlan
-pub mod CommandLine
-pub mod PlanSteps
-pub mod WorkedLines
 pub use Rattle.edm_values.specs.IntLiteral
 pub use Rattle.edm_values.specs.MomentParts
 pub use Rattle.edm_values.specs.PlainVal
@@ -26,5 +13,18 @@ pub use Rattle.serde_json.specs.Data as JsonData
 pub use Rattle.serde_json.specs.Find as JsonFind
 pub use Rattle.serde_json.specs.Read as JsonRead
 pub use Rattle.serde_json.specs.View as JsonView
+pub mod csdl_schema
+pub mod edm_entities
+pub mod odata_eval
+pub mod odata_typing
+pub mod Lines
+pub mod Judges
+pub mod Kept
+pub mod Passing
+pub mod Writes
+pub mod FilterPlan
+pub mod CommandLine
+pub mod PlanSteps
+pub mod WorkedLines
 pub mod Run
 pub mod Failures

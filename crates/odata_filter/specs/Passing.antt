@@ -29,6 +29,13 @@ StopsHere judge line place (Read n) = ⊥
 StopsHere judge line place Write = ⊥
 StopsHere judge line place (Memory n) = n ≡ place
 
+-- the fault is that of a line, and no device's
+abbrev pub IsOfLine : RunFaultModel → Type 0
+IsOfLine NotACollection = ⊥
+IsOfLine (Read n) = ⊥
+IsOfLine Write = ⊥
+IsOfLine fault = Unit {0}
+
 -- what became of one line, and the text that it adds
 abbrev pub Steps : (List ℕ → JudgmentModel → Type 0) → List ℕ → ℕ → List ℕ → StepModel → Type 0
 Steps judge line place text (Passed tally) = Filters judge (line ∷ []) text tally

@@ -76,17 +76,17 @@ abbrev pub StopsAtFault : OfLines
 StopsAtFault judge lines text = (place : ℕ) × (said : Said) × (¬ IsSound said) × StopsAt judge lines text place said
 
 -- how a run ends
-pub data Ending : Type 0 where
-  done : Ending
-  refused : Ending
-  misused : Ending
-  without_type : Ending
-  at_fault : Ending
-  unread : Ending
-  without_memory : Ending
+pub data Status : Type 0 where
+  done : Status
+  refused : Status
+  misused : Status
+  without_type : Status
+  at_fault : Status
+  unread : Status
+  without_memory : Status
 
 -- the status that the program ends with
-abbrev pub status_number : Ending → ℕ
+abbrev pub status_number : Status → ℕ
 status_number done = 0
 status_number refused = 1
 status_number misused = 2
@@ -97,22 +97,22 @@ status_number without_memory = 6
 
 -- What each says: all rows were filtered; the text is no filter; the plan is none to filter rows; there is no such entity type;
 -- a row is at fault; there is a filter, and its rows were not read or written whole. Nothing was written in the second to fourth.
-abbrev pub Ends : Ending → Plan → List ℕ → Option (Option (List ℕ)) → Option (List ℕ) → Option (List ℕ) → Type 0
-Ends done plan document rows old new = ByFilter FiltersAll plan document rows old new
-Ends refused plan document rows old new = HasNoFilter plan document × Keeps old new
-Ends misused plan document rows old new = (¬ IsFilterPlan plan) × Keeps old new
-Ends without_type plan document rows old new = HasNoType plan document × Keeps old new
-Ends at_fault plan document rows old new = ByFilter StopsAtFault plan document rows old new
-Ends unread plan document rows old new = HasFilter plan document
-Ends without_memory plan document rows old new = Unit {0}
+abbrev pub StatusSays : Status → Plan → List ℕ → Option (Option (List ℕ)) → Option (List ℕ) → Option (List ℕ) → Type 0
+StatusSays done plan document rows old new = ByFilter FiltersAll plan document rows old new
+StatusSays refused plan document rows old new = HasNoFilter plan document × Keeps old new
+StatusSays misused plan document rows old new = (¬ IsFilterPlan plan) × Keeps old new
+StatusSays without_type plan document rows old new = HasNoType plan document × Keeps old new
+StatusSays at_fault plan document rows old new = ByFilter StopsAtFault plan document rows old new
+StatusSays unread plan document rows old new = HasFilter plan document
+StatusSays without_memory plan document rows old new = Unit {0}
 
 -- nothing was written, or a beginning of the text of the kept lines among some first lines of which none is at fault
 abbrev pub Begins : Plan → List ℕ → Option (Option (List ℕ)) → Option (List ℕ) → Option (List ℕ) → Type 0
 Begins plan document rows old new = Keeps old new ⊎ ByFilter StopsWithin plan document rows old new
 
--- A status, what it says, and what was written by then.
-pub record Answers (status : ℕ) (plan : Plan) (document : List ℕ) (rows : Option (Option (List ℕ))) (old new : Option (List ℕ)) : Type 0 where
-  pub ending : Ending
-  pub is_status : status ≡ status_number ending
-  pub ends : Ends ending plan document rows old new
+-- The answer is a status, what that says holds, and what was written by then is right.
+pub record Answers (answer : ℕ) (plan : Plan) (document : List ℕ) (rows : Option (Option (List ℕ))) (old new : Option (List ℕ)) : Type 0 where
+  pub status : Status
+  pub is_answer : answer ≡ status_number status
+  pub says : StatusSays status plan document rows old new
   pub begins : Begins plan document rows old new

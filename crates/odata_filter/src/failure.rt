@@ -1,5 +1,5 @@
 ghost use Rattle.std.specs.Prelude.{◌≡◌, ◌<◌};
-ghost use Rattle.odata_filter.specs.Failures.{ending_of};
+ghost use Rattle.odata_filter.specs.Failures.{status_of};
 ghost use Rattle.odata_filter.specs.Run.{status_number};
 
 use crate::csdl_schema::fault::SchemaFault;
@@ -26,7 +26,7 @@ pub enum Failure<'p> {
 impl Failure<'_> {
     /// The status that the program ends with.
     pub fn status(&self) -> u8
-        ensures exact { result ≡ status_number (ending_of self.now) }
+        ensures exact { result ≡ status_number (status_of self.now) }
         ensures known { (0 < result) × (result < 7) }
     {
         match self {

@@ -3,8 +3,8 @@ ghost use Rattle.odata_filter.specs.FilterPlan.{IsFilterPlan};
 ghost use Rattle.odata_filter.specs.Judges.{JudgesRow};
 ghost use Rattle.odata_filter.specs.Kept.{Filters};
 ghost use Rattle.odata_filter.specs.Lines.{lines_of};
-ghost use Rattle.odata_filter.specs.Run.{Answers, Begins, Ends, IsFirstMoment, OverRows, done, misused, without_type};
-ghost use Rattle.odata_filter.specs.Failures.{StopsOver, ending_of};
+ghost use Rattle.odata_filter.specs.Run.{Answers, Begins, StatusSays, IsFirstMoment, OverRows, done, misused, without_type};
+ghost use Rattle.odata_filter.specs.Failures.{StopsOver, status_of};
 ghost use Rattle.odata_filter.specs.csdl_schema.SchemaModel.{IsEntityAt, place_named};
 
 use crate::command_line::{Plan, Verb};
@@ -47,7 +47,7 @@ fn filter_text<'p>(plan: &Plan<'p>) -> Result<&'p str, Failure<'p>>
     ensures planned { IfOk result (λ text. IsFilterPlan plan.entry.now) }
     ensures text { IfOk result (λ text. IsSomeAnd plan.entry.now.filter (λ given. given.now ≡ text.now)) }
     ensures other { OnErr result (¬ IsFilterPlan plan.entry.now) }
-    ensures ending { IfErr result (λ failure. ending_of failure ≡ misused) }
+    ensures status { IfErr result (λ failure. status_of failure ≡ misused) }
 {
     match not_yet(plan) {
         Some(option) => Err(Failure::NotYet(option)),
@@ -64,7 +64,7 @@ fn entity_type<'p>(schema: &Schema, named: &'p str) -> Result<TypeId, Failure<'p
     ensures found { IfOk result (λ id. place_named schema.now named.entry.now ≡ Some id) }
     ensures entity { IfOk result (IsEntityAt schema.now) }
     ensures none { OnErr result ((id : ℕ) → place_named schema.now named.entry.now ≡ Some id → ¬ IsEntityAt schema.now id) }
-    ensures ending { IfErr result (λ failure. ending_of failure ≡ without_type) }
+    ensures status { IfErr result (λ failure. status_of failure ≡ without_type) }
 {
     match schema.type_named(named) {
         Some(id) => {
@@ -119,9 +119,9 @@ fn carry_out<'p, R: Read + Drop, W: Write>(
     rows: Option<R>,
     out: &mut W,
 ) -> Result<Tally, Failure<'p>>
-    ensures done { OnOk result (Ends done plan.entry.now document.now (option_map (λ r. R.remaining r) rows) (W.contents out.old) (W.contents out.new)) }
+    ensures done { OnOk result (StatusSays done plan.entry.now document.now (option_map (λ r. R.remaining r) rows) (W.contents out.old) (W.contents out.new)) }
     ensures failed { IfErr result (λ failure.
-        Ends (ending_of failure) plan.entry.now document.now (option_map (λ r. R.remaining r) rows) (W.contents out.old) (W.contents out.new)) }
+        StatusSays (status_of failure) plan.entry.now document.now (option_map (λ r. R.remaining r) rows) (W.contents out.old) (W.contents out.new)) }
     ensures begins { Begins plan.entry.now document.now (option_map (λ r. R.remaining r) rows) (W.contents out.old) (W.contents out.new) }
 {
     let text = match filter_text(plan) {

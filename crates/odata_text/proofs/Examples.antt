@@ -3,7 +3,7 @@ use Rattle.std.proofs.Common.{◌≡◌, ℕ, ◌+◌, ◌-◌, ◌<◌, ◌≤�
 use Rattle.std.proofs.lemmas.Bool.{false≢true}
 use Rattle.odata_text.specs.ByteClass.{class_of}
 use Rattle.odata_text.specs.Lengths.{IsReach}
-use Rattle.odata_text.specs.Spelling.{IsIdentifier, identifier_length}
+use Rattle.odata_text.specs.Spelling.{IsWord, word_run}
 use Rattle.odata_text.specs.TokenExamples.{piece_in, plain_filter, plain_tokens, run_on_filter}
 use Rattle.odata_text.specs.Tokens.{IsFaultBehind, IsGap, IsLongest, IsTokenAt, IsTokenList}
 use Rattle.odata_text.specs.declared.byte_class.ByteClass.TheVariants.{Letter, Space}
@@ -11,7 +11,7 @@ use Rattle.odata_text.specs.declared.fault.TextFault.TheVariants.{RunOn}
 use Rattle.odata_text.specs.declared.token.TokenKind.TheVariants.{Word, Int, Str}
 use Rattle.odata_text.proofs.LongestPieces.{longest-from_reach, started_kind}
 use Rattle.odata_text.proofs.Places.{run_on}
-use Rattle.odata_text.proofs.Reaches.{IsReach-identifier, IsReach-int}
+use Rattle.odata_text.proofs.Reaches.{IsReach-word, IsReach-int}
 
 no_gap : (text : List ℕ) (place : ℕ) → place ≤ length text → IsGap text place place
 no_gap text place within = record { order = omega arith; within = within; white = λ i low high. absurd (omega arith) }
@@ -23,12 +23,12 @@ one_space text from to next inside space = record {
   white = λ i low high. let here : from ≡ i = omega arith in subst (λ (k : ℕ). class_of (get_or text k 0) ≡ Space) here space;
 }
 
-word_at : (text : List ℕ) (start stop : ℕ) → start < stop → 0 < length (drop start text) → class_of (get_or (drop start text) 0 0) ≡ Letter → identifier_length (drop start text) ≡ stop - start
+word_at : (text : List ℕ) (start stop : ℕ) → start < stop → 0 < length (drop start text) → class_of (get_or (drop start text) 0 0) ≡ Letter → word_run (drop start text) ≡ stop - start
     → IsTokenAt text (piece_in text Word start stop)
 word_at text start stop order inside letter run = record {
   longest = record {
     order = omega arith;
-    longest = longest-from_reach (drop start text) Word (stop - start) (ap started_kind letter) (subst (λ (n : ℕ). IsReach IsIdentifier n (drop start text)) run (IsReach-identifier (drop start text) inside letter)) (omega arith);
+    longest = longest-from_reach (drop start text) Word (stop - start) (ap started_kind letter) (subst (λ (n : ℕ). IsReach IsWord n (drop start text)) run (IsReach-word (drop start text) inside letter)) (omega arith);
     bytes = refl;
   };
   ends = λ runs. absurd (false≢true runs.0);

@@ -10,7 +10,8 @@ use Rattle.std.proofs.lemmas.List.Folds.{list_all-append}
 use Rattle.std.proofs.lemmas.List.Sums.{take_while-cons}
 use Rattle.std.proofs.Math.Utf8.{scalar, encode}
 use Rattle.std.proofs.lemmas.Str.{chars-nil, chars-append, chars-encodes, encodes-append, encodes-chars, scalars-chars, length-encode, IsCharBoundary-at_seam, IsCharBoundary-from_take}
-use Rattle.odata_text.specs.Identifier.{IsIdentifier, begins_identifier, continues_identifier, identifier_run, is_identifier}
+use Rattle.odata_text.specs.Identifier.{begins_identifier, continues_identifier, is_identifier}
+use Rattle.odata_text.specs.Lengths.{IsIdentifier, identifier_run}
 use Rattle.odata_text.specs.Lengths.{IsReach}
 
 -- Lists of characters.

@@ -16,7 +16,7 @@ use Rattle.odata_text.specs.declared.byte_class.ByteClass.TheVariants.{Letter, D
 use Rattle.odata_text.specs.declared.token.TokenKind.{TokenKind}
 use Rattle.odata_text.specs.declared.token.TokenKind.TheVariants.{Word, Int, Str}
 use Rattle.odata_text.proofs.ByteClasses.{class_of-digit, class_of-sign, class_of-quote}
-use Rattle.odata_text.proofs.Reaches.{IsWordByIndex-from_identifier, digit_test}
+use Rattle.odata_text.proofs.Reaches.{IsWordByIndex-from_word, digit_test}
 
 -- the kind whose spellings begin with a byte of the class
 abbrev pub started_kind : ByteClass → Option TokenKind
@@ -52,7 +52,7 @@ started-str : (bytes : List ℕ) → IsStringSpelling bytes → IsStarted Str by
 started-str bytes spelled = subst (IsStarted Str) (sym spelled.1) (record { nonempty = omega arith; first = ap started_kind (class_of-quote 39 refl) })
 
 pub started : (kind : TokenKind) (bytes : List ℕ) → Spells kind bytes → IsStarted kind bytes
-started Word bytes spelled = let word = IsWordByIndex-from_identifier bytes spelled in record { nonempty = word.nonempty; first = ap started_kind word.first }
+started Word bytes spelled = let word = IsWordByIndex-from_word bytes spelled in record { nonempty = word.nonempty; first = ap started_kind word.first }
 started Int bytes spelled = started-int bytes spelled
 started Str bytes spelled = started-str bytes spelled
 started _ bytes spelled = absurd spelled

@@ -7,7 +7,7 @@ use Rattle.std.proofs.lemmas.List.{get_or-drop, length-drop, take-append-drop}
 use Rattle.std.proofs.lemmas.Str.{encode_same}
 use Rattle.odata_text.specs.ByteClass.{class_of}
 use Rattle.odata_text.specs.Piece.{Piece}
-use Rattle.odata_text.specs.Spelling.{identifier_length}
+use Rattle.odata_text.specs.Spelling.{word_run}
 use Rattle.odata_text.specs.Tokens.{AreTokensFrom, IsBadCharacter, IsCharacterAt, IsFaultAt, IsFaultBehind, IsGap, IsLongest, IsNoToken, IsOneTooMany, IsPieceAt, IsRunOn, IsTextFault, IsTokenAt, IsTokenList, IsUnclosed, RunsOn, end_of, token_limit}
 use Rattle.odata_text.specs.declared.byte_class.ByteClass.TheVariants.{Space}
 use Rattle.odata_text.specs.declared.fault.TextFault.{TextFault}
@@ -116,7 +116,7 @@ same_run : (text : List ℕ) (place : ℕ) (s t : Span) → s.start ≡ place �
 same_run text place s t s_here t_here one two =
     let piece : one.piece ≡ two.piece = same_piece text one.piece two.piece place (sym one.start ∙ s_here) (sym two.start ∙ t_here) one.longest two.longest in
     let start : s.start ≡ t.start = s_here ∙ sym t_here in
-    let stop : s.stop ≡ t.stop = one.stop ∙ ap (λ (p : Piece). p.stop + identifier_length (drop p.stop text)) piece ∙ sym two.stop in
+    let stop : s.stop ≡ t.stop = one.stop ∙ ap (λ (p : Piece). p.stop + word_run (drop p.stop text)) piece ∙ sym two.stop in
     λ i. record { start = start i; stop = stop i }
 
 same_many : (text : List ℕ) (place before : ℕ) (s t : Span) → s.start ≡ place → t.start ≡ place → IsOneTooMany text before s → IsOneTooMany text before t → s ≡ t

@@ -8,18 +8,18 @@ use Rattle.std.proofs.lemmas.Str.Parse.{digit_at}
 use Rattle.edm_values.specs.IntLiteral.{IsIntSpelling}
 use Rattle.edm_values.specs.StringLiteral.{doubled, IsStringSpelling}
 use Rattle.odata_text.specs.Lengths.{sign_length}
-use Rattle.odata_text.specs.Spelling.{Spells, continues_identifier, identifier_length, is_identifier_byte}
+use Rattle.odata_text.specs.Spelling.{Spells, continues_word, word_run, is_word_byte}
 use Rattle.odata_text.specs.Tokens.{IsGap, IsLongest, IsRunOn, is_undelimited}
 use Rattle.odata_text.specs.declared.byte_class.ByteClass.TheVariants.{Space, Other}
 use Rattle.odata_text.specs.declared.token.TokenKind.{TokenKind}
 use Rattle.odata_text.specs.declared.token.TokenKind.TheVariants.{Word, Int, Str}
 use Rattle.odata_text.proofs.ByteClasses.{class_of-non_ascii}
 use Rattle.odata_text.proofs.LongestPieces.{started}
-use Rattle.odata_text.proofs.Reaches.{IsWordByIndex-from_identifier, numeral-from_int}
+use Rattle.odata_text.proofs.Reaches.{IsWordByIndex-from_word, numeral-from_int}
 
-identifier_ascii : (b : ℕ) → is_identifier_byte b ≡ true → b < 128
+identifier_ascii : (b : ℕ) → is_word_byte b ≡ true → b < 128
 identifier_ascii b part =
-    ⊎_elim (λ ascii. ascii) (λ far. absurd (both_ways _ (ap continues_identifier (class_of-non_ascii b far)) part)) (cases_lt b 128)
+    ⊎_elim (λ ascii. ascii) (λ far. absurd (both_ways _ (ap continues_word (class_of-non_ascii b far)) part)) (cases_lt b 128)
 
 int_end : (bytes : List ℕ) → IsIntSpelling bytes → get_or bytes (length bytes - 1) 0 < 128
 int_end bytes int =
@@ -41,7 +41,7 @@ str_end bytes spelled =
 
 -- the last byte of a spelling is ASCII
 ascii_end : (kind : TokenKind) (bytes : List ℕ) → Spells kind bytes → get_or bytes (length bytes - 1) 0 < 128
-ascii_end Word bytes spelled = let word = IsWordByIndex-from_identifier bytes spelled in let some = word.nonempty in identifier_ascii _ (word.each (length bytes - 1) (omega arith))
+ascii_end Word bytes spelled = let word = IsWordByIndex-from_word bytes spelled in let some = word.nonempty in identifier_ascii _ (word.each (length bytes - 1) (omega arith))
 ascii_end Int bytes spelled = int_end bytes spelled
 ascii_end Str bytes spelled = str_end bytes spelled
 ascii_end _ bytes spelled = absurd spelled
@@ -82,7 +82,7 @@ pub rest_of : (text bytes : List ℕ) (start : ℕ) → bytes ≡ text → take 
 rest_of text bytes start same = take_rest bytes start ∙ ap (drop start) same
 
 pub run_on : (text : List ℕ) (start n behind : ℕ) (kind : TokenKind) → IsLongest kind n (drop start text) → is_undelimited kind ≡ true
-    → behind ≡ identifier_length (drop (start + n) text) → 0 < behind → IsRunOn text (record { start = start; stop = start + n + behind })
+    → behind ≡ word_run (drop (start + n) text) → 0 < behind → IsRunOn text (record { start = start; stop = start + n + behind })
 run_on text start n behind kind longest undelimited run some =
     let size : start + n - start ≡ n = omega arith in
     record {

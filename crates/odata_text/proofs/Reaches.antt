@@ -12,7 +12,7 @@ use Rattle.std.proofs.lemmas.Str.Parse.{digit_at, numerals_by_value, tells_by_in
 use Rattle.odata_text.specs.ByteClass.{class_of}
 use Rattle.edm_values.specs.IntLiteral.{IsIntSpelling}
 use Rattle.odata_text.specs.Lengths.{IsReach, sign_length}
-use Rattle.odata_text.specs.Spelling.{IsIdentifier, continues_identifier, identifier_length, is_identifier_byte}
+use Rattle.odata_text.specs.Spelling.{IsWord, continues_word, word_run, is_word_byte}
 use Rattle.odata_text.specs.declared.byte_class.ByteClass.TheVariants.{Letter}
 
 -- what passes from the front on is within the run
@@ -22,39 +22,39 @@ prefix_len-reaches p rest m within passes =
 
 -- Words.
 
-goes_on : (b : ℕ) (bs : List ℕ) → IsIdentifier (b ∷ bs) → (k : ℕ) → k < length (b ∷ bs) → is_identifier_byte (get_or (b ∷ bs) k 0) ≡ true
-goes_on b bs word zero below = ap continues_identifier word.0
+goes_on : (b : ℕ) (bs : List ℕ) → IsWord (b ∷ bs) → (k : ℕ) → k < length (b ∷ bs) → is_word_byte (get_or (b ∷ bs) k 0) ≡ true
+goes_on b bs word zero below = ap continues_word word.0
 goes_on b bs word (suc k) below = word.1 k 0 (omega arith)
 
 pub record IsWordByIndex (xs : List ℕ) : Type 0 where
   pub nonempty : 0 < length xs
   pub first : class_of (get_or xs 0 0) ≡ Letter
-  pub each : (k : ℕ) → k < length xs → is_identifier_byte (get_or xs k 0) ≡ true
+  pub each : (k : ℕ) → k < length xs → is_word_byte (get_or xs k 0) ≡ true
 
-pub IsWordByIndex-from_identifier : (xs : List ℕ) → IsIdentifier xs → IsWordByIndex xs
-IsWordByIndex-from_identifier [] word = absurd word
-IsWordByIndex-from_identifier (b ∷ bs) word = record { nonempty = omega arith; first = word.0; each = goes_on b bs word }
+pub IsWordByIndex-from_word : (xs : List ℕ) → IsWord xs → IsWordByIndex xs
+IsWordByIndex-from_word [] word = absurd word
+IsWordByIndex-from_word (b ∷ bs) word = record { nonempty = omega arith; first = word.0; each = goes_on b bs word }
 
-IsIdentifier-from_index : (xs : List ℕ) → IsWordByIndex xs → IsIdentifier xs
-IsIdentifier-from_index [] word = let none : 0 < 0 = word.nonempty in absurd (omega arith)
-IsIdentifier-from_index (b ∷ bs) word = (word.first, λ k d below. ap is_identifier_byte (get_or_default bs k d 0 below) ∙ word.each (suc k) (omega arith))
+IsWord-from_index : (xs : List ℕ) → IsWordByIndex xs → IsWord xs
+IsWord-from_index [] word = let none : 0 < 0 = word.nonempty in absurd (omega arith)
+IsWord-from_index (b ∷ bs) word = (word.first, λ k d below. ap is_word_byte (get_or_default bs k d 0 below) ∙ word.each (suc k) (omega arith))
 
-pub IsReach-identifier : (rest : List ℕ) → 0 < length rest → class_of (get_or rest 0 0) ≡ Letter → IsReach IsIdentifier (identifier_length rest) rest
-IsReach-identifier rest nonempty first =
-    let n = identifier_length rest in
-    let within : n ≤ length rest = prefix_len-le-length is_identifier_byte rest in
+pub IsReach-word : (rest : List ℕ) → 0 < length rest → class_of (get_or rest 0 0) ≡ Letter → IsReach IsWord (word_run rest) rest
+IsReach-word rest nonempty first =
+    let n = word_run rest in
+    let within : n ≤ length rest = prefix_len-le-length is_word_byte rest in
     let size : length (take n rest) ≡ n = length-take-le n rest within in
     record {
       within = within;
-      found = λ positive. IsIdentifier-from_index (take n rest) (record {
+      found = λ positive. IsWord-from_index (take n rest) (record {
         nonempty = omega arith;
         first = ap class_of (get_or-take n rest 0 0 positive) ∙ first;
-        each = λ k below. let inside : k < n = omega arith in ap is_identifier_byte (get_or-take n rest k 0 inside) ∙ prefix_len_passes is_identifier_byte rest k 0 inside;
+        each = λ k below. let inside : k < n = omega arith in ap is_word_byte (get_or-take n rest k 0 inside) ∙ prefix_len_passes is_word_byte rest k 0 inside;
       });
       reaches = λ m inside word.
-          let byte = (IsWordByIndex-from_identifier (take m rest) word).each in
+          let byte = (IsWordByIndex-from_word (take m rest) word).each in
           let taken : length (take m rest) ≡ m = length-take-le m rest inside in
-          prefix_len-reaches is_identifier_byte rest m inside (λ k below. ap is_identifier_byte (sym (get_or-take m rest k 0 below)) ∙ byte k (omega arith));
+          prefix_len-reaches is_word_byte rest m inside (λ k below. ap is_word_byte (sym (get_or-take m rest k 0 below)) ∙ byte k (omega arith));
     }
 
 -- Whole numbers.

@@ -1,8 +1,10 @@
 -- Words of private contracts alone: what the functions that measure pieces answer.
-use Rattle.std.specs.Prelude.{ℕ, ◌<◌, ◌≤◌, ◌==◌, ◌||◌, slice_index, if◌then◌else◌, List, length, take, fold, Option, Some, None}
+use Rattle.std.specs.Prelude.{◌≡◌, ℕ, ◌<◌, ◌≤◌, true, ◌==◌, ◌||◌, slice_index, if◌then◌else◌, IsUtf8, List, length, take, fold, chars, encode_utf8_all, Option, Some, None}
+use Rattle.std.specs.List.{take_while}
 use Rattle.odata_text.specs.declared.quoted.Quoted.{Quoted}
 use Rattle.odata_text.specs.declared.quoted.Quoted.TheVariants.{Before, Open, Closed, Over}
 use Rattle.odata_text.specs.declared.token.TokenKind.{TokenKind}
+use Rattle.odata_text.specs.Identifier.{continues_identifier, is_identifier}
 
 -- n is the length of the longest spelling at the front, 0 if there is none
 pub record IsReach (IsSpelling : List ℕ → Type 0) (n : ℕ) (rest : List ℕ) : Type 0 where
@@ -27,3 +29,12 @@ quoted_after Over b = Over
 
 abbrev pub quoted_of : List ℕ → Quoted
 quoted_of = fold quoted_after Before
+
+-- the bytes are an identifier in UTF-8
+pub record IsIdentifier (bytes : List ℕ) : Type 0 where
+  pub utf8 : IsUtf8 bytes
+  pub characters : is_identifier (chars bytes) ≡ true
+
+-- how many bytes the run of identifier characters at the front takes
+abbrev pub identifier_run : List ℕ → ℕ
+identifier_run rest = length (encode_utf8_all (take_while continues_identifier (chars rest)))

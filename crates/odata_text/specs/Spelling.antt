@@ -10,26 +10,26 @@ use Rattle.odata_text.specs.declared.token.TokenKind.{TokenKind}
 use Rattle.odata_text.specs.declared.token.TokenKind.TheVariants.{Word, Int, Str}
 
 -- an identifier goes on with letters, `_` and digits
-abbrev pub continues_identifier : ByteClass → Bool
-continues_identifier Letter = true
-continues_identifier Digit = true
-continues_identifier _ = false
+abbrev pub continues_word : ByteClass → Bool
+continues_word Letter = true
+continues_word Digit = true
+continues_word _ = false
 
-abbrev pub is_identifier_byte : ℕ → Bool
-is_identifier_byte b = continues_identifier (class_of b)
+abbrev pub is_word_byte : ℕ → Bool
+is_word_byte b = continues_word (class_of b)
 
 -- how many bytes the run of identifier characters at the front takes
-abbrev pub identifier_length : List ℕ → ℕ
-identifier_length = prefix_len is_identifier_byte
+abbrev pub word_run : List ℕ → ℕ
+word_run = prefix_len is_word_byte
 
 -- a letter or `_`, then letters, digits and `_` (odataIdentifier, section 6)
-abbrev pub IsIdentifier : List ℕ → Type 0
-IsIdentifier [] = ⊥
-IsIdentifier (b ∷ bs) = (class_of b ≡ Letter) × AllPass is_identifier_byte bs
+abbrev pub IsWord : List ℕ → Type 0
+IsWord [] = ⊥
+IsWord (b ∷ bs) = (class_of b ≡ Letter) × AllPass is_word_byte bs
 
 -- the bytes are spelled as a token of the kind; the kinds without a row have no spelling yet
 abbrev pub Spells : TokenKind → List ℕ → Type 0
-Spells Word bytes = IsIdentifier bytes
+Spells Word bytes = IsWord bytes
 Spells Int bytes = IsIntSpelling bytes
 Spells Str bytes = IsStringSpelling bytes
 Spells _ bytes = ⊥

@@ -3,7 +3,7 @@ use Rattle.std.specs.Prelude.{◌≡◌, ℕ, ◌+◌, ◌-◌, ◌<◌, ◌≤�
 use Rattle.std.specs.Char.{IsScalar, len_utf8}
 use Rattle.odata_text.specs.ByteClass.{class_of}
 use Rattle.odata_text.specs.Piece.{Piece}
-use Rattle.odata_text.specs.Spelling.{Spells, identifier_length}
+use Rattle.odata_text.specs.Spelling.{Spells, word_run}
 use Rattle.odata_text.specs.declared.byte_class.ByteClass.TheVariants.{Space, Quote}
 use Rattle.odata_text.specs.declared.fault.TextFault.{TextFault}
 use Rattle.odata_text.specs.declared.fault.TextFault.TheVariants.{BadCharacter, UnclosedString, LeftOutLiteral, RunOn, TooLong, Memory}
@@ -40,7 +40,7 @@ is_undelimited _ = false
 
 -- an identifier character stands directly behind such a literal, rest being what is behind
 abbrev pub RunsOn : TokenKind → List ℕ → Type 0
-RunsOn kind rest = IsTrue (is_undelimited kind) × (0 < identifier_length rest)
+RunsOn kind rest = IsTrue (is_undelimited kind) × (0 < word_run rest)
 
 -- the piece is the longest at its place
 pub record IsPieceAt (text : List ℕ) (piece : Piece) : Type 0 where
@@ -111,7 +111,7 @@ pub record IsRunOn (text : List ℕ) (span : Span) : Type 0 where
   pub longest : IsPieceAt text piece
   pub runs_on : RunsOn piece.kind (drop piece.stop text)
   pub start : span.start ≡ piece.start
-  pub stop : span.stop ≡ piece.stop + identifier_length (drop piece.stop text)
+  pub stop : span.stop ≡ piece.stop + word_run (drop piece.stop text)
 
 -- a faultless token more than there may be
 pub record IsOneTooMany (text : List ℕ) (before : ℕ) (span : Span) : Type 0 where

@@ -3,13 +3,13 @@ ghost use Rattle.std.specs.Char.{is_ascii_digit};
 ghost use Rattle.std.specs.List.{prefix_len};
 ghost use Rattle.edm_values.specs.IntLiteral.{IsIntSpelling};
 ghost use Rattle.odata_text.specs.Lengths.{IsReach, sign_length};
-ghost use Rattle.odata_text.specs.Spelling.{IsIdentifier, identifier_length};
+ghost use Rattle.odata_text.specs.Spelling.{IsWord, word_run};
 
 use super::byte_class::{ByteClass, class_of};
 
 /// How many bytes the run of identifier characters at the front takes.
-pub fn identifier_length(rest: &[u8]) -> usize
-    ensures value { result ≡ identifier_length rest.now }
+pub fn word_run(rest: &[u8]) -> usize
+    ensures value { result ≡ word_run rest.now }
     ensures within { result ≤ length rest.now }
 {
     rest.iter()
@@ -26,10 +26,10 @@ fn digits_length(rest: &[u8]) -> usize
 
 /// How many bytes the word at the front takes, 0 if there is none.
 pub fn word_length(rest: &[u8]) -> usize
-    ensures { IsReach IsIdentifier result rest.now }
+    ensures { IsReach IsWord result rest.now }
 {
     match rest.first() {
-        Some(first) if class_of(*first) == ByteClass::Letter => identifier_length(rest),
+        Some(first) if class_of(*first) == ByteClass::Letter => word_run(rest),
         _ => 0,
     }
 }

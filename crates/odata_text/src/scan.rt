@@ -6,7 +6,7 @@ ghost use Rattle.odata_text.specs.Tokens.{IsTokenAt, IsTokenList, is_undelimited
 
 use super::byte_class::{ByteClass, class_of};
 use super::fault::TextFault;
-use super::lengths::identifier_length;
+use super::lengths::word_run;
 use super::longest::longest;
 use super::span::Span;
 use super::token::{Token, TokenKind};
@@ -81,7 +81,7 @@ fn token_at(text: &str, start: usize) -> Result<Token<'_>, TextFault>
     };
     let stop = start + length;
     if is_undelimited(kind) {
-        let behind = identifier_length(&bytes[stop..]);
+        let behind = word_run(&bytes[stop..]);
         if behind > 0 {
             let span = Span {
                 start,

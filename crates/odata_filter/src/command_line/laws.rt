@@ -5,7 +5,8 @@ ghost use Rattle.clap.specs.declared.error.kind.ErrorKind.TheVariants.{MissingRe
 ghost use Rattle.odata_filter.specs.CommandLine.{IsTaken, LacksFilter, given, odfilter_app};
 ghost use Rattle.odata_filter.specs.WorkedLines as worked;
 
-/// A whole line is taken with its four values, and lines without a filter, without a schema and with an unknown option are not.
+/// A whole line is taken with its four values. A line without a filter is taken and lacks it. Lines without a schema and with an
+/// unknown option are not taken.
 pub fn worked_lines()
     ensures taken { IsTaken worked.whole }
     ensures schema { first_of (codes "schema") (given worked.whole) ≡ Some (codes "s") }

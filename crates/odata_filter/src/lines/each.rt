@@ -1,10 +1,10 @@
-ghost use Rattle.std.specs.Prelude.{◌≡◌, ℕ, ◌+◌, ◌<◌, ◌≤◌, ◌^◌, List, [], ◌∷◌, ◌++◌, None, length, IfOk, OnOk, OnErr};
+ghost use Rattle.std.specs.Prelude.{◌≡◌, ℕ, ◌+◌, ◌<◌, ◌≤◌, ◌^◌, List, [], ◌∷◌, ◌++◌, None, length, IfOk, IfSome, OnOk, OnErr};
 ghost use Rattle.odata_filter.specs.Lines.{lines_of};
 ghost use Rattle.odata_filter.specs.declared.lines.said.Judgment.TheVariants.{Kept};
 ghost use Rattle.odata_filter.specs.declared.lines.said.Said.TheVariants.{Judged};
 ghost use Rattle.odata_filter.specs.Kept.{Says, StopsWithin};
 ghost use Rattle.odata_filter.specs.Writes.{Writes, AppendsFront, Holds};
-ghost use Rattle.odata_filter.specs.Passing.{Steps, Goes};
+ghost use Rattle.odata_filter.specs.Passing.{Steps, Goes, IsOfLine};
 
 use super::judge::{Judge, say};
 use super::output::{NotWritten, hold, release};
@@ -83,6 +83,7 @@ fn judge_lines<J: Judge, W: Write>(
         × Holds (W.contents out.old) (W.contents out.new) held.new.items text
         × Goes (J.says judge.now) bytes.now text progress) }
     ensures counted { IfOk result (λ progress. progress.lines ≤ length bytes.now) }
+    ensures of_line { IfOk result (λ progress. IfSome progress.fault IsOfLine) }
     ensures err { OnErr result (Writes (W.contents out.old) (W.contents out.new) (StopsWithin (J.says judge.now) (lines_of bytes.now))) }
 {
     let mut rest = bytes;
@@ -125,6 +126,7 @@ pub fn filter_bytes<J: Judge, W: Write>(
     ensures ok { IfOk result (λ progress. Writes (W.contents out.old) (W.contents out.new)
         (λ text. Goes (J.says judge.now) bytes.now text progress)) }
     ensures counted { IfOk result (λ progress. progress.lines ≤ length bytes.now) }
+    ensures of_line { IfOk result (λ progress. IfSome progress.fault IsOfLine) }
     ensures err { OnErr result (Writes (W.contents out.old) (W.contents out.new) (StopsWithin (J.says judge.now) (lines_of bytes.now))) }
 {
     let mut held = Vec::new(alloc);

@@ -68,3 +68,20 @@ pub fn filter_with<J: Judge, R: Read + Drop, W: Write>(
         Err(_) => Err(RunFault::Write),
     }
 }
+
+/// Judges each line of bytes that stand in memory and writes those that are kept.
+pub fn filter_all<J: Judge, W: Write>(
+    alloc: Global,
+    judge: &J,
+    bytes: &[u8],
+    out: &mut W,
+) -> Result<Tally, RunFault>
+    ensures filters { IfOk result (λ tally. Writes (W.contents out.old) (W.contents out.new) (λ text. Filters (J.says judge.now) (lines_of bytes.now) text tally)) }
+    ensures stops { IfErr result (λ fault. Writes (W.contents out.old) (W.contents out.new) (λ text. Stops (J.says judge.now) bytes.now text fault)) }
+    ensures unread { IfErr result (λ fault. (line : ℕ) → fault ≢ RunFault.Read line) }
+{
+    match filter_bytes(alloc, judge, bytes, out) {
+        Ok(progress) => finish(progress, Ending::AtEnd, out),
+        Err(_) => Err(RunFault::Write),
+    }
+}

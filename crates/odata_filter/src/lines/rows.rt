@@ -1,10 +1,10 @@
-ghost use Rattle.std.specs.Prelude.{IfOk, IfErr, IfSome};
+ghost use Rattle.std.specs.Prelude.{◌≢◌, ℕ, IfOk, IfErr, IfSome};
 ghost use Rattle.odata_filter.specs.Judges.{JudgesRow};
 ghost use Rattle.odata_filter.specs.Kept.{Filters, Stops};
 ghost use Rattle.odata_filter.specs.Lines.{lines_of};
 ghost use Rattle.odata_filter.specs.Writes.{Grows, Writes};
 
-use super::filter::filter_with;
+use super::filter::{filter_all, filter_with};
 use super::row_judge::RowJudge;
 use super::run_fault::RunFault;
 use super::tally::Tally;
@@ -48,6 +48,12 @@ pub fn filter_slice(
 ) -> Result<Tally, RunFault>
     ensures filters { IfOk result (λ tally. Grows out.old.items out.new.items (λ text. Filters (JudgesRow checked.now now.now) (lines_of rows.now) text tally)) }
     ensures stops { IfErr result (λ fault. Grows out.old.items out.new.items (λ text. Stops (JudgesRow checked.now now.now) rows.now text fault)) }
+    ensures unread { IfErr result (λ fault. (line : ℕ) → fault ≢ RunFault.Read line) }
 {
-    filter_lines(alloc, checked, now, rows, out)
+    let judge = RowJudge {
+        alloc,
+        checked,
+        moment: now,
+    };
+    filter_all(alloc, &judge, rows, out)
 }

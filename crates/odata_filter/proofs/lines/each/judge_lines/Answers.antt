@@ -1,5 +1,5 @@
 use Rattle.std.proofs.Common.{◌≤◌, ◌+◌, length, arith}
-use Rattle.odata_filter.proofs.FilterLemmas.{HasPassed-none, HasPassed-more, HasPassed-failed, HasPassed-stopped}
+use Rattle.odata_filter.proofs.FilterLemmas.{HasPassed-none, HasPassed-more, HasPassed-failed, HasPassed-stopped, StopsHere-of_line}
 use Rattle.odata_filter.proofs.WriteLemmas.{OnErr-from}
 use Rattle.odata_filter.proofs.lines.each.judge_lines.Goals as goal
 
@@ -29,3 +29,9 @@ loop-rest-preserved g c =
       HasPassed-more _ _ c.first_line.result.0.now c.loop-rest.rest.now c.first_line.result.1.now text _ _ _ c.loop-rest.held.items c.pass_line.new.held.items c.loop-rest.lines c.loop-rest.tally c.in-Passed.one
           c.first_line.ensures.lines c.first_line.ensures.behind (omega (arith, c.first_line.ensures.shorter)) holds one c.loop-rest.invariant.1,
     )
+
+pub returns-in-Stopped-clause-of_line : goal.returns-in-Stopped-clause-of_line
+returns-in-Stopped-clause-of_line g c =
+    let (text, holds, steps) = c.in_ok-one.ensures.ok in
+    let here = rw c.in-Stopped.is at steps in
+    StopsHere-of_line _ c.first_line.result.0.now _ c.in-Stopped.fault here.1
