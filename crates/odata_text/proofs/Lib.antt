@@ -1,11 +1,16 @@
 pub mod ByteClasses
-pub mod Examples
+pub mod Forms
+pub mod IdentifierBytes
 pub mod Identifiers
 pub mod LongestPieces
+pub mod Names
 pub mod OneReading
+pub mod Pairs
 pub mod Places
 pub mod Queries
 pub mod QueryLoops
 pub mod Quotes
 pub mod Reaches
 pub mod Scans
+pub mod Starts
+pub mod Words

@@ -1,116 +1,95 @@
--- The longest piece at the front of a text, from the length of the longest spelling of one kind.
-use Rattle.std.proofs.Common.{◌≡◌, inl, inr, ℕ, min, ◌<◌, ◌==◌, List, [], ◌∷◌, length, get_or, take, Option, Some, None, arith, refl, sym, ◌∙◌, ap, subst}
-use Rattle.std.specs.Prelude.{MatchOption}
-use Rattle.std.proofs.lemmas.Bool.{cond-true, cond-false}
-use Rattle.std.proofs.lemmas.Bool.Decides.{eqb_tells}
-use Rattle.std.proofs.lemmas.List.{get_or-take, length-take, take_min}
-use Rattle.std.proofs.lemmas.Str.Parse.{digit_at}
-use Rattle.odata_text.specs.ByteClass.{class_of}
-use Rattle.edm_values.specs.IntLiteral.{IsIntSpelling}
-use Rattle.edm_values.specs.StringLiteral.{IsStringSpelling}
-use Rattle.odata_text.specs.Lengths.{IsReach, found_piece}
-use Rattle.odata_text.specs.Spelling.{Spells}
+-- The longest piece at the front of a text, from the length of the longest spelling of each form.
+use Rattle.std.proofs.Common.{◌≡◌, ℕ, zero, suc, min, ◌<◌, ◌≤◌, List, [], ◌∷◌, length, get_or, take, arith, refl, sym, ◌∙◌, subst}
+use Rattle.std.proofs.lemmas.List.{get_or_default, length-take, take_min}
+use Rattle.odata_text.specs.Lengths.{IsReach}
+use Rattle.odata_text.specs.Spelling.{IsFormed}
 use Rattle.odata_text.specs.Tokens.{IsLongest, NoneSpelled}
-use Rattle.odata_text.specs.declared.byte_class.ByteClass.{ByteClass}
-use Rattle.odata_text.specs.declared.byte_class.ByteClass.TheVariants.{Letter, Digit, Sign, Quote, Space, Other}
-use Rattle.odata_text.specs.declared.token.TokenKind.{TokenKind}
-use Rattle.odata_text.specs.declared.token.TokenKind.TheVariants.{Word, Int, Str}
-use Rattle.odata_text.proofs.ByteClasses.{class_of-digit, class_of-sign, class_of-quote}
-use Rattle.odata_text.proofs.Reaches.{IsWordByIndex-from_word, digit_test}
+use Rattle.odata_text.specs.declared.form.Form.{Form}
+use Rattle.odata_text.specs.declared.form.Form.TheVariants.{Token, LeftOut}
+use Rattle.odata_text.specs.declared.form.LeftOutKind.TheVariants.{Quoted}
+use Rattle.odata_text.specs.declared.token.TokenKind.TheVariants.{Word, Dollar, Int, Str, EnumLit, Open, Close, Comma, Slash, Colon, Minus}
+use Rattle.odata_text.proofs.Starts.{started}
 
--- the kind whose spellings begin with a byte of the class
-abbrev pub started_kind : ByteClass → Option TokenKind
-started_kind Letter = Some Word
-started_kind Digit = Some Int
-started_kind Sign = Some Int
-started_kind Quote = Some Str
-started_kind Space = None
-started_kind Other = None
+-- each candidate is the longest of its form
+abbrev pub AreReaches : List (Form × ℕ) → List ℕ → Type 0
+AreReaches [] rest = Unit {0}
+AreReaches (candidate ∷ candidates) rest = IsReach (IsFormed candidate.0) candidate.1 rest × AreReaches candidates rest
 
-abbrev pub starts : ℕ → Option TokenKind
-starts b = started_kind (class_of b)
+reach-at : (candidates : List (Form × ℕ)) (rest : List ℕ) → AreReaches candidates rest → (i : ℕ) (d : Form × ℕ) → i < length candidates
+    → IsReach (IsFormed (get_or candidates i d).0) (get_or candidates i d).1 rest
+reach-at [] rest reaches i d below = absurd (omega arith)
+reach-at (candidate ∷ candidates) rest reaches zero d below = reaches.0
+reach-at (candidate ∷ candidates) rest reaches (suc i) d below = reach-at candidates rest reaches.1 i d (omega arith)
 
--- a spelling has a first byte, of a class of its kind
-pub record IsStarted (kind : TokenKind) (bytes : List ℕ) : Type 0 where
-  pub nonempty : 0 < length bytes
-  pub first : starts (get_or bytes 0 0) ≡ Some kind
+-- a candidate of the form is in the list
+pub record HasForm (candidates : List (Form × ℕ)) (form : Form) : Type 0 where
+  pub place : ℕ
+  pub within : place < length candidates
+  pub form_at : (d : Form × ℕ) → (get_or candidates place d).0 ≡ form
 
-started-int : (bytes : List ℕ) → IsIntSpelling bytes → IsStarted Int bytes
-started-int [] int = absurd int.1
-started-int (c ∷ ds) int = record {
-  nonempty = omega arith;
-  first = elim int.1 [
-    | inl plus ↦ ap started_kind (class_of-sign c (inl plus.0))
-    | inr other ↦ elim other [
-      | inl minus ↦ ap started_kind (class_of-sign c (inr minus.0))
-      | inr plain ↦ ap started_kind (class_of-digit c (digit_test c (digit_at (c ∷ ds) 0 plain.0.1 plain.0.0)))
-    ]
-  ];
-}
+-- what is spelled at the front is no longer than the longest candidate
+spelled-within : (candidates : List (Form × ℕ)) (rest : List ℕ) (best : Form × ℕ) → AreReaches candidates rest
+    → ((k : ℕ) (d : Form × ℕ) → k < length candidates → (get_or candidates k d).1 ≤ best.1)
+    → (form : Form) → HasForm candidates form → (m : ℕ) → m ≤ length rest → IsFormed form (take m rest) → m ≤ best.1
+spelled-within candidates rest best reaches most form has m inside spelled =
+    let reach = reach-at candidates rest reaches has.place best has.within in
+    let here = has.form_at best in
+    let reached = reach.reaches m inside (subst (λ (f : Form). IsFormed f (take m rest)) (sym here) spelled) in
+    let below = most has.place best has.within in
+    omega arith
 
-started-str : (bytes : List ℕ) → IsStringSpelling bytes → IsStarted Str bytes
-started-str bytes spelled = subst (IsStarted Str) (sym spelled.1) (record { nonempty = omega arith; first = ap started_kind (class_of-quote 39 refl) })
+-- a place of the list, and the candidate there, which is the longest
+pub record IsBest (candidates : List (Form × ℕ)) (i : ℕ) (best : Form × ℕ) : Type 0 where
+  pub inside : i < length candidates
+  pub is : best ≡ get_or candidates i best
+  pub most : (k : ℕ) (d : Form × ℕ) → k < length candidates → (get_or candidates k d).1 ≤ (get_or candidates i d).1
 
-pub started : (kind : TokenKind) (bytes : List ℕ) → Spells kind bytes → IsStarted kind bytes
-started Word bytes spelled = let word = IsWordByIndex-from_word bytes spelled in record { nonempty = word.nonempty; first = ap started_kind word.first }
-started Int bytes spelled = started-int bytes spelled
-started Str bytes spelled = started-str bytes spelled
-started _ bytes spelled = absurd spelled
+best-most : (candidates : List (Form × ℕ)) (i : ℕ) (best : Form × ℕ) → IsBest candidates i best → (k : ℕ) (d : Form × ℕ) → k < length candidates → (get_or candidates k d).1 ≤ best.1
+best-most candidates i best is_best k d below =
+    subst (λ (b : Form × ℕ). (get_or candidates k d).1 ≤ b.1) (get_or_default candidates i d best is_best.inside ∙ sym is_best.is) (is_best.most k d below)
 
--- the same of a spelling at the front of a text
-pub started-front : (rest : List ℕ) (kind : TokenKind) (m : ℕ) → Spells kind (take m rest) → (0 < m) × (0 < length rest) × (starts (get_or rest 0 0) ≡ Some kind)
-started-front rest kind m spelled =
-    let start = started kind (take m rest) spelled in
-    let nonempty = start.nonempty in
+pub longest-best : (candidates : List (Form × ℕ)) (rest : List ℕ) (i : ℕ) (best : Form × ℕ) → AreReaches candidates rest → ((form : Form) (xs : List ℕ) → IsFormed form xs → HasForm candidates form)
+    → IsBest candidates i best → 0 < best.1 → IsLongest best.0 best.1 rest
+longest-best candidates rest i best reaches covers is_best some =
+    let reach = subst (λ (b : Form × ℕ). IsReach (IsFormed b.0) b.1 rest) (sym is_best.is) (reach-at candidates rest reaches i best is_best.inside) in
+    record {
+      within = reach.within;
+      spelled = reach.found some;
+      longest = λ form m within spelled. spelled-within candidates rest best reaches (best-most candidates i best is_best) form (covers form (take m rest) spelled) m within spelled;
+    }
+
+pub none-best : (candidates : List (Form × ℕ)) (rest : List ℕ) (i : ℕ) (best : Form × ℕ) → AreReaches candidates rest → ((form : Form) (xs : List ℕ) → IsFormed form xs → HasForm candidates form)
+    → IsBest candidates i best → best.1 ≡ 0 → NoneSpelled rest
+none-best candidates rest i best reaches covers is_best none form m spelled =
+    let some = (started form (take m rest) spelled).nonempty in
     let size = length-take m rest in
-    let positive : 0 < m = omega arith in
-    (positive, omega arith, sym (ap starts (get_or-take m rest 0 0 positive)) ∙ start.first)
-
--- two kinds spelled at one place are one
-pub same_kind : (rest : List ℕ) (k j : TokenKind) (m n : ℕ) → Spells k (take m rest) → Spells j (take n rest) → k ≡ j
-same_kind rest k j m n first second =
-    let one : starts (get_or rest 0 0) ≡ Some k = (started-front rest k m first).2 in
-    let two : starts (get_or rest 0 0) ≡ Some j = (started-front rest j n second).2 in
-    cc
-
--- no piece at all
-
-pub none-at_end : (rest : List ℕ) → length rest ≡ 0 → NoneSpelled rest
-none-at_end rest empty kind m spelled = let nonempty = (started-front rest kind m spelled).1 in absurd (omega arith)
-
-pub none-by_class : (rest : List ℕ) → starts (get_or rest 0 0) ≡ None → NoneSpelled rest
-none-by_class rest none kind m spelled = let some : starts (get_or rest 0 0) ≡ Some kind = (started-front rest kind m spelled).2 in cc
-
-none-from_reach : (rest : List ℕ) (kind : TokenKind) (n : ℕ) → starts (get_or rest 0 0) ≡ Some kind → IsReach (Spells kind) n rest → n ≡ 0 → NoneSpelled rest
-none-from_reach rest kind n first reach zero_is other m spelled =
-    let start = started-front rest other m spelled in
-    let some : starts (get_or rest 0 0) ≡ Some other = start.2 in
-    let same : other ≡ kind = cc in
-    let within : Spells kind (take (min m (length rest)) rest) = subst (λ (k : TokenKind). Spells k (take (min m (length rest)) rest)) same (subst (Spells other) (sym (take_min m rest)) spelled) in
-    let most = reach.reaches (min m (length rest)) (omega arith) within in
-    let positive = start.0 in
-    let nonempty = start.1 in
+    let front : IsFormed form (take (min m (length rest)) rest) = subst (IsFormed form) (sym (take_min m rest)) spelled in
+    let reached = spelled-within candidates rest best reaches (best-most candidates i best is_best) form (covers form (take m rest) spelled) (min m (length rest)) (omega arith) front in
     absurd (omega arith)
 
-pub longest-from_reach : (rest : List ℕ) (kind : TokenKind) (n : ℕ) → starts (get_or rest 0 0) ≡ Some kind → IsReach (Spells kind) n rest → 0 < n → IsLongest kind n rest
-longest-from_reach rest kind n first reach positive = record {
-  within = reach.within;
-  spelled = reach.found positive;
-  longest = λ other m inside spelled.
-      let some : starts (get_or rest 0 0) ≡ Some other = (started-front rest other m spelled).2 in
-      let same : other ≡ kind = cc in
-      reach.reaches m inside (subst (λ (k : TokenKind). Spells k (take m rest)) same spelled);
-}
+-- the candidates in their order, by their lengths
+abbrev pub candidates_of : ℕ → ℕ → ℕ → ℕ → ℕ → ℕ → ℕ → ℕ → ℕ → ℕ → ℕ → ℕ → List (Form × ℕ)
+candidates_of word dollar int text enum open' close comma slash colon minus quoted =
+    (Token Word, word) ∷ (Token Dollar, dollar) ∷ (Token Int, int) ∷ (Token Str, text) ∷ (Token EnumLit, enum)
+    ∷ (Token Open, open') ∷ (Token Close, close) ∷ (Token Comma, comma) ∷ (Token Slash, slash) ∷ (Token Colon, colon) ∷ (Token Minus, minus)
+    ∷ (LeftOut Quoted, quoted) ∷ []
 
--- what `longest` answers
-abbrev pub Finds : List ℕ → Option (TokenKind × ℕ) → Type 0
-Finds rest found = MatchOption found (NoneSpelled rest) (λ piece. IsLongest piece.0 piece.1 rest)
+pub covers : (a b c d e f g h i j k l : ℕ) (form : Form) (xs : List ℕ) → IsFormed form xs → HasForm (candidates_of a b c d e f g h i j k l) form
+covers a b c d e f g h i j k l (Token Word) xs formed = record { place = 0; within = omega arith; form_at = λ o. refl }
+covers a b c d e f g h i j k l (Token Dollar) xs formed = record { place = 1; within = omega arith; form_at = λ o. refl }
+covers a b c d e f g h i j k l (Token Int) xs formed = record { place = 2; within = omega arith; form_at = λ o. refl }
+covers a b c d e f g h i j k l (Token Str) xs formed = record { place = 3; within = omega arith; form_at = λ o. refl }
+covers a b c d e f g h i j k l (Token EnumLit) xs formed = record { place = 4; within = omega arith; form_at = λ o. refl }
+covers a b c d e f g h i j k l (Token Open) xs formed = record { place = 5; within = omega arith; form_at = λ o. refl }
+covers a b c d e f g h i j k l (Token Close) xs formed = record { place = 6; within = omega arith; form_at = λ o. refl }
+covers a b c d e f g h i j k l (Token Comma) xs formed = record { place = 7; within = omega arith; form_at = λ o. refl }
+covers a b c d e f g h i j k l (Token Slash) xs formed = record { place = 8; within = omega arith; form_at = λ o. refl }
+covers a b c d e f g h i j k l (Token Colon) xs formed = record { place = 9; within = omega arith; form_at = λ o. refl }
+covers a b c d e f g h i j k l (Token Minus) xs formed = record { place = 10; within = omega arith; form_at = λ o. refl }
+covers a b c d e f g h i j k l (Token _) xs formed = absurd formed
+covers a b c d e f g h i j k l (LeftOut Quoted) xs formed = record { place = 11; within = omega arith; form_at = λ o. refl }
+covers a b c d e f g h i j k l (LeftOut _) xs formed = absurd formed
 
-pub finds-piece : (rest : List ℕ) (kind : TokenKind) (n : ℕ) → starts (get_or rest 0 0) ≡ Some kind → IsReach (Spells kind) n rest → Finds rest (found_piece kind n)
-finds-piece rest kind n first reach =
-    elim (eqb_tells n 0) [
-      | inl zero_is ↦ subst (Finds rest) (sym (cond-true (n == 0) None (Some (kind, n)) zero_is.0)) (none-from_reach rest kind n first reach zero_is.1)
-      | inr positive ↦
-          let some : 0 < n = omega (arith, positive.1) in
-          subst (Finds rest) (sym (cond-false (n == 0) None (Some (kind, n)) positive.0)) (longest-from_reach rest kind n first reach some)
-    ]
+pub IsBest-at : (candidates : List (Form × ℕ)) (i : ℕ) (d : Form × ℕ) → i < length candidates
+    → ((k : ℕ) (e : Form × ℕ) → k < length candidates → (get_or candidates k e).1 ≤ (get_or candidates i e).1) → IsBest candidates i (get_or candidates i d)
+IsBest-at candidates i d inside most = record { inside = inside; is = get_or_default candidates i d (get_or candidates i d) inside; most = most }

@@ -7,5 +7,4 @@ pub mod Piece
 pub mod Query
 pub mod QueryParts
 pub mod Spelling
-pub mod TokenExamples
 pub mod Tokens
