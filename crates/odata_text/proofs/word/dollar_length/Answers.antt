@@ -1,5 +1,4 @@
 use Rattle.std.proofs.Common.{arith, ◌∙◌}
-use Rattle.std.proofs.lemmas.List.{take_rest}
 use Rattle.odata_text.specs.Identifier.{IsIdentifier}
 use Rattle.odata_text.specs.Spelling.{IsByte}
 use Rattle.odata_text.proofs.Forms.{identifier-none}
@@ -18,12 +17,12 @@ pub returns-in-0-identifier_length : goal.returns-in-0-identifier_length
 returns-in-0-identifier_length c =
     let mark = on_text _ _ _ _ c.as_bytes.ensures.value c.byte_length.ensures in
     measured-no_second (IsByte 36) IsIdentifier c.args.rest.now c.range_from.result.now c.byte_length.result c.identifier_length.result
-    (c.range_from.ensures.value ∙ take_rest c.args.rest.now c.byte_length.result) identifier-none
+    c.range_from.ensures.value identifier-none
     (byte-exact 36 IsIdentifier c.byte_length.result c.args.rest.now mark (omega arith)) c.identifier_length.ensures.reach c.in-0-identifier_length.is
 
 pub returns-in_default-identifier_length : goal.returns-in_default-identifier_length
 returns-in_default-identifier_length c =
     let mark = on_text _ _ _ _ c.as_bytes.ensures.value c.byte_length.ensures in
     measured-both (IsByte 36) IsIdentifier c.args.rest.now c.range_from.result.now c.byte_length.result c.identifier_length.result
-    (c.range_from.ensures.value ∙ take_rest c.args.rest.now c.byte_length.result)
+    c.range_from.ensures.value
     (byte-exact 36 IsIdentifier c.byte_length.result c.args.rest.now mark (omega arith)) mark c.identifier_length.ensures.reach (omega arith) (omega arith)

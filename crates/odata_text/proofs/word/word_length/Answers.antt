@@ -1,5 +1,4 @@
 use Rattle.std.proofs.Common.{◌≡◌, ℕ, ◌+◌, List, length, get_or, drop, IsUtf8, IsCharBoundary, arith, sym, ◌∙◌, ap, subst}
-use Rattle.std.proofs.lemmas.List.{take_rest}
 use Rattle.std.proofs.lemmas.Str.{IsCharBoundary-after_ascii}
 use Rattle.odata_text.specs.Identifier.{IsIdentifier}
 use Rattle.odata_text.specs.Lengths.{IsReach}
@@ -25,7 +24,7 @@ range_from-requires c =
 pub returns-then-part-eq0-clause-reach : goal.returns-then-part-eq0-clause-reach
 returns-then-part-eq0-clause-reach c =
     let none : c.identifier_length-part.result ≡ 0 = omega arith in
-    let behind = c.range_from.ensures.value ∙ take_rest c.args.rest.now (c.loop-length.length + 1) in
+    let behind = c.range_from.ensures.value in
     word-dot c.args.rest.now c.loop-length.length c.loop-length.invariant
     (subst (IsReach IsIdentifier 0) behind (subst (λ (n : ℕ). IsReach IsIdentifier n c.range_from.result.now) none c.identifier_length-part.ensures.reach))
 
@@ -33,7 +32,7 @@ pub loop-length-preserved : goal.loop-length-preserved
 loop-length-preserved c =
     let p = c.identifier_length-part.result in
     let dot = dot_at c.args.rest.now c.as_bytes.result.now c.loop-length.length c.as_bytes.ensures.value c.if-as_bytes-length-eq46.true in
-    let behind = c.range_from.ensures.value ∙ take_rest c.args.rest.now (c.loop-length.length + 1) in
+    let behind = c.range_from.ensures.value in
     word-more c.args.rest.now c.loop-length.length p c.loop-length.invariant c.loop-length-test.true dot
     (subst (IsReach IsIdentifier p) behind c.identifier_length-part.ensures.reach) (omega arith)
     (subst IsUtf8 behind c.range_from.utf8) (subst (λ (xs : List ℕ). IsCharBoundary xs p) behind c.identifier_length-part.ensures.boundary)
