@@ -94,7 +94,7 @@ first-letters b xs start = past b (by_letters xs) (by_sign xs) start
   where
     past : (c : ℕ) (letters sign : Form) → is_word_start c ≡ true
         → cond (c == 39) (Token Str) (cond (c == 36) (Token Dollar) (cond (c == 40) (Token Open) (cond (c == 41) (Token Close) (cond (c == 44) (Token Comma) (cond (c == 47) (Token Slash)
-          (cond (c == 58) (Token Colon) (cond ((c == 43) || (c == 45)) sign (cond (is_ascii_digit c) (Token Int) letters)))))))) ≡ letters
+        (cond (c == 58) (Token Colon) (cond ((c == 43) || (c == 45)) sign (cond (is_ascii_digit c) (Token Int) letters)))))))) ≡ letters
     past c letters sign start = grind (arith, nat_tests)
 
 first-digit : (b : ℕ) (xs : List ℕ) → is_ascii_digit b ≡ true → by_first b xs ≡ Token Int
@@ -102,7 +102,7 @@ first-digit b xs digit = past b (by_letters xs) (by_sign xs) digit
   where
     past : (c : ℕ) (letters sign : Form) → is_ascii_digit c ≡ true
         → cond (c == 39) (Token Str) (cond (c == 36) (Token Dollar) (cond (c == 40) (Token Open) (cond (c == 41) (Token Close) (cond (c == 44) (Token Comma) (cond (c == 47) (Token Slash)
-          (cond (c == 58) (Token Colon) (cond ((c == 43) || (c == 45)) sign (cond (is_ascii_digit c) (Token Int) letters)))))))) ≡ Token Int
+        (cond (c == 58) (Token Colon) (cond ((c == 43) || (c == 45)) sign (cond (is_ascii_digit c) (Token Int) letters)))))))) ≡ Token Int
     past c letters sign digit = grind (arith, nat_tests)
 
 -- Words.

@@ -50,7 +50,7 @@ named-letters name xs letters named i inside =
     let size = named-length name xs named in
     let small = prefix_len_passes is_small (str_to_ascii_lowercase name) i 0 (omega arith) in
     let byte : get_or (str_to_ascii_lowercase name) i 0 ≡ to_ascii_lowercase (get_or xs i 0) =
-        sym (ap (λ (ys : List ℕ). get_or ys i 0) (same-lowered name xs named)) ∙ get_or-map to_ascii_lowercase xs i 0 0 inside in
+    sym (ap (λ (ys : List ℕ). get_or ys i 0) (same-lowered name xs named)) ∙ get_or-map to_ascii_lowercase xs i 0 0 inside in
     small-lowered (get_or xs i 0) (sym (ap is_small byte) ∙ small)
 
 -- a name of a left-out type has letters alone

@@ -59,7 +59,7 @@ IsSolid-longest text start n form longest =
     let size = length-take-le n (drop start text) within in
     let room = length-drop start text in
     let byte : get_or (take n (drop start text)) 0 0 ≡ get_or text start 0 =
-        get_or-take n (drop start text) 0 0 (omega arith) ∙ get_or-drop start text 0 0 ∙ ap (λ (i : ℕ). get_or text i 0) (add-zero start) in
+    get_or-take n (drop start text) 0 0 (omega arith) ∙ get_or-drop start text 0 0 ∙ ap (λ (i : ℕ). get_or text i 0) (add-zero start) in
     record {
       inside = omega arith;
       solid = λ space. solid-start form (take n (drop start text)) longest.spelled (ap class_of byte ∙ space);

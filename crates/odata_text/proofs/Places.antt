@@ -17,6 +17,7 @@ use Rattle.odata_text.specs.Tokens.{IsGap, IsLongest, IsRunOn, is_undelimited}
 use Rattle.odata_text.specs.declared.byte_class.ByteClass.TheVariants.{Space, Other}
 use Rattle.odata_text.specs.declared.token.TokenKind.{TokenKind}
 use Rattle.odata_text.specs.declared.token.TokenKind.TheVariants.{Word, Dollar, Int, Str, EnumLit, Open, Close, Comma, Slash, Colon, Minus}
+use Rattle.odata_text.specs.declared.form.Form.{Form}
 use Rattle.odata_text.specs.declared.form.Form.TheVariants.{Token}
 use Rattle.odata_text.proofs.ByteClasses.{class_of-non_ascii}
 use Rattle.odata_text.proofs.Reaches.{numeral-from_int}
@@ -63,7 +64,7 @@ back_end xs front back whole some ascii =
     let size = ap length whole ∙ length-append front back in
     let place : length xs - 1 - length front ≡ length back - 1 = omega arith in
     let same : get_or xs (length xs - 1) 0 ≡ get_or back (length back - 1) 0 =
-        ap (λ (ys : List ℕ). get_or ys (length xs - 1) 0) whole ∙ get_or-append_right front back (length xs - 1) 0 (omega arith) ∙ ap (λ (i : ℕ). get_or back i 0) place in
+    ap (λ (ys : List ℕ). get_or ys (length xs - 1) 0) whole ∙ get_or-append_right front back (length xs - 1) 0 (omega arith) ∙ ap (λ (i : ℕ). get_or back i 0) place in
     omega arith
 
 -- a piece is text, or its last byte is ASCII
@@ -87,12 +88,16 @@ ascii-boundary text start n utf8 some within ascii =
     let room = length-drop start text in
     let place : start + (length (take n (drop start text)) - 1) ≡ start + n - 1 = omega arith in
     let same : get_or (take n (drop start text)) (length (take n (drop start text)) - 1) 0 ≡ get_or text (start + n - 1) 0 =
-        get_or-take n (drop start text) (length (take n (drop start text)) - 1) 0 (omega arith)
-        ∙ get_or-drop start text (length (take n (drop start text)) - 1) 0
-        ∙ ap (λ (i : ℕ). get_or text i 0) place in
+    get_or-take n (drop start text) (length (take n (drop start text)) - 1) 0 (omega arith)
+    ∙ get_or-drop start text (length (take n (drop start text)) - 1) 0
+    ∙ ap (λ (i : ℕ). get_or text i 0) place in
     let last : get_or text (start + n - 1) 0 < 128 = subst (λ (b : ℕ). b < 128) same ascii in
     let next : start + n - 1 + 1 ≡ start + n = omega arith in
     subst (IsCharBoundary text) next (IsCharBoundary-after_ascii text (start + n - 1) utf8 (omega arith) last)
+
+-- what the code found of a rest it found of the text
+pub longest-token : (text rest : List ℕ) (start n : ℕ) (form : Form) (kind : TokenKind) → rest ≡ drop start text → form ≡ Token kind → IsLongest form n rest → IsLongest (Token kind) n (drop start text)
+longest-token text rest start n form kind behind is longest = subst (λ (f : Form). IsLongest f n (drop start text)) is (subst (IsLongest form n) behind longest)
 
 -- so a piece ends between two characters
 pub boundary-behind : (text : List ℕ) (start n : ℕ) (kind : TokenKind) → IsUtf8 text → IsCharBoundary text start → IsLongest (Token kind) n (drop start text) → IsCharBoundary text (start + n)

@@ -73,9 +73,9 @@ started-word xs word =
     ⊎_elim
     (λ identifier. started-identifier xs identifier)
     (λ pair.
-        let front = started-identifier pair.front pair.is_front in
-        let first = front-first xs pair.front pair.back pair.whole front.nonempty in
-        record { nonempty = first.0; first = ap is_word_start first.1 ∙ front.first })
+    let front = started-identifier pair.front pair.is_front in
+    let first = front-first xs pair.front pair.back pair.whole front.nonempty in
+    record { nonempty = first.0; first = ap is_word_start first.1 ∙ front.first })
     (word-cases xs word)
 
 started-int : (xs : List ℕ) → IsIntSpelling xs → IsStarted (Token Int) xs

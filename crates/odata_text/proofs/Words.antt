@@ -101,11 +101,11 @@ word-part rest n m reach inside word =
     ⊎_elim
     (λ identifier. inl (reach.reaches m inside identifier))
     (λ pair.
-        let parts = pair_at IsIdentifier DotAndWord rest m inside pair in
-        let size = parts.size in
-        let exact = exact-by_byte IsIdentifier DotAndWord (λ b. b ≡ 46) n rest reach no_dot dot-starts in
-        let here = exact.exact parts.first parts.second (omega arith) parts.is_first parts.is_second in
-        inr (more-behind rest n parts.second m (omega arith) inside (subst (λ (k : ℕ). DotAndWord (take parts.second (drop k rest))) here parts.is_second)))
+    let parts = pair_at IsIdentifier DotAndWord rest m inside pair in
+    let size = parts.size in
+    let exact = exact-by_byte IsIdentifier DotAndWord (λ b. b ≡ 46) n rest reach no_dot dot-starts in
+    let here = exact.exact parts.first parts.second (omega arith) parts.is_first parts.is_second in
+    inr (more-behind rest n parts.second m (omega arith) inside (subst (λ (k : ℕ). DotAndWord (take parts.second (drop k rest))) here parts.is_second)))
     (word-cases (take m rest) word)
 
 -- no word begins where no identifier does
@@ -113,17 +113,17 @@ word-none : (rest : List ℕ) (m : ℕ) → IsReach IsIdentifier 0 rest → m �
 word-none rest m reach inside word =
     ⊎_elim
     (λ identifier.
-        let most = reach.reaches m inside identifier in
-        let some = identifier-nonempty (take m rest) identifier in
-        let taken = length-take-le m rest inside in
-        absurd (omega arith))
+    let most = reach.reaches m inside identifier in
+    let some = identifier-nonempty (take m rest) identifier in
+    let taken = length-take-le m rest inside in
+    absurd (omega arith))
     (λ pair.
-        let parts = pair_at IsIdentifier DotAndWord rest m inside pair in
-        let size = parts.size in
-        let most = reach.reaches parts.first (omega arith) parts.is_first in
-        let some = identifier-nonempty (take parts.first rest) parts.is_first in
-        let taken = length-take-le parts.first rest (omega arith) in
-        absurd (omega arith))
+    let parts = pair_at IsIdentifier DotAndWord rest m inside pair in
+    let size = parts.size in
+    let most = reach.reaches parts.first (omega arith) parts.is_first in
+    let some = identifier-nonempty (take parts.first rest) parts.is_first in
+    let taken = length-take-le parts.first rest (omega arith) in
+    absurd (omega arith))
     (word-cases (take m rest) word)
 
 pub reach-no_word : (rest : List ℕ) → IsReach IsIdentifier 0 rest → IsReach IsWord 0 rest
@@ -200,7 +200,7 @@ word-more rest n p so_far inside dot reach some utf8 boundary =
       boundary = subst (IsCharBoundary rest) place (boundary-shift rest (n + 1) p utf8 (omega arith) within boundary);
       reaches = λ m inside_m word. ⊎_elim (λ most. inl (omega arith))
           (λ more. let below = more.below in ⊎_elim (λ most. inl (omega arith)) (λ further. inr (more-next rest n p m below further))
-              (word-part (drop (n + 1) rest) p (m - (n + 1)) reach (omega arith) more.word))
+          (word-part (drop (n + 1) rest) p (m - (n + 1)) reach (omega arith) more.word))
           (so_far.reaches m inside_m word);
     }
   where
@@ -257,4 +257,3 @@ reach-undotted rest n w identifier word shorter = record {
       let taken = length-take-le parts.second (drop parts.first rest) (omega arith) in
       absurd (omega arith);
 }
-

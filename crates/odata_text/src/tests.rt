@@ -191,12 +191,7 @@ fn left_out_and_run_on(rt: HostRuntime) -> Result<(), Fail> {
         };
         assert!(rt; fault_of(rt.alloc(), text) == Some(fault));
     }
-    let run_on = [
-        ("1eq 1", 0, 3),
-        ("1e", 0, 2),
-        ("+1_", 0, 3),
-        ("1é", 0, 3),
-    ];
+    let run_on = [("1eq 1", 0, 3), ("1e", 0, 2), ("+1_", 0, 3), ("1é", 0, 3)];
     for (text, start, stop) in run_on {
         let fault = TextFault::RunOn {
             span: span(start, stop),

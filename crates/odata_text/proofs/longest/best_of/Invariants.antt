@@ -1,9 +1,10 @@
-use Rattle.std.proofs.Common.{ℕ, ◌<◌, ◌≤◌, length, slice_index_or}
+use Rattle.std.proofs.Common.{ℕ, ◌<◌, ◌≤◌, slice_index_or}
+use Rattle.std.specs.List.{Contains}
 use Rattle.odata_text.specs.declared.form.Form.{Form}
 use Rattle.odata_text.proofs.longest.best_of.Given as goal
 
-abbrev pub invariant-loop-i : goal.invariant-loop-i
-invariant-loop-i l = record {
-  within : l.best < length l.candidates;
-  most : (k : ℕ) (d : Form × ℕ) → k < l.i → (slice_index_or l.candidates k d).1 ≤ (slice_index_or l.candidates l.best d).1
+abbrev pub invariant-loop-candidate : goal.invariant-loop-candidate
+invariant-loop-candidate l = record {
+  among : Contains l.candidates l.best;
+  most : (k : ℕ) (d : Form × ℕ) → k < l.candidate-index → (slice_index_or l.candidates k d).1 ≤ l.best.1
 }
