@@ -1,4 +1,6 @@
+pub mod Alone
 pub mod ByteClasses
+pub mod Examples
 pub mod Forms
 pub mod IdentifierBytes
 pub mod Identifiers

@@ -10,11 +10,8 @@ use Rattle.std.proofs.lemmas.Slice.Eq.{bytes_eq-Decides}
 use Rattle.odata_text.specs.Lengths.{IsNamed, IsReach}
 use Rattle.odata_text.specs.Spelling.{IsLeftOutName}
 
-pub same-lowered : (name xs : List ℕ) → IsNamed name xs → str_to_ascii_lowercase xs ≡ str_to_ascii_lowercase name
+same-lowered : (name xs : List ℕ) → IsNamed name xs → str_to_ascii_lowercase xs ≡ str_to_ascii_lowercase name
 same-lowered name xs named = (bytes_eq-Decides (str_to_ascii_lowercase xs) (str_to_ascii_lowercase name)).0 named
-
-pub named-from_lowered : (name xs : List ℕ) → str_to_ascii_lowercase xs ≡ str_to_ascii_lowercase name → IsNamed name xs
-named-from_lowered name xs same = (bytes_eq-Decides (str_to_ascii_lowercase xs) (str_to_ascii_lowercase name)).1 same
 
 pub named-length : (name xs : List ℕ) → IsNamed name xs → length xs ≡ length name
 named-length name xs named =

@@ -7,4 +7,5 @@ pub mod Piece
 pub mod Query
 pub mod QueryParts
 pub mod Spelling
+pub mod TokenExamples
 pub mod Tokens

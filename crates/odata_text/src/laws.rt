@@ -2,6 +2,7 @@
 
 ghost use Rattle.std.specs.Prelude.{◌≡◌, ℕ, List};
 ghost use Rattle.odata_text.specs.Piece.{Piece};
+ghost use Rattle.odata_text.specs.TokenExamples.{plain_filter, plain_tokens, run_on_filter};
 ghost use Rattle.odata_text.specs.Tokens.{IsTextFault, IsTokenList};
 ghost use Rattle.odata_text.specs.declared.fault.TextFault.{TextFault};
 
@@ -13,4 +14,15 @@ pub fn one_reading()
         → IsTokenList text first → IsTokenList text second → first ≡ second }
     ensures not_both { (text : List ℕ) (fault : TextFault) (pieces : List Piece)
         → IsTextFault text fault → IsTokenList text pieces → ⊥ }
+{}
+
+/// `Active and ID eq 1 and Name eq 'a'` has nine tokens.
+pub fn plain_reading()
+    ensures { IsTokenList plain_filter plain_tokens }
+{}
+
+/// `1eq 1` runs on up to its third byte, and so has no tokens.
+pub fn run_on_reading()
+    ensures fault { IsTextFault run_on_filter (TextFault.RunOn (record { start = 0; stop = 3 })) }
+    ensures none { (pieces : List Piece) → IsTokenList run_on_filter pieces → ⊥ }
 {}

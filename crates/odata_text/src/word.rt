@@ -1,4 +1,5 @@
 ghost use Rattle.std.specs.Prelude.{◌≡◌, IsCharBoundary, max};
+ghost use Rattle.std.specs.Str.{str_eq_ignore_ascii_case};
 ghost use Rattle.odata_text.specs.Lengths.{IsNamed, IsReach};
 ghost use Rattle.odata_text.specs.Spelling.{IsDottedWord, IsLeftOutName, IsWord, Spells, SpellsLeftOut};
 
@@ -57,18 +58,25 @@ pub fn enum_length(rest: &str) -> usize
 {
     match dotted_length(rest) {
         0 => 0,
-        name => match string_length(&rest.as_bytes()[name..]) {
+        word => match string_length(&rest.as_bytes()[word..]) {
             0 => 0,
-            text => name + text,
+            text => word + text,
         },
     }
+}
+
+/// Whether the bytes are the name in any case of its letters.
+fn is_named(bytes: &[u8], name: &[u8]) -> bool
+    ensures { result ≡ str_eq_ignore_ascii_case bytes.now name.now }
+{
+    bytes.eq_ignore_ascii_case(name)
 }
 
 /// The length of the name, if it stands at the front in any case of its letters, else 0.
 fn name_length(name: &[u8], rest: &[u8]) -> usize
     ensures { IsReach (IsNamed name.now) result rest.now }
 {
-    if name.len() <= rest.len() && rest[..name.len()].eq_ignore_ascii_case(name) {
+    if name.len() <= rest.len() && is_named(&rest[..name.len()], name) {
         return name.len();
     }
     0

@@ -1,8 +1,5 @@
-use Rattle.std.proofs.Common.{◌+◌, arith, refl, sym, ◌∙◌, ap, subst}
+use Rattle.std.proofs.Common.{arith, refl, sym, ◌∙◌, ap}
 use Rattle.odata_text.specs.Identifier.{identifier_run}
-use Rattle.odata_text.specs.Tokens.{IsLongest}
-use Rattle.odata_text.specs.declared.form.Form.{Form}
-use Rattle.odata_text.specs.declared.form.Form.TheVariants.{Token}
 use Rattle.odata_text.proofs.Places.{boundary-behind, longest-token, run_on}
 use Rattle.odata_text.proofs.scan.token_at.Goals as goal
 

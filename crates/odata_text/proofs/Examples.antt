@@ -1,0 +1,165 @@
+-- How to show of a text that is written out which tokens it has.
+use Rattle.std.proofs.Common.{◌≡◌, ℕ, ◌+◌, ◌-◌, ◌<◌, ◌≤◌, true, List, [], ◌∷◌, length, get_or, take, drop, arith, refl, sym, ◌∙◌, ap, subst}
+use Rattle.std.proofs.lemmas.Bool.{both_ways, false≢true}
+use Rattle.std.proofs.lemmas.List.{get_or-take, length-take-le}
+use Rattle.odata_text.specs.ByteClass.{class_of}
+use Rattle.odata_text.specs.Identifier.{identifier_run}
+use Rattle.odata_text.specs.Lengths.{IsReach}
+use Rattle.odata_text.specs.Spelling.{IsFormed, Spells}
+use Rattle.odata_text.specs.TokenExamples.{piece_in, plain_filter, plain_tokens, run_on_filter}
+use Rattle.odata_text.specs.Tokens.{IsFaultBehind, IsGap, IsLongest, IsTokenAt, IsTokenList}
+use Rattle.odata_text.specs.declared.byte_class.ByteClass.TheVariants.{Space}
+use Rattle.odata_text.specs.declared.fault.TextFault.TheVariants.{RunOn}
+use Rattle.odata_text.specs.declared.form.Form.{Form}
+use Rattle.odata_text.specs.declared.form.Form.TheVariants.{Token, LeftOut}
+use Rattle.odata_text.specs.declared.form.LeftOutKind.TheVariants.{Quoted}
+use Rattle.odata_text.specs.declared.token.TokenKind.TheVariants.{Word, Int, Str}
+use Rattle.odata_text.proofs.Alone.{alone}
+use Rattle.odata_text.proofs.IdentifierBytes.{ascii-identifier, is_ascii_name, is_name_byte, names-at, names-from_ascii_name, run-ascii}
+use Rattle.odata_text.proofs.Places.{run_on}
+use Rattle.odata_text.proofs.Reaches.{IsReach-int}
+use Rattle.odata_text.proofs.Starts.{started, starts}
+use Rattle.odata_text.proofs.Words.{word-one}
+
+no_gap : (text : List ℕ) (place : ℕ) → place ≤ length text → IsGap text place place
+no_gap text place within = record { order = omega arith; within = within; white = λ i low high. absurd (omega arith) }
+
+one_space : (text : List ℕ) (from to : ℕ) → to ≡ from + 1 → from < length text → class_of (get_or text from 0) ≡ Space → IsGap text from to
+one_space text from to next inside space = record {
+  order = omega arith;
+  within = omega arith;
+  white = λ i low high. let here : from ≡ i = omega arith in subst (λ (k : ℕ). class_of (get_or text k 0) ≡ Space) here space;
+}
+
+-- a name of ASCII bytes before a blank
+word_longest : (rest : List ℕ) (n : ℕ) → 0 < n → n ≤ length rest → is_ascii_name (take n rest) ≡ true → get_or rest n 0 ≡ 32 → IsLongest (Token Word) n rest
+word_longest rest n some within name blank =
+    let size = length-take-le n rest within in
+    record {
+      within = within;
+      spelled = word-one (take n rest) (ascii-identifier (take n rest) name);
+      longest = alone rest n some
+          (λ k below quote.
+          let byte : get_or (take n rest) k 0 ≡ 39 = get_or-take n rest k 0 below ∙ quote in
+          both_ways (is_name_byte 39) refl (sym (ap is_name_byte byte) ∙ names-at (take n rest) (names-from_ascii_name (take n rest) name) k (omega arith)))
+          (λ inside. blank);
+    }
+
+word_at : (text : List ℕ) (start stop : ℕ) → start < stop → stop - start ≤ length (drop start text) → is_ascii_name (take (stop - start) (drop start text)) ≡ true → get_or (drop start text) (stop - start) 0 ≡ 32
+    → IsTokenAt text (piece_in text Word start stop)
+word_at text start stop order within name blank = record {
+  longest = record { order = omega arith; longest = word_longest (drop start text) (stop - start) (omega arith) within name blank; bytes = refl };
+  ends = λ runs. absurd (false≢true runs.0);
+}
+
+-- a digit begins a whole number alone
+only_int : (form : Form) → starts form 49 ≡ true → form ≡ Token Int
+only_int (Token Int) e = refl
+only_int (Token _) e = absurd (false≢true e)
+only_int (LeftOut Quoted) e = absurd (false≢true e)
+only_int (LeftOut _) e = absurd (false≢true e)
+
+int_longest : (rest : List ℕ) (n : ℕ) → get_or rest 0 0 ≡ 49 → IsReach (Spells Int) n rest → 0 < n → IsLongest (Token Int) n rest
+int_longest rest n digit reach some = record {
+  within = reach.within;
+  spelled = reach.found some;
+  longest = λ form m inside spelled.
+      let start = started form (take m rest) spelled in
+      let nonempty = start.nonempty in
+      let size = length-take-le m rest inside in
+      let byte : get_or (take m rest) 0 0 ≡ 49 = get_or-take m rest 0 0 (omega arith) ∙ digit in
+      let same : form ≡ Token Int = only_int form (sym (ap (starts form) byte) ∙ start.first) in
+      reach.reaches m inside (subst (λ (f : Form). IsFormed f (take m rest)) same spelled);
+}
+
+one_at : IsTokenAt plain_filter (piece_in plain_filter Int 17 18)
+one_at = record {
+  longest = record {
+    order = omega arith;
+    longest = int_longest (drop 17 plain_filter) 1 refl (IsReach-int (drop 17 plain_filter) 0 1 refl (omega arith) refl (omega arith)) (omega arith);
+    bytes = refl;
+  };
+  ends = λ runs. let none : identifier_run (drop 18 plain_filter) ≡ 0 = run-ascii (drop 18 plain_filter) refl in let some = runs.1 in absurd (omega arith);
+}
+
+quoted_at : IsTokenAt plain_filter (piece_in plain_filter Str 31 34)
+quoted_at = record {
+  longest = record {
+    order = omega arith;
+    longest = record { within = omega arith; spelled = (97 ∷ [], refl); longest = λ form m inside spelled. inside };
+    bytes = refl;
+  };
+  ends = λ runs. absurd (false≢true runs.0);
+}
+
+pub plain_list : IsTokenList plain_filter plain_tokens
+unfolding class_of
+plain_list = record {
+  short = omega arith;
+  few = omega arith;
+  tokens = (
+    no_gap plain_filter 0 (omega arith),
+    (
+      word_at plain_filter 0 6 (omega arith) (omega arith) refl refl,
+      (
+        one_space plain_filter 6 7 refl (omega arith) refl,
+        (
+          word_at plain_filter 7 10 (omega arith) (omega arith) refl refl,
+          (
+            one_space plain_filter 10 11 refl (omega arith) refl,
+            (
+              word_at plain_filter 11 13 (omega arith) (omega arith) refl refl,
+              (
+                one_space plain_filter 13 14 refl (omega arith) refl,
+                (
+                  word_at plain_filter 14 16 (omega arith) (omega arith) refl refl,
+                  (
+                    one_space plain_filter 16 17 refl (omega arith) refl,
+                    (
+                      one_at,
+                      (
+                        one_space plain_filter 18 19 refl (omega arith) refl,
+                        (
+                          word_at plain_filter 19 22 (omega arith) (omega arith) refl refl,
+                          (
+                            one_space plain_filter 22 23 refl (omega arith) refl,
+                            (
+                              word_at plain_filter 23 27 (omega arith) (omega arith) refl refl,
+                              (
+                                one_space plain_filter 27 28 refl (omega arith) refl,
+                                (
+                                  word_at plain_filter 28 30 (omega arith) (omega arith) refl refl,
+                                  (one_space plain_filter 30 31 refl (omega arith) refl, (quoted_at, tt)),
+                                ),
+                              ),
+                            ),
+                          ),
+                        ),
+                      ),
+                    ),
+                  ),
+                ),
+              ),
+            ),
+          ),
+        ),
+      ),
+    ),
+  );
+  ends = no_gap plain_filter 34 (omega arith);
+}
+
+run_on_longest : IsLongest (Token Int) 1 run_on_filter
+run_on_longest = int_longest run_on_filter 1 refl (IsReach-int run_on_filter 0 1 refl (omega arith) refl (omega arith)) (omega arith)
+
+pub run_on_fault : IsFaultBehind run_on_filter (RunOn (record { start = 0; stop = 3 }))
+unfolding lib.Utf8.encode
+run_on_fault = record {
+  short = omega arith;
+  before = [];
+  few = omega arith;
+  tokens = tt;
+  place = 0;
+  gap = no_gap run_on_filter 0 (omega arith);
+  fault_at = (refl, run_on run_on_filter 0 1 2 Int run_on_longest refl (sym (run-ascii (drop 1 run_on_filter) refl)) (omega arith));
+}
