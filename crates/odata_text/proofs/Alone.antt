@@ -1,6 +1,6 @@
 -- Pieces that a blank or the end of the text follows.
-use Rattle.std.proofs.Common.{◌≡◌, ◌⊎◌, inl, inr, ⊎_elim, ℕ, zero, suc, ◌+◌, ◌-◌, ◌<◌, ◌≤◌, ◌==◌, Bool, true, false, List, [], ◌∷◌, ◌++◌, length, get_or, take, drop, arith, refl, sym, ◌∙◌, ap, subst, length-append}
-use Rattle.std.specs.Char.{is_ascii_alphabetic, is_ascii_digit}
+use Rattle.std.proofs.Common.{◌≡◌, inl, inr, ⊎_elim, ℕ, zero, suc, ◌-◌, ◌<◌, ◌≤◌, List, [], ◌∷◌, ◌++◌, length, get_or, take, arith, refl, sym, ◌∙◌, ap, length-append}
+use Rattle.std.specs.Char.{is_ascii_alphabetic}
 use Rattle.std.specs.Str.Parse.{IsNumeral}
 use Rattle.std.proofs.Math.ListN.{get_or-append}
 use Rattle.std.proofs.Math.Seq.{get_or-append_right}
@@ -8,7 +8,6 @@ use Rattle.std.proofs.lemmas.Bool.{both_ways, cases_lt}
 use Rattle.std.proofs.lemmas.List.{get_or-take, length-take-le}
 use Rattle.std.proofs.lemmas.Str.Parse.{digit_at}
 use Rattle.edm_values.specs.IntLiteral.{IsIntSpelling}
-use Rattle.edm_values.specs.StringLiteral.{IsStringSpelling}
 use Rattle.odata_text.specs.Identifier.{IsIdentifier}
 use Rattle.odata_text.specs.Spelling.{IsFormed, IsByte}
 use Rattle.odata_text.specs.declared.form.Form.{Form}
@@ -18,8 +17,6 @@ use Rattle.odata_text.specs.declared.token.TokenKind.TheVariants.{Word, Dollar, 
 use Rattle.odata_text.proofs.Forms.{is_word, is_word_byte, seam, string-starts}
 use Rattle.odata_text.proofs.IdentifierBytes.{identifier-byte, is_name_byte}
 use Rattle.odata_text.proofs.Names.{left_out-letters}
-use Rattle.odata_text.proofs.Reaches.{digit_test}
-use Rattle.odata_text.proofs.Starts.{started}
 
 -- the n-th byte of the piece is a blank, and no byte before it is a quote
 record HasBlank (xs : List ℕ) (n : ℕ) : Type 0 where
