@@ -5,6 +5,7 @@ use Rattle.std.proofs.lemmas.List.{get_or-take, length-take-le}
 use Rattle.odata_text.specs.ByteClass.{class_of}
 use Rattle.odata_text.specs.Identifier.{identifier_run}
 use Rattle.odata_text.specs.Lengths.{IsReach}
+use Rattle.odata_text.specs.Printing.{is_separator}
 use Rattle.odata_text.specs.Spelling.{IsFormed, Spells}
 use Rattle.odata_text.specs.TokenExamples.{piece_in, plain_filter, plain_tokens, run_on_filter}
 use Rattle.odata_text.specs.Tokens.{IsFaultBehind, IsGap, IsLongest, IsTokenAt, IsTokenList}
@@ -42,7 +43,7 @@ word_longest rest n some within name blank =
           (λ k below quote.
           let byte : get_or (take n rest) k 0 ≡ 39 = get_or-take n rest k 0 below ∙ quote in
           both_ways (is_name_byte 39) refl (sym (ap is_name_byte byte) ∙ names-at (take n rest) (names-from_ascii_name (take n rest) name) k (omega arith)))
-          (λ inside. blank);
+          (λ inside. ap is_separator blank);
     }
 
 word_at : (text : List ℕ) (start stop : ℕ) → start < stop → stop - start ≤ length (drop start text) → is_ascii_name (take (stop - start) (drop start text)) ≡ true → get_or (drop start text) (stop - start) 0 ≡ 32

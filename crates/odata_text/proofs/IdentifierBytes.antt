@@ -24,7 +24,7 @@ is_first_byte b = is_ascii_alphabetic b || (b == 95)
 abbrev pub is_name_byte : ℕ → Bool
 is_name_byte b = is_ascii_alphanumeric b || (b == 95)
 
-continues-ascii : (c : ℕ) → c < 128 → continues_identifier c ≡ is_name_byte c
+pub continues-ascii : (c : ℕ) → c < 128 → continues_identifier c ≡ is_name_byte c
 unfolding ucd_category continues_identifier begins_identifier
 continues-ascii c below =
     same_from_beq _ _ (Stepped-below general_category general_category_stepped (λ x g. beq (((x == 95) || is_leading g) || is_following g) (is_name_byte x)) 128 refl c below)

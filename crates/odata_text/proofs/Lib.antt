@@ -9,10 +9,12 @@ pub mod Names
 pub mod OneReading
 pub mod Pairs
 pub mod Places
+pub mod Prints
 pub mod Queries
 pub mod QueryLoops
 pub mod Quotes
 pub mod Reaches
 pub mod Scans
+pub mod Separated
 pub mod Starts
 pub mod Words

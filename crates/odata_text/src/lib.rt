@@ -22,7 +22,7 @@ mod word;
 
 pub use fault::TextFault;
 pub use identifier::is_identifier;
-pub use laws::{one_reading, plain_reading, run_on_reading};
+pub use laws::{one_reading, plain_reading, printed_reading, run_on_reading};
 pub use query::filter_of_query;
 pub use query_fault::QueryFault;
 pub use query_laws::one_query_reading;
