@@ -3,7 +3,7 @@ use Rattle.std.proofs.Common.{◌≡◌, ◌⊎◌, inl, inr, ℕ, ◌≤◌, tr
 use Rattle.std.specs.Char.{is_ascii_digit}
 use Rattle.std.proofs.lemmas.Bool.Decides.{nat_tests}
 use Rattle.odata_text.specs.ByteClass.{class_of}
-use Rattle.odata_text.specs.declared.byte_class.ByteClass.TheVariants.{Digit, Sign, Quote, Other}
+use Rattle.odata_text.specs.declared.byte_class.ByteClass.TheVariants.{Digit, Sign, Quote, Space, Other}
 
 pub class_of-digit : (b : ℕ) → is_ascii_digit b ≡ true → class_of b ≡ Digit
 unfolding class_of
@@ -33,3 +33,7 @@ class_of-sign b sign = elim sign [ inl plus ↦ rw plus refl | inr minus ↦ rw 
 pub class_of-non_ascii : (b : ℕ) → 128 ≤ b → class_of b ≡ Other
 unfolding class_of
 class_of-non_ascii b far = grind (arith, nat_tests)
+
+pub space-from_class : (b : ℕ) → class_of b ≡ Space → (b ≡ 32) ⊎ (b ≡ 9)
+unfolding class_of
+space-from_class b e = grind (arith, nat_tests)

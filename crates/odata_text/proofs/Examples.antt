@@ -1,17 +1,26 @@
 -- How to show of a text that is written out which tokens it has.
-use Rattle.std.proofs.Common.{◌≡◌, ℕ, ◌+◌, ◌-◌, ◌<◌, ◌≤◌, List, [], ◌∷◌, length, get_or, drop, arith, refl, ap, subst}
-use Rattle.std.proofs.lemmas.Bool.{false≢true}
+use Rattle.std.proofs.Common.{◌≡◌, ℕ, ◌+◌, ◌-◌, ◌<◌, ◌≤◌, true, List, [], ◌∷◌, length, get_or, take, drop, arith, refl, sym, ◌∙◌, ap, subst}
+use Rattle.std.proofs.lemmas.Bool.{both_ways, false≢true}
+use Rattle.std.proofs.lemmas.List.{get_or-take, length-take-le}
 use Rattle.odata_text.specs.ByteClass.{class_of}
+use Rattle.odata_text.specs.Identifier.{identifier_run}
 use Rattle.odata_text.specs.Lengths.{IsReach}
-use Rattle.odata_text.specs.Spelling.{IsWord, word_run}
+use Rattle.odata_text.specs.Printing.{is_separator}
+use Rattle.odata_text.specs.Spelling.{IsFormed, Spells}
 use Rattle.odata_text.specs.TokenExamples.{piece_in, plain_filter, plain_tokens, run_on_filter}
 use Rattle.odata_text.specs.Tokens.{IsFaultBehind, IsGap, IsLongest, IsTokenAt, IsTokenList}
-use Rattle.odata_text.specs.declared.byte_class.ByteClass.TheVariants.{Letter, Space}
+use Rattle.odata_text.specs.declared.byte_class.ByteClass.TheVariants.{Space}
 use Rattle.odata_text.specs.declared.fault.TextFault.TheVariants.{RunOn}
+use Rattle.odata_text.specs.declared.form.Form.{Form}
+use Rattle.odata_text.specs.declared.form.Form.TheVariants.{Token, LeftOut}
+use Rattle.odata_text.specs.declared.form.LeftOutKind.TheVariants.{Quoted}
 use Rattle.odata_text.specs.declared.token.TokenKind.TheVariants.{Word, Int, Str}
-use Rattle.odata_text.proofs.LongestPieces.{longest-from_reach, started_kind}
+use Rattle.odata_text.proofs.Alone.{alone}
+use Rattle.odata_text.proofs.IdentifierBytes.{ascii-identifier, is_ascii_name, is_name_byte, names-at, names-from_ascii_name, run-ascii}
 use Rattle.odata_text.proofs.Places.{run_on}
-use Rattle.odata_text.proofs.Reaches.{IsReach-word, IsReach-int}
+use Rattle.odata_text.proofs.Reaches.{IsReach-int}
+use Rattle.odata_text.proofs.Starts.{started, starts}
+use Rattle.odata_text.proofs.Words.{word-one}
 
 no_gap : (text : List ℕ) (place : ℕ) → place ≤ length text → IsGap text place place
 no_gap text place within = record { order = omega arith; within = within; white = λ i low high. absurd (omega arith) }
@@ -23,33 +32,62 @@ one_space text from to next inside space = record {
   white = λ i low high. let here : from ≡ i = omega arith in subst (λ (k : ℕ). class_of (get_or text k 0) ≡ Space) here space;
 }
 
-word_at : (text : List ℕ) (start stop : ℕ) → start < stop → 0 < length (drop start text) → class_of (get_or (drop start text) 0 0) ≡ Letter → word_run (drop start text) ≡ stop - start
+-- a name of ASCII bytes before a blank
+word_longest : (rest : List ℕ) (n : ℕ) → 0 < n → n ≤ length rest → is_ascii_name (take n rest) ≡ true → get_or rest n 0 ≡ 32 → IsLongest (Token Word) n rest
+word_longest rest n some within name blank =
+    let size = length-take-le n rest within in
+    record {
+      within = within;
+      spelled = word-one (take n rest) (ascii-identifier (take n rest) name);
+      longest = alone rest n some
+          (λ k below quote.
+          let byte : get_or (take n rest) k 0 ≡ 39 = get_or-take n rest k 0 below ∙ quote in
+          both_ways (is_name_byte 39) refl (sym (ap is_name_byte byte) ∙ names-at (take n rest) (names-from_ascii_name (take n rest) name) k (omega arith)))
+          (λ inside. ap is_separator blank);
+    }
+
+word_at : (text : List ℕ) (start stop : ℕ) → start < stop → stop - start ≤ length (drop start text) → is_ascii_name (take (stop - start) (drop start text)) ≡ true → get_or (drop start text) (stop - start) 0 ≡ 32
     → IsTokenAt text (piece_in text Word start stop)
-word_at text start stop order inside letter run = record {
-  longest = record {
-    order = omega arith;
-    longest = longest-from_reach (drop start text) Word (stop - start) (ap started_kind letter) (subst (λ (n : ℕ). IsReach IsWord n (drop start text)) run (IsReach-word (drop start text) inside letter)) (omega arith);
-    bytes = refl;
-  };
+word_at text start stop order within name blank = record {
+  longest = record { order = omega arith; longest = word_longest (drop start text) (stop - start) (omega arith) within name blank; bytes = refl };
   ends = λ runs. absurd (false≢true runs.0);
 }
 
-one_longest : IsLongest Int 1 (drop 17 plain_filter)
-unfolding class_of
-one_longest = longest-from_reach (drop 17 plain_filter) Int 1 refl (IsReach-int (drop 17 plain_filter) 0 1 refl (omega arith) refl (omega arith)) (omega arith)
+-- a digit begins a whole number alone
+only_int : (form : Form) → starts form 49 ≡ true → form ≡ Token Int
+only_int (Token Int) e = refl
+only_int (Token _) e = absurd (false≢true e)
+only_int (LeftOut Quoted) e = absurd (false≢true e)
+only_int (LeftOut _) e = absurd (false≢true e)
+
+int_longest : (rest : List ℕ) (n : ℕ) → get_or rest 0 0 ≡ 49 → IsReach (Spells Int) n rest → 0 < n → IsLongest (Token Int) n rest
+int_longest rest n digit reach some = record {
+  within = reach.within;
+  spelled = reach.found some;
+  longest = λ form m inside spelled.
+      let start = started form (take m rest) spelled in
+      let nonempty = start.nonempty in
+      let size = length-take-le m rest inside in
+      let byte : get_or (take m rest) 0 0 ≡ 49 = get_or-take m rest 0 0 (omega arith) ∙ digit in
+      let same : form ≡ Token Int = only_int form (sym (ap (starts form) byte) ∙ start.first) in
+      reach.reaches m inside (subst (λ (f : Form). IsFormed f (take m rest)) same spelled);
+}
 
 one_at : IsTokenAt plain_filter (piece_in plain_filter Int 17 18)
-unfolding class_of
 one_at = record {
-  longest = record { order = omega arith; longest = one_longest; bytes = refl };
-  ends = λ runs. let some : 0 < 0 = runs.1 in omega arith;
+  longest = record {
+    order = omega arith;
+    longest = int_longest (drop 17 plain_filter) 1 refl (IsReach-int (drop 17 plain_filter) 0 1 refl (omega arith) refl (omega arith)) (omega arith);
+    bytes = refl;
+  };
+  ends = λ runs. let none : identifier_run (drop 18 plain_filter) ≡ 0 = run-ascii (drop 18 plain_filter) refl in let some = runs.1 in absurd (omega arith);
 }
 
 quoted_at : IsTokenAt plain_filter (piece_in plain_filter Str 31 34)
 quoted_at = record {
   longest = record {
     order = omega arith;
-    longest = record { within = omega arith; spelled = (97 ∷ [], refl); longest = λ kind m inside spelled. inside };
+    longest = record { within = omega arith; spelled = (97 ∷ [], refl); longest = λ form m inside spelled. inside };
     bytes = refl;
   };
   ends = λ runs. absurd (false≢true runs.0);
@@ -112,12 +150,11 @@ plain_list = record {
   ends = no_gap plain_filter 34 (omega arith);
 }
 
-run_on_longest : IsLongest Int 1 run_on_filter
-unfolding class_of
-run_on_longest = longest-from_reach run_on_filter Int 1 refl (IsReach-int run_on_filter 0 1 refl (omega arith) refl (omega arith)) (omega arith)
+run_on_longest : IsLongest (Token Int) 1 run_on_filter
+run_on_longest = int_longest run_on_filter 1 refl (IsReach-int run_on_filter 0 1 refl (omega arith) refl (omega arith)) (omega arith)
 
 pub run_on_fault : IsFaultBehind run_on_filter (RunOn (record { start = 0; stop = 3 }))
-unfolding class_of
+unfolding lib.Utf8.encode
 run_on_fault = record {
   short = omega arith;
   before = [];
@@ -125,5 +162,5 @@ run_on_fault = record {
   tokens = tt;
   place = 0;
   gap = no_gap run_on_filter 0 (omega arith);
-  fault_at = (refl, run_on run_on_filter 0 1 2 Int run_on_longest refl refl (omega arith));
+  fault_at = (refl, run_on run_on_filter 0 1 2 Int run_on_longest refl (sym (run-ascii (drop 1 run_on_filter) refl)) (omega arith));
 }

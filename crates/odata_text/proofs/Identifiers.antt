@@ -10,8 +10,7 @@ use Rattle.std.proofs.lemmas.List.Folds.{list_all-append}
 use Rattle.std.proofs.lemmas.List.Sums.{take_while-cons}
 use Rattle.std.proofs.Math.Utf8.{scalar, encode}
 use Rattle.std.proofs.lemmas.Str.{chars-nil, chars-append, chars-encodes, encodes-append, encodes-chars, scalars-chars, length-encode, IsCharBoundary-at_seam, IsCharBoundary-from_take}
-use Rattle.odata_text.specs.Identifier.{begins_identifier, continues_identifier, is_identifier}
-use Rattle.odata_text.specs.Lengths.{IsIdentifier, identifier_run}
+use Rattle.odata_text.specs.Identifier.{IsIdentifier, begins_identifier, continues_identifier, identifier_run, is_identifier}
 use Rattle.odata_text.specs.Lengths.{IsReach}
 
 -- Lists of characters.
@@ -168,7 +167,7 @@ has-front rest m utf8 inside identifier =
       bytes = ap length (encodes-chars (take m rest) identifier.utf8) ∙ length-take-le m rest inside;
     }
 
-all-from_identifier : (cs : List ℕ) → is_identifier cs ≡ true → list_all continues_identifier cs ≡ true
+pub all-from_identifier : (cs : List ℕ) → is_identifier cs ≡ true → list_all continues_identifier cs ≡ true
 all-from_identifier [] identifier = refl
 all-from_identifier (c ∷ cs) identifier =
     let parts = and_parts (begins_identifier c) (list_all continues_identifier cs) identifier in

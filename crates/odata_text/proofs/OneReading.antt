@@ -3,30 +3,41 @@ use Rattle.std.proofs.Common.{◌≡◌, inl, inr, ⊎_elim, ℕ, suc, ◌+◌, 
 use Rattle.std.specs.Prelude.{slice_range, encode_utf8}
 use Rattle.std.specs.Char.{len_utf8}
 use Rattle.std.proofs.lemmas.Bool.{cases_order}
-use Rattle.std.proofs.lemmas.List.{get_or-drop, length-drop, take-append-drop}
+use Rattle.std.proofs.lemmas.List.{get_or-drop, get_or-take, length-drop, length-take-le, take-append-drop}
 use Rattle.std.proofs.lemmas.Str.{encode_same}
 use Rattle.odata_text.specs.ByteClass.{class_of}
 use Rattle.odata_text.specs.Piece.{Piece}
-use Rattle.odata_text.specs.Spelling.{word_run}
-use Rattle.odata_text.specs.Tokens.{AreTokensFrom, IsBadCharacter, IsCharacterAt, IsFaultAt, IsFaultBehind, IsGap, IsLongest, IsNoToken, IsOneTooMany, IsPieceAt, IsRunOn, IsTextFault, IsTokenAt, IsTokenList, IsUnclosed, RunsOn, end_of, token_limit}
+use Rattle.odata_text.specs.Identifier.{identifier_run}
+use Rattle.odata_text.specs.Spelling.{IsFormed}
+use Rattle.odata_text.specs.Tokens.{AreTokensFrom, IsBadCharacter, IsCharacterAt, IsFaultAt, IsFaultBehind, IsGap, IsLeftOutLiteral, IsLongest, IsNoToken, IsOneTooMany, IsPieceAt, IsRunOn, IsTextFault, IsTokenAt, IsTokenList, IsUnclosed, RunsOn, end_of, token_limit}
 use Rattle.odata_text.specs.declared.byte_class.ByteClass.TheVariants.{Space}
 use Rattle.odata_text.specs.declared.fault.TextFault.{TextFault}
 use Rattle.odata_text.specs.declared.fault.TextFault.TheVariants.{BadCharacter, UnclosedString, LeftOutLiteral, RunOn, TooLong, Memory}
+use Rattle.odata_text.specs.declared.form.Form.{Form}
+use Rattle.odata_text.specs.declared.form.Form.TheVariants.{Token, LeftOut}
 use Rattle.odata_text.specs.declared.span.Span.{Span}
-use Rattle.odata_text.proofs.LongestPieces.{same_kind, started_kind, starts, started-front}
+use Rattle.odata_text.proofs.Forms.{same_form}
+use Rattle.odata_text.proofs.Starts.{solid-start, started}
 
 -- One piece at a place.
 
-at_start : (text : List ℕ) (piece : Piece) (start : ℕ) → piece.start ≡ start → IsPieceAt text piece → IsLongest piece.kind (piece.stop - start) (drop start text)
-at_start text piece start here is_piece = subst (λ (s : ℕ). IsLongest piece.kind (piece.stop - s) (drop s text)) here is_piece.longest
+-- two longest pieces at one place are one
+same_longest : (rest : List ℕ) (f g : Form) (m n : ℕ) → IsLongest f m rest → IsLongest g n rest → (f ≡ g) × (m ≡ n)
+same_longest rest f g m n first second =
+    let above = first.longest g n second.within second.spelled in
+    let below = second.longest f m first.within first.spelled in
+    let size : n ≡ m = omega arith in
+    (same_form (take m rest) f g first.spelled (subst (λ (k : ℕ). IsFormed g (take k rest)) size second.spelled), sym size)
+
+at_start : (text : List ℕ) (piece : Piece) (start : ℕ) → piece.start ≡ start → IsPieceAt text piece → IsLongest (Token piece.kind) (piece.stop - start) (drop start text)
+at_start text piece start here is_piece = subst (λ (s : ℕ). IsLongest (Token piece.kind) (piece.stop - s) (drop s text)) here is_piece.longest
 
 same_piece : (text : List ℕ) (p q : Piece) (place : ℕ) → p.start ≡ place → q.start ≡ place → IsPieceAt text p → IsPieceAt text q → p ≡ q
 same_piece text p q place p_here q_here p_is q_is =
-    let first = at_start text p place p_here p_is in
-    let second = at_start text q place q_here q_is in
-    let kind : p.kind ≡ q.kind = same_kind (drop place text) p.kind q.kind (p.stop - place) (q.stop - place) first.spelled second.spelled in
-    let above = first.longest q.kind (q.stop - place) second.within second.spelled in
-    let below = second.longest p.kind (p.stop - place) first.within first.spelled in
+    let same = same_longest (drop place text) (Token p.kind) (Token q.kind) (p.stop - place) (q.stop - place) (at_start text p place p_here p_is) (at_start text q place q_here q_is) in
+    let form : Token p.kind ≡ Token q.kind = same.0 in
+    let kind : p.kind ≡ q.kind = cc in
+    let size = same.1 in
     let p_order = p_is.order in
     let q_order = q_is.order in
     let start : p.start ≡ q.start = p_here ∙ sym q_here in
@@ -41,18 +52,24 @@ record IsSolid (text : List ℕ) (place : ℕ) : Type 0 where
   inside : place < length text
   solid : class_of (get_or text place 0) ≡ Space → ⊥
 
-IsSolid-piece : (text : List ℕ) (piece : Piece) → IsPieceAt text piece → IsSolid text piece.start
-IsSolid-piece text piece is_piece =
-    let front = started-front (drop piece.start text) piece.kind (piece.stop - piece.start) is_piece.longest.spelled in
-    let some = front.1 in
-    let byte : get_or (drop piece.start text) 0 0 ≡ get_or text piece.start 0 = get_or-drop piece.start text 0 0 ∙ ap (λ (i : ℕ). get_or text i 0) (add-zero piece.start) in
+IsSolid-longest : (text : List ℕ) (start n : ℕ) (form : Form) → IsLongest form n (drop start text) → IsSolid text start
+IsSolid-longest text start n form longest =
+    let within = longest.within in
+    let some = (started form (take n (drop start text)) longest.spelled).nonempty in
+    let size = length-take-le n (drop start text) within in
+    let room = length-drop start text in
+    let byte : get_or (take n (drop start text)) 0 0 ≡ get_or text start 0 =
+    get_or-take n (drop start text) 0 0 (omega arith) ∙ get_or-drop start text 0 0 ∙ ap (λ (i : ℕ). get_or text i 0) (add-zero start) in
     record {
-      inside = omega (arith, length-drop piece.start text);
-      solid = λ space.
-          let none : starts (get_or text piece.start 0) ≡ None = ap started_kind space in
-          let kind : starts (get_or text piece.start 0) ≡ Some piece.kind = sym (ap starts byte) ∙ front.2 in
-          cc;
+      inside = omega arith;
+      solid = λ space. solid-start form (take n (drop start text)) longest.spelled (ap class_of byte ∙ space);
     }
+
+IsSolid-piece : (text : List ℕ) (piece : Piece) → IsPieceAt text piece → IsSolid text piece.start
+IsSolid-piece text piece is_piece = IsSolid-longest text piece.start (piece.stop - piece.start) (Token piece.kind) is_piece.longest
+
+IsSolid-left_out : (text : List ℕ) (span : Span) → IsLeftOutLiteral text span → IsSolid text span.start
+IsSolid-left_out text span literal = IsSolid-longest text span.start (span.stop - span.start) (LeftOut literal.kind) literal.longest
 
 same_place : (text : List ℕ) (from a b : ℕ) → IsGap text from a → IsGap text from b → IsSolid text a → IsSolid text b → a ≡ b
 same_place text from a b to_a to_b solid_a solid_b =
@@ -73,14 +90,37 @@ IsSolid-none text place start here none = subst (IsSolid text) here (record { in
 IsSolid-fault : (text : List ℕ) (place before : ℕ) (fault : TextFault) → IsFaultAt text place before fault → IsSolid text place
 IsSolid-fault text place before (BadCharacter span) fault = IsSolid-none text place span.start fault.0 fault.1.no_token
 IsSolid-fault text place before (UnclosedString span) fault = IsSolid-none text place span.start fault.0 fault.1.no_token
-IsSolid-fault text place before (LeftOutLiteral span) fault = absurd fault
+IsSolid-fault text place before (LeftOutLiteral span) fault = subst (IsSolid text) fault.0 (IsSolid-left_out text span fault.1)
 IsSolid-fault text place before (RunOn span) fault = subst (IsSolid text) (sym fault.1.start ∙ fault.0) (IsSolid-piece text fault.1.piece fault.1.longest)
 IsSolid-fault text place before (TooLong span) fault = subst (IsSolid text) (sym fault.1.start ∙ fault.0) (IsSolid-piece text fault.1.piece fault.1.token.longest)
 IsSolid-fault text place before Memory fault = absurd fault
 
 no_piece : (text : List ℕ) (place start : ℕ) (piece : Piece) → start ≡ place → IsNoToken text start → piece.start ≡ place → IsPieceAt text piece → ⊥
 no_piece text place start piece here none piece_here is_piece =
-    none.none piece.kind (piece.stop - start) (at_start text piece start (piece_here ∙ sym here) is_piece).spelled
+    none.none (Token piece.kind) (piece.stop - start) (at_start text piece start (piece_here ∙ sym here) is_piece).spelled
+
+left_out_at : (text : List ℕ) (place : ℕ) (span : Span) → span.start ≡ place → (literal : IsLeftOutLiteral text span) → IsLongest (LeftOut literal.kind) (span.stop - place) (drop place text)
+left_out_at text place span here literal = subst (λ (s : ℕ). IsLongest (LeftOut literal.kind) (span.stop - s) (drop s text)) here literal.longest
+
+no_left_out : (text : List ℕ) (place start : ℕ) (span : Span) → start ≡ place → IsNoToken text start → span.start ≡ place → IsLeftOutLiteral text span → ⊥
+no_left_out text place start span here none span_here literal =
+    none.none (LeftOut literal.kind) (span.stop - start) (left_out_at text start span (span_here ∙ sym here) literal).spelled
+
+piece_or_left_out : (text : List ℕ) (place : ℕ) (piece : Piece) (span : Span) → piece.start ≡ place → IsPieceAt text piece → span.start ≡ place → IsLeftOutLiteral text span → ⊥
+piece_or_left_out text place piece span piece_here is_piece span_here literal =
+    let same = same_longest (drop place text) (Token piece.kind) (LeftOut literal.kind) (piece.stop - place) (span.stop - place) (at_start text piece place piece_here is_piece) (left_out_at text place span span_here literal) in
+    let form : Token piece.kind ≡ LeftOut literal.kind = same.0 in
+    cc
+
+same_left_out : (text : List ℕ) (place : ℕ) (s t : Span) → s.start ≡ place → t.start ≡ place → IsLeftOutLiteral text s → IsLeftOutLiteral text t → s ≡ t
+same_left_out text place s t s_here t_here one two =
+    let same = same_longest (drop place text) (LeftOut one.kind) (LeftOut two.kind) (s.stop - place) (t.stop - place) (left_out_at text place s s_here one) (left_out_at text place t t_here two) in
+    let size = same.1 in
+    let s_order = one.order in
+    let t_order = two.order in
+    let start : s.start ≡ t.start = s_here ∙ sym t_here in
+    let stop : s.stop ≡ t.stop = omega arith in
+    λ i. record { start = start i; stop = stop i }
 
 -- the text from the place on begins with the character
 begins : (text : List ℕ) (place : ℕ) (span : Span) (c : ℕ) → span.start ≡ place → IsCharacterAt text span c → drop place text ≡ encode_utf8 c ++ drop (span.stop - place) (drop place text)
@@ -116,7 +156,7 @@ same_run : (text : List ℕ) (place : ℕ) (s t : Span) → s.start ≡ place �
 same_run text place s t s_here t_here one two =
     let piece : one.piece ≡ two.piece = same_piece text one.piece two.piece place (sym one.start ∙ s_here) (sym two.start ∙ t_here) one.longest two.longest in
     let start : s.start ≡ t.start = s_here ∙ sym t_here in
-    let stop : s.stop ≡ t.stop = one.stop ∙ ap (λ (p : Piece). p.stop + word_run (drop p.stop text)) piece ∙ sym two.stop in
+    let stop : s.stop ≡ t.stop = one.stop ∙ ap (λ (p : Piece). p.stop + identifier_run (drop p.stop text)) piece ∙ sym two.stop in
     λ i. record { start = start i; stop = stop i }
 
 same_many : (text : List ℕ) (place before : ℕ) (s t : Span) → s.start ≡ place → t.start ≡ place → IsOneTooMany text before s → IsOneTooMany text before t → s ≡ t
@@ -135,7 +175,7 @@ runs_and_ends text place span piece span_here piece_here run token =
 no_token : (text : List ℕ) (place before : ℕ) (fault : TextFault) (piece : Piece) → IsFaultAt text place before fault → piece.start ≡ place → IsTokenAt text piece → before ≡ token_limit
 no_token text place before (BadCharacter span) piece fault here token = absurd (no_piece text place span.start piece fault.0 fault.1.no_token here token.longest)
 no_token text place before (UnclosedString span) piece fault here token = absurd (no_piece text place span.start piece fault.0 fault.1.no_token here token.longest)
-no_token text place before (LeftOutLiteral span) piece fault here token = absurd fault
+no_token text place before (LeftOutLiteral span) piece fault here token = absurd (piece_or_left_out text place piece span here token.longest fault.0 fault.1)
 no_token text place before (RunOn span) piece fault here token = absurd (runs_and_ends text place span piece fault.0 here fault.1 token)
 no_token text place before (TooLong span) piece fault here token = fault.1.count
 no_token text place before Memory piece fault here token = absurd fault
@@ -158,9 +198,16 @@ same_fault text place before (TooLong s) (BadCharacter t) a b = absurd (no_piece
 same_fault text place before (TooLong s) (UnclosedString t) a b = absurd (no_piece text place t.start a.1.piece b.0 b.1.no_token (sym a.1.start ∙ a.0) a.1.token.longest)
 same_fault text place before (TooLong s) (RunOn t) a b = absurd (runs_and_ends text place t a.1.piece b.0 (sym a.1.start ∙ a.0) b.1 a.1.token)
 same_fault text place before (TooLong s) (TooLong t) a b = ap TooLong (same_many text place before s t a.0 b.0 a.1 b.1)
-same_fault text place before (LeftOutLiteral s) g a b = absurd a
+same_fault text place before (LeftOutLiteral s) (LeftOutLiteral t) a b = ap LeftOutLiteral (same_left_out text place s t a.0 b.0 a.1 b.1)
+same_fault text place before (LeftOutLiteral s) (BadCharacter t) a b = absurd (no_left_out text place t.start s b.0 b.1.no_token a.0 a.1)
+same_fault text place before (LeftOutLiteral s) (UnclosedString t) a b = absurd (no_left_out text place t.start s b.0 b.1.no_token a.0 a.1)
+same_fault text place before (LeftOutLiteral s) (RunOn t) a b = absurd (piece_or_left_out text place b.1.piece s (sym b.1.start ∙ b.0) b.1.longest a.0 a.1)
+same_fault text place before (LeftOutLiteral s) (TooLong t) a b = absurd (piece_or_left_out text place b.1.piece s (sym b.1.start ∙ b.0) b.1.token.longest a.0 a.1)
+same_fault text place before (BadCharacter s) (LeftOutLiteral t) a b = absurd (no_left_out text place s.start t a.0 a.1.no_token b.0 b.1)
+same_fault text place before (UnclosedString s) (LeftOutLiteral t) a b = absurd (no_left_out text place s.start t a.0 a.1.no_token b.0 b.1)
+same_fault text place before (RunOn s) (LeftOutLiteral t) a b = absurd (piece_or_left_out text place a.1.piece t (sym a.1.start ∙ a.0) a.1.longest b.0 b.1)
+same_fault text place before (TooLong s) (LeftOutLiteral t) a b = absurd (piece_or_left_out text place a.1.piece t (sym a.1.start ∙ a.0) a.1.token.longest b.0 b.1)
 same_fault text place before Memory g a b = absurd a
-same_fault text place before f (LeftOutLiteral t) a b = absurd b
 same_fault text place before f Memory a b = absurd b
 
 -- One reading of a text.

@@ -1,4 +1,4 @@
--- The lengths of the words and whole numbers at the front of a text.
+-- The lengths of digits and whole numbers at the front of a text.
 use Rattle.std.proofs.Common.{◌≡◌, inl, inr, ⊎_elim, ℕ, suc, zero, ◌+◌, ◌-◌, ◌<◌, ◌≤◌, ◌==◌, ◌||◌, Bool, true, cond, pos, neg_ℤ, List, [], ◌∷◌, length, get_or, take, drop, arith, refl, sym, ◌∙◌, ap, subst}
 use Rattle.std.specs.Char.{is_ascii_digit}
 use Rattle.std.specs.Int.{IsInRange}
@@ -6,60 +6,20 @@ use Rattle.std.specs.List.{prefix_len}
 use Rattle.std.specs.Str.Parse.{IsNumeral, digits_value}
 use Rattle.std.proofs.lemmas.Bool.{both_ways, cases_lt, cond_both}
 use Rattle.std.proofs.lemmas.Bool.Decides.{eqb_tells, nat_tests}
-use Rattle.std.proofs.lemmas.List.{get_or_default, get_or-take, length-take-le, length-drop, drop-take, take_rest}
+use Rattle.std.proofs.lemmas.List.{get_or-take, length-take-le, length-drop, drop-take, take_rest}
 use Rattle.std.proofs.lemmas.List.Sums.{prefix_len-le-length, prefix_len_passes, prefix_len_stops}
 use Rattle.std.proofs.lemmas.Str.Parse.{digit_at, numerals_by_value, tells_by_index}
-use Rattle.odata_text.specs.ByteClass.{class_of}
 use Rattle.edm_values.specs.IntLiteral.{IsIntSpelling}
 use Rattle.odata_text.specs.Lengths.{IsReach, sign_length}
-use Rattle.odata_text.specs.Spelling.{IsWord, continues_word, word_run, is_word_byte}
-use Rattle.odata_text.specs.declared.byte_class.ByteClass.TheVariants.{Letter}
 
 -- what passes from the front on is within the run
-prefix_len-reaches : (p : ℕ → Bool) (rest : List ℕ) (m : ℕ) → m ≤ length rest → ((k : ℕ) → k < m → p (get_or rest k 0) ≡ true) → m ≤ prefix_len p rest
+pub prefix_len-reaches : (p : ℕ → Bool) (rest : List ℕ) (m : ℕ) → m ≤ length rest → ((k : ℕ) → k < m → p (get_or rest k 0) ≡ true) → m ≤ prefix_len p rest
 prefix_len-reaches p rest m within passes =
     ⊎_elim (λ below. absurd (both_ways _ (prefix_len_stops p rest 0 (omega arith)) (passes (prefix_len p rest) below))) (λ reached. reached) (cases_lt (prefix_len p rest) m)
 
--- Words.
-
-goes_on : (b : ℕ) (bs : List ℕ) → IsWord (b ∷ bs) → (k : ℕ) → k < length (b ∷ bs) → is_word_byte (get_or (b ∷ bs) k 0) ≡ true
-goes_on b bs word zero below = ap continues_word word.0
-goes_on b bs word (suc k) below = word.1 k 0 (omega arith)
-
-pub record IsWordByIndex (xs : List ℕ) : Type 0 where
-  pub nonempty : 0 < length xs
-  pub first : class_of (get_or xs 0 0) ≡ Letter
-  pub each : (k : ℕ) → k < length xs → is_word_byte (get_or xs k 0) ≡ true
-
-pub IsWordByIndex-from_word : (xs : List ℕ) → IsWord xs → IsWordByIndex xs
-IsWordByIndex-from_word [] word = absurd word
-IsWordByIndex-from_word (b ∷ bs) word = record { nonempty = omega arith; first = word.0; each = goes_on b bs word }
-
-IsWord-from_index : (xs : List ℕ) → IsWordByIndex xs → IsWord xs
-IsWord-from_index [] word = let none : 0 < 0 = word.nonempty in absurd (omega arith)
-IsWord-from_index (b ∷ bs) word = (word.first, λ k d below. ap is_word_byte (get_or_default bs k d 0 below) ∙ word.each (suc k) (omega arith))
-
-pub IsReach-word : (rest : List ℕ) → 0 < length rest → class_of (get_or rest 0 0) ≡ Letter → IsReach IsWord (word_run rest) rest
-IsReach-word rest nonempty first =
-    let n = word_run rest in
-    let within : n ≤ length rest = prefix_len-le-length is_word_byte rest in
-    let size : length (take n rest) ≡ n = length-take-le n rest within in
-    record {
-      within = within;
-      found = λ positive. IsWord-from_index (take n rest) (record {
-        nonempty = omega arith;
-        first = ap class_of (get_or-take n rest 0 0 positive) ∙ first;
-        each = λ k below. let inside : k < n = omega arith in ap is_word_byte (get_or-take n rest k 0 inside) ∙ prefix_len_passes is_word_byte rest k 0 inside;
-      });
-      reaches = λ m inside word.
-          let byte = (IsWordByIndex-from_word (take m rest) word).each in
-          let taken : length (take m rest) ≡ m = length-take-le m rest inside in
-          prefix_len-reaches is_word_byte rest m inside (λ k below. ap is_word_byte (sym (get_or-take m rest k 0 below)) ∙ byte k (omega arith));
-    }
-
 -- Whole numbers.
 
-digit_range : (c : ℕ) → is_ascii_digit c ≡ true → IsInRange 48 57 c
+pub digit_range : (c : ℕ) → is_ascii_digit c ≡ true → IsInRange 48 57 c
 digit_range c digit = grind (arith, nat_tests)
 
 pub digit_test : (c : ℕ) → IsInRange 48 57 c → is_ascii_digit c ≡ true
@@ -80,6 +40,13 @@ numeral-reaches : (rest : List ℕ) (m : ℕ) → m ≤ length rest → IsNumera
 numeral-reaches rest m inside numeral =
     let taken : length (take m rest) ≡ m = length-take-le m rest inside in
     prefix_len-reaches is_ascii_digit rest m inside (λ k below. ap is_ascii_digit (sym (get_or-take m rest k 0 below)) ∙ digit_test _ (digit_at (take m rest) k numeral.1 (omega arith)))
+
+pub digits-reach : (rest : List ℕ) → IsReach (IsNumeral 10) (prefix_len is_ascii_digit rest) rest
+digits-reach rest = record {
+  within = prefix_len-le-length is_ascii_digit rest;
+  found = λ positive. numeral-found rest (prefix_len is_ascii_digit rest) (omega arith) positive;
+  reaches = λ m inside numeral. numeral-reaches rest m inside numeral;
+}
 
 -- a whole number is a numeral behind its sign
 pub numeral-from_int : (xs : List ℕ) → IsIntSpelling xs → IsNumeral 10 (drop (sign_length xs) xs)

@@ -1,6 +1,6 @@
 -- Identifiers (OData ABNF 4.01, section 6, odataIdentifier; here of any length).
-use Rattle.std.specs.Prelude.{ℕ, Bool, true, false, ◌||◌, ◌&&◌, ◌==◌, List, [], ◌∷◌}
-use Rattle.std.specs.List.{list_all}
+use Rattle.std.specs.Prelude.{◌≡◌, ℕ, Bool, true, false, ◌||◌, ◌&&◌, ◌==◌, IsUtf8, List, [], ◌∷◌, length, chars, encode_utf8_all}
+use Rattle.std.specs.List.{list_all, take_while}
 use Rattle.unicode.specs.GeneralCategory.{general_category}
 use Rattle.unicode.specs.declared.properties.GeneralCategory.{GeneralCategory}
 use Rattle.unicode.specs.declared.properties.GeneralCategory.TheVariants.{UppercaseLetter, LowercaseLetter, TitlecaseLetter, ModifierLetter, OtherLetter, LetterNumber, DecimalNumber, NonspacingMark, SpacingMark, ConnectorPunctuation, Format}
@@ -35,3 +35,12 @@ continues_identifier c = begins_identifier c || is_following (general_category c
 abbrev pub is_identifier : List ℕ → Bool
 is_identifier [] = false
 is_identifier (c ∷ cs) = begins_identifier c && list_all continues_identifier cs
+
+-- the bytes are an identifier in UTF-8
+pub record IsIdentifier (bytes : List ℕ) : Type 0 where
+  pub utf8 : IsUtf8 bytes
+  pub characters : is_identifier (chars bytes) ≡ true
+
+-- how many bytes the run of identifier characters at the front takes
+abbrev pub identifier_run : List ℕ → ℕ
+identifier_run rest = length (encode_utf8_all (take_while continues_identifier (chars rest)))

@@ -4,6 +4,7 @@ pub mod ByteClass
 pub mod Identifier
 pub mod Lengths
 pub mod Piece
+pub mod Printing
 pub mod Query
 pub mod QueryParts
 pub mod Spelling

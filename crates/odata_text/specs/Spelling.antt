@@ -1,35 +1,81 @@
--- How the tokens of each kind are spelled (OData ABNF 4.01, sections 6 and 7).
-use Rattle.std.specs.Prelude.{◌≡◌, ℕ, Bool, true, false, List, [], ◌∷◌}
-use Rattle.std.specs.List.{AllPass, prefix_len}
-use Rattle.odata_text.specs.ByteClass.{class_of}
+-- How the tokens of each kind are spelled, and the literals that are left out (OData ABNF 4.01, sections 6 and 7).
+use Rattle.std.specs.Prelude.{◌≡◌, ℕ, ◌<◌, ◌⊎◌, true, List, [], ◌∷◌, ◌++◌, codes, length}
+use Rattle.std.specs.List.{AllByRecursion as AllOf}
+use Rattle.std.specs.Str.{str_eq_ignore_ascii_case}
 use Rattle.edm_values.specs.IntLiteral.{IsIntSpelling}
 use Rattle.edm_values.specs.StringLiteral.{IsStringSpelling}
-use Rattle.odata_text.specs.declared.byte_class.ByteClass.{ByteClass}
-use Rattle.odata_text.specs.declared.byte_class.ByteClass.TheVariants.{Letter, Digit}
+use Rattle.odata_text.specs.Identifier.{IsIdentifier}
+use Rattle.odata_text.specs.declared.form.Form.{Form}
+use Rattle.odata_text.specs.declared.form.Form.TheVariants.{Token, LeftOut}
+use Rattle.odata_text.specs.declared.form.LeftOutKind.{LeftOutKind}
+use Rattle.odata_text.specs.declared.form.LeftOutKind.TheVariants.{Quoted}
 use Rattle.odata_text.specs.declared.token.TokenKind.{TokenKind}
-use Rattle.odata_text.specs.declared.token.TokenKind.TheVariants.{Word, Int, Str}
+use Rattle.odata_text.specs.declared.token.TokenKind.TheVariants.{Word, Dollar, Int, Str, EnumLit, Open, Close, Comma, Slash, Colon, Minus}
 
--- an identifier goes on with letters, `_` and digits
-abbrev pub continues_word : ByteClass → Bool
-continues_word Letter = true
-continues_word Digit = true
-continues_word _ = false
+-- this one byte
+abbrev pub IsByte : ℕ → List ℕ → Type 0
+IsByte b bytes = bytes ≡ b ∷ []
 
-abbrev pub is_word_byte : ℕ → Bool
-is_word_byte b = continues_word (class_of b)
+-- a piece of one spelling, and directly behind it a piece of another
+pub record FollowedBy (First Second : List ℕ → Type 0) (bytes : List ℕ) : Type 0 where
+  pub front : List ℕ
+  pub back : List ℕ
+  pub whole : bytes ≡ front ++ back
+  pub is_front : First front
+  pub is_back : Second back
 
--- how many bytes the run of identifier characters at the front takes
-abbrev pub word_run : List ℕ → ℕ
-word_run = prefix_len is_word_byte
+-- Words.
 
--- a letter or `_`, then letters, digits and `_` (odataIdentifier, section 6)
-abbrev pub IsWord : List ℕ → Type 0
-IsWord [] = ⊥
-IsWord (b ∷ bs) = (class_of b ≡ Letter) × AllPass is_word_byte bs
+-- parts with a dot (46) before each but the first
+abbrev pub joined : List ℕ → List (List ℕ) → List ℕ
+joined part [] = part
+joined part (next ∷ more) = part ++ 46 ∷ joined next more
+
+-- one identifier, or several joined by dots (qualifiedTypeName)
+pub record IsWord (bytes : List ℕ) : Type 0 where
+  pub part : List ℕ
+  pub more : List (List ℕ)
+  pub identifier : IsIdentifier part
+  pub identifiers : AllOf IsIdentifier more
+  pub whole : bytes ≡ joined part more
+
+-- with a dot or more
+pub record IsDottedWord (bytes : List ℕ) : Type 0 where
+  pub word : IsWord bytes
+  pub dotted : 0 < length word.more
+
+-- Literals that are left out.
+
+-- the name of a type that is left out, in any case of its letters
+abbrev pub IsLeftOutName : List ℕ → Type 0
+IsLeftOutName bytes =
+    (str_eq_ignore_ascii_case bytes (codes "duration") ≡ true)
+    ⊎ ((str_eq_ignore_ascii_case bytes (codes "binary") ≡ true)
+    ⊎ ((str_eq_ignore_ascii_case bytes (codes "geography") ≡ true) ⊎ (str_eq_ignore_ascii_case bytes (codes "geometry") ≡ true)))
+
+-- such a name and a text in quotes; the other two have no spelling yet
+abbrev pub SpellsLeftOut : LeftOutKind → List ℕ → Type 0
+SpellsLeftOut Quoted bytes = FollowedBy IsLeftOutName IsStringSpelling bytes
+SpellsLeftOut _ bytes = ⊥
+
+-- Tokens.
 
 -- the bytes are spelled as a token of the kind; the kinds without a row have no spelling yet
 abbrev pub Spells : TokenKind → List ℕ → Type 0
 Spells Word bytes = IsWord bytes
+Spells Dollar bytes = FollowedBy (IsByte 36) IsIdentifier bytes
 Spells Int bytes = IsIntSpelling bytes
 Spells Str bytes = IsStringSpelling bytes
+Spells EnumLit bytes = FollowedBy IsDottedWord IsStringSpelling bytes
+Spells Open bytes = IsByte 40 bytes
+Spells Close bytes = IsByte 41 bytes
+Spells Comma bytes = IsByte 44 bytes
+Spells Slash bytes = IsByte 47 bytes
+Spells Colon bytes = IsByte 58 bytes
+Spells Minus bytes = IsByte 45 bytes
 Spells _ bytes = ⊥
+
+-- the bytes are such a piece
+abbrev pub IsFormed : Form → List ℕ → Type 0
+IsFormed (Token kind) bytes = Spells kind bytes
+IsFormed (LeftOut kind) bytes = SpellsLeftOut kind bytes

@@ -3,10 +3,14 @@ use Rattle.std.specs.Prelude.{◌≡◌, ℕ, ◌+◌, ◌-◌, ◌<◌, ◌≤�
 use Rattle.std.specs.Char.{IsScalar, len_utf8}
 use Rattle.odata_text.specs.ByteClass.{class_of}
 use Rattle.odata_text.specs.Piece.{Piece}
-use Rattle.odata_text.specs.Spelling.{Spells, word_run}
+use Rattle.odata_text.specs.Identifier.{identifier_run}
+use Rattle.odata_text.specs.Spelling.{IsFormed}
 use Rattle.odata_text.specs.declared.byte_class.ByteClass.TheVariants.{Space, Quote}
 use Rattle.odata_text.specs.declared.fault.TextFault.{TextFault}
 use Rattle.odata_text.specs.declared.fault.TextFault.TheVariants.{BadCharacter, UnclosedString, LeftOutLiteral, RunOn, TooLong, Memory}
+use Rattle.odata_text.specs.declared.form.Form.{Form}
+use Rattle.odata_text.specs.declared.form.Form.TheVariants.{Token, LeftOut}
+use Rattle.odata_text.specs.declared.form.LeftOutKind.{LeftOutKind}
 use Rattle.odata_text.specs.declared.span.Span.{Span}
 use Rattle.odata_text.specs.declared.token.TokenKind.{TokenKind}
 use Rattle.odata_text.specs.declared.token.TokenKind.TheVariants.{Int, Date, Moment, Guid}
@@ -20,15 +24,15 @@ token_limit = 4096
 
 -- Pieces.
 
--- the first n bytes are spelled by the kind, and no kind spells a longer beginning
-pub record IsLongest (kind : TokenKind) (n : ℕ) (rest : List ℕ) : Type 0 where
+-- the first n bytes are of the form, and no form spells a longer beginning
+pub record IsLongest (form : Form) (n : ℕ) (rest : List ℕ) : Type 0 where
   pub within : n ≤ length rest
-  pub spelled : Spells kind (take n rest)
-  pub longest : (other : TokenKind) (m : ℕ) → m ≤ length rest → Spells other (take m rest) → m ≤ n
+  pub spelled : IsFormed form (take n rest)
+  pub longest : (other : Form) (m : ℕ) → m ≤ length rest → IsFormed other (take m rest) → m ≤ n
 
--- no kind spells any beginning
+-- no form spells any beginning
 abbrev pub NoneSpelled : List ℕ → Type 0
-NoneSpelled rest = (kind : TokenKind) (m : ℕ) → Spells kind (take m rest) → ⊥
+NoneSpelled rest = (form : Form) (m : ℕ) → IsFormed form (take m rest) → ⊥
 
 -- a literal that no delimiter of its own ends
 abbrev pub is_undelimited : TokenKind → Bool
@@ -40,12 +44,12 @@ is_undelimited _ = false
 
 -- an identifier character stands directly behind such a literal, rest being what is behind
 abbrev pub RunsOn : TokenKind → List ℕ → Type 0
-RunsOn kind rest = IsTrue (is_undelimited kind) × (0 < word_run rest)
+RunsOn kind rest = IsTrue (is_undelimited kind) × (0 < identifier_run rest)
 
 -- the piece is the longest at its place
 pub record IsPieceAt (text : List ℕ) (piece : Piece) : Type 0 where
   pub order : piece.start ≤ piece.stop
-  pub longest : IsLongest piece.kind (piece.stop - piece.start) (drop piece.start text)
+  pub longest : IsLongest (Token piece.kind) (piece.stop - piece.start) (drop piece.start text)
   pub bytes : piece.text ≡ slice_range text piece.start piece.stop
 
 -- a faultless token
@@ -105,13 +109,19 @@ pub record IsUnclosed (text : List ℕ) (span : Span) : Type 0 where
   pub quoted : class_of (slice_index text span.start) ≡ Quote
   pub stop : span.stop ≡ length text
 
+-- the longest piece at its place is a literal that is left out
+pub record IsLeftOutLiteral (text : List ℕ) (span : Span) : Type 0 where
+  pub kind : LeftOutKind
+  pub order : span.start ≤ span.stop
+  pub longest : IsLongest (LeftOut kind) (span.stop - span.start) (drop span.start text)
+
 -- a piece with identifier characters directly behind it, up to the last of these
 pub record IsRunOn (text : List ℕ) (span : Span) : Type 0 where
   pub piece : Piece
   pub longest : IsPieceAt text piece
   pub runs_on : RunsOn piece.kind (drop piece.stop text)
   pub start : span.start ≡ piece.start
-  pub stop : span.stop ≡ piece.stop + word_run (drop piece.stop text)
+  pub stop : span.stop ≡ piece.stop + identifier_run (drop piece.stop text)
 
 -- a faultless token more than there may be
 pub record IsOneTooMany (text : List ℕ) (before : ℕ) (span : Span) : Type 0 where
@@ -125,7 +135,7 @@ pub record IsOneTooMany (text : List ℕ) (before : ℕ) (span : Span) : Type 0 
 abbrev pub IsFaultAt : List ℕ → ℕ → ℕ → TextFault → Type 0
 IsFaultAt text place before (BadCharacter span) = (span.start ≡ place) × IsBadCharacter text span
 IsFaultAt text place before (UnclosedString span) = (span.start ≡ place) × IsUnclosed text span
-IsFaultAt text place before (LeftOutLiteral span) = ⊥
+IsFaultAt text place before (LeftOutLiteral span) = (span.start ≡ place) × IsLeftOutLiteral text span
 IsFaultAt text place before (RunOn span) = (span.start ≡ place) × IsRunOn text span
 IsFaultAt text place before (TooLong span) = (span.start ≡ place) × IsOneTooMany text before span
 IsFaultAt text place before Memory = ⊥

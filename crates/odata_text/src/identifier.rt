@@ -1,6 +1,6 @@
 ghost use Rattle.std.specs.Prelude.{◌≡◌, IsCharBoundary, chars};
-ghost use Rattle.odata_text.specs.Identifier.{begins_identifier, continues_identifier, is_following, is_identifier, is_leading};
-ghost use Rattle.odata_text.specs.Lengths.{IsIdentifier, identifier_run};
+ghost use Rattle.odata_text.specs.Identifier.{IsIdentifier, begins_identifier, continues_identifier};
+ghost use Rattle.odata_text.specs.Identifier.{identifier_run, is_following, is_identifier, is_leading};
 ghost use Rattle.odata_text.specs.Lengths.{IsReach};
 
 use unicode::properties::GeneralCategory;

@@ -1,9 +1,10 @@
 //! What the definitions of tokens and faults say of every text, and of two texts.
 
-ghost use Rattle.std.specs.Prelude.{◌≡◌, ℕ, List};
+ghost use Rattle.std.specs.Prelude.{◌≡◌, ◌≤◌, ℕ, List, length};
 ghost use Rattle.odata_text.specs.Piece.{Piece};
+ghost use Rattle.odata_text.specs.Printing.{ArePrintable, Print, placed, printed};
 ghost use Rattle.odata_text.specs.TokenExamples.{plain_filter, plain_tokens, run_on_filter};
-ghost use Rattle.odata_text.specs.Tokens.{IsTextFault, IsTokenList};
+ghost use Rattle.odata_text.specs.Tokens.{IsTextFault, IsTokenList, text_limit, token_limit};
 ghost use Rattle.odata_text.specs.declared.fault.TextFault.{TextFault};
 
 /// A text has at most one first fault or token list, and never both.
@@ -25,4 +26,10 @@ pub fn plain_reading()
 pub fn run_on_reading()
     ensures fault { IsTextFault run_on_filter (TextFault.RunOn (record { start = 0; stop = 3 })) }
     ensures none { (pieces : List Piece) → IsTokenList run_on_filter pieces → ⊥ }
+{}
+
+/// Tokens that are printed one after another are the tokens of what was printed.
+pub fn printed_reading()
+    ensures { (prints : List Print) → ArePrintable prints → length (printed prints) ≤ text_limit → length prints ≤ token_limit
+        → IsTokenList (printed prints) (placed 0 prints) }
 {}

@@ -3,10 +3,12 @@
 
 mod byte_class;
 mod fault;
+mod form;
 mod identifier;
 mod laws;
-mod lengths;
 mod longest;
+mod number;
+mod pattern;
 mod query;
 mod query_fault;
 mod query_laws;
@@ -16,10 +18,11 @@ mod quoted;
 mod scan;
 mod span;
 mod token;
+mod word;
 
 pub use fault::TextFault;
 pub use identifier::is_identifier;
-pub use laws::{one_reading, plain_reading, run_on_reading};
+pub use laws::{one_reading, plain_reading, printed_reading, run_on_reading};
 pub use query::filter_of_query;
 pub use query_fault::QueryFault;
 pub use query_laws::one_query_reading;

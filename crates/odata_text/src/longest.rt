@@ -1,34 +1,50 @@
-ghost use Rattle.std.specs.Prelude.{◌≡◌, MatchOption};
-ghost use Rattle.odata_text.specs.Lengths.{found_piece};
+ghost use Rattle.std.specs.Prelude.{◌<◌, ◌≤◌, MatchOption, length};
+ghost use Rattle.std.specs.List.{All, Contains};
 ghost use Rattle.odata_text.specs.Tokens.{IsLongest, NoneSpelled};
 
-use super::byte_class::{ByteClass, class_of};
-use super::lengths::{int_length, word_length};
+use super::form::{Form, LeftOutKind};
+use super::number::int_length;
+use super::pattern::byte_length;
 use super::quoted::string_length;
 use super::token::TokenKind;
+use super::word::{dollar_length, enum_length, quoted_length, word_length};
 
-fn found_piece(kind: TokenKind, length: usize) -> Option<(TokenKind, usize)>
-    ensures { result ≡ found_piece kind length }
+/// The longest candidate.
+fn best_of(candidates: &[(Form, usize)]) -> (Form, usize)
+    requires { 0 < length candidates.now }
+    ensures among { Contains candidates.now result }
+    ensures most { All (λ other. other.1 ≤ result.1) candidates.now }
 {
-    if length == 0 {
-        None
-    } else {
-        Some((kind, length))
+    let mut best = candidates[0];
+    for candidate in candidates {
+        if best.1 < candidate.1 {
+            best = *candidate;
+        }
     }
+    best
 }
 
-/// The longest piece at the front: its kind and how many bytes it takes.
-pub fn longest(rest: &[u8]) -> Option<(TokenKind, usize)>
+/// The longest piece at the front: its form and how many bytes it takes.
+pub fn longest(rest: &str) -> Option<(Form, usize)>
     ensures { MatchOption result (NoneSpelled rest.now) (λ found. IsLongest found.0 found.1 rest.now) }
 {
-    let first = match rest.first() {
-        Some(first) => *first,
-        None => return None,
-    };
-    match class_of(first) {
-        ByteClass::Letter => found_piece(TokenKind::Word, word_length(rest)),
-        ByteClass::Digit | ByteClass::Sign => found_piece(TokenKind::Int, int_length(rest)),
-        ByteClass::Quote => found_piece(TokenKind::Str, string_length(rest)),
-        ByteClass::Space | ByteClass::Other => None,
+    let bytes = rest.as_bytes();
+    let best = best_of(&[
+        (Form::Token(TokenKind::Word), word_length(rest)),
+        (Form::Token(TokenKind::Dollar), dollar_length(rest)),
+        (Form::Token(TokenKind::Int), int_length(bytes)),
+        (Form::Token(TokenKind::Str), string_length(bytes)),
+        (Form::Token(TokenKind::EnumLit), enum_length(rest)),
+        (Form::Token(TokenKind::Open), byte_length(b'(', bytes)),
+        (Form::Token(TokenKind::Close), byte_length(b')', bytes)),
+        (Form::Token(TokenKind::Comma), byte_length(b',', bytes)),
+        (Form::Token(TokenKind::Slash), byte_length(b'/', bytes)),
+        (Form::Token(TokenKind::Colon), byte_length(b':', bytes)),
+        (Form::Token(TokenKind::Minus), byte_length(b'-', bytes)),
+        (Form::LeftOut(LeftOutKind::Quoted), quoted_length(bytes)),
+    ]);
+    if best.1 == 0 {
+        return None;
     }
+    Some(best)
 }

@@ -6,7 +6,8 @@ ghost use Rattle.odata_text.specs.Tokens.{IsTokenAt, IsTokenList, is_undelimited
 
 use super::byte_class::{ByteClass, class_of};
 use super::fault::TextFault;
-use super::lengths::word_run;
+use super::form::Form;
+use super::identifier::identifier_run;
 use super::longest::longest;
 use super::span::Span;
 use super::token::{Token, TokenKind};
@@ -75,13 +76,17 @@ fn token_at(text: &str, start: usize) -> Result<Token<'_>, TextFault>
     ensures boundary { IfOk result (λ token. IsCharBoundary text.now token.span.stop) }
     ensures fault { IfErr result (λ fault. (before : ℕ) → IsFaultAt text.now start before fault) }
 {
-    let bytes = text.as_bytes();
-    let Some((kind, length)) = longest(&bytes[start..]) else {
+    let Some((form, length)) = longest(&text[start..]) else {
         return Err(no_token(text, start));
     };
     let stop = start + length;
+    let span = Span { start, stop };
+    let kind = match form {
+        Form::Token(kind) => kind,
+        Form::LeftOut(_) => return Err(TextFault::LeftOutLiteral { span }),
+    };
     if is_undelimited(kind) {
-        let behind = word_run(&bytes[stop..]);
+        let behind = identifier_run(&text[stop..]);
         if behind > 0 {
             let span = Span {
                 start,
@@ -90,7 +95,6 @@ fn token_at(text: &str, start: usize) -> Result<Token<'_>, TextFault>
             return Err(TextFault::RunOn { span });
         }
     }
-    let span = Span { start, stop };
     Ok(Token {
         span,
         kind,

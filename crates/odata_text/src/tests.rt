@@ -60,23 +60,142 @@ fn tokens_and_white_space(rt: HostRuntime) -> Result<(), Fail> {
     Ok(())
 }
 
+/// Whether the text is one token of this kind.
+fn is_one(alloc: Global, text: &str, kind: TokenKind) -> bool {
+    reads(alloc, text, &[(kind, 0, text.len())])
+}
+
 #[test]
-fn first_faults(rt: HostRuntime) -> Result<(), Fail> {
-    let faults = [
-        (
-            "Name eq 'abc",
-            TextFault::UnclosedString { span: span(8, 12) },
-        ),
-        ("'a''", TextFault::UnclosedString { span: span(3, 4) }),
-        ("'''", TextFault::UnclosedString { span: span(2, 3) }),
-        ("1eq 1", TextFault::RunOn { span: span(0, 3) }),
-        ("1é", TextFault::BadCharacter { span: span(1, 3) }),
-        ("a -", TextFault::BadCharacter { span: span(2, 3) }),
-        ("a.b", TextFault::BadCharacter { span: span(1, 2) }),
-        ("a\n", TextFault::BadCharacter { span: span(1, 2) }),
-        ("( 1a", TextFault::BadCharacter { span: span(0, 1) }),
+fn single_tokens(rt: HostRuntime) -> Result<(), Fail> {
+    let whole = [
+        ("a", TokenKind::Word),
+        ("a.b_1.c", TokenKind::Word),
+        ("duration", TokenKind::Word),
+        ("e5", TokenKind::Word),
+        ("é", TokenKind::Word),
+        ("_é漢𝒳2.漢", TokenKind::Word),
+        ("$é", TokenKind::Dollar),
+        ("a.é'x'", TokenKind::EnumLit),
+        ("$it", TokenKind::Dollar),
+        ("+12", TokenKind::Int),
+        ("-0", TokenKind::Int),
+        ("''", TokenKind::Str),
+        ("'O''Neil'", TokenKind::Str),
+        ("'é'", TokenKind::Str),
+        ("a.b'x'", TokenKind::EnumLit),
+        ("x.duration'a'", TokenKind::EnumLit),
+        ("a.b.c'x''y'", TokenKind::EnumLit),
+        ("(", TokenKind::Open),
+        (")", TokenKind::Close),
+        (",", TokenKind::Comma),
+        ("/", TokenKind::Slash),
+        (":", TokenKind::Colon),
+        ("-", TokenKind::Minus),
     ];
-    for (text, fault) in faults {
+    for (text, kind) in whole {
+        assert!(rt; is_one(rt.alloc(), text, kind));
+    }
+    Ok(())
+}
+
+#[test]
+fn tokens_side_by_side(rt: HostRuntime) -> Result<(), Fail> {
+    let enumeration = [
+        (TokenKind::EnumLit, 0, 6),
+        (TokenKind::Int, 6, 8),
+        (TokenKind::Minus, 9, 10),
+        (TokenKind::Word, 10, 11),
+    ];
+    assert!(rt; reads(rt.alloc(), "a.b'x'-1 -b", &enumeration));
+    let word_and_text = [(TokenKind::Word, 0, 1), (TokenKind::Str, 1, 4)];
+    assert!(rt; reads(rt.alloc(), "a'x'", &word_and_text));
+    let call = [
+        (TokenKind::Word, 0, 1),
+        (TokenKind::Slash, 1, 2),
+        (TokenKind::Word, 2, 5),
+        (TokenKind::Open, 5, 6),
+        (TokenKind::Word, 6, 7),
+        (TokenKind::Colon, 7, 8),
+        (TokenKind::Dollar, 8, 11),
+        (TokenKind::Comma, 11, 12),
+        (TokenKind::Minus, 12, 13),
+        (TokenKind::Int, 13, 15),
+        (TokenKind::Close, 15, 16),
+    ];
+    assert!(rt; reads(rt.alloc(), "a/any(p:$it,--3)", &call));
+    let short_numbers = [
+        (TokenKind::Int, 0, 4),
+        (TokenKind::Int, 4, 7),
+        (TokenKind::Int, 7, 9),
+        (TokenKind::Int, 10, 12),
+        (TokenKind::Colon, 12, 13),
+        (TokenKind::Int, 13, 14),
+    ];
+    assert!(rt; reads(rt.alloc(), "2020-01-1 12:3", &short_numbers));
+    Ok(())
+}
+
+#[test]
+fn no_tokens_begin(rt: HostRuntime) -> Result<(), Fail> {
+    let unclosed = [
+        ("Name eq 'abc", 8, 12),
+        ("'a''", 3, 4),
+        ("'''", 2, 3),
+        ("a.b'x", 3, 5),
+        ("a.b'x''y", 6, 8),
+        ("a.b'x''y' '", 10, 11),
+        ("duration'PT1S", 8, 13),
+    ];
+    for (text, start, stop) in unclosed {
+        let fault = TextFault::UnclosedString {
+            span: span(start, stop),
+        };
+        assert!(rt; fault_of(rt.alloc(), text) == Some(fault));
+    }
+    let bad = [
+        ("1.", 1, 2),
+        ("a.", 1, 2),
+        ("a.1", 1, 2),
+        (".5", 0, 1),
+        ("+", 0, 1),
+        ("+a", 0, 1),
+        ("$", 0, 1),
+        ("$1", 0, 1),
+        ("a\n", 1, 2),
+        ("a\rb", 1, 2),
+        ("a\u{a0}b", 1, 3),
+        ("a €", 2, 5),
+        ("(\u{1f600})", 1, 5),
+    ];
+    for (text, start, stop) in bad {
+        let fault = TextFault::BadCharacter {
+            span: span(start, stop),
+        };
+        assert!(rt; fault_of(rt.alloc(), text) == Some(fault));
+    }
+    Ok(())
+}
+
+#[test]
+fn left_out_and_run_on(rt: HostRuntime) -> Result<(), Fail> {
+    let left_out = [
+        ("Name eq duration'PT1S'", 8, 22),
+        ("duration'x''", 0, 11),
+        ("BINARY''", 0, 8),
+        ("Geography'x'", 0, 12),
+        ("geometry'a''b'", 0, 14),
+    ];
+    for (text, start, stop) in left_out {
+        let fault = TextFault::LeftOutLiteral {
+            span: span(start, stop),
+        };
+        assert!(rt; fault_of(rt.alloc(), text) == Some(fault));
+    }
+    let run_on = [("1eq 1", 0, 3), ("1e", 0, 2), ("+1_", 0, 3), ("1é", 0, 3)];
+    for (text, start, stop) in run_on {
+        let fault = TextFault::RunOn {
+            span: span(start, stop),
+        };
         assert!(rt; fault_of(rt.alloc(), text) == Some(fault));
     }
     Ok(())
@@ -94,6 +213,15 @@ fn limits(rt: HostRuntime) -> Result<(), Fail> {
         span: span(0, 16385),
     };
     assert!(rt; fault_of(rt.alloc(), text.as_str()) == Some(whole));
+
+    let mut commas = String::new(rt.alloc());
+    for _ in 0..4097 {
+        commas.push(',')?;
+    }
+    let comma = TextFault::TooLong {
+        span: span(4096, 4097),
+    };
+    assert!(rt; fault_of(rt.alloc(), commas.as_str()) == Some(comma));
 
     let mut words = String::new(rt.alloc());
     for _ in 0..4096 {

@@ -1,26 +1,26 @@
-use Rattle.std.proofs.Common.{◌≡◌, ⊎_elim, Some, None, sym, ◌∙◌, ap, subst}
-use Rattle.odata_text.specs.ByteClass.{class_of}
-use Rattle.odata_text.specs.declared.token.TokenKind.TheVariants.{Word, Int, Str}
-use Rattle.odata_text.proofs.LongestPieces.{Finds, finds-piece, none-by_class, started_kind}
+use Rattle.std.proofs.Common.{ℕ, List, [], ◌∷◌, arith, refl, subst}
+use Rattle.odata_text.specs.Lengths.{IsReach}
+use Rattle.odata_text.proofs.LongestPieces.{AreCandidates, are-candidates, longest-best, none-best}
 use Rattle.odata_text.proofs.longest.longest.Goals as goal
 
-pub returns-in-Letter : goal.returns-in-Letter
-returns-in-Letter c =
-    let first = ap started_kind (sym (ap class_of ((c.in-Some.ensures.item.3).1 0)) ∙ sym c.class_of.ensures ∙ c.in-Letter.is) in
-    subst (Finds c.args.rest.now) (sym c.found_piece.ensures) (finds-piece c.args.rest.now Word c.word_length.result first c.word_length.ensures)
+pub returns-then-best-eq0 : goal.returns-then-best-eq0
+returns-then-best-eq0 c =
+    let same = c.as_bytes-bytes.ensures.value in
+    let on : (P : List ℕ → Type 0) (n : ℕ) → IsReach P n c.as_bytes-bytes.result.now → IsReach P n c.args.rest.now = λ P n reach. subst (IsReach P n) same reach in
+    let are : AreCandidates _ c.args.rest.now = are-candidates c.args.rest.now
+    (c.word_length.result ∷ c.dollar_length.result ∷ c.int_length.result ∷ c.string_length.result ∷ c.enum_length.result
+    ∷ c.byte_length.result ∷ c.byte_length-2.result ∷ c.byte_length-3.result ∷ c.byte_length-4.result ∷ c.byte_length-5.result ∷ c.byte_length-6.result ∷ c.quoted_length.result ∷ [])
+    refl
+    (c.word_length.ensures.reach, (c.dollar_length.ensures, (on _ _ c.int_length.ensures, (on _ _ c.string_length.ensures, (c.enum_length.ensures, (on _ _ c.byte_length.ensures, (on _ _ c.byte_length-2.ensures, (on _ _ c.byte_length-3.ensures, (on _ _ c.byte_length-4.ensures, (on _ _ c.byte_length-5.ensures, (on _ _ c.byte_length-6.ensures, (on _ _ c.quoted_length.ensures, tt)))))))))))) in
+    none-best _ c.args.rest.now c.best_of-best.result are c.best_of-best.ensures.most c.if-best-eq0.true
 
-pub returns-in-Digit : goal.returns-in-Digit
-returns-in-Digit c =
-    let kind : started_kind c.class_of.result ≡ Some Int = ⊎_elim (λ digit. ap started_kind digit) (λ sign. ap started_kind sign) c.in-Digit.is in
-    let first = ap started_kind (sym (ap class_of ((c.in-Some.ensures.item.3).1 0)) ∙ sym c.class_of.ensures) ∙ kind in
-    subst (Finds c.args.rest.now) (sym c.found_piece-in-Digit.ensures) (finds-piece c.args.rest.now Int c.int_length.result first c.int_length.ensures)
-
-pub returns-in-Quote : goal.returns-in-Quote
-returns-in-Quote c =
-    let first = ap started_kind (sym (ap class_of ((c.in-Some.ensures.item.3).1 0)) ∙ sym c.class_of.ensures ∙ c.in-Quote.is) in
-    subst (Finds c.args.rest.now) (sym c.found_piece-in-Quote.ensures) (finds-piece c.args.rest.now Str c.string_length.result first c.string_length.ensures)
-
-pub returns-in-Space : goal.returns-in-Space
-returns-in-Space c =
-    let none : started_kind c.class_of.result ≡ None = ⊎_elim (λ space. ap started_kind space) (λ other. ap started_kind other) c.in-Space.is in
-    none-by_class c.args.rest.now (ap started_kind (sym (ap class_of ((c.in-Some.ensures.item.3).1 0)) ∙ sym c.class_of.ensures) ∙ none)
+pub returns : goal.returns
+returns c =
+    let same = c.as_bytes-bytes.ensures.value in
+    let on : (P : List ℕ → Type 0) (n : ℕ) → IsReach P n c.as_bytes-bytes.result.now → IsReach P n c.args.rest.now = λ P n reach. subst (IsReach P n) same reach in
+    let are : AreCandidates _ c.args.rest.now = are-candidates c.args.rest.now
+    (c.word_length.result ∷ c.dollar_length.result ∷ c.int_length.result ∷ c.string_length.result ∷ c.enum_length.result
+    ∷ c.byte_length.result ∷ c.byte_length-2.result ∷ c.byte_length-3.result ∷ c.byte_length-4.result ∷ c.byte_length-5.result ∷ c.byte_length-6.result ∷ c.quoted_length.result ∷ [])
+    refl
+    (c.word_length.ensures.reach, (c.dollar_length.ensures, (on _ _ c.int_length.ensures, (on _ _ c.string_length.ensures, (c.enum_length.ensures, (on _ _ c.byte_length.ensures, (on _ _ c.byte_length-2.ensures, (on _ _ c.byte_length-3.ensures, (on _ _ c.byte_length-4.ensures, (on _ _ c.byte_length-5.ensures, (on _ _ c.byte_length-6.ensures, (on _ _ c.quoted_length.ensures, tt)))))))))))) in
+    longest-best _ c.args.rest.now c.best_of-best.result are c.best_of-best.ensures.among c.best_of-best.ensures.most (omega arith)

@@ -1,8 +1,8 @@
-use Rattle.std.proofs.Common.{◌≡◌, length, is_ok, ◌∙◌, ap}
+use Rattle.std.proofs.Common.{◌≡◌, ◌<◌, arith, length, is_ok, ◌∙◌, ap}
 use Rattle.std.proofs.ResultArms.{chosen}
 use Rattle.std.proofs.lemmas.Result.{err_from_is_err_and}
-use Rattle.odata_text.specs.Piece.{pieces_of}
-use Rattle.odata_text.proofs.Scans.{scanned-none, scanned-push, scanned-fault}
+use Rattle.odata_text.specs.Piece.{piece_of, pieces_of}
+use Rattle.odata_text.proofs.Scans.{IsInside-token, scanned-none, scanned-push, scanned-fault}
 use Rattle.odata_text.proofs.scan.scan.Goals as goal
 
 pub loop-place-init : goal.loop-place-init
@@ -23,3 +23,13 @@ loop-place-preserved c =
     c.as_bytes-bytes.ensures.value (chosen _ _ _ _ c.push.ensures.items (ap is_ok c.in_ok-push.was)) c.utf8.text c.loop-place.invariant
     token.start token.token token.boundary room
     c.skip_spaces-place-in-loop-place.ensures.gap c.skip_spaces-place-in-loop-place.ensures.solid
+
+pub loop-place-smaller : goal.loop-place-smaller
+loop-place-smaller c =
+    let token = c.in_ok-token.token in
+    let inside = IsInside-token c.args.text.now (piece_of token) c.in_ok-token.ensures.token in
+    let some : token.span.start < token.span.stop = inside.nonempty in
+    let start = c.in_ok-token.ensures.start in
+    let order = c.skip_spaces-place-in-loop-place.ensures.gap.order in
+    let below = c.loop-place-test.true in
+    omega arith

@@ -1,32 +1,25 @@
-use Rattle.std.proofs.Common.{◌+◌, length, arith, refl, sym, ◌∙◌, ap, subst}
-use Rattle.std.proofs.lemmas.List.{length-drop}
-use Rattle.odata_text.specs.Spelling.{word_run}
-use Rattle.odata_text.specs.Tokens.{IsLongest}
-use Rattle.odata_text.proofs.Places.{boundary-behind, rest_of, run_on}
+use Rattle.std.proofs.Common.{arith, refl, sym, ◌∙◌, ap}
+use Rattle.odata_text.specs.Identifier.{identifier_run}
+use Rattle.odata_text.proofs.Places.{boundary-behind, longest-token, run_on}
 use Rattle.odata_text.proofs.scan.token_at.Goals as goal
 
-pub overflow_add-span : goal.overflow_add-span
-overflow_add-span c =
-    let behind = c.word_run-behind.ensures.within in
-    let piece = c.in-Some.ensures.within in
-    let room = ap length (rest_of c.args.text.now c.as_bytes-bytes.result.now (c.args.start + c.in-Some.length) c.as_bytes-bytes.ensures.value) in
-    let front = ap length (rest_of c.args.text.now c.as_bytes-bytes.result.now c.args.start c.as_bytes-bytes.ensures.value) in
-    let all = c.as_bytes-bytes.ensures.len in
-    omega (arith, length-drop (c.args.start + c.in-Some.length) c.args.text.now, length-drop c.args.start c.args.text.now)
+pub range_from-requires-then-is_undelimited : goal.range_from-requires-then-is_undelimited
+range_from-requires-then-is_undelimited c =
+    let longest = longest-token c.args.text.now c.range_from.result.now c.args.start c.in-Some.length c.in-Some.form c.in-Token.kind c.range_from.ensures.value c.in-Token.is c.in-Some.ensures in
+    λ some. boundary-behind c.args.text.now c.args.start c.in-Some.length c.in-Token.kind c.utf8.text c.requires.boundary longest
 
 pub returns-then-behind-gt0-clause-fault : goal.returns-then-behind-gt0-clause-fault
 returns-then-behind-gt0-clause-fault c =
-    let rest = rest_of c.args.text.now c.as_bytes-bytes.result.now c.args.start c.as_bytes-bytes.ensures.value in
-    let longest = subst (IsLongest c.in-Some.kind c.in-Some.length) rest c.in-Some.ensures in
-    let behind = c.word_run-behind.ensures.value ∙ ap word_run (rest_of c.args.text.now c.as_bytes-bytes.result.now (c.args.start + c.in-Some.length) c.as_bytes-bytes.ensures.value) in
-    λ before. (refl, run_on c.args.text.now c.args.start c.in-Some.length c.word_run-behind.result c.in-Some.kind longest (sym c.is_undelimited.ensures ∙ c.if-is_undelimited.true) behind (omega arith))
+    let longest = longest-token c.args.text.now c.range_from.result.now c.args.start c.in-Some.length c.in-Some.form c.in-Token.kind c.range_from.ensures.value c.in-Token.is c.in-Some.ensures in
+    let behind = c.identifier_run-behind.ensures.value ∙ ap identifier_run c.range_from-then-is_undelimited.ensures.value in
+    λ before. (refl, run_on c.args.text.now c.args.start c.in-Some.length c.identifier_run-behind.result c.in-Token.kind longest (sym c.is_undelimited.ensures ∙ c.if-is_undelimited.true) behind (omega arith))
 
 pub range-requires-clause-end_boundary : goal.range-requires-clause-end_boundary
 range-requires-clause-end_boundary c =
-    let rest = rest_of c.args.text.now c.as_bytes-bytes.result.now c.args.start c.as_bytes-bytes.ensures.value in
-    boundary-behind c.args.text.now c.args.start c.in-Some.length c.in-Some.kind c.utf8.text (subst (IsLongest c.in-Some.kind c.in-Some.length) rest c.in-Some.ensures)
+    let longest = longest-token c.args.text.now c.range_from.result.now c.args.start c.in-Some.length c.in-Some.form c.in-Token.kind c.range_from.ensures.value c.in-Token.is c.in-Some.ensures in
+    boundary-behind c.args.text.now c.args.start c.in-Some.length c.in-Token.kind c.utf8.text c.requires.boundary longest
 
 pub returns-clause-boundary : goal.returns-clause-boundary
 returns-clause-boundary c =
-    let rest = rest_of c.args.text.now c.as_bytes-bytes.result.now c.args.start c.as_bytes-bytes.ensures.value in
-    boundary-behind c.args.text.now c.args.start c.in-Some.length c.in-Some.kind c.utf8.text (subst (IsLongest c.in-Some.kind c.in-Some.length) rest c.in-Some.ensures)
+    let longest = longest-token c.args.text.now c.range_from.result.now c.args.start c.in-Some.length c.in-Some.form c.in-Token.kind c.range_from.ensures.value c.in-Token.is c.in-Some.ensures in
+    boundary-behind c.args.text.now c.args.start c.in-Some.length c.in-Token.kind c.utf8.text c.requires.boundary longest

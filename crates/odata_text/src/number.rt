@@ -3,35 +3,12 @@ ghost use Rattle.std.specs.Char.{is_ascii_digit};
 ghost use Rattle.std.specs.List.{prefix_len};
 ghost use Rattle.edm_values.specs.IntLiteral.{IsIntSpelling};
 ghost use Rattle.odata_text.specs.Lengths.{IsReach, sign_length};
-ghost use Rattle.odata_text.specs.Spelling.{IsWord, word_run};
 
-use super::byte_class::{ByteClass, class_of};
-
-/// How many bytes the run of identifier characters at the front takes.
-pub fn word_run(rest: &[u8]) -> usize
-    ensures value { result ≡ word_run rest.now }
-    ensures within { result ≤ length rest.now }
-{
-    rest.iter()
-        .take_while(|byte| matches!(class_of(**byte), ByteClass::Letter | ByteClass::Digit))
-        .count()
-}
-
-fn digits_length(rest: &[u8]) -> usize
+fn digit_run(rest: &[u8]) -> usize
     ensures value { result ≡ prefix_len is_ascii_digit rest.now }
     ensures within { result ≤ length rest.now }
 {
     rest.iter().take_while(|byte| byte.is_ascii_digit()).count()
-}
-
-/// How many bytes the word at the front takes, 0 if there is none.
-pub fn word_length(rest: &[u8]) -> usize
-    ensures { IsReach IsWord result rest.now }
-{
-    match rest.first() {
-        Some(first) if class_of(*first) == ByteClass::Letter => word_run(rest),
-        _ => 0,
-    }
 }
 
 fn sign_length(rest: &[u8]) -> usize
@@ -49,7 +26,7 @@ pub fn int_length(rest: &[u8]) -> usize
     ensures { IsReach IsIntSpelling result rest.now }
 {
     let sign = sign_length(rest);
-    match digits_length(&rest[sign..]) {
+    match digit_run(&rest[sign..]) {
         0 => 0,
         digits => sign + digits,
     }

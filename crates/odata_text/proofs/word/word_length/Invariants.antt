@@ -1,0 +1,10 @@
+use Rattle.std.proofs.Common.{◌-◌}
+use Rattle.std.proofs.Common.{length as list_length}
+use Rattle.odata_text.proofs.Words.{IsWordSoFar}
+use Rattle.odata_text.proofs.word.word_length.Given as goal
+
+abbrev pub invariant-loop-length : goal.invariant-loop-length
+invariant-loop-length l = IsWordSoFar l.rest l.length
+
+abbrev pub decreases-loop-length : goal.decreases-loop-length
+decreases-loop-length l = list_length l.rest - l.length

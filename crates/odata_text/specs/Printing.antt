@@ -1,0 +1,48 @@
+-- Tokens that are printed one after another (for a printer of filters).
+use Rattle.std.specs.Prelude.{◌≡◌, ⊤, ℕ, ◌+◌, ◌==◌, ◌||◌, ◌&&◌, not, Bool, true, List, [], ◌∷◌, ◌++◌, length, flat_map, All}
+use Rattle.odata_text.specs.ByteClass.{class_of}
+use Rattle.odata_text.specs.Piece.{Piece}
+use Rattle.odata_text.specs.Spelling.{Spells}
+use Rattle.odata_text.specs.declared.byte_class.ByteClass.TheVariants.{Space}
+use Rattle.odata_text.specs.declared.token.TokenKind.{TokenKind}
+use Rattle.odata_text.specs.declared.token.TokenKind.TheVariants.{Int, Open, Close, Comma, Slash, Colon}
+
+-- a token's bytes, and the white space behind them
+pub record Print : Type 0 where
+  pub kind : TokenKind
+  pub text : List ℕ
+  pub gap : List ℕ
+
+abbrev pub printed : List Print → List ℕ
+printed prints = flat_map (λ p. p.text ++ p.gap) prints
+
+-- space, tab and `( ) , / :`
+abbrev pub is_separator : ℕ → Bool
+is_separator b = (b == 32) || ((b == 9) || ((b == 40) || ((b == 41) || ((b == 44) || ((b == 47) || (b == 58))))))
+
+-- the byte may stand directly behind a token of the kind: any behind a mark that is no `-`, no `:` behind a number (`12:34`)
+abbrev pub may_follow : TokenKind → ℕ → Bool
+may_follow Open b = true
+may_follow Close b = true
+may_follow Comma b = true
+may_follow Slash b = true
+may_follow Colon b = true
+may_follow Int b = is_separator b && not (b == 58)
+may_follow _ b = is_separator b
+
+abbrev pub MayFollow : TokenKind → List ℕ → Type 0
+MayFollow kind [] = ⊤
+MayFollow kind (b ∷ more) = may_follow kind b ≡ true
+
+-- each is spelled by its kind, has white space alone behind it, and does not run into what follows
+abbrev pub ArePrintable : List Print → Type 0
+ArePrintable [] = ⊤
+ArePrintable (p ∷ prints) =
+    Spells p.kind p.text × (All (λ b. class_of b ≡ Space) p.gap × (MayFollow p.kind (p.gap ++ printed prints) × ArePrintable prints))
+
+-- the tokens at their places, from a place on
+abbrev pub placed : ℕ → List Print → List Piece
+placed from [] = []
+placed from (p ∷ prints) =
+    record { kind = p.kind; start = from; stop = from + length p.text; text = p.text }
+    ∷ placed (from + length p.text + length p.gap) prints

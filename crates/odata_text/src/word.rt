@@ -1,0 +1,113 @@
+ghost use Rattle.std.specs.Prelude.{◌≡◌, IsCharBoundary, max};
+ghost use Rattle.std.specs.Str.{str_eq_ignore_ascii_case};
+ghost use Rattle.odata_text.specs.Lengths.{IsNamed, IsReach};
+ghost use Rattle.odata_text.specs.Spelling.{IsDottedWord, IsLeftOutName, IsWord, Spells, SpellsLeftOut};
+
+use super::form::LeftOutKind;
+use super::identifier::identifier_length;
+use super::pattern::byte_length;
+use super::quoted::string_length;
+use super::token::TokenKind;
+
+/// How many bytes the word at the front takes, with all its dots, 0 if there is none.
+pub fn word_length(rest: &str) -> usize
+    ensures reach { IsReach IsWord result rest.now }
+    ensures boundary { IsCharBoundary rest.now result }
+{
+    let mut length = identifier_length(rest);
+    if length == 0 {
+        return 0;
+    }
+    while length < rest.len() && rest.as_bytes()[length] == b'.' {
+        let part = identifier_length(&rest[length + 1..]);
+        if part == 0 {
+            return length;
+        }
+        length += 1 + part;
+    }
+    length
+}
+
+/// How many bytes the word at the front takes if it has a dot, else 0.
+fn dotted_length(rest: &str) -> usize
+    ensures { IsReach IsDottedWord result rest.now }
+{
+    let word = word_length(rest);
+    if identifier_length(rest) < word {
+        return word;
+    }
+    0
+}
+
+/// How many bytes the `$` and the identifier at the front take, 0 if there are none.
+pub fn dollar_length(rest: &str) -> usize
+    ensures { IsReach (Spells TokenKind.Dollar) result rest.now }
+{
+    match byte_length(b'$', rest.as_bytes()) {
+        0 => 0,
+        mark => match identifier_length(&rest[mark..]) {
+            0 => 0,
+            name => mark + name,
+        },
+    }
+}
+
+/// How many bytes the enumeration literal at the front takes, 0 if there is none.
+pub fn enum_length(rest: &str) -> usize
+    ensures { IsReach (Spells TokenKind.EnumLit) result rest.now }
+{
+    match dotted_length(rest) {
+        0 => 0,
+        word => match string_length(&rest.as_bytes()[word..]) {
+            0 => 0,
+            text => word + text,
+        },
+    }
+}
+
+/// Whether the bytes are the name in any case of its letters.
+fn is_named(bytes: &[u8], name: &[u8]) -> bool
+    ensures { result ≡ str_eq_ignore_ascii_case bytes.now name.now }
+{
+    bytes.eq_ignore_ascii_case(name)
+}
+
+/// The length of the name, if it stands at the front in any case of its letters, else 0.
+fn name_length(name: &[u8], rest: &[u8]) -> usize
+    ensures { IsReach (IsNamed name.now) result rest.now }
+{
+    if name.len() <= rest.len() && is_named(&rest[..name.len()], name) {
+        return name.len();
+    }
+    0
+}
+
+/// How many bytes the name of a type that is left out takes at the front, 0 if there is none.
+fn left_out_name_length(rest: &[u8]) -> usize
+    ensures { IsReach IsLeftOutName result rest.now }
+{
+    let duration = name_length(b"duration", rest);
+    let binary = name_length(b"binary", rest);
+    let geography = name_length(b"geography", rest);
+    let geometry = name_length(b"geometry", rest);
+    longer(duration, longer(binary, longer(geography, geometry)))
+}
+
+fn longer(first: usize, second: usize) -> usize
+    ensures { result ≡ max first second }
+{
+    if first < second { second } else { first }
+}
+
+/// How many bytes the name of a type that is left out and the text in quotes at the front take, 0 if there are none.
+pub fn quoted_length(rest: &[u8]) -> usize
+    ensures { IsReach (SpellsLeftOut LeftOutKind.Quoted) result rest.now }
+{
+    match left_out_name_length(rest) {
+        0 => 0,
+        name => match string_length(&rest[name..]) {
+            0 => 0,
+            text => name + text,
+        },
+    }
+}
