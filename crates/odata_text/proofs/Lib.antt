@@ -1,13 +1,16 @@
 pub mod Alone
 pub mod ByteClasses
 pub mod Examples
+pub mod FormOf
 pub mod Forms
 pub mod IdentifierBytes
 pub mod Identifiers
 pub mod LongestPieces
 pub mod Names
+pub mod NumberForms
 pub mod OneReading
 pub mod Pairs
+pub mod Parts
 pub mod Places
 pub mod Prints
 pub mod Queries
@@ -17,4 +20,5 @@ pub mod Reaches
 pub mod Scans
 pub mod Separated
 pub mod Starts
+pub mod WordForms
 pub mod Words

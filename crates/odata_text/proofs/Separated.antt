@@ -19,7 +19,9 @@ use Rattle.odata_text.specs.declared.form.LeftOutKind.TheVariants.{Quoted}
 use Rattle.odata_text.specs.declared.token.TokenKind.{TokenKind}
 use Rattle.odata_text.specs.declared.token.TokenKind.TheVariants.{Word, Dollar, Int, Str, EnumLit, Open, Close, Comma, Slash, Colon, Minus}
 use Rattle.odata_text.proofs.Alone.{alone}
-use Rattle.odata_text.proofs.Forms.{is_word, is_word_byte, no_quote-name, no_quote-word, seam, string-starts}
+use Rattle.odata_text.proofs.FormOf.{is_word_byte, seam}
+use Rattle.odata_text.proofs.Parts.{no_quote-name, no_quote-word, string-starts}
+use Rattle.odata_text.proofs.WordForms.{is_word}
 use Rattle.odata_text.proofs.IdentifierBytes.{identifier-byte, is_name_byte}
 use Rattle.odata_text.proofs.Quotes.{string-bound}
 use Rattle.odata_text.proofs.Starts.{is_int_start, is_word_start, started, starts}
