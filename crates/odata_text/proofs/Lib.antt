@@ -1,11 +1,14 @@
 pub mod ByteClasses
 pub mod Examples
+pub mod Guids
 pub mod Identifiers
 pub mod LongestPieces
 pub mod OneReading
+pub mod Patterns
 pub mod Places
 pub mod Queries
 pub mod QueryLoops
 pub mod Quotes
 pub mod Reaches
 pub mod Scans
+pub mod Sequences

@@ -1,11 +1,17 @@
+pub use Rattle.edm_values.specs.DateLiteral
+pub use Rattle.edm_values.specs.GuidLiteral
 pub use Rattle.edm_values.specs.IntLiteral
+pub use Rattle.edm_values.specs.MomentLiteral
 pub use Rattle.edm_values.specs.StringLiteral
 pub mod ByteClass
 pub mod Identifier
+pub mod LeftOut
 pub mod Lengths
+pub mod Patterns
 pub mod Piece
 pub mod Query
 pub mod QueryParts
+pub mod Sequence
 pub mod Spelling
 pub mod TokenExamples
 pub mod Tokens

@@ -2,7 +2,10 @@
 #![tactic(auto)]
 
 mod byte_class;
+mod byte_test;
+mod decimal;
 mod fault;
+mod guid;
 mod identifier;
 mod laws;
 mod lengths;
@@ -15,6 +18,7 @@ mod query_part;
 mod quoted;
 mod scan;
 mod span;
+mod time;
 mod token;
 
 pub use fault::TextFault;

@@ -1,4 +1,5 @@
 mod identifiers;
+mod literals;
 mod queries;
 
 use super::fault::TextFault;

@@ -1,0 +1,140 @@
+-- The length of a piece that is made of two, from the lengths of these.
+use Rattle.std.proofs.Common.{◌≡◌, ⊎_elim, ℕ, ◌+◌, ◌<◌, ◌≤◌, List, [], ◌++◌, length, get_or, take, drop, arith, refl, sym, ◌∙◌, ap, subst, length-append, add-zero}
+use Rattle.std.proofs.lemmas.Bool.{cases_lt}
+use Rattle.std.proofs.lemmas.List.{take_at, drop_at, drop-take, take-take, take-append-drop, get_or-take, get_or-drop, length-take-le, length-drop}
+use Rattle.odata_text.specs.Lengths.{IsReach}
+use Rattle.odata_text.specs.Sequence.{FollowedBy}
+
+-- a length measured by one spelling is that of an equal one
+pub reach-as : (P Q : List ℕ → Type 0) (n : ℕ) (rest : List ℕ) → ((xs : List ℕ) → P xs → Q xs) → ((xs : List ℕ) → Q xs → P xs) → IsReach P n rest → IsReach Q n rest
+reach-as P Q n rest to from reach = record {
+  within = reach.within;
+  found = λ positive. to (take n rest) (reach.found positive);
+  reaches = λ m inside spelled. reach.reaches m inside (from (take m rest) spelled);
+}
+
+-- the two pieces at the front of a text
+pub record IsPairAt (A B : List ℕ → Type 0) (rest : List ℕ) (m : ℕ) : Type 0 where
+  pub first : ℕ
+  pub second : ℕ
+  pub size : m ≡ first + second
+  pub is_first : A (take first rest)
+  pub is_second : B (take second (drop first rest))
+
+pub pair_at : (A B : List ℕ → Type 0) (rest : List ℕ) (m : ℕ) → m ≤ length rest → FollowedBy A B (take m rest) → IsPairAt A B rest m
+pair_at A B rest m inside pair =
+    let k = length pair.front in
+    let j = length pair.back in
+    let size : length (take m rest) ≡ m = length-take-le m rest inside in
+    let sum : k + j ≡ m = sym (length-append pair.front pair.back) ∙ sym (ap length pair.whole) ∙ size in
+    let front : take k rest ≡ pair.front = sym (take-take k m rest (omega arith)) ∙ ap (take k) pair.whole ∙ take_at pair.front pair.back k refl in
+    let back : take j (drop k rest) ≡ pair.back = sym (drop-take k j rest) ∙ ap (λ (n : ℕ). drop k (take n rest)) sum ∙ ap (drop k) pair.whole ∙ drop_at pair.front pair.back k refl in
+    record {
+      first = k;
+      second = j;
+      size = sym sum;
+      is_first = subst A (sym front) pair.is_front;
+      is_second = subst B (sym back) pair.is_back;
+    }
+
+pub pair-found : (A B : List ℕ → Type 0) (rest : List ℕ) (a b : ℕ) → A (take a rest) → B (take b (drop a rest)) → FollowedBy A B (take (a + b) rest)
+pair-found A B rest a b first second = record {
+  front = take a rest;
+  back = take b (drop a rest);
+  whole = sym (take-append-drop a (take (a + b) rest)) ∙ ap (λ (xs : List ℕ). xs ++ drop a (take (a + b) rest)) (take-take a (a + b) rest (omega arith)) ∙ ap (λ (xs : List ℕ). take a rest ++ xs) (drop-take a b rest);
+  is_front = first;
+  is_back = second;
+}
+
+-- a first piece that a second follows is the longest there is
+pub record IsExact (A B : List ℕ → Type 0) (a : ℕ) (rest : List ℕ) : Type 0 where
+  pub exact : (k m : ℕ) → k + m ≤ length rest → A (take k rest) → B (take m (drop k rest)) → k ≡ a
+
+pub exact-by_length : (A B : List ℕ → Type 0) (a : ℕ) (rest : List ℕ) → ((xs : List ℕ) → A xs → length xs ≡ a) → IsExact A B a rest
+exact-by_length A B a rest sized = record {
+  exact = λ k m inside first second. sym (length-take-le k rest (omega arith)) ∙ sized (take k rest) first;
+}
+
+-- the first byte of a second piece stands nowhere in a first
+pub exact-by_byte : (A B : List ℕ → Type 0) (Starts : ℕ → Type 0) (a : ℕ) (rest : List ℕ) → IsReach A a rest
+    → ((xs : List ℕ) → A xs → (i : ℕ) → i < length xs → Starts (get_or xs i 0) → ⊥)
+    → ((ys : List ℕ) → B ys → (0 < length ys) × Starts (get_or ys 0 0))
+    → IsExact A B a rest
+exact-by_byte A B Starts a rest reach never starts = record {
+  exact = λ k m inside first second.
+      let most = reach.reaches k (omega arith) first in
+      let within = reach.within in
+      let start = starts (take m (drop k rest)) second in
+      let nonempty = start.0 in
+      let room = length-drop k rest in
+      let size = length-take-le m (drop k rest) (omega arith) in
+      ⊎_elim
+      (λ below.
+      let byte : get_or (take m (drop k rest)) 0 0 ≡ get_or (take a rest) k 0 =
+      get_or-take m (drop k rest) 0 0 (omega arith) ∙ get_or-drop k rest 0 0 ∙ ap (λ (i : ℕ). get_or rest i 0) (add-zero k) ∙ sym (get_or-take a rest k 0 below) in
+      let whole = length-take-le a rest within in
+      absurd (never (take a rest) (reach.found (omega arith)) k (omega arith) (subst Starts byte start.1)))
+      (λ reached. omega arith)
+      (cases_lt k a);
+}
+
+-- no first piece
+pub followed-no_first : (A B : List ℕ → Type 0) (rest : List ℕ) → (A [] → ⊥) → IsReach A 0 rest → IsReach (FollowedBy A B) 0 rest
+followed-no_first A B rest nonempty reach = record {
+  within = omega arith;
+  found = λ positive. absurd (omega arith);
+  reaches = λ m inside pair.
+      let at_front = pair_at A B rest m inside pair in
+      let size = at_front.size in
+      let most = reach.reaches at_front.first (omega arith) at_front.is_first in
+      let none : at_front.first ≡ 0 = omega arith in
+      absurd (nonempty (subst (λ (k : ℕ). A (take k rest)) none at_front.is_first));
+}
+
+-- no second piece behind the first
+pub followed-no_second : (A B : List ℕ → Type 0) (rest : List ℕ) (a : ℕ) → (B [] → ⊥) → IsExact A B a rest → IsReach B 0 (drop a rest) → IsReach (FollowedBy A B) 0 rest
+followed-no_second A B rest a nonempty exact reach = record {
+  within = omega arith;
+  found = λ positive. absurd (omega arith);
+  reaches = λ m inside pair.
+      let at_front = pair_at A B rest m inside pair in
+      let size = at_front.size in
+      let j = at_front.second in
+      let here = exact.exact at_front.first j (omega arith) at_front.is_first at_front.is_second in
+      let second : B (take j (drop a rest)) = subst (λ (k : ℕ). B (take j (drop k rest))) here at_front.is_second in
+      let room = length-drop a rest in
+      let most = reach.reaches j (omega arith) second in
+      let none : j ≡ 0 = omega arith in
+      absurd (nonempty (subst (λ (k : ℕ). B (take k (drop a rest))) none second));
+}
+
+-- both
+pub followed-both : (A B : List ℕ → Type 0) (rest : List ℕ) (a b : ℕ) → A (take a rest) → B (take b (drop a rest)) → a ≤ length rest → IsExact A B a rest → IsReach B b (drop a rest) → IsReach (FollowedBy A B) (a + b) rest
+followed-both A B rest a b first second inside exact reach =
+    let room = length-drop a rest in
+    let within = reach.within in
+    record {
+      within = omega arith;
+      found = λ positive. pair-found A B rest a b first second;
+      reaches = λ m inside pair.
+          let at_front = pair_at A B rest m inside pair in
+          let size = at_front.size in
+          let j = at_front.second in
+          let here = exact.exact at_front.first j (omega arith) at_front.is_first at_front.is_second in
+          let most = reach.reaches j (omega arith) (subst (λ (k : ℕ). B (take j (drop k rest))) here at_front.is_second) in
+          omega arith;
+    }
+
+-- The same, as the code measures: a second piece in what is left behind the first.
+
+pub measured-no_first : (A B : List ℕ → Type 0) (rest : List ℕ) (a : ℕ) → (A [] → ⊥) → IsReach A a rest → a ≡ 0 → IsReach (FollowedBy A B) 0 rest
+measured-no_first A B rest a nonempty reach none = followed-no_first A B rest nonempty (subst (λ (n : ℕ). IsReach A n rest) none reach)
+
+pub measured-no_second : (A B : List ℕ → Type 0) (rest left : List ℕ) (a b : ℕ) → left ≡ drop a rest → (B [] → ⊥) → IsExact A B a rest → IsReach B b left → b ≡ 0 → IsReach (FollowedBy A B) 0 rest
+measured-no_second A B rest left a b behind nonempty exact reach none =
+    followed-no_second A B rest a nonempty exact (subst (IsReach B 0) behind (subst (λ (n : ℕ). IsReach B n left) none reach))
+
+pub measured-both : (A B : List ℕ → Type 0) (rest left : List ℕ) (a b : ℕ) → left ≡ drop a rest → IsExact A B a rest → IsReach A a rest → IsReach B b left → 0 < a → 0 < b → IsReach (FollowedBy A B) (a + b) rest
+measured-both A B rest left a b behind exact first second some some_more =
+    let reach = subst (IsReach B b) behind second in
+    followed-both A B rest a b (first.found some) (reach.found some_more) first.within exact reach
