@@ -1,4 +1,5 @@
 pub mod ByteClasses
+pub mod Decimals
 pub mod Examples
 pub mod Guids
 pub mod Identifiers
@@ -12,3 +13,4 @@ pub mod Quotes
 pub mod Reaches
 pub mod Scans
 pub mod Sequences
+pub mod Times

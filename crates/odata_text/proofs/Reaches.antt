@@ -81,6 +81,13 @@ numeral-reaches rest m inside numeral =
     let taken : length (take m rest) ≡ m = length-take-le m rest inside in
     prefix_len-reaches is_ascii_digit rest m inside (λ k below. ap is_ascii_digit (sym (get_or-take m rest k 0 below)) ∙ digit_test _ (digit_at (take m rest) k numeral.1 (omega arith)))
 
+pub digits-reach : (rest : List ℕ) → IsReach (IsNumeral 10) (prefix_len is_ascii_digit rest) rest
+digits-reach rest = record {
+  within = prefix_len-le-length is_ascii_digit rest;
+  found = λ positive. numeral-found rest (prefix_len is_ascii_digit rest) (omega arith) positive;
+  reaches = λ m inside numeral. numeral-reaches rest m inside numeral;
+}
+
 -- a whole number is a numeral behind its sign
 pub numeral-from_int : (xs : List ℕ) → IsIntSpelling xs → IsNumeral 10 (drop (sign_length xs) xs)
 numeral-from_int [] int = absurd int.1

@@ -1,6 +1,6 @@
 -- The length of a piece that is made of two, from the lengths of these.
-use Rattle.std.proofs.Common.{◌≡◌, ⊎_elim, ℕ, ◌+◌, ◌<◌, ◌≤◌, List, [], ◌++◌, length, get_or, take, drop, arith, refl, sym, ◌∙◌, ap, subst, length-append, add-zero}
-use Rattle.std.proofs.lemmas.Bool.{cases_lt}
+use Rattle.std.proofs.Common.{◌≡◌, ◌⊎◌, inl, inr, ⊎_elim, ℕ, ◌+◌, ◌<◌, ◌≤◌, List, [], ◌∷◌, ◌++◌, length, get_or, take, drop, arith, refl, sym, ◌∙◌, ap, subst, length-append, add-zero}
+use Rattle.std.proofs.lemmas.Bool.{cases_eq, cases_lt}
 use Rattle.std.proofs.lemmas.List.{take_at, drop_at, drop-take, take-take, take-append-drop, get_or-take, get_or-drop, length-take-le, length-drop}
 use Rattle.odata_text.specs.Lengths.{IsReach}
 use Rattle.odata_text.specs.Sequence.{FollowedBy}
@@ -138,3 +138,41 @@ pub measured-both : (A B : List ℕ → Type 0) (rest left : List ℕ) (a b : �
 measured-both A B rest left a b behind exact first second some some_more =
     let reach = subst (IsReach B b) behind second in
     followed-both A B rest a b (first.found some) (reach.found some_more) first.within exact reach
+
+-- Nothing, or a piece.
+
+abbrev pub Perhaps : (List ℕ → Type 0) → List ℕ → Type 0
+Perhaps P xs = (xs ≡ []) ⊎ P xs
+
+pub perhaps-found : (P : List ℕ → Type 0) (n : ℕ) (rest : List ℕ) → IsReach P n rest → Perhaps P (take n rest)
+perhaps-found P n rest reach =
+    ⊎_elim
+    (λ none. inl (ap (λ (k : ℕ). take k rest) none))
+    (λ some. let positive : 0 < n = omega arith in inr (reach.found positive))
+    (cases_eq n 0)
+
+pub perhaps-reach : (P : List ℕ → Type 0) (n : ℕ) (rest : List ℕ) → IsReach P n rest → IsReach (Perhaps P) n rest
+perhaps-reach P n rest reach = record {
+  within = reach.within;
+  found = λ positive. inr (reach.found positive);
+  reaches = λ m inside spelled. ⊎_elim
+      (λ none. let size = length-take-le m rest inside in let empty = ap length none in omega arith)
+      (λ some. reach.reaches m inside some)
+      spelled;
+}
+
+-- One of two.
+
+pub either-first : (P Q : List ℕ → Type 0) (n : ℕ) (rest : List ℕ) → IsReach P n rest → ((m : ℕ) → m ≤ length rest → Q (take m rest) → ⊥) → IsReach (λ xs. P xs ⊎ Q xs) n rest
+either-first P Q n rest reach never = record {
+  within = reach.within;
+  found = λ positive. inl (reach.found positive);
+  reaches = λ m inside spelled. ⊎_elim (λ first. reach.reaches m inside first) (λ second. absurd (never m inside second)) spelled;
+}
+
+pub either-second : (P Q : List ℕ → Type 0) (n : ℕ) (rest : List ℕ) → IsReach P 0 rest → IsReach Q n rest → IsReach (λ xs. P xs ⊎ Q xs) n rest
+either-second P Q n rest none reach = record {
+  within = reach.within;
+  found = λ positive. inr (reach.found positive);
+  reaches = λ m inside spelled. ⊎_elim (λ first. let most = none.reaches m inside first in omega arith) (λ second. reach.reaches m inside second) spelled;
+}

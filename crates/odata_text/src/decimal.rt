@@ -1,4 +1,6 @@
-ghost use Rattle.std.specs.Str.Parse.{IsNumeral};
+ghost use Rattle.std.specs.Prelude.{◌≡◌, ◌≤◌, length};
+ghost use Rattle.std.specs.Char.{is_ascii_digit};
+ghost use Rattle.std.specs.List.{prefix_len};
 ghost use Rattle.odata_text.specs.LeftOut.{IsDecimalSpelling, IsDecimals, IsExponent, IsFraction};
 ghost use Rattle.odata_text.specs.Lengths.{IsReach};
 
@@ -6,8 +8,9 @@ use super::byte_test::{ByteTest, pattern_length};
 use super::lengths::int_length;
 
 /// How many bytes the digits at the front take.
-fn numeral_length(rest: &[u8]) -> usize
-    ensures { IsReach (IsNumeral 10) result rest.now }
+fn digit_run(rest: &[u8]) -> usize
+    ensures value { result ≡ prefix_len is_ascii_digit rest.now }
+    ensures within { result ≤ length rest.now }
 {
     rest.iter().take_while(|byte| byte.is_ascii_digit()).count()
 }
@@ -18,7 +21,7 @@ pub fn fraction_length(rest: &[u8]) -> usize
 {
     match pattern_length(&[ByteTest::Dot], rest) {
         0 => 0,
-        dot => match numeral_length(&rest[dot..]) {
+        dot => match digit_run(&rest[dot..]) {
             0 => 0,
             digits => dot + digits,
         },
