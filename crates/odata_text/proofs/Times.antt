@@ -4,18 +4,19 @@ use Rattle.std.specs.Char.{is_ascii_digit}
 use Rattle.std.specs.Int.{IsInRange}
 use Rattle.std.specs.Str.Parse.{IsNumeral}
 use Rattle.std.proofs.lemmas.Bool.Decides.{nat_tests}
+use Rattle.std.proofs.lemmas.List.{get_or-take, length-take-le}
 use Rattle.std.proofs.lemmas.Slice.Eq.{text_from_reads}
 use Rattle.std.proofs.lemmas.Str.Parse.{digit_at}
 use Rattle.edm_values.specs.DateLiteral.{IsDateSpelling, date_text, two_digits}
 use Rattle.edm_values.specs.MomentLiteral.{IsClockSpelling, IsMomentSpelling, IsOffsetSpelling, IsSecondsSpelling, clock_text}
-use Rattle.odata_text.specs.LeftOut.{IsFraction}
+use Rattle.odata_text.specs.LeftOut.{IsFraction, IsTimeOfDaySpelling}
 use Rattle.odata_text.specs.Lengths.{IsReach}
 use Rattle.odata_text.specs.Patterns.{Fits, IsMarkedClock, IsTimed, IsZoned, passes}
 use Rattle.odata_text.specs.Sequence.{FollowedBy}
 use Rattle.odata_text.specs.declared.byte_test.ByteTest.{ByteTest}
 use Rattle.odata_text.specs.declared.byte_test.ByteTest.TheVariants.{Digit, Hyphen, Colon, Sign, TimeMark, OffsetMark}
-use Rattle.odata_text.proofs.Patterns.{fits-at, fits-length}
-use Rattle.odata_text.proofs.Sequences.{IsExact, Perhaps, either-first, either-second, exact-by_byte, exact-by_length, perhaps-found, perhaps-reach, reach-as}
+use Rattle.odata_text.proofs.Patterns.{fits-at, fits-exact, fits-length, fits-nonempty}
+use Rattle.odata_text.proofs.Sequences.{IsExact, Perhaps, either-first, either-second, exact-by_byte, exact-by_length, followed-both, measured-no_first, perhaps-found, perhaps-reach, reach-as}
 
 -- Two digits.
 
@@ -229,6 +230,155 @@ offset-fits xs (inr (inr (sign, clock, is_sign, is_clock, whole))) =
     inr (subst (Fits (Sign ∷ clock_pattern)) (sym whole) (⊎_elim (λ plus. ap (passes Sign) plus) (λ minus. ap (passes Sign) minus) is_sign, fits-clock clock is_clock))
 
 -- no byte is a mark and a sign
-offset-apart : (rest : List ℕ) (n m : ℕ) → Fits (OffsetMark ∷ []) (take n rest) → Fits (Sign ∷ clock_pattern) (take m rest) → ⊥
-offset-apart [] n m mark ahead = let empty = length-take m {[]} in absurd (omega arith)
-offset-apart (b ∷ rest) n m mark ahead = ?
+offset-apart : (rest : List ℕ) (n m : ℕ) → 0 < n → m ≤ length rest → Fits (OffsetMark ∷ []) (take n rest) → Fits (Sign ∷ clock_pattern) (take m rest) → ⊥
+offset-apart rest n m some inside mark ahead =
+    let size = fits-length (Sign ∷ clock_pattern) (take m rest) ahead in
+    let taken = length-take-le m rest inside in
+    let some_more : 0 < m = omega arith in
+    apart (get_or rest 0 0)
+    (sym (ap (passes OffsetMark) (get_or-take n rest 0 0 some)) ∙ fits-at (OffsetMark ∷ []) (take n rest) mark 0 Digit (omega arith))
+    (sym (ap (passes Sign) (get_or-take m rest 0 0 some_more)) ∙ fits-at (Sign ∷ clock_pattern) (take m rest) ahead 0 Digit (omega arith))
+  where
+    apart : (b : ℕ) → passes OffsetMark b ≡ true → passes Sign b ≡ true → ⊥
+    apart b mark sign = grind (arith, nat_tests)
+
+pub offset-reach : (n : ℕ) (rest : List ℕ) → IsReach IsOffset n rest → IsReach IsOffsetSpelling n rest
+offset-reach n rest reach = reach-as IsOffset IsOffsetSpelling n rest offset-spelled offset-fits reach
+
+pub offset-by_mark : (n : ℕ) (rest : List ℕ) → 0 < n → IsReach (Fits (OffsetMark ∷ [])) n rest → IsReach IsOffsetSpelling n rest
+offset-by_mark n rest some mark =
+    offset-reach n rest (either-first (Fits (OffsetMark ∷ [])) (Fits (Sign ∷ clock_pattern)) n rest mark (λ m inside ahead. offset-apart rest n m some inside (mark.found some) ahead))
+
+pub offset-ahead : (n mark : ℕ) (rest : List ℕ) → IsReach (Fits (OffsetMark ∷ [])) mark rest → mark ≡ 0 → IsReach (Fits (Sign ∷ clock_pattern)) n rest → IsReach IsOffsetSpelling n rest
+offset-ahead n mark rest none is ahead =
+    offset-reach n rest (either-second (Fits (OffsetMark ∷ [])) (Fits (Sign ∷ clock_pattern)) n rest (subst (λ (k : ℕ). IsReach (Fits (OffsetMark ∷ [])) k rest) is none) ahead)
+
+-- `Z`, `z` or a sign
+abbrev pub IsOffsetStart : ℕ → Type 0
+IsOffsetStart b = ((b ≡ 90) ⊎ (b ≡ 122)) ⊎ ((b ≡ 43) ⊎ (b ≡ 45))
+
+pub offset-starts : (xs : List ℕ) → IsOffsetSpelling xs → (0 < length xs) × IsOffsetStart (get_or xs 0 0)
+offset-starts xs (inl big) = (omega (arith, ap length big), inl (inl (ap (λ (ys : List ℕ). get_or ys 0 0) big)))
+offset-starts xs (inr (inl small)) = (omega (arith, ap length small), inl (inr (ap (λ (ys : List ℕ). get_or ys 0 0) small)))
+offset-starts xs (inr (inr (sign, clock, is_sign, is_clock, whole))) =
+    (omega (arith, ap length whole), inr (subst (λ (b : ℕ). (b ≡ 43) ⊎ (b ≡ 45)) (sym (ap (λ (ys : List ℕ). get_or ys 0 0) whole)) is_sign))
+
+pub offset-none : IsOffsetSpelling [] → ⊥
+offset-none offset = let some = (offset-starts [] offset).0 in absurd (omega arith)
+
+no_offset : (xs : List ℕ) → IsSecondsSpelling xs → (i : ℕ) → i < length xs → IsOffsetStart (get_or xs i 0) → ⊥
+no_offset xs seconds i inside start = apart (get_or xs i 0) (seconds-byte xs seconds i inside) start
+  where
+    apart : (b : ℕ) → IsSecondsByte b → IsOffsetStart b → ⊥
+    apart b byte start = grind arith
+
+pub seconds-exact : (n : ℕ) (rest : List ℕ) → IsReach IsSecondsSpelling n rest → IsExact IsSecondsSpelling IsOffsetSpelling n rest
+seconds-exact n rest reach = exact-by_byte IsSecondsSpelling IsOffsetSpelling IsOffsetStart n rest reach no_offset offset-starts
+
+-- Moments.
+
+pub zoned-none : IsZoned [] → ⊥
+zoned-none pair =
+    let some = (offset-starts pair.back pair.is_back).0 in
+    let size = ap length pair.whole ∙ length-append pair.front pair.back in
+    absurd (omega arith)
+
+pub timed-none : IsTimed [] → ⊥
+timed-none pair =
+    let marked = fits-length (TimeMark ∷ clock_pattern) pair.front (fits-marked pair.front pair.is_front) in
+    let size = ap length pair.whole ∙ length-append pair.front pair.back in
+    absurd (omega arith)
+
+pub date-length : (xs : List ℕ) → IsDateSpelling xs → length xs ≡ 10
+date-length xs date = fits-length date_pattern xs (fits-date xs date)
+
+pub date-none : IsDateSpelling [] → ⊥
+date-none date = let size = date-length [] date in absurd (omega arith)
+
+pub moment-from_parts : (xs : List ℕ) → FollowedBy IsDateSpelling IsTimed xs → IsMomentSpelling xs
+moment-from_parts xs pair = parts pair.front pair.back pair.whole pair.is_front pair.is_back.front pair.is_back.back pair.is_back.whole pair.is_back.is_front pair.is_back.is_back
+  where
+    parts : (date timed : List ℕ) → xs ≡ date ++ timed → IsDateSpelling date → (marked zoned : List ℕ) → timed ≡ marked ++ zoned → IsMarkedClock marked → IsZoned zoned → IsMomentSpelling xs
+    parts date timed whole is_date [] zoned timed_is is_marked is_zoned = absurd is_marked
+    parts date timed whole is_date (letter ∷ clock) zoned timed_is is_marked is_zoned = record {
+      date = date;
+      letter = letter;
+      clock = clock;
+      seconds = is_zoned.front;
+      offset = is_zoned.back;
+      spelled = whole ∙ ap (λ (ys : List ℕ). date ++ ys) (timed_is ∙ ap (λ (ys : List ℕ). (letter ∷ clock) ++ ys) is_zoned.whole)
+          ∙ sym (append_assoc date (letter ∷ clock) (is_zoned.front ++ is_zoned.back));
+      is_date = is_date;
+      is_letter = is_marked.0;
+      is_clock = is_marked.1;
+      is_seconds = is_zoned.is_front;
+      is_offset = is_zoned.is_back;
+    }
+
+pub parts-from_moment : (xs : List ℕ) → IsMomentSpelling xs → FollowedBy IsDateSpelling IsTimed xs
+parts-from_moment xs moment = record {
+  front = moment.date;
+  back = (moment.letter ∷ moment.clock) ++ (moment.seconds ++ moment.offset);
+  whole = moment.spelled ∙ append_assoc moment.date (moment.letter ∷ moment.clock) (moment.seconds ++ moment.offset);
+  is_front = moment.is_date;
+  is_back = record {
+    front = moment.letter ∷ moment.clock;
+    back = moment.seconds ++ moment.offset;
+    whole = refl;
+    is_front = (moment.is_letter, moment.is_clock);
+    is_back = record { front = moment.seconds; back = moment.offset; whole = refl; is_front = moment.is_seconds; is_back = moment.is_offset };
+  };
+}
+
+-- What the code measures: parts one behind another.
+
+pub seconds-by_parts : (rest left : List ℕ) (a b : ℕ) → left ≡ drop a rest → IsReach (Fits seconds_pattern) a rest → 0 < a → IsReach IsFraction b left → IsReach IsSecondsSpelling (a + b) rest
+seconds-by_parts rest left a b behind second some reach =
+    let fraction : IsReach IsFraction b (drop a rest) = subst (IsReach IsFraction b) behind reach in
+    seconds-reach (a + b) rest
+    (followed-both (Fits seconds_pattern) (Perhaps IsFraction) rest a b (second.found some) (perhaps-found IsFraction b (drop a rest) fraction) second.within
+    (fits-exact seconds_pattern (Perhaps IsFraction) a rest second some) (perhaps-reach IsFraction b (drop a rest) fraction))
+
+pub zoned-by_parts : (rest left : List ℕ) (a b : ℕ) → left ≡ drop a rest → IsReach IsSecondsSpelling a rest → IsReach IsOffsetSpelling b left → 0 < b → IsReach IsZoned (a + b) rest
+zoned-by_parts rest left a b behind seconds reach some =
+    let offset : IsReach IsOffsetSpelling b (drop a rest) = subst (IsReach IsOffsetSpelling b) behind reach in
+    followed-both IsSecondsSpelling IsOffsetSpelling rest a b (seconds-found a rest seconds) (offset.found some) seconds.within (seconds-exact a rest seconds) offset
+
+pub marked-reach : (n : ℕ) (rest : List ℕ) → IsReach (Fits (TimeMark ∷ clock_pattern)) n rest → IsReach IsMarkedClock n rest
+marked-reach n rest reach = reach-as (Fits (TimeMark ∷ clock_pattern)) IsMarkedClock n rest marked-fits fits-marked reach
+
+pub marked-none : IsMarkedClock [] → ⊥
+marked-none marked = marked
+
+-- a spelling that fits a pattern is as long wherever it stands
+exact-by_fits : (P B : List ℕ → Type 0) (tests : List ByteTest) (n : ℕ) (rest : List ℕ) → ((xs : List ℕ) → P xs → Fits tests xs) → IsReach P n rest → 0 < n → IsExact P B n rest
+exact-by_fits P B tests n rest fits reach some =
+    let within = reach.within in
+    let size = fits-length tests (take n rest) (fits (take n rest) (reach.found some)) in
+    let taken = length-take-le n rest within in
+    exact-by_length P B n rest (λ xs spelled. let here = fits-length tests xs (fits xs spelled) in omega arith)
+
+pub marked-exact : (n : ℕ) (rest : List ℕ) → IsReach IsMarkedClock n rest → 0 < n → IsExact IsMarkedClock IsZoned n rest
+marked-exact n rest reach some = exact-by_fits IsMarkedClock IsZoned (TimeMark ∷ clock_pattern) n rest fits-marked reach some
+
+pub date-exact : (n : ℕ) (rest : List ℕ) → IsReach IsDateSpelling n rest → 0 < n → IsExact IsDateSpelling IsTimed n rest
+date-exact n rest reach some = exact-by_fits IsDateSpelling IsTimed date_pattern n rest fits-date reach some
+
+pub moment-reach : (n : ℕ) (rest : List ℕ) → IsReach (FollowedBy IsDateSpelling IsTimed) n rest → IsReach IsMomentSpelling n rest
+moment-reach n rest reach = reach-as (FollowedBy IsDateSpelling IsTimed) IsMomentSpelling n rest moment-from_parts parts-from_moment reach
+
+clock-reach : (n : ℕ) (rest : List ℕ) → IsReach (Fits clock_pattern) n rest → IsReach IsClockSpelling n rest
+clock-reach n rest reach = reach-as (Fits clock_pattern) IsClockSpelling n rest clock-fits fits-clock reach
+
+clock-none : IsClockSpelling [] → ⊥
+clock-none clock = fits-nonempty Digit (Digit ∷ Colon ∷ Digit ∷ Digit ∷ []) (fits-clock [] clock)
+
+pub time_of_day-none : (rest : List ℕ) (a : ℕ) → IsReach (Fits clock_pattern) a rest → a ≡ 0 → IsReach IsTimeOfDaySpelling 0 rest
+time_of_day-none rest a reach none = measured-no_first IsClockSpelling IsSecondsSpelling rest a clock-none (clock-reach a rest reach) none
+
+pub time_of_day-by_parts : (rest left : List ℕ) (a b : ℕ) → left ≡ drop a rest → IsReach (Fits clock_pattern) a rest → 0 < a → IsReach IsSecondsSpelling b left → IsReach IsTimeOfDaySpelling (a + b) rest
+time_of_day-by_parts rest left a b behind reach some measured =
+    let clock = clock-reach a rest reach in
+    let seconds : IsReach IsSecondsSpelling b (drop a rest) = subst (IsReach IsSecondsSpelling b) behind measured in
+    followed-both IsClockSpelling IsSecondsSpelling rest a b (clock.found some) (seconds-found b (drop a rest) seconds) clock.within
+    (exact-by_fits IsClockSpelling IsSecondsSpelling clock_pattern a rest fits-clock clock some) seconds
