@@ -13,9 +13,8 @@ use Rattle.odata_text.specs.LeftOut.{IsDecimals, IsExponent, IsFraction}
 use Rattle.odata_text.specs.Lengths.{IsReach}
 use Rattle.odata_text.specs.Patterns.{Fits, passes}
 use Rattle.odata_text.specs.Sequence.{FollowedBy}
-use Rattle.odata_text.specs.declared.byte_test.ByteTest.{ByteTest}
 use Rattle.odata_text.specs.declared.byte_test.ByteTest.TheVariants.{Dot, PowerMark}
-use Rattle.odata_text.proofs.Patterns.{IsMarked, marked-from_pair, pair-from_marked}
+use Rattle.odata_text.proofs.Patterns.{marked-from_pair, pair-from_marked}
 use Rattle.odata_text.proofs.Reaches.{digits-reach}
 use Rattle.odata_text.proofs.Sequences.{IsExact, exact-by_byte, pair-found, pair_at}
 
@@ -98,13 +97,13 @@ int-byte [] int i inside = absurd int.1
 int-byte (c ∷ ds) int zero inside =
     elim int.1 [
       | inl plus ↦ inl (inl plus.0)
-      | inr other ↦ elim other [ | inl minus ↦ inl (inr minus.0) | inr plain ↦ numeral-byte (c ∷ ds) plain.0 0 inside ]
+      | inr other ↦ elim other [ inl minus ↦ inl (inr minus.0) | inr plain ↦ numeral-byte (c ∷ ds) plain.0 0 inside ]
     ]
 int-byte (c ∷ ds) int (suc i) inside =
     let below : i < length ds = omega arith in
     elim int.1 [
       | inl plus ↦ numeral-byte ds plus.1 i below
-      | inr other ↦ elim other [ | inl minus ↦ numeral-byte ds minus.1 i below | inr plain ↦ numeral-byte (c ∷ ds) plain.0 (suc i) inside ]
+      | inr other ↦ elim other [ inl minus ↦ numeral-byte ds minus.1 i below | inr plain ↦ numeral-byte (c ∷ ds) plain.0 (suc i) inside ]
     ]
 
 -- `e` or `E`
@@ -143,24 +142,24 @@ decimals-reach rest left f e behind fraction power =
       found = λ positive. ⊎_elim
           (λ none. let here : e ≡ f + e = omega arith in inr (inl (subst (λ (k : ℕ). IsExponent (take k rest)) here (subst (λ (k : ℕ). IsExponent (take e (drop k rest))) none (exponent.found (omega arith))))))
           (λ some. ⊎_elim
-              (λ alone. let here : f ≡ f + e = omega arith in inl (subst (λ (k : ℕ). IsFraction (take k rest)) here (fraction.found (omega arith))))
-              (λ both. inr (inr (pair-found IsFraction IsExponent rest f e (fraction.found (omega arith)) (exponent.found (omega arith)))))
-              (cases_eq e 0))
+          (λ alone. let here : f ≡ f + e = omega arith in inl (subst (λ (k : ℕ). IsFraction (take k rest)) here (fraction.found (omega arith))))
+          (λ both. inr (inr (pair-found IsFraction IsExponent rest f e (fraction.found (omega arith)) (exponent.found (omega arith)))))
+          (cases_eq e 0))
           (cases_eq f 0);
       reaches = λ m inside decimals. ⊎_elim
           (λ one. let most = fraction.reaches m inside one in omega arith)
           (λ more. ⊎_elim
-              (λ alone. ⊎_elim
-                  (λ none. let most = exponent.reaches m (omega arith) (subst (λ (k : ℕ). IsExponent (take m (drop k rest))) (sym none) alone) in omega arith)
-                  (λ some. absurd (apart m inside alone (omega arith)))
-                  (cases_eq f 0))
-              (λ pair.
-                  let parts = pair_at IsFraction IsExponent rest m inside pair in
-                  let size = parts.size in
-                  let here = exact.exact parts.first parts.second (omega arith) parts.is_first parts.is_second in
-                  let most = exponent.reaches parts.second (omega arith) (subst (λ (k : ℕ). IsExponent (take parts.second (drop k rest))) here parts.is_second) in
-                  omega arith)
-              more)
+          (λ alone. ⊎_elim
+          (λ none. let most = exponent.reaches m (omega arith) (subst (λ (k : ℕ). IsExponent (take m (drop k rest))) (sym none) alone) in omega arith)
+          (λ some. absurd (apart m inside alone (omega arith)))
+          (cases_eq f 0))
+          (λ pair.
+          let parts = pair_at IsFraction IsExponent rest m inside pair in
+          let size = parts.size in
+          let here = exact.exact parts.first parts.second (omega arith) parts.is_first parts.is_second in
+          let most = exponent.reaches parts.second (omega arith) (subst (λ (k : ℕ). IsExponent (take parts.second (drop k rest))) here parts.is_second) in
+          omega arith)
+          more)
           decimals;
     }
   where

@@ -5,9 +5,9 @@ use Rattle.std.specs.List.{list_all}
 use Rattle.std.proofs.lemmas.Bool.{and_from, and_parts, cond-true, eq-eqb, eqb-true}
 use Rattle.std.proofs.lemmas.Bool.Decides.{nat_tests}
 use Rattle.std.proofs.lemmas.Slice.Eq.{text_from_reads}
-use Rattle.uuid.specs.Text.{by_index, digits_of, has_hyphens, is_hex_digit, parsed_hyphenated, parsed_simple}
+use Rattle.uuid.specs.Text.{by_index, digits_of, has_hyphens, is_hex_digit, parsed_simple}
 use Rattle.edm_values.specs.GuidLiteral.{IsGuidSpelling}
-use Rattle.odata_text.specs.Patterns.{Fits, passes}
+use Rattle.odata_text.specs.Patterns.{Fits}
 use Rattle.odata_text.specs.declared.byte_test.ByteTest.{ByteTest}
 use Rattle.odata_text.specs.declared.byte_test.ByteTest.TheVariants.{HexDigit, Hyphen}
 use Rattle.odata_text.proofs.Patterns.{fits-at, fits-length}
@@ -41,10 +41,103 @@ bytes_of xs =
     get_or xs 31 0 ∷ get_or xs 32 0 ∷ get_or xs 33 0 ∷ get_or xs 34 0 ∷ get_or xs 35 0 ∷ []
 
 as_bytes : (xs : List ℕ) → length xs ≡ 36 → xs ≡ bytes_of xs
-as_bytes xs size = text_from_reads xs (bytes_of xs) size (
-    (refl, (refl, (refl, (refl, (refl, (refl, (refl, (refl, (refl, (refl, (refl, (refl, (refl, (refl, (refl, (refl,
-    (refl, (refl, (refl, (refl, (refl, (refl, (refl, (refl, (refl, (refl, (refl, (refl, (refl, (refl, (refl, (refl,
-    (refl, (refl, (refl, (refl, tt))))))))))))))))))))))))))))))))))))
+as_bytes xs size = text_from_reads xs (bytes_of xs) size ((
+  refl,
+  (
+    refl,
+    (
+      refl,
+      (
+        refl,
+        (
+          refl,
+          (
+            refl,
+            (
+              refl,
+              (
+                refl,
+                (
+                  refl,
+                  (
+                    refl,
+                    (
+                      refl,
+                      (
+                        refl,
+                        (
+                          refl,
+                          (
+                            refl,
+                            (
+                              refl,
+                              (
+                                refl,
+                                (
+                                  refl,
+                                  (
+                                    refl,
+                                    (
+                                      refl,
+                                      (
+                                        refl,
+                                        (
+                                          refl,
+                                          (
+                                            refl,
+                                            (
+                                              refl,
+                                              (
+                                                refl,
+                                                (
+                                                  refl,
+                                                  (
+                                                    refl,
+                                                    (
+                                                      refl,
+                                                      (
+                                                        refl,
+                                                        (
+                                                          refl,
+                                                          (
+                                                            refl,
+                                                            (
+                                                              refl,
+                                                              (
+                                                                refl,
+                                                                (refl, (refl, (refl, (refl, tt)))),
+                                                              ),
+                                                            ),
+                                                          ),
+                                                        ),
+                                                      ),
+                                                    ),
+                                                  ),
+                                                ),
+                                              ),
+                                            ),
+                                          ),
+                                        ),
+                                      ),
+                                    ),
+                                  ),
+                                ),
+                              ),
+                            ),
+                          ),
+                        ),
+                      ),
+                    ),
+                  ),
+                ),
+              ),
+            ),
+          ),
+        ),
+      ),
+    ),
+  ),
+)
     )
 
 list-at : (p : ℕ → Bool) (xs : List ℕ) → list_all p xs ≡ true → (i : ℕ) → i < length xs → p (get_or xs i 0) ≡ true
@@ -70,15 +163,115 @@ fits-guid xs guid =
     let digits = (and_parts (length (digits_of xs) == 32) (list_all is_hex_digit (digits_of xs)) inner.0).1 in
     let hyphens = four xs shape.1 in
     let h = λ (i : ℕ) (below : i < 32). hex (get_or (digits_of xs) i 0) (list-at is_hex_digit (digits_of xs) digits i below) in
-    subst (Fits guid_pattern) (sym (as_bytes xs size)) (
-    (h 0 (omega arith), (h 1 (omega arith), (h 2 (omega arith), (h 3 (omega arith), (h 4 (omega arith),
-    (h 5 (omega arith), (h 6 (omega arith), (h 7 (omega arith), (hyphens.0, (h 8 (omega arith), (h 9 (omega arith),
-    (h 10 (omega arith), (h 11 (omega arith), (hyphens.1, (h 12 (omega arith), (h 13 (omega arith),
-    (h 14 (omega arith), (h 15 (omega arith), (hyphens.2, (h 16 (omega arith), (h 17 (omega arith),
-    (h 18 (omega arith), (h 19 (omega arith), (hyphens.3, (h 20 (omega arith), (h 21 (omega arith),
-    (h 22 (omega arith), (h 23 (omega arith), (h 24 (omega arith), (h 25 (omega arith), (h 26 (omega arith),
-    (h 27 (omega arith), (h 28 (omega arith), (h 29 (omega arith), (h 30 (omega arith), (h 31 (omega arith),
-    tt))))))))))))))))))))))))))))))))))))
+    subst (Fits guid_pattern) (sym (as_bytes xs size)) ((
+      h 0 (omega arith),
+      (
+        h 1 (omega arith),
+        (
+          h 2 (omega arith),
+          (
+            h 3 (omega arith),
+            (
+              h 4 (omega arith),
+              (
+                h 5 (omega arith),
+                (
+                  h 6 (omega arith),
+                  (
+                    h 7 (omega arith),
+                    (
+                      hyphens.0,
+                      (
+                        h 8 (omega arith),
+                        (
+                          h 9 (omega arith),
+                          (
+                            h 10 (omega arith),
+                            (
+                              h 11 (omega arith),
+                              (
+                                hyphens.1,
+                                (
+                                  h 12 (omega arith),
+                                  (
+                                    h 13 (omega arith),
+                                    (
+                                      h 14 (omega arith),
+                                      (
+                                        h 15 (omega arith),
+                                        (
+                                          hyphens.2,
+                                          (
+                                            h 16 (omega arith),
+                                            (
+                                              h 17 (omega arith),
+                                              (
+                                                h 18 (omega arith),
+                                                (
+                                                  h 19 (omega arith),
+                                                  (
+                                                    hyphens.3,
+                                                    (
+                                                      h 20 (omega arith),
+                                                      (
+                                                        h 21 (omega arith),
+                                                        (
+                                                          h 22 (omega arith),
+                                                          (
+                                                            h 23 (omega arith),
+                                                            (
+                                                              h 24 (omega arith),
+                                                              (
+                                                                h 25 (omega arith),
+                                                                (
+                                                                  h 26 (omega arith),
+                                                                  (
+                                                                    h 27 (omega arith),
+                                                                    (
+                                                                      h 28 (omega arith),
+                                                                      (
+                                                                        h 29 (omega arith),
+                                                                        (
+                                                                          h 30 (omega arith),
+                                                                          (
+                                                                            h 31 (omega arith),
+                                                                            tt,
+                                                                          ),
+                                                                        ),
+                                                                      ),
+                                                                    ),
+                                                                  ),
+                                                                ),
+                                                              ),
+                                                            ),
+                                                          ),
+                                                        ),
+                                                      ),
+                                                    ),
+                                                  ),
+                                                ),
+                                              ),
+                                            ),
+                                          ),
+                                        ),
+                                      ),
+                                    ),
+                                  ),
+                                ),
+                              ),
+                            ),
+                          ),
+                        ),
+                      ),
+                    ),
+                  ),
+                ),
+              ),
+            ),
+          ),
+        ),
+      ),
+    )
     )
 
 -- one digit more in front of digits
@@ -111,6 +304,8 @@ guid-fits xs fits =
     more (get_or xs 32 0) _ (at 32 (omega arith)) (more (get_or xs 33 0) _ (at 33 (omega arith)) (
     more (get_or xs 34 0) _ (at 34 (omega arith)) (more (get_or xs 35 0) _ (at 35 (omega arith)) (
     refl)))))))))))))))))))))))))))))))) in
-    let inner : ((length (digits_of xs) == 32) && list_all is_hex_digit (digits_of xs)) ≡ true = digits in
-    (_, cond-true ((length xs == 36) && has_hyphens xs) (parsed_simple (digits_of xs)) None shape
-    ∙ cond-true ((length (digits_of xs) == 32) && list_all is_hex_digit (digits_of xs)) (Some _) None inner)
+    let inner : ((length (digits_of xs) == 32) && list_all is_hex_digit (digits_of xs)) ≡ true = digits in (
+      _,
+      cond-true ((length xs == 36) && has_hyphens xs) (parsed_simple (digits_of xs)) None shape
+          ∙ cond-true ((length (digits_of xs) == 32) && list_all is_hex_digit (digits_of xs)) (Some _) None inner,
+    )

@@ -64,9 +64,13 @@ clock-fits xs fits =
     let test = fits-at clock_pattern xs fits in
     let hour = two (get_or xs 0 0) (get_or xs 1 0) (test 0 Digit (omega arith)) (test 1 Digit (omega arith)) in
     let minute = two (get_or xs 3 0) (get_or xs 4 0) (test 3 Digit (omega arith)) (test 4 Digit (omega arith)) in
-    let colon : get_or xs 2 0 ≡ 58 = is_colon (get_or xs 2 0) (test 2 Digit (omega arith)) in
-    (hour.number, minute.number, hour.small, minute.small,
-    text_from_reads xs (clock_text hour.number minute.number) (fits-length clock_pattern xs fits) (hour.is_tens, (hour.is_units, (colon, (minute.is_tens, (minute.is_units, tt))))))
+    let colon : get_or xs 2 0 ≡ 58 = is_colon (get_or xs 2 0) (test 2 Digit (omega arith)) in (
+      hour.number,
+      minute.number,
+      hour.small,
+      minute.small,
+      text_from_reads xs (clock_text hour.number minute.number) (fits-length clock_pattern xs fits) (hour.is_tens, (hour.is_units, (colon, (minute.is_tens, (minute.is_units, tt))))),
+    )
   where
     is_colon : (b : ℕ) → passes Colon b ≡ true → b ≡ 58
     is_colon b e = grind (arith, nat_tests)
@@ -101,10 +105,16 @@ date-fits xs fits =
     let b2 : get_or xs 2 0 ≡ 48 + (100 * c + n) % 100 / 10 = year.is_tens ∙ sym (ap (λ (k : ℕ). 48 + k / 10) parts.1) in
     let b3 : get_or xs 3 0 ≡ 48 + (100 * c + n) % 100 % 10 = year.is_units ∙ sym (ap (λ (k : ℕ). 48 + k % 10) parts.1) in
     let small_c = century.small in
-    let small_n = year.small in
-    (100 * c + n, month.number, day.number, omega arith, month.small, day.small,
-    text_from_reads xs (date_text (100 * c + n) month.number day.number) (fits-length date_pattern xs fits)
-    (b0, (b1, (b2, (b3, (is_hyphen (get_or xs 4 0) (test 4 Digit (omega arith)), (month.is_tens, (month.is_units, (is_hyphen (get_or xs 7 0) (test 7 Digit (omega arith)), (day.is_tens, (day.is_units, tt)))))))))))
+    let small_n = year.small in (
+      100 * c + n,
+      month.number,
+      day.number,
+      omega arith,
+      month.small,
+      day.small,
+      text_from_reads xs (date_text (100 * c + n) month.number day.number) (fits-length date_pattern xs fits)
+          (b0, (b1, (b2, (b3, (is_hyphen (get_or xs 4 0) (test 4 Digit (omega arith)), (month.is_tens, (month.is_units, (is_hyphen (get_or xs 7 0) (test 7 Digit (omega arith)), (day.is_tens, (day.is_units, tt)))))))))),
+    )
   where
     is_hyphen : (b : ℕ) → passes Hyphen b ≡ true → b ≡ 45
     is_hyphen b e = grind (arith, nat_tests)
@@ -154,9 +164,11 @@ second-from_seconds xs (inr (n, small, inr (places, numeral, whole))) =
 second-number : (xs : List ℕ) → Fits seconds_pattern xs → (n : ℕ) × (n < 100) × (xs ≡ 58 ∷ two_digits n)
 second-number xs fits =
     let test = fits-at seconds_pattern xs fits in
-    let second = two (get_or xs 1 0) (get_or xs 2 0) (test 1 Digit (omega arith)) (test 2 Digit (omega arith)) in
-    (second.number, second.small,
-    text_from_reads xs (58 ∷ two_digits second.number) (fits-length seconds_pattern xs fits) (is_colon (get_or xs 0 0) (test 0 Digit (omega arith)), (second.is_tens, (second.is_units, tt))))
+    let second = two (get_or xs 1 0) (get_or xs 2 0) (test 1 Digit (omega arith)) (test 2 Digit (omega arith)) in (
+      second.number,
+      second.small,
+      text_from_reads xs (58 ∷ two_digits second.number) (fits-length seconds_pattern xs fits) (is_colon (get_or xs 0 0) (test 0 Digit (omega arith)), (second.is_tens, (second.is_units, tt))),
+    )
   where
     is_colon : (b : ℕ) → passes Colon b ≡ true → b ≡ 58
     is_colon b e = grind (arith, nat_tests)

@@ -6,10 +6,10 @@ use super::byte_test::pattern_length;
 
 /// 8-4-4-4-12 digits.
 const GUID: [ByteTest; 36] = [
-    HexDigit, HexDigit, HexDigit, HexDigit, HexDigit, HexDigit, HexDigit, HexDigit, Hyphen, HexDigit, HexDigit,
-    HexDigit, HexDigit, Hyphen, HexDigit, HexDigit, HexDigit, HexDigit, Hyphen, HexDigit, HexDigit, HexDigit,
-    HexDigit, Hyphen, HexDigit, HexDigit, HexDigit, HexDigit, HexDigit, HexDigit, HexDigit, HexDigit, HexDigit,
-    HexDigit, HexDigit, HexDigit,
+    HexDigit, HexDigit, HexDigit, HexDigit, HexDigit, HexDigit, HexDigit, HexDigit, Hyphen,
+    HexDigit, HexDigit, HexDigit, HexDigit, Hyphen, HexDigit, HexDigit, HexDigit, HexDigit, Hyphen,
+    HexDigit, HexDigit, HexDigit, HexDigit, Hyphen, HexDigit, HexDigit, HexDigit, HexDigit,
+    HexDigit, HexDigit, HexDigit, HexDigit, HexDigit, HexDigit, HexDigit, HexDigit,
 ];
 
 /// How many bytes the Guid at the front takes, 0 if there is none.

@@ -9,7 +9,9 @@ use super::byte_test::pattern_length;
 use super::decimal::fraction_length;
 
 /// `YYYY-MM-DD`.
-const DATE: [ByteTest; 10] = [Digit, Digit, Digit, Digit, Hyphen, Digit, Digit, Hyphen, Digit, Digit];
+const DATE: [ByteTest; 10] = [
+    Digit, Digit, Digit, Digit, Hyphen, Digit, Digit, Hyphen, Digit, Digit,
+];
 
 /// `hh:mm`.
 const CLOCK: [ByteTest; 5] = [Digit, Digit, Colon, Digit, Digit];

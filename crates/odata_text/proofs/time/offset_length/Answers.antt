@@ -1,4 +1,4 @@
-use Rattle.std.proofs.Common.{ℕ, ◌<◌, arith}
+use Rattle.std.proofs.Common.{◌<◌, arith}
 use Rattle.odata_text.proofs.Times.{offset-ahead, offset-by_mark}
 use Rattle.odata_text.proofs.time.offset_length.Goals as goal
 

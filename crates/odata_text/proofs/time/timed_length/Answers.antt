@@ -1,4 +1,4 @@
-use Rattle.std.proofs.Common.{ℕ, ◌<◌, arith}
+use Rattle.std.proofs.Common.{◌<◌, arith}
 use Rattle.std.proofs.lemmas.List.{take_rest}
 use Rattle.odata_text.specs.Patterns.{IsMarkedClock, IsZoned}
 use Rattle.odata_text.proofs.Sequences.{measured-both, measured-no_first, measured-no_second}

@@ -1,4 +1,4 @@
-use Rattle.std.proofs.Common.{ℕ, ◌<◌, arith}
+use Rattle.std.proofs.Common.{◌<◌, arith}
 use Rattle.std.proofs.lemmas.List.{take_rest}
 use Rattle.edm_values.specs.MomentLiteral.{IsOffsetSpelling, IsSecondsSpelling}
 use Rattle.odata_text.proofs.Sequences.{measured-no_second}
