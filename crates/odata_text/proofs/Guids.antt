@@ -40,105 +40,16 @@ bytes_of xs =
     get_or xs 25 0 ∷ get_or xs 26 0 ∷ get_or xs 27 0 ∷ get_or xs 28 0 ∷ get_or xs 29 0 ∷ get_or xs 30 0 ∷
     get_or xs 31 0 ∷ get_or xs 32 0 ∷ get_or xs 33 0 ∷ get_or xs 34 0 ∷ get_or xs 35 0 ∷ []
 
+both : {A B : Type 0} → A → B → A × B
+both a b = (a, b)
+
 as_bytes : (xs : List ℕ) → length xs ≡ 36 → xs ≡ bytes_of xs
-as_bytes xs size = text_from_reads xs (bytes_of xs) size ((
-  refl,
-  (
-    refl,
-    (
-      refl,
-      (
-        refl,
-        (
-          refl,
-          (
-            refl,
-            (
-              refl,
-              (
-                refl,
-                (
-                  refl,
-                  (
-                    refl,
-                    (
-                      refl,
-                      (
-                        refl,
-                        (
-                          refl,
-                          (
-                            refl,
-                            (
-                              refl,
-                              (
-                                refl,
-                                (
-                                  refl,
-                                  (
-                                    refl,
-                                    (
-                                      refl,
-                                      (
-                                        refl,
-                                        (
-                                          refl,
-                                          (
-                                            refl,
-                                            (
-                                              refl,
-                                              (
-                                                refl,
-                                                (
-                                                  refl,
-                                                  (
-                                                    refl,
-                                                    (
-                                                      refl,
-                                                      (
-                                                        refl,
-                                                        (
-                                                          refl,
-                                                          (
-                                                            refl,
-                                                            (
-                                                              refl,
-                                                              (
-                                                                refl,
-                                                                (refl, (refl, (refl, (refl, tt)))),
-                                                              ),
-                                                            ),
-                                                          ),
-                                                        ),
-                                                      ),
-                                                    ),
-                                                  ),
-                                                ),
-                                              ),
-                                            ),
-                                          ),
-                                        ),
-                                      ),
-                                    ),
-                                  ),
-                                ),
-                              ),
-                            ),
-                          ),
-                        ),
-                      ),
-                    ),
-                  ),
-                ),
-              ),
-            ),
-          ),
-        ),
-      ),
-    ),
-  ),
-)
-    )
+as_bytes xs size =
+    text_from_reads xs (bytes_of xs) size
+    (both refl (both refl (both refl (both refl (both refl (both refl (both refl (both refl (both refl (both refl
+    (both refl (both refl (both refl (both refl (both refl (both refl (both refl (both refl (both refl (both refl
+    (both refl (both refl (both refl (both refl (both refl (both refl (both refl (both refl (both refl (both refl
+    (both refl (both refl (both refl (both refl (both refl (both refl tt))))))))))))))))))))))))))))))))))))
 
 list-at : (p : ℕ → Bool) (xs : List ℕ) → list_all p xs ≡ true → (i : ℕ) → i < length xs → p (get_or xs i 0) ≡ true
 list-at p [] all i below = absurd (omega arith)
@@ -163,116 +74,17 @@ fits-guid xs guid =
     let digits = (and_parts (length (digits_of xs) == 32) (list_all is_hex_digit (digits_of xs)) inner.0).1 in
     let hyphens = four xs shape.1 in
     let h = λ (i : ℕ) (below : i < 32). hex (get_or (digits_of xs) i 0) (list-at is_hex_digit (digits_of xs) digits i below) in
-    subst (Fits guid_pattern) (sym (as_bytes xs size)) ((
-      h 0 (omega arith),
-      (
-        h 1 (omega arith),
-        (
-          h 2 (omega arith),
-          (
-            h 3 (omega arith),
-            (
-              h 4 (omega arith),
-              (
-                h 5 (omega arith),
-                (
-                  h 6 (omega arith),
-                  (
-                    h 7 (omega arith),
-                    (
-                      hyphens.0,
-                      (
-                        h 8 (omega arith),
-                        (
-                          h 9 (omega arith),
-                          (
-                            h 10 (omega arith),
-                            (
-                              h 11 (omega arith),
-                              (
-                                hyphens.1,
-                                (
-                                  h 12 (omega arith),
-                                  (
-                                    h 13 (omega arith),
-                                    (
-                                      h 14 (omega arith),
-                                      (
-                                        h 15 (omega arith),
-                                        (
-                                          hyphens.2,
-                                          (
-                                            h 16 (omega arith),
-                                            (
-                                              h 17 (omega arith),
-                                              (
-                                                h 18 (omega arith),
-                                                (
-                                                  h 19 (omega arith),
-                                                  (
-                                                    hyphens.3,
-                                                    (
-                                                      h 20 (omega arith),
-                                                      (
-                                                        h 21 (omega arith),
-                                                        (
-                                                          h 22 (omega arith),
-                                                          (
-                                                            h 23 (omega arith),
-                                                            (
-                                                              h 24 (omega arith),
-                                                              (
-                                                                h 25 (omega arith),
-                                                                (
-                                                                  h 26 (omega arith),
-                                                                  (
-                                                                    h 27 (omega arith),
-                                                                    (
-                                                                      h 28 (omega arith),
-                                                                      (
-                                                                        h 29 (omega arith),
-                                                                        (
-                                                                          h 30 (omega arith),
-                                                                          (
-                                                                            h 31 (omega arith),
-                                                                            tt,
-                                                                          ),
-                                                                        ),
-                                                                      ),
-                                                                    ),
-                                                                  ),
-                                                                ),
-                                                              ),
-                                                            ),
-                                                          ),
-                                                        ),
-                                                      ),
-                                                    ),
-                                                  ),
-                                                ),
-                                              ),
-                                            ),
-                                          ),
-                                        ),
-                                      ),
-                                    ),
-                                  ),
-                                ),
-                              ),
-                            ),
-                          ),
-                        ),
-                      ),
-                    ),
-                  ),
-                ),
-              ),
-            ),
-          ),
-        ),
-      ),
-    )
-    )
+    subst (Fits guid_pattern) (sym (as_bytes xs size))
+    (both (h 0 (omega arith)) (both (h 1 (omega arith)) (both (h 2 (omega arith)) (both (h 3 (omega arith))
+    (both (h 4 (omega arith)) (both (h 5 (omega arith)) (both (h 6 (omega arith)) (both (h 7 (omega arith))
+    (both hyphens.0 (both (h 8 (omega arith)) (both (h 9 (omega arith)) (both (h 10 (omega arith))
+    (both (h 11 (omega arith)) (both hyphens.1 (both (h 12 (omega arith)) (both (h 13 (omega arith))
+    (both (h 14 (omega arith)) (both (h 15 (omega arith)) (both hyphens.2 (both (h 16 (omega arith))
+    (both (h 17 (omega arith)) (both (h 18 (omega arith)) (both (h 19 (omega arith)) (both hyphens.3
+    (both (h 20 (omega arith)) (both (h 21 (omega arith)) (both (h 22 (omega arith)) (both (h 23 (omega arith))
+    (both (h 24 (omega arith)) (both (h 25 (omega arith)) (both (h 26 (omega arith)) (both (h 27 (omega arith))
+    (both (h 28 (omega arith)) (both (h 29 (omega arith)) (both (h 30 (omega arith)) (both (h 31 (omega arith))
+    tt))))))))))))))))))))))))))))))))))))
 
 -- one digit more in front of digits
 more : (c : ℕ) (others : Bool) → is_ascii_hexdigit c ≡ true → others ≡ true → (is_hex_digit c && others) ≡ true

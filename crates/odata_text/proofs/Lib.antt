@@ -1,8 +1,11 @@
 pub mod ByteClasses
+pub mod DecimalBytes
 pub mod Decimals
 pub mod Examples
 pub mod Guids
 pub mod Identifiers
+pub mod LiteralForms
+pub mod LiteralStarts
 pub mod LongestPieces
 pub mod OneReading
 pub mod Patterns
