@@ -9,34 +9,37 @@ use Rattle.odata_text.specs.Spelling.{IsFormed}
 use Rattle.odata_text.specs.Tokens.{IsLongest, NoneSpelled}
 use Rattle.odata_text.specs.declared.form.Form.{Form}
 use Rattle.odata_text.specs.declared.form.Form.TheVariants.{Token, LeftOut}
-use Rattle.odata_text.specs.declared.form.LeftOutKind.TheVariants.{Quoted}
-use Rattle.odata_text.specs.declared.token.TokenKind.TheVariants.{Word, Dollar, Int, Str, EnumLit, Open, Close, Comma, Slash, Colon, Minus}
+use Rattle.odata_text.specs.declared.form.LeftOutKind.TheVariants.{Number, Clock, Quoted}
+use Rattle.odata_text.specs.declared.token.TokenKind.TheVariants.{Word, Dollar, Int, Date, Moment, Guid, Str, EnumLit, Open, Close, Comma, Slash, Colon, Minus}
 use Rattle.odata_text.proofs.Starts.{started}
 
--- the forms that have a spelling
+-- all forms
 abbrev pub forms : List Form
 forms =
-    Token Word ∷ Token Dollar ∷ Token Int ∷ Token Str ∷ Token EnumLit
+    Token Word ∷ Token Dollar ∷ Token Int ∷ Token Date ∷ Token Moment ∷ Token Guid ∷ Token Str ∷ Token EnumLit
     ∷ Token Open ∷ Token Close ∷ Token Comma ∷ Token Slash ∷ Token Colon ∷ Token Minus
-    ∷ LeftOut Quoted ∷ []
+    ∷ LeftOut Number ∷ LeftOut Clock ∷ LeftOut Quoted ∷ []
 
-pub has_form : (form : Form) (xs : List ℕ) → IsFormed form xs → Contains forms form
-has_form (Token Word) xs formed = (0, omega arith, refl)
-has_form (Token Dollar) xs formed = (1, omega arith, refl)
-has_form (Token Int) xs formed = (2, omega arith, refl)
-has_form (Token Str) xs formed = (3, omega arith, refl)
-has_form (Token EnumLit) xs formed = (4, omega arith, refl)
-has_form (Token Open) xs formed = (5, omega arith, refl)
-has_form (Token Close) xs formed = (6, omega arith, refl)
-has_form (Token Comma) xs formed = (7, omega arith, refl)
-has_form (Token Slash) xs formed = (8, omega arith, refl)
-has_form (Token Colon) xs formed = (9, omega arith, refl)
-has_form (Token Minus) xs formed = (10, omega arith, refl)
-has_form (Token _) xs formed = absurd formed
-has_form (LeftOut Quoted) xs formed = (11, omega arith, refl)
-has_form (LeftOut _) xs formed = absurd formed
+has_form : (form : Form) → Contains forms form
+has_form (Token Word) = (0, omega arith, refl)
+has_form (Token Dollar) = (1, omega arith, refl)
+has_form (Token Int) = (2, omega arith, refl)
+has_form (Token Date) = (3, omega arith, refl)
+has_form (Token Moment) = (4, omega arith, refl)
+has_form (Token Guid) = (5, omega arith, refl)
+has_form (Token Str) = (6, omega arith, refl)
+has_form (Token EnumLit) = (7, omega arith, refl)
+has_form (Token Open) = (8, omega arith, refl)
+has_form (Token Close) = (9, omega arith, refl)
+has_form (Token Comma) = (10, omega arith, refl)
+has_form (Token Slash) = (11, omega arith, refl)
+has_form (Token Colon) = (12, omega arith, refl)
+has_form (Token Minus) = (13, omega arith, refl)
+has_form (LeftOut Number) = (14, omega arith, refl)
+has_form (LeftOut Clock) = (15, omega arith, refl)
+has_form (LeftOut Quoted) = (16, omega arith, refl)
 
--- of each form that has a spelling a candidate, with the length of its longest spelling
+-- of each form a candidate, with the length of its longest spelling
 pub record AreCandidates (candidates : List (Form × ℕ)) (rest : List ℕ) : Type 0 where
   pub each : map (λ (candidate : Form × ℕ). candidate.0) candidates ≡ forms
   pub reaches : All (λ (candidate : Form × ℕ). IsReach (IsFormed candidate.0) candidate.1 rest) candidates
@@ -51,7 +54,7 @@ are-candidates rest lengths size reaches = record {
 spelled-within : (candidates : List (Form × ℕ)) (rest : List ℕ) (best : Form × ℕ) → AreCandidates candidates rest → All (λ (other : Form × ℕ). other.1 ≤ best.1) candidates
     → (form : Form) (m : ℕ) → m ≤ length rest → IsFormed form (take m rest) → m ≤ best.1
 spelled-within candidates rest best are most form m inside spelled =
-    let has = has_form form (take m rest) spelled in
+    let has = has_form form in
     let size = ap length are.each in
     let count = length-map candidates (λ (candidate : Form × ℕ). candidate.0) in
     let known = has.1 in

@@ -12,7 +12,8 @@ use Rattle.edm_values.specs.IntLiteral.{IsIntSpelling}
 use Rattle.edm_values.specs.StringLiteral.{doubled, IsStringSpelling}
 use Rattle.odata_text.specs.Lengths.{sign_length}
 use Rattle.odata_text.specs.Identifier.{IsIdentifier, identifier_run}
-use Rattle.odata_text.specs.Spelling.{FollowedBy, IsByte, Spells, joined}
+use Rattle.odata_text.specs.Sequence.{FollowedBy}
+use Rattle.odata_text.specs.Spelling.{IsByte, Spells, joined}
 use Rattle.odata_text.specs.Tokens.{IsGap, IsLongest, IsRunOn, is_undelimited}
 use Rattle.odata_text.specs.declared.byte_class.ByteClass.TheVariants.{Space, Other}
 use Rattle.odata_text.specs.declared.token.TokenKind.{TokenKind}

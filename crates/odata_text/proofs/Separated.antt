@@ -11,7 +11,8 @@ use Rattle.edm_values.specs.IntLiteral.{IsIntSpelling}
 use Rattle.edm_values.specs.StringLiteral.{IsStringSpelling}
 use Rattle.odata_text.specs.Identifier.{IsIdentifier}
 use Rattle.odata_text.specs.Printing.{MayFollow, is_separator, may_follow}
-use Rattle.odata_text.specs.Spelling.{FollowedBy, IsByte, IsDottedWord, IsFormed, IsLeftOutName, Spells}
+use Rattle.odata_text.specs.Sequence.{FollowedBy}
+use Rattle.odata_text.specs.Spelling.{IsByte, IsDottedWord, IsFormed, IsLeftOutName, Spells}
 use Rattle.odata_text.specs.Tokens.{IsLongest}
 use Rattle.odata_text.specs.declared.form.Form.{Form}
 use Rattle.odata_text.specs.declared.form.Form.TheVariants.{Token, LeftOut}

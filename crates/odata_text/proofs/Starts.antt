@@ -1,23 +1,32 @@
 -- The first byte of a piece.
 use Rattle.std.proofs.Common.{◌≡◌, inl, inr, ⊎_elim, ℕ, ◌<◌, ◌==◌, ◌||◌, nat_le, Bool, true, false, List, [], ◌∷◌, ◌++◌, length, get_or, arith, refl, sym, ◌∙◌, ap, subst, length-append}
-use Rattle.std.specs.Char.{is_ascii_alphabetic, is_ascii_digit}
+use Rattle.std.specs.Char.{is_ascii_alphabetic, is_ascii_digit, is_ascii_hexdigit}
 use Rattle.std.proofs.lemmas.Bool.{both_ways, cases_lt, or_left, or_right}
 use Rattle.std.proofs.lemmas.Bool.Decides.{nat_tests}
 use Rattle.std.proofs.Math.ListN.{get_or-append}
 use Rattle.std.proofs.lemmas.Str.Parse.{digit_at}
+use Rattle.edm_values.specs.DateLiteral.{IsDateSpelling}
+use Rattle.edm_values.specs.GuidLiteral.{IsGuidSpelling}
 use Rattle.edm_values.specs.IntLiteral.{IsIntSpelling}
+use Rattle.edm_values.specs.MomentLiteral.{IsMomentSpelling}
 use Rattle.edm_values.specs.StringLiteral.{IsStringSpelling}
 use Rattle.odata_text.specs.ByteClass.{class_of}
 use Rattle.odata_text.specs.Identifier.{IsIdentifier}
-use Rattle.odata_text.specs.Spelling.{FollowedBy, IsByte, IsDottedWord, IsFormed, IsLeftOutName, IsWord}
+use Rattle.odata_text.specs.LeftOut.{IsDecimalSpelling, IsTimeOfDaySpelling}
+use Rattle.odata_text.specs.Sequence.{FollowedBy}
+use Rattle.odata_text.specs.Spelling.{IsByte, IsDottedWord, IsFormed, IsLeftOutName, IsWord}
 use Rattle.odata_text.specs.declared.byte_class.ByteClass.TheVariants.{Space}
 use Rattle.odata_text.specs.declared.form.Form.{Form}
 use Rattle.odata_text.specs.declared.form.Form.TheVariants.{Token, LeftOut}
-use Rattle.odata_text.specs.declared.form.LeftOutKind.TheVariants.{Quoted}
+use Rattle.odata_text.specs.declared.form.LeftOutKind.TheVariants.{Number, Clock, Quoted}
 use Rattle.odata_text.specs.declared.token.TokenKind.{TokenKind}
-use Rattle.odata_text.specs.declared.token.TokenKind.TheVariants.{Word, Dollar, Int, Str, EnumLit, Open, Close, Comma, Slash, Colon, Minus}
+use Rattle.odata_text.specs.declared.token.TokenKind.TheVariants.{Word, Dollar, Int, Date, Moment, Guid, Str, EnumLit, Open, Close, Comma, Slash, Colon, Minus}
 use Rattle.odata_text.proofs.ByteClasses.{space-from_class}
 use Rattle.odata_text.proofs.IdentifierBytes.{identifier-first, identifier-nonempty, is_first_byte}
+use Rattle.odata_text.proofs.LiteralBytes.{digit-date, digit-guid, digit-moment, digit-time_of_day}
+use Rattle.odata_text.proofs.LiteralForms as literal
+use Rattle.odata_text.proofs.LiteralForms.{IsLiteral, Literal}
+use Rattle.odata_text.proofs.LiteralStarts.{literal-starts}
 use Rattle.odata_text.proofs.Names.{left_out-letters}
 use Rattle.odata_text.proofs.Reaches.{digit_test}
 use Rattle.odata_text.proofs.Words.{word-cases}
@@ -34,6 +43,9 @@ abbrev pub token_starts : TokenKind → ℕ → Bool
 token_starts Word b = is_word_start b
 token_starts Dollar b = b == 36
 token_starts Int b = is_int_start b
+token_starts Date b = is_ascii_digit b
+token_starts Moment b = is_ascii_digit b
+token_starts Guid b = is_ascii_hexdigit b
 token_starts Str b = b == 39
 token_starts EnumLit b = is_word_start b
 token_starts Open b = b == 40
@@ -42,12 +54,12 @@ token_starts Comma b = b == 44
 token_starts Slash b = b == 47
 token_starts Colon b = b == 58
 token_starts Minus b = b == 45
-token_starts _ b = false
 
 abbrev pub starts : Form → ℕ → Bool
 starts (Token kind) b = token_starts kind b
+starts (LeftOut Number) b = is_int_start b
+starts (LeftOut Clock) b = is_ascii_digit b
 starts (LeftOut Quoted) b = is_word_start b
-starts (LeftOut _) b = false
 
 pub record IsStarted (form : Form) (xs : List ℕ) : Type 0 where
   pub nonempty : 0 < length xs
@@ -115,10 +127,36 @@ started-named xs pair =
     let first = front-first xs pair.front pair.back pair.whole letters.nonempty in
     record { nonempty = first.0; first = ap is_word_start first.1 ∙ letter-start (get_or pair.front 0 0) (letters.letters 0 letters.nonempty) }
 
+-- literals
+
+literal-some : (xs : List ℕ) (kind : Literal) → IsLiteral kind xs → 0 < length xs
+literal-some xs kind literal = ⊎_elim (λ plain. plain.some) (λ guid. let long = guid.long in omega arith) (literal-starts kind xs literal)
+
+started-date : (xs : List ℕ) → IsDateSpelling xs → IsStarted (Token Date) xs
+started-date xs date = record { nonempty = literal-some xs literal.Date date; first = digit-date xs date }
+
+started-moment : (xs : List ℕ) → IsMomentSpelling xs → IsStarted (Token Moment) xs
+started-moment xs moment = record { nonempty = literal-some xs literal.Moment moment; first = digit-moment xs moment }
+
+started-guid : (xs : List ℕ) → IsGuidSpelling xs → IsStarted (Token Guid) xs
+started-guid xs guid = record { nonempty = literal-some xs literal.Guid guid; first = digit-guid xs guid }
+
+started-clock : (xs : List ℕ) → IsTimeOfDaySpelling xs → IsStarted (LeftOut Clock) xs
+started-clock xs clock = record { nonempty = literal-some xs literal.TimeOfDay clock; first = digit-time_of_day xs clock }
+
+started-number : (xs : List ℕ) → IsDecimalSpelling xs → IsStarted (LeftOut Number) xs
+started-number xs pair =
+    let front = started-int pair.front pair.is_front in
+    let first = front-first xs pair.front pair.back pair.whole front.nonempty in
+    record { nonempty = first.0; first = ap is_int_start first.1 ∙ front.first }
+
 pub started : (form : Form) (xs : List ℕ) → IsFormed form xs → IsStarted form xs
 started (Token Word) xs formed = started-word xs formed
 started (Token Dollar) xs formed = started-dollar xs formed
 started (Token Int) xs formed = started-int xs formed
+started (Token Date) xs formed = started-date xs formed
+started (Token Moment) xs formed = started-moment xs formed
+started (Token Guid) xs formed = started-guid xs formed
 started (Token Str) xs formed = started-str xs formed
 started (Token EnumLit) xs formed = started-enum xs formed
 started (Token Open) xs formed = subst (IsStarted (Token Open)) (sym formed) (record { nonempty = omega arith; first = refl })
@@ -127,9 +165,9 @@ started (Token Comma) xs formed = subst (IsStarted (Token Comma)) (sym formed) (
 started (Token Slash) xs formed = subst (IsStarted (Token Slash)) (sym formed) (record { nonempty = omega arith; first = refl })
 started (Token Colon) xs formed = subst (IsStarted (Token Colon)) (sym formed) (record { nonempty = omega arith; first = refl })
 started (Token Minus) xs formed = subst (IsStarted (Token Minus)) (sym formed) (record { nonempty = omega arith; first = refl })
-started (Token _) xs formed = absurd formed
+started (LeftOut Number) xs formed = started-number xs formed
+started (LeftOut Clock) xs formed = started-clock xs formed
 started (LeftOut Quoted) xs formed = started-named xs formed
-started (LeftOut _) xs formed = absurd formed
 
 -- no form starts with white space
 no_token_space : (kind : TokenKind) → (token_starts kind 32 ≡ false) × (token_starts kind 9 ≡ false)
@@ -138,7 +176,6 @@ no_token_space _ = (refl, refl)
 
 no_space : (form : Form) → (starts form 32 ≡ false) × (starts form 9 ≡ false)
 no_space (Token kind) = no_token_space kind
-no_space (LeftOut Quoted) = (refl, refl)
 no_space (LeftOut _) = (refl, refl)
 
 pub solid-start : (form : Form) (xs : List ℕ) → IsFormed form xs → class_of (get_or xs 0 0) ≡ Space → ⊥

@@ -8,7 +8,8 @@ use Rattle.std.proofs.lemmas.Bool.{cases_lt, cond-true, cond-false}
 use Rattle.std.proofs.lemmas.Bool.Decides.{nat_tests}
 use Rattle.edm_values.specs.StringLiteral.{IsStringSpelling}
 use Rattle.odata_text.specs.Identifier.{IsIdentifier}
-use Rattle.odata_text.specs.Spelling.{FollowedBy, IsDottedWord, IsLeftOutName, IsWord, joined}
+use Rattle.odata_text.specs.Sequence.{FollowedBy}
+use Rattle.odata_text.specs.Spelling.{IsDottedWord, IsLeftOutName, IsWord, joined}
 use Rattle.odata_text.specs.declared.form.Form.TheVariants.{Token, LeftOut}
 use Rattle.odata_text.specs.declared.form.LeftOutKind.TheVariants.{Quoted}
 use Rattle.odata_text.specs.declared.token.TokenKind.TheVariants.{Word, Str, EnumLit}

@@ -6,9 +6,10 @@ use Rattle.std.proofs.lemmas.List.{drop-drop, get_or-drop, get_or-take, length-d
 use Rattle.std.proofs.lemmas.Str.{IsCharBoundary-from_drop, IsUtf8-drop}
 use Rattle.odata_text.specs.Identifier.{IsIdentifier}
 use Rattle.odata_text.specs.Lengths.{IsReach}
-use Rattle.odata_text.specs.Spelling.{FollowedBy, IsByte, IsDottedWord, IsWord, joined}
+use Rattle.odata_text.specs.Sequence.{FollowedBy}
+use Rattle.odata_text.specs.Spelling.{IsByte, IsDottedWord, IsWord, joined}
 use Rattle.odata_text.proofs.IdentifierBytes.{identifier-byte, identifier-nonempty, is_name_byte}
-use Rattle.odata_text.proofs.Pairs.{exact-by_byte, pair-found, pair_at}
+use Rattle.odata_text.proofs.Sequences.{exact-by_byte, pair-found, pair_at}
 
 -- A word is one identifier, or one with a dot and a word behind it.
 

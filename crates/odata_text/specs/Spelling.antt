@@ -2,27 +2,24 @@
 use Rattle.std.specs.Prelude.{◌≡◌, ℕ, ◌<◌, ◌⊎◌, true, List, [], ◌∷◌, ◌++◌, codes, length}
 use Rattle.std.specs.List.{AllByRecursion as AllOf}
 use Rattle.std.specs.Str.{str_eq_ignore_ascii_case}
+use Rattle.edm_values.specs.DateLiteral.{IsDateSpelling}
+use Rattle.edm_values.specs.GuidLiteral.{IsGuidSpelling}
 use Rattle.edm_values.specs.IntLiteral.{IsIntSpelling}
+use Rattle.edm_values.specs.MomentLiteral.{IsMomentSpelling}
 use Rattle.edm_values.specs.StringLiteral.{IsStringSpelling}
 use Rattle.odata_text.specs.Identifier.{IsIdentifier}
+use Rattle.odata_text.specs.LeftOut.{IsDecimalSpelling, IsTimeOfDaySpelling}
+use Rattle.odata_text.specs.Sequence.{FollowedBy}
 use Rattle.odata_text.specs.declared.form.Form.{Form}
 use Rattle.odata_text.specs.declared.form.Form.TheVariants.{Token, LeftOut}
 use Rattle.odata_text.specs.declared.form.LeftOutKind.{LeftOutKind}
-use Rattle.odata_text.specs.declared.form.LeftOutKind.TheVariants.{Quoted}
+use Rattle.odata_text.specs.declared.form.LeftOutKind.TheVariants.{Number, Clock, Quoted}
 use Rattle.odata_text.specs.declared.token.TokenKind.{TokenKind}
-use Rattle.odata_text.specs.declared.token.TokenKind.TheVariants.{Word, Dollar, Int, Str, EnumLit, Open, Close, Comma, Slash, Colon, Minus}
+use Rattle.odata_text.specs.declared.token.TokenKind.TheVariants.{Word, Dollar, Int, Date, Moment, Guid, Str, EnumLit, Open, Close, Comma, Slash, Colon, Minus}
 
 -- this one byte
 abbrev pub IsByte : ℕ → List ℕ → Type 0
 IsByte b bytes = bytes ≡ b ∷ []
-
--- a piece of one spelling, and directly behind it a piece of another
-pub record FollowedBy (First Second : List ℕ → Type 0) (bytes : List ℕ) : Type 0 where
-  pub front : List ℕ
-  pub back : List ℕ
-  pub whole : bytes ≡ front ++ back
-  pub is_front : First front
-  pub is_back : Second back
 
 -- Words.
 
@@ -55,18 +52,22 @@ abbrev pub IsLeftOutName : List ℕ → Type 0
 IsLeftOutName bytes =
     IsNamed (codes "duration") bytes ⊎ (IsNamed (codes "binary") bytes ⊎ (IsNamed (codes "geography") bytes ⊎ IsNamed (codes "geometry") bytes))
 
--- such a name and a text in quotes; the other two have no spelling yet
+-- a number with a fraction or an exponent, a time of day, or such a name and a text in quotes
 abbrev pub SpellsLeftOut : LeftOutKind → List ℕ → Type 0
+SpellsLeftOut Number bytes = IsDecimalSpelling bytes
+SpellsLeftOut Clock bytes = IsTimeOfDaySpelling bytes
 SpellsLeftOut Quoted bytes = FollowedBy IsLeftOutName IsStringSpelling bytes
-SpellsLeftOut _ bytes = ⊥
 
 -- Tokens.
 
--- the bytes are spelled as a token of the kind; the kinds without a row have no spelling yet
+-- the bytes are spelled as a token of the kind
 abbrev pub Spells : TokenKind → List ℕ → Type 0
 Spells Word bytes = IsWord bytes
 Spells Dollar bytes = FollowedBy (IsByte 36) IsIdentifier bytes
 Spells Int bytes = IsIntSpelling bytes
+Spells Date bytes = IsDateSpelling bytes
+Spells Moment bytes = IsMomentSpelling bytes
+Spells Guid bytes = IsGuidSpelling bytes
 Spells Str bytes = IsStringSpelling bytes
 Spells EnumLit bytes = FollowedBy IsDottedWord IsStringSpelling bytes
 Spells Open bytes = IsByte 40 bytes
@@ -75,7 +76,6 @@ Spells Comma bytes = IsByte 44 bytes
 Spells Slash bytes = IsByte 47 bytes
 Spells Colon bytes = IsByte 58 bytes
 Spells Minus bytes = IsByte 45 bytes
-Spells _ bytes = ⊥
 
 -- the bytes are such a piece
 abbrev pub IsFormed : Form → List ℕ → Type 0

@@ -2,8 +2,11 @@
 #![tactic(auto)]
 
 mod byte_class;
+mod byte_test;
+mod decimal;
 mod fault;
 mod form;
+mod guid;
 mod identifier;
 mod laws;
 mod longest;
@@ -17,6 +20,7 @@ mod query_part;
 mod quoted;
 mod scan;
 mod span;
+mod time;
 mod token;
 mod word;
 

@@ -2,10 +2,13 @@ ghost use Rattle.std.specs.Prelude.{◌<◌, ◌≤◌, MatchOption, length};
 ghost use Rattle.std.specs.List.{All, Contains};
 ghost use Rattle.odata_text.specs.Tokens.{IsLongest, NoneSpelled};
 
+use super::decimal::decimal_length;
 use super::form::{Form, LeftOutKind};
+use super::guid::guid_length;
 use super::number::int_length;
 use super::pattern::byte_length;
 use super::quoted::string_length;
+use super::time::{date_length, moment_length, time_of_day_length};
 use super::token::TokenKind;
 use super::word::{dollar_length, enum_length, quoted_length, word_length};
 
@@ -33,6 +36,9 @@ pub fn longest(rest: &str) -> Option<(Form, usize)>
         (Form::Token(TokenKind::Word), word_length(rest)),
         (Form::Token(TokenKind::Dollar), dollar_length(rest)),
         (Form::Token(TokenKind::Int), int_length(bytes)),
+        (Form::Token(TokenKind::Date), date_length(bytes)),
+        (Form::Token(TokenKind::Moment), moment_length(bytes)),
+        (Form::Token(TokenKind::Guid), guid_length(bytes)),
         (Form::Token(TokenKind::Str), string_length(bytes)),
         (Form::Token(TokenKind::EnumLit), enum_length(rest)),
         (Form::Token(TokenKind::Open), byte_length(b'(', bytes)),
@@ -41,6 +47,8 @@ pub fn longest(rest: &str) -> Option<(Form, usize)>
         (Form::Token(TokenKind::Slash), byte_length(b'/', bytes)),
         (Form::Token(TokenKind::Colon), byte_length(b':', bytes)),
         (Form::Token(TokenKind::Minus), byte_length(b'-', bytes)),
+        (Form::LeftOut(LeftOutKind::Number), decimal_length(bytes)),
+        (Form::LeftOut(LeftOutKind::Clock), time_of_day_length(bytes)),
         (Form::LeftOut(LeftOutKind::Quoted), quoted_length(bytes)),
     ]);
     if best.1 == 0 {

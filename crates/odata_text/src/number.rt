@@ -4,7 +4,8 @@ ghost use Rattle.std.specs.List.{prefix_len};
 ghost use Rattle.edm_values.specs.IntLiteral.{IsIntSpelling};
 ghost use Rattle.odata_text.specs.Lengths.{IsReach, sign_length};
 
-fn digit_run(rest: &[u8]) -> usize
+/// How many bytes the digits at the front take.
+pub fn digit_run(rest: &[u8]) -> usize
     ensures value { result ≡ prefix_len is_ascii_digit rest.now }
     ensures within { result ≤ length rest.now }
 {

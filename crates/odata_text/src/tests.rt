@@ -1,4 +1,5 @@
 mod identifiers;
+mod literals;
 mod queries;
 
 use super::fault::TextFault;
@@ -77,6 +78,14 @@ fn single_tokens(rt: HostRuntime) -> Result<(), Fail> {
         ("$é", TokenKind::Dollar),
         ("a.é'x'", TokenKind::EnumLit),
         ("$it", TokenKind::Dollar),
+        ("2020-01-01", TokenKind::Date),
+        ("9999-99-99", TokenKind::Date),
+        ("2020-01-01T00:00+01:00", TokenKind::Moment),
+        ("2020-01-01t00:00z", TokenKind::Moment),
+        ("2020-01-01T23:59:60.1234567891-99:99", TokenKind::Moment),
+        ("abcdef01-89ab-cdef-0123-456789abcdef", TokenKind::Guid),
+        ("01234567-89AB-CDEF-0123-456789ABCDEF", TokenKind::Guid),
+        ("1234567e-1234-1234-1234-123456789012", TokenKind::Guid),
         ("+12", TokenKind::Int),
         ("-0", TokenKind::Int),
         ("''", TokenKind::Str),
@@ -107,6 +116,8 @@ fn tokens_side_by_side(rt: HostRuntime) -> Result<(), Fail> {
         (TokenKind::Word, 10, 11),
     ];
     assert!(rt; reads(rt.alloc(), "a.b'x'-1 -b", &enumeration));
+    let date_and_number = [(TokenKind::Date, 0, 10), (TokenKind::Int, 10, 12)];
+    assert!(rt; reads(rt.alloc(), "2020-01-01-1", &date_and_number));
     let word_and_text = [(TokenKind::Word, 0, 1), (TokenKind::Str, 1, 4)];
     assert!(rt; reads(rt.alloc(), "a'x'", &word_and_text));
     let call = [
@@ -179,6 +190,16 @@ fn no_tokens_begin(rt: HostRuntime) -> Result<(), Fail> {
 #[test]
 fn left_out_and_run_on(rt: HostRuntime) -> Result<(), Fail> {
     let left_out = [
+        ("Price gt 1.5", 9, 12),
+        ("1e5", 0, 3),
+        ("-1.5E+10", 0, 8),
+        ("1.5x", 0, 3),
+        ("1.5e", 0, 3),
+        ("1234567e-1234-1234-1234-1234567890", 0, 13),
+        ("12:30", 0, 5),
+        ("12:30:15.5", 0, 10),
+        ("12:345", 0, 5),
+        ("12:30:1", 0, 5),
         ("Name eq duration'PT1S'", 8, 22),
         ("duration'x''", 0, 11),
         ("BINARY''", 0, 8),
@@ -191,7 +212,16 @@ fn left_out_and_run_on(rt: HostRuntime) -> Result<(), Fail> {
         };
         assert!(rt; fault_of(rt.alloc(), text) == Some(fault));
     }
-    let run_on = [("1eq 1", 0, 3), ("1e", 0, 2), ("+1_", 0, 3), ("1é", 0, 3)];
+    let run_on = [
+        ("1eq 1", 0, 3),
+        ("1e", 0, 2),
+        ("+1_", 0, 3),
+        ("1é", 0, 3),
+        ("2020-01-011", 0, 11),
+        ("2020-01-01T00:00", 0, 13),
+        ("2020-01-01T00:00Zeit", 0, 20),
+        ("abcdef01-89ab-cdef-0123-456789abcdef0", 0, 37),
+    ];
     for (text, start, stop) in run_on {
         let fault = TextFault::RunOn {
             span: span(start, stop),

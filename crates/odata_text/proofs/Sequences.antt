@@ -1,10 +1,17 @@
 -- The length of a piece that is made of two, from the lengths of these.
-use Rattle.std.proofs.Common.{◌≡◌, ◌⊎◌, inl, inr, ⊎_elim, ℕ, ◌+◌, ◌-◌, ◌<◌, ◌≤◌, max, List, [], ◌++◌, length, get_or, take, drop, IsUtf8, IsCharBoundary, arith, refl, sym, ◌∙◌, ap, subst, length-append, add-zero}
-use Rattle.std.proofs.lemmas.Bool.{cases_lt}
-use Rattle.std.proofs.lemmas.List.{take_at, drop_at, drop-take, take-take, take-append-drop, get_or-take, get_or-drop, length-take-le, length-drop, take_rest}
-use Rattle.std.proofs.lemmas.Str.{IsCharBoundary-after_ascii}
+use Rattle.std.proofs.Common.{◌≡◌, ◌⊎◌, inl, inr, ⊎_elim, ℕ, ◌+◌, ◌<◌, ◌≤◌, List, [], ◌++◌, length, get_or, take, drop, arith, refl, sym, ◌∙◌, ap, subst, length-append, add-zero}
+use Rattle.std.proofs.lemmas.Bool.{cases_eq, cases_lt}
+use Rattle.std.proofs.lemmas.List.{take_at, drop_at, drop-take, take-take, take-append-drop, get_or-take, get_or-drop, length-take-le, length-drop}
 use Rattle.odata_text.specs.Lengths.{IsReach}
-use Rattle.odata_text.specs.Spelling.{FollowedBy, IsByte}
+use Rattle.odata_text.specs.Sequence.{FollowedBy}
+
+-- a length measured by one spelling is that of an equal one
+pub reach-as : (P Q : List ℕ → Type 0) (n : ℕ) (rest : List ℕ) → ((xs : List ℕ) → P xs → Q xs) → ((xs : List ℕ) → Q xs → P xs) → IsReach P n rest → IsReach Q n rest
+reach-as P Q n rest to from reach = record {
+  within = reach.within;
+  found = λ positive. to (take n rest) (reach.found positive);
+  reaches = λ m inside spelled. reach.reaches m inside (from (take m rest) spelled);
+}
 
 -- the two pieces at the front of a text
 pub record IsPairAt (A B : List ℕ → Type 0) (rest : List ℕ) (m : ℕ) : Type 0 where
@@ -132,59 +139,40 @@ measured-both A B rest left a b behind exact first second some some_more =
     let reach = subst (IsReach B b) behind second in
     followed-both A B rest a b (first.found some) (reach.found some_more) first.within exact reach
 
--- what is left of a text behind its first bytes
-pub left_of : (text bytes : List ℕ) (n : ℕ) → bytes ≡ text → take (length bytes - n) (drop n bytes) ≡ drop n text
-left_of text bytes n same = take_rest bytes n ∙ ap (drop n) same
+-- Nothing, or a piece.
 
--- the longer of two
-pub reach-either : (P Q : List ℕ → Type 0) (rest : List ℕ) (p q n : ℕ) → IsReach P p rest → IsReach Q q rest → n ≡ max p q → IsReach (λ xs. P xs ⊎ Q xs) n rest
-reach-either P Q rest p q n first second is =
-    let one = first.within in
-    let two = second.within in
+abbrev pub Perhaps : (List ℕ → Type 0) → List ℕ → Type 0
+Perhaps P xs = (xs ≡ []) ⊎ P xs
+
+pub perhaps-found : (P : List ℕ → Type 0) (n : ℕ) (rest : List ℕ) → IsReach P n rest → Perhaps P (take n rest)
+perhaps-found P n rest reach =
     ⊎_elim
-    (λ below. let here : q ≡ n = omega arith in subst (λ (k : ℕ). IsReach (λ xs. P xs ⊎ Q xs) k rest) here (record {
-      within = two;
-      found = λ positive. inr (second.found positive);
-      reaches = λ m inside spelled. ⊎_elim (λ left. let most = first.reaches m inside left in omega arith) (λ right. second.reaches m inside right) spelled;
-    }))
-    (λ above. let here : p ≡ n = omega arith in subst (λ (k : ℕ). IsReach (λ xs. P xs ⊎ Q xs) k rest) here (record {
-      within = one;
-      found = λ positive. inl (first.found positive);
-      reaches = λ m inside spelled. ⊎_elim (λ left. first.reaches m inside left) (λ right. let most = second.reaches m inside right in omega arith) spelled;
-    }))
-    (cases_lt p q)
+    (λ none. inl (ap (λ (k : ℕ). take k rest) none))
+    (λ some. let positive : 0 < n = omega arith in inr (reach.found positive))
+    (cases_eq n 0)
 
--- One byte.
+pub perhaps-reach : (P : List ℕ → Type 0) (n : ℕ) (rest : List ℕ) → IsReach P n rest → IsReach (Perhaps P) n rest
+perhaps-reach P n rest reach = record {
+  within = reach.within;
+  found = λ positive. inr (reach.found positive);
+  reaches = λ m inside spelled. ⊎_elim
+      (λ none. let size = length-take-le m rest inside in let empty = ap length none in omega arith)
+      (λ some. reach.reaches m inside some)
+      spelled;
+}
 
-pub byte-length : (b : ℕ) (xs : List ℕ) → IsByte b xs → length xs ≡ 1
-byte-length b xs is = ap length is
+-- One of two.
 
-pub byte-none : (b : ℕ) → IsByte b [] → ⊥
-byte-none b is = cc
+pub either-first : (P Q : List ℕ → Type 0) (n : ℕ) (rest : List ℕ) → IsReach P n rest → ((m : ℕ) → m ≤ length rest → Q (take m rest) → ⊥) → IsReach (λ xs. P xs ⊎ Q xs) n rest
+either-first P Q n rest reach never = record {
+  within = reach.within;
+  found = λ positive. inl (reach.found positive);
+  reaches = λ m inside spelled. ⊎_elim (λ first. reach.reaches m inside first) (λ second. absurd (never m inside second)) spelled;
+}
 
--- the byte that was found stands at the front
-pub byte-front : (b n : ℕ) (rest : List ℕ) → IsReach (IsByte b) n rest → 0 < n → (n ≡ 1) × (get_or rest 0 0 ≡ b)
-byte-front b n rest reach some =
-    let found = reach.found some in
-    let within = reach.within in
-    let size = ap length found in
-    let taken = length-take-le n rest within in
-    (omega arith, sym (get_or-take n rest 0 0 some) ∙ ap (λ (xs : List ℕ). get_or xs 0 0) found)
-
-pub byte-boundary : (b n : ℕ) (rest : List ℕ) → IsUtf8 rest → b < 128 → IsReach (IsByte b) n rest → 0 < n → IsCharBoundary rest n
-byte-boundary b n rest utf8 ascii reach some =
-    let front = byte-front b n rest reach some in
-    let one = front.0 in
-    let byte = front.1 in
-    let within = reach.within in
-    let next : 0 + 1 ≡ n = omega arith in
-    subst (IsCharBoundary rest) next (IsCharBoundary-after_ascii rest 0 utf8 (omega arith) (omega arith))
-
-pub byte-exact : (b : ℕ) (B : List ℕ → Type 0) (n : ℕ) (rest : List ℕ) → IsReach (IsByte b) n rest → 0 < n → IsExact (IsByte b) B n rest
-byte-exact b B n rest reach some =
-    let one = (byte-front b n rest reach some).0 in
-    exact-by_length (IsByte b) B n rest (λ xs is. byte-length b xs is ∙ sym one)
-
--- what is measured in the bytes of a text is measured in the text
-pub on_text : (P : List ℕ → Type 0) (n : ℕ) (bytes text : List ℕ) → bytes ≡ text → IsReach P n bytes → IsReach P n text
-on_text P n bytes text same reach = subst (IsReach P n) same reach
+pub either-second : (P Q : List ℕ → Type 0) (n : ℕ) (rest : List ℕ) → IsReach P 0 rest → IsReach Q n rest → IsReach (λ xs. P xs ⊎ Q xs) n rest
+either-second P Q n rest none reach = record {
+  within = reach.within;
+  found = λ positive. inr (reach.found positive);
+  reaches = λ m inside spelled. ⊎_elim (λ first. let most = none.reaches m inside first in omega arith) (λ second. reach.reaches m inside second) spelled;
+}

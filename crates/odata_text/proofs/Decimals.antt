@@ -1,0 +1,197 @@
+-- Fractions, exponents and numbers with either at the front of a text.
+use Rattle.std.proofs.Common.{◌≡◌, ◌⊎◌, inl, inr, ⊎_elim, ℕ, zero, suc, ◌+◌, ◌<◌, ◌≤◌, true, List, [], ◌∷◌, length, get_or, take, drop, arith, refl, sym, ◌∙◌, ap, subst, length-append}
+use Rattle.std.specs.Char.{is_ascii_digit}
+use Rattle.std.specs.List.{prefix_len}
+use Rattle.std.specs.Str.Parse.{IsNumeral}
+use Rattle.std.proofs.Math.ListN.{get_or-append}
+use Rattle.std.proofs.lemmas.Bool.{cases_eq}
+use Rattle.std.proofs.lemmas.Bool.Decides.{nat_tests}
+use Rattle.std.proofs.lemmas.List.{get_or-take, length-drop, length-take-le}
+use Rattle.std.proofs.lemmas.Str.Parse.{digit_at}
+use Rattle.edm_values.specs.IntLiteral.{IsIntSpelling}
+use Rattle.odata_text.specs.LeftOut.{IsDecimals, IsExponent, IsFraction}
+use Rattle.odata_text.specs.Lengths.{IsReach}
+use Rattle.odata_text.specs.Patterns.{Fits, passes}
+use Rattle.odata_text.specs.Sequence.{FollowedBy}
+use Rattle.odata_text.specs.declared.byte_test.ByteTest.TheVariants.{Dot, PowerMark}
+use Rattle.odata_text.proofs.Patterns.{marked-from_pair, pair-from_marked}
+use Rattle.odata_text.proofs.Reaches.{digits-reach}
+use Rattle.odata_text.proofs.Sequences.{IsExact, exact-by_byte, pair-found, pair_at}
+
+-- A mark, and digits or a whole number.
+
+abbrev pub FractionPair : List ℕ → Type 0
+FractionPair xs = FollowedBy (Fits (Dot ∷ [])) (IsNumeral 10) xs
+
+abbrev pub ExponentPair : List ℕ → Type 0
+ExponentPair xs = FollowedBy (Fits (PowerMark ∷ [])) IsIntSpelling xs
+
+pub fraction-pair : (xs : List ℕ) → IsFraction xs → FractionPair xs
+fraction-pair [] fraction = absurd fraction
+fraction-pair (dot ∷ digits) fraction =
+    pair-from_marked Dot (IsNumeral 10) (dot ∷ digits) (record {
+      mark = dot;
+      behind = digits;
+      whole = refl;
+      is_mark = ap (passes Dot) fraction.0;
+      is_behind = fraction.1;
+    })
+
+pub fraction-from_pair : (xs : List ℕ) → FractionPair xs → IsFraction xs
+fraction-from_pair xs pair =
+    let marked = marked-from_pair Dot (IsNumeral 10) xs pair in
+    subst IsFraction (sym marked.whole) (is_dot marked.mark marked.is_mark, marked.is_behind)
+  where
+    is_dot : (b : ℕ) → passes Dot b ≡ true → b ≡ 46
+    is_dot b e = grind (arith, nat_tests)
+
+pub exponent-pair : (xs : List ℕ) → IsExponent xs → ExponentPair xs
+exponent-pair [] exponent = absurd exponent
+exponent-pair (mark ∷ power) exponent =
+    pair-from_marked PowerMark IsIntSpelling (mark ∷ power) (record {
+      mark = mark;
+      behind = power;
+      whole = refl;
+      is_mark = ⊎_elim (λ small. ap (passes PowerMark) small) (λ big. ap (passes PowerMark) big) exponent.0;
+      is_behind = exponent.1;
+    })
+
+pub exponent-from_pair : (xs : List ℕ) → ExponentPair xs → IsExponent xs
+exponent-from_pair xs pair =
+    let marked = marked-from_pair PowerMark IsIntSpelling xs pair in
+    subst IsExponent (sym marked.whole) (is_power marked.mark marked.is_mark, marked.is_behind)
+  where
+    is_power : (b : ℕ) → passes PowerMark b ≡ true → (b ≡ 101) ⊎ (b ≡ 69)
+    is_power b e = grind (arith, nat_tests)
+
+-- a run of digits is the longest numeral
+pub numeral-run : (rest : List ℕ) (n : ℕ) → n ≡ prefix_len is_ascii_digit rest → IsReach (IsNumeral 10) n rest
+numeral-run rest n run = subst (λ (k : ℕ). IsReach (IsNumeral 10) k rest) (sym run) (digits-reach rest)
+
+pub numeral-none : IsNumeral 10 [] → ⊥
+numeral-none numeral = let some = numeral.0 in absurd (omega arith)
+
+pub int-none : IsIntSpelling [] → ⊥
+int-none int = int.1
+
+-- Which bytes each part has.
+
+-- a dot or a digit
+abbrev pub IsFractionByte : ℕ → Type 0
+IsFractionByte b = (b ≡ 46) ⊎ ((48 ≤ b) × (b ≤ 57))
+
+pub fraction-byte : (xs : List ℕ) → IsFraction xs → (i : ℕ) → i < length xs → IsFractionByte (get_or xs i 0)
+fraction-byte [] fraction i inside = absurd fraction
+fraction-byte (dot ∷ digits) fraction zero inside = inl fraction.0
+fraction-byte (dot ∷ digits) fraction (suc i) inside = let digit = digit_at digits i fraction.1.1 (omega arith) in inr (digit.0, digit.1)
+
+-- a sign or a digit
+abbrev pub IsIntByte : ℕ → Type 0
+IsIntByte b = ((b ≡ 43) ⊎ (b ≡ 45)) ⊎ ((48 ≤ b) × (b ≤ 57))
+
+numeral-byte : (xs : List ℕ) → IsNumeral 10 xs → (i : ℕ) → i < length xs → IsIntByte (get_or xs i 0)
+numeral-byte xs numeral i inside = let digit = digit_at xs i numeral.1 inside in inr (digit.0, digit.1)
+
+pub int-byte : (xs : List ℕ) → IsIntSpelling xs → (i : ℕ) → i < length xs → IsIntByte (get_or xs i 0)
+int-byte [] int i inside = absurd int.1
+int-byte (c ∷ ds) int zero inside =
+    elim int.1 [
+      | inl plus ↦ inl (inl plus.0)
+      | inr other ↦ elim other [ inl minus ↦ inl (inr minus.0) | inr plain ↦ numeral-byte (c ∷ ds) plain.0 0 inside ]
+    ]
+int-byte (c ∷ ds) int (suc i) inside =
+    let below : i < length ds = omega arith in
+    elim int.1 [
+      | inl plus ↦ numeral-byte ds plus.1 i below
+      | inr other ↦ elim other [ inl minus ↦ numeral-byte ds minus.1 i below | inr plain ↦ numeral-byte (c ∷ ds) plain.0 (suc i) inside ]
+    ]
+
+-- `e` or `E`
+abbrev pub IsExponentStart : ℕ → Type 0
+IsExponentStart b = (b ≡ 101) ⊎ (b ≡ 69)
+
+-- `.`, `e` or `E`
+abbrev pub IsDecimalsStart : ℕ → Type 0
+IsDecimalsStart b = (b ≡ 46) ⊎ IsExponentStart b
+
+pub fraction-starts : (xs : List ℕ) → IsFraction xs → (0 < length xs) × (get_or xs 0 0 ≡ 46)
+fraction-starts [] fraction = absurd fraction
+fraction-starts (dot ∷ digits) fraction = (omega arith, fraction.0)
+
+pub exponent-starts : (xs : List ℕ) → IsExponent xs → (0 < length xs) × IsExponentStart (get_or xs 0 0)
+exponent-starts [] exponent = absurd exponent
+exponent-starts (mark ∷ power) exponent = (omega arith, exponent.0)
+
+no_exponent : (xs : List ℕ) → IsFraction xs → (i : ℕ) → i < length xs → IsExponentStart (get_or xs i 0) → ⊥
+no_exponent xs fraction i inside start = apart (get_or xs i 0) (fraction-byte xs fraction i inside) start
+  where
+    apart : (b : ℕ) → IsFractionByte b → IsExponentStart b → ⊥
+    apart b byte start = grind arith
+
+-- The length of a fraction, an exponent or both.
+
+pub decimals-reach : (rest left : List ℕ) (f e : ℕ) → left ≡ drop f rest → IsReach IsFraction f rest → IsReach IsExponent e left → IsReach IsDecimals (f + e) rest
+decimals-reach rest left f e behind fraction power =
+    let exponent : IsReach IsExponent e (drop f rest) = subst (IsReach IsExponent e) behind power in
+    let f_within = fraction.within in
+    let e_within = exponent.within in
+    let room = length-drop f rest in
+    let exact = exact-by_byte IsFraction IsExponent IsExponentStart f rest fraction no_exponent exponent-starts in
+    record {
+      within = omega arith;
+      found = λ positive. ⊎_elim
+          (λ none. let here : e ≡ f + e = omega arith in inr (inl (subst (λ (k : ℕ). IsExponent (take k rest)) here (subst (λ (k : ℕ). IsExponent (take e (drop k rest))) none (exponent.found (omega arith))))))
+          (λ some. ⊎_elim
+          (λ alone. let here : f ≡ f + e = omega arith in inl (subst (λ (k : ℕ). IsFraction (take k rest)) here (fraction.found (omega arith))))
+          (λ both. inr (inr (pair-found IsFraction IsExponent rest f e (fraction.found (omega arith)) (exponent.found (omega arith)))))
+          (cases_eq e 0))
+          (cases_eq f 0);
+      reaches = λ m inside decimals. ⊎_elim
+          (λ one. let most = fraction.reaches m inside one in omega arith)
+          (λ more. ⊎_elim
+          (λ alone. ⊎_elim
+          (λ none. let most = exponent.reaches m (omega arith) (subst (λ (k : ℕ). IsExponent (take m (drop k rest))) (sym none) alone) in omega arith)
+          (λ some. absurd (apart m inside alone (omega arith)))
+          (cases_eq f 0))
+          (λ pair.
+          let parts = pair_at IsFraction IsExponent rest m inside pair in
+          let size = parts.size in
+          let here = exact.exact parts.first parts.second (omega arith) parts.is_first parts.is_second in
+          let most = exponent.reaches parts.second (omega arith) (subst (λ (k : ℕ). IsExponent (take parts.second (drop k rest))) here parts.is_second) in
+          omega arith)
+          more)
+          decimals;
+    }
+  where
+    apart : (m : ℕ) → m ≤ length rest → IsExponent (take m rest) → 0 < f → ⊥
+    apart m inside alone some =
+        let dot = fraction-starts (take f rest) (fraction.found some) in
+        let start = exponent-starts (take m rest) alone in
+        let nonempty = start.0 in
+        let taken = length-take-le m rest inside in
+        let first : get_or rest 0 0 ≡ 46 = sym (get_or-take f rest 0 0 some) ∙ dot.1 in
+        let other = subst IsExponentStart (get_or-take m rest 0 0 (omega arith)) start.1 in
+        ⊎_elim (λ small. absurd (omega arith)) (λ big. absurd (omega arith)) other
+
+-- A whole number, and a fraction, an exponent or both behind it.
+
+pub decimals-starts : (xs : List ℕ) → IsDecimals xs → (0 < length xs) × IsDecimalsStart (get_or xs 0 0)
+decimals-starts xs (inl fraction) = let start = fraction-starts xs fraction in (start.0, inl start.1)
+decimals-starts xs (inr (inl exponent)) = let start = exponent-starts xs exponent in (start.0, inr start.1)
+decimals-starts xs (inr (inr pair)) =
+    let start = fraction-starts pair.front pair.is_front in
+    let size = ap length pair.whole ∙ length-append pair.front pair.back in
+    let nonempty = start.0 in
+    (omega arith, inl (ap (λ (ys : List ℕ). get_or ys 0 0) pair.whole ∙ get_or-append pair.front pair.back 0 0 nonempty ∙ start.1))
+
+pub decimals-none : IsDecimals [] → ⊥
+decimals-none decimals = let some = (decimals-starts [] decimals).0 in absurd (omega arith)
+
+no_decimals : (xs : List ℕ) → IsIntSpelling xs → (i : ℕ) → i < length xs → IsDecimalsStart (get_or xs i 0) → ⊥
+no_decimals xs int i inside start = apart (get_or xs i 0) (int-byte xs int i inside) start
+  where
+    apart : (b : ℕ) → IsIntByte b → IsDecimalsStart b → ⊥
+    apart b byte start = grind arith
+
+pub int-exact : (n : ℕ) (rest : List ℕ) → IsReach IsIntSpelling n rest → IsExact IsIntSpelling IsDecimals n rest
+int-exact n rest reach = exact-by_byte IsIntSpelling IsDecimals IsDecimalsStart n rest reach no_decimals decimals-starts

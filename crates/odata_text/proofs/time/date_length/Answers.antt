@@ -1,0 +1,8 @@
+use Rattle.edm_values.specs.DateLiteral.{IsDateSpelling}
+use Rattle.odata_text.specs.Patterns.{Fits}
+use Rattle.odata_text.proofs.Sequences.{reach-as}
+use Rattle.odata_text.proofs.Times.{date-fits, date_pattern, fits-date}
+use Rattle.odata_text.proofs.time.date_length.Goals as goal
+
+pub returns : goal.returns
+returns c = reach-as (Fits date_pattern) IsDateSpelling c.pattern_length.result c.args.rest.now date-fits fits-date c.pattern_length.ensures
