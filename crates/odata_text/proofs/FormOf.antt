@@ -58,16 +58,31 @@ run-front p xs front back whole passes stops =
 
 -- The form of bytes, by the first of them.
 
+-- a literal by its bytes
+abbrev pub literal_form : Literal → Form
+literal_form literal.Str = Token Str
+literal_form literal.TimeOfDay = LeftOut Clock
+literal_form literal.Date = Token Date
+literal_form literal.Moment = Token Moment
+literal_form literal.Guid = Token Guid
+literal_form literal.Int = Token Int
+literal_form literal.Decimal = LeftOut Number
+
+-- the run of a word's bytes ends at a hyphen
+abbrev pub is_hyphened : List ℕ → Bool
+is_hyphened xs = get_or xs (prefix_len is_word_byte xs) 0 == 45
+
 abbrev pub by_letters : List ℕ → Form
 by_letters xs =
-    cond (prefix_len is_word_byte xs == length xs) (Token Word)
-    (cond (prefix_len is_part_byte xs == prefix_len is_word_byte xs) (LeftOut Quoted) (Token EnumLit))
+    cond (is_hyphened xs) (Token Guid)
+    (cond (prefix_len is_word_byte xs == length xs) (Token Word)
+    (cond (prefix_len is_part_byte xs == prefix_len is_word_byte xs) (LeftOut Quoted) (Token EnumLit)))
 
 abbrev pub by_sign : List ℕ → Form
-by_sign xs = cond (length xs == 1) (Token Minus) (Token Int)
+by_sign xs = cond (length xs == 1) (Token Minus) (literal_form (literal_of xs))
 
 abbrev pub by_digits : List ℕ → Form
-by_digits xs = Token Int
+by_digits xs = literal_form (literal_of xs)
 
 abbrev pub by_first : ℕ → List ℕ → Form
 by_first b xs =

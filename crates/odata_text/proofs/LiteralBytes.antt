@@ -1,11 +1,11 @@
 -- Which bytes the literals without quotes have.
-use Rattle.std.proofs.Common.{◌≡◌, ◌⊎◌, inl, inr, ⊎_elim, ℕ, zero, suc, ◌+◌, ◌-◌, ◌*◌, ◌/◌, ◌%◌, ◌<◌, ◌≤◌, ◌==◌, ◌||◌, Bool, true, false, List, [], ◌∷◌, ◌++◌, length, get_or, arith, refl, sym, ◌∙◌, ap, subst, length-append, append-nil}
+use Rattle.std.proofs.Common.{◌≡◌, ◌⊎◌, inl, inr, ⊎_elim, ℕ, zero, suc, ◌+◌, ◌-◌, ◌*◌, ◌/◌, ◌%◌, ◌<◌, ◌≤◌, ◌==◌, ◌||◌, Bool, true, false, List, [], ◌∷◌, ◌++◌, length, get_or, drop, arith, refl, sym, ◌∙◌, ap, subst, length-append, append-nil}
 use Rattle.std.specs.Char.{is_ascii_alphanumeric, is_ascii_digit, is_ascii_hexdigit}
 use Rattle.std.specs.List.{list_all}
 use Rattle.std.specs.Str.Parse.{IsNumeral}
 use Rattle.std.proofs.Math.ListN.{get_or-append}
 use Rattle.std.proofs.Math.Seq.{get_or-append_right}
-use Rattle.std.proofs.lemmas.Bool.{and_parts, cases_lt}
+use Rattle.std.proofs.lemmas.Bool.{and_parts, cases_lt, false≢true}
 use Rattle.std.proofs.lemmas.Bool.Decides.{nat_tests}
 use Rattle.std.proofs.lemmas.Str.Parse.{digit_at}
 use Rattle.edm_values.specs.DateLiteral.{IsDateSpelling}
@@ -21,7 +21,7 @@ use Rattle.odata_text.proofs.DecimalBytes.{IsDecimalByte, bytes-decimal}
 use Rattle.odata_text.proofs.Decimals.{IsIntByte, fraction-byte, int-byte}
 use Rattle.odata_text.proofs.Guids.{fits-guid, guid_pattern}
 use Rattle.odata_text.proofs.Sequences.{Perhaps}
-use Rattle.odata_text.proofs.Times.{IsOffset, IsSecond, clock_pattern, date_pattern, fits-ahead, fits-clock, fits-date, fits-marked, offset-fits, parts-from_moment, second-from_seconds}
+use Rattle.odata_text.proofs.Times.{IsOffset, IsSecond, clock_pattern, date_pattern, fits-ahead, fits-clock, fits-date, fits-marked, offset-fits, parts-from_moment, second-from_seconds, seconds_pattern}
 
 -- a letter, a digit, `+`, `-`, `.` or `:`
 abbrev pub is_literal_byte : ℕ → Bool
@@ -105,7 +105,7 @@ bytes-fraction xs fraction = record { each = λ i inside. dot_or_digit (get_or x
 
 bytes-seconds : (xs : List ℕ) → Perhaps IsSecond xs → AreLiteralBytes xs
 bytes-seconds xs (inl none) = subst AreLiteralBytes (sym none) bytes-none
-bytes-seconds xs (inr pair) = bytes-append xs pair.front pair.back pair.whole (bytes-fits _ pair.front pair.is_front) (perhaps pair.back pair.is_back)
+bytes-seconds xs (inr pair) = bytes-append xs pair.front pair.back pair.whole (bytes-fits seconds_pattern pair.front pair.is_front) (perhaps pair.back pair.is_back)
   where
     perhaps : (ys : List ℕ) → Perhaps IsFraction ys → AreLiteralBytes ys
     perhaps ys (inl none) = subst AreLiteralBytes (sym none) bytes-none
@@ -162,7 +162,7 @@ no_colon-number xs decimal i inside colon = apart (get_or xs i 0) (bytes-decimal
     apart b (inr (inr (inr (inr large)))) colon = absurd (omega arith)
 
 -- hexadecimal digits and hyphens
-is_guid_test : ByteTest → Bool
+abbrev is_guid_test : ByteTest → Bool
 is_guid_test HexDigit = true
 is_guid_test Hyphen = true
 is_guid_test _ = false
@@ -170,13 +170,13 @@ is_guid_test _ = false
 guid-byte : (test : ByteTest) (b : ℕ) → is_guid_test test ≡ true → passes test b ≡ true → b ≡ 58 → ⊥
 guid-byte HexDigit b guid e colon = let none : passes HexDigit 58 ≡ true = sym (ap (passes HexDigit) colon) ∙ e in cc
 guid-byte Hyphen b guid e colon = let none : passes Hyphen 58 ≡ true = sym (ap (passes Hyphen) colon) ∙ e in cc
-guid-byte Digit b guid e colon = cc
-guid-byte Colon b guid e colon = cc
-guid-byte Dot b guid e colon = cc
-guid-byte Sign b guid e colon = cc
-guid-byte TimeMark b guid e colon = cc
-guid-byte OffsetMark b guid e colon = cc
-guid-byte PowerMark b guid e colon = cc
+guid-byte Digit b guid e colon = absurd (false≢true guid)
+guid-byte Colon b guid e colon = absurd (false≢true guid)
+guid-byte Dot b guid e colon = absurd (false≢true guid)
+guid-byte Sign b guid e colon = absurd (false≢true guid)
+guid-byte TimeMark b guid e colon = absurd (false≢true guid)
+guid-byte OffsetMark b guid e colon = absurd (false≢true guid)
+guid-byte PowerMark b guid e colon = absurd (false≢true guid)
 
 guid-bytes : (tests : List ByteTest) (xs : List ℕ) → list_all is_guid_test tests ≡ true → Fits tests xs → (i : ℕ) → i < length xs → get_or xs i 0 ≡ 58 → ⊥
 guid-bytes [] [] all fits i inside colon = absurd (omega arith)
@@ -196,13 +196,13 @@ digit-front tests xs [] back whole fits = absurd fits
 digit-front tests xs (b ∷ bs) back whole fits = ap (λ (ys : List ℕ). is_ascii_digit (get_or ys 0 0)) whole ∙ fits.0
 
 pub digit-date : (xs : List ℕ) → IsDateSpelling xs → is_ascii_digit (get_or xs 0 0) ≡ true
-digit-date xs date = digit-front _ xs xs [] (sym (append-nil xs)) (fits-date xs date)
+digit-date xs date = digit-front (drop 1 date_pattern) xs xs [] (sym (append-nil xs)) (fits-date xs date)
 
 pub digit-moment : (xs : List ℕ) → IsMomentSpelling xs → is_ascii_digit (get_or xs 0 0) ≡ true
-digit-moment xs moment = let pair = parts-from_moment xs moment in digit-front _ xs pair.front pair.back pair.whole (fits-date pair.front pair.is_front)
+digit-moment xs moment = let pair = parts-from_moment xs moment in digit-front (drop 1 date_pattern) xs pair.front pair.back pair.whole (fits-date pair.front pair.is_front)
 
 pub digit-time_of_day : (xs : List ℕ) → IsTimeOfDaySpelling xs → is_ascii_digit (get_or xs 0 0) ≡ true
-digit-time_of_day xs pair = digit-front _ xs pair.front pair.back pair.whole (fits-clock pair.front pair.is_front)
+digit-time_of_day xs pair = digit-front (drop 1 clock_pattern) xs pair.front pair.back pair.whole (fits-clock pair.front pair.is_front)
 
 pub digit-guid : (xs : List ℕ) → IsGuidSpelling xs → is_ascii_hexdigit (get_or xs 0 0) ≡ true
 digit-guid xs guid = hex guid_pattern xs (fits-guid xs guid) refl

@@ -176,7 +176,9 @@ no_token_space _ = (refl, refl)
 
 no_space : (form : Form) → (starts form 32 ≡ false) × (starts form 9 ≡ false)
 no_space (Token kind) = no_token_space kind
-no_space (LeftOut _) = (refl, refl)
+no_space (LeftOut Number) = (refl, refl)
+no_space (LeftOut Clock) = (refl, refl)
+no_space (LeftOut Quoted) = (refl, refl)
 
 pub solid-start : (form : Form) (xs : List ℕ) → IsFormed form xs → class_of (get_or xs 0 0) ≡ Space → ⊥
 solid-start form xs formed space =
