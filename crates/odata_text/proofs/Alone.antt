@@ -14,7 +14,9 @@ use Rattle.odata_text.specs.declared.form.Form.{Form}
 use Rattle.odata_text.specs.declared.form.Form.TheVariants.{Token, LeftOut}
 use Rattle.odata_text.specs.declared.form.LeftOutKind.TheVariants.{Quoted}
 use Rattle.odata_text.specs.declared.token.TokenKind.TheVariants.{Word, Dollar, Int, Str, EnumLit, Open, Close, Comma, Slash, Colon, Minus}
-use Rattle.odata_text.proofs.Forms.{is_word, is_word_byte, seam, string-starts}
+use Rattle.odata_text.proofs.FormOf.{is_word_byte, seam}
+use Rattle.odata_text.proofs.Parts.{string-starts}
+use Rattle.odata_text.proofs.WordForms.{is_word}
 use Rattle.odata_text.proofs.IdentifierBytes.{identifier-byte, is_name_byte}
 use Rattle.odata_text.proofs.Names.{left_out-letters}
 

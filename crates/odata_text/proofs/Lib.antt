@@ -1,13 +1,16 @@
 pub mod Alone
 pub mod ByteClasses
 pub mod Examples
+pub mod FormOf
 pub mod Forms
 pub mod IdentifierBytes
 pub mod Identifiers
 pub mod LongestPieces
 pub mod Names
+pub mod NumberForms
 pub mod OneReading
 pub mod Pairs
+pub mod Parts
 pub mod Places
 pub mod Queries
 pub mod QueryLoops
@@ -15,4 +18,5 @@ pub mod Quotes
 pub mod Reaches
 pub mod Scans
 pub mod Starts
+pub mod WordForms
 pub mod Words

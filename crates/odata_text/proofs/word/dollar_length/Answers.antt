@@ -1,7 +1,7 @@
 use Rattle.std.proofs.Common.{arith}
 use Rattle.odata_text.specs.Identifier.{IsIdentifier}
 use Rattle.odata_text.specs.Spelling.{IsByte}
-use Rattle.odata_text.proofs.Forms.{identifier-none}
+use Rattle.odata_text.proofs.Parts.{identifier-none}
 use Rattle.odata_text.proofs.Pairs.{byte-boundary, byte-exact, byte-none, measured-both, measured-no_first, measured-no_second, on_text}
 use Rattle.odata_text.proofs.word.dollar_length.Goals as goal
 

@@ -1,7 +1,7 @@
 use Rattle.std.proofs.Common.{◌≡◌, ℕ, arith}
 use Rattle.edm_values.specs.StringLiteral.{IsStringSpelling}
 use Rattle.odata_text.specs.Spelling.{IsDottedWord}
-use Rattle.odata_text.proofs.Forms.{dotted-none, no_quote-word, string-none, string-starts}
+use Rattle.odata_text.proofs.Parts.{dotted-none, no_quote-word, string-none, string-starts}
 use Rattle.odata_text.proofs.Pairs.{exact-by_byte, left_of, measured-both, measured-no_first, measured-no_second}
 use Rattle.odata_text.proofs.word.enum_length.Goals as goal
 

@@ -2,7 +2,7 @@ use Rattle.std.proofs.Common.{◌≡◌, ℕ, arith}
 use Rattle.std.proofs.lemmas.List.{take_rest}
 use Rattle.edm_values.specs.StringLiteral.{IsStringSpelling}
 use Rattle.odata_text.specs.Spelling.{IsLeftOutName}
-use Rattle.odata_text.proofs.Forms.{name-none, no_quote-name, string-none, string-starts}
+use Rattle.odata_text.proofs.Parts.{name-none, no_quote-name, string-none, string-starts}
 use Rattle.odata_text.proofs.Pairs.{exact-by_byte, measured-both, measured-no_first, measured-no_second}
 use Rattle.odata_text.proofs.word.quoted_length.Goals as goal
 
