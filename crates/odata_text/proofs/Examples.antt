@@ -1,5 +1,5 @@
 -- How to show of a text that is written out which tokens it has.
-use Rattle.std.proofs.Common.{◌≡◌, ℕ, ◌+◌, ◌-◌, ◌<◌, ◌≤◌, true, List, [], ◌∷◌, length, get_or, take, drop, arith, refl, sym, ◌∙◌, ap, subst}
+use Rattle.std.proofs.Common.{◌≡◌, ℕ, zero, suc, ◌+◌, ◌-◌, ◌<◌, ◌≤◌, ◌==◌, true, List, [], ◌∷◌, length, get_or, take, drop, arith, refl, sym, ◌∙◌, ap, subst}
 use Rattle.std.proofs.lemmas.Bool.{both_ways, false≢true}
 use Rattle.std.proofs.lemmas.List.{get_or-take, length-take-le}
 use Rattle.odata_text.specs.ByteClass.{class_of}
@@ -52,33 +52,22 @@ word_at text start stop order within name blank = record {
   ends = λ runs. absurd (false≢true runs.0);
 }
 
--- a digit begins a whole number alone
-only_int : (form : Form) → starts form 49 ≡ true → form ≡ Token Int
-only_int (Token Int) e = refl
-only_int (Token _) e = absurd (false≢true e)
-only_int (LeftOut Quoted) e = absurd (false≢true e)
-only_int (LeftOut _) e = absurd (false≢true e)
-
-int_longest : (rest : List ℕ) (n : ℕ) → get_or rest 0 0 ≡ 49 → IsReach (Spells Int) n rest → 0 < n → IsLongest (Token Int) n rest
-int_longest rest n digit reach some = record {
-  within = reach.within;
-  spelled = reach.found some;
-  longest = λ form m inside spelled.
-      let start = started form (take m rest) spelled in
-      let nonempty = start.nonempty in
-      let size = length-take-le m rest inside in
-      let byte : get_or (take m rest) 0 0 ≡ 49 = get_or-take m rest 0 0 (omega arith) ∙ digit in
-      let same : form ≡ Token Int = only_int form (sym (ap (starts form) byte) ∙ start.first) in
-      reach.reaches m inside (subst (λ (f : Form). IsFormed f (take m rest)) same spelled);
-}
+one_longest : IsLongest (Token Int) 1 (drop 17 plain_filter)
+one_longest =
+    let reach = IsReach-int (drop 17 plain_filter) 0 1 refl (omega arith) refl (omega arith) in
+    record {
+      within = reach.within;
+      spelled = reach.found (omega arith);
+      longest = alone (drop 17 plain_filter) 1 (omega arith) unquoted (λ inside. refl);
+    }
+  where
+    unquoted : (k : ℕ) → k < 1 → get_or (drop 17 plain_filter) k 0 ≡ 39 → ⊥
+    unquoted zero below quote = both_ways (get_or (drop 17 plain_filter) 0 0 == 39) refl (ap (λ (b : ℕ). b == 39) quote)
+    unquoted (suc k) below quote = absurd (omega arith)
 
 one_at : IsTokenAt plain_filter (piece_in plain_filter Int 17 18)
 one_at = record {
-  longest = record {
-    order = omega arith;
-    longest = int_longest (drop 17 plain_filter) 1 refl (IsReach-int (drop 17 plain_filter) 0 1 refl (omega arith) refl (omega arith)) (omega arith);
-    bytes = refl;
-  };
+  longest = record { order = omega arith; longest = one_longest; bytes = refl };
   ends = λ runs. let none : identifier_run (drop 18 plain_filter) ≡ 0 = run-ascii (drop 18 plain_filter) refl in let some = runs.1 in absurd (omega arith);
 }
 
@@ -147,6 +136,26 @@ plain_list = record {
     ),
   );
   ends = no_gap plain_filter 34 (omega arith);
+}
+
+-- a digit begins a whole number alone
+only_int : (form : Form) → starts form 49 ≡ true → form ≡ Token Int
+only_int (Token Int) e = refl
+only_int (Token _) e = absurd (false≢true e)
+only_int (LeftOut Quoted) e = absurd (false≢true e)
+only_int (LeftOut _) e = absurd (false≢true e)
+
+int_longest : (rest : List ℕ) (n : ℕ) → get_or rest 0 0 ≡ 49 → IsReach (Spells Int) n rest → 0 < n → IsLongest (Token Int) n rest
+int_longest rest n digit reach some = record {
+  within = reach.within;
+  spelled = reach.found some;
+  longest = λ form m inside spelled.
+      let start = started form (take m rest) spelled in
+      let nonempty = start.nonempty in
+      let size = length-take-le m rest inside in
+      let byte : get_or (take m rest) 0 0 ≡ 49 = get_or-take m rest 0 0 (omega arith) ∙ digit in
+      let same : form ≡ Token Int = only_int form (sym (ap (starts form) byte) ∙ start.first) in
+      reach.reaches m inside (subst (λ (f : Form). IsFormed f (take m rest)) same spelled);
 }
 
 run_on_longest : IsLongest (Token Int) 1 run_on_filter

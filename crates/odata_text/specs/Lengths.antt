@@ -1,6 +1,5 @@
 -- Words of private contracts alone: what the functions that measure pieces answer.
-use Rattle.std.specs.Prelude.{◌≡◌, ℕ, ◌<◌, ◌≤◌, ◌==◌, ◌||◌, true, slice_index, if◌then◌else◌, List, length, take, fold}
-use Rattle.std.specs.Str.{str_eq_ignore_ascii_case}
+use Rattle.std.specs.Prelude.{ℕ, ◌<◌, ◌≤◌, ◌==◌, ◌||◌, slice_index, if◌then◌else◌, List, length, take, fold}
 use Rattle.odata_text.specs.declared.quoted.Quoted.{Quoted}
 use Rattle.odata_text.specs.declared.quoted.Quoted.TheVariants.{Before, Open, Closed, Over}
 
@@ -9,10 +8,6 @@ pub record IsReach (IsSpelling : List ℕ → Type 0) (n : ℕ) (rest : List ℕ
   pub within : n ≤ length rest
   pub found : 0 < n → IsSpelling (take n rest)
   pub reaches : (m : ℕ) → m ≤ length rest → IsSpelling (take m rest) → m ≤ n
-
--- the name in any case of its letters
-abbrev pub IsNamed : List ℕ → List ℕ → Type 0
-IsNamed name bytes = str_eq_ignore_ascii_case bytes name ≡ true
 
 -- how many bytes the sign at the front takes
 abbrev pub sign_length : List ℕ → ℕ

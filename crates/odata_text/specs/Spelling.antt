@@ -46,12 +46,14 @@ pub record IsDottedWord (bytes : List ℕ) : Type 0 where
 
 -- Literals that are left out.
 
--- the name of a type that is left out, in any case of its letters
+-- the name in any case of its letters
+abbrev pub IsNamed : List ℕ → List ℕ → Type 0
+IsNamed name bytes = str_eq_ignore_ascii_case bytes name ≡ true
+
+-- the name of a type that is left out
 abbrev pub IsLeftOutName : List ℕ → Type 0
 IsLeftOutName bytes =
-    (str_eq_ignore_ascii_case bytes (codes "duration") ≡ true)
-    ⊎ ((str_eq_ignore_ascii_case bytes (codes "binary") ≡ true)
-    ⊎ ((str_eq_ignore_ascii_case bytes (codes "geography") ≡ true) ⊎ (str_eq_ignore_ascii_case bytes (codes "geometry") ≡ true)))
+    IsNamed (codes "duration") bytes ⊎ (IsNamed (codes "binary") bytes ⊎ (IsNamed (codes "geography") bytes ⊎ IsNamed (codes "geometry") bytes))
 
 -- such a name and a text in quotes; the other two have no spelling yet
 abbrev pub SpellsLeftOut : LeftOutKind → List ℕ → Type 0

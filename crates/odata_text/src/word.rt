@@ -1,7 +1,7 @@
 ghost use Rattle.std.specs.Prelude.{◌≡◌, IsCharBoundary, max};
 ghost use Rattle.std.specs.Str.{str_eq_ignore_ascii_case};
-ghost use Rattle.odata_text.specs.Lengths.{IsNamed, IsReach};
-ghost use Rattle.odata_text.specs.Spelling.{IsDottedWord, IsLeftOutName, IsWord, Spells, SpellsLeftOut};
+ghost use Rattle.odata_text.specs.Lengths.{IsReach};
+ghost use Rattle.odata_text.specs.Spelling.{IsDottedWord, IsLeftOutName, IsNamed, IsWord, Spells, SpellsLeftOut};
 
 use super::form::LeftOutKind;
 use super::identifier::identifier_length;

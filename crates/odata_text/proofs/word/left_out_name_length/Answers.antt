@@ -1,5 +1,5 @@
 use Rattle.std.proofs.Common.{◌⊎◌, ℕ, List, codes}
-use Rattle.odata_text.specs.Lengths.{IsNamed}
+use Rattle.odata_text.specs.Spelling.{IsNamed}
 use Rattle.odata_text.proofs.Pairs.{reach-either}
 use Rattle.odata_text.proofs.word.left_out_name_length.Goals as goal
 
