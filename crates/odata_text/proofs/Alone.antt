@@ -14,22 +14,19 @@ use Rattle.odata_text.specs.Printing.{is_separator}
 use Rattle.odata_text.specs.Spelling.{IsFormed, IsByte}
 use Rattle.odata_text.specs.declared.form.Form.{Form}
 use Rattle.odata_text.specs.declared.form.Form.TheVariants.{Token, LeftOut}
-use Rattle.odata_text.specs.declared.form.LeftOutKind.TheVariants.{Quoted}
-use Rattle.odata_text.specs.declared.token.TokenKind.TheVariants.{Word, Dollar, Int, Str, EnumLit, Open, Close, Comma, Slash, Colon, Minus}
+use Rattle.odata_text.specs.declared.form.LeftOutKind.TheVariants.{Number, Clock, Quoted}
+use Rattle.odata_text.specs.declared.token.TokenKind.TheVariants.{Word, Dollar, Int, Date, Moment, Guid, Str, EnumLit, Open, Close, Comma, Slash, Colon, Minus}
 use Rattle.odata_text.proofs.FormOf.{is_word_byte, seam}
 use Rattle.odata_text.proofs.Parts.{string-starts}
 use Rattle.odata_text.proofs.WordForms.{is_word}
-use Rattle.odata_text.proofs.Reaches.{digit_test}
 use Rattle.odata_text.proofs.IdentifierBytes.{identifier-byte, is_name_byte}
+use Rattle.odata_text.proofs.LiteralBytes.{AreLiteralBytes, bytes-date, bytes-guid, bytes-int, bytes-moment, bytes-number, bytes-time_of_day, digit-date, digit-moment, digit-time_of_day, literal_byte-separator, no_colon-guid, no_colon-int, no_colon-number}
 use Rattle.odata_text.proofs.Names.{left_out-letters}
 
 -- which bytes a separator is not
 
 pub separator-word : (b : ℕ) → is_separator b ≡ true → is_word_byte b ≡ false
 separator-word b separator = grind (arith, nat_tests)
-
-separator-digit : (b : ℕ) → is_separator b ≡ true → is_ascii_digit b ≡ false
-separator-digit b separator = grind (arith, nat_tests)
 
 pub separator-name : (b : ℕ) → is_separator b ≡ true → is_name_byte b ≡ false
 separator-name b separator = grind (arith, nat_tests)
@@ -45,6 +42,7 @@ record HasSeparator (xs : List ℕ) (n : ℕ) : Type 0 where
   some : 0 < n
   inside : n < length xs
   separator : is_separator (get_or xs n 0) ≡ true
+  colon : get_or xs n 0 ≡ 58 → is_ascii_digit (get_or xs 0 0) ≡ false
   unquoted : (k : ℕ) → k < n → get_or xs k 0 ≡ 39 → ⊥
 
 -- a front without separators, and a quote behind it
@@ -64,24 +62,15 @@ no_quoted xs front back n has whole starts none =
     (cases_lt (length front) n))
     (cases_lt n (length front))
 
-no_separator-int : (xs : List ℕ) → IsIntSpelling xs → (n : ℕ) → HasSeparator xs n → ⊥
-no_separator-int [] int n has = absurd int.1
-no_separator-int (c ∷ ds) int n has =
-    let inside = has.inside in
-    elim int.1 [
-      | inl plus ↦ behind c ds plus.1 n has
-      | inr other ↦ elim other [
-        | inl minus ↦ behind c ds minus.1 n has
-        | inr plain ↦
-            both_ways (is_ascii_digit (get_or (c ∷ ds) n 0)) (separator-digit (get_or (c ∷ ds) n 0) has.separator) (digit_test (get_or (c ∷ ds) n 0) (digit_at (c ∷ ds) n plain.0.1 inside))
-      ]
-    ]
-  where
-    behind : (b : ℕ) (bs : List ℕ) → IsNumeral 10 bs → (k : ℕ) → HasSeparator (b ∷ bs) k → ⊥
-    behind b bs numeral zero has = let some = has.some in absurd (omega arith)
-    behind b bs numeral (suc k) has =
-        let inside = has.inside in
-        both_ways (is_ascii_digit (get_or bs k 0)) (separator-digit (get_or bs k 0) has.separator) (digit_test (get_or bs k 0) (digit_at bs k numeral.1 (omega arith)))
+-- a separator in a literal without quotes is a `:`, and such a literal begins with a digit
+no_separator-digit : (xs : List ℕ) (n : ℕ) → AreLiteralBytes xs → is_ascii_digit (get_or xs 0 0) ≡ true → HasSeparator xs n → ⊥
+no_separator-digit xs n bytes digit has =
+    let colon = literal_byte-separator (get_or xs n 0) (bytes.each n has.inside) has.separator in
+    both_ways (is_ascii_digit (get_or xs 0 0)) (has.colon colon) digit
+
+-- or has none
+no_separator-plain : (xs : List ℕ) (n : ℕ) → AreLiteralBytes xs → ((i : ℕ) → i < length xs → get_or xs i 0 ≡ 58 → ⊥) → HasSeparator xs n → ⊥
+no_separator-plain xs n bytes none has = none n has.inside (literal_byte-separator (get_or xs n 0) (bytes.each n has.inside) has.separator)
 
 no_separator-dollar : (xs front back : List ℕ) (n : ℕ) → xs ≡ front ++ back → IsByte 36 front → IsIdentifier back → HasSeparator xs n → ⊥
 no_separator-dollar xs front back n whole mark identifier has =
@@ -101,7 +90,10 @@ no_separator-mark xs b n is has = let size = ap length is in let some = has.some
 no_separator : (form : Form) (xs : List ℕ) (n : ℕ) → IsFormed form xs → HasSeparator xs n → ⊥
 no_separator (Token Word) xs n formed has = both_ways (is_word_byte (get_or xs n 0)) (separator-word (get_or xs n 0) has.separator) (is_word xs formed n has.inside)
 no_separator (Token Dollar) xs n formed has = no_separator-dollar xs formed.front formed.back n formed.whole formed.is_front formed.is_back has
-no_separator (Token Int) xs n formed has = no_separator-int xs formed n has
+no_separator (Token Int) xs n formed has = no_separator-plain xs n (bytes-int xs formed) (no_colon-int xs formed) has
+no_separator (Token Date) xs n formed has = no_separator-digit xs n (bytes-date xs formed) (digit-date xs formed) has
+no_separator (Token Moment) xs n formed has = no_separator-digit xs n (bytes-moment xs formed) (digit-moment xs formed) has
+no_separator (Token Guid) xs n formed has = no_separator-plain xs n (bytes-guid xs formed) (no_colon-guid xs formed) has
 no_separator (Token Str) xs n formed has = has.unquoted 0 has.some ((string-starts xs formed).1)
 no_separator (Token EnumLit) xs n formed has =
     no_quoted xs formed.front formed.back n has formed.whole (string-starts formed.back formed.is_back)
@@ -112,16 +104,16 @@ no_separator (Token Comma) xs n formed has = no_separator-mark xs 44 n formed ha
 no_separator (Token Slash) xs n formed has = no_separator-mark xs 47 n formed has
 no_separator (Token Colon) xs n formed has = no_separator-mark xs 58 n formed has
 no_separator (Token Minus) xs n formed has = no_separator-mark xs 45 n formed has
-no_separator (Token _) xs n formed has = absurd formed
+no_separator (LeftOut Number) xs n formed has = no_separator-plain xs n (bytes-number xs formed) (no_colon-number xs formed) has
+no_separator (LeftOut Clock) xs n formed has = no_separator-digit xs n (bytes-time_of_day xs formed) (digit-time_of_day xs formed) has
 no_separator (LeftOut Quoted) xs n formed has =
     no_quoted xs formed.front formed.back n has formed.whole (string-starts formed.back formed.is_back)
     (λ k below separator. both_ways (is_ascii_alphabetic (get_or formed.front k 0)) (separator-letter (get_or formed.front k 0) separator) ((left_out-letters formed.front formed.is_front).letters k below))
-no_separator (LeftOut _) xs n formed has = absurd formed
 
 -- what stands at the front ends at the separator
-pub alone : (rest : List ℕ) (n : ℕ) → 0 < n → ((k : ℕ) → k < n → get_or rest k 0 ≡ 39 → ⊥) → (n < length rest → is_separator (get_or rest n 0) ≡ true)
+pub alone : (rest : List ℕ) (n : ℕ) → 0 < n → ((k : ℕ) → k < n → get_or rest k 0 ≡ 39 → ⊥) → (n < length rest → is_separator (get_or rest n 0) ≡ true) → (get_or rest n 0 ≡ 58 → is_ascii_digit (get_or rest 0 0) ≡ false)
     → (form : Form) (m : ℕ) → m ≤ length rest → IsFormed form (take m rest) → m ≤ n
-alone rest n some unquoted separator form m inside formed =
+alone rest n some unquoted separator colon form m inside formed =
     ⊎_elim
     (λ longer.
     let size = length-take-le m rest inside in
@@ -129,6 +121,7 @@ alone rest n some unquoted separator form m inside formed =
       some = some;
       inside = omega arith;
       separator = ap is_separator (get_or-take m rest n 0 longer) ∙ separator (omega arith);
+      colon = λ is. ap is_ascii_digit (get_or-take m rest 0 0 (omega arith)) ∙ colon (sym (get_or-take m rest n 0 longer) ∙ is);
       unquoted = λ k below quote. unquoted k below (sym (get_or-take m rest k 0 (omega arith)) ∙ quote);
     })))
     (λ most. most)

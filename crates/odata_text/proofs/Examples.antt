@@ -1,6 +1,6 @@
 -- How to show of a text that is written out which tokens it has.
-use Rattle.std.proofs.Common.{◌≡◌, ℕ, zero, suc, ◌+◌, ◌-◌, ◌<◌, ◌≤◌, ◌==◌, true, List, [], ◌∷◌, length, get_or, take, drop, arith, refl, sym, ◌∙◌, ap, subst}
-use Rattle.std.proofs.lemmas.Bool.{both_ways, false≢true}
+use Rattle.std.proofs.Common.{◌≡◌, ℕ, zero, suc, ◌+◌, ◌-◌, ◌<◌, ◌≤◌, ◌==◌, true, List, [], ◌∷◌, length, get_or, take, drop, arith, refl, sym, ◌∙◌, ap, subst, inl, inr, ⊎_elim, ◌++◌, append-nil, false}
+use Rattle.std.proofs.lemmas.Bool.{both_ways, false≢true, cases_lt}
 use Rattle.std.proofs.lemmas.List.{get_or-take, length-take-le}
 use Rattle.odata_text.specs.ByteClass.{class_of}
 use Rattle.odata_text.specs.Identifier.{identifier_run}
@@ -13,8 +13,22 @@ use Rattle.odata_text.specs.declared.byte_class.ByteClass.TheVariants.{Space}
 use Rattle.odata_text.specs.declared.fault.TextFault.TheVariants.{RunOn}
 use Rattle.odata_text.specs.declared.form.Form.{Form}
 use Rattle.odata_text.specs.declared.form.Form.TheVariants.{Token, LeftOut}
-use Rattle.odata_text.specs.declared.form.LeftOutKind.TheVariants.{Quoted}
-use Rattle.odata_text.specs.declared.token.TokenKind.TheVariants.{Word, Int, Str}
+use Rattle.odata_text.specs.declared.form.LeftOutKind.TheVariants.{Number, Clock, Quoted}
+use Rattle.odata_text.specs.declared.token.TokenKind.TheVariants.{Word, Int, Date, Moment, Guid, Str}
+use Rattle.std.specs.Char.{is_ascii_digit, is_ascii_hexdigit}
+use Rattle.std.proofs.Math.ListN.{get_or-append}
+use Rattle.edm_values.specs.IntLiteral.{IsIntSpelling}
+use Rattle.odata_text.specs.LeftOut.{IsDecimals}
+use Rattle.odata_text.specs.Patterns.{Fits}
+use Rattle.odata_text.specs.Sequence.{FollowedBy}
+use Rattle.odata_text.specs.declared.byte_test.ByteTest.{ByteTest}
+use Rattle.odata_text.specs.declared.byte_test.ByteTest.TheVariants.{Digit}
+use Rattle.odata_text.proofs.DecimalBytes.{int-digit, int-some}
+use Rattle.odata_text.proofs.Decimals.{IsDecimalsStart, decimals-starts}
+use Rattle.odata_text.proofs.FormOf.{seam}
+use Rattle.odata_text.proofs.Guids.{fits-guid, guid_pattern}
+use Rattle.odata_text.proofs.Patterns.{fits-at}
+use Rattle.odata_text.proofs.Times.{clock_pattern, date_pattern, fits-clock, fits-date, parts-from_moment}
 use Rattle.odata_text.proofs.Alone.{alone}
 use Rattle.odata_text.proofs.IdentifierBytes.{ascii-identifier, is_ascii_name, is_name_byte, names-at, names-from_ascii_name, run-ascii}
 use Rattle.odata_text.proofs.Places.{run_on}
@@ -43,7 +57,8 @@ word_longest rest n some within name blank =
           (λ k below quote.
           let byte : get_or (take n rest) k 0 ≡ 39 = get_or-take n rest k 0 below ∙ quote in
           both_ways (is_name_byte 39) refl (sym (ap is_name_byte byte) ∙ names-at (take n rest) (names-from_ascii_name (take n rest) name) k (omega arith)))
-          (λ inside. ap is_separator blank);
+          (λ inside. ap is_separator blank)
+          (λ colon. absurd (omega arith));
     }
 
 word_at : (text : List ℕ) (start stop : ℕ) → start < stop → stop - start ≤ length (drop start text) → is_ascii_name (take (stop - start) (drop start text)) ≡ true → get_or (drop start text) (stop - start) 0 ≡ 32
@@ -59,9 +74,12 @@ one_longest =
     record {
       within = reach.within;
       spelled = reach.found (omega arith);
-      longest = alone (drop 17 plain_filter) 1 (omega arith) unquoted (λ inside. refl);
+      longest = alone (drop 17 plain_filter) 1 (omega arith) unquoted (λ inside. refl) (λ colon. absurd (blank colon));
     }
   where
+    blank : get_or (drop 17 plain_filter) 1 0 ≡ 58 → ⊥
+    blank colon = both_ways (get_or (drop 17 plain_filter) 1 0 == 58) refl (ap (λ (b : ℕ). b == 58) colon)
+
     unquoted : (k : ℕ) → k < 1 → get_or (drop 17 plain_filter) k 0 ≡ 39 → ⊥
     unquoted zero below quote = both_ways (get_or (drop 17 plain_filter) 0 0 == 39) refl (ap (λ (b : ℕ). b == 39) quote)
     unquoted (suc k) below quote = absurd (omega arith)
@@ -139,28 +157,63 @@ plain_list = record {
   ends = no_gap plain_filter 34 (omega arith);
 }
 
--- a digit begins a whole number alone
-only_int : (form : Form) → starts form 49 ≡ true → form ≡ Token Int
-only_int (Token Int) e = refl
-only_int (Token _) e = absurd (false≢true e)
-only_int (LeftOut Quoted) e = absurd (false≢true e)
-only_int (LeftOut _) e = absurd (false≢true e)
+-- no piece has a digit and then an `s`
 
-int_longest : (rest : List ℕ) (n : ℕ) → get_or rest 0 0 ≡ 49 → IsReach (Spells Int) n rest → 0 < n → IsLongest (Token Int) n rest
-int_longest rest n digit reach some = record {
-  within = reach.within;
-  spelled = reach.found some;
-  longest = λ form m inside spelled.
-      let start = started form (take m rest) spelled in
-      let nonempty = start.nonempty in
-      let size = length-take-le m rest inside in
-      let byte : get_or (take m rest) 0 0 ≡ 49 = get_or-take m rest 0 0 (omega arith) ∙ digit in
-      let same : form ≡ Token Int = only_int form (sym (ap (starts form) byte) ∙ start.first) in
-      reach.reaches m inside (subst (λ (f : Form). IsFormed f (take m rest)) same spelled);
-}
+pattern-second : (tests : List ByteTest) (xs front back : List ℕ) → xs ≡ front ++ back → Fits (Digit ∷ Digit ∷ tests) front → is_ascii_digit (get_or xs 1 0) ≡ true
+pattern-second tests xs [] back whole fits = absurd fits
+pattern-second tests xs (a ∷ []) back whole fits = absurd fits.1
+pattern-second tests xs (a ∷ b ∷ more) back whole fits = ap (λ (ys : List ℕ). is_ascii_digit (get_or ys 1 0)) whole ∙ fits.1.0
+
+no_digit : (xs : List ℕ) → get_or xs 1 0 ≡ 115 → is_ascii_digit (get_or xs 1 0) ≡ true → ⊥
+no_digit xs second digit = both_ways (is_ascii_digit 115) refl (sym (ap is_ascii_digit second) ∙ digit)
+
+no_second-int : (xs : List ℕ) → IsIntSpelling xs → 1 < length xs → get_or xs 1 0 ≡ 115 → ⊥
+no_second-int xs int long second = let digit = int-digit xs int 0 long in let high = digit.1 in absurd (omega arith)
+
+decimals_start : (b : ℕ) → IsDecimalsStart b → b ≡ 115 → ⊥
+decimals_start b start second = grind arith
+
+no_second-number : (xs : List ℕ) (pair : FollowedBy IsIntSpelling IsDecimals xs) → get_or xs 1 0 ≡ 115 → ⊥
+no_second-number xs pair second =
+    let some = int-some pair.front pair.is_front in
+    let start = decimals-starts pair.back pair.is_back in
+    ⊎_elim
+    (λ long. no_second-int pair.front pair.is_front long (sym (get_or-append pair.front pair.back 0 1 long) ∙ sym (ap (λ (ys : List ℕ). get_or ys 1 0) pair.whole) ∙ second))
+    (λ short.
+    let one : length pair.front ≡ 1 = omega arith in
+    decimals_start (get_or pair.back 0 0) start.1 (sym (seam pair.front pair.back) ∙ ap (λ (n : ℕ). get_or (pair.front ++ pair.back) n 0) one ∙ sym (ap (λ (ys : List ℕ). get_or ys 1 0) pair.whole) ∙ second))
+    (cases_lt 1 (length pair.front))
+
+starts-one : (form : Form) (xs : List ℕ) → IsFormed form xs → get_or xs 0 0 ≡ 49 → starts form 49 ≡ true
+starts-one form xs formed first = sym (ap (starts form) first) ∙ (started form xs formed).first
+
+no_second : (form : Form) (xs : List ℕ) → IsFormed form xs → get_or xs 0 0 ≡ 49 → get_or xs 1 0 ≡ 115 → 1 < length xs → ⊥
+no_second (Token Int) xs formed first second long = no_second-int xs formed long second
+no_second (Token Date) xs formed first second long = no_digit xs second (pattern-second (drop 2 date_pattern) xs xs [] (sym (append-nil xs)) (fits-date xs formed))
+no_second (Token Moment) xs formed first second long =
+    let pair = parts-from_moment xs formed in
+    no_digit xs second (pattern-second (drop 2 date_pattern) xs pair.front pair.back pair.whole (fits-date pair.front pair.is_front))
+no_second (Token Guid) xs formed first second long =
+    both_ways (is_ascii_hexdigit 115) refl (sym (ap is_ascii_hexdigit second) ∙ fits-at guid_pattern xs (fits-guid xs formed) 1 Digit (omega arith))
+no_second (LeftOut Number) xs formed first second long = no_second-number xs formed second
+no_second (LeftOut Clock) xs formed first second long =
+    no_digit xs second (pattern-second (drop 2 clock_pattern) xs formed.front formed.back formed.whole (fits-clock formed.front formed.is_front))
+no_second (LeftOut Quoted) xs formed first second long = false≢true (starts-one (LeftOut Quoted) xs formed first)
+no_second (Token kind) xs formed first second long = false≢true (starts-one (Token kind) xs formed first)
 
 run_on_longest : IsLongest (Token Int) 1 run_on_filter
-run_on_longest = int_longest run_on_filter 1 refl (IsReach-int run_on_filter 0 1 refl (omega arith) refl (omega arith)) (omega arith)
+run_on_longest =
+    let reach = IsReach-int run_on_filter 0 1 refl (omega arith) refl (omega arith) in
+    record {
+      within = reach.within;
+      spelled = reach.found (omega arith);
+      longest = λ form m inside spelled. ⊎_elim
+          (λ longer.
+          let size = length-take-le m run_on_filter inside in
+          absurd (no_second form (take m run_on_filter) spelled (get_or-take m run_on_filter 0 0 (omega arith)) (get_or-take m run_on_filter 1 0 longer) (omega arith)))
+          (λ most. most)
+          (cases_lt 1 m);
+    }
 
 pub run_on_fault : IsFaultBehind run_on_filter (RunOn (record { start = 0; stop = 3 }))
 unfolding lib.Utf8.encode

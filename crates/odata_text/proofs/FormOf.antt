@@ -8,9 +8,11 @@ use Rattle.std.proofs.lemmas.Bool.Decides.{nat_tests}
 use Rattle.std.proofs.lemmas.List.Sums.{prefix_len-le-length, prefix_len_passes}
 use Rattle.odata_text.specs.declared.form.Form.{Form}
 use Rattle.odata_text.specs.declared.form.Form.TheVariants.{Token, LeftOut}
-use Rattle.odata_text.specs.declared.form.LeftOutKind.TheVariants.{Quoted}
-use Rattle.odata_text.specs.declared.token.TokenKind.TheVariants.{Word, Dollar, Int, Str, EnumLit, Open, Close, Comma, Slash, Colon, Minus}
+use Rattle.odata_text.specs.declared.form.LeftOutKind.TheVariants.{Number, Clock, Quoted}
+use Rattle.odata_text.specs.declared.token.TokenKind.TheVariants.{Word, Dollar, Int, Date, Moment, Guid, Str, EnumLit, Open, Close, Comma, Slash, Colon, Minus}
 use Rattle.odata_text.proofs.IdentifierBytes.{is_name_byte}
+use Rattle.odata_text.proofs.LiteralForms as literal
+use Rattle.odata_text.proofs.LiteralForms.{Literal, literal_of}
 use Rattle.odata_text.proofs.Reaches.{prefix_len-reaches}
 use Rattle.odata_text.proofs.Starts.{is_word_start}
 
@@ -56,6 +58,10 @@ run-front p xs front back whole passes stops =
     (λ k below. ap (λ (ys : List ℕ). p (get_or ys k 0)) whole ∙ ap p (get_or-append front back 0 k below) ∙ passes k below)
     (λ inside. ap (λ (ys : List ℕ). p (get_or ys (length front) 0)) whole ∙ ap p (seam front back) ∙ stops)
 
+-- the byte behind a run
+pub ends-at : (xs : List ℕ) (n b : ℕ) → prefix_len is_word_byte xs ≡ n → get_or xs n 0 ≡ b → (b == 45) ≡ false → (get_or xs (prefix_len is_word_byte xs) 0 == 45) ≡ false
+ends-at xs n b run byte other = ap (λ (k : ℕ). get_or xs k 0 == 45) run ∙ ap (λ (c : ℕ). c == 45) byte ∙ other
+
 -- The form of bytes, by the first of them.
 
 -- a literal by its bytes
@@ -69,12 +75,12 @@ literal_form literal.Int = Token Int
 literal_form literal.Decimal = LeftOut Number
 
 -- the run of a word's bytes ends at a hyphen
-abbrev pub is_hyphened : List ℕ → Bool
-is_hyphened xs = get_or xs (prefix_len is_word_byte xs) 0 == 45
+abbrev pub ends_hyphened : List ℕ → Bool
+ends_hyphened xs = get_or xs (prefix_len is_word_byte xs) 0 == 45
 
 abbrev pub by_letters : List ℕ → Form
 by_letters xs =
-    cond (is_hyphened xs) (Token Guid)
+    cond (ends_hyphened xs) (Token Guid)
     (cond (prefix_len is_word_byte xs == length xs) (Token Word)
     (cond (prefix_len is_part_byte xs == prefix_len is_word_byte xs) (LeftOut Quoted) (Token EnumLit)))
 

@@ -45,7 +45,7 @@ IsLiteral Decimal xs = IsDecimalSpelling xs
 -- The literal that bytes can be, by tests: a quote in front; a colon behind two bytes; a hyphen behind four, the last of them
 -- a digit, with ten bytes in all or more; hyphens where a Guid has its first two; digits alone behind the first byte.
 
-abbrev told : Bool → Bool → Bool → Bool → Bool → Bool → Literal
+abbrev pub told : Bool → Bool → Bool → Bool → Bool → Bool → Literal
 told true colon dated ten hyphens digits = Str
 told false true dated ten hyphens digits = TimeOfDay
 told false false true true hyphens digits = Date
@@ -54,19 +54,19 @@ told false false false ten true digits = Guid
 told false false false ten false true = Int
 told false false false ten false false = Decimal
 
-abbrev is_dated : List ℕ → Bool
+abbrev pub is_dated : List ℕ → Bool
 is_dated xs = (get_or xs 4 0 == 45) && is_ascii_digit (get_or xs 3 0)
 
-abbrev is_hyphened : List ℕ → Bool
+abbrev pub is_hyphened : List ℕ → Bool
 is_hyphened xs = (get_or xs 8 0 == 45) && (get_or xs 13 0 == 45)
 
-abbrev is_plain : List ℕ → Bool
+abbrev pub is_plain : List ℕ → Bool
 is_plain xs = list_all is_ascii_digit (drop 1 xs)
 
-abbrev literal_of : List ℕ → Literal
+abbrev pub literal_of : List ℕ → Literal
 literal_of xs = told (get_or xs 0 0 == 39) (get_or xs 2 0 == 58) (is_dated xs) (length xs == 10) (is_hyphened xs) (is_plain xs)
 
-told-as : {a b c d e f : Bool} {u v w x y z : Bool} → a ≡ u → b ≡ v → c ≡ w → d ≡ x → e ≡ y → f ≡ z → told a b c d e f ≡ told u v w x y z
+pub told-as : {a b c d e f : Bool} {u v w x y z : Bool} → a ≡ u → b ≡ v → c ≡ w → d ≡ x → e ≡ y → f ≡ z → told a b c d e f ≡ told u v w x y z
 told-as a b c d e f = cc
 
 -- Tests of a byte.
@@ -249,7 +249,7 @@ told-decimal xs decimal =
 
 -- Bytes are one literal at most.
 
-literal-told : (kind : Literal) (xs : List ℕ) → IsLiteral kind xs → literal_of xs ≡ kind
+pub literal-told : (kind : Literal) (xs : List ℕ) → IsLiteral kind xs → literal_of xs ≡ kind
 literal-told Str xs spelled = told-str xs spelled
 literal-told TimeOfDay xs spelled = told-time_of_day xs spelled
 literal-told Date xs spelled = told-date xs spelled

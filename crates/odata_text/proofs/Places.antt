@@ -3,6 +3,7 @@ use Rattle.std.proofs.Common.{◌≡◌, ◌⊎◌, inl, inr, ⊎_elim, ℕ, ◌
 use Rattle.std.specs.Prelude.{IsCharBoundary, slice_range}
 use Rattle.std.specs.List.{AllByRecursion as AllOf}
 use Rattle.std.proofs.lemmas.Bool.{cases_lt}
+use Rattle.std.proofs.Math.ListN.{get_or-eq_default}
 use Rattle.std.proofs.Math.Seq.{get_or-append_right}
 use Rattle.std.proofs.lemmas.List.{get_or-take, get_or-drop, get_or_push, length-take-le, length-drop, length_push}
 use Rattle.std.proofs.lemmas.Str.{IsCharBoundary-after_ascii, IsCharBoundary-from_take, IsUtf8-append, IsUtf8-drop, IsUtf8-from_ascii}
@@ -17,10 +18,11 @@ use Rattle.odata_text.specs.Spelling.{IsByte, Spells, joined}
 use Rattle.odata_text.specs.Tokens.{IsGap, IsLongest, IsRunOn, is_undelimited}
 use Rattle.odata_text.specs.declared.byte_class.ByteClass.TheVariants.{Space, Other}
 use Rattle.odata_text.specs.declared.token.TokenKind.{TokenKind}
-use Rattle.odata_text.specs.declared.token.TokenKind.TheVariants.{Word, Dollar, Int, Str, EnumLit, Open, Close, Comma, Slash, Colon, Minus}
+use Rattle.odata_text.specs.declared.token.TokenKind.TheVariants.{Word, Dollar, Int, Date, Moment, Guid, Str, EnumLit, Open, Close, Comma, Slash, Colon, Minus}
 use Rattle.odata_text.specs.declared.form.Form.{Form}
 use Rattle.odata_text.specs.declared.form.Form.TheVariants.{Token}
 use Rattle.odata_text.proofs.ByteClasses.{class_of-non_ascii}
+use Rattle.odata_text.proofs.LiteralBytes.{AreLiteralBytes, bytes-date, bytes-guid, bytes-moment, literal_byte-ascii}
 use Rattle.odata_text.proofs.Reaches.{numeral-from_int}
 use Rattle.odata_text.proofs.Starts.{started}
 use Rattle.odata_text.proofs.Words.{boundary-shift}
@@ -42,6 +44,13 @@ str_end bytes spelled =
     let place : length (39 ∷ doubled spelled.0) ≡ length bytes - 1 = omega arith in
     let last : get_or bytes (length bytes - 1) 0 ≡ 39 = ap (λ (xs : List ℕ). get_or xs (length bytes - 1) 0) spelled.1 ∙ get_or_push (39 ∷ doubled spelled.0) 39 0 (length bytes - 1) place in
     omega arith
+
+literal_end : (xs : List ℕ) → AreLiteralBytes xs → get_or xs (length xs - 1) 0 < 128
+literal_end xs bytes =
+    ⊎_elim
+    (λ some. literal_byte-ascii (get_or xs (length xs - 1) 0) (bytes.each (length xs - 1) (omega arith)))
+    (λ none. let past : get_or xs (length xs - 1) 0 ≡ 0 = get_or-eq_default xs 0 (omega arith) in omega arith)
+    (cases_lt 0 (length xs))
 
 mark_end : (xs : List ℕ) (b : ℕ) → IsByte b xs → b < 128 → get_or xs (length xs - 1) 0 < 128
 mark_end xs b is ascii = subst (λ (ys : List ℕ). get_or ys (length ys - 1) 0 < 128) (sym is) ascii
@@ -73,6 +82,9 @@ ends : (kind : TokenKind) (xs : List ℕ) → Spells kind xs → IsUtf8 xs ⊎ (
 ends Word xs spelled = inl (subst IsUtf8 (sym spelled.whole) (utf8-joined spelled.part spelled.more spelled.identifier spelled.identifiers))
 ends Dollar xs spelled = inl (utf8-dollar xs spelled)
 ends Int xs spelled = inr (int_end xs spelled)
+ends Date xs spelled = inr (literal_end xs (bytes-date xs spelled))
+ends Moment xs spelled = inr (literal_end xs (bytes-moment xs spelled))
+ends Guid xs spelled = inr (literal_end xs (bytes-guid xs spelled))
 ends Str xs spelled = inr (str_end xs spelled)
 ends EnumLit xs spelled = inr (back_end xs spelled.front spelled.back spelled.whole (started (Token Str) spelled.back spelled.is_back).nonempty (str_end spelled.back spelled.is_back))
 ends Open xs spelled = inr (mark_end xs 40 spelled (omega arith))
@@ -81,7 +93,6 @@ ends Comma xs spelled = inr (mark_end xs 44 spelled (omega arith))
 ends Slash xs spelled = inr (mark_end xs 47 spelled (omega arith))
 ends Colon xs spelled = inr (mark_end xs 58 spelled (omega arith))
 ends Minus xs spelled = inr (mark_end xs 45 spelled (omega arith))
-ends _ xs spelled = absurd spelled
 
 ascii-boundary : (text : List ℕ) (start n : ℕ) → IsUtf8 text → 0 < n → n ≤ length (drop start text) → get_or (take n (drop start text)) (length (take n (drop start text)) - 1) 0 < 128 → IsCharBoundary text (start + n)
 ascii-boundary text start n utf8 some within ascii =

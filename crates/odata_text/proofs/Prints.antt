@@ -1,5 +1,5 @@
 -- Tokens that are printed one after another are read back.
-use Rattle.std.proofs.Common.{◌≡◌, ℕ, ◌+◌, ◌-◌, ◌<◌, ◌≤◌, ◌==◌, not, true, false, List, [], ◌∷◌, ◌++◌, suc, length, get_or, take, drop, chars, arith, refl, sym, ◌∙◌, ap, subst, length-append, append_assoc, append-nil}
+use Rattle.std.proofs.Common.{◌≡◌, ℕ, ◌+◌, ◌-◌, ◌<◌, ◌≤◌, ◌==◌, ◌&&◌, not, true, false, List, [], ◌∷◌, ◌++◌, suc, length, get_or, take, drop, chars, arith, refl, sym, ◌∙◌, ap, subst, length-append, append_assoc, append-nil}
 use Rattle.std.specs.Prelude.{All}
 use Rattle.std.specs.List.{take_while}
 use Rattle.std.specs.Str.{encode_utf8_all}
@@ -35,13 +35,12 @@ run-none b more separator =
     ap (λ (cs : List ℕ). length (encode_utf8_all cs)) (ap (take_while continues_identifier) front ∙ none)
 
 follow-separator : (kind : TokenKind) (b : ℕ) → is_undelimited kind ≡ true → may_follow kind b ≡ true → is_separator b ≡ true
-follow-separator Int b undelimited follows = (and_parts (is_separator b) (not (b == 58)) follows).0
 follow-separator Open b undelimited follows = absurd (false≢true undelimited)
 follow-separator Close b undelimited follows = absurd (false≢true undelimited)
 follow-separator Comma b undelimited follows = absurd (false≢true undelimited)
 follow-separator Slash b undelimited follows = absurd (false≢true undelimited)
 follow-separator Colon b undelimited follows = absurd (false≢true undelimited)
-follow-separator _ b undelimited follows = follows
+follow-separator kind b undelimited follows = (and_parts (is_separator b) (not (is_undelimited kind && (b == 58))) follows).0
 
 no_run : (kind : TokenKind) (rest : List ℕ) → MayFollow kind rest → RunsOn kind rest → ⊥
 no_run kind [] follows runs = let some = runs.1 in let none : identifier_run [] ≡ 0 = ap (λ (cs : List ℕ). length (encode_utf8_all (take_while continues_identifier cs))) chars-nil in absurd (omega arith)

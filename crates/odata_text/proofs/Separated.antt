@@ -1,5 +1,6 @@
 -- A token before what may follow it is the longest piece at its place.
-use Rattle.std.proofs.Common.{◌≡◌, inl, inr, ⊎_elim, ℕ, ◌+◌, ◌-◌, ◌<◌, ◌≤◌, ◌==◌, not, true, false, List, [], ◌∷◌, ◌++◌, zero, suc, length, get_or, take, drop, arith, refl, sym, ◌∙◌, ap, subst, length-append, append_assoc}
+use Rattle.std.proofs.Common.{◌≡◌, inl, inr, ⊎_elim, ℕ, ◌+◌, ◌-◌, ◌<◌, ◌≤◌, ◌==◌, ◌&&◌, not, true, false, List, [], ◌∷◌, ◌++◌, zero, suc, length, get_or, take, drop, arith, refl, sym, ◌∙◌, ap, subst, length-append, append_assoc}
+use Rattle.std.specs.Char.{is_ascii_digit}
 use Rattle.std.proofs.Math.ListN.{get_or-append}
 use Rattle.std.specs.Str.Parse.{IsNumeral}
 use Rattle.std.proofs.Math.Seq.{drop-append_seam, get_or-append_right, take-append-add}
@@ -16,14 +17,15 @@ use Rattle.odata_text.specs.Spelling.{IsByte, IsDottedWord, IsFormed, IsLeftOutN
 use Rattle.odata_text.specs.Tokens.{IsLongest}
 use Rattle.odata_text.specs.declared.form.Form.{Form}
 use Rattle.odata_text.specs.declared.form.Form.TheVariants.{Token, LeftOut}
-use Rattle.odata_text.specs.declared.form.LeftOutKind.TheVariants.{Quoted}
+use Rattle.odata_text.specs.declared.form.LeftOutKind.TheVariants.{Number, Clock, Quoted}
 use Rattle.odata_text.specs.declared.token.TokenKind.{TokenKind}
-use Rattle.odata_text.specs.declared.token.TokenKind.TheVariants.{Word, Dollar, Int, Str, EnumLit, Open, Close, Comma, Slash, Colon, Minus}
+use Rattle.odata_text.specs.declared.token.TokenKind.TheVariants.{Word, Dollar, Int, Date, Moment, Guid, Str, EnumLit, Open, Close, Comma, Slash, Colon, Minus}
 use Rattle.odata_text.proofs.Alone.{alone}
 use Rattle.odata_text.proofs.FormOf.{is_word_byte, seam}
 use Rattle.odata_text.proofs.Parts.{no_quote-name, no_quote-word, string-starts}
 use Rattle.odata_text.proofs.WordForms.{is_word}
 use Rattle.odata_text.proofs.IdentifierBytes.{identifier-byte, is_name_byte}
+use Rattle.odata_text.proofs.LiteralBytes.{AreLiteralBytes, bytes-date, bytes-guid, bytes-int, bytes-moment, bytes-number, bytes-time_of_day, literal_byte-quote}
 use Rattle.odata_text.proofs.Quotes.{string-bound}
 use Rattle.odata_text.proofs.Starts.{is_int_start, is_word_start, started, starts}
 
@@ -36,6 +38,10 @@ longest_by kind text rest spelled most =
       spelled = subst (Spells kind) (sym (take_at text rest (length text) refl)) spelled;
       longest = most;
     }
+
+-- behind the other kinds any separator stands
+plain_follows : (b : ℕ) → (is_separator b && true) ≡ true → is_separator b ≡ true
+plain_follows b follows = (and_parts (is_separator b) true follows).0
 
 separator_behind : (kind : TokenKind) (rest : List ℕ) → ((b : ℕ) → may_follow kind b ≡ true → is_separator b ≡ true) → MayFollow kind rest → 0 < length rest → is_separator (get_or rest 0 0) ≡ true
 separator_behind kind [] only follows some = absurd (omega arith)
@@ -58,38 +64,44 @@ mark kind c one only text rest is spelled = longest_by kind text rest spelled (�
 only_open : (form : Form) → starts form 40 ≡ true → form ≡ Token Open
 only_open (Token Open) e = refl
 only_open (Token _) e = absurd (false≢true e)
+only_open (LeftOut Number) e = absurd (false≢true e)
+only_open (LeftOut Clock) e = absurd (false≢true e)
 only_open (LeftOut Quoted) e = absurd (false≢true e)
-only_open (LeftOut _) e = absurd (false≢true e)
 
 only_close : (form : Form) → starts form 41 ≡ true → form ≡ Token Close
 only_close (Token Close) e = refl
 only_close (Token _) e = absurd (false≢true e)
+only_close (LeftOut Number) e = absurd (false≢true e)
+only_close (LeftOut Clock) e = absurd (false≢true e)
 only_close (LeftOut Quoted) e = absurd (false≢true e)
-only_close (LeftOut _) e = absurd (false≢true e)
 
 only_comma : (form : Form) → starts form 44 ≡ true → form ≡ Token Comma
 only_comma (Token Comma) e = refl
 only_comma (Token _) e = absurd (false≢true e)
+only_comma (LeftOut Number) e = absurd (false≢true e)
+only_comma (LeftOut Clock) e = absurd (false≢true e)
 only_comma (LeftOut Quoted) e = absurd (false≢true e)
-only_comma (LeftOut _) e = absurd (false≢true e)
 
 only_slash : (form : Form) → starts form 47 ≡ true → form ≡ Token Slash
 only_slash (Token Slash) e = refl
 only_slash (Token _) e = absurd (false≢true e)
+only_slash (LeftOut Number) e = absurd (false≢true e)
+only_slash (LeftOut Clock) e = absurd (false≢true e)
 only_slash (LeftOut Quoted) e = absurd (false≢true e)
-only_slash (LeftOut _) e = absurd (false≢true e)
 
 only_colon : (form : Form) → starts form 58 ≡ true → form ≡ Token Colon
 only_colon (Token Colon) e = refl
 only_colon (Token _) e = absurd (false≢true e)
+only_colon (LeftOut Number) e = absurd (false≢true e)
+only_colon (LeftOut Clock) e = absurd (false≢true e)
 only_colon (LeftOut Quoted) e = absurd (false≢true e)
-only_colon (LeftOut _) e = absurd (false≢true e)
 
 only_str : (form : Form) → starts form 39 ≡ true → form ≡ Token Str
 only_str (Token Str) e = refl
 only_str (Token _) e = absurd (false≢true e)
+only_str (LeftOut Number) e = absurd (false≢true e)
+only_str (LeftOut Clock) e = absurd (false≢true e)
 only_str (LeftOut Quoted) e = absurd (false≢true e)
-only_str (LeftOut _) e = absurd (false≢true e)
 
 -- ---- texts in quotes
 
@@ -108,7 +120,7 @@ str text rest spelled follows = longest_by Str text rest spelled (λ form m insi
     let first = string-starts text spelled in
     let byte : get_or (take m (text ++ rest)) 0 0 ≡ 39 = get_or-take m (text ++ rest) 0 0 (omega arith) ∙ get_or-append text rest 0 0 first.0 ∙ first.1 in
     let same : form ≡ Token Str = only_str form (sym (ap (starts form) byte) ∙ start.first) in
-    string-bound text rest m spelled (unquoted_behind Str rest (λ b e. e) follows) inside (subst (λ (f : Form). IsFormed f (take m (text ++ rest))) same formed))
+    string-bound text rest m spelled (unquoted_behind Str rest plain_follows follows) inside (subst (λ (f : Form). IsFormed f (take m (text ++ rest))) same formed))
 
 -- the first quote is at one place
 first_quote : (xs f b g c : List ℕ) → xs ≡ f ++ b → xs ≡ g ++ c → get_or b 0 0 ≡ 39 → get_or c 0 0 ≡ 39
@@ -149,19 +161,13 @@ same_byte c k e = grind (arith, nat_tests)
 apart : (c k : ℕ) → is_word_start k ≡ false → is_word_start c ≡ true → (c == k) ≡ true → ⊥
 apart c k other start same = both_ways (is_word_start k) other (sym (ap is_word_start (same_byte c k same)) ∙ start)
 
-apart_int : (c : ℕ) → is_word_start c ≡ true → is_int_start c ≡ true → ⊥
-apart_int c start int = both_ways (is_int_start c) (none c start) int
-  where
-    none : (b : ℕ) → is_word_start b ≡ true → is_int_start b ≡ false
-    none b start = grind (arith, nat_tests)
-
 -- a dotted word and a text in quotes
 enum : (text rest : List ℕ) → FollowedBy IsDottedWord IsStringSpelling text → MayFollow EnumLit rest → IsLongest (Token EnumLit) (length text) (text ++ rest)
 enum text rest pair follows =
     let word = pair.front in
     let quoted = pair.back in
     let none = no_quote-word word pair.is_front in
-    let other = unquoted_behind EnumLit rest (λ b e. e) follows in
+    let other = unquoted_behind EnumLit rest plain_follows follows in
     let size = ap length pair.whole ∙ length-append word quoted in
     let first = string-starts quoted pair.is_back in
     let some = first.0 in
@@ -191,7 +197,10 @@ enum text rest pair follows =
     enum_form (Token EnumLit) xs k n formed start inside quote dotted named = dotted formed
     enum_form (LeftOut Quoted) xs k n formed start inside quote dotted named = named formed
     enum_form (Token Dollar) xs k n formed start inside quote dotted named = absurd (apart (get_or xs 0 0) 36 refl start (started (Token Dollar) xs formed).first)
-    enum_form (Token Int) xs k n formed start inside quote dotted named = absurd (apart_int (get_or xs 0 0) start (started (Token Int) xs formed).first)
+    enum_form (Token Int) xs k n formed start inside quote dotted named = absurd (literal_byte-quote (get_or xs k 0) ((bytes-int xs formed).each k inside) quote)
+    enum_form (Token Date) xs k n formed start inside quote dotted named = absurd (literal_byte-quote (get_or xs k 0) ((bytes-date xs formed).each k inside) quote)
+    enum_form (Token Moment) xs k n formed start inside quote dotted named = absurd (literal_byte-quote (get_or xs k 0) ((bytes-moment xs formed).each k inside) quote)
+    enum_form (Token Guid) xs k n formed start inside quote dotted named = absurd (literal_byte-quote (get_or xs k 0) ((bytes-guid xs formed).each k inside) quote)
     enum_form (Token Str) xs k n formed start inside quote dotted named = absurd (apart (get_or xs 0 0) 39 refl start (started (Token Str) xs formed).first)
     enum_form (Token Open) xs k n formed start inside quote dotted named = absurd (apart (get_or xs 0 0) 40 refl start (started (Token Open) xs formed).first)
     enum_form (Token Close) xs k n formed start inside quote dotted named = absurd (apart (get_or xs 0 0) 41 refl start (started (Token Close) xs formed).first)
@@ -199,25 +208,13 @@ enum text rest pair follows =
     enum_form (Token Slash) xs k n formed start inside quote dotted named = absurd (apart (get_or xs 0 0) 47 refl start (started (Token Slash) xs formed).first)
     enum_form (Token Colon) xs k n formed start inside quote dotted named = absurd (apart (get_or xs 0 0) 58 refl start (started (Token Colon) xs formed).first)
     enum_form (Token Minus) xs k n formed start inside quote dotted named = absurd (apart (get_or xs 0 0) 45 refl start (started (Token Minus) xs formed).first)
-    enum_form (Token _) xs k n formed start inside quote dotted named = absurd formed
-    enum_form (LeftOut _) xs k n formed start inside quote dotted named = absurd formed
+    enum_form (LeftOut Number) xs k n formed start inside quote dotted named = absurd (literal_byte-quote (get_or xs k 0) ((bytes-number xs formed).each k inside) quote)
+    enum_form (LeftOut Clock) xs k n formed start inside quote dotted named = absurd (literal_byte-quote (get_or xs k 0) ((bytes-time_of_day xs formed).each k inside) quote)
 
 -- ---- tokens without a quote
 
-unquoted-int : (xs : List ℕ) → IsIntSpelling xs → (n : ℕ) → n < length xs → get_or xs n 0 ≡ 39 → ⊥
-unquoted-int [] int n inside quote = absurd int.1
-unquoted-int (c ∷ ds) int n inside quote =
-    elim int.1 [
-      | inl plus ↦ behind c ds 43 plus.0 (omega arith) plus.1 n inside quote
-      | inr other ↦ elim other [
-        | inl minus ↦ behind c ds 45 minus.0 (omega arith) minus.1 n inside quote
-        | inr plain ↦ let digit = digit_at (c ∷ ds) n plain.0.1 inside in absurd (omega arith)
-      ]
-    ]
-  where
-    behind : (b : ℕ) (bs : List ℕ) (k : ℕ) → b ≡ k → 39 < k → IsNumeral 10 bs → (i : ℕ) → i < length (b ∷ bs) → get_or (b ∷ bs) i 0 ≡ 39 → ⊥
-    behind b bs k is more numeral zero inside quote = absurd (omega arith)
-    behind b bs k is more numeral (suc i) inside quote = let digit = digit_at bs i numeral.1 (omega arith) in absurd (omega arith)
+unquoted-literal : (xs : List ℕ) → AreLiteralBytes xs → (n : ℕ) → n < length xs → get_or xs n 0 ≡ 39 → ⊥
+unquoted-literal xs bytes n inside quote = literal_byte-quote (get_or xs n 0) (bytes.each n inside) quote
 
 unquoted-dollar : (xs : List ℕ) → FollowedBy (IsByte 36) IsIdentifier xs → (n : ℕ) → n < length xs → get_or xs n 0 ≡ 39 → ⊥
 unquoted-dollar xs pair n inside quote =
@@ -234,26 +231,50 @@ unquoted-dollar xs pair n inside quote =
     both_ways (is_name_byte 39) refl (sym (ap is_name_byte byte) ∙ name))
     (cases_lt n (length pair.front))
 
--- a token without a quote
+-- a token without a quote; a `:` behind it ends it too, if it does not begin with a digit
 plain : (kind : TokenKind) → ((b : ℕ) → may_follow kind b ≡ true → is_separator b ≡ true) → (text rest : List ℕ) → Spells kind text → ((n : ℕ) → n < length text → get_or text n 0 ≡ 39 → ⊥)
-    → MayFollow kind rest → IsLongest (Token kind) (length text) (text ++ rest)
-plain kind only text rest spelled unquoted follows =
+    → ((b : ℕ) → may_follow kind b ≡ true → b ≡ 58 → is_ascii_digit (get_or text 0 0) ≡ false) → MayFollow kind rest → IsLongest (Token kind) (length text) (text ++ rest)
+plain kind only text rest spelled unquoted colon follows =
     let some = (started (Token kind) text spelled).nonempty in
     let all = length-append text rest in
     longest_by kind text rest spelled
     (alone (text ++ rest) (length text) some
     (λ k below quote. unquoted k below (sym (get_or-append text rest 0 k below) ∙ quote))
-    (λ inside. ap is_separator (seam text rest) ∙ separator_behind kind rest only follows (omega arith)))
+    (λ inside. ap is_separator (seam text rest) ∙ separator_behind kind rest only follows (omega arith))
+    (λ is. ap is_ascii_digit (get_or-append text rest 0 0 some) ∙ colon_behind rest follows (sym (seam text rest) ∙ is)))
+  where
+    colon_behind : (more : List ℕ) → MayFollow kind more → get_or more 0 0 ≡ 58 → is_ascii_digit (get_or text 0 0) ≡ false
+    colon_behind [] follows is = absurd (omega arith)
+    colon_behind (b ∷ bs) follows is = colon b follows is
 
-int_follows : (b : ℕ) → may_follow Int b ≡ true → is_separator b ≡ true
-int_follows b follows = (and_parts (is_separator b) (not (b == 58)) follows).0
+-- no `:` stands behind a literal without quotes
+literal_follows : (kind : TokenKind) → ((b : ℕ) → may_follow kind b ≡ (is_separator b && not (b == 58))) → (b : ℕ) → may_follow kind b ≡ true → is_separator b ≡ true
+literal_follows kind is b follows = (and_parts (is_separator b) (not (b == 58)) (sym (is b) ∙ follows)).0
+
+literal_colon : (kind : TokenKind) → ((b : ℕ) → may_follow kind b ≡ (is_separator b && not (b == 58))) → (b : ℕ) → may_follow kind b ≡ true → b ≡ 58 → ⊥
+literal_colon kind is b follows colon = let none : (is_separator 58 && not (58 == 58)) ≡ true = sym (ap (λ (c : ℕ). is_separator c && not (c == 58)) colon) ∙ sym (is b) ∙ follows in absurd (false≢true none)
+
+literal : (kind : TokenKind) → ((b : ℕ) → may_follow kind b ≡ (is_separator b && not (b == 58))) → (text rest : List ℕ) → Spells kind text → AreLiteralBytes text → MayFollow kind rest → IsLongest (Token kind) (length text) (text ++ rest)
+literal kind is text rest spelled bytes follows =
+    plain kind (literal_follows kind is) text rest spelled (unquoted-literal text bytes) (λ b may colon. absurd (literal_colon kind is b may colon)) follows
+
+-- a word begins with no digit
+word_start-digit : (b : ℕ) → is_word_start b ≡ true → is_ascii_digit b ≡ false
+word_start-digit b start = grind (arith, nat_tests)
 
 -- ---- every token
 
 pub separated : (kind : TokenKind) (text rest : List ℕ) → Spells kind text → MayFollow kind rest → IsLongest (Token kind) (length text) (text ++ rest)
-separated Word text rest spelled follows = plain Word (λ b e. e) text rest spelled (λ n inside quote. both_ways (is_word_byte 39) refl (sym (ap is_word_byte quote) ∙ is_word text spelled n inside)) follows
-separated Dollar text rest spelled follows = plain Dollar (λ b e. e) text rest spelled (unquoted-dollar text spelled) follows
-separated Int text rest spelled follows = plain Int int_follows text rest spelled (unquoted-int text spelled) follows
+separated Word text rest spelled follows =
+    plain Word plain_follows text rest spelled (λ n inside quote. both_ways (is_word_byte 39) refl (sym (ap is_word_byte quote) ∙ is_word text spelled n inside))
+    (λ b may colon. word_start-digit (get_or text 0 0) (started (Token Word) text spelled).first) follows
+separated Dollar text rest spelled follows =
+    plain Dollar plain_follows text rest spelled (unquoted-dollar text spelled)
+    (λ b may colon. ap is_ascii_digit (same_byte (get_or text 0 0) 36 (started (Token Dollar) text spelled).first)) follows
+separated Int text rest spelled follows = literal Int (λ b. refl) text rest spelled (bytes-int text spelled) follows
+separated Date text rest spelled follows = literal Date (λ b. refl) text rest spelled (bytes-date text spelled) follows
+separated Moment text rest spelled follows = literal Moment (λ b. refl) text rest spelled (bytes-moment text spelled) follows
+separated Guid text rest spelled follows = literal Guid (λ b. refl) text rest spelled (bytes-guid text spelled) follows
 separated Str text rest spelled follows = str text rest spelled follows
 separated EnumLit text rest spelled follows = enum text rest spelled follows
 separated Open text rest spelled follows = mark Open 40 (λ xs is. ap length is) only_open text rest spelled spelled
@@ -262,8 +283,8 @@ separated Comma text rest spelled follows = mark Comma 44 (λ xs is. ap length i
 separated Slash text rest spelled follows = mark Slash 47 (λ xs is. ap length is) only_slash text rest spelled spelled
 separated Colon text rest spelled follows = mark Colon 58 (λ xs is. ap length is) only_colon text rest spelled spelled
 separated Minus text rest spelled follows =
-    plain Minus (λ b e. e) text rest spelled
+    plain Minus plain_follows text rest spelled
     (λ n inside quote. let size = ap length spelled in let here : n ≡ 0 = omega arith in
     let byte : 45 ≡ 39 = sym (ap (λ (ys : List ℕ). get_or ys 0 0) spelled) ∙ ap (λ (i : ℕ). get_or text i 0) (sym here) ∙ quote in absurd (omega arith))
+    (λ b may colon. ap (λ (ys : List ℕ). is_ascii_digit (get_or ys 0 0)) spelled)
     follows
-separated _ text rest spelled follows = absurd spelled

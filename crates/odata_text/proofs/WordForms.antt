@@ -2,7 +2,7 @@
 use Rattle.std.proofs.Common.{◌≡◌, ⊎_elim, ℕ, zero, suc, ◌-◌, ◌<◌, ◌≤◌, ◌==◌, ◌||◌, nat_le, Bool, true, List, [], ◌∷◌, ◌++◌, length, get_or, arith, refl, sym, ◌∙◌, ap, length-append, append_assoc}
 use Rattle.std.specs.Char.{is_ascii_alphabetic}
 use Rattle.std.specs.List.{AllByRecursion as AllOf, prefix_len}
-use Rattle.std.proofs.Math.ListN.{get_or-append}
+use Rattle.std.proofs.Math.ListN.{get_or-append, get_or-eq_default}
 use Rattle.std.proofs.Math.Seq.{get_or-append_right}
 use Rattle.std.proofs.lemmas.Bool.{cases_lt, cond-true, cond-false}
 use Rattle.std.proofs.lemmas.Bool.Decides.{nat_tests}
@@ -17,7 +17,7 @@ use Rattle.odata_text.proofs.IdentifierBytes.{identifier-byte, is_name_byte}
 use Rattle.odata_text.proofs.Names.{left_out-letters}
 use Rattle.odata_text.proofs.Starts.{front-first, is_word_start, started}
 use Rattle.odata_text.proofs.Words.{dotted-pair}
-use Rattle.odata_text.proofs.FormOf.{equal, first-letters, form_of, is_part_byte, is_quote, is_word_byte, run-front, run_is, unequal}
+use Rattle.odata_text.proofs.FormOf.{ends-at, ends_hyphened, equal, first-letters, form_of, is_part_byte, is_quote, is_word_byte, run-front, run_is, seam, unequal}
 
 part-byte : (xs : List ℕ) → IsIdentifier xs → (i : ℕ) → i < length xs → is_part_byte (get_or xs i 0) ≡ true
 part-byte xs identifier i inside =
@@ -56,7 +56,9 @@ pub form-word : (xs : List ℕ) → IsWord xs → form_of xs ≡ Token Word
 form-word xs word =
     let start = (started (Token Word) xs word).first in
     let run = run_is is_word_byte xs (length xs) (omega arith) (is_word xs word) (λ past. absurd (omega arith)) in
-    first-letters (get_or xs 0 0) xs start ∙ cond-true (prefix_len is_word_byte xs == length xs) _ _ (equal (prefix_len is_word_byte xs) (length xs) run)
+    first-letters (get_or xs 0 0) xs start
+    ∙ cond-false (ends_hyphened xs) _ _ (ends-at xs (length xs) 0 run (get_or-eq_default xs 0 (omega arith)) refl)
+    ∙ cond-true (prefix_len is_word_byte xs == length xs) _ _ (equal (prefix_len is_word_byte xs) (length xs) run)
 
 -- a name and a text in quotes
 pub form-named : (xs : List ℕ) (pair : FollowedBy IsLeftOutName IsStringSpelling xs) → form_of xs ≡ LeftOut Quoted
@@ -71,6 +73,7 @@ form-named xs pair =
     let run = run-front is_word_byte xs pair.front pair.back pair.whole (λ k below. word-byte-part (get_or pair.front k 0) (letter-part (get_or pair.front k 0) (letters.letters k below))) (ap is_word_byte quote) in
     let short = run-front is_part_byte xs pair.front pair.back pair.whole (λ k below. letter-part (get_or pair.front k 0) (letters.letters k below)) (ap is_part_byte quote) in
     first-letters (get_or xs 0 0) xs start
+    ∙ cond-false (ends_hyphened xs) _ _ (ends-at xs (length pair.front) 39 run (ap (λ (ys : List ℕ). get_or ys (length pair.front) 0) pair.whole ∙ seam pair.front pair.back ∙ quote) refl)
     ∙ cond-false (prefix_len is_word_byte xs == length xs) _ _ (unequal (prefix_len is_word_byte xs) (length xs) (omega arith))
     ∙ cond-true (prefix_len is_part_byte xs == prefix_len is_word_byte xs) _ _ (equal (prefix_len is_part_byte xs) (prefix_len is_word_byte xs) (short ∙ sym run))
   where
@@ -100,5 +103,6 @@ form-enum xs pair =
     let byte : get_or (dotted.back ++ pair.back) 0 0 ≡ 46 = ap (λ (ys : List ℕ). get_or (ys ++ pair.back) 0 0) (dot.whole ∙ ap (λ (ys : List ℕ). ys ++ dot.back) dot.is_front) in
     let short = run-front is_part_byte xs dotted.front (dotted.back ++ pair.back) inner (part-byte dotted.front dotted.is_front) (ap is_part_byte byte) in
     first-letters (get_or xs 0 0) xs (ap is_word_start first.1 ∙ front_start.first)
+    ∙ cond-false (ends_hyphened xs) _ _ (ends-at xs (length pair.front) 39 run (ap (λ (ys : List ℕ). get_or ys (length pair.front) 0) pair.whole ∙ seam pair.front pair.back ∙ quote) refl)
     ∙ cond-false (prefix_len is_word_byte xs == length xs) _ _ (unequal (prefix_len is_word_byte xs) (length xs) (omega arith))
     ∙ cond-false (prefix_len is_part_byte xs == prefix_len is_word_byte xs) _ _ (unequal (prefix_len is_part_byte xs) (prefix_len is_word_byte xs) (omega arith))

@@ -26,4 +26,4 @@ plain_tokens =
 
 -- a number with letters directly behind it
 abbrev pub run_on_filter : List ℕ
-run_on_filter = codes "1eq 1"
+run_on_filter = codes "1st"

@@ -22,7 +22,7 @@ pub fn plain_reading()
     ensures { IsTokenList plain_filter plain_tokens }
 {}
 
-/// `1eq 1` runs on up to its third byte, and so has no tokens.
+/// `1st` is a number that runs on up to its third byte, and so has no tokens.
 pub fn run_on_reading()
     ensures fault { IsTextFault run_on_filter (TextFault.RunOn (record { start = 0; stop = 3 })) }
     ensures none { (pieces : List Piece) → IsTokenList run_on_filter pieces → ⊥ }
