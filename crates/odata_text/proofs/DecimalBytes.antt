@@ -1,5 +1,5 @@
 -- The bytes of whole numbers and of numbers with a fraction or an exponent, by place.
-use Rattle.std.proofs.Common.{◌≡◌, ◌⊎◌, inl, inr, ⊎_elim, ℕ, zero, suc, ◌+◌, ◌-◌, ◌<◌, ◌≤◌, List, [], ◌∷◌, ◌++◌, length, get_or, arith, refl, sym, ◌∙◌, ap, subst, length-append}
+use Rattle.std.proofs.Common.{◌≡◌, ◌⊎◌, inl, inr, ⊎_elim, ℕ, zero, suc, ◌+◌, ◌-◌, ◌<◌, ◌≤◌, List, [], ◌∷◌, ◌++◌, length, get_or, arith, sym, ◌∙◌, ap, subst, length-append}
 use Rattle.std.specs.Str.Parse.{IsNumeral}
 use Rattle.std.proofs.Math.ListN.{get_or-append}
 use Rattle.std.proofs.Math.Seq.{get_or-append_right}
@@ -7,7 +7,7 @@ use Rattle.std.proofs.lemmas.Bool.{cases_lt}
 use Rattle.std.proofs.lemmas.Str.Parse.{digit_at}
 use Rattle.edm_values.specs.IntLiteral.{IsIntSpelling}
 use Rattle.odata_text.specs.LeftOut.{IsDecimalSpelling, IsDecimals, IsExponent, IsFraction}
-use Rattle.odata_text.proofs.Decimals.{IsDecimalsStart, IsExponentStart, decimals-starts, exponent-starts, fraction-byte, fraction-starts, int-byte}
+use Rattle.odata_text.proofs.Decimals.{IsDecimalsStart, IsExponentStart, decimals-starts, fraction-byte, fraction-starts, int-byte}
 
 abbrev pub IsDigitByte : ℕ → Type 0
 IsDigitByte b = (48 ≤ b) × (b ≤ 57)
