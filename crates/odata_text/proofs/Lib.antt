@@ -4,6 +4,7 @@ pub mod Decimals
 pub mod Examples
 pub mod Guids
 pub mod Identifiers
+pub mod LiteralBytes
 pub mod LiteralForms
 pub mod LiteralStarts
 pub mod LongestPieces
