@@ -1,5 +1,5 @@
 -- The bytes of whole numbers and of numbers with a fraction or an exponent, by place.
-use Rattle.std.proofs.Common.{◌≡◌, ◌⊎◌, inl, inr, ⊎_elim, ℕ, zero, suc, ◌+◌, ◌-◌, ◌<◌, ◌≤◌, List, [], ◌∷◌, ◌++◌, length, get_or, arith, refl, sym, ◌∙◌, ap, subst, length-append}
+use Rattle.std.proofs.Common.{◌≡◌, ◌⊎◌, inl, inr, ⊎_elim, ℕ, zero, suc, ◌+◌, ◌-◌, ◌<◌, ◌≤◌, List, [], ◌∷◌, ◌++◌, length, get_or, arith, sym, ◌∙◌, ap, subst, length-append}
 use Rattle.std.specs.Str.Parse.{IsNumeral}
 use Rattle.std.proofs.Math.ListN.{get_or-append}
 use Rattle.std.proofs.Math.Seq.{get_or-append_right}
@@ -7,7 +7,8 @@ use Rattle.std.proofs.lemmas.Bool.{cases_lt}
 use Rattle.std.proofs.lemmas.Str.Parse.{digit_at}
 use Rattle.edm_values.specs.IntLiteral.{IsIntSpelling}
 use Rattle.odata_text.specs.LeftOut.{IsDecimalSpelling, IsDecimals, IsExponent, IsFraction}
-use Rattle.odata_text.proofs.Decimals.{IsDecimalsStart, IsExponentStart, decimals-starts, exponent-starts, fraction-byte, fraction-starts, int-byte}
+use Rattle.odata_text.proofs.Sequences.{each-append}
+use Rattle.odata_text.proofs.Decimals.{IsDecimalsStart, IsExponentStart, decimals-starts, fraction-byte, fraction-starts, int-byte}
 
 abbrev pub IsDigitByte : ℕ → Type 0
 IsDigitByte b = (48 ≤ b) × (b ≤ 57)
@@ -148,26 +149,16 @@ bytes-exponent [] exponent i inside = absurd exponent
 bytes-exponent (mark ∷ power) exponent zero inside = inr (inr (inr exponent.0))
 bytes-exponent (mark ∷ power) exponent (suc i) inside = from-int (get_or power i 0) (int-byte power exponent.1 i (omega arith))
 
-bytes-append : (xs front back : List ℕ) → xs ≡ front ++ back → ((i : ℕ) → i < length front → IsDecimalByte (get_or front i 0))
-    → ((i : ℕ) → i < length back → IsDecimalByte (get_or back i 0)) → (i : ℕ) → i < length xs → IsDecimalByte (get_or xs i 0)
-bytes-append xs front back whole first second i inside =
-    let size = ap length whole ∙ length-append front back in
-    subst (λ (ys : List ℕ). IsDecimalByte (get_or ys i 0)) (sym whole)
-    (⊎_elim
-    (λ within. subst IsDecimalByte (sym (get_or-append front back 0 i within)) (first i within))
-    (λ past. subst IsDecimalByte (sym (get_or-append_right front back i 0 past)) (second (i - length front) (omega arith)))
-    (cases_lt i (length front)))
-
 bytes-decimals : (xs : List ℕ) → IsDecimals xs → (i : ℕ) → i < length xs → IsDecimalByte (get_or xs i 0)
 bytes-decimals xs (inl fraction) i inside = from-fraction (get_or xs i 0) (fraction-byte xs fraction i inside)
 bytes-decimals xs (inr (inl exponent)) i inside = bytes-exponent xs exponent i inside
 bytes-decimals xs (inr (inr pair)) i inside =
-    bytes-append xs pair.front pair.back pair.whole
+    each-append IsDecimalByte xs pair.front pair.back pair.whole
     (λ k within. from-fraction (get_or pair.front k 0) (fraction-byte pair.front pair.is_front k within))
     (bytes-exponent pair.back pair.is_back) i inside
 
 pub bytes-decimal : (xs : List ℕ) → IsDecimalSpelling xs → (i : ℕ) → i < length xs → IsDecimalByte (get_or xs i 0)
 bytes-decimal xs pair i inside =
-    bytes-append xs pair.front pair.back pair.whole
+    each-append IsDecimalByte xs pair.front pair.back pair.whole
     (λ k within. from-int (get_or pair.front k 0) (int-byte pair.front pair.is_front k within))
     (bytes-decimals pair.back pair.is_back) i inside

@@ -13,7 +13,7 @@ use Rattle.odata_text.specs.LeftOut.{IsDecimals, IsExponent, IsFraction}
 use Rattle.odata_text.specs.Lengths.{IsReach}
 use Rattle.odata_text.specs.Patterns.{Fits, passes}
 use Rattle.odata_text.specs.Sequence.{FollowedBy}
-use Rattle.odata_text.specs.declared.byte_test.ByteTest.TheVariants.{Dot, PowerMark}
+use Rattle.odata_text.specs.declared.byte_test.ByteTest.TheVariants.{Dot, ExponentMark}
 use Rattle.odata_text.proofs.Patterns.{marked-from_pair, pair-from_marked}
 use Rattle.odata_text.proofs.Reaches.{digits-reach}
 use Rattle.odata_text.proofs.Sequences.{IsExact, exact-by_byte, pair-found, pair_at}
@@ -24,7 +24,7 @@ abbrev pub FractionPair : List ℕ → Type 0
 FractionPair xs = FollowedBy (Fits (Dot ∷ [])) (IsNumeral 10) xs
 
 abbrev pub ExponentPair : List ℕ → Type 0
-ExponentPair xs = FollowedBy (Fits (PowerMark ∷ [])) IsIntSpelling xs
+ExponentPair xs = FollowedBy (Fits (ExponentMark ∷ [])) IsIntSpelling xs
 
 pub fraction-pair : (xs : List ℕ) → IsFraction xs → FractionPair xs
 fraction-pair [] fraction = absurd fraction
@@ -48,20 +48,20 @@ fraction-from_pair xs pair =
 pub exponent-pair : (xs : List ℕ) → IsExponent xs → ExponentPair xs
 exponent-pair [] exponent = absurd exponent
 exponent-pair (mark ∷ power) exponent =
-    pair-from_marked PowerMark IsIntSpelling (mark ∷ power) (record {
+    pair-from_marked ExponentMark IsIntSpelling (mark ∷ power) (record {
       mark = mark;
       behind = power;
       whole = refl;
-      is_mark = ⊎_elim (λ small. ap (passes PowerMark) small) (λ big. ap (passes PowerMark) big) exponent.0;
+      is_mark = ⊎_elim (λ small. ap (passes ExponentMark) small) (λ big. ap (passes ExponentMark) big) exponent.0;
       is_behind = exponent.1;
     })
 
 pub exponent-from_pair : (xs : List ℕ) → ExponentPair xs → IsExponent xs
 exponent-from_pair xs pair =
-    let marked = marked-from_pair PowerMark IsIntSpelling xs pair in
+    let marked = marked-from_pair ExponentMark IsIntSpelling xs pair in
     subst IsExponent (sym marked.whole) (is_power marked.mark marked.is_mark, marked.is_behind)
   where
-    is_power : (b : ℕ) → passes PowerMark b ≡ true → (b ≡ 101) ⊎ (b ≡ 69)
+    is_power : (b : ℕ) → passes ExponentMark b ≡ true → (b ≡ 101) ⊎ (b ≡ 69)
     is_power b e = grind (arith, nat_tests)
 
 -- a run of digits is the longest numeral

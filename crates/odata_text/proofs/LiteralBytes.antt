@@ -16,7 +16,7 @@ use Rattle.odata_text.specs.LeftOut.{IsDecimalSpelling, IsFraction, IsTimeOfDayS
 use Rattle.odata_text.specs.Patterns.{Fits, passes}
 use Rattle.odata_text.specs.Printing.{is_separator}
 use Rattle.odata_text.specs.declared.byte_test.ByteTest.{ByteTest}
-use Rattle.odata_text.specs.declared.byte_test.ByteTest.TheVariants.{Digit, HexDigit, Hyphen, Colon, Dot, Sign, TimeMark, OffsetMark, PowerMark}
+use Rattle.odata_text.specs.declared.byte_test.ByteTest.TheVariants.{Digit, HexDigit, Hyphen, Colon, Dot, Sign, TimeMark, OffsetMark, ExponentMark}
 use Rattle.odata_text.proofs.DecimalBytes.{IsDecimalByte, bytes-decimal}
 use Rattle.odata_text.proofs.Decimals.{IsIntByte, fraction-byte, int-byte}
 use Rattle.odata_text.proofs.Guids.{fits-guid, guid_pattern}
@@ -70,7 +70,7 @@ passes-byte Dot b e = grind (arith, nat_tests)
 passes-byte Sign b e = grind (arith, nat_tests)
 passes-byte TimeMark b e = grind (arith, nat_tests)
 passes-byte OffsetMark b e = grind (arith, nat_tests)
-passes-byte PowerMark b e = grind (arith, nat_tests)
+passes-byte ExponentMark b e = grind (arith, nat_tests)
 
 bytes-fits : (tests : List ByteTest) (xs : List ℕ) → Fits tests xs → AreLiteralBytes xs
 bytes-fits [] [] fits = bytes-none
@@ -176,7 +176,7 @@ guid-byte Dot b guid e colon = absurd (false≢true guid)
 guid-byte Sign b guid e colon = absurd (false≢true guid)
 guid-byte TimeMark b guid e colon = absurd (false≢true guid)
 guid-byte OffsetMark b guid e colon = absurd (false≢true guid)
-guid-byte PowerMark b guid e colon = absurd (false≢true guid)
+guid-byte ExponentMark b guid e colon = absurd (false≢true guid)
 
 guid-bytes : (tests : List ByteTest) (xs : List ℕ) → list_all is_guid_test tests ≡ true → Fits tests xs → (i : ℕ) → i < length xs → get_or xs i 0 ≡ 58 → ⊥
 guid-bytes [] [] all fits i inside colon = absurd (omega arith)

@@ -1,12 +1,11 @@
 -- Bytes are one literal at most, and no literal is a word or a mark.
-use Rattle.std.proofs.Common.{◌≡◌, ◌⊎◌, inl, inr, ⊎_elim, ℕ, zero, suc, ◌+◌, ◌-◌, ◌<◌, ◌≤◌, ◌==◌, ◌&&◌, Bool, true, false, List, [], ◌∷◌, ◌++◌, length, get_or, drop, arith, refl, sym, ◌∙◌, ap, subst, length-append, append-nil}
+use Rattle.std.proofs.Common.{◌≡◌, ◌⊎◌, inl, inr, ⊎_elim, ℕ, suc, ◌<◌, ◌==◌, ◌&&◌, Bool, true, false, List, [], ◌∷◌, ◌++◌, length, get_or, drop, arith, refl, sym, ◌∙◌, ap, length-append, append-nil}
 use Rattle.std.specs.Char.{is_ascii_digit, is_ascii_hexdigit}
 use Rattle.std.specs.List.{list_all}
 use Rattle.std.proofs.Math.ListN.{get_or-append, get_or-eq_default}
-use Rattle.std.proofs.Math.Seq.{get_or-append_right}
-use Rattle.std.proofs.lemmas.Bool.{cases_Bool, cases_lt, eq-eqb}
+use Rattle.std.proofs.lemmas.Bool.{cases_lt, eq-eqb}
 use Rattle.std.proofs.lemmas.Bool.Decides.{eqb_tells, nat_tests}
-use Rattle.std.proofs.lemmas.List.{get_or_default, get_or-drop, length-drop}
+use Rattle.std.proofs.lemmas.List.{get_or_default}
 use Rattle.std.proofs.lemmas.List.Folds.{list_all_at}
 use Rattle.std.proofs.lemmas.List.Sums.{list_all-from_AllPass}
 use Rattle.edm_values.specs.DateLiteral.{IsDateSpelling}
@@ -15,8 +14,8 @@ use Rattle.edm_values.specs.IntLiteral.{IsIntSpelling}
 use Rattle.edm_values.specs.MomentLiteral.{IsMomentSpelling}
 use Rattle.edm_values.specs.StringLiteral.{IsStringSpelling}
 use Rattle.odata_text.specs.LeftOut.{IsDecimalSpelling, IsDecimals, IsTimeOfDaySpelling}
-use Rattle.odata_text.specs.Patterns.{Fits, passes}
-use Rattle.odata_text.specs.declared.byte_test.ByteTest.TheVariants.{Digit, Colon, TimeMark}
+use Rattle.odata_text.specs.Patterns.{Fits}
+use Rattle.odata_text.specs.declared.byte_test.ByteTest.TheVariants.{Digit, TimeMark}
 use Rattle.odata_text.proofs.DecimalBytes.{IsDecimalByte, IsDigitByte, bytes-decimal, int-digit, int-some, signs-decimal}
 use Rattle.odata_text.proofs.Decimals.{IsExponentStart, IsIntByte, decimals-starts, int-byte}
 use Rattle.odata_text.proofs.Guids.{fits-guid, guid_pattern}

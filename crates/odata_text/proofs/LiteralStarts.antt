@@ -1,17 +1,14 @@
 -- How literals begin, and what tells them from words and marks.
-use Rattle.std.proofs.Common.{◌≡◌, ◌⊎◌, inl, inr, ⊎_elim, ℕ, ◌+◌, ◌<◌, ◌≤◌, ◌==◌, true, List, [], ◌∷◌, ◌++◌, length, get_or, drop, arith, refl, sym, ◌∙◌, ap, subst, append-nil, length-append}
+use Rattle.std.proofs.Common.{◌≡◌, ◌⊎◌, inl, inr, ⊎_elim, ℕ, ◌<◌, ◌≤◌, true, List, [], ◌∷◌, ◌++◌, length, get_or, drop, arith, sym, ◌∙◌, ap, subst, append-nil, length-append}
 use Rattle.std.specs.Char.{is_ascii_digit, is_ascii_hexdigit}
 use Rattle.std.proofs.Math.ListN.{get_or-append}
 use Rattle.std.proofs.lemmas.Bool.{eqb-true}
 use Rattle.std.proofs.lemmas.Bool.Decides.{nat_tests}
 use Rattle.std.proofs.lemmas.Str.Parse.{digit_at}
-use Rattle.edm_values.specs.DateLiteral.{IsDateSpelling}
 use Rattle.edm_values.specs.GuidLiteral.{IsGuidSpelling}
 use Rattle.edm_values.specs.IntLiteral.{IsIntSpelling}
-use Rattle.edm_values.specs.MomentLiteral.{IsMomentSpelling}
-use Rattle.edm_values.specs.StringLiteral.{IsStringSpelling, doubled}
-use Rattle.odata_text.specs.LeftOut.{IsDecimalSpelling, IsTimeOfDaySpelling}
-use Rattle.odata_text.specs.Patterns.{Fits, passes}
+use Rattle.edm_values.specs.StringLiteral.{doubled}
+use Rattle.odata_text.specs.Patterns.{Fits}
 use Rattle.odata_text.specs.declared.byte_test.ByteTest.{ByteTest}
 use Rattle.odata_text.specs.declared.byte_test.ByteTest.TheVariants.{Digit}
 use Rattle.odata_text.proofs.DecimalBytes.{int-some}

@@ -1,9 +1,22 @@
 -- The length of a piece that is made of two, from the lengths of these.
-use Rattle.std.proofs.Common.{◌≡◌, ◌⊎◌, inl, inr, ⊎_elim, ℕ, ◌+◌, ◌<◌, ◌≤◌, List, [], ◌++◌, length, get_or, take, drop, arith, refl, sym, ◌∙◌, ap, subst, length-append, add-zero}
+use Rattle.std.proofs.Common.{◌≡◌, ◌⊎◌, inl, inr, ⊎_elim, ℕ, ◌+◌, ◌-◌, ◌<◌, ◌≤◌, List, [], ◌++◌, length, get_or, take, drop, arith, refl, sym, ◌∙◌, ap, subst, length-append, add-zero}
+use Rattle.std.proofs.Math.ListN.{get_or-append}
+use Rattle.std.proofs.Math.Seq.{get_or-append_right}
 use Rattle.std.proofs.lemmas.Bool.{cases_eq, cases_lt}
 use Rattle.std.proofs.lemmas.List.{take_at, drop_at, drop-take, take-take, take-append-drop, get_or-take, get_or-drop, length-take-le, length-drop}
 use Rattle.odata_text.specs.Lengths.{IsReach}
 use Rattle.odata_text.specs.Sequence.{FollowedBy}
+
+-- what holds of each byte of two pieces holds of each byte of both
+pub each-append : (P : ℕ → Type 0) (xs front back : List ℕ) → xs ≡ front ++ back → ((i : ℕ) → i < length front → P (get_or front i 0))
+    → ((i : ℕ) → i < length back → P (get_or back i 0)) → (i : ℕ) → i < length xs → P (get_or xs i 0)
+each-append P xs front back whole first second i inside =
+    let size = ap length whole ∙ length-append front back in
+    subst (λ (ys : List ℕ). P (get_or ys i 0)) (sym whole)
+    (⊎_elim
+    (λ within. subst P (sym (get_or-append front back 0 i within)) (first i within))
+    (λ past. subst P (sym (get_or-append_right front back i 0 past)) (second (i - length front) (omega arith)))
+    (cases_lt i (length front)))
 
 -- a length measured by one spelling is that of an equal one
 pub reach-as : (P Q : List ℕ → Type 0) (n : ℕ) (rest : List ℕ) → ((xs : List ℕ) → P xs → Q xs) → ((xs : List ℕ) → Q xs → P xs) → IsReach P n rest → IsReach Q n rest

@@ -208,7 +208,7 @@ fraction-at : (places : List ℕ) → IsNumeral 10 places → (k : ℕ) → k < 
 fraction-at places numeral zero below = inl refl
 fraction-at places numeral (suc k) below = let digit = digit_at places k numeral.1 (omega arith) in inr (digit.0, omega (arith, digit.1))
 
-seconds-byte : (xs : List ℕ) → IsSecondsSpelling xs → (i : ℕ) → i < length xs → IsSecondsByte (get_or xs i 0)
+pub seconds-byte : (xs : List ℕ) → IsSecondsSpelling xs → (i : ℕ) → i < length xs → IsSecondsByte (get_or xs i 0)
 seconds-byte xs (inl none) i inside = absurd (omega (arith, ap length none))
 seconds-byte xs (inr (n, small, inl whole)) i inside =
     subst (λ (ys : List ℕ). IsSecondsByte (get_or ys i 0)) (sym whole) (seconds-at n small [] (λ k below. absurd (omega arith)) i (omega (arith, ap length whole)))

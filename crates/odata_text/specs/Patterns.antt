@@ -4,7 +4,7 @@ use Rattle.std.specs.Char.{is_ascii_digit, is_ascii_hexdigit}
 use Rattle.edm_values.specs.MomentLiteral.{IsClockSpelling, IsOffsetSpelling, IsSecondsSpelling}
 use Rattle.odata_text.specs.Sequence.{FollowedBy}
 use Rattle.odata_text.specs.declared.byte_test.ByteTest.{ByteTest}
-use Rattle.odata_text.specs.declared.byte_test.ByteTest.TheVariants.{Digit, HexDigit, Hyphen, Colon, Dot, Sign, TimeMark, OffsetMark, PowerMark}
+use Rattle.odata_text.specs.declared.byte_test.ByteTest.TheVariants.{Digit, HexDigit, Hyphen, Colon, Dot, Sign, TimeMark, OffsetMark, ExponentMark}
 
 -- what may stand at one place of a pattern
 abbrev pub passes : ByteTest → ℕ → Bool
@@ -16,7 +16,7 @@ passes Dot b = b == 46
 passes Sign b = (b == 43) || (b == 45)
 passes TimeMark b = (b == 84) || (b == 116)
 passes OffsetMark b = (b == 90) || (b == 122)
-passes PowerMark b = (b == 101) || (b == 69)
+passes ExponentMark b = (b == 101) || (b == 69)
 
 -- the bytes fit the pattern one by one
 abbrev pub Fits : List ByteTest → List ℕ → Type 0

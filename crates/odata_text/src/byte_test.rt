@@ -13,7 +13,7 @@ pub enum ByteTest {
     Sign,
     TimeMark,
     OffsetMark,
-    PowerMark,
+    ExponentMark,
 }
 
 fn passes(test: ByteTest, byte: u8) -> bool
@@ -28,7 +28,7 @@ fn passes(test: ByteTest, byte: u8) -> bool
         ByteTest::Sign => byte == b'+' || byte == b'-',
         ByteTest::TimeMark => byte == b'T' || byte == b't',
         ByteTest::OffsetMark => byte == b'Z' || byte == b'z',
-        ByteTest::PowerMark => byte == b'e' || byte == b'E',
+        ByteTest::ExponentMark => byte == b'e' || byte == b'E',
     }
 }
 

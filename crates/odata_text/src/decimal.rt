@@ -24,7 +24,7 @@ pub fn fraction_length(rest: &[u8]) -> usize
 fn exponent_length(rest: &[u8]) -> usize
     ensures { IsReach IsExponent result rest.now }
 {
-    match pattern_length(&[ByteTest::PowerMark], rest) {
+    match pattern_length(&[ByteTest::ExponentMark], rest) {
         0 => 0,
         mark => match int_length(&rest[mark..]) {
             0 => 0,

@@ -7,16 +7,18 @@ use Rattle.odata_text.proofs.Sequences.{measured-both, measured-no_first, measur
 use Rattle.odata_text.proofs.decimal.decimal_length.Goals as goal
 
 pub returns-in-0 : goal.returns-in-0
-returns-in-0 c =
-    measured-no_first IsIntSpelling IsDecimals c.args.rest.now c.int_length.result int-none c.int_length.ensures c.in-0.is
+returns-in-0 c = measured-no_first IsIntSpelling IsDecimals c.args.rest.now c.int_length.result int-none c.int_length.ensures c.in-0.is
 
 pub returns-in-0-decimals_length : goal.returns-in-0-decimals_length
 returns-in-0-decimals_length c =
-    let some : 0 < c.int_length.result = omega arith in
-    measured-no_second IsIntSpelling IsDecimals c.args.rest.now _ c.int_length.result c.decimals_length.result (take_rest c.args.rest.now c.int_length.result) decimals-none (int-exact c.int_length.result c.args.rest.now c.int_length.ensures) c.decimals_length.ensures c.in-0-decimals_length.is
+    let whole = c.int_length.result in
+    measured-no_second IsIntSpelling IsDecimals c.args.rest.now _ whole c.decimals_length.result (take_rest c.args.rest.now whole) decimals-none
+    (int-exact whole c.args.rest.now c.int_length.ensures) c.decimals_length.ensures c.in-0-decimals_length.is
 
 pub returns-in_default-decimals_length : goal.returns-in_default-decimals_length
 returns-in_default-decimals_length c =
-    let some : 0 < c.int_length.result = omega arith in
+    let whole = c.int_length.result in
+    let some : 0 < whole = omega arith in
     let some_more : 0 < c.decimals_length.result = omega arith in
-    measured-both IsIntSpelling IsDecimals c.args.rest.now _ c.int_length.result c.decimals_length.result (take_rest c.args.rest.now c.int_length.result) (int-exact c.int_length.result c.args.rest.now c.int_length.ensures) c.int_length.ensures c.decimals_length.ensures some some_more
+    measured-both IsIntSpelling IsDecimals c.args.rest.now _ whole c.decimals_length.result (take_rest c.args.rest.now whole)
+    (int-exact whole c.args.rest.now c.int_length.ensures) c.int_length.ensures c.decimals_length.ensures some some_more

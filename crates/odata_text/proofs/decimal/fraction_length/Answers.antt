@@ -1,6 +1,6 @@
 use Rattle.std.proofs.Common.{◌+◌, ◌<◌, [], ◌∷◌, arith}
-use Rattle.std.proofs.lemmas.List.{take_rest}
 use Rattle.std.specs.Str.Parse.{IsNumeral}
+use Rattle.std.proofs.lemmas.List.{take_rest}
 use Rattle.odata_text.specs.LeftOut.{IsFraction}
 use Rattle.odata_text.specs.Patterns.{Fits}
 use Rattle.odata_text.specs.declared.byte_test.ByteTest.TheVariants.{Dot}
@@ -11,18 +11,25 @@ use Rattle.odata_text.proofs.decimal.fraction_length.Goals as goal
 
 pub returns-in-0 : goal.returns-in-0
 returns-in-0 c =
+    let dot = c.pattern_length.result in
     reach-as FractionPair IsFraction 0 c.args.rest.now fraction-from_pair fraction-pair
-    (measured-no_first (Fits (Dot ∷ [])) (IsNumeral 10) c.args.rest.now c.pattern_length.result (fits-nonempty Dot []) c.pattern_length.ensures c.in-0.is)
+    (measured-no_first (Fits (Dot ∷ [])) (IsNumeral 10) c.args.rest.now dot (fits-nonempty Dot []) c.pattern_length.ensures c.in-0.is)
 
 pub returns-in-0-digit_run : goal.returns-in-0-digit_run
 returns-in-0-digit_run c =
-    let some : 0 < c.pattern_length.result = omega arith in
+    let dot = c.pattern_length.result in
+    let some : 0 < dot = omega arith in
+    let exact = fits-exact (Dot ∷ []) (IsNumeral 10) dot c.args.rest.now c.pattern_length.ensures some in
     reach-as FractionPair IsFraction 0 c.args.rest.now fraction-from_pair fraction-pair
-    (measured-no_second (Fits (Dot ∷ [])) (IsNumeral 10) c.args.rest.now _ c.pattern_length.result c.digit_run.result (take_rest c.args.rest.now c.pattern_length.result) numeral-none (fits-exact (Dot ∷ []) (IsNumeral 10) c.pattern_length.result c.args.rest.now c.pattern_length.ensures some) (numeral-run _ _ c.digit_run.ensures.value) c.in-0-digit_run.is)
+    (measured-no_second (Fits (Dot ∷ [])) (IsNumeral 10) c.args.rest.now _ dot c.digit_run.result (take_rest c.args.rest.now dot) numeral-none exact
+    (numeral-run _ _ c.digit_run.ensures.value) c.in-0-digit_run.is)
 
 pub returns-in_default-digit_run : goal.returns-in_default-digit_run
 returns-in_default-digit_run c =
-    let some : 0 < c.pattern_length.result = omega arith in
+    let dot = c.pattern_length.result in
+    let some : 0 < dot = omega arith in
     let some_more : 0 < c.digit_run.result = omega arith in
-    reach-as FractionPair IsFraction (c.pattern_length.result + c.digit_run.result) c.args.rest.now fraction-from_pair fraction-pair
-    (measured-both (Fits (Dot ∷ [])) (IsNumeral 10) c.args.rest.now _ c.pattern_length.result c.digit_run.result (take_rest c.args.rest.now c.pattern_length.result) (fits-exact (Dot ∷ []) (IsNumeral 10) c.pattern_length.result c.args.rest.now c.pattern_length.ensures some) c.pattern_length.ensures (numeral-run _ _ c.digit_run.ensures.value) some some_more)
+    let exact = fits-exact (Dot ∷ []) (IsNumeral 10) dot c.args.rest.now c.pattern_length.ensures some in
+    reach-as FractionPair IsFraction (dot + c.digit_run.result) c.args.rest.now fraction-from_pair fraction-pair
+    (measured-both (Fits (Dot ∷ [])) (IsNumeral 10) c.args.rest.now _ dot c.digit_run.result (take_rest c.args.rest.now dot) exact
+    c.pattern_length.ensures (numeral-run _ _ c.digit_run.ensures.value) some some_more)
