@@ -1,14 +1,11 @@
 -- Pieces that a separator or the end of the text follows.
-use Rattle.std.proofs.Common.{◌≡◌, inl, inr, ⊎_elim, ℕ, zero, suc, ◌-◌, ◌<◌, ◌≤◌, true, false, List, [], ◌∷◌, ◌++◌, length, get_or, take, arith, refl, sym, ◌∙◌, ap, length-append}
+use Rattle.std.proofs.Common.{◌≡◌, ⊎_elim, ℕ, ◌-◌, ◌<◌, ◌≤◌, true, false, List, ◌++◌, length, get_or, take, arith, refl, sym, ◌∙◌, ap, length-append}
 use Rattle.std.specs.Char.{is_ascii_alphabetic, is_ascii_digit}
-use Rattle.std.specs.Str.Parse.{IsNumeral}
 use Rattle.std.proofs.Math.ListN.{get_or-append}
 use Rattle.std.proofs.Math.Seq.{get_or-append_right}
 use Rattle.std.proofs.lemmas.Bool.{both_ways, cases_lt}
 use Rattle.std.proofs.lemmas.Bool.Decides.{nat_tests}
 use Rattle.std.proofs.lemmas.List.{get_or-take, length-take-le}
-use Rattle.std.proofs.lemmas.Str.Parse.{digit_at}
-use Rattle.edm_values.specs.IntLiteral.{IsIntSpelling}
 use Rattle.odata_text.specs.Identifier.{IsIdentifier}
 use Rattle.odata_text.specs.Printing.{is_separator}
 use Rattle.odata_text.specs.Spelling.{IsFormed, IsByte}

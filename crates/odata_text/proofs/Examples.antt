@@ -1,12 +1,11 @@
 -- How to show of a text that is written out which tokens it has.
-use Rattle.std.proofs.Common.{◌≡◌, ℕ, zero, suc, ◌+◌, ◌-◌, ◌<◌, ◌≤◌, ◌==◌, true, List, [], ◌∷◌, length, get_or, take, drop, arith, refl, sym, ◌∙◌, ap, subst, inl, inr, ⊎_elim, ◌++◌, append-nil, false}
+use Rattle.std.proofs.Common.{◌≡◌, ℕ, zero, suc, ◌+◌, ◌-◌, ◌<◌, ◌≤◌, ◌==◌, true, List, [], ◌∷◌, length, get_or, take, drop, arith, refl, sym, ◌∙◌, ap, subst, ⊎_elim, ◌++◌, append-nil}
 use Rattle.std.proofs.lemmas.Bool.{both_ways, false≢true, cases_lt}
 use Rattle.std.proofs.lemmas.List.{get_or-take, length-take-le}
 use Rattle.odata_text.specs.ByteClass.{class_of}
 use Rattle.odata_text.specs.Identifier.{identifier_run}
-use Rattle.odata_text.specs.Lengths.{IsReach}
 use Rattle.odata_text.specs.Printing.{is_separator}
-use Rattle.odata_text.specs.Spelling.{IsFormed, Spells}
+use Rattle.odata_text.specs.Spelling.{IsFormed}
 use Rattle.odata_text.specs.TokenExamples.{piece_in, plain_filter, plain_tokens, run_on_filter}
 use Rattle.odata_text.specs.Tokens.{IsFaultBehind, IsGap, IsLongest, IsTokenAt, IsTokenList}
 use Rattle.odata_text.specs.declared.byte_class.ByteClass.TheVariants.{Space}

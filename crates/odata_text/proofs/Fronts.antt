@@ -1,10 +1,9 @@
 -- One byte in front of a text, what is left behind a front, and the longer of two spellings.
-use Rattle.std.proofs.Common.{◌≡◌, ◌⊎◌, inl, inr, ⊎_elim, ℕ, ◌+◌, ◌-◌, ◌<◌, ◌≤◌, max, List, [], ◌++◌, length, get_or, take, drop, IsUtf8, IsCharBoundary, arith, refl, sym, ◌∙◌, ap, subst, length-append, add-zero}
+use Rattle.std.proofs.Common.{◌≡◌, ◌⊎◌, inl, inr, ⊎_elim, ℕ, ◌+◌, ◌-◌, ◌<◌, max, List, [], length, get_or, take, drop, IsUtf8, IsCharBoundary, arith, sym, ◌∙◌, ap, subst}
 use Rattle.std.proofs.lemmas.Bool.{cases_lt}
-use Rattle.std.proofs.lemmas.List.{take_at, drop_at, drop-take, take-take, take-append-drop, get_or-take, get_or-drop, length-take-le, length-drop, take_rest}
+use Rattle.std.proofs.lemmas.List.{get_or-take, length-take-le, take_rest}
 use Rattle.std.proofs.lemmas.Str.{IsCharBoundary-after_ascii}
 use Rattle.odata_text.specs.Lengths.{IsReach}
-use Rattle.odata_text.specs.Sequence.{FollowedBy}
 use Rattle.odata_text.specs.Spelling.{IsByte}
 use Rattle.odata_text.proofs.Sequences.{IsExact, exact-by_length}
 

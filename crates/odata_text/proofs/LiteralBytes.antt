@@ -1,16 +1,14 @@
 -- Which bytes the literals without quotes have.
-use Rattle.std.proofs.Common.{◌≡◌, ◌⊎◌, inl, inr, ⊎_elim, ℕ, zero, suc, ◌+◌, ◌-◌, ◌*◌, ◌/◌, ◌%◌, ◌<◌, ◌≤◌, ◌==◌, ◌||◌, Bool, true, false, List, [], ◌∷◌, ◌++◌, length, get_or, drop, arith, refl, sym, ◌∙◌, ap, subst, length-append, append-nil}
+use Rattle.std.proofs.Common.{◌≡◌, ◌⊎◌, inl, inr, ⊎_elim, ℕ, zero, suc, ◌-◌, ◌<◌, ◌≤◌, ◌==◌, ◌||◌, Bool, true, false, List, [], ◌∷◌, ◌++◌, length, get_or, drop, arith, refl, sym, ◌∙◌, ap, subst, length-append, append-nil}
 use Rattle.std.specs.Char.{is_ascii_alphanumeric, is_ascii_digit, is_ascii_hexdigit}
 use Rattle.std.specs.List.{list_all}
-use Rattle.std.specs.Str.Parse.{IsNumeral}
 use Rattle.std.proofs.Math.ListN.{get_or-append}
 use Rattle.std.proofs.Math.Seq.{get_or-append_right}
 use Rattle.std.proofs.lemmas.Bool.{and_parts, cases_lt, false≢true}
 use Rattle.std.proofs.lemmas.Bool.Decides.{nat_tests}
-use Rattle.std.proofs.lemmas.Str.Parse.{digit_at}
 use Rattle.edm_values.specs.DateLiteral.{IsDateSpelling}
 use Rattle.edm_values.specs.GuidLiteral.{IsGuidSpelling}
-use Rattle.edm_values.specs.MomentLiteral.{IsMomentSpelling, IsOffsetSpelling, IsSecondsSpelling}
+use Rattle.edm_values.specs.MomentLiteral.{IsMomentSpelling}
 use Rattle.edm_values.specs.IntLiteral.{IsIntSpelling}
 use Rattle.odata_text.specs.LeftOut.{IsDecimalSpelling, IsFraction, IsTimeOfDaySpelling}
 use Rattle.odata_text.specs.Patterns.{Fits, passes}
@@ -21,7 +19,7 @@ use Rattle.odata_text.proofs.DecimalBytes.{IsDecimalByte, bytes-decimal}
 use Rattle.odata_text.proofs.Decimals.{IsIntByte, fraction-byte, int-byte}
 use Rattle.odata_text.proofs.Guids.{fits-guid, guid_pattern}
 use Rattle.odata_text.proofs.Sequences.{Perhaps}
-use Rattle.odata_text.proofs.Times.{IsOffset, IsSecond, clock_pattern, date_pattern, fits-ahead, fits-clock, fits-date, fits-marked, offset-fits, parts-from_moment, second-from_seconds, seconds_pattern}
+use Rattle.odata_text.proofs.Times.{IsOffset, IsSecond, clock_pattern, date_pattern, fits-clock, fits-date, fits-marked, offset-fits, parts-from_moment, second-from_seconds, seconds_pattern}
 
 -- a letter, a digit, `+`, `-`, `.` or `:`
 abbrev pub is_literal_byte : ℕ → Bool

@@ -1,4 +1,4 @@
--- How literals begin, and what tells them from words and marks.
+-- How literals begin, and that one byte is none unless it is a digit.
 use Rattle.std.proofs.Common.{◌≡◌, ◌⊎◌, inl, inr, ⊎_elim, ℕ, ◌<◌, ◌≤◌, true, List, [], ◌∷◌, ◌++◌, length, get_or, drop, arith, sym, ◌∙◌, ap, subst, append-nil, length-append}
 use Rattle.std.specs.Char.{is_ascii_digit, is_ascii_hexdigit}
 use Rattle.std.proofs.Math.ListN.{get_or-append}
@@ -76,15 +76,6 @@ literal-starts Moment xs moment =
 literal-starts Guid xs guid = inr (starts-guid xs guid)
 literal-starts Int xs int = inl (starts-int xs xs [] (sym (append-nil xs)) int)
 literal-starts Decimal xs pair = inl (starts-int xs pair.front pair.back pair.whole pair.is_front)
-
--- bytes that begin with none of these and have no hyphen, as words, are no literal
-pub no_literal-word : (kind : Literal) (xs : List ℕ) → (IsPlainStart (get_or xs 0 0) → ⊥) → ((i : ℕ) → i < length xs → get_or xs i 0 ≡ 45 → ⊥) → IsLiteral kind xs → ⊥
-no_literal-word kind xs plain hyphenless literal =
-    ⊎_elim (λ start. plain start.start) (λ guid. hyphenless 8 guid.long guid.hyphen) (literal-starts kind xs literal)
-
--- nor are bytes that begin with another byte, as Dollar names and marks
-pub no_literal-start : (kind : Literal) (xs : List ℕ) → (IsPlainStart (get_or xs 0 0) → ⊥) → (is_ascii_hexdigit (get_or xs 0 0) ≡ true → ⊥) → IsLiteral kind xs → ⊥
-no_literal-start kind xs plain digit literal = ⊎_elim (λ start. plain start.start) (λ guid. digit guid.start) (literal-starts kind xs literal)
 
 -- a single byte is a literal only if it is a digit: the mark `-` is none
 pub literal-mark : (kind : Literal) (b : ℕ) → IsLiteral kind (b ∷ []) → (48 ≤ b) × (b ≤ 57)

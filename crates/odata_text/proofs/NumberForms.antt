@@ -1,18 +1,17 @@
 -- The forms of literals without quotes.
-use Rattle.std.proofs.Common.{◌≡◌, ◌⊎◌, inl, inr, ⊎_elim, ℕ, zero, suc, ◌<◌, ◌≤◌, ◌==◌, ◌||◌, nat_le, Bool, true, false, List, [], ◌∷◌, length, get_or, arith, refl, sym, ◌∙◌, ap, subst}
-use Rattle.std.specs.Char.{is_ascii_alphabetic, is_ascii_digit, is_ascii_hexdigit}
+use Rattle.std.proofs.Common.{◌≡◌, ◌⊎◌, inl, inr, ⊎_elim, ℕ, zero, suc, ◌<◌, ◌≤◌, ◌==◌, true, false, List, [], ◌∷◌, length, get_or, arith, refl, sym, ◌∙◌, ap, subst}
+use Rattle.std.specs.Char.{is_ascii_digit, is_ascii_hexdigit}
 use Rattle.std.proofs.lemmas.Bool.{cases_Bool, cond-false, cond-true}
 use Rattle.std.proofs.lemmas.Bool.Decides.{nat_tests}
 use Rattle.edm_values.specs.GuidLiteral.{IsGuidSpelling}
 use Rattle.edm_values.specs.IntLiteral.{IsIntSpelling}
 use Rattle.odata_text.specs.LeftOut.{IsDecimals}
-use Rattle.odata_text.specs.Patterns.{Fits, passes}
+use Rattle.odata_text.specs.Patterns.{passes}
 use Rattle.odata_text.specs.Sequence.{FollowedBy}
 use Rattle.odata_text.specs.declared.byte_test.ByteTest.TheVariants.{Digit}
-use Rattle.odata_text.specs.declared.form.Form.{Form}
 use Rattle.odata_text.specs.declared.form.Form.TheVariants.{Token}
 use Rattle.odata_text.specs.declared.token.TokenKind.TheVariants.{Guid, Minus}
-use Rattle.odata_text.proofs.FormOf.{by_first, by_letters, by_sign, first-digit, first-letters, form_of, is_word_byte, literal_form, run_is}
+use Rattle.odata_text.proofs.FormOf.{by_first, by_sign, first-digit, first-letters, form_of, is_word_byte, literal_form, run_is}
 use Rattle.odata_text.proofs.DecimalBytes.{int-some}
 use Rattle.odata_text.proofs.Decimals.{IsIntByte, int-byte}
 use Rattle.odata_text.proofs.LiteralBytes.{digit-date, digit-guid, digit-moment, digit-time_of_day}

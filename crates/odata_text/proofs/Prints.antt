@@ -18,7 +18,7 @@ use Rattle.odata_text.specs.Tokens.{AreTokensFrom, IsGap, IsLongest, IsTokenAt, 
 use Rattle.odata_text.specs.declared.byte_class.ByteClass.TheVariants.{Space}
 use Rattle.odata_text.specs.declared.form.Form.TheVariants.{Token}
 use Rattle.odata_text.specs.declared.token.TokenKind.{TokenKind}
-use Rattle.odata_text.specs.declared.token.TokenKind.TheVariants.{Int, Open, Close, Comma, Slash, Colon}
+use Rattle.odata_text.specs.declared.token.TokenKind.TheVariants.{Open, Close, Comma, Slash, Colon}
 use Rattle.odata_text.proofs.Separated.{separated}
 use Rattle.odata_text.proofs.IdentifierBytes.{continues-ascii}
 use Rattle.odata_text.proofs.Alone.{separator-ascii, separator-name}

@@ -1,14 +1,11 @@
 -- A token before what may follow it is the longest piece at its place.
-use Rattle.std.proofs.Common.{◌≡◌, inl, inr, ⊎_elim, ℕ, ◌+◌, ◌-◌, ◌<◌, ◌≤◌, ◌==◌, ◌&&◌, not, true, false, List, [], ◌∷◌, ◌++◌, zero, suc, length, get_or, take, drop, arith, refl, sym, ◌∙◌, ap, subst, length-append, append_assoc}
+use Rattle.std.proofs.Common.{◌≡◌, ⊎_elim, ℕ, ◌+◌, ◌-◌, ◌<◌, ◌≤◌, ◌==◌, ◌&&◌, not, true, false, List, [], ◌∷◌, ◌++◌, length, get_or, take, drop, arith, refl, sym, ◌∙◌, ap, subst, length-append, append_assoc}
 use Rattle.std.specs.Char.{is_ascii_digit}
 use Rattle.std.proofs.Math.ListN.{get_or-append}
-use Rattle.std.specs.Str.Parse.{IsNumeral}
 use Rattle.std.proofs.Math.Seq.{drop-append_seam, get_or-append_right, take-append-add}
-use Rattle.std.proofs.lemmas.Str.Parse.{digit_at}
 use Rattle.std.proofs.lemmas.Bool.{and_parts, both_ways, cases_lt, false≢true}
 use Rattle.std.proofs.lemmas.Bool.Decides.{nat_tests}
 use Rattle.std.proofs.lemmas.List.{get_or-take, length-take-le, take_at}
-use Rattle.edm_values.specs.IntLiteral.{IsIntSpelling}
 use Rattle.edm_values.specs.StringLiteral.{IsStringSpelling}
 use Rattle.odata_text.specs.Identifier.{IsIdentifier}
 use Rattle.odata_text.specs.Printing.{MayFollow, is_separator, may_follow}
@@ -27,7 +24,7 @@ use Rattle.odata_text.proofs.WordForms.{is_word}
 use Rattle.odata_text.proofs.IdentifierBytes.{identifier-byte, is_name_byte}
 use Rattle.odata_text.proofs.LiteralBytes.{AreLiteralBytes, bytes-date, bytes-guid, bytes-int, bytes-moment, bytes-number, bytes-time_of_day, literal_byte-quote}
 use Rattle.odata_text.proofs.Quotes.{string-bound}
-use Rattle.odata_text.proofs.Starts.{is_int_start, is_word_start, started, starts}
+use Rattle.odata_text.proofs.Starts.{is_word_start, started, starts}
 
 -- the longest of what stands at the front, by a bound on all
 longest_by : (kind : TokenKind) (text rest : List ℕ) → Spells kind text → ((form : Form) (m : ℕ) → m ≤ length (text ++ rest) → IsFormed form (take m (text ++ rest)) → m ≤ length text) → IsLongest (Token kind) (length text) (text ++ rest)
