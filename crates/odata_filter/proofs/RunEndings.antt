@@ -186,7 +186,7 @@ pub StatusSays-kept : (status : Status) (plan : Plan) (document : List ℕ) (row
 StatusSays-kept done plan document rows a b c ends kept = by_filter_kept FiltersAll plan document rows a b c ends kept
 StatusSays-kept refused plan document rows a b c ends kept = (ends.0, Keeps-trans a b c ends.1 kept)
 StatusSays-kept misused plan document rows a b c ends kept = (ends.0, Keeps-trans a b c ends.1 kept)
-StatusSays-kept without_type plan document rows a b c ends kept = (ends.0, Keeps-trans a b c ends.1 kept)
+StatusSays-kept without_type plan document rows a b c ends kept = (ends.0, (ends.1.0, Keeps-trans a b c ends.1.1 kept))
 StatusSays-kept at_fault plan document rows a b c ends kept = by_filter_kept StopsAtFault plan document rows a b c ends kept
 StatusSays-kept unread plan document rows a b c ends kept = ends
 StatusSays-kept without_memory plan document rows a b c ends kept = tt

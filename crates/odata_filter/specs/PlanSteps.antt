@@ -1,4 +1,4 @@
--- What the steps of reading a command line say to one another.
+-- What the steps of reading a command line say to one another. Private clauses alone cite these.
 use Rattle.std.specs.Prelude.{◌≡◌, ⊤, List, false}
 use Rattle.clap.specs.Words.{App, Row, app_of, kind_of}
 use Rattle.clap.specs.declared.builder.command.Command.{Command}

@@ -115,12 +115,12 @@ status_number unread = 5
 status_number without_memory = 6
 
 -- What each says: all rows were filtered; the text is no filter; the plan is none to filter rows or its query has no filter; there is no such entity type;
--- a row is at fault; there is a filter, and its rows were not read or written whole. Nothing was written in the second to fourth.
+-- a row is at fault; there is a filter, and of its rows nothing is said; nothing is said. Nothing was written in the second to fourth.
 abbrev pub StatusSays : Status → Plan → List ℕ → Option (Option (List ℕ)) → Option (List ℕ) → Option (List ℕ) → Type 0
 StatusSays done plan document rows old new = ByFilter FiltersAll plan document rows old new
 StatusSays refused plan document rows old new = HasNoFilter plan document × Keeps old new
 StatusSays misused plan document rows old new = ((¬ IsFilterPlan plan) ⊎ HasNoOption plan document) × Keeps old new
-StatusSays without_type plan document rows old new = HasNoType plan document × Keeps old new
+StatusSays without_type plan document rows old new = IsFilterPlan plan × (HasNoType plan document × Keeps old new)
 StatusSays at_fault plan document rows old new = ByFilter StopsAtFault plan document rows old new
 StatusSays unread plan document rows old new = HasFilter plan document
 StatusSays without_memory plan document rows old new = Unit {0}

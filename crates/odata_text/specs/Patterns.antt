@@ -1,4 +1,4 @@
--- Words of private contracts alone: patterns of bytes, and the parts of a moment.
+-- Patterns of bytes, and the parts of a moment. Private clauses alone cite these.
 use Rattle.std.specs.Prelude.{◌≡◌, ◌⊎◌, ℕ, ◌==◌, ◌||◌, Bool, true, List, [], ◌∷◌}
 use Rattle.std.specs.Char.{is_ascii_digit, is_ascii_hexdigit}
 use Rattle.edm_values.specs.MomentLiteral.{IsClockSpelling, IsOffsetSpelling, IsSecondsSpelling}

@@ -21,7 +21,7 @@ printed prints = flat_map (λ p. p.text ++ p.gap) prints
 abbrev pub is_separator : ℕ → Bool
 is_separator b = (b == 32) || ((b == 9) || ((b == 40) || ((b == 41) || ((b == 44) || ((b == 47) || (b == 58))))))
 
--- the byte may stand directly behind a token of the kind: any behind a mark that is no `-`, no `:` (58) behind a literal without quotes (`12:34`)
+-- the byte may stand directly behind a token of the kind: any behind a mark that is no `-`, else a separator, but no `:` (58) behind a literal without quotes (`12:34`)
 abbrev pub may_follow : TokenKind → ℕ → Bool
 may_follow Open b = true
 may_follow Close b = true

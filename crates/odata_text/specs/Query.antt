@@ -76,7 +76,7 @@ is_refused_word name = list_any (str_eq_ignore_ascii_case name) refused_words
 abbrev pub is_reserved : List ℕ → Bool
 is_reserved name = (slice_index name 0 == 36) || (slice_index name 0 == 64)
 
--- all others are custom options
+-- neither the filter's name nor that of a custom option
 abbrev pub is_other_name : List ℕ → Bool
 is_other_name name = not (is_filter_name name) && (is_reserved name || is_refused_word name)
 

@@ -1,4 +1,4 @@
--- Words of private contracts alone: what the functions that read a query's options answer.
+-- What the functions that read a query's options answer. Private clauses alone cite these.
 use Rattle.std.specs.Prelude.{◌≡◌, ℕ, ◌<◌, true, false, ⊤, List, Option, Some, None}
 use Rattle.percent_encoding.specs.Percent.{percent_decode}
 use Rattle.odata_text.specs.Query.{is_bad_escape, is_filter, value_of}

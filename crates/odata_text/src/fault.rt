@@ -13,7 +13,7 @@ pub enum TextFault {
     UnclosedString { span: Span },
     /// A literal of the standard that is no part of this profile.
     LeftOutLiteral { span: Span },
-    /// A number directly followed by identifier characters, up to the last of these.
+    /// A number, date, moment or Guid directly followed by identifier characters, up to the last of these.
     RunOn { span: Span },
     /// The whole text, or the first token more than there may be.
     TooLong { span: Span },

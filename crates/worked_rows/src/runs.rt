@@ -216,6 +216,8 @@ fn one_of_filter_and_query(rt: HostRuntime) {
     let mut plan = plan_of("Mini.Item", FIRST);
     plan.query = Some("$filter=true");
     assert!(rt; is_misused(rt.alloc(), &plan, "usage give one of filter and query\n"));
+    let before_schema = outcome_of(rt.alloc(), "{", &plan, None);
+    assert!(rt; before_schema.is("", "usage give one of filter and query\n", 2));
     plan.query = None;
     plan.filter = None;
     assert!(rt; is_misused(rt.alloc(), &plan, "usage give one of filter and query\n"));
