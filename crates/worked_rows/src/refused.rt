@@ -247,6 +247,8 @@ fn lines(rt: HostRuntime) -> Result<(), Fail> {
     Ok(())
 }
 
+/// The rows run on behind the faulty line, so that the buffer of what is read grows once that line is complete: where that is
+/// refused, the line's fault is answered all the same.
 #[test]
 fn faulty_lines(rt: HostRuntime) -> Result<(), Fail> {
     let schema = schema_of(rt.alloc())?;
@@ -255,11 +257,12 @@ fn faulty_lines(rt: HostRuntime) -> Result<(), Fail> {
     let checked = filter_of(rt.alloc(), &schema, id)?;
     let moment = Moment::new(civil::date(1, 1, 1).at(0, 0, 0, 0), 0).ok_or("a moment")?;
     let mut out = room(rt.alloc())?;
-    let rows = THREE.as_bytes().chain(b"{}\n".as_slice());
+    let blank = io::repeat(b' ').take(65_536);
+    let rows = THREE.as_bytes().chain(b"{}\n".as_slice()).chain(blank);
     let is_refused = match filter_lines(rt.alloc(), &checked, &moment, rows, &mut out) {
         Err(RunFault::Memory { line }) => {
             assert!(rt;
-                out.as_slice() == written_before(line).as_bytes(),
+                line <= 4 && out.as_slice() == written_before(line).as_bytes(),
                 "at {line}"
             );
             true
