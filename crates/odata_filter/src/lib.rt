@@ -11,6 +11,6 @@ pub mod odata_typing;
 mod planner;
 mod runner;
 
-pub use lines::{filter_lines, filter_slice};
+pub use lines::{filter_lines, filter_slice, slices_tell_their_bytes};
 pub use planner::plan;
 pub use runner::run;
