@@ -3,7 +3,9 @@ use crate::{
     write_guid, write_int, write_moment, write_string,
 };
 use jiff::civil::DateTime;
+use std::alloc::AllocError;
 use std::cmp::Ordering;
+use std::process::Abort;
 use std::test::Fail;
 
 #[test]
@@ -37,20 +39,22 @@ fn ints(rt: HostRuntime) -> Result<(), Fail> {
     Ok(())
 }
 
+/// Appends a digit this many times.
+fn push_times(text: &mut String, digit: char, times: usize) -> Result<(), AllocError> {
+    for _ in 0..times {
+        text.push(digit)?;
+    }
+    Ok(())
+}
+
 #[test]
 fn long_ints(rt: HostRuntime) -> Result<(), Fail> {
     let mut digits = String::new(rt.alloc());
-    for _ in 0..16_384 {
-        digits.push('0')?;
-    }
+    push_times(&mut digits, '0', 16_384)?;
     assert_eq!(rt; read_int(digits.as_str()), Some(0));
-    for _ in 0..18 {
-        digits.push('9')?;
-    }
+    push_times(&mut digits, '9', 18)?;
     assert_eq!(rt; read_int(digits.as_str()), Some(999_999_999_999_999_999));
-    for _ in 0..16_384 {
-        digits.push('9')?;
-    }
+    push_times(&mut digits, '9', 16_384)?;
     assert_eq!(rt; read_int(digits.as_str()), None);
     Ok(())
 }
@@ -142,30 +146,6 @@ fn moments(rt: HostRuntime) -> Result<(), Fail> {
             120_000_000,
             "2020-01-01T01:00:00.12Z",
         ),
-        (
-            "0001-01-01T00:00:00+23:59",
-            1439,
-            0,
-            "0001-01-01T00:00:00+23:59",
-        ),
-        (
-            "0001-01-01T00:00:00-23:59",
-            -1439,
-            0,
-            "0001-01-01T00:00:00-23:59",
-        ),
-        (
-            "9999-12-31T23:59:59+23:59",
-            1439,
-            0,
-            "9999-12-31T23:59:59+23:59",
-        ),
-        (
-            "9999-12-31T23:59:59-23:59",
-            -1439,
-            0,
-            "9999-12-31T23:59:59-23:59",
-        ),
         ("2020-02-29T12:30:59.0z", 0, 0, "2020-02-29T12:30:59Z"),
         (
             "2020-02-29T12:30+05:30",
@@ -181,6 +161,24 @@ fn moments(rt: HostRuntime) -> Result<(), Fail> {
         let mut out = String::from_str(rt.alloc(), "m=")?;
         write_moment(&mut out, &read)?;
         assert_eq!(rt; out.as_str().strip_prefix("m="), Some(written));
+    }
+    Ok(())
+}
+
+#[test]
+fn moments_of_the_farthest_offsets(rt: HostRuntime) -> Result<(), Fail> {
+    for (text, offset) in [
+        ("0001-01-01T00:00:00+23:59", 1439),
+        ("0001-01-01T00:00:00-23:59", -1439),
+        ("9999-12-31T23:59:59+23:59", 1439),
+        ("9999-12-31T23:59:59-23:59", -1439),
+    ] {
+        let read = read_moment(text).ok_or("no moment")?;
+        assert_eq!(rt; read.offset_minutes(), offset, "{text}");
+        assert_eq!(rt; read.civil().subsec_nanosecond(), 0, "{text}");
+        let mut out = String::from_str(rt.alloc(), "m=")?;
+        write_moment(&mut out, &read)?;
+        assert_eq!(rt; out.as_str().strip_prefix("m="), Some(text));
     }
     Ok(())
 }
@@ -278,54 +276,28 @@ fn moments_of_parts(rt: HostRuntime) -> Result<(), Fail> {
     Ok(())
 }
 
-// `bench/refused` refuses each allocation in turn: a call that fails leaves its String as it was.
-#[test]
-fn refused_allocations(rt: HostRuntime) -> Result<(), Fail> {
-    let mut out = String::new(rt.alloc());
-    let wrote = write_int(&mut out, -42).is_ok();
-    assert_eq!(rt; out.as_str(), if wrote { "-42" } else { "" });
-    println!(rt; "write_int {}", outcome(wrote))?;
+/// Prints whether a call wrote the whole text, or was refused memory and left its empty String as it was.
+fn tell_write(
+    rt: &(impl Abort + Print),
+    call: &str,
+    wrote: bool,
+    out: &str,
+    whole: &str,
+) -> Result<(), Fail> {
+    assert_eq!(rt; out, if wrote { whole } else { "" }, "{call}");
+    println!(rt; "{call} {}", outcome(wrote))?;
+    Ok(())
+}
 
-    let mut out = String::new(rt.alloc());
-    let date = read_date("2020-02-29").ok_or("no date")?;
-    let wrote = write_date(&mut out, date).is_ok();
-    assert_eq!(rt; out.as_str(), if wrote { "2020-02-29" } else { "" });
-    println!(rt; "write_date {}", outcome(wrote))?;
-
-    let mut out = String::new(rt.alloc());
-    let moment = read_moment("2020-02-29T01:02:03.04+05:06").ok_or("no moment")?;
-    let wrote = write_moment(&mut out, &moment).is_ok();
-    assert_eq!(rt;
-        out.as_str(),
-        if wrote {
-            "2020-02-29T01:02:03.04+05:06"
-        } else {
-            ""
-        }
-    );
-    println!(rt; "write_moment {}", outcome(wrote))?;
-
-    let mut out = String::new(rt.alloc());
-    let guid = read_guid("01234567-89ab-cdef-0123-456789abcdef").ok_or("no Guid")?;
-    let wrote = write_guid(&mut out, guid).is_ok();
-    assert_eq!(rt;
-        out.as_str(),
-        if wrote {
-            "01234567-89ab-cdef-0123-456789abcdef"
-        } else {
-            ""
-        }
-    );
-    println!(rt; "write_guid {}", outcome(wrote))?;
-
-    let mut out = String::new(rt.alloc());
-    let wrote = write_string(&mut out, "O'Neil").is_ok();
-    assert_eq!(rt; out.as_str(), if wrote { "'O''Neil'" } else { "" });
-    println!(rt; "write_string {}", outcome(wrote))?;
-
-    match read_string(rt.alloc(), "'O''Neil'") {
-        Ok(value) => {
-            assert_eq!(rt; value.as_str(), "O'Neil");
+/// Prints whether `read_string` answered this value, or its memory fault.
+fn tell_read(
+    rt: &(impl Abort + Print),
+    read: Result<String, LitFault>,
+    value: &str,
+) -> Result<(), Fail> {
+    match read {
+        Ok(read) => {
+            assert_eq!(rt; read.as_str(), value);
             println!(rt; "read_string ample")?;
         }
         Err(fault) => {
@@ -338,4 +310,36 @@ fn refused_allocations(rt: HostRuntime) -> Result<(), Fail> {
 
 fn outcome(wrote: bool) -> &'static str {
     if wrote { "ample" } else { "no memory" }
+}
+
+// `bench/refused` refuses each allocation in turn: a call that fails leaves its String as it was.
+#[test]
+fn refused_allocations(rt: HostRuntime) -> Result<(), Fail> {
+    let mut out = String::new(rt.alloc());
+    let wrote = write_int(&mut out, -42).is_ok();
+    tell_write(&rt, "write_int", wrote, out.as_str(), "-42")?;
+
+    let mut out = String::new(rt.alloc());
+    let text = "2020-02-29";
+    let date = read_date(text).ok_or("no date")?;
+    let wrote = write_date(&mut out, date).is_ok();
+    tell_write(&rt, "write_date", wrote, out.as_str(), text)?;
+
+    let mut out = String::new(rt.alloc());
+    let text = "2020-02-29T01:02:03.04+05:06";
+    let moment = read_moment(text).ok_or("no moment")?;
+    let wrote = write_moment(&mut out, &moment).is_ok();
+    tell_write(&rt, "write_moment", wrote, out.as_str(), text)?;
+
+    let mut out = String::new(rt.alloc());
+    let text = "01234567-89ab-cdef-0123-456789abcdef";
+    let guid = read_guid(text).ok_or("no Guid")?;
+    let wrote = write_guid(&mut out, guid).is_ok();
+    tell_write(&rt, "write_guid", wrote, out.as_str(), text)?;
+
+    let mut out = String::new(rt.alloc());
+    let wrote = write_string(&mut out, "O'Neil").is_ok();
+    tell_write(&rt, "write_string", wrote, out.as_str(), "'O''Neil'")?;
+
+    tell_read(&rt, read_string(rt.alloc(), "'O''Neil'"), "O'Neil")
 }

@@ -21,7 +21,7 @@ fn single(prim: Prim) -> Option<EdmType> {
 }
 
 #[test]
-fn refusals(rt: HostRuntime) -> Result<(), Fail> {
+fn untypable_filters(rt: HostRuntime) -> Result<(), Fail> {
     let schema = Schema::read(rt.alloc(), MINI.as_bytes())?;
     let item = schema.type_named("Mini.Item").ok_or("no type")?;
     for (text, wanted) in [
@@ -42,6 +42,20 @@ fn refusals(rt: HostRuntime) -> Result<(), Fail> {
         ("Price eq 1", typing(TypeFaultCode::TypeLeftOut, 0, 5)),
         ("Maker eq 1", typing(TypeFaultCode::TypeLeftOut, 0, 5)),
         ("1 eq 1 eq 1", typing(TypeFaultCode::OperandTypes, 0, 11)),
+    ] {
+        match check(rt.alloc(), &schema, item, text) {
+            Ok(_) => return Err(Fail::from("accepted")),
+            Err(refusal) => assert_eq!(rt; refusal, wanted, "of {text}"),
+        }
+    }
+    Ok(())
+}
+
+#[test]
+fn filters_refused_before_typing(rt: HostRuntime) -> Result<(), Fail> {
+    let schema = Schema::read(rt.alloc(), MINI.as_bytes())?;
+    let item = schema.type_named("Mini.Item").ok_or("no type")?;
+    for (text, wanted) in [
         (
             "Name eq 'abc",
             Refusal::Text(TextFault::UnclosedString {
