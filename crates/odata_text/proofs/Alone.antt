@@ -1,6 +1,6 @@
 -- Pieces that a separator or the end of the text follows.
 use Rattle.std.proofs.Common.{◌≡◌, ⊎_elim, ℕ, ◌-◌, ◌<◌, ◌≤◌, true, false, List, ◌++◌, length, get_or, take, arith, refl, sym, ◌∙◌, ap, length-append}
-use Rattle.std.specs.Char.{is_ascii_alphabetic, is_ascii_digit}
+use Rattle.std.specs.Char.{is_ascii_alphabetic}
 use Rattle.std.proofs.Math.ListN.{get_or-append}
 use Rattle.std.proofs.Math.Seq.{get_or-append_right}
 use Rattle.std.proofs.lemmas.Bool.{both_ways, cases_lt}
@@ -13,11 +13,12 @@ use Rattle.odata_text.specs.declared.form.Form.{Form}
 use Rattle.odata_text.specs.declared.form.Form.TheVariants.{Token, LeftOut}
 use Rattle.odata_text.specs.declared.form.LeftOutKind.TheVariants.{Number, Clock, Quoted}
 use Rattle.odata_text.specs.declared.token.TokenKind.TheVariants.{Word, Dollar, Int, Date, Moment, Guid, Str, EnumLit, Open, Close, Comma, Slash, Colon, Minus}
+use Rattle.odata_text.proofs.ColonBehind.{IsTimeless}
 use Rattle.odata_text.proofs.FormOf.{is_word_byte, seam}
 use Rattle.odata_text.proofs.Parts.{string-starts}
 use Rattle.odata_text.proofs.WordForms.{is_word}
 use Rattle.odata_text.proofs.IdentifierBytes.{identifier-byte, is_name_byte}
-use Rattle.odata_text.proofs.LiteralBytes.{AreLiteralBytes, bytes-date, bytes-guid, bytes-int, bytes-moment, bytes-number, bytes-time_of_day, digit-date, digit-moment, digit-time_of_day, literal_byte-separator, no_colon-guid, no_colon-int, no_colon-number}
+use Rattle.odata_text.proofs.LiteralBytes.{AreLiteralBytes, bytes-date, bytes-guid, bytes-int, bytes-moment, bytes-number, bytes-time_of_day, literal_byte-separator, no_colon-date, no_colon-guid, no_colon-int, no_colon-number}
 use Rattle.odata_text.proofs.Names.{left_out-letters}
 
 -- which bytes a separator is not
@@ -39,7 +40,7 @@ record HasSeparator (xs : List ℕ) (n : ℕ) : Type 0 where
   some : 0 < n
   inside : n < length xs
   separator : is_separator (get_or xs n 0) ≡ true
-  colon : get_or xs n 0 ≡ 58 → is_ascii_digit (get_or xs 0 0) ≡ false
+  colon : get_or xs n 0 ≡ 58 → IsTimeless xs
   unquoted : (k : ℕ) → k < n → get_or xs k 0 ≡ 39 → ⊥
 
 -- a front without separators, and a quote behind it
@@ -59,11 +60,9 @@ no_quoted xs front back n has whole starts none =
     (cases_lt (length front) n))
     (cases_lt n (length front))
 
--- a separator in a literal without quotes is a `:`, and such a literal begins with a digit
-no_separator-digit : (xs : List ℕ) (n : ℕ) → AreLiteralBytes xs → is_ascii_digit (get_or xs 0 0) ≡ true → HasSeparator xs n → ⊥
-no_separator-digit xs n bytes digit has =
-    let colon = literal_byte-separator (get_or xs n 0) (bytes.each n has.inside) has.separator in
-    both_ways (is_ascii_digit (get_or xs 0 0)) (has.colon colon) digit
+-- a separator in a literal without quotes is a `:`
+no_separator-timeless : (xs : List ℕ) (n : ℕ) → AreLiteralBytes xs → (IsTimeless xs → ⊥) → HasSeparator xs n → ⊥
+no_separator-timeless xs n bytes timed has = timed (has.colon (literal_byte-separator (get_or xs n 0) (bytes.each n has.inside) has.separator))
 
 -- or has none
 no_separator-plain : (xs : List ℕ) (n : ℕ) → AreLiteralBytes xs → ((i : ℕ) → i < length xs → get_or xs i 0 ≡ 58 → ⊥) → HasSeparator xs n → ⊥
@@ -88,8 +87,8 @@ no_separator : (form : Form) (xs : List ℕ) (n : ℕ) → IsFormed form xs → 
 no_separator (Token Word) xs n formed has = both_ways (is_word_byte (get_or xs n 0)) (separator-word (get_or xs n 0) has.separator) (is_word xs formed n has.inside)
 no_separator (Token Dollar) xs n formed has = no_separator-dollar xs formed.front formed.back n formed.whole formed.is_front formed.is_back has
 no_separator (Token Int) xs n formed has = no_separator-plain xs n (bytes-int xs formed) (no_colon-int xs formed) has
-no_separator (Token Date) xs n formed has = no_separator-digit xs n (bytes-date xs formed) (digit-date xs formed) has
-no_separator (Token Moment) xs n formed has = no_separator-digit xs n (bytes-moment xs formed) (digit-moment xs formed) has
+no_separator (Token Date) xs n formed has = no_separator-plain xs n (bytes-date xs formed) (no_colon-date xs formed) has
+no_separator (Token Moment) xs n formed has = no_separator-timeless xs n (bytes-moment xs formed) (λ timeless. timeless.0 formed) has
 no_separator (Token Guid) xs n formed has = no_separator-plain xs n (bytes-guid xs formed) (no_colon-guid xs formed) has
 no_separator (Token Str) xs n formed has = has.unquoted 0 has.some ((string-starts xs formed).1)
 no_separator (Token EnumLit) xs n formed has =
@@ -102,13 +101,13 @@ no_separator (Token Slash) xs n formed has = no_separator-mark xs 47 n formed ha
 no_separator (Token Colon) xs n formed has = no_separator-mark xs 58 n formed has
 no_separator (Token Minus) xs n formed has = no_separator-mark xs 45 n formed has
 no_separator (LeftOut Number) xs n formed has = no_separator-plain xs n (bytes-number xs formed) (no_colon-number xs formed) has
-no_separator (LeftOut Clock) xs n formed has = no_separator-digit xs n (bytes-time_of_day xs formed) (digit-time_of_day xs formed) has
+no_separator (LeftOut Clock) xs n formed has = no_separator-timeless xs n (bytes-time_of_day xs formed) (λ timeless. timeless.1 formed) has
 no_separator (LeftOut Quoted) xs n formed has =
     no_quoted xs formed.front formed.back n has formed.whole (string-starts formed.back formed.is_back)
     (λ k below separator. both_ways (is_ascii_alphabetic (get_or formed.front k 0)) (separator-letter (get_or formed.front k 0) separator) ((left_out-letters formed.front formed.is_front).letters k below))
 
 -- what stands at the front ends at the separator
-pub alone : (rest : List ℕ) (n : ℕ) → 0 < n → ((k : ℕ) → k < n → get_or rest k 0 ≡ 39 → ⊥) → (n < length rest → is_separator (get_or rest n 0) ≡ true) → (get_or rest n 0 ≡ 58 → is_ascii_digit (get_or rest 0 0) ≡ false)
+pub alone : (rest : List ℕ) (n : ℕ) → 0 < n → ((k : ℕ) → k < n → get_or rest k 0 ≡ 39 → ⊥) → (n < length rest → is_separator (get_or rest n 0) ≡ true) → ((m : ℕ) → n < m → m ≤ length rest → get_or rest n 0 ≡ 58 → IsTimeless (take m rest))
     → (form : Form) (m : ℕ) → m ≤ length rest → IsFormed form (take m rest) → m ≤ n
 alone rest n some unquoted separator colon form m inside formed =
     ⊎_elim
@@ -118,7 +117,7 @@ alone rest n some unquoted separator colon form m inside formed =
       some = some;
       inside = omega arith;
       separator = ap is_separator (get_or-take m rest n 0 longer) ∙ separator (omega arith);
-      colon = λ is. ap is_ascii_digit (get_or-take m rest 0 0 (omega arith)) ∙ colon (sym (get_or-take m rest n 0 longer) ∙ is);
+      colon = λ is. colon m longer inside (sym (get_or-take m rest n 0 longer) ∙ is);
       unquoted = λ k below quote. unquoted k below (sym (get_or-take m rest k 0 (omega arith)) ∙ quote);
     })))
     (λ most. most)

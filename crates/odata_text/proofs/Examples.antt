@@ -57,7 +57,7 @@ word_longest rest n some within name blank =
           let byte : get_or (take n rest) k 0 ≡ 39 = get_or-take n rest k 0 below ∙ quote in
           both_ways (is_name_byte 39) refl (sym (ap is_name_byte byte) ∙ names-at (take n rest) (names-from_ascii_name (take n rest) name) k (omega arith)))
           (λ inside. ap is_separator blank)
-          (λ colon. absurd (omega arith));
+          (λ m longer inside colon. absurd (omega arith));
     }
 
 word_at : (text : List ℕ) (start stop : ℕ) → start < stop → stop - start ≤ length (drop start text) → is_ascii_name (take (stop - start) (drop start text)) ≡ true → get_or (drop start text) (stop - start) 0 ≡ 32
@@ -73,7 +73,7 @@ one_longest =
     record {
       within = reach.within;
       spelled = reach.found (omega arith);
-      longest = alone (drop 17 plain_filter) 1 (omega arith) unquoted (λ inside. refl) (λ colon. absurd (blank colon));
+      longest = alone (drop 17 plain_filter) 1 (omega arith) unquoted (λ inside. refl) (λ m longer inside colon. absurd (blank colon));
     }
   where
     blank : get_or (drop 17 plain_filter) 1 0 ≡ 58 → ⊥

@@ -1,5 +1,6 @@
 pub mod Alone
 pub mod ByteClasses
+pub mod ColonBehind
 pub mod DecimalBytes
 pub mod Decimals
 pub mod Examples

@@ -159,32 +159,34 @@ no_colon-number xs decimal i inside colon = apart (get_or xs i 0) (bytes-decimal
     apart b (inr (inr (inr (inl small)))) colon = absurd (omega arith)
     apart b (inr (inr (inr (inr large)))) colon = absurd (omega arith)
 
--- hexadecimal digits and hyphens
-abbrev is_guid_test : ByteTest → Bool
-is_guid_test HexDigit = true
-is_guid_test Hyphen = true
-is_guid_test _ = false
+-- any test but that of a colon
+abbrev is_colonless : ByteTest → Bool
+is_colonless Colon = false
+is_colonless _ = true
 
-guid-byte : (test : ByteTest) (b : ℕ) → is_guid_test test ≡ true → passes test b ≡ true → b ≡ 58 → ⊥
-guid-byte HexDigit b guid e colon = let none : passes HexDigit 58 ≡ true = sym (ap (passes HexDigit) colon) ∙ e in cc
-guid-byte Hyphen b guid e colon = let none : passes Hyphen 58 ≡ true = sym (ap (passes Hyphen) colon) ∙ e in cc
-guid-byte Digit b guid e colon = absurd (false≢true guid)
-guid-byte Colon b guid e colon = absurd (false≢true guid)
-guid-byte Dot b guid e colon = absurd (false≢true guid)
-guid-byte Sign b guid e colon = absurd (false≢true guid)
-guid-byte TimeMark b guid e colon = absurd (false≢true guid)
-guid-byte OffsetMark b guid e colon = absurd (false≢true guid)
-guid-byte ExponentMark b guid e colon = absurd (false≢true guid)
+colonless-byte : (test : ByteTest) (b : ℕ) → is_colonless test ≡ true → passes test b ≡ true → b ≡ 58 → ⊥
+colonless-byte Digit b colonless e colon = let none : passes Digit 58 ≡ true = sym (ap (passes Digit) colon) ∙ e in cc
+colonless-byte HexDigit b colonless e colon = let none : passes HexDigit 58 ≡ true = sym (ap (passes HexDigit) colon) ∙ e in cc
+colonless-byte Hyphen b colonless e colon = let none : passes Hyphen 58 ≡ true = sym (ap (passes Hyphen) colon) ∙ e in cc
+colonless-byte Colon b colonless e colon = absurd (false≢true colonless)
+colonless-byte Dot b colonless e colon = let none : passes Dot 58 ≡ true = sym (ap (passes Dot) colon) ∙ e in cc
+colonless-byte Sign b colonless e colon = let none : passes Sign 58 ≡ true = sym (ap (passes Sign) colon) ∙ e in cc
+colonless-byte TimeMark b colonless e colon = let none : passes TimeMark 58 ≡ true = sym (ap (passes TimeMark) colon) ∙ e in cc
+colonless-byte OffsetMark b colonless e colon = let none : passes OffsetMark 58 ≡ true = sym (ap (passes OffsetMark) colon) ∙ e in cc
+colonless-byte ExponentMark b colonless e colon = let none : passes ExponentMark 58 ≡ true = sym (ap (passes ExponentMark) colon) ∙ e in cc
 
-guid-bytes : (tests : List ByteTest) (xs : List ℕ) → list_all is_guid_test tests ≡ true → Fits tests xs → (i : ℕ) → i < length xs → get_or xs i 0 ≡ 58 → ⊥
-guid-bytes [] [] all fits i inside colon = absurd (omega arith)
-guid-bytes [] (b ∷ bs) all fits i inside colon = absurd fits
-guid-bytes (test ∷ tests) [] all fits i inside colon = absurd (omega arith)
-guid-bytes (test ∷ tests) (b ∷ bs) all fits zero inside colon = guid-byte test b (and_parts (is_guid_test test) (list_all is_guid_test tests) all).0 fits.0 colon
-guid-bytes (test ∷ tests) (b ∷ bs) all fits (suc i) inside colon = guid-bytes tests bs (and_parts (is_guid_test test) (list_all is_guid_test tests) all).1 fits.1 i (omega arith) colon
+colonless-bytes : (tests : List ByteTest) (xs : List ℕ) → list_all is_colonless tests ≡ true → Fits tests xs → (i : ℕ) → i < length xs → get_or xs i 0 ≡ 58 → ⊥
+colonless-bytes [] [] all fits i inside colon = absurd (omega arith)
+colonless-bytes [] (b ∷ bs) all fits i inside colon = absurd fits
+colonless-bytes (test ∷ tests) [] all fits i inside colon = absurd (omega arith)
+colonless-bytes (test ∷ tests) (b ∷ bs) all fits zero inside colon = colonless-byte test b (and_parts (is_colonless test) (list_all is_colonless tests) all).0 fits.0 colon
+colonless-bytes (test ∷ tests) (b ∷ bs) all fits (suc i) inside colon = colonless-bytes tests bs (and_parts (is_colonless test) (list_all is_colonless tests) all).1 fits.1 i (omega arith) colon
+
+pub no_colon-date : (xs : List ℕ) → IsDateSpelling xs → (i : ℕ) → i < length xs → get_or xs i 0 ≡ 58 → ⊥
+no_colon-date xs date = colonless-bytes date_pattern xs refl (fits-date xs date)
 
 pub no_colon-guid : (xs : List ℕ) → IsGuidSpelling xs → (i : ℕ) → i < length xs → get_or xs i 0 ≡ 58 → ⊥
-no_colon-guid xs guid = guid-bytes guid_pattern xs refl (fits-guid xs guid)
+no_colon-guid xs guid = colonless-bytes guid_pattern xs refl (fits-guid xs guid)
 
 -- ---- the first byte
 

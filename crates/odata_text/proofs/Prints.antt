@@ -1,5 +1,5 @@
 -- Tokens that are printed one after another are read back.
-use Rattle.std.proofs.Common.{◌≡◌, ℕ, ◌+◌, ◌-◌, ◌<◌, ◌≤◌, ◌==◌, ◌&&◌, not, true, false, List, [], ◌∷◌, ◌++◌, suc, length, get_or, take, drop, chars, arith, refl, sym, ◌∙◌, ap, subst, length-append, append_assoc, append-nil}
+use Rattle.std.proofs.Common.{◌≡◌, ℕ, ◌+◌, ◌-◌, ◌<◌, ◌≤◌, ◌==◌, not, true, false, List, [], ◌∷◌, ◌++◌, suc, length, get_or, take, drop, chars, arith, refl, sym, ◌∙◌, ap, subst, length-append, append_assoc, append-nil}
 use Rattle.std.specs.Prelude.{All}
 use Rattle.std.specs.List.{take_while}
 use Rattle.std.specs.Str.{encode_utf8_all}
@@ -18,7 +18,7 @@ use Rattle.odata_text.specs.Tokens.{AreTokensFrom, IsGap, IsLongest, IsTokenAt, 
 use Rattle.odata_text.specs.declared.byte_class.ByteClass.TheVariants.{Space}
 use Rattle.odata_text.specs.declared.form.Form.TheVariants.{Token}
 use Rattle.odata_text.specs.declared.token.TokenKind.{TokenKind}
-use Rattle.odata_text.specs.declared.token.TokenKind.TheVariants.{Open, Close, Comma, Slash, Colon}
+use Rattle.odata_text.specs.declared.token.TokenKind.TheVariants.{Int, Open, Close, Comma, Slash, Colon}
 use Rattle.odata_text.proofs.Separated.{separated}
 use Rattle.odata_text.proofs.IdentifierBytes.{continues-ascii}
 use Rattle.odata_text.proofs.Alone.{separator-ascii, separator-name}
@@ -40,7 +40,8 @@ follow-separator Close b undelimited follows = absurd (false≢true undelimited)
 follow-separator Comma b undelimited follows = absurd (false≢true undelimited)
 follow-separator Slash b undelimited follows = absurd (false≢true undelimited)
 follow-separator Colon b undelimited follows = absurd (false≢true undelimited)
-follow-separator kind b undelimited follows = (and_parts (is_separator b) (not (is_undelimited kind && (b == 58))) follows).0
+follow-separator Int b undelimited follows = (and_parts (is_separator b) (not (b == 58)) follows).0
+follow-separator kind b undelimited follows = follows
 
 no_run : (kind : TokenKind) (rest : List ℕ) → MayFollow kind rest → RunsOn kind rest → ⊥
 no_run kind [] follows runs = let some = runs.1 in let none : identifier_run [] ≡ 0 = ap (λ (cs : List ℕ). length (encode_utf8_all (take_while continues_identifier cs))) chars-nil in absurd (omega arith)

@@ -18,11 +18,12 @@ use Rattle.odata_text.specs.declared.form.LeftOutKind.TheVariants.{Number, Clock
 use Rattle.odata_text.specs.declared.token.TokenKind.{TokenKind}
 use Rattle.odata_text.specs.declared.token.TokenKind.TheVariants.{Word, Dollar, Int, Date, Moment, Guid, Str, EnumLit, Open, Close, Comma, Slash, Colon, Minus}
 use Rattle.odata_text.proofs.Alone.{alone}
+use Rattle.odata_text.proofs.ColonBehind.{GoesOn, IsTimeless, date-colon, guid-colon, moment-colon}
 use Rattle.odata_text.proofs.FormOf.{is_word_byte, seam}
 use Rattle.odata_text.proofs.Parts.{no_quote-name, no_quote-word, string-starts}
 use Rattle.odata_text.proofs.WordForms.{is_word}
 use Rattle.odata_text.proofs.IdentifierBytes.{identifier-byte, is_name_byte}
-use Rattle.odata_text.proofs.LiteralBytes.{AreLiteralBytes, bytes-date, bytes-guid, bytes-int, bytes-moment, bytes-number, bytes-time_of_day, literal_byte-quote}
+use Rattle.odata_text.proofs.LiteralBytes.{AreLiteralBytes, bytes-date, bytes-guid, bytes-int, bytes-moment, bytes-number, bytes-time_of_day, digit-moment, digit-time_of_day, literal_byte-quote}
 use Rattle.odata_text.proofs.Quotes.{string-bound}
 use Rattle.odata_text.proofs.Starts.{is_word_start, started, starts}
 
@@ -37,8 +38,8 @@ longest_by kind text rest spelled most =
     }
 
 -- behind the other kinds any separator stands
-plain_follows : (b : ℕ) → (is_separator b && true) ≡ true → is_separator b ≡ true
-plain_follows b follows = (and_parts (is_separator b) true follows).0
+plain_follows : (b : ℕ) → is_separator b ≡ true → is_separator b ≡ true
+plain_follows b follows = follows
 
 separator_behind : (kind : TokenKind) (rest : List ℕ) → ((b : ℕ) → may_follow kind b ≡ true → is_separator b ≡ true) → MayFollow kind rest → 0 < length rest → is_separator (get_or rest 0 0) ≡ true
 separator_behind kind [] only follows some = absurd (omega arith)
@@ -228,9 +229,15 @@ unquoted-dollar xs pair n inside quote =
     both_ways (is_name_byte 39) refl (sym (ap is_name_byte byte) ∙ name))
     (cases_lt n (length pair.front))
 
--- a token without a quote; a `:` behind it ends it too, if it does not begin with a digit
+-- what begins with no digit is no time
+timeless-start : (text xs : List ℕ) → 0 < length text → is_ascii_digit (get_or text 0 0) ≡ false → GoesOn text xs → IsTimeless xs
+timeless-start text xs some other on =
+    let first : is_ascii_digit (get_or xs 0 0) ≡ false = ap is_ascii_digit (on.same 0 some) ∙ other in
+    (λ moment. both_ways (is_ascii_digit (get_or xs 0 0)) first (digit-moment xs moment), λ time. both_ways (is_ascii_digit (get_or xs 0 0)) first (digit-time_of_day xs time))
+
+-- a token without a quote, that is no beginning of a time with a `:` behind it
 plain : (kind : TokenKind) → ((b : ℕ) → may_follow kind b ≡ true → is_separator b ≡ true) → (text rest : List ℕ) → Spells kind text → ((n : ℕ) → n < length text → get_or text n 0 ≡ 39 → ⊥)
-    → ((b : ℕ) → may_follow kind b ≡ true → b ≡ 58 → is_ascii_digit (get_or text 0 0) ≡ false) → MayFollow kind rest → IsLongest (Token kind) (length text) (text ++ rest)
+    → (may_follow kind 58 ≡ true → (xs : List ℕ) → GoesOn text xs → IsTimeless xs) → MayFollow kind rest → IsLongest (Token kind) (length text) (text ++ rest)
 plain kind only text rest spelled unquoted colon follows =
     let some = (started (Token kind) text spelled).nonempty in
     let all = length-append text rest in
@@ -238,22 +245,28 @@ plain kind only text rest spelled unquoted colon follows =
     (alone (text ++ rest) (length text) some
     (λ k below quote. unquoted k below (sym (get_or-append text rest 0 k below) ∙ quote))
     (λ inside. ap is_separator (seam text rest) ∙ separator_behind kind rest only follows (omega arith))
-    (λ is. ap is_ascii_digit (get_or-append text rest 0 0 some) ∙ colon_behind rest follows (sym (seam text rest) ∙ is)))
+    (λ m longer inside is. colon (colon_follows rest follows (sym (seam text rest) ∙ is)) (take m (text ++ rest)) (goes_on m longer inside is)))
   where
-    colon_behind : (more : List ℕ) → MayFollow kind more → get_or more 0 0 ≡ 58 → is_ascii_digit (get_or text 0 0) ≡ false
-    colon_behind [] follows is = absurd (omega arith)
-    colon_behind (b ∷ bs) follows is = colon b follows is
+    colon_follows : (more : List ℕ) → MayFollow kind more → get_or more 0 0 ≡ 58 → may_follow kind 58 ≡ true
+    colon_follows [] follows is = absurd (omega arith)
+    colon_follows (b ∷ bs) follows is = sym (ap (may_follow kind) is) ∙ follows
 
--- no `:` stands behind a literal without quotes
-literal_follows : (kind : TokenKind) → ((b : ℕ) → may_follow kind b ≡ (is_separator b && not (b == 58))) → (b : ℕ) → may_follow kind b ≡ true → is_separator b ≡ true
-literal_follows kind is b follows = (and_parts (is_separator b) (not (b == 58)) (sym (is b) ∙ follows)).0
+    goes_on : (m : ℕ) → length text < m → m ≤ length (text ++ rest) → get_or (text ++ rest) (length text) 0 ≡ 58 → GoesOn text (take m (text ++ rest))
+    goes_on m longer inside is =
+        let size = length-take-le m (text ++ rest) inside in
+        record {
+          longer = omega arith;
+          same = λ i below. get_or-take m (text ++ rest) i 0 (omega arith) ∙ get_or-append text rest 0 i below;
+          colon = get_or-take m (text ++ rest) (length text) 0 longer ∙ is;
+        }
 
-literal_colon : (kind : TokenKind) → ((b : ℕ) → may_follow kind b ≡ (is_separator b && not (b == 58))) → (b : ℕ) → may_follow kind b ≡ true → b ≡ 58 → ⊥
-literal_colon kind is b follows colon = let none : (is_separator 58 && not (58 == 58)) ≡ true = sym (ap (λ (c : ℕ). is_separator c && not (c == 58)) colon) ∙ sym (is b) ∙ follows in absurd (false≢true none)
+-- an Int has no `:` behind it
+int_follows : (b : ℕ) → may_follow Int b ≡ true → is_separator b ≡ true
+int_follows b follows = (and_parts (is_separator b) (not (b == 58)) follows).0
 
-literal : (kind : TokenKind) → ((b : ℕ) → may_follow kind b ≡ (is_separator b && not (b == 58))) → (text rest : List ℕ) → Spells kind text → AreLiteralBytes text → MayFollow kind rest → IsLongest (Token kind) (length text) (text ++ rest)
-literal kind is text rest spelled bytes follows =
-    plain kind (literal_follows kind is) text rest spelled (unquoted-literal text bytes) (λ b may colon. absurd (literal_colon kind is b may colon)) follows
+literal : (kind : TokenKind) → ((b : ℕ) → may_follow kind b ≡ true → is_separator b ≡ true) → (text rest : List ℕ) → Spells kind text → AreLiteralBytes text
+    → (may_follow kind 58 ≡ true → (xs : List ℕ) → GoesOn text xs → IsTimeless xs) → MayFollow kind rest → IsLongest (Token kind) (length text) (text ++ rest)
+literal kind only text rest spelled bytes colon follows = plain kind only text rest spelled (unquoted-literal text bytes) colon follows
 
 -- a word begins with no digit
 word_start-digit : (b : ℕ) → is_word_start b ≡ true → is_ascii_digit b ≡ false
@@ -264,14 +277,14 @@ word_start-digit b start = grind (arith, nat_tests)
 pub separated : (kind : TokenKind) (text rest : List ℕ) → Spells kind text → MayFollow kind rest → IsLongest (Token kind) (length text) (text ++ rest)
 separated Word text rest spelled follows =
     plain Word plain_follows text rest spelled (λ n inside quote. both_ways (is_word_byte 39) refl (sym (ap is_word_byte quote) ∙ is_word text spelled n inside))
-    (λ b may colon. word_start-digit (get_or text 0 0) (started (Token Word) text spelled).first) follows
+    (λ may xs on. let start = started (Token Word) text spelled in timeless-start text xs start.nonempty (word_start-digit (get_or text 0 0) start.first) on) follows
 separated Dollar text rest spelled follows =
     plain Dollar plain_follows text rest spelled (unquoted-dollar text spelled)
-    (λ b may colon. ap is_ascii_digit (same_byte (get_or text 0 0) 36 (started (Token Dollar) text spelled).first)) follows
-separated Int text rest spelled follows = literal Int (λ b. refl) text rest spelled (bytes-int text spelled) follows
-separated Date text rest spelled follows = literal Date (λ b. refl) text rest spelled (bytes-date text spelled) follows
-separated Moment text rest spelled follows = literal Moment (λ b. refl) text rest spelled (bytes-moment text spelled) follows
-separated Guid text rest spelled follows = literal Guid (λ b. refl) text rest spelled (bytes-guid text spelled) follows
+    (λ may xs on. let start = started (Token Dollar) text spelled in timeless-start text xs start.nonempty (ap is_ascii_digit (same_byte (get_or text 0 0) 36 start.first)) on) follows
+separated Int text rest spelled follows = literal Int int_follows text rest spelled (bytes-int text spelled) (λ may. absurd (false≢true may)) follows
+separated Date text rest spelled follows = literal Date plain_follows text rest spelled (bytes-date text spelled) (λ may xs. date-colon text xs spelled) follows
+separated Moment text rest spelled follows = literal Moment plain_follows text rest spelled (bytes-moment text spelled) (λ may xs. moment-colon text xs spelled) follows
+separated Guid text rest spelled follows = literal Guid plain_follows text rest spelled (bytes-guid text spelled) (λ may xs. guid-colon text xs spelled) follows
 separated Str text rest spelled follows = str text rest spelled follows
 separated EnumLit text rest spelled follows = enum text rest spelled follows
 separated Open text rest spelled follows = mark Open 40 (λ xs is. ap length is) only_open text rest spelled spelled
@@ -283,5 +296,5 @@ separated Minus text rest spelled follows =
     plain Minus plain_follows text rest spelled
     (λ n inside quote. let size = ap length spelled in let here : n ≡ 0 = omega arith in
     let byte : 45 ≡ 39 = sym (ap (λ (ys : List ℕ). get_or ys 0 0) spelled) ∙ ap (λ (i : ℕ). get_or text i 0) (sym here) ∙ quote in absurd (omega arith))
-    (λ b may colon. ap (λ (ys : List ℕ). is_ascii_digit (get_or ys 0 0)) spelled)
+    (λ may xs on. let size = ap length spelled in timeless-start text xs (omega arith) (ap (λ (ys : List ℕ). is_ascii_digit (get_or ys 0 0)) spelled) on)
     follows

@@ -3,10 +3,9 @@ use Rattle.std.specs.Prelude.{◌≡◌, ⊤, ℕ, ◌+◌, ◌==◌, ◌||◌, 
 use Rattle.odata_text.specs.ByteClass.{class_of}
 use Rattle.odata_text.specs.Piece.{Piece}
 use Rattle.odata_text.specs.Spelling.{Spells}
-use Rattle.odata_text.specs.Tokens.{is_undelimited}
 use Rattle.odata_text.specs.declared.byte_class.ByteClass.TheVariants.{Space}
 use Rattle.odata_text.specs.declared.token.TokenKind.{TokenKind}
-use Rattle.odata_text.specs.declared.token.TokenKind.TheVariants.{Open, Close, Comma, Slash, Colon}
+use Rattle.odata_text.specs.declared.token.TokenKind.TheVariants.{Int, Open, Close, Comma, Slash, Colon}
 
 -- a token's bytes, and the white space behind them
 pub record Print : Type 0 where
@@ -21,14 +20,15 @@ printed prints = flat_map (λ p. p.text ++ p.gap) prints
 abbrev pub is_separator : ℕ → Bool
 is_separator b = (b == 32) || ((b == 9) || ((b == 40) || ((b == 41) || ((b == 44) || ((b == 47) || (b == 58))))))
 
--- the byte may stand directly behind a token of the kind: any behind a mark that is no `-`, else a separator, but no `:` (58) behind a literal without quotes (`12:34`)
+-- the byte may stand directly behind a token of the kind: any behind a mark that is no `-`, a separator but `:` (58) behind an Int (`12:34` is a time), else a separator
 abbrev pub may_follow : TokenKind → ℕ → Bool
 may_follow Open b = true
 may_follow Close b = true
 may_follow Comma b = true
 may_follow Slash b = true
 may_follow Colon b = true
-may_follow kind b = is_separator b && not (is_undelimited kind && (b == 58))
+may_follow Int b = is_separator b && not (b == 58)
+may_follow kind b = is_separator b
 
 abbrev pub MayFollow : TokenKind → List ℕ → Type 0
 MayFollow kind [] = ⊤
