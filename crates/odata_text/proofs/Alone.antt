@@ -11,7 +11,7 @@ use Rattle.odata_text.specs.Printing.{is_separator}
 use Rattle.odata_text.specs.Spelling.{IsFormed, IsByte}
 use Rattle.odata_text.specs.declared.form.Form.{Form}
 use Rattle.odata_text.specs.declared.form.Form.TheVariants.{Token, LeftOut}
-use Rattle.odata_text.specs.declared.form.LeftOutKind.TheVariants.{Number, Clock, Quoted}
+use Rattle.odata_text.specs.declared.form.LeftOutKind.TheVariants.{Number, TimeOfDay, Quoted}
 use Rattle.odata_text.specs.declared.token.TokenKind.TheVariants.{Word, Dollar, Int, Date, Moment, Guid, Str, EnumLit, Open, Close, Comma, Slash, Colon, Minus}
 use Rattle.odata_text.proofs.ColonBehind.{IsTimeless}
 use Rattle.odata_text.proofs.FormOf.{is_word_byte, seam}
@@ -101,7 +101,7 @@ no_separator (Token Slash) xs n formed has = no_separator-mark xs 47 n formed ha
 no_separator (Token Colon) xs n formed has = no_separator-mark xs 58 n formed has
 no_separator (Token Minus) xs n formed has = no_separator-mark xs 45 n formed has
 no_separator (LeftOut Number) xs n formed has = no_separator-plain xs n (bytes-number xs formed) (no_colon-number xs formed) has
-no_separator (LeftOut Clock) xs n formed has = no_separator-timeless xs n (bytes-time_of_day xs formed) (λ timeless. timeless.1 formed) has
+no_separator (LeftOut TimeOfDay) xs n formed has = no_separator-timeless xs n (bytes-time_of_day xs formed) (λ timeless. timeless.1 formed) has
 no_separator (LeftOut Quoted) xs n formed has =
     no_quoted xs formed.front formed.back n has formed.whole (string-starts formed.back formed.is_back)
     (λ k below separator. both_ways (is_ascii_alphabetic (get_or formed.front k 0)) (separator-letter (get_or formed.front k 0) separator) ((left_out-letters formed.front formed.is_front).letters k below))

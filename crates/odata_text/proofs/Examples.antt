@@ -12,7 +12,7 @@ use Rattle.odata_text.specs.declared.byte_class.ByteClass.TheVariants.{Space}
 use Rattle.odata_text.specs.declared.fault.TextFault.TheVariants.{RunOn}
 use Rattle.odata_text.specs.declared.form.Form.{Form}
 use Rattle.odata_text.specs.declared.form.Form.TheVariants.{Token, LeftOut}
-use Rattle.odata_text.specs.declared.form.LeftOutKind.TheVariants.{Number, Clock, Quoted}
+use Rattle.odata_text.specs.declared.form.LeftOutKind.TheVariants.{Number, TimeOfDay, Quoted}
 use Rattle.odata_text.specs.declared.token.TokenKind.TheVariants.{Word, Int, Date, Moment, Guid, Str}
 use Rattle.std.specs.Char.{is_ascii_digit, is_ascii_hexdigit}
 use Rattle.std.proofs.Math.ListN.{get_or-append}
@@ -195,7 +195,7 @@ no_second (Token Moment) xs formed first second long =
 no_second (Token Guid) xs formed first second long =
     both_ways (is_ascii_hexdigit 115) refl (sym (ap is_ascii_hexdigit second) ∙ fits-at guid_pattern xs (fits-guid xs formed) 1 Digit (omega arith))
 no_second (LeftOut Number) xs formed first second long = no_second-number xs formed second
-no_second (LeftOut Clock) xs formed first second long =
+no_second (LeftOut TimeOfDay) xs formed first second long =
     no_digit xs second (pattern-second (drop 2 clock_pattern) xs formed.front formed.back formed.whole (fits-clock formed.front formed.is_front))
 no_second (LeftOut Quoted) xs formed first second long = false≢true (starts-one (LeftOut Quoted) xs formed first)
 no_second (Token kind) xs formed first second long = false≢true (starts-one (Token kind) xs formed first)

@@ -8,7 +8,7 @@ use Rattle.std.proofs.lemmas.Bool.Decides.{nat_tests}
 use Rattle.std.proofs.lemmas.List.Sums.{prefix_len-le-length, prefix_len_passes}
 use Rattle.odata_text.specs.declared.form.Form.{Form}
 use Rattle.odata_text.specs.declared.form.Form.TheVariants.{Token, LeftOut}
-use Rattle.odata_text.specs.declared.form.LeftOutKind.TheVariants.{Number, Clock, Quoted}
+use Rattle.odata_text.specs.declared.form.LeftOutKind.TheVariants.{Number, TimeOfDay, Quoted}
 use Rattle.odata_text.specs.declared.token.TokenKind.TheVariants.{Word, Dollar, Int, Date, Moment, Guid, Str, EnumLit, Open, Close, Comma, Slash, Colon, Minus}
 use Rattle.odata_text.proofs.IdentifierBytes.{is_name_byte}
 use Rattle.odata_text.proofs.LiteralForms as literal
@@ -67,7 +67,7 @@ ends-at xs n b run byte other = ap (λ (k : ℕ). get_or xs k 0 == 45) run ∙ a
 -- a literal by its bytes
 abbrev pub literal_form : Literal → Form
 literal_form literal.Str = Token Str
-literal_form literal.TimeOfDay = LeftOut Clock
+literal_form literal.TimeOfDay = LeftOut TimeOfDay
 literal_form literal.Date = Token Date
 literal_form literal.Moment = Token Moment
 literal_form literal.Guid = Token Guid

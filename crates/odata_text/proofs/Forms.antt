@@ -3,7 +3,7 @@ use Rattle.std.proofs.Common.{◌≡◌, ℕ, List, [], ◌∷◌, ◌++◌, get
 use Rattle.odata_text.specs.Spelling.{IsFormed}
 use Rattle.odata_text.specs.declared.form.Form.{Form}
 use Rattle.odata_text.specs.declared.form.Form.TheVariants.{Token, LeftOut}
-use Rattle.odata_text.specs.declared.form.LeftOutKind.TheVariants.{Number, Clock, Quoted}
+use Rattle.odata_text.specs.declared.form.LeftOutKind.TheVariants.{Number, TimeOfDay, Quoted}
 use Rattle.odata_text.specs.declared.token.TokenKind.TheVariants.{Word, Dollar, Int, Date, Moment, Guid, Str, EnumLit, Open, Close, Comma, Slash, Colon, Minus}
 use Rattle.odata_text.proofs.FormOf.{by_first, form_of}
 use Rattle.odata_text.proofs.LiteralForms as literal
@@ -29,7 +29,7 @@ form-is (Token Slash) xs formed = ap form_of formed
 form-is (Token Colon) xs formed = ap form_of formed
 form-is (Token Minus) xs formed = ap form_of formed
 form-is (LeftOut Number) xs formed = form-literal literal.Decimal xs formed
-form-is (LeftOut Clock) xs formed = form-literal literal.TimeOfDay xs formed
+form-is (LeftOut TimeOfDay) xs formed = form-literal literal.TimeOfDay xs formed
 form-is (LeftOut Quoted) xs formed = form-named xs formed
 
 pub same_form : (xs : List ℕ) (f g : Form) → IsFormed f xs → IsFormed g xs → f ≡ g

@@ -9,7 +9,7 @@ use Rattle.odata_text.specs.Spelling.{IsFormed}
 use Rattle.odata_text.specs.Tokens.{IsLongest, NoneSpelled}
 use Rattle.odata_text.specs.declared.form.Form.{Form}
 use Rattle.odata_text.specs.declared.form.Form.TheVariants.{Token, LeftOut}
-use Rattle.odata_text.specs.declared.form.LeftOutKind.TheVariants.{Number, Clock, Quoted}
+use Rattle.odata_text.specs.declared.form.LeftOutKind.TheVariants.{Number, TimeOfDay, Quoted}
 use Rattle.odata_text.specs.declared.token.TokenKind.TheVariants.{Word, Dollar, Int, Date, Moment, Guid, Str, EnumLit, Open, Close, Comma, Slash, Colon, Minus}
 use Rattle.odata_text.proofs.Starts.{started}
 
@@ -18,7 +18,7 @@ abbrev pub forms : List Form
 forms =
     Token Word ∷ Token Dollar ∷ Token Int ∷ Token Date ∷ Token Moment ∷ Token Guid ∷ Token Str ∷ Token EnumLit
     ∷ Token Open ∷ Token Close ∷ Token Comma ∷ Token Slash ∷ Token Colon ∷ Token Minus
-    ∷ LeftOut Number ∷ LeftOut Clock ∷ LeftOut Quoted ∷ []
+    ∷ LeftOut Number ∷ LeftOut TimeOfDay ∷ LeftOut Quoted ∷ []
 
 has_form : (form : Form) → Contains forms form
 has_form (Token Word) = (0, omega arith, refl)
@@ -36,7 +36,7 @@ has_form (Token Slash) = (11, omega arith, refl)
 has_form (Token Colon) = (12, omega arith, refl)
 has_form (Token Minus) = (13, omega arith, refl)
 has_form (LeftOut Number) = (14, omega arith, refl)
-has_form (LeftOut Clock) = (15, omega arith, refl)
+has_form (LeftOut TimeOfDay) = (15, omega arith, refl)
 has_form (LeftOut Quoted) = (16, omega arith, refl)
 
 -- of each form a candidate, with the length of its longest spelling

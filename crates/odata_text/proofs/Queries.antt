@@ -6,7 +6,7 @@ use Rattle.std.proofs.lemmas.List.{get_or-take, length-take-le, get_or_default}
 use Rattle.std.proofs.lemmas.List.Sums.{get_or-le-sum_by, sum_by_more_le}
 use Rattle.std.proofs.Math.Seq.{take-length}
 use Rattle.percent_encoding.specs.Percent.{percent_decode}
-use Rattle.odata_text.specs.Query.{AreFaultless, HasFilter, IsFilterOf, IsFirstBadEscape, IsNameFault, IsNoText, IsOptionFault, IsPartFault, IsQueryFault, IsReadable, IsSound, decoded_name, is_filter, is_filter_name, is_other_name, name_of, option_start, options_of, value_of}
+use Rattle.odata_text.specs.Query.{AreFaultless, HasFilter, IsFilterOf, IsFirstBadEscape, IsNameFault, IsNoText, IsOptionFault, IsPartFault, IsQueryFault, IsReadable, IsSound, decoded_name, is_filter, is_filter_name, is_refused_name, name_of, option_start, options_of, value_of}
 use Rattle.odata_text.specs.declared.query_fault.QueryFault.{QueryFault}
 use Rattle.odata_text.specs.declared.query_fault.QueryFault.TheVariants.{BadEscape, NotUtf8, Repeated, OtherOption, Memory}
 
@@ -73,9 +73,9 @@ part-fault-same part number start (OtherOption option) g f h = absurd f
 part-fault-same part number start Memory g f h = absurd f
 
 -- the filter's name is no other option's
-filter-not_other : (name : List ℕ) → is_filter_name name ≡ true → is_other_name name ≡ true → ⊥
+filter-not_other : (name : List ℕ) → is_filter_name name ≡ true → is_refused_name name ≡ true → ⊥
 filter-not_other name filter other =
-    both_ways (is_other_name name) (rw filter refl) other
+    both_ways (is_refused_name name) (rw filter refl) other
 
 name-fault-same : (name : List ℕ) (number filters : ℕ) (f g : QueryFault) → IsNameFault name number filters f → IsNameFault name number filters g → f ≡ g
 name-fault-same name number filters (Repeated option) (Repeated other) f g = ap Repeated (f.0 ∙ sym g.0)

@@ -14,7 +14,7 @@ use Rattle.odata_text.specs.Spelling.{IsByte, IsDottedWord, IsFormed, IsLeftOutN
 use Rattle.odata_text.specs.Tokens.{IsLongest}
 use Rattle.odata_text.specs.declared.form.Form.{Form}
 use Rattle.odata_text.specs.declared.form.Form.TheVariants.{Token, LeftOut}
-use Rattle.odata_text.specs.declared.form.LeftOutKind.TheVariants.{Number, Clock, Quoted}
+use Rattle.odata_text.specs.declared.form.LeftOutKind.TheVariants.{Number, TimeOfDay, Quoted}
 use Rattle.odata_text.specs.declared.token.TokenKind.{TokenKind}
 use Rattle.odata_text.specs.declared.token.TokenKind.TheVariants.{Word, Dollar, Int, Date, Moment, Guid, Str, EnumLit, Open, Close, Comma, Slash, Colon, Minus}
 use Rattle.odata_text.proofs.Alone.{alone}
@@ -63,42 +63,42 @@ only_open : (form : Form) → starts form 40 ≡ true → form ≡ Token Open
 only_open (Token Open) e = refl
 only_open (Token _) e = absurd (false≢true e)
 only_open (LeftOut Number) e = absurd (false≢true e)
-only_open (LeftOut Clock) e = absurd (false≢true e)
+only_open (LeftOut TimeOfDay) e = absurd (false≢true e)
 only_open (LeftOut Quoted) e = absurd (false≢true e)
 
 only_close : (form : Form) → starts form 41 ≡ true → form ≡ Token Close
 only_close (Token Close) e = refl
 only_close (Token _) e = absurd (false≢true e)
 only_close (LeftOut Number) e = absurd (false≢true e)
-only_close (LeftOut Clock) e = absurd (false≢true e)
+only_close (LeftOut TimeOfDay) e = absurd (false≢true e)
 only_close (LeftOut Quoted) e = absurd (false≢true e)
 
 only_comma : (form : Form) → starts form 44 ≡ true → form ≡ Token Comma
 only_comma (Token Comma) e = refl
 only_comma (Token _) e = absurd (false≢true e)
 only_comma (LeftOut Number) e = absurd (false≢true e)
-only_comma (LeftOut Clock) e = absurd (false≢true e)
+only_comma (LeftOut TimeOfDay) e = absurd (false≢true e)
 only_comma (LeftOut Quoted) e = absurd (false≢true e)
 
 only_slash : (form : Form) → starts form 47 ≡ true → form ≡ Token Slash
 only_slash (Token Slash) e = refl
 only_slash (Token _) e = absurd (false≢true e)
 only_slash (LeftOut Number) e = absurd (false≢true e)
-only_slash (LeftOut Clock) e = absurd (false≢true e)
+only_slash (LeftOut TimeOfDay) e = absurd (false≢true e)
 only_slash (LeftOut Quoted) e = absurd (false≢true e)
 
 only_colon : (form : Form) → starts form 58 ≡ true → form ≡ Token Colon
 only_colon (Token Colon) e = refl
 only_colon (Token _) e = absurd (false≢true e)
 only_colon (LeftOut Number) e = absurd (false≢true e)
-only_colon (LeftOut Clock) e = absurd (false≢true e)
+only_colon (LeftOut TimeOfDay) e = absurd (false≢true e)
 only_colon (LeftOut Quoted) e = absurd (false≢true e)
 
 only_str : (form : Form) → starts form 39 ≡ true → form ≡ Token Str
 only_str (Token Str) e = refl
 only_str (Token _) e = absurd (false≢true e)
 only_str (LeftOut Number) e = absurd (false≢true e)
-only_str (LeftOut Clock) e = absurd (false≢true e)
+only_str (LeftOut TimeOfDay) e = absurd (false≢true e)
 only_str (LeftOut Quoted) e = absurd (false≢true e)
 
 -- ---- texts in quotes
@@ -207,7 +207,7 @@ enum text rest pair follows =
     enum_form (Token Colon) xs k n formed start inside quote dotted named = absurd (apart (get_or xs 0 0) 58 refl start (started (Token Colon) xs formed).first)
     enum_form (Token Minus) xs k n formed start inside quote dotted named = absurd (apart (get_or xs 0 0) 45 refl start (started (Token Minus) xs formed).first)
     enum_form (LeftOut Number) xs k n formed start inside quote dotted named = absurd (literal_byte-quote (get_or xs k 0) ((bytes-number xs formed).each k inside) quote)
-    enum_form (LeftOut Clock) xs k n formed start inside quote dotted named = absurd (literal_byte-quote (get_or xs k 0) ((bytes-time_of_day xs formed).each k inside) quote)
+    enum_form (LeftOut TimeOfDay) xs k n formed start inside quote dotted named = absurd (literal_byte-quote (get_or xs k 0) ((bytes-time_of_day xs formed).each k inside) quote)
 
 -- ---- tokens without a quote
 

@@ -18,7 +18,7 @@ use Rattle.odata_text.specs.Spelling.{IsByte, IsDottedWord, IsFormed, IsLeftOutN
 use Rattle.odata_text.specs.declared.byte_class.ByteClass.TheVariants.{Space}
 use Rattle.odata_text.specs.declared.form.Form.{Form}
 use Rattle.odata_text.specs.declared.form.Form.TheVariants.{Token, LeftOut}
-use Rattle.odata_text.specs.declared.form.LeftOutKind.TheVariants.{Number, Clock, Quoted}
+use Rattle.odata_text.specs.declared.form.LeftOutKind.TheVariants.{Number, TimeOfDay, Quoted}
 use Rattle.odata_text.specs.declared.token.TokenKind.{TokenKind}
 use Rattle.odata_text.specs.declared.token.TokenKind.TheVariants.{Word, Dollar, Int, Date, Moment, Guid, Str, EnumLit, Open, Close, Comma, Slash, Colon, Minus}
 use Rattle.odata_text.proofs.ByteClasses.{space-from_class}
@@ -58,7 +58,7 @@ token_starts Minus b = b == 45
 abbrev pub starts : Form → ℕ → Bool
 starts (Token kind) b = token_starts kind b
 starts (LeftOut Number) b = is_int_start b
-starts (LeftOut Clock) b = is_ascii_digit b
+starts (LeftOut TimeOfDay) b = is_ascii_digit b
 starts (LeftOut Quoted) b = is_word_start b
 
 pub record IsStarted (form : Form) (xs : List ℕ) : Type 0 where
@@ -141,7 +141,7 @@ started-moment xs moment = record { nonempty = literal-some xs literal.Moment mo
 started-guid : (xs : List ℕ) → IsGuidSpelling xs → IsStarted (Token Guid) xs
 started-guid xs guid = record { nonempty = literal-some xs literal.Guid guid; first = digit-guid xs guid }
 
-started-clock : (xs : List ℕ) → IsTimeOfDaySpelling xs → IsStarted (LeftOut Clock) xs
+started-clock : (xs : List ℕ) → IsTimeOfDaySpelling xs → IsStarted (LeftOut TimeOfDay) xs
 started-clock xs clock = record { nonempty = literal-some xs literal.TimeOfDay clock; first = digit-time_of_day xs clock }
 
 started-number : (xs : List ℕ) → IsDecimalSpelling xs → IsStarted (LeftOut Number) xs
@@ -166,7 +166,7 @@ started (Token Slash) xs formed = subst (IsStarted (Token Slash)) (sym formed) (
 started (Token Colon) xs formed = subst (IsStarted (Token Colon)) (sym formed) (record { nonempty = omega arith; first = refl })
 started (Token Minus) xs formed = subst (IsStarted (Token Minus)) (sym formed) (record { nonempty = omega arith; first = refl })
 started (LeftOut Number) xs formed = started-number xs formed
-started (LeftOut Clock) xs formed = started-clock xs formed
+started (LeftOut TimeOfDay) xs formed = started-clock xs formed
 started (LeftOut Quoted) xs formed = started-named xs formed
 
 -- no form starts with white space
@@ -177,7 +177,7 @@ no_token_space _ = (refl, refl)
 no_space : (form : Form) → (starts form 32 ≡ false) × (starts form 9 ≡ false)
 no_space (Token kind) = no_token_space kind
 no_space (LeftOut Number) = (refl, refl)
-no_space (LeftOut Clock) = (refl, refl)
+no_space (LeftOut TimeOfDay) = (refl, refl)
 no_space (LeftOut Quoted) = (refl, refl)
 
 pub solid-start : (form : Form) (xs : List ℕ) → IsFormed form xs → class_of (get_or xs 0 0) ≡ Space → ⊥

@@ -77,8 +77,8 @@ abbrev pub is_reserved : List ℕ → Bool
 is_reserved name = (slice_index name 0 == 36) || (slice_index name 0 == 64)
 
 -- neither the filter's name nor that of a custom option
-abbrev pub is_other_name : List ℕ → Bool
-is_other_name name = not (is_filter_name name) && (is_reserved name || is_refused_word name)
+abbrev pub is_refused_name : List ℕ → Bool
+is_refused_name name = not (is_filter_name name) && (is_reserved name || is_refused_word name)
 
 abbrev pub decoded_name : List ℕ → List ℕ
 decoded_name option = percent_decode (name_of option)
@@ -92,7 +92,7 @@ is_filter option = is_filter_name (decoded_name option)
 pub record IsReadable (option : List ℕ) : Type 0 where
   pub name : IsSound (name_of option)
   pub value : IsSound (value_of option)
-  pub known : is_other_name (decoded_name option) ≡ false
+  pub known : is_refused_name (decoded_name option) ≡ false
 
 -- readable options, at most one of them the filter
 pub record AreFaultless (options : List (List ℕ)) : Type 0 where
@@ -116,7 +116,7 @@ pub record IsFilterOf (query : List ℕ) (filter : Option (List ℕ)) : Type 0 w
 abbrev pub IsNameFault : List ℕ → ℕ → ℕ → QueryFault → Type 0
 IsNameFault name number filters (Repeated option) =
     (option ≡ number) × (is_filter_name name ≡ true) × (0 < filters)
-IsNameFault name number filters (OtherOption option) = (option ≡ number) × (is_other_name name ≡ true)
+IsNameFault name number filters (OtherOption option) = (option ≡ number) × (is_refused_name name ≡ true)
 IsNameFault name number filters _ = ⊥
 
 -- the name's own fault goes first, then the value's

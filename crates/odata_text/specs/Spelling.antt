@@ -13,7 +13,7 @@ use Rattle.odata_text.specs.Sequence.{FollowedBy}
 use Rattle.odata_text.specs.declared.form.Form.{Form}
 use Rattle.odata_text.specs.declared.form.Form.TheVariants.{Token, LeftOut}
 use Rattle.odata_text.specs.declared.form.LeftOutKind.{LeftOutKind}
-use Rattle.odata_text.specs.declared.form.LeftOutKind.TheVariants.{Number, Clock, Quoted}
+use Rattle.odata_text.specs.declared.form.LeftOutKind.TheVariants.{Number, TimeOfDay, Quoted}
 use Rattle.odata_text.specs.declared.token.TokenKind.{TokenKind}
 use Rattle.odata_text.specs.declared.token.TokenKind.TheVariants.{Word, Dollar, Int, Date, Moment, Guid, Str, EnumLit, Open, Close, Comma, Slash, Colon, Minus}
 
@@ -55,7 +55,7 @@ IsLeftOutName bytes =
 -- a number with a fraction or an exponent, a time of day, or such a name and a text in quotes
 abbrev pub SpellsLeftOut : LeftOutKind → List ℕ → Type 0
 SpellsLeftOut Number bytes = IsDecimalSpelling bytes
-SpellsLeftOut Clock bytes = IsTimeOfDaySpelling bytes
+SpellsLeftOut TimeOfDay bytes = IsTimeOfDaySpelling bytes
 SpellsLeftOut Quoted bytes = FollowedBy IsLeftOutName IsStringSpelling bytes
 
 -- Tokens.

@@ -4,7 +4,7 @@ use super::token::TokenKind;
 #[derive(Clone, Copy, Debug, PartialEq, Eq)]
 pub enum LeftOutKind {
     Number,
-    Clock,
+    TimeOfDay,
     Quoted,
 }
 

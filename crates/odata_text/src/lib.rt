@@ -1,6 +1,7 @@
 //! Query strings, identifiers and tokens of OData texts (OData URL Conventions 4.01, section 5; OData ABNF 4.01).
 #![tactic(auto)]
 
+mod ascii_case;
 mod byte_class;
 mod byte_test;
 mod decimal;

@@ -5,7 +5,7 @@ ghost use Rattle.odata_text.specs.Query.{IsFilterOf, IsOptionFault, IsQueryFault
 ghost use Rattle.odata_text.specs.QueryParts.{AreTwo, Joins, Says};
 
 use super::query_fault::QueryFault;
-use super::query_name::{is_filter_name, is_other_name};
+use super::query_name::{is_filter_name, is_refused_name};
 use super::query_part::decoded_part;
 use std::alloc::Global;
 use std::borrow::CowStr;
@@ -65,7 +65,7 @@ fn filter_of_option(
         Ok(text) => text,
         Err(fault) => return Err(fault),
     };
-    if is_other_name(name_text.as_str()) {
+    if is_refused_name(name_text.as_str()) {
         return Err(QueryFault::OtherOption { option: number });
     }
     if !is_filter_name(name_text.as_str()) {

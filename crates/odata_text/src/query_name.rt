@@ -1,20 +1,14 @@
 ghost use Rattle.std.specs.Prelude.{◌≡◌};
-ghost use Rattle.std.specs.Str.{str_eq_ignore_ascii_case};
-ghost use Rattle.odata_text.specs.Query.{is_filter_name, is_other_name, is_refused_word, is_reserved};
+ghost use Rattle.odata_text.specs.Query.{is_filter_name, is_refused_name, is_refused_word, is_reserved};
 
-/// Whether `name` is `word`, in any ASCII case.
-fn is_word(name: &str, word: &str) -> bool
-    ensures { result ≡ str_eq_ignore_ascii_case name.now word.now }
-{
-    name.eq_ignore_ascii_case(word)
-}
+use super::ascii_case::is_named;
 
 /// Whether an option of this name is the filter.
 #[tactic(auto, unfolding(crate::specs::Query::is_filter_name))]
 pub fn is_filter_name(name: &str) -> bool
     ensures { result ≡ is_filter_name name.now }
 {
-    is_word(name, "filter") || is_word(name, "$filter")
+    is_named(name.as_bytes(), b"filter") || is_named(name.as_bytes(), b"$filter")
 }
 
 /// Whether the name is that of another system query option, without its `$`.
@@ -22,17 +16,17 @@ pub fn is_filter_name(name: &str) -> bool
 fn is_refused_word(name: &str) -> bool
     ensures { result ≡ is_refused_word name.now }
 {
-    is_word(name, "apply")
-        || is_word(name, "compute")
-        || is_word(name, "count")
-        || is_word(name, "expand")
-        || is_word(name, "format")
-        || is_word(name, "orderby")
-        || is_word(name, "schemaversion")
-        || is_word(name, "search")
-        || is_word(name, "select")
-        || is_word(name, "skip")
-        || is_word(name, "top")
+    is_named(name.as_bytes(), b"apply")
+        || is_named(name.as_bytes(), b"compute")
+        || is_named(name.as_bytes(), b"count")
+        || is_named(name.as_bytes(), b"expand")
+        || is_named(name.as_bytes(), b"format")
+        || is_named(name.as_bytes(), b"orderby")
+        || is_named(name.as_bytes(), b"schemaversion")
+        || is_named(name.as_bytes(), b"search")
+        || is_named(name.as_bytes(), b"select")
+        || is_named(name.as_bytes(), b"skip")
+        || is_named(name.as_bytes(), b"top")
 }
 
 /// Whether the name begins with `$` or `@`.
@@ -46,8 +40,8 @@ fn is_reserved(name: &str) -> bool
 }
 
 /// Whether an option of this name is neither the filter nor a custom option.
-pub fn is_other_name(name: &str) -> bool
-    ensures { result ≡ is_other_name name.now }
+pub fn is_refused_name(name: &str) -> bool
+    ensures { result ≡ is_refused_name name.now }
 {
     !is_filter_name(name) && (is_reserved(name) || is_refused_word(name))
 }

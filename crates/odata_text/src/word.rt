@@ -1,8 +1,8 @@
 ghost use Rattle.std.specs.Prelude.{◌≡◌, IsCharBoundary, max};
-ghost use Rattle.std.specs.Str.{str_eq_ignore_ascii_case};
 ghost use Rattle.odata_text.specs.Lengths.{IsReach};
 ghost use Rattle.odata_text.specs.Spelling.{IsDottedWord, IsLeftOutName, IsNamed, IsWord, Spells, SpellsLeftOut};
 
+use super::ascii_case::is_named;
 use super::form::LeftOutKind;
 use super::identifier::identifier_length;
 use super::pattern::byte_length;
@@ -63,13 +63,6 @@ pub fn enum_length(rest: &str) -> usize
             text => word + text,
         },
     }
-}
-
-/// Whether the bytes are the name in any case of its letters.
-fn is_named(bytes: &[u8], name: &[u8]) -> bool
-    ensures { result ≡ str_eq_ignore_ascii_case bytes.now name.now }
-{
-    bytes.eq_ignore_ascii_case(name)
 }
 
 /// The length of the name, if it stands at the front in any case of its letters, else 0.
