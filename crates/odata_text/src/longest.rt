@@ -48,7 +48,10 @@ pub fn longest(rest: &str) -> Option<(Form, usize)>
         (Form::Token(TokenKind::Colon), byte_length(b':', bytes)),
         (Form::Token(TokenKind::Minus), byte_length(b'-', bytes)),
         (Form::LeftOut(LeftOutKind::Number), decimal_length(bytes)),
-        (Form::LeftOut(LeftOutKind::TimeOfDay), time_of_day_length(bytes)),
+        (
+            Form::LeftOut(LeftOutKind::TimeOfDay),
+            time_of_day_length(bytes),
+        ),
         (Form::LeftOut(LeftOutKind::Quoted), quoted_length(bytes)),
     ]);
     if best.1 == 0 {

@@ -1,6 +1,8 @@
 mod identifiers;
+mod limits;
 mod literals;
 mod queries;
+mod refusals;
 
 use super::fault::TextFault;
 use super::scan::tokens;
@@ -143,130 +145,5 @@ fn tokens_side_by_side(rt: HostRuntime) -> Result<(), Fail> {
         (TokenKind::Int, 13, 14),
     ];
     assert!(rt; reads(rt.alloc(), "2020-01-1 12:3", &short_numbers));
-    Ok(())
-}
-
-#[test]
-fn no_tokens_begin(rt: HostRuntime) -> Result<(), Fail> {
-    let unclosed = [
-        ("Name eq 'abc", 8, 12),
-        ("'a''", 3, 4),
-        ("'''", 2, 3),
-        ("a.b'x", 3, 5),
-        ("a.b'x''y", 6, 8),
-        ("a.b'x''y' '", 10, 11),
-        ("duration'PT1S", 8, 13),
-    ];
-    for (text, start, stop) in unclosed {
-        let fault = TextFault::UnclosedString {
-            span: span(start, stop),
-        };
-        assert!(rt; fault_of(rt.alloc(), text) == Some(fault));
-    }
-    let bad = [
-        ("1.", 1, 2),
-        ("a.", 1, 2),
-        ("a.1", 1, 2),
-        (".5", 0, 1),
-        ("+", 0, 1),
-        ("+a", 0, 1),
-        ("$", 0, 1),
-        ("$1", 0, 1),
-        ("a\n", 1, 2),
-        ("a\rb", 1, 2),
-        ("a\u{a0}b", 1, 3),
-        ("a €", 2, 5),
-        ("(\u{1f600})", 1, 5),
-    ];
-    for (text, start, stop) in bad {
-        let fault = TextFault::BadCharacter {
-            span: span(start, stop),
-        };
-        assert!(rt; fault_of(rt.alloc(), text) == Some(fault));
-    }
-    Ok(())
-}
-
-#[test]
-fn left_out_and_run_on(rt: HostRuntime) -> Result<(), Fail> {
-    let left_out = [
-        ("Price gt 1.5", 9, 12),
-        ("1e5", 0, 3),
-        ("-1.5E+10", 0, 8),
-        ("1.5x", 0, 3),
-        ("1.5e", 0, 3),
-        ("1234567e-1234-1234-1234-1234567890", 0, 13),
-        ("12:30", 0, 5),
-        ("12:30:15.5", 0, 10),
-        ("12:345", 0, 5),
-        ("12:30:1", 0, 5),
-        ("Name eq duration'PT1S'", 8, 22),
-        ("duration'x''", 0, 11),
-        ("BINARY''", 0, 8),
-        ("Geography'x'", 0, 12),
-        ("geometry'a''b'", 0, 14),
-    ];
-    for (text, start, stop) in left_out {
-        let fault = TextFault::LeftOutLiteral {
-            span: span(start, stop),
-        };
-        assert!(rt; fault_of(rt.alloc(), text) == Some(fault));
-    }
-    let run_on = [
-        ("1eq 1", 0, 3),
-        ("1e", 0, 2),
-        ("+1_", 0, 3),
-        ("1é", 0, 3),
-        ("2020-01-011", 0, 11),
-        ("2020-01-01T00:00", 0, 13),
-        ("2020-01-01T00:00Zeit", 0, 20),
-        ("abcdef01-89ab-cdef-0123-456789abcdef0", 0, 37),
-    ];
-    for (text, start, stop) in run_on {
-        let fault = TextFault::RunOn {
-            span: span(start, stop),
-        };
-        assert!(rt; fault_of(rt.alloc(), text) == Some(fault));
-    }
-    Ok(())
-}
-
-#[test]
-fn limits(rt: HostRuntime) -> Result<(), Fail> {
-    let mut text = String::new(rt.alloc());
-    for _ in 0..16384 {
-        text.push(' ')?;
-    }
-    assert!(rt; reads(rt.alloc(), text.as_str(), &[]));
-    text.push(' ')?;
-    let whole = TextFault::TooLong {
-        span: span(0, 16385),
-    };
-    assert!(rt; fault_of(rt.alloc(), text.as_str()) == Some(whole));
-
-    let mut commas = String::new(rt.alloc());
-    for _ in 0..4097 {
-        commas.push(',')?;
-    }
-    let comma = TextFault::TooLong {
-        span: span(4096, 4097),
-    };
-    assert!(rt; fault_of(rt.alloc(), commas.as_str()) == Some(comma));
-
-    let mut words = String::new(rt.alloc());
-    for _ in 0..4096 {
-        words.push_str("a ")?;
-    }
-    assert!(rt; fault_of(rt.alloc(), words.as_str()) == None);
-    words.push_str("1")?;
-    let last = TextFault::TooLong {
-        span: span(8192, 8193),
-    };
-    assert!(rt; fault_of(rt.alloc(), words.as_str()) == Some(last));
-    words.push_str("a")?;
-    let run_on = TextFault::RunOn {
-        span: span(8192, 8194),
-    };
-    assert!(rt; fault_of(rt.alloc(), words.as_str()) == Some(run_on));
     Ok(())
 }

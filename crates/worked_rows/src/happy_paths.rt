@@ -1,4 +1,4 @@
-//! Each public call once, with what it answers.
+//! The public calls of a run from text to kept lines, with what they answer.
 use crate::told::{FIRST, SCHEMA};
 use edm_values::{Moment, Prim, Value as Held, read_int, read_string};
 use jiff::civil;
@@ -11,7 +11,7 @@ use odata_filter::odata_eval::{Verdict, evaluate};
 use odata_filter::odata_typing::{EdmType, ValueType, check};
 use odata_filter::{filter_lines, filter_slice, plan};
 use odata_syntax::{Node, parse};
-use odata_text::{Span, TokenKind, tokens};
+use odata_text::{Span, TokenKind, filter_of_query, is_identifier, tokens};
 use serde_json::Value;
 use std::test::Fail;
 
@@ -29,7 +29,11 @@ fn values(rt: HostRuntime) -> Result<(), Fail> {
 
 #[test]
 fn syntax(rt: HostRuntime) -> Result<(), Fail> {
-    let found = tokens(rt.alloc(), "ID eq 1")?;
+    let filter = filter_of_query(rt.alloc(), "$filter=ID%20eq%201".as_bytes())?.ok_or(
+        "the filter",
+    )?;
+    assert!(rt; is_identifier("ID") && filter.as_str() == "ID eq 1");
+    let found = tokens(rt.alloc(), filter.as_str())?;
     assert_eq!(rt; found.len(), 3);
     assert!(rt; found[1].kind == TokenKind::Word && found[1].text == "eq");
     let expression = parse(rt.alloc(), found.as_slice(), 7)?;

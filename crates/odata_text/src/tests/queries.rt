@@ -107,40 +107,79 @@ fn other_options(rt: HostRuntime) -> Result<(), Fail> {
     Ok(())
 }
 
+/// Each name that is refused without a `$`, in three cases.
+const REFUSED_NAMES: [&str; 33] = [
+    "apply",
+    "APPLY",
+    "aPPly",
+    "compute",
+    "COMPUTE",
+    "Compute",
+    "count",
+    "COUNT",
+    "coUnt",
+    "expand",
+    "EXPAND",
+    "eXpanD",
+    "format",
+    "FORMAT",
+    "Format",
+    "orderby",
+    "ORDERBY",
+    "orderBy",
+    "schemaversion",
+    "SCHEMAVERSION",
+    "schemaVersion",
+    "search",
+    "SEARCH",
+    "seArch",
+    "select",
+    "SELECT",
+    "Select",
+    "skip",
+    "SKIP",
+    "sKip",
+    "top",
+    "TOP",
+    "toP",
+];
+
 #[test]
-fn names_in_three_cases(rt: HostRuntime) -> Result<(), Fail> {
-    let refused = [
-        ["apply", "APPLY", "aPPly"],
-        ["compute", "COMPUTE", "Compute"],
-        ["count", "COUNT", "coUnt"],
-        ["expand", "EXPAND", "eXpanD"],
-        ["format", "FORMAT", "Format"],
-        ["orderby", "ORDERBY", "orderBy"],
-        ["schemaversion", "SCHEMAVERSION", "schemaVersion"],
-        ["search", "SEARCH", "seArch"],
-        ["select", "SELECT", "Select"],
-        ["skip", "SKIP", "sKip"],
-        ["top", "TOP", "toP"],
-    ];
-    for names in refused {
-        for name in names {
-            assert!(rt; fault_of(rt.alloc(), name) == Some(QueryFault::OtherOption { option: 0 }));
-        }
+fn refused_names_in_three_cases(rt: HostRuntime) -> Result<(), Fail> {
+    for name in REFUSED_NAMES {
+        assert!(rt; fault_of(rt.alloc(), name) == Some(QueryFault::OtherOption { option: 0 }));
     }
-    let passed_over = [
-        ["deltatoken", "DELTATOKEN", "deltaToken"],
-        ["id", "ID", "Id"],
-        ["index", "INDEX", "inDex"],
-        ["skiptoken", "SKIPTOKEN", "skipToken"],
+    Ok(())
+}
+
+#[test]
+fn passed_over_names_in_three_cases(rt: HostRuntime) -> Result<(), Fail> {
+    let names = [
+        "deltatoken",
+        "DELTATOKEN",
+        "deltaToken",
+        "id",
+        "ID",
+        "Id",
+        "index",
+        "INDEX",
+        "inDex",
+        "skiptoken",
+        "SKIPTOKEN",
+        "skipToken",
     ];
-    for names in passed_over {
-        for name in names {
-            assert!(rt; asks(rt.alloc(), name, None));
-        }
+    for name in names {
+        assert!(rt; asks(rt.alloc(), name, None));
     }
-    for name in [
+    Ok(())
+}
+
+#[test]
+fn filter_names_in_three_cases(rt: HostRuntime) -> Result<(), Fail> {
+    let names = [
         "filter", "FILTER", "Filter", "$filter", "$FILTER", "$fILTER",
-    ] {
+    ];
+    for name in names {
         assert!(rt; asks(rt.alloc(), name, Some("")));
     }
     Ok(())
