@@ -9,7 +9,7 @@ use std::process::Abort;
 use std::test::Fail;
 
 #[test]
-fn ints(rt: HostRuntime) -> Result<(), Fail> {
+fn ints_read(rt: HostRuntime) {
     for (text, value) in [
         ("+03", Some(3)),
         ("-0", Some(0)),
@@ -25,6 +25,10 @@ fn ints(rt: HostRuntime) -> Result<(), Fail> {
     ] {
         assert_eq!(rt; read_int(text), value, "{text}");
     }
+}
+
+#[test]
+fn ints_written(rt: HostRuntime) -> Result<(), Fail> {
     for (value, text) in [
         (3, "3"),
         (0, "0"),
@@ -75,13 +79,17 @@ fn strings(rt: HostRuntime) -> Result<(), Fail> {
         write_string(&mut out, value)?;
         assert_eq!(rt; out.as_str().strip_prefix("s="), Some(text));
     }
+    Ok(())
+}
+
+#[test]
+fn texts_without_string(rt: HostRuntime) {
     for text in ["", "'", "'''", "'a'b'", "'a", "a'", "a", "'a' "] {
         assert!(rt;
             matches!(read_string(rt.alloc(), text), Err(LitFault::Form)),
             "{text}"
         );
     }
-    Ok(())
 }
 
 #[test]
@@ -93,6 +101,11 @@ fn dates(rt: HostRuntime) -> Result<(), Fail> {
         write_date(&mut out, read)?;
         assert_eq!(rt; out.as_str().strip_prefix("d="), Some(text));
     }
+    Ok(())
+}
+
+#[test]
+fn texts_without_date(rt: HostRuntime) {
     for text in [
         "2021-02-29",
         "1900-02-29",
@@ -109,7 +122,6 @@ fn dates(rt: HostRuntime) -> Result<(), Fail> {
     ] {
         assert!(rt; read_date(text).is_none(), "{text}");
     }
-    Ok(())
 }
 
 #[test]
@@ -123,6 +135,11 @@ fn guids(rt: HostRuntime) -> Result<(), Fail> {
         assert_eq!(rt; read.as_bytes()[0], 1);
         assert_eq!(rt; read.as_bytes()[15], 0xef);
     }
+    Ok(())
+}
+
+#[test]
+fn texts_without_guid(rt: HostRuntime) {
     for text in [
         "0123456789abcdef0123456789abcdef",
         "{01234567-89ab-cdef-0123-456789abcdef}",
@@ -133,7 +150,6 @@ fn guids(rt: HostRuntime) -> Result<(), Fail> {
     ] {
         assert!(rt; read_guid(text).is_none(), "{text}");
     }
-    Ok(())
 }
 
 #[test]
@@ -205,19 +221,15 @@ fn fractions(rt: HostRuntime) -> Result<(), Fail> {
         write_moment(&mut out, &read)?;
         assert_eq!(rt; out.as_str(), text.as_str());
     }
-    for text in [
-        "2020-01-01T00:00:00.1111111111Z",
-        "2020-01-01T00:00:00.Z",
-        "2020-01-01T00:00.5Z",
-    ] {
-        assert!(rt; read_moment(text).is_none(), "{text}");
-    }
     Ok(())
 }
 
 #[test]
 fn texts_without_moment(rt: HostRuntime) {
     for text in [
+        "2020-01-01T00:00:00.1111111111Z",
+        "2020-01-01T00:00:00.Z",
+        "2020-01-01T00:00.5Z",
         "2020-01-01T00:00:00+24:00",
         "2020-01-01T00:00:00+00:60",
         "2020-01-01T00:00:60Z",
