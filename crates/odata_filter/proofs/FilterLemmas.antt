@@ -7,7 +7,7 @@ use Rattle.std.proofs.lemmas.List.Sums.{sum_by-append, count_by-le-length}
 use Rattle.std.proofs.lemmas.Grind.{flat_map-append}
 use Rattle.odata_filter.specs.Kept.{Says, IsSound, is_kept, is_row, SaidLine, kept_text, Filters, StopsAt, StopsBefore, StopsWithin, Stops}
 use Rattle.odata_filter.specs.Lines.{lines_of, ended}
-use Rattle.odata_filter.specs.Passing.{sum_of, IsOfLine, StopsHere}
+use Rattle.odata_filter.specs.private.Passing.{sum_of, IsOfLine, StopsHere}
 use Rattle.odata_filter.specs.Writes.{Writes, AppendsFront, Holds}
 use Rattle.odata_filter.proofs.WriteLemmas.{Holds-more, held_both}
 use Rattle.std.proofs.KnownBytes.{Appends-nil, Appends-trans}

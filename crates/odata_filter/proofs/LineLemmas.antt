@@ -3,7 +3,7 @@ use Rattle.std.proofs.Common.{◌≡◌, ◌≢◌, ◌==◌, ℕ, zero, suc, �
 use Rattle.std.proofs.lemmas.List.{get_or_default, get_or-drop}
 use Rattle.std.proofs.lemmas.Bool.{cases_Bool, eqb-true}
 use Rattle.odata_filter.specs.Lines.{lines_of, with_first, ended}
-use Rattle.odata_filter.specs.Passing.{IsComplete}
+use Rattle.odata_filter.specs.private.Passing.{IsComplete}
 
 -- no byte below the place is an LF
 abbrev pub NoneBelow : List ℕ → ℕ → Type 0

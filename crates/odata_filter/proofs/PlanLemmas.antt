@@ -12,7 +12,7 @@ use Rattle.clap.specs.declared.parser.matches.Found.{Found}
 use Rattle.clap.proofs.WalkLemmas.{first_value-rows}
 use Rattle.odata_filter.specs.CommandLine.{LacksOneOf, text_rule}
 use Rattle.odata_filter.specs.FilterPlan.{IsOneOf}
-use Rattle.odata_filter.specs.PlanSteps.{IsApp}
+use Rattle.odata_filter.specs.private.PlanSteps.{IsApp}
 
 -- ---- a command grows
 

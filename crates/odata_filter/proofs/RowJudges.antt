@@ -4,17 +4,17 @@ use Rattle.serde_json.specs.Data.{Data}
 use Rattle.edm_values.specs.MomentParts.{MomentParts}
 use Rattle.edm_values.specs.Val.{null, boolean}
 use Rattle.std.specs.Prelude.{true, false}
-use Rattle.odata_filter.specs.csdl_schema.SchemaModel.{SchemaModel, slots_of, type_name_at}
-use Rattle.odata_filter.specs.declared.odata_eval.fault.EvalFault.{EvalFault}
-use Rattle.odata_filter.specs.declared.odata_eval.verdict.Verdict.{Verdict}
+use Rattle.csdl_schema.specs.SchemaModel.{SchemaModel, slots_of, type_name_at}
+use Rattle.odata_eval.specs.declared.fault.EvalFault.{EvalFault}
+use Rattle.odata_eval.specs.declared.verdict.Verdict.{Verdict}
 use Rattle.odata_filter.specs.declared.lines.said.Judgment.{Judgment}
-use Rattle.odata_filter.specs.edm_entities.Fits.{Fits}
-use Rattle.odata_filter.specs.edm_entities.Row.{Row, value_of}
-use Rattle.odata_filter.specs.odata_eval.Means.{Means}
-use Rattle.odata_filter.specs.odata_eval.MeansOn.{IsTheOutcome}
-use Rattle.odata_filter.specs.odata_eval.Outcome.{Outcome, gives, overflow, divides_by_zero}
-use Rattle.odata_filter.specs.odata_eval.VerdictView.{verdict_val, fault_outcome}
-use Rattle.odata_filter.specs.odata_typing.Filter.{Filter, tree_of_filter}
+use Rattle.edm_entities.specs.Fits.{Fits}
+use Rattle.edm_entities.specs.Row.{Row, value_of}
+use Rattle.odata_eval.specs.Means.{Means}
+use Rattle.odata_eval.specs.MeansOn.{IsTheOutcome}
+use Rattle.odata_eval.specs.Outcome.{Outcome, gives, overflow, divides_by_zero}
+use Rattle.odata_eval.specs.VerdictView.{verdict_val, fault_outcome}
+use Rattle.odata_typing.specs.Filter.{Filter, tree_of_filter}
 use Rattle.odata_filter.specs.Judges.{HasOutcome, JudgesValue, judgment_of}
 
 -- an entity of the filter's schema and type, read from the JSON

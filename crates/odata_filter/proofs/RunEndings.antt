@@ -12,9 +12,9 @@ use Rattle.odata_text.specs.declared.query_fault.QueryFault.TheVariants as query
 use Rattle.odata_filter.specs.Judges.{JudgesRow}
 use Rattle.odata_filter.specs.Kept.{Filters, Stops, StopsWithin}
 use Rattle.odata_filter.specs.Lines.{lines_of}
-use Rattle.odata_filter.specs.Failures.{AnswerSays, status_of, status_of_query, status_of_refusal, StopsOver}
+use Rattle.odata_filter.specs.private.Failures.{AnswerSays, status_of, status_of_query, status_of_refusal, StopsOver}
 use Rattle.odata_filter.specs.Run.{IsFirstMoment, NamesType, AsksFor, IsFilterOf, HasNoFilter, OverRows, OfLines, ByFilter, FiltersAll, StopsAtFault, Status, done, refused, misused, without_type, at_fault, unread, without_memory, StatusSays, Begins}
-use Rattle.odata_filter.specs.csdl_schema.SchemaModel.{SchemaModel, slots_of, type_name_at}
+use Rattle.csdl_schema.specs.SchemaModel.{SchemaModel, slots_of, type_name_at}
 use Rattle.odata_filter.specs.declared.command_line.Plan.{Plan}
 use Rattle.odata_filter.specs.declared.failure.Failure.{Failure}
 use Rattle.odata_filter.specs.declared.failure.Failure.TheVariants.{NotYet, OneOf, Schema, UnknownType, Query, NoOption, Refused, RowsFile, Rows}
@@ -22,10 +22,10 @@ use Rattle.odata_filter.specs.declared.lines.run_fault.RunFault.TheVariants.{Jso
 use Rattle.odata_filter.specs.declared.lines.said.Judgment.TheVariants.{NotJson, NoEntity, NoValue}
 use Rattle.odata_filter.specs.declared.lines.said.Said.TheVariants.{TooLong, Judged}
 use Rattle.odata_filter.specs.declared.lines.tally.Tally.{Tally}
-use Rattle.odata_filter.specs.declared.odata_typing.refusal.Refusal.{Refusal}
-use Rattle.odata_filter.specs.declared.odata_typing.refusal.Refusal.TheVariants as refusal
-use Rattle.odata_filter.specs.odata_typing.Filter.{Filter, tree_of_filter}
-use Rattle.odata_filter.specs.odata_typing.HasTyping.{HasTyping, HasNoTyping, UnlessMemory}
+use Rattle.odata_typing.specs.declared.refusal.Refusal.{Refusal}
+use Rattle.odata_typing.specs.declared.refusal.Refusal.TheVariants as refusal
+use Rattle.odata_typing.specs.Filter.{Filter, tree_of_filter}
+use Rattle.odata_typing.specs.HasTyping.{HasTyping, HasNoTyping, UnlessMemory}
 use Rattle.odata_filter.proofs.FilterLemmas.{JudgeModel, Filters-within, Stops-within}
 
 -- ---- the plan's text is a filter, or is none

@@ -5,7 +5,7 @@ use Rattle.std.specs.Io.KnownBytes.{Consumes, IsAtEnd, Keeps}
 use Rattle.std.proofs.KnownBytes.{Appends-kept}
 use Rattle.odata_filter.specs.Lines.{lines_of}
 use Rattle.odata_filter.specs.Kept.{Filters, StopsBefore, StopsWithin, Stops}
-use Rattle.odata_filter.specs.Passing.{Goes, Closes, Ends, IsComplete, IsOfLine}
+use Rattle.odata_filter.specs.private.Passing.{Goes, Closes, Ends, IsComplete, IsOfLine}
 use Rattle.odata_filter.specs.Writes.{Writes, AppendsFront, Holds}
 use Rattle.odata_filter.specs.declared.lines.each.Progress.{Progress as ProgressModel}
 use Rattle.odata_filter.specs.declared.lines.input.Ending.{Ending as EndingModel}

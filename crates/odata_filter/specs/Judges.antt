@@ -3,18 +3,18 @@ use Rattle.std.specs.Prelude.{◌≡◌, ◌≢◌, ℕ, List, [], true, Some}
 use Rattle.serde_json.specs.Data.{Data}
 use Rattle.edm_values.specs.MomentParts.{MomentParts}
 use Rattle.edm_values.specs.Val.{Val, boolean}
-use Rattle.odata_filter.specs.csdl_schema.Document.{IsJsonOf, IsNoJson}
-use Rattle.odata_filter.specs.csdl_schema.SchemaModel.{slots_of, type_name_at}
+use Rattle.csdl_schema.specs.Document.{IsJsonOf, IsNoJson}
+use Rattle.csdl_schema.specs.SchemaModel.{slots_of, type_name_at}
 use Rattle.odata_filter.specs.declared.lines.said.Judgment.{Judgment}
 use Rattle.odata_filter.specs.declared.lines.said.Judgment.TheVariants.{Kept, LeftOut, NotJson, NoEntity, NoValue}
-use Rattle.odata_filter.specs.declared.odata_eval.verdict.Verdict.{Verdict}
-use Rattle.odata_filter.specs.declared.odata_eval.verdict.Verdict.TheVariants.{True, False, Null}
-use Rattle.odata_filter.specs.edm_entities.Fits.{Fits}
-use Rattle.odata_filter.specs.edm_entities.RowFaults.{IsRowFault}
-use Rattle.odata_filter.specs.odata_eval.Means.{Means}
-use Rattle.odata_filter.specs.odata_eval.Outcome.{Outcome, gives}
-use Rattle.odata_filter.specs.odata_eval.VerdictView.{fault_outcome}
-use Rattle.odata_filter.specs.odata_typing.Filter.{Filter, tree_of_filter}
+use Rattle.odata_eval.specs.declared.verdict.Verdict.{Verdict}
+use Rattle.odata_eval.specs.declared.verdict.Verdict.TheVariants.{True, False, Null}
+use Rattle.edm_entities.specs.Fits.{Fits}
+use Rattle.edm_entities.specs.RowFaults.{IsRowFault}
+use Rattle.odata_eval.specs.Means.{Means}
+use Rattle.odata_eval.specs.Outcome.{Outcome, gives}
+use Rattle.odata_eval.specs.VerdictView.{fault_outcome}
+use Rattle.odata_typing.specs.Filter.{Filter, tree_of_filter}
 
 -- the JSON fits a value, and on that value the filter has this outcome and no other
 pub record HasOutcome (filter : Filter) (now : MomentParts) (json : Data) (outcome : Outcome) : Type 0 where

@@ -14,18 +14,22 @@ pub use Rattle.serde_json.specs.Data as JsonData
 pub use Rattle.serde_json.specs.Find as JsonFind
 pub use Rattle.serde_json.specs.Read as JsonRead
 pub use Rattle.serde_json.specs.View as JsonView
-pub mod csdl_schema
-pub mod edm_entities
-pub mod odata_eval
-pub mod odata_typing
+pub use Rattle.csdl_schema.specs.Document
+pub use Rattle.csdl_schema.specs.Faults
+pub use Rattle.csdl_schema.specs.SchemaModel
+pub use Rattle.edm_entities.specs.Fits
+pub use Rattle.edm_entities.specs.RowFaults
+pub use Rattle.odata_eval.specs.Means
+pub use Rattle.odata_eval.specs.Outcome
+pub use Rattle.odata_eval.specs.VerdictView
+pub use Rattle.odata_typing.specs.Filter
+pub use Rattle.odata_typing.specs.HasTyping
 pub mod Lines
 pub mod Judges
 pub mod Kept
-pub mod Passing
 pub mod Writes
 pub mod FilterPlan
 pub mod CommandLine
-pub mod PlanSteps
 pub mod WorkedLines
 pub mod Run
-pub mod Failures
+pub mod private

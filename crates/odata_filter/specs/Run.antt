@@ -10,15 +10,15 @@ use Rattle.odata_filter.specs.Judges.{JudgesRow}
 use Rattle.odata_filter.specs.Kept.{Filters, StopsAt, StopsWithin, IsSound}
 use Rattle.odata_filter.specs.Lines.{lines_of}
 use Rattle.odata_filter.specs.Writes.{Writes}
-use Rattle.odata_filter.specs.csdl_schema.Document.{StandsFor, IsFirstFault}
-use Rattle.odata_filter.specs.csdl_schema.Faults.{Fault}
-use Rattle.odata_filter.specs.csdl_schema.SchemaModel.{SchemaModel, IsEntityAt, place_named, slots_of, type_name_at}
+use Rattle.csdl_schema.specs.Document.{StandsFor, IsFirstFault}
+use Rattle.csdl_schema.specs.Faults.{Fault}
+use Rattle.csdl_schema.specs.SchemaModel.{SchemaModel, IsEntityAt, place_named, slots_of, type_name_at}
 use Rattle.odata_filter.specs.declared.command_line.Plan.{Plan}
 use Rattle.odata_filter.specs.declared.lines.said.Judgment.{Judgment}
 use Rattle.odata_filter.specs.declared.lines.said.Said.{Said}
 use Rattle.odata_filter.specs.declared.lines.tally.Tally.{Tally}
-use Rattle.odata_filter.specs.odata_typing.Filter.{Filter, tree_of_filter}
-use Rattle.odata_filter.specs.odata_typing.HasTyping.{HasTyping, HasNoTyping}
+use Rattle.odata_typing.specs.Filter.{Filter, tree_of_filter}
+use Rattle.odata_typing.specs.HasTyping.{HasTyping, HasNoTyping}
 
 -- the moment that is handed in where none is given: 0001-01-01T00:00:00Z
 abbrev pub IsFirstMoment : MomentParts → Type 0

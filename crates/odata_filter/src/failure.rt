@@ -1,14 +1,14 @@
 ghost use Rattle.std.specs.Prelude.{◌≡◌, ◌<◌};
-ghost use Rattle.odata_filter.specs.Failures.{status_of};
+ghost use Rattle.odata_filter.specs.private.Failures.{status_of};
 ghost use Rattle.odata_filter.specs.Run.{status_number};
 
-use crate::csdl_schema::fault::SchemaFault;
-use crate::edm_entities::fault::RowFault;
 use crate::lines::run_fault::RunFault;
-use crate::odata_eval::EvalFault;
-use crate::odata_typing::{Refusal, TypeFaultCode};
+use csdl_schema::SchemaFault;
+use edm_entities::RowFault;
+use odata_eval::EvalFault;
 use odata_syntax::SyntaxFault;
 use odata_text::{QueryFault, Span, TextFault};
+use odata_typing::{Refusal, TypeFaultCode};
 use std::fmt;
 
 /// Why a run ended before the end of its rows. Its `Display` is the one line that is told.

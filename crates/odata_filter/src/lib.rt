@@ -2,12 +2,8 @@
 #![tactic(auto)]
 
 pub mod command_line;
-pub mod csdl_schema;
-pub mod edm_entities;
 mod failure;
 pub mod lines;
-pub mod odata_eval;
-pub mod odata_typing;
 mod planner;
 mod runner;
 

@@ -2,7 +2,7 @@ ghost use Rattle.std.specs.Prelude.{◌≡◌, IfOk, MatchResult, false, map};
 ghost use Rattle.clap.specs.Words.{found_of, rows_of, rule_of};
 ghost use Rattle.odata_filter.specs.FilterPlan.{IsFilterPlan};
 ghost use Rattle.odata_filter.specs.CommandLine.{HasValues, IsPlanOf, IsRefusedBy, filter_app, odfilter_app, text_rule};
-ghost use Rattle.odata_filter.specs.PlanSteps.{IsApp, IsNotOneFault, Tells};
+ghost use Rattle.odata_filter.specs.private.PlanSteps.{IsApp, IsNotOneFault, Tells};
 
 use crate::command_line::{Plan, PlanFault, Verb};
 use clap::error::ErrorKind;

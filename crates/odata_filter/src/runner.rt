@@ -4,19 +4,18 @@ ghost use Rattle.odata_filter.specs.Judges.{JudgesRow};
 ghost use Rattle.odata_filter.specs.Kept.{Filters};
 ghost use Rattle.odata_filter.specs.Lines.{lines_of};
 ghost use Rattle.odata_filter.specs.Run.{Answers, AsksFor, Begins, IsFirstMoment, NamesType, OverRows, misused, without_type};
-ghost use Rattle.odata_filter.specs.Failures.{AnswerSays, StopsOver, status_of};
-ghost use Rattle.odata_filter.specs.csdl_schema.SchemaModel.{IsEntityAt, place_named};
+ghost use Rattle.odata_filter.specs.private.Failures.{AnswerSays, StopsOver, status_of};
+ghost use Rattle.csdl_schema.specs.SchemaModel.{IsEntityAt, place_named};
 
 use crate::command_line::{Plan, Verb};
-use crate::csdl_schema::ids::TypeId;
-use crate::csdl_schema::schema::Schema;
 use crate::failure::Failure;
 use crate::lines::filter_lines;
 use crate::lines::tally::Tally;
-use crate::odata_typing::{Checked, check};
+use csdl_schema::{Schema, TypeId};
 use edm_values::Moment;
 use jiff::civil;
 use odata_text::filter_of_query;
+use odata_typing::{Checked, check};
 use std::alloc::Global;
 use std::io::{Read, Write};
 

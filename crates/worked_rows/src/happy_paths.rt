@@ -1,17 +1,16 @@
 //! The public calls of a run from text to kept lines, with what they answer.
 use crate::told::{FIRST, SCHEMA};
+use csdl_schema::{PropertyKind, Schema};
+use edm_entities::Entity;
 use edm_values::{Moment, Prim, Value as Held, read_int, read_string};
 use jiff::civil;
+use odata_eval::{Verdict, evaluate};
 use odata_filter::command_line::{PlanFault, Verb};
-use odata_filter::csdl_schema::property::PropertyKind;
-use odata_filter::csdl_schema::schema::Schema;
-use odata_filter::edm_entities::entity::Entity;
 use odata_filter::lines::run_fault::RunFault;
-use odata_filter::odata_eval::{Verdict, evaluate};
-use odata_filter::odata_typing::{EdmType, ValueType, check};
 use odata_filter::{filter_lines, filter_slice, plan};
 use odata_syntax::{Node, parse};
 use odata_text::{Span, TokenKind, filter_of_query, is_identifier, tokens};
+use odata_typing::{EdmType, ValueType, check};
 use serde_json::Value;
 use std::test::Fail;
 

@@ -2,16 +2,13 @@
 //! ample memory, and prints which of the two. What a call stands on is asked for a second time where it was refused.
 ghost use Rattle.std.specs.Prelude.{◌≡◌, ◌<◌, length, IfOk};
 
+use csdl_schema::{Schema, SchemaFault, TypeId};
+use edm_entities::{Entity, RowFault};
 use edm_values::{Moment, Value};
 use jiff::civil;
-use odata_filter::csdl_schema::fault::SchemaFault;
-use odata_filter::csdl_schema::ids::TypeId;
-use odata_filter::csdl_schema::schema::Schema;
-use odata_filter::edm_entities::entity::Entity;
-use odata_filter::edm_entities::fault::RowFault;
+use odata_eval::{Verdict, evaluate};
 use odata_filter::lines::{RunFault, Tally, filter_lines};
-use odata_filter::odata_eval::{Verdict, evaluate};
-use odata_filter::odata_typing::{Checked, Refusal, TypeFaultCode, check};
+use odata_typing::{Checked, Refusal, TypeFaultCode, check};
 use std::alloc::{AllocError, Global};
 use std::io;
 use std::io::Read;

@@ -4,7 +4,7 @@ ghost use Rattle.odata_filter.specs.declared.lines.said.Judgment.TheVariants.{Ke
 ghost use Rattle.odata_filter.specs.declared.lines.said.Said.TheVariants.{Judged};
 ghost use Rattle.odata_filter.specs.Kept.{Says, StopsWithin};
 ghost use Rattle.odata_filter.specs.Writes.{Writes, AppendsFront, Holds};
-ghost use Rattle.odata_filter.specs.Passing.{Steps, Goes, IsOfLine};
+ghost use Rattle.odata_filter.specs.private.Passing.{Steps, Goes, IsOfLine};
 
 use super::judge::{Judge, say};
 use super::output::{NotWritten, hold, release};

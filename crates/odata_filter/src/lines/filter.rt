@@ -3,7 +3,7 @@ ghost use Rattle.std.specs.Io.KnownBytes.{Keeps};
 ghost use Rattle.odata_filter.specs.Lines.{lines_of};
 ghost use Rattle.odata_filter.specs.Kept.{Filters, Stops};
 ghost use Rattle.odata_filter.specs.Writes.{Writes};
-ghost use Rattle.odata_filter.specs.Passing.{Ends, IsComplete};
+ghost use Rattle.odata_filter.specs.private.Passing.{Ends, IsComplete};
 
 use super::each::{Progress, filter_bytes};
 use super::input::{Ending, Input, read_input};

@@ -4,11 +4,10 @@ ghost use Rattle.odata_filter.specs.Judges.{JudgesValue, JudgesRow, judgment_of}
 
 use super::judge::Judge;
 use super::said::Judgment;
-use crate::edm_entities::entity::Entity;
-use crate::edm_entities::fault::RowFault;
-use crate::odata_eval::{EvalFault, Verdict, evaluate};
-use crate::odata_typing::Checked;
+use edm_entities::{Entity, RowFault};
 use edm_values::Moment;
+use odata_eval::{EvalFault, Verdict, evaluate};
+use odata_typing::Checked;
 use serde_json::Value;
 use std::alloc::{AllocError, Global};
 

@@ -8,8 +8,8 @@ use super::filter::{filter_all, filter_with};
 use super::row_judge::RowJudge;
 use super::run_fault::RunFault;
 use super::tally::Tally;
-use crate::odata_typing::Checked;
 use edm_values::Moment;
+use odata_typing::Checked;
 use std::alloc::Global;
 use std::io::{Read, Write};
 

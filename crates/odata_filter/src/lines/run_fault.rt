@@ -1,5 +1,5 @@
-use crate::edm_entities::fault::RowFault;
-use crate::odata_eval::fault::EvalFault;
+use edm_entities::RowFault;
+use odata_eval::EvalFault;
 
 /// Why a run over rows ended early. Lines are counted from 1.
 #[derive(Debug, Drop)]

@@ -1,5 +1,5 @@
-use crate::edm_entities::fault::RowFault;
-use crate::odata_eval::fault::EvalFault;
+use edm_entities::RowFault;
+use odata_eval::EvalFault;
 
 /// What a judge says of a line that is neither too long nor blank.
 #[derive(Debug, Drop)]

@@ -1,6 +1,6 @@
 ghost use Rattle.std.specs.Prelude.{◌≡◌, ◌≢◌, ℕ, List, All, ◌<◌, ◌≤◌, ◌∷◌, ◌++◌, length};
 ghost use Rattle.odata_filter.specs.Lines.{lines_of};
-ghost use Rattle.odata_filter.specs.Passing.{IsComplete};
+ghost use Rattle.odata_filter.specs.private.Passing.{IsComplete};
 
 use memchr::{memchr, memrchr};
 

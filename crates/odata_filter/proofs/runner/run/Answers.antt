@@ -1,5 +1,5 @@
 use Rattle.std.proofs.Common.{refl, option_map}
-use Rattle.odata_filter.specs.Failures.{status_of}
+use Rattle.odata_filter.specs.private.Failures.{status_of}
 use Rattle.odata_filter.specs.Run.{done}
 use Rattle.odata_filter.proofs.RunEndings.{StatusSays-kept, Begins-kept}
 use Rattle.odata_filter.proofs.runner.run.Goals as goal

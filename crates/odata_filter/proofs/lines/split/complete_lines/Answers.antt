@@ -1,7 +1,7 @@
 use Rattle.std.proofs.Common.{◌≡◌, ◌+◌, ◌++◌, ◌∷◌, [], slice_index, take, drop, refl, sym, ap, ◌∙◌, subst, take-append-drop}
 use Rattle.std.proofs.lemmas.Bool.{eqb-true}
 use Rattle.std.proofs.lemmas.List.{take_more}
-use Rattle.odata_filter.specs.Passing.{IsComplete}
+use Rattle.odata_filter.specs.private.Passing.{IsComplete}
 use Rattle.odata_filter.proofs.LineLemmas.{IsComplete-line, all_behind, all_from}
 use Rattle.odata_filter.proofs.lines.split.complete_lines.Goals as goal
 

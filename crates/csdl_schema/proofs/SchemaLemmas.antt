@@ -1,0 +1,5 @@
+pub mod SchemaLaws
+pub mod SchemaLookUps
+pub mod SchemaReading
+pub mod SchemaWorked
+pub mod NameOrder

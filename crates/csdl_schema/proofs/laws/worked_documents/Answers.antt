@@ -1,0 +1,8 @@
+use Rattle.csdl_schema.proofs.SchemaLemmas.SchemaWorked.{mini_stands, array_refused}
+use Rattle.csdl_schema.proofs.laws.worked_documents.Goals as goal
+
+pub returns-clause-mini : goal.returns-clause-mini
+returns-clause-mini c = mini_stands
+
+pub returns-clause-array : goal.returns-clause-array
+returns-clause-array c = array_refused

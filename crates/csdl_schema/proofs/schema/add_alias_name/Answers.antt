@@ -1,0 +1,13 @@
+use Rattle.std.proofs.Common.{◌∙◌, sym, ap, Some, Option, List, ℕ, option_map, string_bytes, if◌then◌else◌}
+use Rattle.std.proofs.lemmas.Map.Text.{hash_map_updates_text}
+use Rattle.indexmap.specs.IndexMap.{get_by_text}
+use Rattle.csdl_schema.specs.SchemaModel.{is_text_of}
+use Rattle.csdl_schema.proofs.schema.add_alias_name.Goals as goal
+
+pub returns-in_ok-insert-in-Some-clause-added : goal.returns-in_ok-insert-in-Some-clause-added
+returns-in_ok-insert-in-Some-clause-added c = λ asked.
+    let old = c.args.places.now in
+    let name = c.in-Some.name in
+    hash_map_updates_text (string_bytes name) old c.insert.new.self _ c.in_ok-insert-in-Some.ensures.updates asked
+    ∙ ap (λ (o : Option (List ℕ)). if is_text_of o asked then Some c.args.place else get_by_text old asked)
+    (ap (option_map string_bytes) (sym c.in-Some.is) ∙ c.in_ok-name.ensures)

@@ -1,0 +1,45 @@
+-- Which schema a document stands for, and which fault is its first (CSDL JSON 4.01).
+use Rattle.std.specs.Prelude.{◌≡◌, ℕ, ◌<◌, ◌≤◌, ◌⊎◌, ◌∷◌, [], List, length, Some, None, IsUtf8, string_bytes}
+use Rattle.serde_json.specs.Data.{Data}
+use Rattle.serde_json.specs.Read.{read}
+use Rattle.csdl_schema.specs.declared.fault.SchemaFault.{SchemaFault}
+use Rattle.csdl_schema.specs.declared.fault.SchemaFault.TheVariants as code
+use Rattle.csdl_schema.specs.SchemaModel.{SchemaModel}
+use Rattle.csdl_schema.specs.Declarations.{declared_schema}
+use Rattle.csdl_schema.specs.Faults.{Fault, not_json, not_object, version, bad_type, bad_property, unknown_base, base_cycle, property_twice, bad_enum_member, too_large, document_faults}
+
+-- the bytes are the JSON text of a value
+abbrev pub IsJsonOf : List ℕ → Data → Type 0
+IsJsonOf document d = IsUtf8 document × (read document ≡ Some d)
+
+abbrev pub IsNoJson : List ℕ → Type 0
+IsNoJson document = IsUtf8 document → read document ≡ None
+
+-- a document of at most a mebibyte, JSON, without faults, and the schema that it declares
+pub record StandsFor (document : List ℕ) (schema : SchemaModel) : Type 0 where
+  pub size : length document ≤ 1048576
+  pub json : Data
+  pub is_json : IsJsonOf document json
+  pub faultless : document_faults json ≡ []
+  pub is_declared : schema ≡ declared_schema json
+
+-- the size goes first, then whether the document is JSON, then the faults of the value
+abbrev pub IsFirstFault : List ℕ → Fault → Type 0
+IsFirstFault document fault =
+    ((1048576 < length document) × (fault ≡ too_large))
+    ⊎ ((length document ≤ 1048576) × IsNoJson document × (fault ≡ not_json))
+    ⊎ ((length document ≤ 1048576) × (d : Data) × IsJsonOf document d × (later : List Fault) × (document_faults d ≡ fault ∷ later))
+
+-- what a refusal says; want of memory says nothing
+abbrev pub IsSchemaFault : List ℕ → SchemaFault → Type 0
+IsSchemaFault document code.NotJson = IsFirstFault document not_json
+IsSchemaFault document code.NotObject = IsFirstFault document not_object
+IsSchemaFault document code.Version = IsFirstFault document version
+IsSchemaFault document (code.BadType name) = IsFirstFault document (bad_type (string_bytes name))
+IsSchemaFault document (code.BadProperty owner name) = IsFirstFault document (bad_property (string_bytes owner) (string_bytes name))
+IsSchemaFault document (code.UnknownBase owner) = IsFirstFault document (unknown_base (string_bytes owner))
+IsSchemaFault document (code.BaseCycle owner) = IsFirstFault document (base_cycle (string_bytes owner))
+IsSchemaFault document (code.PropertyTwice owner name) = IsFirstFault document (property_twice (string_bytes owner) (string_bytes name))
+IsSchemaFault document (code.BadEnumMember owner name) = IsFirstFault document (bad_enum_member (string_bytes owner) (string_bytes name))
+IsSchemaFault document code.TooLarge = IsFirstFault document too_large
+IsSchemaFault document code.Memory = Unit {0}

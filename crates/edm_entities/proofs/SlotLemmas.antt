@@ -1,0 +1,5 @@
+pub mod EntitySlots
+pub mod MemberWalk
+pub mod ReadEntities
+pub mod SlotWalk
+pub mod SlotsByName

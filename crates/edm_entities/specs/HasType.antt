@@ -1,0 +1,41 @@
+-- Which values a type has (CSDL JSON 4.01, sections 3.3, 6, 7, 9 and 10).
+use Rattle.std.specs.Prelude.{ℕ, List}
+use Rattle.std.specs.List.{AllByRecursion}
+use Rattle.edm_values.specs.Val.{Val, null, boolean, whole, text, date, moment, guid, fields, items, Held, absent, present, Vals, no_items, item}
+use Rattle.edm_values.specs.declared.primitive.PrimitiveType.{PrimitiveType}
+use Rattle.edm_values.specs.declared.primitive.PrimitiveType.TheVariants.{Bool as EdmBoolean, String as EdmString, Date as EdmDate, DateTimeOffset as EdmDateTimeOffset, Guid as EdmGuid}
+use Rattle.csdl_schema.specs.ExprType.{ExprType, single, collection, SingleType, primitive, structured}
+use Rattle.csdl_schema.specs.SchemaModel.{Slots, PropertyModel, PropertyType, declared, opaque, navigation}
+use Rattle.edm_entities.specs.NumberTypes.{IsNumberOf}
+
+-- a value of a primitive type, a number within its range
+abbrev pub IsPrimitiveValue : Val → PrimitiveType → Type 0
+IsPrimitiveValue (boolean b) EdmBoolean = Unit {0}
+IsPrimitiveValue (whole n) type = IsNumberOf type n
+IsPrimitiveValue (text s) EdmString = Unit {0}
+IsPrimitiveValue (date d) EdmDate = Unit {0}
+IsPrimitiveValue (moment m) EdmDateTimeOffset = Unit {0}
+IsPrimitiveValue (guid g) EdmGuid = Unit {0}
+IsPrimitiveValue _ type = ⊥
+
+abbrev mutual
+  -- null has every type; a record gives each property that is looked at a value of that property's type; a list's items have
+  -- the member type. Null alone has the type of null
+  pub HasType : Slots → ExprType → Val → Type 0
+  HasType slots type null = Unit {0}
+  HasType slots (single (structured name)) (fields f) = AllByRecursion (λ p. HasPropertyType slots p.type_of (f p.name)) (slots name)
+  HasType slots (collection type) (items values) = AllHaveType slots type values
+  HasType slots (single (primitive type)) value = IsPrimitiveValue value type
+  HasType slots type value = ⊥
+
+  -- what a record has under the name of a property of that type
+  pub HasPropertyType : Slots → PropertyType → Held → Type 0
+  HasPropertyType slots (declared type) (present value) = HasType slots type value
+  HasPropertyType slots (declared type) absent = ⊥
+  HasPropertyType slots opaque held = Unit {0}
+  HasPropertyType slots navigation held = Unit {0}
+
+  -- each item is of that type
+  pub AllHaveType : Slots → SingleType → Vals → Type 0
+  AllHaveType slots type no_items = Unit {0}
+  AllHaveType slots type (item value values) = HasType slots (single type) value × AllHaveType slots type values

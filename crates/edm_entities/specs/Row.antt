@@ -1,0 +1,82 @@
+-- What an entity stands for: the values that the code holds by slot, as a record by names.
+use Rattle.std.specs.Prelude.{◌≡◌, ℕ, List, [], ◌∷◌, length, if◌then◌else◌, nat_eq, string_bytes, Vec}
+use Rattle.std.specs.declared.alloc.Global.{Global}
+use Rattle.std.specs.Cmp.Lexicographic.{pointwise}
+use Rattle.serde_json.specs.Data.{Data}
+use Rattle.edm_values.specs.Val.{Val, null, boolean, whole, text, date, moment, guid, member, fields, items, Held, absent, present, Vals, no_items, item}
+use Rattle.edm_values.specs.declared.value.Value.{Value, Record, fold-Value}
+use Rattle.edm_values.specs.declared.value.Value.TheOpen.{Value-F}
+use Rattle.csdl_schema.specs.ExprType.{ExprType, single, collection, SingleType, structured}
+use Rattle.csdl_schema.specs.SchemaModel.{Slots, SchemaModel, PropertyModel, PropertyType, declared, opaque, navigation, slots_of, type_name_at, properties_at, IsInNameOrder}
+use Rattle.edm_entities.specs.Fits.{Fits}
+
+-- what a value stands for once its type is known: a record's names are those of its type's properties
+abbrev pub Seen : Type 0
+Seen = Slots → ExprType → Val
+
+-- a property that is not looked at is absent, whatever its slot holds
+abbrev pub held_of : Slots → PropertyType → Seen → Held
+held_of slots (declared type) seen = present (seen slots type)
+held_of slots opaque seen = absent
+held_of slots navigation seen = absent
+
+-- what slots hold for properties, by the properties' names
+abbrev pub held_by_name : Slots → List PropertyModel → List Seen → List ℕ → Held
+held_by_name slots [] held name = absent
+held_by_name slots (p ∷ ps) [] name = absent
+held_by_name slots (p ∷ ps) (seen ∷ more) name =
+    if pointwise nat_eq p.name name then held_of slots p.type_of seen else held_by_name slots ps more name
+
+abbrev pub record_of : Slots → ExprType → List Seen → Val
+record_of slots (single (structured name)) held = fields (held_by_name slots (slots name) held)
+record_of slots type held = null
+
+abbrev pub items_of : Slots → SingleType → List Seen → Vals
+items_of slots type [] = no_items
+items_of slots type (seen ∷ more) = item (seen slots (single type)) (items_of slots type more)
+
+abbrev pub list_of : Slots → ExprType → List Seen → Val
+list_of slots (collection type) held = items (items_of slots type held)
+list_of slots type held = null
+
+-- one level, with each value inside already seen
+abbrev pub seen_step : Value-F Seen → Seen
+seen_step Value-F.Null slots type = null
+seen_step (Value-F.Bool b) slots type = boolean b
+seen_step (Value-F.Int n) slots type = whole n
+seen_step (Value-F.Text s) slots type = text (string_bytes s)
+seen_step (Value-F.Date d) slots type = date d
+seen_step (Value-F.Moment m) slots type = moment m
+seen_step (Value-F.Guid g) slots type = guid g
+seen_step (Value-F.Enum n) slots type = member n
+seen_step (Value-F.Record v) slots type = record_of slots type v.items
+seen_step (Value-F.List v) slots type = list_of slots type v.items
+
+-- what a value of that type stands for
+abbrev pub val_of : Value → Seen
+val_of = fold-Value Seen seen_step
+
+-- an entity as contracts see it: the schema and the place of its type in it, and the values by slot
+pub record Row : Type 0 where
+  pub schema : SchemaModel
+  pub type_id : ℕ
+  pub held : Value
+
+abbrev pub value_of : Row → Val
+value_of row = val_of row.held (slots_of row.schema) (single (structured (type_name_at row.schema row.type_id)))
+
+-- an entity conforms to its type: its value fits some JSON object
+abbrev pub Conforms : Row → Type 0
+Conforms row = (json : Data) × Fits (slots_of row.schema) (type_name_at row.schema row.type_id) json (value_of row)
+
+-- its value is held as a record with a value for each slot of its type
+pub record HoldsSlots (row : Row) : Type 0 where
+  pub slots : Vec Value Global
+  pub held_is : row.held ≡ Record slots
+  pub as_many : length slots.items ≡ length (properties_at row.schema row.type_id)
+
+-- what is true of every entity
+pub record IsEntity (row : Row) : Type 0 where
+  pub holds_slots : HoldsSlots row
+  pub in_order : IsInNameOrder (properties_at row.schema row.type_id)
+  pub conforms : Conforms row

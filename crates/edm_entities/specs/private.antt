@@ -1,0 +1,3 @@
+-- Definitions that private clauses alone cite.
+pub mod Walk
+pub mod Members

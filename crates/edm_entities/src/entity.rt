@@ -1,0 +1,91 @@
+ghost use Rattle.std.specs.Prelude.{◌≡◌, ◌<◌, length, IfOk, IfErr};
+ghost use Rattle.serde_json.specs.View.{view};
+
+use super::fault::RowFault;
+use super::slots::read_slots;
+use csdl_schema::{Schema, TypeId};
+use edm_values::Value;
+use std::alloc::Global;
+use std::marker::Model;
+
+/// A value that conforms to an entity type of a schema.
+#[derive(Drop)]
+pub struct Entity<'s> {
+    schema: &'s Schema,
+    type_id: TypeId,
+    value: Value,
+}
+
+impl<'s> Model for Entity<'s> {
+    ghost use Rattle.edm_entities.specs.Row.{Row, IsEntity};
+    ghost use Rattle.std.specs.Coded.{codes};
+    ghost use Rattle.edm_values.specs.contracts.value.Value as held;
+
+    ghost Value = { Row };
+
+    ghost coded = { Prim.hlevel (codes, held.the_row.coded) };
+
+    ghost view = { λ e. record { schema = e.schema.now; type_id = e.type_id; held = e.value } };
+
+    ghost invariant = { λ e. IsEntity (record { schema = e.schema.now; type_id = e.type_id; held = e.value }) };
+}
+
+impl<'s> Entity<'s> {
+    ghost use Rattle.csdl_schema.specs.SchemaModel.{slots_of, type_name_at};
+    ghost use Rattle.edm_values.specs.Val.{Val};
+    ghost use Rattle.edm_entities.specs.Fits.{Fits};
+    ghost use Rattle.edm_entities.specs.Row.{value_of, IsEntity};
+    ghost use Rattle.edm_entities.specs.RowFaults.{IsRowFault, IsMemory};
+
+    /// Reads a JSON object as an entity of that type. Members that the type does not declare say
+    /// nothing; the first fault in the order of the slots is answered.
+    pub fn from_json(
+        alloc: Global,
+        schema: &'s Schema,
+        type_id: TypeId,
+        row: &serde_json::Value,
+    ) -> Result<Entity<'s>, RowFault>
+        requires { type_id < length schema.now.types }
+        ensures of_type { IfOk result (λ e. (e.schema ≡ schema.now) × (e.type_id ≡ type_id)) }
+        ensures fits { IfOk result (λ e.
+            Fits (slots_of schema.now) (type_name_at schema.now type_id) (view row.now) (value_of e)) }
+        ensures none_fits { IfErr result (λ fault. ¬ (IsMemory fault) → (value : Val)
+            → ¬ (Fits (slots_of schema.now) (type_name_at schema.now type_id) (view row.now) value)) }
+        ensures first_fault { IfErr result (λ fault. ¬ (IsMemory fault)
+            → IsRowFault (slots_of schema.now) (type_name_at schema.now type_id) (view row.now) fault) }
+    {
+        let Some(object) = row.as_object() else {
+            return Err(RowFault::NotObject);
+        };
+        match read_slots(alloc, schema, type_id, object) {
+            Ok(values) => Ok(Entity {
+                schema,
+                type_id,
+                value: Value::Record(values),
+            }),
+            Err(fault) => Err(fault),
+        }
+    }
+
+    /// The schema of its type.
+    pub fn schema(&self) -> &'s Schema
+        ensures { result.now ≡ self.now.schema }
+    {
+        self.schema
+    }
+
+    /// Its type.
+    pub fn type_id(&self) -> TypeId
+        ensures { result ≡ self.now.type_id }
+    {
+        self.type_id
+    }
+
+    /// Its value: a record, with the properties' values by slot.
+    pub fn value(&self) -> &Value
+        ensures value { result.now ≡ self.now.held }
+        ensures entity { IsEntity self.now }
+    {
+        &self.value
+    }
+}

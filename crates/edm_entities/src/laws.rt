@@ -1,0 +1,55 @@
+//! Laws of what fits, as contracts of functions that do nothing.
+ghost use Rattle.std.specs.Prelude.{◌≡◌, ℕ, List, Some, slice_get};
+ghost use Rattle.serde_json.specs.Data.{Data};
+ghost use Rattle.edm_values.specs.Val.{Val, fields};
+ghost use Rattle.csdl_schema.specs.ExprType.{ExprType, single, structured};
+ghost use Rattle.csdl_schema.specs.SchemaModel.{Slots, PropertyModel, properties_at, declared};
+ghost use Rattle.edm_entities.specs.Example.{item_properties, item_row, inactive_row, item_field};
+ghost use Rattle.edm_entities.specs.Fits.{Fits};
+ghost use Rattle.edm_entities.specs.HasType.{HasType};
+ghost use Rattle.edm_entities.specs.Row.{Row, IsEntity};
+ghost use Rattle.edm_entities.specs.SlotValue.{IsSlotValue};
+ghost use Rattle.edm_entities.specs.RowFaults.{Flaw, Path, IsFirstFault, IsRowFault};
+ghost use Rattle.edm_entities.specs.declared.fault.RowFault.{RowFault};
+
+/// A JSON tree stands for one value at most.
+pub fn one_value_fits()
+    ensures { (slots : Slots) (type_name : List ℕ) (json : Data) (v w : Val)
+        → Fits slots type_name json v → Fits slots type_name json w → v ≡ w }
+{}
+
+/// A value that fits has its type.
+pub fn what_fits_has_its_type()
+    ensures { (slots : Slots) (type_name : List ℕ) (json : Data) (v : Val)
+        → Fits slots type_name json v → HasType slots (single (structured type_name)) v }
+{}
+
+/// A JSON tree with a fault stands for no value.
+pub fn what_has_a_fault_fits_nothing()
+    ensures { (slots : Slots) (type_name : List ℕ) (json : Data) (fault : RowFault)
+        → IsRowFault slots type_name json fault → (v : Val) → ¬ (Fits slots type_name json v) }
+{}
+
+/// At the slot of a property that is looked at an entity holds a value of the property's type, which
+/// its record has under the property's name.
+pub fn a_slot_holds_its_property()
+    ensures { (row : Row) (entity : IsEntity row) (slot : ℕ) (p : PropertyModel) (type : ExprType)
+        → slice_get (properties_at row.schema row.type_id) slot ≡ Some p → p.type_of ≡ declared type
+        → IsSlotValue row entity.holds_slots.slots.items slot p.name type }
+{}
+
+/// An object has one first fault at most.
+pub fn one_fault_is_first()
+    ensures { (properties : List PropertyModel) (json : Data) (path path' : Path) (flaw flaw' : Flaw)
+        → IsFirstFault properties json path flaw → IsFirstFault properties json path' flaw'
+        → (path ≡ path') × (flaw ≡ flaw') }
+{}
+
+/// `{"Active":true,"ID":1,"Name":"a"}` stands for its three values; without `Active` it stands for
+/// none.
+pub fn example_rows()
+    ensures fits { (slots : Slots) (type_name : List ℕ) → slots type_name ≡ item_properties
+        → Fits slots type_name item_row (fields item_field) }
+    ensures fits_nothing { (slots : Slots) (type_name : List ℕ) → slots type_name ≡ item_properties
+        → (v : Val) → ¬ (Fits slots type_name inactive_row v) }
+{}

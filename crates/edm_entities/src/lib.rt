@@ -1,0 +1,17 @@
+//! Entities: JSON objects read as values of an entity type (OData JSON Format 4.01, sections 4.5 and 7).
+#![tactic(auto)]
+
+mod entity;
+mod fault;
+mod flaw;
+mod laws;
+mod members;
+mod primitive;
+mod slots;
+
+pub use entity::Entity;
+pub use fault::RowFault;
+pub use laws::{
+    a_slot_holds_its_property, example_rows, one_fault_is_first, one_value_fits,
+    what_fits_has_its_type, what_has_a_fault_fits_nothing,
+};

@@ -1,0 +1,99 @@
+-- The filter of the first run on its three rows.
+use Rattle.std.proofs.Common.{◌≡◌, ℕ, ℤ, pos, List, [], ◌∷◌, ◌<◌, Bool, true, false, refl, sym, ap, nat_eq, subst, inl, inr, rules, arith, lit<}
+use Rattle.std.proofs.lemmas.Int.{fits_signed_from_abs}
+use Rattle.std.specs.Prelude.{codes, FitsSigned}
+use Rattle.std.specs.Int.{w64}
+use Rattle.std.specs.Cmp.Lexicographic.{pointwise}
+use Rattle.std.specs.Str.Parse.{IsNumeral}
+use Rattle.edm_values.specs.IntLiteral.{IntValue, IntNumber}
+use Rattle.edm_values.specs.MomentParts.{MomentParts}
+use Rattle.edm_values.specs.Val.{Val, boolean, whole, text}
+use Rattle.odata_syntax.specs.Tree.{Tree}
+use Rattle.csdl_schema.specs.SchemaModel.{Slots}
+use Rattle.odata_eval.specs.FirstRun.{ComesTo, first_run, decided, row}
+use Rattle.odata_eval.specs.Means.{Means}
+use Rattle.odata_eval.specs.Outcome.{Outcome, gives}
+use Rattle.odata_eval.proofs.MeansLaws.OneMeaning.{Means-one}
+use Rattle.odata_eval.proofs.MeansLaws.OneStep.{OneValue}
+
+-- one outcome of a tree is the only one
+comes_to : OneValue → (tree : Tree) (value : Val) (outcome : Outcome)
+    → ((slots : Slots) (root : List ℕ) (now : MomentParts) → Means slots root now value [] tree outcome) → ComesTo tree value outcome
+comes_to values tree value outcome related = λ slots root now o. (
+  λ of_o. Means-one values slots root now value [] tree o outcome of_o (related slots root now),
+  λ same. subst (Means slots root now value [] tree) (sym same) (related slots root now),
+)
+
+numeral : IsNumeral 10 (codes "1")
+numeral = search rules
+
+small : FitsSigned w64 (pos 1)
+small = fits_signed_from_abs w64 (pos 1) (lit< tt)
+
+one : IntValue (codes "1") (pos 1)
+one = (inr (inr (numeral, refl)), small)
+
+pub kept : OneValue → ComesTo first_run (row (pos 1) (codes "a") true) (gives (boolean true))
+kept values = comes_to values first_run (row (pos 1) (codes "a") true) (gives (boolean true)) (λ slots root now. (
+  gives (boolean true),
+  (
+    (
+      gives (boolean true),
+      (
+        refl,
+        (
+          gives (boolean true),
+          (
+            (gives (whole (pos 1)), (refl, (gives (whole (pos 1)), (one, (λ _. refl, λ _. refl))))),
+            refl,
+          ),
+        ),
+      ),
+    ),
+    (
+      gives (boolean true),
+      (
+        (gives (text (codes "a")), (refl, (gives (text (codes "a")), (refl, (λ _. refl, λ _. refl))))),
+        refl,
+      ),
+    ),
+  ),
+))
+
+-- 98 is no 97
+other_text : codes "b" ≡ codes "a" → false ≡ true
+other_text same = ap (λ (xs : List ℕ). pointwise nat_eq xs (codes "a")) same
+
+pub other_name : OneValue → ComesTo first_run (row (pos 1) (codes "b") true) (gives (boolean false))
+other_name values = comes_to values first_run (row (pos 1) (codes "b") true) (gives (boolean false)) (λ slots root now. (
+  gives (boolean true),
+  (
+    (
+      gives (boolean true),
+      (
+        refl,
+        (
+          gives (boolean true),
+          (
+            (gives (whole (pos 1)), (refl, (gives (whole (pos 1)), (one, (λ _. refl, λ _. refl))))),
+            refl,
+          ),
+        ),
+      ),
+    ),
+    (
+      gives (boolean false),
+      (
+        (gives (text (codes "b")), (refl, (gives (text (codes "a")), (refl, (λ no. cc, λ same. other_text same))))),
+        refl,
+      ),
+    ),
+  ),
+))
+
+pub inactive : OneValue → ComesTo first_run (row (pos 2) (codes "a") false) (gives (boolean false))
+inactive values = comes_to values first_run (row (pos 2) (codes "a") false) (gives (boolean false)) (λ slots root now.
+    (gives (boolean false), ((gives (boolean false), (refl, refl)), refl)))
+
+pub right_side_left_out : OneValue → (value : Val) → ComesTo decided value (gives (boolean false))
+right_side_left_out values value = comes_to values decided value (gives (boolean false)) (λ slots root now. (gives (boolean false), (refl, refl)))

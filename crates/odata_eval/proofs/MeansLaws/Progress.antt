@@ -1,0 +1,130 @@
+-- A tree that has a type has an outcome, a value of that type.
+use Rattle.std.proofs.Common.{◌≡◌, refl, sym, subst, inl, inr, ◌⊎◌, ◌∙◌, ℕ, List, [], ◌∷◌, ℤ, Bool, true, false, Option, Some, None, cond, nat_eq}
+use Rattle.std.specs.Prelude.{map, find, MatchOption, IsSomeAnd, FitsSigned}
+use Rattle.std.specs.Int.{w32}
+use Rattle.std.specs.List.{AllByRecursion}
+use Rattle.std.specs.Option.{option_map}
+use Rattle.std.specs.Cmp.Lexicographic.{pointwise}
+use Rattle.std.proofs.lemmas.Slice.Eq.{bytes_eq-Decides}
+use Rattle.edm_values.specs.MomentParts.{MomentParts}
+use Rattle.edm_values.specs.IntLiteral.{IntValue}
+use Rattle.edm_values.specs.Val.{Val, null, boolean, whole, text, fields, items, Held, absent, present}
+use Rattle.edm_values.specs.declared.primitive.PrimitiveType.{PrimitiveType}
+use Rattle.odata_syntax.specs.Tree.{Tree, node, Shape, literal, name, binary}
+use Rattle.odata_syntax.specs.declared.node.LiteralKind.{LiteralKind}
+use Rattle.odata_syntax.specs.declared.node.BinaryOperator.{BinaryOperator}
+use Rattle.csdl_schema.specs.ExprType.{ExprType, single, primitive, structured}
+use Rattle.csdl_schema.specs.SchemaModel.{Slots, PropertyModel, PropertyType, declared}
+use Rattle.edm_entities.specs.HasType.{HasType, HasPropertyType}
+use Rattle.odata_eval.specs.AndGives.{AndGives}
+use Rattle.odata_eval.specs.Environment.{Environment, variable_value, scope_of, IsFitting}
+use Rattle.odata_eval.specs.EqualGives.{EqualGives}
+use Rattle.odata_eval.specs.LiteralGives.{LiteralGives}
+use Rattle.odata_eval.specs.Means.{Means}
+use Rattle.odata_eval.specs.NameGives.{NameGives, FoundGives, StepGives, HeldGives}
+use Rattle.odata_eval.specs.Outcome.{Outcome, gives}
+use Rattle.odata_typing.specs.ExprTypes.{boolean_type, string_type, IsBooleanOrNull, AreComparable}
+use Rattle.odata_typing.specs.LiteralValue.{LiteralTyped, IntTyped}
+use Rattle.odata_typing.specs.Typed.{Typed, NameTyped, PropertyTyped, OperatorTyped, OperandsTyped, variable_type, property_named}
+use Rattle.odata_eval.proofs.MeansLaws.Truths.{truth_of, boolean_of_truth, text_of, whole_of, truth_of_boolean, and_truths, equal_truths, equal_wholes, equal_texts}
+
+-- some value of the type is an outcome
+abbrev pub Ends : Slots → ExprType → (Outcome → Type 0) → Type 0
+Ends slots type Gives = (v : Val) × (Gives (gives v) × HasType slots type v)
+
+typed_value : (slots : Slots) (given type : ExprType) (v : Val) → type ≡ given → HasType slots given v → HasType slots type v
+typed_value slots given type v same has = subst (λ (t : ExprType). HasType slots t v) (sym same) has
+
+int_ends : (slots : Slots) (type : ExprType) (spelling : List ℕ) (n : ℤ) → IntValue spelling n → IntTyped n type → HasType slots type (whole n)
+int_ends slots type spelling n value (inl small) = typed_value slots (single (primitive PrimitiveType.Int32)) type (whole n) small.1 small.0
+int_ends slots type spelling n value (inr large) = typed_value slots (single (primitive PrimitiveType.Int64)) type (whole n) large.1 value.1
+
+literal_ends : (slots : Slots) (kind : LiteralKind) (spelling : List ℕ) (type : ExprType) → LiteralTyped kind spelling type → Ends slots type (LiteralGives kind spelling)
+literal_ends slots LiteralKind.Bool spelling type typed = (boolean typed.0, (typed.1, typed_value slots boolean_type type (boolean typed.0) typed.2 tt))
+literal_ends slots LiteralKind.Int spelling type typed = (whole typed.0, (typed.1, int_ends slots type spelling typed.0 typed.1 typed.2))
+literal_ends slots LiteralKind.Str spelling type typed = (text typed.0, (typed.1, typed_value slots string_type type (text typed.0) typed.2 tt))
+
+-- a name is found in the scope where it is in the environment, with a value of its type
+abbrev Found : Slots → Option ExprType → Option Val → Type 0
+Found slots (Some type) (Some v) = HasType slots type v
+Found slots None None = Unit {0}
+Found slots _ _ = ⊥
+
+found : (slots : Slots) (environment : Environment) (asked : List ℕ) → IsFitting slots environment
+    → Found slots (variable_type (scope_of environment) asked) (variable_value environment asked)
+found slots [] asked fitting = tt
+found slots (bound ∷ more) asked fitting =
+    elim (pointwise nat_eq asked bound.0) as (λ is_it. Found slots
+    (option_map (λ b. b.1) (cond is_it (Some (bound.0, bound.1.0)) (find (λ b. pointwise nat_eq asked b.0) (scope_of more))))
+    (option_map (λ b. b.1.1) (cond is_it (Some bound) (find (λ b. pointwise nat_eq asked b.0) more)))) [
+      | true ↦ fitting.0
+      | false ↦ found slots more asked fitting.1
+    ]
+
+held_ends : (slots : Slots) (type : ExprType) (held : Held) → HasPropertyType slots (declared type) held → Ends slots type (HeldGives held)
+held_ends slots type (present v) has = (v, (refl, has))
+held_ends slots type absent has = absurd has
+
+-- what holds of each property holds of the first one of a name that has a type
+pub found_property : (Holds : PropertyType → List ℕ → Type 0) (asked : List ℕ) (type : ExprType) (properties : List PropertyModel)
+    → AllByRecursion (λ p. Holds p.type_of p.name) properties → PropertyTyped properties asked type → Holds (declared type) asked
+found_property Holds asked type [] all typed = absurd typed
+found_property Holds asked type (p ∷ more) all typed =
+    elim (pointwise nat_eq asked p.name) as (λ is_it. pointwise nat_eq asked p.name ≡ is_it
+    → IsSomeAnd (cond is_it (Some p) (property_named more asked)) (λ q. q.type_of ≡ declared type)
+    → Holds (declared type) asked) [
+      | true ↦ λ same is_typed. subst (λ (t : PropertyType). Holds t asked) is_typed
+          (subst (λ (n : List ℕ). Holds p.type_of n) (sym ((bytes_eq-Decides asked p.name).0 same)) all.0)
+      | false ↦ λ other is_typed. found_property Holds asked type more all.1 is_typed
+    ] refl typed
+
+step_ends : (slots : Slots) (root : List ℕ) (entity : Val) (asked : List ℕ) (type : ExprType)
+    → HasType slots (single (structured root)) entity → PropertyTyped (slots root) asked type → Ends slots type (StepGives entity asked)
+step_ends slots root null asked type conforms typed = (null, (refl, tt))
+step_ends slots root (fields held) asked type conforms typed =
+    held_ends slots type (held asked)
+    (found_property (λ t n. HasPropertyType slots t (held n)) asked type (slots root) conforms typed)
+step_ends slots root _ asked type conforms typed = absurd conforms
+
+found_ends : (slots : Slots) (root : List ℕ) (entity : Val) (asked : List ℕ) (type : ExprType) (in_scope : Option ExprType) (value : Option Val)
+    → HasType slots (single (structured root)) entity → Found slots in_scope value
+    → MatchOption in_scope (PropertyTyped (slots root) asked type) (λ t. type ≡ t) → Ends slots type (FoundGives value entity asked)
+found_ends slots root entity asked type (Some t) (Some v) conforms is_found typed = (v, (refl, typed_value slots t type v typed is_found))
+found_ends slots root entity asked type None None conforms is_found typed = step_ends slots root entity asked type conforms typed
+found_ends slots root entity asked type (Some t) None conforms is_found typed = absurd is_found
+found_ends slots root entity asked type None (Some v) conforms is_found typed = absurd is_found
+
+equal_ends : (slots : Slots) (left right : ExprType) (l r : Val) → AreComparable left right → HasType slots left l → HasType slots right r
+    → (b : Bool) × EqualGives l r (gives (boolean b))
+equal_ends slots left right l r (inl numbers) of_l of_r =
+    equal_wholes l r (whole_of slots left l numbers.0 of_l) (whole_of slots right r numbers.1 of_r)
+equal_ends slots left right l r (inr (inl truths)) of_l of_r =
+    equal_truths l r (truth_of slots left l (inl truths.0) of_l) (truth_of slots right r (inl truths.1) of_r)
+equal_ends slots left right l r (inr (inr texts)) of_l of_r =
+    equal_texts l r (text_of slots l (subst (λ (t : ExprType). HasType slots t l) texts.0 of_l))
+    (text_of slots r (subst (λ (t : ExprType). HasType slots t r) texts.1 of_r))
+
+module _ (slots : Slots) (root : List ℕ) (now : MomentParts) (entity : Val) (environment : Environment)
+    (conforms : HasType slots (single (structured root)) entity) (fitting : IsFitting slots environment) where
+  operator_ends : (operator : BinaryOperator) (left right : Tree) (left_type right_type type : ExprType)
+      → OperatorTyped operator left_type right_type type
+      → Ends slots left_type (Means slots root now entity environment left)
+      → Ends slots right_type (Means slots root now entity environment right)
+      → (start stop : ℕ) → Ends slots type (Means slots root now entity environment (node start stop (binary operator left right)))
+  operator_ends BinaryOperator.And left right left_type right_type type typed l r start stop =
+      let both = and_truths l.0 r.0 (Means slots root now entity environment right) (truth_of slots left_type l.0 typed.0 l.1.1)
+      (truth_of slots right_type r.0 typed.1 r.1.1) r.1.0 in
+      (both.0, ((gives l.0, (l.1.0, both.1.0)), typed_value slots boolean_type type both.0 typed.2 (boolean_of_truth slots both.0 both.1.1)))
+  operator_ends BinaryOperator.Eq left right left_type right_type type typed l r start stop =
+      let equal = equal_ends slots left_type right_type l.0 r.0 typed.0 l.1.1 r.1.1 in
+      (boolean equal.0, ((gives l.0, (l.1.0, (gives r.0, (r.1.0, equal.1)))), typed_value slots boolean_type type (boolean equal.0) typed.1 tt))
+
+  pub tree_ends : (tree : Tree) (type : ExprType) → Typed slots root (scope_of environment) tree type
+      → Ends slots type (Means slots root now entity environment tree)
+  tree_ends (node start stop (literal kind spelling)) type typed = literal_ends slots kind spelling type typed
+  tree_ends (node start stop (name asked)) type typed =
+      found_ends slots root entity asked type (variable_type (scope_of environment) asked) (variable_value environment asked)
+      conforms (found slots environment asked fitting) typed
+  tree_ends (node start stop (binary operator left right)) type typed =
+      operator_ends operator left right typed.left typed.right type typed.operator_typed
+      (tree_ends left typed.left typed.left_typed) (tree_ends right typed.right typed.right_typed) start stop

@@ -1,0 +1,8 @@
+use Rattle.odata_eval.proofs.MeansLaws.FirstRunLaws.{kept, other_name, inactive, right_side_left_out}
+use Rattle.odata_eval.proofs.MeansLaws.OneStep.{OneValue}
+use Rattle.odata_eval.proofs.laws.first_run_comes_to.Goals as goal
+
+pub returns : goal.returns
+returns c =
+    let values : OneValue = (c.texts_have_one_value.ensures.int, c.texts_have_one_value.ensures.string) in
+    record { kept = kept values; other_name = other_name values; inactive = inactive values; right_side_left_out = right_side_left_out values }

@@ -1,0 +1,28 @@
+-- For private clauses: what the evaluator's values stand for that hold no other value.
+use Rattle.std.specs.Prelude.{◌≡◌, Bool, Option, Some, None}
+use Rattle.std.specs.Cow.{cow_str_bytes}
+use Rattle.edm_values.specs.Val.{Val, null, boolean, whole, text, date, moment, guid, member}
+use Rattle.edm_values.specs.declared.datum.Datum.{Datum}
+use Rattle.edm_values.specs.declared.datum.Datum.TheVariants as datum
+use Rattle.odata_eval.specs.Outcome.{Outcome}
+
+-- null, a primitive value or an enumeration's number; none for a record and a list, whose meaning needs their type
+abbrev pub plain_datum : Datum → Option Val
+plain_datum datum.Null = Some null
+plain_datum (datum.Bool b) = Some (boolean b)
+plain_datum (datum.Int n) = Some (whole n)
+plain_datum (datum.Text t) = Some (text (cow_str_bytes t))
+plain_datum (datum.Date d) = Some (date d)
+plain_datum (datum.Moment m) = Some (moment m)
+plain_datum (datum.Guid bytes) = Some (guid bytes)
+plain_datum (datum.Enum n) = Some (member n)
+plain_datum (datum.Record fields) = None
+plain_datum (datum.List items) = None
+
+-- the table at two values, if they are such
+abbrev pub AtBoth : (Val → Val → Outcome → Type 0) → Option Val → Option Val → Outcome → Type 0
+AtBoth Table (Some l) (Some r) o = Table l r o
+AtBoth Table _ _ o = ⊥
+
+abbrev pub OfBoth : (Val → Val → Outcome → Type 0) → Datum → Datum → Outcome → Type 0
+OfBoth Table l r = AtBoth Table (plain_datum l) (plain_datum r)

@@ -1,0 +1,17 @@
+//! What a checked filter comes to on an entity (OData URL Conventions 4.01, section 5.1.1).
+#![tactic(auto)]
+
+mod evaluator;
+mod fault;
+mod laws;
+mod operators;
+mod verdict;
+mod walk;
+
+pub use evaluator::evaluate;
+pub use fault::EvalFault;
+pub use laws::{first_run_comes_to, typed_trees_end_once};
+pub use verdict::Verdict;
+
+#[cfg(test)]
+mod tests;

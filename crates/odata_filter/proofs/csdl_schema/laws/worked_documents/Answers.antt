@@ -1,8 +1,0 @@
-use Rattle.odata_filter.proofs.SchemaWorked.{mini_stands, array_refused}
-use Rattle.odata_filter.proofs.csdl_schema.laws.worked_documents.Goals as goal
-
-pub returns-clause-mini : goal.returns-clause-mini
-returns-clause-mini c = mini_stands
-
-pub returns-clause-array : goal.returns-clause-array
-returns-clause-array c = array_refused

@@ -1,8 +1,0 @@
-use Rattle.std.proofs.Common.{◌≡◌, List, drop}
-use Rattle.odata_filter.specs.csdl_schema.Faults.{is_namespace}
-use Rattle.odata_filter.specs.csdl_schema.DocumentView.{members_of}
-use Rattle.odata_filter.proofs.csdl_schema.namespaces.is_namespace.Given as goal
-
--- the rest decides
-abbrev pub invariant-loop-schema : goal.invariant-loop-schema
-invariant-loop-schema l = is_namespace (members_of (drop l.schema-index l.schemas)) l.name ≡ is_namespace (members_of l.schemas) l.name

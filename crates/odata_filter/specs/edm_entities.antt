@@ -1,9 +1,0 @@
-pub mod Example
-pub mod Fits
-pub mod HasType
-pub mod Members
-pub mod NumberTypes
-pub mod Row
-pub mod RowFaults
-pub mod SlotValue
-pub mod Walk

@@ -1,0 +1,63 @@
+-- The failures of a run. Private clauses alone cite these.
+use Rattle.std.specs.Prelude.{ℕ, List, Option, Result, Ok, Err}
+use Rattle.std.specs.Io.KnownBytes.{Keeps}
+use Rattle.odata_text.specs.declared.query_fault.QueryFault.{QueryFault}
+use Rattle.odata_text.specs.declared.query_fault.QueryFault.TheVariants as query
+use Rattle.odata_filter.specs.Kept.{Stops}
+use Rattle.odata_filter.specs.Run.{OverRows, Status, StatusSays, done, refused, misused, without_type, at_fault, unread, without_memory}
+use Rattle.odata_filter.specs.declared.lines.said.Judgment.{Judgment}
+use Rattle.csdl_schema.specs.declared.fault.SchemaFault.{SchemaFault}
+use Rattle.csdl_schema.specs.declared.fault.SchemaFault.TheVariants as schema
+use Rattle.odata_filter.specs.declared.command_line.Plan.{Plan}
+use Rattle.odata_filter.specs.declared.failure.Failure.{Failure}
+use Rattle.odata_filter.specs.declared.failure.Failure.TheVariants.{NotYet, OneOf, Schema, UnknownType, Query, NoOption, Refused, RowsFile, Rows}
+use Rattle.odata_filter.specs.declared.lines.tally.Tally.{Tally}
+use Rattle.odata_filter.specs.declared.lines.run_fault.RunFault.{RunFault}
+use Rattle.odata_filter.specs.declared.lines.run_fault.RunFault.TheVariants as rows
+use Rattle.odata_typing.specs.declared.refusal.Refusal.{Refusal}
+use Rattle.odata_typing.specs.declared.refusal.Refusal.TheVariants as refusal
+
+-- want of memory, or no schema
+abbrev pub status_of_schema : SchemaFault → Status
+status_of_schema schema.Memory = without_memory
+status_of_schema fault = without_type
+
+-- want of memory, or a query with a fault
+abbrev pub status_of_query : QueryFault → Status
+status_of_query query.Memory = without_memory
+status_of_query fault = refused
+
+-- want of memory, or no filter
+abbrev pub status_of_refusal : Refusal → Status
+status_of_refusal refusal.Memory = without_memory
+status_of_refusal other = refused
+
+-- want of memory, a device that failed, or a row at fault
+abbrev pub status_of_rows : RunFault → Status
+status_of_rows (rows.Memory line) = without_memory
+status_of_rows (rows.Read line) = unread
+status_of_rows rows.Write = unread
+status_of_rows fault = at_fault
+
+-- how a run ends by a failure
+abbrev pub status_of : Failure → Status
+status_of (NotYet option) = misused
+status_of OneOf = misused
+status_of (Schema fault) = status_of_schema fault
+status_of (UnknownType name) = without_type
+status_of (Query fault) = status_of_query fault
+status_of NoOption = misused
+status_of (Refused refusal) = status_of_refusal refusal
+status_of (RowsFile name) = unread
+status_of (Rows fault) = status_of_rows fault
+
+-- what a failure over the rows says of them and of what was written
+abbrev pub StopsOver : (List ℕ → Judgment → Type 0) → Failure → Option (Option (List ℕ)) → Option (List ℕ) → Option (List ℕ) → Type 0
+StopsOver judge (Rows fault) rows old new = OverRows rows old new (λ bytes text. Stops judge bytes text fault)
+StopsOver judge (RowsFile name) rows old new = Keeps old new
+StopsOver judge other rows old new = ⊥
+
+-- what an answer says of the plan, of the rows and of what was written
+abbrev pub AnswerSays : Result Tally Failure → Plan → List ℕ → Option (Option (List ℕ)) → Option (List ℕ) → Option (List ℕ) → Type 0
+AnswerSays (Ok tally) = StatusSays done
+AnswerSays (Err failure) = StatusSays (status_of failure)

@@ -1,0 +1,118 @@
+-- What the walk answers of a name.
+use Rattle.std.proofs.Common.{◌≡◌, refl, sym, ap, subst, ◌∙◌, inl, inr, ℕ, ◌<◌, ◌≤◌, List, [], length, Option, Some, None, Result, Ok, Err, IfSome, IfOk, IfErr, IsSomeAnd, MatchOption, slice_get, arith}
+use Rattle.std.specs.Global.{Box}
+use Rattle.std.specs.Prelude.{string_bytes}
+use Rattle.std.proofs.lemmas.Option.{slice_get_cases}
+use Rattle.odata_syntax.specs.Tree.{Tree, node, name, start_of}
+use Rattle.odata_text.specs.declared.span.Span.{Span}
+use Rattle.csdl_schema.specs.ExprType.{ExprType}
+use Rattle.csdl_schema.specs.SchemaModel.{PropertyModel, PropertyType, SchemaModel, Slots, declared, slot_named, slots_of, type_name_at}
+use Rattle.odata_typing.specs.declared.checked_node.CheckedNode.{CheckedNode, Property}
+use Rattle.odata_typing.specs.declared.edm_type.EdmType.{EdmType}
+use Rattle.odata_typing.specs.declared.refusal.TypeFaultCode.{TypeFaultCode}
+use Rattle.odata_typing.specs.declared.untyped.Untyped.{Untyped}
+use Rattle.odata_typing.specs.private.Answer.{IsAnswer, IsCheckedTree}
+use Rattle.odata_typing.specs.Considered.{IsItself}
+use Rattle.odata_typing.specs.FirstUntypable.{IsFirstUntypable, NameReason, PropertyReason}
+use Rattle.odata_typing.specs.IsChecked.{IsChecked, IsCheckedProperty, named}
+use Rattle.odata_typing.specs.TypeView.{expr_type}
+use Rattle.odata_typing.specs.Typed.{PropertyTyped, Scope, property_named}
+use Rattle.odata_typing.proofs.TypingLaws.Places.{slot_below, property_at, property_none}
+
+same_start : (scope : Scope) (start stop : ℕ) (asked : List ℕ) (at : Scope) (other : Tree) → IsItself scope (node start stop (name asked)) at other → start ≤ start_of other
+same_start scope start stop asked at other here = let e : start_of other ≡ start = ap start_of here.1 in omega arith
+
+-- a name that has no type
+pub first_name :
+    (slots : Slots) (root asked : List ℕ) (span : Span) (code : TypeFaultCode)
+    → ((type : ExprType) → ¬ PropertyTyped (slots root) asked type)
+    → NameReason (slots root) asked code
+    → IsFirstUntypable slots root [] (node span.start span.stop (name asked)) (record { code = code; span = span })
+first_name slots root asked span code untyped reason = record {
+  at = [];
+  place = node span.start span.stop (name asked);
+  untypable = record { considered = (refl, refl); untyped = untyped; children = tt };
+  first = λ at other found. same_start [] span.start span.stop asked at other found.considered;
+  reason = reason;
+  starts = refl;
+  stops = refl;
+}
+
+-- there is no property of the name
+pub first_unknown :
+    (slots : Slots) (root asked : List ℕ) (span : Span)
+    → slot_named (slots root) asked ≡ None
+    → IsFirstUntypable slots root [] (node span.start span.stop (name asked)) (record { code = TypeFaultCode.UnknownProperty; span = span })
+first_unknown slots root asked span none =
+    let unknown = property_none (slots root) asked none in
+    let P : ExprType → Option PropertyModel → Type 0 = λ (t : ExprType) (o : Option PropertyModel). IsSomeAnd o (λ p. p.type_of ≡ declared t) in
+    let Q : Option PropertyModel → Type 0 =
+    λ (o : Option PropertyModel). MatchOption o (TypeFaultCode.UnknownProperty ≡ TypeFaultCode.UnknownProperty) (λ p. PropertyReason p.type_of TypeFaultCode.UnknownProperty) in
+    first_name slots root asked span TypeFaultCode.UnknownProperty (λ type typed. subst (P type) unknown typed) (subst Q (sym unknown) refl)
+
+-- the property at a slot of a name
+pub at_slot : (properties : List PropertyModel) (asked : List ℕ) (k : ℕ) → slot_named properties asked ≡ Some k → (p : PropertyModel) × (slice_get properties k ≡ Some p)
+at_slot properties asked k found =
+    let below : k < length properties = slot_below properties asked k found in
+    elim (slice_get_cases properties k).1 [ inl x ↦ (x.0, x.2) | inr y ↦ let past : length properties ≤ k = y.0 in absurd (omega arith) ]
+
+-- a property that a filter may not name has no type
+reason_untyped : (kind : PropertyType) (code : TypeFaultCode) (type : ExprType) → PropertyReason kind code → ¬ (kind ≡ declared type)
+reason_untyped (declared t) code type reason same = reason
+reason_untyped _ code type reason same = cc
+
+pub first_refused :
+    (slots : Slots) (root asked : List ℕ) (span : Span) (code : TypeFaultCode) (k : ℕ) (kind : PropertyType) (Other : PropertyModel → Type 0)
+    → slot_named (slots root) asked ≡ Some k
+    → IfSome (slice_get (slots root) k) (λ p. (kind ≡ p.type_of) × Other p)
+    → PropertyReason kind code
+    → IsFirstUntypable slots root [] (node span.start span.stop (name asked)) (record { code = code; span = span })
+first_refused slots root asked span code k kind Other found property reason =
+    let p = at_slot (slots root) asked k found in
+    let same = property_at (slots root) asked k found ∙ p.1 in
+    let F : Option PropertyModel → Type 0 = λ (o : Option PropertyModel). IfSome o (λ p. (kind ≡ p.type_of) × Other p) in
+    let of_kind : (kind ≡ p.0.type_of) × Other p.0 = subst F p.1 property in
+    let P : ExprType → Option PropertyModel → Type 0 = λ (t : ExprType) (o : Option PropertyModel). IsSomeAnd o (λ p. p.type_of ≡ declared t) in
+    let Q : Option PropertyModel → Type 0 = λ (o : Option PropertyModel). MatchOption o (code ≡ TypeFaultCode.UnknownProperty) (λ p. PropertyReason p.type_of code) in
+    let R : PropertyType → Type 0 = λ (t : PropertyType). PropertyReason t code in
+    first_name slots root asked span code
+    (λ type typed. reason_untyped kind code type reason (of_kind.0 ∙ subst (P type) same typed))
+    (subst Q (sym same) (subst R of_kind.0 reason))
+
+-- a property that a filter may name
+pub property_typed :
+    (properties : List PropertyModel) (asked : List ℕ) (k : ℕ) (type : ExprType) (kind : PropertyType) (Other : PropertyModel → Type 0)
+    → slot_named properties asked ≡ Some k
+    → IfSome (slice_get properties k) (λ p. (kind ≡ p.type_of) × Other p)
+    → kind ≡ declared type
+    → PropertyTyped properties asked type
+property_typed properties asked k type kind Other found property is_declared =
+    let p = at_slot properties asked k found in
+    let same = property_at properties asked k found ∙ p.1 in
+    let F : Option PropertyModel → Type 0 = λ (o : Option PropertyModel). IfSome o (λ p. (kind ≡ p.type_of) × Other p) in
+    let of_kind : (kind ≡ p.0.type_of) × Other p.0 = subst F p.1 property in
+    let P : Option PropertyModel → Type 0 = λ (o : Option PropertyModel). IsSomeAnd o (λ p. p.type_of ≡ declared type) in
+    subst P (sym same) (sym of_kind.0 ∙ is_declared)
+
+-- a right node in memory of its own, or want of memory
+pub boxed_answer :
+    (schema : SchemaModel) (n : ℕ) (tree : Tree) (checked_node : CheckedNode) (r : Result (Box CheckedNode) Untyped)
+    → IfOk r (λ b. b.value ≡ checked_node)
+    → IfErr r (λ u. u ≡ Untyped.Memory)
+    → IsCheckedTree schema n tree checked_node
+    → IsAnswer schema n tree r
+boxed_answer schema n tree checked_node (Ok b) ok err checked = let P : CheckedNode → Type 0 = λ (c : CheckedNode). IsCheckedTree schema n tree c in subst P (sym ok) checked
+boxed_answer schema n tree checked_node (Err u) ok err checked = rw err tt
+
+pub property_right :
+    (schema : SchemaModel) (n : ℕ) (span : Span) (edm_type : EdmType) (asked : List ℕ) (slot : ℕ) (written : _)
+    → string_bytes written ≡ asked
+    → slot_named (slots_of schema (type_name_at schema n)) asked ≡ Some slot
+    → PropertyTyped (slots_of schema (type_name_at schema n)) asked (expr_type schema edm_type)
+    → IsCheckedTree schema n (node span.start span.stop (name asked)) (Property span edm_type written slot)
+property_right schema n span edm_type asked slot written same found typed =
+    let P : List ℕ → Type 0 = λ (b : List ℕ). IsCheckedProperty (slots_of schema (type_name_at schema n)) [] b slot (expr_type schema edm_type) in
+    record {
+      right = subst P (sym same) (record { free = refl; place = found; typed = typed });
+      stands_for = ap (λ (b : List ℕ). node span.start span.stop (name b)) same;
+    }

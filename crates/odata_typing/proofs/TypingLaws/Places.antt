@@ -1,0 +1,31 @@
+-- The slot of a name and the property of that name.
+use Rattle.std.proofs.Common.{◌≡◌, refl, sym, ap, ◌∙◌, ℕ, ◌<◌, ◌≤◌, List, length, Bool, true, false, cond, Option, Some, None, nat_lt, slice_get, position, arith}
+use Rattle.std.specs.List.{position_or_len, find}
+use Rattle.std.proofs.lemmas.Bool.Decides.{nat_tests}
+use Rattle.std.proofs.lemmas.List.Folds.{find_at}
+use Rattle.std.proofs.lemmas.Option.{slice_get_past}
+use Rattle.std.specs.Cmp.Lexicographic.{pointwise}
+use Rattle.std.specs.Prelude.{nat_eq}
+use Rattle.csdl_schema.specs.SchemaModel.{PropertyModel, slot_named}
+use Rattle.odata_typing.specs.Typed.{property_named}
+
+place : {X : Type 0} (p : X → Bool) (xs : List X) (k : ℕ) → position p xs ≡ Some k → (position_or_len p xs ≡ k) × (k < length xs)
+place p xs k found = grind (arith, nat_tests)
+
+no_place : {X : Type 0} (p : X → Bool) (xs : List X) → position p xs ≡ None → length xs ≤ position_or_len p xs
+no_place p xs none = grind (arith, nat_tests)
+
+pub slot_below : (properties : List PropertyModel) (asked : List ℕ) (k : ℕ) → slot_named properties asked ≡ Some k → k < length properties
+slot_below properties asked k found = (place (λ (p : PropertyModel). pointwise nat_eq asked p.name) properties k found).1
+
+-- the property of a name stands at the slot of that name
+pub property_at :
+    (properties : List PropertyModel) (asked : List ℕ) (k : ℕ) → slot_named properties asked ≡ Some k → property_named properties asked ≡ slice_get properties k
+property_at properties asked k found =
+    let test : PropertyModel → Bool = λ (p : PropertyModel). pointwise nat_eq asked p.name in
+    find_at test properties ∙ ap (λ (i : ℕ). slice_get properties i) (place test properties k found).0
+
+pub property_none : (properties : List PropertyModel) (asked : List ℕ) → slot_named properties asked ≡ None → property_named properties asked ≡ None
+property_none properties asked none =
+    let test : PropertyModel → Bool = λ (p : PropertyModel). pointwise nat_eq asked p.name in
+    find_at test properties ∙ slice_get_past properties (position_or_len test properties) (no_place test properties none)

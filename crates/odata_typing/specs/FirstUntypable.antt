@@ -1,0 +1,56 @@
+-- Where and why a tree is no filter (OData URL Conventions 4.01, section 5.1.1).
+use Rattle.std.specs.Prelude.{◌≡◌, ◌⊎◌, ℕ, ◌≤◌, List, [], MatchOption}
+use Rattle.odata_syntax.specs.Tree.{Tree, node, literal, name, binary, start_of, stop_of}
+use Rattle.csdl_schema.specs.ExprType.{ExprType}
+use Rattle.csdl_schema.specs.SchemaModel.{PropertyModel, PropertyType, declared, opaque, navigation, Slots}
+use Rattle.odata_typing.specs.declared.refusal.TypeFault.{TypeFault}
+use Rattle.odata_typing.specs.declared.refusal.TypeFaultCode.{TypeFaultCode}
+use Rattle.odata_typing.specs.Considered.{IsConsidered, ChildrenTyped}
+use Rattle.odata_typing.specs.ExprTypes.{IsBooleanOrNull}
+use Rattle.odata_typing.specs.Typed.{Scope, Typed, HasNoType, property_named}
+
+-- why a property has no type
+abbrev pub PropertyReason : PropertyType → TypeFaultCode → Type 0
+PropertyReason (declared type) code = ⊥
+PropertyReason opaque code = code ≡ TypeFaultCode.TypeLeftOut
+PropertyReason navigation code = code ≡ TypeFaultCode.Navigation
+
+-- why a name has no type
+abbrev pub NameReason : List PropertyModel → List ℕ → TypeFaultCode → Type 0
+NameReason properties asked code =
+    MatchOption (property_named properties asked) (code ≡ TypeFaultCode.UnknownProperty) (λ p. PropertyReason p.type_of code)
+
+-- why a node has no type though its considered children have
+abbrev pub IsReason : Slots → List ℕ → Tree → TypeFaultCode → Type 0
+IsReason slots root (node start stop (literal kind spelling)) code = code ≡ TypeFaultCode.LiteralRange
+IsReason slots root (node start stop (name asked)) code = NameReason (slots root) asked code
+IsReason slots root (node start stop (binary operator left right)) code = code ≡ TypeFaultCode.OperandTypes
+
+-- a considered node that has no type, while all its considered children have one
+pub record IsUntypable (slots : Slots) (root : List ℕ) (scope : Scope) (tree : Tree) (at : Scope) (place : Tree) : Type 0 where
+  pub considered : IsConsidered scope tree at place
+  pub untyped : HasNoType slots root at place
+  pub children : ChildrenTyped slots root at place
+
+-- of these nodes the one that starts first, with its reason
+pub record IsFirstUntypable (slots : Slots) (root : List ℕ) (scope : Scope) (tree : Tree) (fault : TypeFault) : Type 0 where
+  pub at : Scope
+  pub place : Tree
+  pub untypable : IsUntypable slots root scope tree at place
+  pub first : (scope' : Scope) (other : Tree) → IsUntypable slots root scope tree scope' other → start_of place ≤ start_of other
+  pub reason : IsReason slots root place fault.code
+  pub starts : fault.span.start ≡ start_of place
+  pub stops : fault.span.stop ≡ stop_of place
+
+-- the tree has a type, but neither Boolean nor Null; the span is the whole text
+pub record IsNotBoolean (slots : Slots) (root : List ℕ) (tree : Tree) (len : ℕ) (fault : TypeFault) : Type 0 where
+  pub type_of : ExprType
+  pub typed : Typed slots root [] tree type_of
+  pub other : ¬ IsBooleanOrNull type_of
+  pub reason : fault.code ≡ TypeFaultCode.NotBoolean
+  pub starts : fault.span.start ≡ 0
+  pub stops : fault.span.stop ≡ len
+
+-- why the tree of a text of this length is no filter
+abbrev pub IsTypeFault : Slots → List ℕ → Tree → ℕ → TypeFault → Type 0
+IsTypeFault slots root tree len fault = IsFirstUntypable slots root [] tree fault ⊎ IsNotBoolean slots root tree len fault

@@ -1,0 +1,87 @@
+ghost use Rattle.std.specs.Prelude.{◌≡◌, ◌<◌, ℕ, List, [], length, IfOk, IfErr};
+ghost use Rattle.odata_syntax.specs.Tree.{Tree};
+ghost use Rattle.odata_syntax.specs.TreeView.{tree_of};
+ghost use Rattle.csdl_schema.specs.SchemaModel.{Slots, slots_of, type_name_at};
+ghost use Rattle.odata_typing.specs.private.Answer.{HasNoTree, IsTextRefusal, IsSyntaxRefusal};
+ghost use Rattle.odata_typing.specs.Filter.{tree_of_filter};
+ghost use Rattle.odata_typing.specs.HasTyping.{HasTree, HasTyping, HasNoTyping, IsRefusal, UnlessMemory};
+
+use super::checked::Checked;
+use super::node::checked_tree;
+use super::refusal::Refusal;
+use super::untyped::Untyped;
+use csdl_schema::{Schema, TypeId};
+use odata_syntax::{Expr, SyntaxFault, parse};
+use odata_text::{TextFault, tokens};
+use std::alloc::Global;
+
+/// The text as a filter of the entities of a type, which the schema holds.
+///
+/// A refusal other than `Memory` names the first fault of the tokens; else the first token with which the tokens begin
+/// no expression; else, of the nodes that have no type while all their children have one, the one that starts first;
+/// else `NotBoolean` with the whole text.
+pub fn check<'s>(
+    alloc: Global,
+    schema: &'s Schema,
+    filtered_type: TypeId,
+    text: &str,
+) -> Result<Checked<'s>, Refusal>
+    requires { filtered_type < length schema.now.types }
+    ensures typing { IfOk result (λ c. HasTyping (slots_of c.schema) (type_name_at c.schema c.filtered) text.now (tree_of_filter c)) }
+    ensures schema { IfOk result (λ c. c.schema ≡ schema.entry.now) }
+    ensures filtered_type { IfOk result (λ c. c.filtered ≡ filtered_type) }
+    ensures refusal { IfErr result (λ r. UnlessMemory r (IsRefusal (slots_of schema.entry.now) (type_name_at schema.entry.now filtered_type) text.now r)) }
+    ensures none { IfErr result (λ r. UnlessMemory r (HasNoTyping (slots_of schema.entry.now) (type_name_at schema.entry.now filtered_type) text.now)) }
+{
+    let expr = match tree_of_text(alloc, text) {
+        Ok(expr) => expr,
+        Err(refusal) => return Err(refusal),
+    };
+    match checked_tree(alloc, schema, filtered_type, expr.root()) {
+        Ok(root) => match Checked::of(schema, filtered_type, root, text.len()) {
+            Ok(checked) => Ok(checked),
+            Err(fault) => Err(Refusal::Typing(fault)),
+        },
+        Err(Untyped::Fault(fault)) => Err(Refusal::Typing(fault)),
+        Err(Untyped::Memory) => Err(Refusal::Memory),
+    }
+}
+
+/// The tree of the text, or why it has none.
+fn tree_of_text(alloc: Global, text: &str) -> Result<Expr, Refusal>
+    ensures tree { IfOk result (λ e. HasTree text.now (tree_of e)) }
+    ensures only { IfOk result (λ e. (tree : Tree) → HasTree text.now tree → tree ≡ tree_of e) }
+    ensures refusal { (slots : Slots) (root : List ℕ) → IfErr result (λ r. UnlessMemory r (IsRefusal slots root text.now r)) }
+    ensures none { IfErr result (λ r. UnlessMemory r (HasNoTree text.now)) }
+{
+    let tokens = match tokens(alloc, text) {
+        Ok(tokens) => tokens,
+        Err(fault) => return Err(text_refusal(fault)),
+    };
+    match parse(alloc, tokens.as_slice(), text.len()) {
+        Ok(expr) => Ok(expr),
+        Err(fault) => Err(syntax_refusal(fault)),
+    }
+}
+
+fn text_refusal(fault: TextFault) -> Refusal
+    ensures { IsTextRefusal fault result }
+{
+    match fault {
+        TextFault::Memory => Refusal::Memory,
+        TextFault::BadCharacter { .. }
+        | TextFault::UnclosedString { .. }
+        | TextFault::LeftOutLiteral { .. }
+        | TextFault::RunOn { .. }
+        | TextFault::TooLong { .. } => Refusal::Text(fault),
+    }
+}
+
+fn syntax_refusal(fault: SyntaxFault) -> Refusal
+    ensures { IsSyntaxRefusal fault result }
+{
+    match fault {
+        SyntaxFault::Memory => Refusal::Memory,
+        SyntaxFault::Unexpected { .. } | SyntaxFault::TooDeep { .. } => Refusal::Syntax(fault),
+    }
+}

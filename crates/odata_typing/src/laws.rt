@@ -1,0 +1,21 @@
+ghost use Rattle.odata_typing.specs.Laws.{OneType, TypedIsClear, ItemFilterTyped, MixedFilterUntyped};
+
+/// A law: a tree has at most one type. The contract says it, and the body has nothing to do.
+pub fn trees_have_one_type()
+    ensures { OneType }
+{}
+
+/// A law: a tree that has a type has no untypable place.
+pub fn typed_trees_are_clear()
+    ensures { TypedIsClear }
+{}
+
+/// A law: of an item with the properties Active, ID and Name, `Active and ID eq 1 and Name eq 'a'` has type Boolean.
+pub fn a_filter_of_items_is_boolean()
+    ensures { ItemFilterTyped }
+{}
+
+/// A law: of such an item `ID eq 'a'` has no type.
+pub fn a_number_is_no_text()
+    ensures { MixedFilterUntyped }
+{}

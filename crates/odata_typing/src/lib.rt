@@ -1,0 +1,28 @@
+//! Which filters have a type, and what is wrong with the first node of one that has none (OData URL Conventions 4.01,
+//! section 5.1.1).
+#![tactic(auto)]
+
+mod checked;
+mod checked_node;
+mod checker;
+mod edm_type;
+mod laws;
+mod literal;
+mod node;
+mod operator;
+mod pre_order;
+mod property;
+mod refusal;
+mod untyped;
+
+pub use checked::Checked;
+pub use checked_node::CheckedNode;
+pub use checker::check;
+pub use edm_type::{EdmType, ValueType};
+pub use laws::{
+    a_filter_of_items_is_boolean, a_number_is_no_text, trees_have_one_type, typed_trees_are_clear,
+};
+pub use refusal::{Refusal, TypeFault, TypeFaultCode};
+
+#[cfg(test)]
+mod tests;
