@@ -15,8 +15,6 @@ mod operand;
 mod operator;
 mod state;
 mod step;
-#[cfg(test)]
-mod tests;
 mod word;
 
 use crate::parser::state::State;
