@@ -1,8 +1,2 @@
-pub mod Run
-pub mod Lexemes
-pub mod Complete
-pub mod Sound
-pub mod Fronts
-pub mod Spanned
-pub mod Faults
-pub mod FirstRuns
+pub mod machine
+pub mod laws

@@ -1,7 +1,4 @@
-pub use Rattle.edm_values.specs.IntLiteral
-pub use Rattle.edm_values.specs.StringLiteral
 pub use Rattle.odata_text.specs.Piece
-pub use Rattle.odata_text.specs.Tokens
 pub mod Tree
 pub mod TreeView
 pub mod Lexeme
@@ -10,5 +7,4 @@ pub mod Front
 pub mod Parse
 pub mod Spans
 pub mod FirstRun
-pub mod Machine
-pub mod MachineView
+pub mod private

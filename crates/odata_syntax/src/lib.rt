@@ -5,9 +5,13 @@ mod expr;
 mod node;
 mod parser;
 mod syntax_fault;
-pub mod syntax_laws;
+mod syntax_laws;
 
 pub use expr::Expr;
 pub use node::{BinaryOperator, LiteralKind, Node};
 pub use parser::parse;
 pub use syntax_fault::SyntaxFault;
+pub use syntax_laws::{
+    fault_or_tree, first_run_parses, name_eq_is_unended, node_spans, one_fault, one_tree,
+    tree_spans,
+};

@@ -7,8 +7,8 @@ ghost use Rattle.odata_syntax.specs.TreeView.{tree_of};
 ghost use Rattle.odata_text.specs.Piece.{pieces_of};
 ghost use Rattle.odata_syntax.specs.Grammar.{Derives};
 ghost use Rattle.odata_syntax.specs.Parse.{IsParse, HasNoParse, IsSyntaxFault};
-ghost use Rattle.odata_syntax.specs.Machine.{run, start};
-ghost use Rattle.odata_syntax.specs.MachineView.{machine_of, StopsAt};
+ghost use Rattle.odata_syntax.specs.private.Machine.{run, start};
+ghost use Rattle.odata_syntax.specs.private.MachineView.{machine_of, StopsAt};
 
 mod frames;
 mod operand;

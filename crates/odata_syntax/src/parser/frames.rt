@@ -1,7 +1,7 @@
 ghost use Rattle.std.specs.Prelude.{◌≡◌, ◌∷◌, ◌≤◌, ◌<◌, vec_len, IfOk, IfSome, IfNone};
 ghost use Rattle.odata_syntax.specs.TreeView.{tree_of};
-ghost use Rattle.odata_syntax.specs.Machine.{waiting_level, joined_to, IsHeld, reduce as machine_reduce};
-ghost use Rattle.odata_syntax.specs.MachineView.{waiting_of, stack_of, reduced_of};
+ghost use Rattle.odata_syntax.specs.private.Machine.{waiting_level, joined_to, IsHeld, reduce as machine_reduce};
+ghost use Rattle.odata_syntax.specs.private.MachineView.{waiting_of, stack_of, reduced_of};
 
 use crate::Node;
 use crate::parser::operator::level_of;

@@ -1,8 +1,8 @@
 ghost use Rattle.std.specs.Prelude.{◌≡◌, Some, IfOk, IfErr};
 ghost use Rattle.odata_text.specs.Piece.{piece_of};
 ghost use Rattle.odata_syntax.specs.TreeView.{tree_of};
-ghost use Rattle.odata_syntax.specs.Machine.{word_leaf as machine_word, leaf_of_kind, leaf_tree};
-ghost use Rattle.odata_syntax.specs.MachineView.{machine_of, operand_step, Refuses};
+ghost use Rattle.odata_syntax.specs.private.Machine.{word_leaf as machine_word, leaf_of_kind, leaf_tree};
+ghost use Rattle.odata_syntax.specs.private.MachineView.{machine_of, operand_step, Refuses};
 
 use crate::parser::state::{Frame, Stage, State};
 use crate::parser::word::is_word;
@@ -51,7 +51,7 @@ fn read_leaf(token: &Token<'_>) -> Option<Leaf>
 }
 
 /// The operand that a word is: each word but `null` and `not` is one.
-#[tactic(auto, unfolding(crate::specs::Machine::word_leaf))]
+#[tactic(auto, unfolding(crate::specs::private::Machine::word_leaf))]
 fn word_leaf(text: &str) -> Option<Leaf>
     ensures { result ≡ machine_word text.now }
 {

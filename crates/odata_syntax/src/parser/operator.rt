@@ -1,8 +1,8 @@
 ghost use Rattle.std.specs.Prelude.{◌≡◌, Some, IfOk, IfErr};
 ghost use Rattle.odata_syntax.specs.Grammar.{operator_level};
 ghost use Rattle.odata_text.specs.Piece.{piece_of};
-ghost use Rattle.odata_syntax.specs.Machine.{word_operator as machine_word, operator_of_kind};
-ghost use Rattle.odata_syntax.specs.MachineView.{machine_of, operator_step, Refuses};
+ghost use Rattle.odata_syntax.specs.private.Machine.{word_operator as machine_word, operator_of_kind};
+ghost use Rattle.odata_syntax.specs.private.MachineView.{machine_of, operator_step, Refuses};
 
 use crate::parser::frames::reduce;
 use crate::parser::state::{Frame, Stage, State};
@@ -45,7 +45,7 @@ fn read_operator(token: &Token<'_>) -> Option<BinaryOperator>
 }
 
 /// The operator that a word is.
-#[tactic(auto, unfolding(crate::specs::Machine::word_operator))]
+#[tactic(auto, unfolding(crate::specs::private::Machine::word_operator))]
 fn word_operator(text: &str) -> Option<BinaryOperator>
     ensures { result ≡ machine_word text.now }
 {

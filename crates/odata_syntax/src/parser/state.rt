@@ -1,6 +1,6 @@
 ghost use Rattle.std.specs.Prelude.{◌≡◌};
-ghost use Rattle.odata_syntax.specs.Machine.{start};
-ghost use Rattle.odata_syntax.specs.MachineView.{machine_of};
+ghost use Rattle.odata_syntax.specs.private.Machine.{start};
+ghost use Rattle.odata_syntax.specs.private.MachineView.{machine_of};
 
 use crate::{BinaryOperator, Node};
 use std::alloc::Global;

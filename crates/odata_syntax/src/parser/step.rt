@@ -1,8 +1,8 @@
 ghost use Rattle.std.specs.Prelude.{◌≡◌, Some, IfOk, IfErr};
 ghost use Rattle.odata_text.specs.Piece.{piece_of};
 ghost use Rattle.odata_syntax.specs.TreeView.{tree_of};
-ghost use Rattle.odata_syntax.specs.Machine.{step as machine_step, finish as machine_finish};
-ghost use Rattle.odata_syntax.specs.MachineView.{machine_of, Refuses, RefusesEnd};
+ghost use Rattle.odata_syntax.specs.private.Machine.{step as machine_step, finish as machine_finish};
+ghost use Rattle.odata_syntax.specs.private.MachineView.{machine_of, Refuses, RefusesEnd};
 
 use crate::parser::frames::reduce;
 use crate::parser::operand::take_operand;

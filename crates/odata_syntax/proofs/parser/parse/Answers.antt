@@ -1,8 +1,8 @@
 use Rattle.std.proofs.lemmas.Result.{err_from_is_err_and}
 use Rattle.odata_text.specs.Piece.{pieces_of}
 use Rattle.odata_syntax.specs.TreeView.{tree_of}
-use Rattle.odata_syntax.specs.MachineView.{machine_of}
-use Rattle.odata_syntax.proofs.Fronts.{run_parsed, run_only, stopped_fault, stopped_none, unended_fault, unended_none}
+use Rattle.odata_syntax.specs.private.MachineView.{machine_of}
+use Rattle.odata_syntax.proofs.machine.Fronts.{run_parsed, run_only, stopped_fault, stopped_none, unended_fault, unended_none}
 use Rattle.odata_syntax.proofs.parser.parse.Goals as goal
 
 -- src/parser.rt:32:17

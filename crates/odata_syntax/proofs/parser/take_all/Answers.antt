@@ -1,7 +1,7 @@
 use Rattle.std.proofs.Common.{arith}
 use Rattle.std.proofs.lemmas.Result.{err_from_is_err_and}
-use Rattle.odata_syntax.proofs.Run.{taken_more, stopped}
-use Rattle.odata_syntax.specs.MachineView.{machine_of}
+use Rattle.odata_syntax.proofs.machine.Run.{taken_more, stopped}
+use Rattle.odata_syntax.specs.private.MachineView.{machine_of}
 use Rattle.odata_syntax.proofs.parser.take_all.Goals as goal
 
 -- src/parser.rt:44:17

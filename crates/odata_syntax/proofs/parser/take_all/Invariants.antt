@@ -1,7 +1,7 @@
 use Rattle.std.proofs.Common.{◌≡◌, Some, take}
 use Rattle.odata_text.specs.Piece.{pieces_of}
-use Rattle.odata_syntax.specs.Machine.{run, start}
-use Rattle.odata_syntax.specs.MachineView.{machine_of}
+use Rattle.odata_syntax.specs.private.Machine.{run, start}
+use Rattle.odata_syntax.specs.private.MachineView.{machine_of}
 use Rattle.odata_syntax.proofs.parser.take_all.Given as goal
 
 -- the machine behind the tokens so far

@@ -1,4 +1,4 @@
-use Rattle.odata_syntax.proofs.Faults.{fault_none}
+use Rattle.odata_syntax.proofs.laws.Faults.{fault_none}
 use Rattle.odata_syntax.proofs.syntax_laws.fault_or_tree.Goals as goal
 
 pub returns : goal.returns

@@ -1,4 +1,4 @@
-use Rattle.odata_syntax.proofs.FirstRuns.{first_run_parsed}
+use Rattle.odata_syntax.proofs.laws.FirstRuns.{first_run_parsed}
 use Rattle.odata_syntax.proofs.syntax_laws.first_run_parses.Goals as goal
 
 pub returns : goal.returns

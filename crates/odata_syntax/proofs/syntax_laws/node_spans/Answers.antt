@@ -1,4 +1,4 @@
-use Rattle.odata_syntax.proofs.Spanned.{within_spanned}
+use Rattle.odata_syntax.proofs.laws.Spans.{within_spanned}
 use Rattle.odata_syntax.proofs.syntax_laws.node_spans.Goals as goal
 
 pub returns : goal.returns

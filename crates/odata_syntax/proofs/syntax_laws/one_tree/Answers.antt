@@ -1,4 +1,4 @@
-use Rattle.odata_syntax.proofs.Fronts.{derived_once}
+use Rattle.odata_syntax.proofs.machine.Fronts.{derived_once}
 use Rattle.odata_syntax.proofs.syntax_laws.one_tree.Goals as goal
 
 pub returns : goal.returns

@@ -1,4 +1,4 @@
-use Rattle.odata_syntax.proofs.Spanned.{derived_spanned}
+use Rattle.odata_syntax.proofs.laws.Spans.{derived_spanned}
 use Rattle.odata_syntax.proofs.syntax_laws.tree_spans.Goals as goal
 
 pub returns : goal.returns

@@ -1,7 +1,7 @@
 use Rattle.std.proofs.Common.{◌≡◌, vec_len}
 use Rattle.odata_syntax.specs.TreeView.{tree_of}
-use Rattle.odata_syntax.specs.Machine.{reduce}
-use Rattle.odata_syntax.specs.MachineView.{stack_of}
+use Rattle.odata_syntax.specs.private.Machine.{reduce}
+use Rattle.odata_syntax.specs.private.MachineView.{stack_of}
 use Rattle.odata_syntax.proofs.parser.frames.reduce.Given as goal
 
 -- what is left grows to what was asked

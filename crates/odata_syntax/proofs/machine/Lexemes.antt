@@ -12,7 +12,7 @@ use Rattle.odata_syntax.specs.declared.parser.operand.Leaf.{Leaf}
 use Rattle.odata_text.specs.Piece.{Piece}
 use Rattle.odata_syntax.specs.Lexeme.{IsWord, operator_word, IsOperator, SpellsLiteral, IsLiteral, IsName, reserved_words, same_word}
 use Rattle.odata_syntax.specs.Grammar.{Derives, derives_literal, derives_name}
-use Rattle.odata_syntax.specs.Machine.{word_operator, operator_of_kind, word_leaf, leaf_of_kind, leaf_tree}
+use Rattle.odata_syntax.specs.private.Machine.{word_operator, operator_of_kind, word_leaf, leaf_of_kind, leaf_tree}
 
 -- a text that is one word is no other
 pub other_word : (text word other : List ℕ) → same_word text word ≡ true → same_word word other ≡ false → same_word text other ≡ false

@@ -10,8 +10,8 @@ use Rattle.odata_text.specs.Piece.{Piece}
 use Rattle.odata_syntax.specs.Tree.{Tree}
 use Rattle.odata_syntax.specs.Lexeme.{IsOperator}
 use Rattle.odata_syntax.specs.Grammar.{Level, operator_level, joined, Derives, looser, derives_binary}
-use Rattle.odata_syntax.specs.Machine.{Waiting, behind, Expected, operand, closed, Machine, Reduced, reduce, run, step, step_at, take_leaf, take_operator, wait_behind, start, finish, finish_at, leaf_of_kind, leaf_tree, operator_of_kind}
-use Rattle.odata_syntax.proofs.Lexemes.{operator_spelled, leaf_derived}
+use Rattle.odata_syntax.specs.private.Machine.{Waiting, behind, Expected, operand, closed, Machine, Reduced, reduce, run, step, step_at, take_leaf, take_operator, wait_behind, start, finish, finish_at, leaf_of_kind, leaf_tree, operator_of_kind}
+use Rattle.odata_syntax.proofs.machine.Lexemes.{operator_spelled, leaf_derived}
 
 -- a tree of a level is one of each looser level
 looser_by : (k : ℕ) (level : Level) {ts : List Piece} {tree : Tree} → Derives (level + k) ts tree → Derives level ts tree

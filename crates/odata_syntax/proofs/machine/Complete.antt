@@ -7,9 +7,9 @@ use Rattle.odata_syntax.specs.declared.parser.operand.Leaf.{Leaf}
 use Rattle.odata_text.specs.Piece.{Piece}
 use Rattle.odata_syntax.specs.Tree.{Tree}
 use Rattle.odata_syntax.specs.Grammar.{Level, operator_level, Derives, looser, derives_literal, derives_name, derives_binary}
-use Rattle.odata_syntax.specs.Machine.{Waiting, behind, operand, closed, Machine, waiting_level, joined_to, IsHeld, reduce, run, start, finish, leaf_of_kind, leaf_tree, operator_of_kind}
-use Rattle.odata_syntax.proofs.Run.{run-append}
-use Rattle.odata_syntax.proofs.Lexemes.{operator_found, literal_found, name_found}
+use Rattle.odata_syntax.specs.private.Machine.{Waiting, behind, operand, closed, Machine, waiting_level, joined_to, IsHeld, reduce, run, start, finish, leaf_of_kind, leaf_tree, operator_of_kind}
+use Rattle.odata_syntax.proofs.machine.Run.{run-append}
+use Rattle.odata_syntax.proofs.machine.Lexemes.{operator_found, literal_found, name_found}
 
 -- nothing is joined
 reduce-held : (level : Level) (waiting : List Waiting) (tree : Tree) → IsHeld level waiting → reduce level waiting tree ≡ record { waiting = waiting; tree = tree }

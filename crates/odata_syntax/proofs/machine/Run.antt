@@ -3,10 +3,10 @@ use Rattle.std.proofs.Common.{◌≡◌, refl, ℕ, ◌+◌, ◌<◌, List, [], 
 use Rattle.std.proofs.lemmas.List.{map-append, take-append-drop, take_more}
 use Rattle.odata_text.specs.declared.token.Token.{Token}
 use Rattle.odata_syntax.specs.declared.syntax_fault.SyntaxFault.{SyntaxFault}
-use Rattle.odata_syntax.specs.MachineView.{Refuses, StopsAt}
+use Rattle.odata_syntax.specs.private.MachineView.{Refuses, StopsAt}
 use Rattle.std.specs.Prelude.{option_and_then}
 use Rattle.odata_text.specs.Piece.{Piece, piece_of, pieces_of}
-use Rattle.odata_syntax.specs.Machine.{Machine, run, step, start}
+use Rattle.odata_syntax.specs.private.Machine.{Machine, run, step, start}
 
 -- the second list is run behind the first
 pub run-append : (xs ys : List Piece) (m : Machine) → run (xs ++ ys) m ≡ option_and_then (λ n. run ys n) (run xs m)

@@ -9,7 +9,7 @@ use Rattle.odata_text.specs.Piece.{Piece, piece_of}
 use Rattle.odata_syntax.specs.declared.node.Node.{Node}
 use Rattle.odata_text.specs.declared.token.Token.{Token}
 use Rattle.odata_syntax.specs.TreeView.{tree_of}
-use Rattle.odata_syntax.specs.Machine.{Waiting, behind, Expected, operand, closed, Machine, Reduced, step_at, run, step, start}
+use Rattle.odata_syntax.specs.private.Machine.{Waiting, behind, Expected, operand, closed, Machine, Reduced, step_at, run, step, start}
 use Rattle.odata_syntax.specs.Tree.{Tree}
 use Rattle.odata_syntax.specs.Parse.{IsSpanOf}
 

@@ -12,11 +12,11 @@ use Rattle.odata_syntax.specs.declared.node.LiteralKind.{LiteralKind}
 use Rattle.odata_syntax.specs.Grammar.{Derives}
 use Rattle.odata_syntax.specs.Front.{opens, IsShallow, IsFront, IsWideFront}
 use Rattle.odata_syntax.specs.Parse.{IsParse, HasNoParse, IsFirstWrong, IsSyntaxFault}
-use Rattle.odata_syntax.specs.Machine.{Waiting, Expected, operand, closed, Machine, reduce, run, step, step_at, take_leaf, take_operator, start, finish, leaf_of_kind, operator_of_kind}
-use Rattle.odata_syntax.specs.MachineView.{RefusesEnd, Stops, StopsAt}
-use Rattle.odata_syntax.proofs.Run.{run-snoc, run-front}
-use Rattle.odata_syntax.proofs.Complete.{derived_finishes}
-use Rattle.odata_syntax.proofs.Sound.{run_derived}
+use Rattle.odata_syntax.specs.private.Machine.{Waiting, Expected, operand, closed, Machine, reduce, run, step, step_at, take_leaf, take_operator, start, finish, leaf_of_kind, operator_of_kind}
+use Rattle.odata_syntax.specs.private.MachineView.{RefusesEnd, Stops, StopsAt}
+use Rattle.odata_syntax.proofs.machine.Run.{run-snoc, run-front}
+use Rattle.odata_syntax.proofs.machine.Complete.{derived_finishes}
+use Rattle.odata_syntax.proofs.machine.Sound.{run_derived}
 
 -- the machine takes no `(`
 HasNoOpen : List Piece → Type 0

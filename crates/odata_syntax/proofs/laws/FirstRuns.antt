@@ -5,10 +5,10 @@ use Rattle.odata_syntax.specs.declared.node.BinaryOperator.{BinaryOperator}
 use Rattle.odata_syntax.specs.Tree.{node, name}
 use Rattle.odata_syntax.specs.Parse.{IsParse, IsUnended}
 use Rattle.odata_syntax.specs.FirstRun.{first_run, first_run_tree, active_and_id, name_eq}
-use Rattle.odata_syntax.specs.Machine.{Machine, behind, operand, closed, run, start, finish, word_operator, word_leaf}
+use Rattle.odata_syntax.specs.private.Machine.{Machine, behind, operand, closed, run, start, finish, word_operator, word_leaf}
 use Rattle.odata_syntax.specs.Tree.{literal}
 use Rattle.odata_syntax.specs.declared.node.LiteralKind.{LiteralKind}
-use Rattle.odata_syntax.proofs.Fronts.{run_front, run_parsed, ended_none}
+use Rattle.odata_syntax.proofs.machine.Fronts.{run_front, run_parsed, ended_none}
 
 -- behind the last token the two operators wait
 first_run_end : Machine
