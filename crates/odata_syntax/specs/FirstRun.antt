@@ -10,8 +10,8 @@ abbrev pub piece : TokenKind → ℕ → ℕ → List ℕ → Piece
 piece kind start stop text = record { kind = kind; start = start; stop = stop; text = text }
 
 -- `Active and ID eq 1 and Name eq 'a'`
-abbrev pub first_run : List Piece
-first_run =
+abbrev pub first_run_tokens : List Piece
+first_run_tokens =
     piece TokenKind.Word 0 6 (codes "Active")
     ∷ piece TokenKind.Word 7 10 (codes "and")
     ∷ piece TokenKind.Word 11 13 (codes "ID")
@@ -25,11 +25,15 @@ first_run =
 
 abbrev pub id_is_one : Tree
 id_is_one =
-    node 11 18 (binary BinaryOperator.Eq (node 11 13 (name (codes "ID"))) (node 17 18 (literal LiteralKind.Int (codes "1"))))
+    node 11 18 (binary BinaryOperator.Eq
+    (node 11 13 (name (codes "ID")))
+    (node 17 18 (literal LiteralKind.Int (codes "1"))))
 
 abbrev pub name_is_a : Tree
 name_is_a =
-    node 23 34 (binary BinaryOperator.Eq (node 23 27 (name (codes "Name"))) (node 31 34 (literal LiteralKind.Str (codes "'a'"))))
+    node 23 34 (binary BinaryOperator.Eq
+    (node 23 27 (name (codes "Name")))
+    (node 31 34 (literal LiteralKind.Str (codes "'a'"))))
 
 abbrev pub active_and_id : Tree
 active_and_id = node 0 18 (binary BinaryOperator.And (node 0 6 (name (codes "Active"))) id_is_one)

@@ -3,7 +3,7 @@ use Rattle.std.specs.Prelude.{ℕ, ◌+◌, ◌≤◌, List, ◌++◌, take, Boo
 use Rattle.odata_text.specs.declared.token.TokenKind.{TokenKind}
 use Rattle.odata_text.specs.Piece.{Piece}
 use Rattle.odata_syntax.specs.Tree.{Tree}
-use Rattle.odata_syntax.specs.Grammar.{Derives}
+use Rattle.odata_syntax.specs.Grammar.{or_level, Derives}
 
 -- `(` and `)`
 abbrev pub opens : TokenKind → Bool
@@ -20,19 +20,23 @@ open_count = count_by (λ p. opens p.kind)
 abbrev pub close_count : List Piece → ℕ
 close_count = count_by (λ p. closes p.kind)
 
--- no beginning has over 64 more `(` than `)`
+-- no more parentheses are open at once
+abbrev pub depth_limit : ℕ
+depth_limit = 64
+
+-- no beginning has more `(` without their `)` than may be open
 pub record IsShallow (ts : List Piece) : Type 0 where
-  pub within : (n : ℕ) → open_count (take n ts) ≤ close_count (take n ts) + 64
+  pub within : (n : ℕ) → open_count (take n ts) ≤ close_count (take n ts) + depth_limit
 
 -- some continuation is an expression, however deep
 pub record IsWideFront (ts : List Piece) : Type 0 where
   pub more : List Piece
   pub tree : Tree
-  pub derived : Derives 1 (ts ++ more) tree
+  pub derived : Derives or_level (ts ++ more) tree
 
--- some continuation is an expression, and nowhere deeper than 64
+-- some continuation is an expression, and nowhere too deep
 pub record IsFront (ts : List Piece) : Type 0 where
   pub more : List Piece
   pub tree : Tree
-  pub derived : Derives 1 (ts ++ more) tree
+  pub derived : Derives or_level (ts ++ more) tree
   pub shallow : IsShallow (ts ++ more)

@@ -6,19 +6,54 @@ use Rattle.odata_text.specs.Piece.{Piece}
 use Rattle.odata_syntax.specs.Tree.{Tree, node, start_of, stop_of, literal, name, binary}
 use Rattle.odata_syntax.specs.Lexeme.{IsLiteral, IsName, IsOperator}
 
--- how tightly a form binds (URL Conventions 4.01, 5.1.1, operator precedence): 1 or, 2 and, 3 equality, 4 relation,
--- 5 sum, 6 product, 7 unary, 8 primary, 9 base
+-- how tightly a form binds, the loosest first (URL Conventions 4.01, 5.1.1, operator precedence)
 abbrev pub Level : Type 0
 Level = ℕ
 
+-- a whole expression
+abbrev pub or_level : Level
+or_level = 1
+
+abbrev pub and_level : Level
+and_level = 2
+
+abbrev pub eq_level : Level
+eq_level = 3
+
+abbrev pub rel_level : Level
+rel_level = 4
+
+abbrev pub add_level : Level
+add_level = 5
+
+abbrev pub mul_level : Level
+mul_level = 6
+
+abbrev pub unary_level : Level
+unary_level = 7
+
+abbrev pub primary_level : Level
+primary_level = 8
+
+-- an operand without operators
+abbrev pub base_level : Level
+base_level = 9
+
+-- a path, and one behind which a step may stand
+abbrev pub path_level : Level
+path_level = 10
+
+abbrev pub open_path_level : Level
+open_path_level = 11
+
 -- the level of an operator's form
 abbrev pub operator_level : BinaryOperator → Level
-operator_level BinaryOperator.And = 2
-operator_level BinaryOperator.Eq = 3
+operator_level BinaryOperator.And = and_level
+operator_level BinaryOperator.Eq = eq_level
 
 -- an operator between two trees, from the start of the first to the stop of the second
-abbrev pub joined : BinaryOperator → Tree → Tree → Tree
-joined operator left right = node (start_of left) (stop_of right) (binary operator left right)
+abbrev pub binary_tree : BinaryOperator → Tree → Tree → Tree
+binary_tree operator left right = node (start_of left) (stop_of right) (binary operator left right)
 
 -- at this level, these tokens are this tree
 pub data Derives : Level → List Piece → Tree → Type 0 where
@@ -31,16 +66,16 @@ pub data Derives : Level → List Piece → Tree → Type 0 where
   derives_literal :
       {kind : LiteralKind} {t : Piece}
       → IsLiteral kind t
-      → Derives 9 (t ∷ []) (node t.start t.stop (literal kind t.text))
+      → Derives base_level (t ∷ []) (node t.start t.stop (literal kind t.text))
   -- one token that is a name
   derives_name :
       {t : Piece}
       → IsName t
-      → Derives 9 (t ∷ []) (node t.start t.stop (name t.text))
+      → Derives base_level (t ∷ []) (node t.start t.stop (name t.text))
   -- an operator, whose own form may stand again to its left alone
   derives_binary :
       {operator : BinaryOperator} {ls rs : List Piece} {t : Piece} {left right : Tree}
       → Derives (operator_level operator) ls left
       → IsOperator operator t
       → Derives (suc (operator_level operator)) rs right
-      → Derives (operator_level operator) (ls ++ (t ∷ rs)) (joined operator left right)
+      → Derives (operator_level operator) (ls ++ (t ∷ rs)) (binary_tree operator left right)

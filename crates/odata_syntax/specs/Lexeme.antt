@@ -16,7 +16,7 @@ pub record IsA (kind : TokenKind) (p : Piece) : Type 0 where
   pub of_kind : p.kind ≡ kind
 
 -- the token is this word
-pub record IsWord (word : List ℕ) (p : Piece) : Type 0 where
+pub record SpellsWord (word : List ℕ) (p : Piece) : Type 0 where
   pub of_kind : p.kind ≡ TokenKind.Word
   pub spelled : IsTrue (same_word p.text word)
 
@@ -26,11 +26,11 @@ operator_word BinaryOperator.And = codes "and"
 operator_word BinaryOperator.Eq = codes "eq"
 
 pub record IsOperator (operator : BinaryOperator) (p : Piece) : Type 0 where
-  pub word : IsWord (operator_word operator) p
+  pub word : SpellsWord (operator_word operator) p
 
 -- the token is a literal of this kind (URL Conventions 4.01, 5.1.1.14; ABNF 4.01, section 7)
 abbrev pub SpellsLiteral : LiteralKind → Piece → Type 0
-SpellsLiteral LiteralKind.Bool p = IsWord (codes "true") p ⊎ IsWord (codes "false") p
+SpellsLiteral LiteralKind.Bool p = SpellsWord (codes "true") p ⊎ SpellsWord (codes "false") p
 SpellsLiteral LiteralKind.Int p = IsA TokenKind.Int p
 SpellsLiteral LiteralKind.Str p = IsA TokenKind.Str p
 

@@ -4,15 +4,15 @@ use Rattle.odata_text.specs.declared.span.Span.{Span}
 use Rattle.odata_syntax.specs.declared.syntax_fault.SyntaxFault.{SyntaxFault}
 use Rattle.odata_text.specs.Piece.{Piece}
 use Rattle.odata_syntax.specs.Tree.{Tree}
-use Rattle.odata_syntax.specs.Grammar.{Derives}
+use Rattle.odata_syntax.specs.Grammar.{or_level, Derives}
 use Rattle.odata_syntax.specs.Front.{IsShallow, IsFront, IsWideFront}
 
--- the tree of a whole expression, with at most 64 open parentheses
+-- the tree of a whole expression, nowhere too deep
 pub record IsParse (ts : List Piece) (tree : Tree) : Type 0 where
-  pub derived : Derives 1 ts tree
+  pub derived : Derives or_level ts tree
   pub shallow : IsShallow ts
 
--- no tree is derived within the 64
+-- no tree is derived within that depth
 abbrev pub HasNoParse : List Piece → Type 0
 HasNoParse ts = (tree : Tree) → ¬ IsParse ts tree
 
@@ -29,7 +29,7 @@ pub record IsFirstWrong (ts : List Piece) (span : Span) : Type 0 where
   pub split : ts ≡ before ++ (token ∷ behind)
   pub front : IsFront before
   pub wrong : ¬ IsWideFront (before ++ (token ∷ []))
-  pub place : IsSpanOf token span
+  pub spanned : IsSpanOf token span
 
 -- the first token with which the tokens so far are no front, for their depth alone
 pub record IsFirstDeep (ts : List Piece) (span : Span) : Type 0 where
@@ -40,7 +40,7 @@ pub record IsFirstDeep (ts : List Piece) (span : Span) : Type 0 where
   pub front : IsFront before
   pub wide : IsWideFront (before ++ (token ∷ []))
   pub deep : ¬ IsFront (before ++ (token ∷ []))
-  pub place : IsSpanOf token span
+  pub spanned : IsSpanOf token span
 
 -- all tokens are a front and no tree: the empty span at the end of a text of this length
 pub record IsUnended (ts : List Piece) (len : ℕ) (span : Span) : Type 0 where

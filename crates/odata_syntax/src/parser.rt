@@ -5,12 +5,13 @@ ghost use Rattle.odata_syntax.specs.declared.syntax_fault.SyntaxFault.{SyntaxFau
 ghost use Rattle.odata_syntax.specs.Tree.{Tree};
 ghost use Rattle.odata_syntax.specs.TreeView.{tree_of};
 ghost use Rattle.odata_text.specs.Piece.{pieces_of};
-ghost use Rattle.odata_syntax.specs.Grammar.{Derives};
+ghost use Rattle.odata_syntax.specs.Grammar.{or_level, Derives};
 ghost use Rattle.odata_syntax.specs.Parse.{IsParse, HasNoParse, IsSyntaxFault};
 ghost use Rattle.odata_syntax.specs.private.Machine.{run, start};
-ghost use Rattle.odata_syntax.specs.private.MachineView.{machine_of, StopsAt};
+ghost use Rattle.odata_syntax.specs.private.MachineView.{machine_of, RefusesOneOf};
 
 mod frames;
+mod level;
 mod operand;
 mod operator;
 mod state;
@@ -30,7 +31,7 @@ pub fn parse(alloc: Global, tokens: &[Token<'_>], len: usize) -> Result<Expr, Sy
     ensures derived { IfOk result (λ expr. IsParse (pieces_of tokens.now) (tree_of expr)) }
     // it is the only one, at any depth
     ensures only { IfOk result (λ expr.
-        (tree : Tree) → Derives 1 (pieces_of tokens.now) tree → tree ≡ tree_of expr) }
+        (tree : Tree) → Derives or_level (pieces_of tokens.now) tree → tree ≡ tree_of expr) }
     ensures fault { IfErr result (λ fault.
         fault ≢ SyntaxFault.Memory → IsSyntaxFault (pieces_of tokens.now) len fault) }
     ensures none { IfErr result (λ fault. fault ≢ SyntaxFault.Memory → HasNoParse (pieces_of tokens.now)) }
@@ -43,7 +44,7 @@ pub fn parse(alloc: Global, tokens: &[Token<'_>], len: usize) -> Result<Expr, Sy
 /// The machine behind all tokens.
 fn take_all(alloc: Global, tokens: &[Token<'_>]) -> Result<State, SyntaxFault>
     ensures taken { IfOk result (λ state. run (pieces_of tokens.now) start ≡ Some (machine_of state)) }
-    ensures refused { IfErr result (StopsAt (pieces_of tokens.now)) }
+    ensures refused { IfErr result (RefusesOneOf (pieces_of tokens.now)) }
 {
     let mut state = State::new(alloc);
     for token in tokens {

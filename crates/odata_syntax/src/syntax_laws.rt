@@ -3,14 +3,15 @@ ghost use Rattle.std.specs.Prelude.{◌≡◌, ℕ, List};
 ghost use Rattle.odata_syntax.specs.declared.syntax_fault.SyntaxFault.{SyntaxFault};
 ghost use Rattle.odata_text.specs.Piece.{Piece};
 ghost use Rattle.odata_syntax.specs.Tree.{Tree};
-ghost use Rattle.odata_syntax.specs.Grammar.{Level, Derives};
+ghost use Rattle.odata_syntax.specs.Grammar.{Level, or_level, Derives};
 ghost use Rattle.odata_syntax.specs.Parse.{IsParse, HasNoParse, IsSyntaxFault, IsUnended};
 ghost use Rattle.odata_syntax.specs.Spans.{IsSpanned, IsSpannedWithin, IsWithin};
-ghost use Rattle.odata_syntax.specs.FirstRun.{first_run, first_run_tree, name_eq};
+ghost use Rattle.odata_syntax.specs.FirstRun.{first_run_tokens, first_run_tree, name_eq};
 
 /// Tokens are at most one expression.
 pub fn one_tree()
-    ensures { (ts : List Piece) (tree other : Tree) → Derives 1 ts tree → Derives 1 ts other → tree ≡ other }
+    ensures { (ts : List Piece) (tree other : Tree)
+        → Derives or_level ts tree → Derives or_level ts other → tree ≡ other }
 {}
 
 /// The span of a tree runs from its first to its last token, at each level.
@@ -21,7 +22,7 @@ pub fn tree_spans()
 /// So does that of each node of a tree: its tokens stand side by side.
 pub fn node_spans()
     ensures { (ts : List Piece) (tree part : Tree)
-        → Derives 1 ts tree → IsWithin part tree → IsSpannedWithin ts part }
+        → Derives or_level ts tree → IsWithin part tree → IsSpannedWithin ts part }
 {}
 
 /// Tokens have at most one fault.
@@ -37,7 +38,7 @@ pub fn fault_or_tree()
 
 /// `Active and ID eq 1 and Name eq 'a'` is the `and` of an `and` and an `eq`.
 pub fn first_run_parses()
-    ensures { IsParse first_run first_run_tree }
+    ensures { IsParse first_run_tokens first_run_tree }
 {}
 
 /// `Name eq` begins an expression and is none: the fault is the empty span behind it.

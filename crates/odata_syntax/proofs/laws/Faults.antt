@@ -28,15 +28,15 @@ record IsFirst (ts : List Piece) (span : Span) : Type 0 where
   split : ts ≡ before ++ (token ∷ behind)
   front : IsFront before
   beyond : ¬ IsFront (before ++ (token ∷ []))
-  place : IsSpanOf token span
+  spanned : IsSpanOf token span
 
 abbrev wrong_first : (ts : List Piece) (span : Span) → IsFirstWrong ts span → IsFirst ts span
-wrong_first ts span w = record { before = w.before; token = w.token; behind = w.behind; split = w.split; front = w.front; beyond = λ f. w.wrong (wide_front (w.before ++ (w.token ∷ [])) f); place = w.place }
+wrong_first ts span w = record { before = w.before; token = w.token; behind = w.behind; split = w.split; front = w.front; beyond = λ f. w.wrong (wide_front (w.before ++ (w.token ∷ [])) f); spanned = w.spanned }
 
 abbrev deep_first : (ts : List Piece) (span : Span) → IsFirstDeep ts span → IsFirst ts span
-deep_first ts span d = record { before = d.before; token = d.token; behind = d.behind; split = d.split; front = d.front; beyond = d.deep; place = d.place }
+deep_first ts span d = record { before = d.before; token = d.token; behind = d.behind; split = d.split; front = d.front; beyond = d.deep; spanned = d.spanned }
 
--- two places in one list are the same, or one is before the other
+-- a token at which a list is split twice is the same, or one stands before the other
 meets : (xs us : List Piece) (y v : Piece) (ys vs : List Piece) → xs ++ (y ∷ ys) ≡ us ++ (v ∷ vs) → ((xs ≡ us) × (y ≡ v)) ⊎ (((mid : List Piece) × (us ≡ xs ++ (y ∷ mid))) ⊎ ((mid : List Piece) × (xs ≡ us ++ (v ∷ mid))))
 meets [] [] y v ys vs e = inl (refl, cc)
 meets [] (u ∷ us) y v ys vs e = inr (inl (us, cc))
@@ -65,11 +65,11 @@ same_span a b s t =
     ap (λ n. made n a.stop) s ∙ ap (λ n. made b.start n) t
 
 -- the same token is the first
-record IsSame (x y : List Piece) (p q : Piece) : Type 0 where
+record SameToken (x y : List Piece) (p q : Piece) : Type 0 where
   befores : x ≡ y
   tokens : p ≡ q
 
-first_same : (ts : List Piece) (span other : Span) (f : IsFirst ts span) (g : IsFirst ts other) → IsSame f.before g.before f.token g.token
+first_same : (ts : List Piece) (span other : Span) (f : IsFirst ts span) (g : IsFirst ts other) → SameToken f.before g.before f.token g.token
 first_same ts span other f g =
     elim (meets f.before g.before f.token g.token f.behind g.behind (sym f.split ∙ g.split)) [
       | inl same ↦ record { befores = same.0; tokens = same.1 }
@@ -83,7 +83,7 @@ span_of_token : (p q : Piece) (a b : Span) → p ≡ q → IsSpanOf p a → IsSp
 span_of_token p q a b e h k = same_span a b (h.start_is ∙ ap (λ (t : Piece). t.start) e ∙ sym k.start_is) (h.stop_is ∙ ap (λ (t : Piece). t.stop) e ∙ sym k.stop_is)
 
 first_span : (ts : List Piece) (span other : Span) → IsFirst ts span → IsFirst ts other → span ≡ other
-first_span ts span other f g = span_of_token f.token g.token span other (first_same ts span other f g).tokens f.place g.place
+first_span ts span other f g = span_of_token f.token g.token span other (first_same ts span other f g).tokens f.spanned g.spanned
 
 -- such a token, or none
 first_unended : (ts : List Piece) (len : ℕ) (span other : Span) → IsFirst ts span → IsUnended ts len other → ⊥

@@ -4,8 +4,8 @@ use Rattle.std.specs.Prelude.{codes}
 use Rattle.odata_syntax.specs.declared.node.BinaryOperator.{BinaryOperator}
 use Rattle.odata_syntax.specs.Tree.{node, name}
 use Rattle.odata_syntax.specs.Parse.{IsParse, IsUnended}
-use Rattle.odata_syntax.specs.FirstRun.{first_run, first_run_tree, active_and_id, name_eq}
-use Rattle.odata_syntax.specs.private.Machine.{Machine, behind, operand, closed, run, start, finish, word_operator, word_leaf}
+use Rattle.odata_syntax.specs.FirstRun.{first_run_tokens, first_run_tree, active_and_id, name_eq}
+use Rattle.odata_syntax.specs.private.Machine.{Machine, behind, operand, operator_or_end, run, start, finish, word_operator, word_leaf}
 use Rattle.odata_syntax.specs.Tree.{literal}
 use Rattle.odata_syntax.specs.declared.node.LiteralKind.{LiteralKind}
 use Rattle.odata_syntax.proofs.machine.Fronts.{run_front, run_parsed, ended_none}
@@ -15,10 +15,10 @@ first_run_end : Machine
 first_run_end =
     record {
       waiting = behind BinaryOperator.Eq (node 23 27 (name (codes "Name"))) ∷ behind BinaryOperator.And active_and_id ∷ [];
-      expected = closed (node 31 34 (literal LiteralKind.Str (codes "'a'")));
+      expected = operator_or_end (node 31 34 (literal LiteralKind.Str (codes "'a'")));
     }
 
-first_run_taken : run first_run start ≡ Some first_run_end
+first_run_taken : run first_run_tokens start ≡ Some first_run_end
 unfolding word_operator word_leaf first_run_end
 first_run_taken = refl
 
@@ -26,8 +26,8 @@ first_run_finished : finish first_run_end ≡ Some first_run_tree
 unfolding first_run_end
 first_run_finished = refl
 
-pub first_run_parsed : IsParse first_run first_run_tree
-first_run_parsed = run_parsed first_run first_run_end first_run_tree first_run_taken first_run_finished
+pub first_run_parsed : IsParse first_run_tokens first_run_tree
+first_run_parsed = run_parsed first_run_tokens first_run_end first_run_tree first_run_taken first_run_finished
 
 name_eq_end : Machine
 name_eq_end = record { waiting = behind BinaryOperator.Eq (node 0 4 (name (codes "Name"))) ∷ []; expected = operand }

@@ -5,7 +5,7 @@ use Rattle.odata_syntax.specs.declared.node.BinaryOperator.{BinaryOperator}
 use Rattle.odata_syntax.specs.declared.node.LiteralKind.{LiteralKind}
 use Rattle.odata_text.specs.Piece.{Piece}
 use Rattle.odata_syntax.specs.Tree.{Tree, node, literal, name, binary, start_of, stop_of}
-use Rattle.odata_syntax.specs.Grammar.{Level, joined, Derives, looser, derives_literal, derives_name, derives_binary}
+use Rattle.odata_syntax.specs.Grammar.{Level, binary_tree, Derives, looser, derives_literal, derives_name, derives_binary}
 use Rattle.odata_syntax.specs.Spans.{IsWithin, is_root, in_left, in_right, IsSpanned, IsSpannedWithin}
 
 one_token : (t : Piece) (tree : Tree) → start_of tree ≡ t.start → stop_of tree ≡ t.stop → IsSpanned (t ∷ []) tree
@@ -67,4 +67,4 @@ within_spanned (looser d) part w = within_spanned d part w
 within_spanned (derives_literal {kind = kind} {t = t} l) part w = whole (t ∷ []) (node t.start t.stop (literal kind t.text)) part (within_literal w) (one_token t (node t.start t.stop (literal kind t.text)) refl refl)
 within_spanned (derives_name {t = t} n) part w = whole (t ∷ []) (node t.start t.stop (name t.text)) part (within_name w) (one_token t (node t.start t.stop (name t.text)) refl refl)
 within_spanned (derives_binary {operator = operator} {ls = ls} {rs = rs} {t = t} {left = left} {right = right} dl o dr) part w =
-    within_either ls rs t left right part (joined operator left right) (derived_spanned (derives_binary dl o dr)) (λ v. within_spanned dl part v) (λ v. within_spanned dr part v) (within_binary w)
+    within_either ls rs t left right part (binary_tree operator left right) (derived_spanned (derives_binary dl o dr)) (λ v. within_spanned dl part v) (λ v. within_spanned dr part v) (within_binary w)

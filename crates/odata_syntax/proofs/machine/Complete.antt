@@ -6,8 +6,8 @@ use Rattle.odata_syntax.specs.declared.node.BinaryOperator.{BinaryOperator}
 use Rattle.odata_syntax.specs.declared.parser.operand.Leaf.{Leaf}
 use Rattle.odata_text.specs.Piece.{Piece}
 use Rattle.odata_syntax.specs.Tree.{Tree}
-use Rattle.odata_syntax.specs.Grammar.{Level, operator_level, Derives, looser, derives_literal, derives_name, derives_binary}
-use Rattle.odata_syntax.specs.private.Machine.{Waiting, behind, operand, closed, Machine, waiting_level, joined_to, IsHeld, reduce, run, start, finish, leaf_of_kind, leaf_tree, operator_of_kind}
+use Rattle.odata_syntax.specs.Grammar.{Level, or_level, operator_level, Derives, looser, derives_literal, derives_name, derives_binary}
+use Rattle.odata_syntax.specs.private.Machine.{Waiting, behind, operand, operator_or_end, Machine, waiting_level, join_waiting, IsHeld, reduce, run, start, finish, leaf_of_kind, leaf_tree, operator_of_kind}
 use Rattle.odata_syntax.proofs.machine.Run.{run-append}
 use Rattle.odata_syntax.proofs.machine.Lexemes.{operator_found, literal_found, name_found}
 
@@ -17,7 +17,7 @@ reduce-held level [] tree h = refl
 reduce-held level (w ∷ below) tree h = rw (lt-leb level (waiting_level w) h) refl
 
 -- the innermost is joined
-reduce-joined : (level : Level) (w : Waiting) (below : List Waiting) (tree : Tree) → level ≤ waiting_level w → reduce level (w ∷ below) tree ≡ reduce level below (joined_to w tree)
+reduce-joined : (level : Level) (w : Waiting) (below : List Waiting) (tree : Tree) → level ≤ waiting_level w → reduce level (w ∷ below) tree ≡ reduce level below (join_waiting w tree)
 reduce-joined level w below tree h = rw (le-leb level (waiting_level w) h) refl
 
 -- what is held before a level is held before a tighter one
@@ -30,15 +30,15 @@ held_tighter level (w ∷ below) h = omega arith
 record Completes (level : Level) (ts : List Piece) (tree : Tree) (waiting : List Waiting) : Type 0 where
   waits : List Waiting
   grown : Tree
-  taken : run ts (record { waiting = waiting; expected = operand }) ≡ Some (record { waiting = waits; expected = closed grown })
+  taken : run ts (record { waiting = waiting; expected = operand }) ≡ Some (record { waiting = waits; expected = operator_or_end grown })
   same : (looser_level : ℕ) → looser_level ≤ level → reduce looser_level waits grown ≡ reduce looser_level waiting tree
 
-leaf_taken : (waiting : List Waiting) (p : Piece) (leaf : Leaf) → leaf_of_kind p.kind p.text ≡ Some leaf → run (p ∷ []) (record { waiting = waiting; expected = operand }) ≡ Some (record { waiting = waiting; expected = closed (leaf_tree leaf p) })
+leaf_taken : (waiting : List Waiting) (p : Piece) (leaf : Leaf) → leaf_of_kind p.kind p.text ≡ Some leaf → run (p ∷ []) (record { waiting = waiting; expected = operand }) ≡ Some (record { waiting = waiting; expected = operator_or_end (leaf_tree leaf p) })
 leaf_taken waiting p leaf e = rw e refl
 
-binary_taken : (ls rs : List Piece) (t : Piece) (operator : BinaryOperator) (left : Tree) (waiting waits : List Waiting) (grown : Tree) (next : Machine) → run ls (record { waiting = waiting; expected = operand }) ≡ Some (record { waiting = waits; expected = closed grown }) → operator_of_kind t.kind t.text ≡ Some operator → reduce (operator_level operator) waits grown ≡ record { waiting = waiting; tree = left } → run rs (record { waiting = behind operator left ∷ waiting; expected = operand }) ≡ Some next → run (ls ++ (t ∷ rs)) (record { waiting = waiting; expected = operand }) ≡ Some next
+binary_taken : (ls rs : List Piece) (t : Piece) (operator : BinaryOperator) (left : Tree) (waiting waits : List Waiting) (grown : Tree) (next : Machine) → run ls (record { waiting = waiting; expected = operand }) ≡ Some (record { waiting = waits; expected = operator_or_end grown }) → operator_of_kind t.kind t.text ≡ Some operator → reduce (operator_level operator) waits grown ≡ record { waiting = waiting; tree = left } → run rs (record { waiting = behind operator left ∷ waiting; expected = operand }) ≡ Some next → run (ls ++ (t ∷ rs)) (record { waiting = waiting; expected = operand }) ≡ Some next
 binary_taken ls rs t operator left waiting waits grown next first found reduced second =
-    let last : run (t ∷ rs) (record { waiting = waits; expected = closed grown }) ≡ Some next = rw (found, reduced) second in
+    let last : run (t ∷ rs) (record { waiting = waits; expected = operator_or_end grown }) ≡ Some next = rw (found, reduced) second in
     run-append ls (t ∷ rs) (record { waiting = waiting; expected = operand }) ∙ ap (λ o. option_and_then (λ k. run (t ∷ rs) k) o) first ∙ last
 
 complete : {level : Level} {ts : List Piece} {tree : Tree} → Derives level ts tree → (waiting : List Waiting) → IsHeld level waiting → Completes level ts tree waiting
@@ -56,7 +56,7 @@ complete (derives_binary {operator = operator} {ls = ls} {rs = rs} {t = t} {left
     record {
       waits = second.waits;
       grown = second.grown;
-      taken = binary_taken ls rs t operator left waiting first.waits first.grown (record { waiting = second.waits; expected = closed second.grown }) first.taken (operator_found o) reduced second.taken;
+      taken = binary_taken ls rs t operator left waiting first.waits first.grown (record { waiting = second.waits; expected = operator_or_end second.grown }) first.taken (operator_found o) reduced second.taken;
       same = λ q le. second.same q (omega arith) ∙ reduce-joined q (behind operator left) waiting right le;
     }
 
@@ -66,8 +66,8 @@ pub record Finishes (ts : List Piece) (tree : Tree) : Type 0 where
   pub taken : run ts start ≡ Some ended
   pub finished : finish ended ≡ Some tree
 
-pub derived_finishes : {ts : List Piece} {tree : Tree} → Derives 1 ts tree → Finishes ts tree
+pub derived_finishes : {ts : List Piece} {tree : Tree} → Derives or_level ts tree → Finishes ts tree
 derived_finishes {ts} {tree} d =
     let whole = complete d [] tt in
-    let same : reduce 1 whole.waits whole.grown ≡ record { waiting = []; tree = tree } = whole.same 1 (omega arith) in
-    record { ended = record { waiting = whole.waits; expected = closed whole.grown }; taken = whole.taken; finished = ap (λ r. Some r.tree) same }
+    let same : reduce or_level whole.waits whole.grown ≡ record { waiting = []; tree = tree } = whole.same or_level (omega arith) in
+    record { ended = record { waiting = whole.waits; expected = operator_or_end whole.grown }; taken = whole.taken; finished = ap (λ r. Some r.tree) same }

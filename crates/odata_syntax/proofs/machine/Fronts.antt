@@ -9,11 +9,11 @@ use Rattle.odata_syntax.specs.declared.syntax_fault.SyntaxFault.{SyntaxFault}
 use Rattle.odata_text.specs.Piece.{Piece}
 use Rattle.odata_syntax.specs.Tree.{Tree, node, literal}
 use Rattle.odata_syntax.specs.declared.node.LiteralKind.{LiteralKind}
-use Rattle.odata_syntax.specs.Grammar.{Derives}
+use Rattle.odata_syntax.specs.Grammar.{or_level, Derives}
 use Rattle.odata_syntax.specs.Front.{opens, IsShallow, IsFront, IsWideFront}
 use Rattle.odata_syntax.specs.Parse.{IsParse, HasNoParse, IsFirstWrong, IsSyntaxFault}
-use Rattle.odata_syntax.specs.private.Machine.{Waiting, Expected, operand, closed, Machine, reduce, run, step, step_at, take_leaf, take_operator, start, finish, leaf_of_kind, operator_of_kind}
-use Rattle.odata_syntax.specs.private.MachineView.{RefusesEnd, Stops, StopsAt}
+use Rattle.odata_syntax.specs.private.Machine.{Waiting, Expected, operand, operator_or_end, Machine, reduce, run, step, step_at, take_leaf, take_operator, start, finish, leaf_of_kind, operator_of_kind}
+use Rattle.odata_syntax.specs.private.MachineView.{RefusesEnd, IsStuck, RefusesOneOf}
 use Rattle.odata_syntax.proofs.machine.Run.{run-snoc, run-front}
 use Rattle.odata_syntax.proofs.machine.Complete.{derived_finishes}
 use Rattle.odata_syntax.proofs.machine.Sound.{run_derived}
@@ -33,7 +33,7 @@ operator_no_open _ text waiting tree n e = refl
 
 step_no_open : (expected : Expected) (waiting : List Waiting) (p : Piece) (n : Machine) → step_at expected waiting p ≡ Some n → opens p.kind ≡ false
 step_no_open operand waiting p n e = leaf_no_open p.kind p.text waiting p n e
-step_no_open (closed tree) waiting p n e = operator_no_open p.kind p.text waiting tree n e
+step_no_open (operator_or_end tree) waiting p n e = operator_no_open p.kind p.text waiting tree n e
 
 run_no_open : (ts : List Piece) (m n : Machine) → run ts m ≡ Some n → HasNoOpen ts
 unfolding HasNoOpen
@@ -62,7 +62,7 @@ run_shallow ts m e =
 pub run_parsed : (ts : List Piece) (m : Machine) (tree : Tree) → run ts start ≡ Some m → finish m ≡ Some tree → IsParse ts tree
 run_parsed ts m tree taken ended = record { derived = run_derived ts m tree taken ended; shallow = run_shallow ts m taken }
 
-pub run_only : (ts : List Piece) (m : Machine) (tree : Tree) → run ts start ≡ Some m → finish m ≡ Some tree → (other : Tree) → Derives 1 ts other → other ≡ tree
+pub run_only : (ts : List Piece) (m : Machine) (tree : Tree) → run ts start ≡ Some m → finish m ≡ Some tree → (other : Tree) → Derives or_level ts other → other ≡ tree
 run_only ts m tree taken ended other d =
     let ends = derived_finishes d in
     let same : ends.ended ≡ m = same_Some ends.ended m (sym ends.taken ∙ taken) in
@@ -83,12 +83,12 @@ finish_closed ts m tree taken ended =
 -- what the machine has taken begins an expression
 run_front_at : (ts : List Piece) (expected : Expected) (waiting : List Waiting) → run ts start ≡ Some (record { waiting = waiting; expected = expected }) → IsFront ts
 unfolding number leaf_number
-run_front_at ts (closed tree) waiting taken = finish_closed ts (record { waiting = waiting; expected = closed tree }) (reduce 1 waiting tree).tree taken refl
+run_front_at ts (operator_or_end tree) waiting taken = finish_closed ts (record { waiting = waiting; expected = operator_or_end tree }) (reduce or_level waiting tree).tree taken refl
 run_front_at ts operand waiting taken =
-    let last : Machine = record { waiting = waiting; expected = closed leaf_number } in
+    let last : Machine = record { waiting = waiting; expected = operator_or_end leaf_number } in
     let more : run (ts ++ (number ∷ [])) start ≡ Some last = run-snoc ts number start (record { waiting = waiting; expected = operand }) taken in
-    let whole = run_parsed (ts ++ (number ∷ [])) last (reduce 1 waiting leaf_number).tree more refl in
-    record { more = number ∷ []; tree = (reduce 1 waiting leaf_number).tree; derived = whole.derived; shallow = whole.shallow }
+    let whole = run_parsed (ts ++ (number ∷ [])) last (reduce or_level waiting leaf_number).tree more refl in
+    record { more = number ∷ []; tree = (reduce or_level waiting leaf_number).tree; derived = whole.derived; shallow = whole.shallow }
 
 pub run_front : (ts : List Piece) (m : Machine) → run ts start ≡ Some m → IsFront ts
 run_front ts m taken = run_front_at ts m.expected m.waiting taken
@@ -102,25 +102,25 @@ stuck_wrong before token m taken stuck front =
     absurd (cc)
 
 -- the fault of a stop
-stops_wrong : (ts : List Piece) (span : Span) → Stops ts span → IsFirstWrong ts span
-stops_wrong ts span s =
-    record { before = s.before; token = s.token; behind = s.behind; split = s.split; front = run_front s.before s.reached s.takes; wrong = stuck_wrong s.before s.token s.reached s.takes s.stuck; place = s.place }
+first_stuck_wrong : (ts : List Piece) (span : Span) → IsStuck ts span → IsFirstWrong ts span
+first_stuck_wrong ts span s =
+    record { before = s.before; token = s.token; behind = s.behind; split = s.split; front = run_front s.before s.reached s.takes; wrong = stuck_wrong s.before s.token s.reached s.takes s.stuck; spanned = s.spanned }
 
 wrong_none : (ts : List Piece) (span : Span) → IsFirstWrong ts span → HasNoParse ts
 wrong_none ts span w tree parse =
-    let P : List Piece → Type 0 = λ k. Derives 1 k tree in
-    let whole : Derives 1 ((w.before ++ (w.token ∷ [])) ++ w.behind) tree = rw append_assoc (subst P w.split parse.derived) in
+    let P : List Piece → Type 0 = λ k. Derives or_level k tree in
+    let whole : Derives or_level ((w.before ++ (w.token ∷ [])) ++ w.behind) tree = rw append_assoc (subst P w.split parse.derived) in
     w.wrong (record { more = w.behind; tree = tree; derived = whole })
 
-pub stopped_fault : (ts : List Piece) (len : ℕ) (fault : SyntaxFault) → StopsAt ts fault → fault ≢ SyntaxFault.Memory → IsSyntaxFault ts len fault
-stopped_fault ts len (SyntaxFault.Unexpected span) s h = inl (stops_wrong ts span s)
-stopped_fault ts len (SyntaxFault.TooDeep span) s h = absurd s
-stopped_fault ts len SyntaxFault.Memory s h = absurd (h refl)
+pub stuck_fault : (ts : List Piece) (len : ℕ) (fault : SyntaxFault) → RefusesOneOf ts fault → fault ≢ SyntaxFault.Memory → IsSyntaxFault ts len fault
+stuck_fault ts len (SyntaxFault.Unexpected span) s h = inl (first_stuck_wrong ts span s)
+stuck_fault ts len (SyntaxFault.TooDeep span) s h = absurd s
+stuck_fault ts len SyntaxFault.Memory s h = absurd (h refl)
 
-pub stopped_none : (ts : List Piece) (fault : SyntaxFault) → StopsAt ts fault → fault ≢ SyntaxFault.Memory → HasNoParse ts
-stopped_none ts (SyntaxFault.Unexpected span) s h = wrong_none ts span (stops_wrong ts span s)
-stopped_none ts (SyntaxFault.TooDeep span) s h = absurd s
-stopped_none ts SyntaxFault.Memory s h = absurd (h refl)
+pub stuck_none : (ts : List Piece) (fault : SyntaxFault) → RefusesOneOf ts fault → fault ≢ SyntaxFault.Memory → HasNoParse ts
+stuck_none ts (SyntaxFault.Unexpected span) s h = wrong_none ts span (first_stuck_wrong ts span s)
+stuck_none ts (SyntaxFault.TooDeep span) s h = absurd s
+stuck_none ts SyntaxFault.Memory s h = absurd (h refl)
 
 -- the fault of an end
 pub ended_none : (ts : List Piece) (m : Machine) → run ts start ≡ Some m → finish m ≡ None → HasNoParse ts
@@ -141,7 +141,7 @@ unended_none ts m len (SyntaxFault.TooDeep span) taken r h = absurd r
 unended_none ts m len SyntaxFault.Memory taken r h = absurd (h refl)
 
 -- tokens are at most one tree
-pub derived_once : (ts : List Piece) (tree other : Tree) → Derives 1 ts tree → Derives 1 ts other → tree ≡ other
+pub derived_once : (ts : List Piece) (tree other : Tree) → Derives or_level ts tree → Derives or_level ts other → tree ≡ other
 derived_once ts tree other d e =
     let ends = derived_finishes e in
     run_only ts ends.ended other ends.taken ends.finished tree d

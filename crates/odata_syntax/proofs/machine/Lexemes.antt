@@ -10,8 +10,8 @@ use Rattle.odata_syntax.specs.declared.node.LiteralKind.{LiteralKind}
 use Rattle.odata_text.specs.declared.token.TokenKind.{TokenKind}
 use Rattle.odata_syntax.specs.declared.parser.operand.Leaf.{Leaf}
 use Rattle.odata_text.specs.Piece.{Piece}
-use Rattle.odata_syntax.specs.Lexeme.{IsWord, operator_word, IsOperator, SpellsLiteral, IsLiteral, IsName, reserved_words, same_word}
-use Rattle.odata_syntax.specs.Grammar.{Derives, derives_literal, derives_name}
+use Rattle.odata_syntax.specs.Lexeme.{SpellsWord, operator_word, IsOperator, SpellsLiteral, IsLiteral, IsName, reserved_words, same_word}
+use Rattle.odata_syntax.specs.Grammar.{base_level, Derives, derives_literal, derives_name}
 use Rattle.odata_syntax.specs.private.Machine.{word_operator, operator_of_kind, word_leaf, leaf_of_kind, leaf_tree}
 
 -- a text that is one word is no other
@@ -84,7 +84,7 @@ name_word_found : (text : List ℕ) → ¬ IsTrue (list_any (same_word text) res
 unfolding word_leaf
 name_word_found text h = none_of (Some (Leaf.Lit LiteralKind.Bool)) None (Some Leaf.Name) (same_word text (codes "true")) (same_word text (codes "false")) (same_word text (codes "null")) (same_word text (codes "not")) h
 
-boolean_found : (p : Piece) → IsWord (codes "true") p ⊎ IsWord (codes "false") p → leaf_of_kind p.kind p.text ≡ Some (Leaf.Lit LiteralKind.Bool)
+boolean_found : (p : Piece) → SpellsWord (codes "true") p ⊎ SpellsWord (codes "false") p → leaf_of_kind p.kind p.text ≡ Some (Leaf.Lit LiteralKind.Bool)
 boolean_found p (inl w) = rw w.of_kind (true_found p.text w.spelled)
 boolean_found p (inr w) = rw w.of_kind (false_found p.text w.spelled)
 
@@ -115,38 +115,38 @@ leaf_tested false false false true leaf e = absurd (cc)
 leaf_tested false false false false leaf e = subst (λ (l : Leaf). IsLeaf false false false false l) (same_Some Leaf.Name leaf e) (λ (h : false ≡ true). cc)
 
 -- the kind and the word of an operand
-LeafSays : TokenKind → List ℕ → Leaf → Type 0
-LeafSays kind text (Leaf.Lit LiteralKind.Bool) = (kind ≡ TokenKind.Word) × ((same_word text (codes "true") ≡ true) ⊎ (same_word text (codes "false") ≡ true))
-LeafSays kind text (Leaf.Lit LiteralKind.Int) = kind ≡ TokenKind.Int
-LeafSays kind text (Leaf.Lit LiteralKind.Str) = kind ≡ TokenKind.Str
-LeafSays kind text Leaf.Name = (kind ≡ TokenKind.Word) × (¬ IsTrue (list_any (same_word text) reserved_words))
+SpellsLeaf : TokenKind → List ℕ → Leaf → Type 0
+SpellsLeaf kind text (Leaf.Lit LiteralKind.Bool) = (kind ≡ TokenKind.Word) × ((same_word text (codes "true") ≡ true) ⊎ (same_word text (codes "false") ≡ true))
+SpellsLeaf kind text (Leaf.Lit LiteralKind.Int) = kind ≡ TokenKind.Int
+SpellsLeaf kind text (Leaf.Lit LiteralKind.Str) = kind ≡ TokenKind.Str
+SpellsLeaf kind text Leaf.Name = (kind ≡ TokenKind.Word) × (¬ IsTrue (list_any (same_word text) reserved_words))
 
-word_leaf_says : (text : List ℕ) (leaf : Leaf) → IsLeaf (same_word text (codes "true")) (same_word text (codes "false")) (same_word text (codes "null")) (same_word text (codes "not")) leaf → LeafSays TokenKind.Word text leaf
-unfolding IsLeaf LeafSays
-word_leaf_says text (Leaf.Lit LiteralKind.Bool) h = (refl, h)
-word_leaf_says text (Leaf.Lit LiteralKind.Int) h = absurd h
-word_leaf_says text (Leaf.Lit LiteralKind.Str) h = absurd h
-word_leaf_says text Leaf.Name h = (refl, h)
+word_leaf_spelled : (text : List ℕ) (leaf : Leaf) → IsLeaf (same_word text (codes "true")) (same_word text (codes "false")) (same_word text (codes "null")) (same_word text (codes "not")) leaf → SpellsLeaf TokenKind.Word text leaf
+unfolding IsLeaf SpellsLeaf
+word_leaf_spelled text (Leaf.Lit LiteralKind.Bool) h = (refl, h)
+word_leaf_spelled text (Leaf.Lit LiteralKind.Int) h = absurd h
+word_leaf_spelled text (Leaf.Lit LiteralKind.Str) h = absurd h
+word_leaf_spelled text Leaf.Name h = (refl, h)
 
-leaf_says : (kind : TokenKind) (text : List ℕ) (leaf : Leaf) → leaf_of_kind kind text ≡ Some leaf → LeafSays kind text leaf
-unfolding LeafSays word_leaf
-leaf_says TokenKind.Word text leaf e = word_leaf_says text leaf (leaf_tested (same_word text (codes "true")) (same_word text (codes "false")) (same_word text (codes "null")) (same_word text (codes "not")) leaf e)
-leaf_says TokenKind.Int text leaf e = subst (λ (l : Leaf). LeafSays TokenKind.Int text l) (same_Some (Leaf.Lit LiteralKind.Int) leaf e) refl
-leaf_says TokenKind.Str text leaf e = subst (λ (l : Leaf). LeafSays TokenKind.Str text l) (same_Some (Leaf.Lit LiteralKind.Str) leaf e) refl
-leaf_says _ text leaf e = absurd (cc)
+leaf_spelled : (kind : TokenKind) (text : List ℕ) (leaf : Leaf) → leaf_of_kind kind text ≡ Some leaf → SpellsLeaf kind text leaf
+unfolding SpellsLeaf word_leaf
+leaf_spelled TokenKind.Word text leaf e = word_leaf_spelled text leaf (leaf_tested (same_word text (codes "true")) (same_word text (codes "false")) (same_word text (codes "null")) (same_word text (codes "not")) leaf e)
+leaf_spelled TokenKind.Int text leaf e = subst (λ (l : Leaf). SpellsLeaf TokenKind.Int text l) (same_Some (Leaf.Lit LiteralKind.Int) leaf e) refl
+leaf_spelled TokenKind.Str text leaf e = subst (λ (l : Leaf). SpellsLeaf TokenKind.Str text l) (same_Some (Leaf.Lit LiteralKind.Str) leaf e) refl
+leaf_spelled _ text leaf e = absurd (cc)
 
-boolean_word : (p : Piece) → p.kind ≡ TokenKind.Word → (same_word p.text (codes "true") ≡ true) ⊎ (same_word p.text (codes "false") ≡ true) → IsWord (codes "true") p ⊎ IsWord (codes "false") p
+boolean_word : (p : Piece) → p.kind ≡ TokenKind.Word → (same_word p.text (codes "true") ≡ true) ⊎ (same_word p.text (codes "false") ≡ true) → SpellsWord (codes "true") p ⊎ SpellsWord (codes "false") p
 boolean_word p k (inl h) = inl (record { of_kind = k; spelled = h })
 boolean_word p k (inr h) = inr (record { of_kind = k; spelled = h })
 
 -- an operand that the machine finds is derived
-pub leaf_derived : (p : Piece) (leaf : Leaf) → leaf_of_kind p.kind p.text ≡ Some leaf → Derives 9 (p ∷ []) (leaf_tree leaf p)
-unfolding LeafSays
+pub leaf_derived : (p : Piece) (leaf : Leaf) → leaf_of_kind p.kind p.text ≡ Some leaf → Derives base_level (p ∷ []) (leaf_tree leaf p)
+unfolding SpellsLeaf
 leaf_derived p (Leaf.Lit LiteralKind.Bool) e =
-    let says = leaf_says p.kind p.text (Leaf.Lit LiteralKind.Bool) e in
-    derives_literal (record { spelled = boolean_word p says.0 says.1 })
-leaf_derived p (Leaf.Lit LiteralKind.Int) e = derives_literal (record { spelled = record { of_kind = leaf_says p.kind p.text (Leaf.Lit LiteralKind.Int) e } })
-leaf_derived p (Leaf.Lit LiteralKind.Str) e = derives_literal (record { spelled = record { of_kind = leaf_says p.kind p.text (Leaf.Lit LiteralKind.Str) e } })
+    let spelled = leaf_spelled p.kind p.text (Leaf.Lit LiteralKind.Bool) e in
+    derives_literal (record { spelled = boolean_word p spelled.0 spelled.1 })
+leaf_derived p (Leaf.Lit LiteralKind.Int) e = derives_literal (record { spelled = record { of_kind = leaf_spelled p.kind p.text (Leaf.Lit LiteralKind.Int) e } })
+leaf_derived p (Leaf.Lit LiteralKind.Str) e = derives_literal (record { spelled = record { of_kind = leaf_spelled p.kind p.text (Leaf.Lit LiteralKind.Str) e } })
 leaf_derived p Leaf.Name e =
-    let says = leaf_says p.kind p.text Leaf.Name e in
-    derives_name (record { of_kind = says.0; free = says.1 })
+    let spelled = leaf_spelled p.kind p.text Leaf.Name e in
+    derives_name (record { of_kind = spelled.0; free = spelled.1 })

@@ -3,7 +3,7 @@ use Rattle.std.proofs.Common.{◌≡◌, refl, ℕ, ◌+◌, ◌<◌, List, [], 
 use Rattle.std.proofs.lemmas.List.{map-append, take-append-drop, take_more}
 use Rattle.odata_text.specs.declared.token.Token.{Token}
 use Rattle.odata_syntax.specs.declared.syntax_fault.SyntaxFault.{SyntaxFault}
-use Rattle.odata_syntax.specs.private.MachineView.{Refuses, StopsAt}
+use Rattle.odata_syntax.specs.private.MachineView.{Refuses, RefusesOneOf}
 use Rattle.std.specs.Prelude.{option_and_then}
 use Rattle.odata_text.specs.Piece.{Piece, piece_of, pieces_of}
 use Rattle.odata_syntax.specs.private.Machine.{Machine, run, step, start}
@@ -35,8 +35,8 @@ pub taken_more : (ts : List Token) (i : ℕ) (d : Token) (m n : Machine) → i <
 taken_more ts i d m n h so_far next = rw (take_more ts i d h, map-append) (run-snoc (pieces_of (take i ts)) (piece_of (get_or ts i d)) start m so_far ∙ next)
 
 -- the machine stops at a token that it refuses
-pub stopped : (ts : List Token) (i : ℕ) (d : Token) (m : Machine) (fault : SyntaxFault) → i < length ts → run (pieces_of (take i ts)) start ≡ Some m → Refuses (step m (piece_of (get_or ts i d))) (piece_of (get_or ts i d)) fault → StopsAt (pieces_of ts) fault
-stopped ts i d m (SyntaxFault.Unexpected span) h so_far refused =
+pub stuck_at : (ts : List Token) (i : ℕ) (d : Token) (m : Machine) (fault : SyntaxFault) → i < length ts → run (pieces_of (take i ts)) start ≡ Some m → Refuses (step m (piece_of (get_or ts i d))) (piece_of (get_or ts i d)) fault → RefusesOneOf (pieces_of ts) fault
+stuck_at ts i d m (SyntaxFault.Unexpected span) h so_far refused =
     let tail : drop i ts ≡ get_or ts i d ∷ drop (i + 1) ts = rw add-one (drop-cons ts i d h) in
     let whole : pieces_of ts ≡ pieces_of (take i ts) ++ pieces_of (drop i ts) = ap pieces_of (sym (take-append-drop i ts)) ∙ map-append piece_of (take i ts) (drop i ts) in
     record {
@@ -47,7 +47,7 @@ stopped ts i d m (SyntaxFault.Unexpected span) h so_far refused =
       reached = m;
       takes = so_far;
       stuck = refused.1;
-      place = refused.0;
+      spanned = refused.0;
     }
-stopped ts i d m (SyntaxFault.TooDeep span) h so_far refused = absurd refused
-stopped ts i d m SyntaxFault.Memory h so_far refused = tt
+stuck_at ts i d m (SyntaxFault.TooDeep span) h so_far refused = absurd refused
+stuck_at ts i d m SyntaxFault.Memory h so_far refused = tt

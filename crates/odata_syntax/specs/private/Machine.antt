@@ -7,7 +7,7 @@ use Rattle.odata_text.specs.declared.token.TokenKind.{TokenKind}
 use Rattle.odata_syntax.specs.declared.parser.operand.Leaf.{Leaf}
 use Rattle.odata_text.specs.Piece.{Piece}
 use Rattle.odata_syntax.specs.Tree.{Tree, node, literal, name}
-use Rattle.odata_syntax.specs.Grammar.{Level, operator_level, joined}
+use Rattle.odata_syntax.specs.Grammar.{Level, or_level, operator_level, binary_tree}
 
 -- what waits for the operand that is being read: an operator with the operand before it
 pub data Waiting : Type 0 where
@@ -16,7 +16,7 @@ pub data Waiting : Type 0 where
 -- what may come next: an operand, or an operator or the end behind an operand
 pub data Expected : Type 0 where
   operand : Expected
-  closed : Tree → Expected
+  operator_or_end : Tree → Expected
 
 -- the machine between two tokens, the innermost waiting first
 pub record Machine : Type 0 where
@@ -54,7 +54,7 @@ leaf_tree (Leaf.Lit kind) p = node p.start p.stop (literal kind p.text)
 leaf_tree Leaf.Name p = node p.start p.stop (name p.text)
 
 -- what waits still, and the operand that has grown
-pub record Reduced : Type 0 where
+pub record Reduction : Type 0 where
   pub waiting : List Waiting
   pub tree : Tree
 
@@ -63,8 +63,8 @@ abbrev pub waiting_level : Waiting → Level
 waiting_level (behind operator left) = operator_level operator
 
 -- with the operand that it has waited for
-abbrev pub joined_to : Waiting → Tree → Tree
-joined_to (behind operator left) right = joined operator left right
+abbrev pub join_waiting : Waiting → Tree → Tree
+join_waiting (behind operator left) right = binary_tree operator left right
 
 -- an operator of this level joins nothing that waits
 abbrev pub IsHeld : Level → List Waiting → Type 0
@@ -72,18 +72,18 @@ IsHeld level [] = Unit {0}
 IsHeld level (w ∷ below) = waiting_level w < level
 
 -- the operand before an operator of this level: what waits and binds as tightly is joined
-abbrev pub reduce : Level → List Waiting → Tree → Reduced
+abbrev pub reduce : Level → List Waiting → Tree → Reduction
 reduce level [] tree = record { waiting = []; tree = tree }
 reduce level (w ∷ below) tree =
-    if nat_le level (waiting_level w) then reduce level below (joined_to w tree)
+    if nat_le level (waiting_level w) then reduce level below (join_waiting w tree)
     else record { waiting = w ∷ below; tree = tree }
 
 -- one more token, where an operand is expected, and where one has been read
 abbrev pub take_leaf : List Waiting → Piece → Option Leaf → Option Machine
-take_leaf waiting p (Some leaf) = Some (record { waiting = waiting; expected = closed (leaf_tree leaf p) })
+take_leaf waiting p (Some leaf) = Some (record { waiting = waiting; expected = operator_or_end (leaf_tree leaf p) })
 take_leaf waiting p None = None
 
-abbrev pub wait_behind : BinaryOperator → Reduced → Machine
+abbrev pub wait_behind : BinaryOperator → Reduction → Machine
 wait_behind operator r = record { waiting = behind operator r.tree ∷ r.waiting; expected = operand }
 
 abbrev pub take_operator : List Waiting → Tree → Option BinaryOperator → Option Machine
@@ -92,7 +92,7 @@ take_operator waiting tree None = None
 
 abbrev pub step_at : Expected → List Waiting → Piece → Option Machine
 step_at operand waiting p = take_leaf waiting p (leaf_of_kind p.kind p.text)
-step_at (closed tree) waiting p = take_operator waiting tree (operator_of_kind p.kind p.text)
+step_at (operator_or_end tree) waiting p = take_operator waiting tree (operator_of_kind p.kind p.text)
 
 abbrev pub step : Machine → Piece → Option Machine
 step m p = step_at m.expected m.waiting p
@@ -109,7 +109,7 @@ start = record { waiting = []; expected = operand }
 -- behind the last token
 abbrev pub finish_at : Expected → List Waiting → Option Tree
 finish_at operand waiting = None
-finish_at (closed tree) waiting = Some (reduce 1 waiting tree).tree
+finish_at (operator_or_end tree) waiting = Some (reduce or_level waiting tree).tree
 
 abbrev pub finish : Machine → Option Tree
 finish m = finish_at m.expected m.waiting

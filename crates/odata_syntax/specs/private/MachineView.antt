@@ -9,7 +9,7 @@ use Rattle.odata_text.specs.Piece.{Piece, piece_of}
 use Rattle.odata_syntax.specs.declared.node.Node.{Node}
 use Rattle.odata_text.specs.declared.token.Token.{Token}
 use Rattle.odata_syntax.specs.TreeView.{tree_of}
-use Rattle.odata_syntax.specs.private.Machine.{Waiting, behind, Expected, operand, closed, Machine, Reduced, step_at, run, step, start}
+use Rattle.odata_syntax.specs.private.Machine.{Waiting, behind, Expected, operand, operator_or_end, Machine, Reduction, step_at, run, step, start}
 use Rattle.odata_syntax.specs.Tree.{Tree}
 use Rattle.odata_syntax.specs.Parse.{IsSpanOf}
 
@@ -22,21 +22,21 @@ stack_of frames = reverse (map waiting_of frames)
 
 abbrev pub expected_of : Stage → Expected
 expected_of Stage.Operand = operand
-expected_of (Stage.Closed read) = closed (tree_of read.value)
+expected_of (Stage.OperatorOrEnd read) = operator_or_end (tree_of read.value)
 
 abbrev pub machine_of : State → Machine
 machine_of s = record { waiting = stack_of s.frames.items; expected = expected_of s.stage }
 
 -- what waits, and the operand that has grown
-abbrev pub reduced_of : List Frame → Node → Reduced
-reduced_of frames grown = record { waiting = stack_of frames; tree = tree_of grown }
+abbrev pub reduction_of : List Frame → Node → Reduction
+reduction_of frames grown = record { waiting = stack_of frames; tree = tree_of grown }
 
 -- the machine behind a token where an operand is expected, and behind the operand that has been read
 abbrev pub operand_step : List Frame → Token → Option Machine
 operand_step frames token = step_at operand (stack_of frames) (piece_of token)
 
 abbrev pub operator_step : List Frame → Node → Token → Option Machine
-operator_step frames read token = step_at (closed (tree_of read)) (stack_of frames) (piece_of token)
+operator_step frames read token = step_at (operator_or_end (tree_of read)) (stack_of frames) (piece_of token)
 
 -- what a refusal of a step says: it has no next machine, and the span is the token's
 abbrev pub Refuses : Option Machine → Piece → SyntaxFault → Type 0
@@ -51,7 +51,7 @@ RefusesEnd tree len (SyntaxFault.TooDeep span) = ⊥
 RefusesEnd tree len SyntaxFault.Memory = Unit {0}
 
 -- the machine takes the tokens before this one and not this one
-pub record Stops (ts : List Piece) (span : Span) : Type 0 where
+pub record IsStuck (ts : List Piece) (span : Span) : Type 0 where
   pub before : List Piece
   pub token : Piece
   pub behind : List Piece
@@ -59,9 +59,9 @@ pub record Stops (ts : List Piece) (span : Span) : Type 0 where
   pub reached : Machine
   pub takes : run before start ≡ Some reached
   pub stuck : step reached token ≡ None
-  pub place : IsSpanOf token span
+  pub spanned : IsSpanOf token span
 
-abbrev pub StopsAt : List Piece → SyntaxFault → Type 0
-StopsAt ts (SyntaxFault.Unexpected span) = Stops ts span
-StopsAt ts (SyntaxFault.TooDeep span) = ⊥
-StopsAt ts SyntaxFault.Memory = Unit {0}
+abbrev pub RefusesOneOf : List Piece → SyntaxFault → Type 0
+RefusesOneOf ts (SyntaxFault.Unexpected span) = IsStuck ts span
+RefusesOneOf ts (SyntaxFault.TooDeep span) = ⊥
+RefusesOneOf ts SyntaxFault.Memory = Unit {0}

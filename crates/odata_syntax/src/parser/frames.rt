@@ -1,7 +1,7 @@
 ghost use Rattle.std.specs.Prelude.{◌≡◌, ◌∷◌, ◌≤◌, ◌<◌, vec_len, IfOk, IfSome, IfNone};
 ghost use Rattle.odata_syntax.specs.TreeView.{tree_of};
-ghost use Rattle.odata_syntax.specs.private.Machine.{waiting_level, joined_to, IsHeld, reduce as machine_reduce};
-ghost use Rattle.odata_syntax.specs.private.MachineView.{waiting_of, stack_of, reduced_of};
+ghost use Rattle.odata_syntax.specs.private.Machine.{waiting_level, join_waiting, IsHeld, reduce as machine_reduce};
+ghost use Rattle.odata_syntax.specs.private.MachineView.{waiting_of, stack_of, reduction_of};
 
 use crate::Node;
 use crate::parser::operator::level_of;
@@ -16,7 +16,7 @@ pub fn reduce(
     level: u8,
     read: Box<Node>,
 ) -> Result<Box<Node>, AllocError>
-    ensures { IfOk result (λ grown. reduced_of frames.new.items grown.value
+    ensures { IfOk result (λ grown. reduction_of frames.new.items grown.value
         ≡ machine_reduce level (stack_of frames.old.items) (tree_of read.value)) }
 {
     let mut read = read;
@@ -53,7 +53,7 @@ fn frame_level(frame: &Frame) -> u8
 /// The node of a frame and of the operand that it has waited for.
 fn join(alloc: Global, frame: Frame, right: Box<Node>) -> Result<Box<Node>, AllocError>
     ensures { IfOk result (λ whole.
-        tree_of whole.value ≡ joined_to (waiting_of frame) (tree_of right.value)) }
+        tree_of whole.value ≡ join_waiting (waiting_of frame) (tree_of right.value)) }
 {
     match frame {
         Frame::Behind { operator, left } => {

@@ -31,7 +31,7 @@ pub fn take_operand(
             let read = leaf_node(alloc, leaf, token)?;
             Ok(State {
                 frames,
-                stage: Stage::Closed(read),
+                stage: Stage::OperatorOrEnd(read),
             })
         }
         None => Err(SyntaxFault::Unexpected { span: token.span }),

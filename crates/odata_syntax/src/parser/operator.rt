@@ -5,6 +5,7 @@ ghost use Rattle.odata_syntax.specs.private.Machine.{word_operator as machine_wo
 ghost use Rattle.odata_syntax.specs.private.MachineView.{machine_of, operator_step, Refuses};
 
 use crate::parser::frames::reduce;
+use crate::parser::level;
 use crate::parser::state::{Frame, Stage, State};
 use crate::parser::word::is_word;
 use crate::{BinaryOperator, Node, SyntaxFault};
@@ -58,12 +59,12 @@ fn word_operator(text: &str) -> Option<BinaryOperator>
     }
 }
 
-/// How tightly an operator binds: its row in the grammar's table, from 1, the loosest.
+/// How tightly an operator binds.
 pub fn level_of(operator: BinaryOperator) -> u8
     ensures { result ≡ operator_level operator }
 {
     match operator {
-        BinaryOperator::And => 2,
-        BinaryOperator::Eq => 3,
+        BinaryOperator::And => level::AND,
+        BinaryOperator::Eq => level::EQ,
     }
 }

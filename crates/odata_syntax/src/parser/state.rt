@@ -21,7 +21,7 @@ pub enum Stage {
     /// An operand.
     Operand,
     /// An operator or the end, behind this operand.
-    Closed(Box<Node>),
+    OperatorOrEnd(Box<Node>),
 }
 
 /// The machine between two tokens. The last frame is the innermost.

@@ -5,6 +5,7 @@ ghost use Rattle.odata_syntax.specs.private.Machine.{step as machine_step, finis
 ghost use Rattle.odata_syntax.specs.private.MachineView.{machine_of, Refuses, RefusesEnd};
 
 use crate::parser::frames::reduce;
+use crate::parser::level;
 use crate::parser::operand::take_operand;
 use crate::parser::operator::take_operator;
 use crate::parser::state::{Stage, State};
@@ -22,7 +23,7 @@ pub fn step(alloc: Global, state: State, token: &Token<'_>) -> Result<State, Syn
     let State { frames, stage } = state;
     match stage {
         Stage::Operand => take_operand(alloc, frames, token),
-        Stage::Closed(read) => take_operator(alloc, frames, read, token),
+        Stage::OperatorOrEnd(read) => take_operator(alloc, frames, read, token),
     }
 }
 
@@ -39,6 +40,6 @@ pub fn finish(alloc: Global, state: State, len: usize) -> Result<Box<Node>, Synt
                 stop: len,
             },
         }),
-        Stage::Closed(read) => Ok(reduce(alloc, &mut frames, 1, read)?),
+        Stage::OperatorOrEnd(read) => Ok(reduce(alloc, &mut frames, level::OR, read)?),
     }
 }

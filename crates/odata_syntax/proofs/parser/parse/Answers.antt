@@ -2,20 +2,20 @@ use Rattle.std.proofs.lemmas.Result.{err_from_is_err_and}
 use Rattle.odata_text.specs.Piece.{pieces_of}
 use Rattle.odata_syntax.specs.TreeView.{tree_of}
 use Rattle.odata_syntax.specs.private.MachineView.{machine_of}
-use Rattle.odata_syntax.proofs.machine.Fronts.{run_parsed, run_only, stopped_fault, stopped_none, unended_fault, unended_none}
+use Rattle.odata_syntax.proofs.machine.Fronts.{run_parsed, run_only, stuck_fault, stuck_none, unended_fault, unended_none}
 use Rattle.odata_syntax.proofs.parser.parse.Goals as goal
 
 -- src/parser.rt:32:17
 pub returns-in_err-state-clause-fault : goal.returns-in_err-state-clause-fault
 returns-in_err-state-clause-fault c =
     let p = err_from_is_err_and c.from_residual.result c.from_residual.ensures.1 in
-    rw (p.1, p.2) (stopped_fault (pieces_of c.args.tokens.now) c.args.len c.in_err-state.field-0.0 c.in_err-state.ensures.refused)
+    rw (p.1, p.2) (stuck_fault (pieces_of c.args.tokens.now) c.args.len c.in_err-state.field-0.0 c.in_err-state.ensures.refused)
 
 -- src/parser.rt:32:17
 pub returns-in_err-state-clause-none : goal.returns-in_err-state-clause-none
 returns-in_err-state-clause-none c =
     let p = err_from_is_err_and c.from_residual.result c.from_residual.ensures.1 in
-    rw (p.1, p.2) (stopped_none (pieces_of c.args.tokens.now) c.in_err-state.field-0.0 c.in_err-state.ensures.refused)
+    rw (p.1, p.2) (stuck_none (pieces_of c.args.tokens.now) c.in_err-state.field-0.0 c.in_err-state.ensures.refused)
 
 -- src/parser.rt:33:16
 pub returns-in_err-root-clause-fault : goal.returns-in_err-root-clause-fault
