@@ -40,10 +40,8 @@ operator_test a b BinaryOperator.Eq = b
 
 operator_tested : (a b : Bool) (operator : BinaryOperator) → cond a (Some BinaryOperator.And) (cond b (Some BinaryOperator.Eq) None) ≡ Some operator → operator_test a b operator ≡ true
 unfolding operator_test
-operator_tested true b BinaryOperator.And e = refl
-operator_tested true b BinaryOperator.Eq e = absurd (cc)
-operator_tested false true BinaryOperator.And e = absurd (cc)
-operator_tested false true BinaryOperator.Eq e = refl
+operator_tested true b operator e = subst (λ (o : BinaryOperator). operator_test true b o ≡ true) (same_Some BinaryOperator.And operator e) refl
+operator_tested false true operator e = subst (λ (o : BinaryOperator). operator_test false true o ≡ true) (same_Some BinaryOperator.Eq operator e) refl
 operator_tested false false operator e = absurd (cc)
 
 operator_word_spelled : (operator : BinaryOperator) (text : List ℕ) → word_operator text ≡ Some operator → IsTrue (same_word text (operator_word operator))

@@ -85,7 +85,7 @@ StandsAt (operator_or_end tree) waiting ts = IsClosed waiting tree ts
 pub Stands : Machine → List Piece → Type 0
 Stands m ts = StandsAt m.expected m.waiting ts
 
-operator_level-bounds : (operator : BinaryOperator) → (or_level < operator_level operator) × (operator_level operator < base_level)
+operator_level-bounds : (operator : BinaryOperator) → (or_level ≤ operator_level operator) × (operator_level operator < base_level)
 operator_level-bounds BinaryOperator.And = (omega arith, omega arith)
 operator_level-bounds BinaryOperator.Eq = (omega arith, omega arith)
 
