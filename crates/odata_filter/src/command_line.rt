@@ -1,7 +1,7 @@
 //! What a command line asks for.
 pub mod laws;
 
-use clap::Error;
+use thiserror::Error;
 
 /// What the program is to do.
 #[derive(Clone, Copy, Debug, PartialEq, Eq)]
@@ -24,13 +24,16 @@ pub struct Plan<'a> {
     pub collection: bool,
 }
 
-/// Why a command line was refused.
-#[derive(Debug, Drop)]
+/// Why a command line has no plan. `Clap`'s text ends with a line feed, the others have none.
+#[derive(Debug, Drop, Error)]
 pub enum PlanFault {
-    /// `clap` refuses the words, or was asked for help, which is its text.
-    Clap(Error),
+    /// `clap` refuses the words, or was asked for its help or the version, which is its text then.
+    #[error(transparent)]
+    Clap(clap::Error),
     /// Not exactly one of filter and query is given.
+    #[error("give one of filter and query")]
     OneOf,
     /// A growth was refused.
+    #[error("memory")]
     Memory,
 }
