@@ -1,51 +1,63 @@
 -- Worked command lines.
 use Rattle.std.proofs.Common.{◌≡◌, [], ◌∷◌, Some, refl, codes}
 use Rattle.clap.specs.Words.{fault_of, first_of}
-use Rattle.clap.specs.declared.error.kind.ErrorKind.TheVariants.{MissingRequiredArgument, UnknownArgument}
+use Rattle.clap.specs.declared.error.kind.ErrorKind.TheVariants as kind
 use Rattle.clap.proofs.OnLiterals.{clap_on_literals}
-use Rattle.odata_filter.specs.CommandLine.{GivesNotOne, IsTaken, given, odfilter_app}
-use Rattle.odata_filter.specs.WorkedLines.{both, queried, timed, typed, unfiltered, whole}
+use Rattle.odata_filter.specs.CommandLine.{GivesNotOne, IsTaken, filter_matches, odfilter_app}
+use Rattle.odata_filter.specs.WorkedLines as worked
 
-pub whole_taken : IsTaken whole
+pub whole_taken : IsTaken worked.whole
 unfolding clap_on_literals
 whole_taken = refl
 
-pub whole_schema : first_of (codes "schema") (given whole) ≡ Some (codes "s")
+pub whole_schema : first_of (codes "schema") (filter_matches worked.whole) ≡ Some (codes "s")
 unfolding clap_on_literals
 whole_schema = refl
 
-pub whole_type : first_of (codes "type") (given whole) ≡ Some (codes "N.T")
+pub whole_type : first_of (codes "type") (filter_matches worked.whole) ≡ Some (codes "N.T")
 unfolding clap_on_literals
 whole_type = refl
 
-pub whole_filter : first_of (codes "filter") (given whole) ≡ Some (codes "true")
+pub whole_filter : first_of (codes "filter") (filter_matches worked.whole) ≡ Some (codes "true")
 unfolding clap_on_literals
 whole_filter = refl
 
-pub whole_rows : first_of (codes "rows") (given whole) ≡ Some (codes "r")
+pub whole_rows : first_of (codes "rows") (filter_matches worked.whole) ≡ Some (codes "r")
 unfolding clap_on_literals
 whole_rows = refl
 
-pub query_taken : IsTaken queried
+pub query_taken : IsTaken worked.with_query
 unfolding clap_on_literals
 query_taken = refl
 
-pub query_found : first_of (codes "query") (given queried) ≡ Some (codes "x")
+pub query_found : first_of (codes "query") (filter_matches worked.with_query) ≡ Some (codes "x")
 unfolding clap_on_literals
 query_found = refl
 
-pub neither : GivesNotOne unfiltered
+pub neither : GivesNotOne worked.without_filter
 unfolding clap_on_literals
-neither = record { taken = refl; lacks = λ one. one }
+neither = record { is_taken = refl; lacks = λ one. one }
 
-pub two : GivesNotOne both
+pub both : GivesNotOne worked.with_both
 unfolding clap_on_literals
-two = record { taken = refl; lacks = λ one. one }
+both = record { is_taken = refl; lacks = λ one. one }
 
-pub no_schema : fault_of odfilter_app typed ≡ MissingRequiredArgument ∷ []
+pub no_schema : fault_of odfilter_app worked.without_schema ≡ kind.MissingRequiredArgument ∷ []
 unfolding clap_on_literals
 no_schema = refl
 
-pub no_moment : fault_of odfilter_app timed ≡ UnknownArgument ∷ []
+pub unknown_option : fault_of odfilter_app worked.with_unknown_option ≡ kind.UnknownArgument ∷ []
 unfolding clap_on_literals
-no_moment = refl
+unknown_option = refl
+
+pub version : fault_of odfilter_app worked.version_alone ≡ kind.DisplayVersion ∷ []
+unfolding clap_on_literals
+version = refl
+
+pub no_version : fault_of odfilter_app worked.version_of_filter ≡ kind.UnknownArgument ∷ []
+unfolding clap_on_literals
+no_version = refl
+
+pub help : fault_of odfilter_app worked.help_of_filter ≡ kind.DisplayHelp ∷ []
+unfolding clap_on_literals
+help = refl

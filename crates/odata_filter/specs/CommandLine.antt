@@ -25,30 +25,35 @@ filter_app = with_rule (with_rule (with_rule (with_rule (with_rule (new_app (cod
     (text_rule (codes "schema") true)) (text_rule (codes "type") true))
     (text_rule (codes "filter") false)) (text_rule (codes "query") false)) (text_rule (codes "rows") false)
 
--- a command that wants one of its subcommands
-abbrev pub wanting_subcommand : App → App
-wanting_subcommand a = record a { top = record a.top { subcommand_required = true } }
+-- the command answers `--version`, which its subcommands do not
+abbrev pub with_version : App → App
+with_version a = record a { top = record a.top { has_version = true } }
+
+-- the command wants one of its subcommands
+abbrev pub with_required_subcommand : App → App
+with_required_subcommand a = record a { top = record a.top { subcommand_required = true } }
 
 -- the program's command
 abbrev pub odfilter_app : App
-odfilter_app = with_subcommand (wanting_subcommand (new_app (codes "odfilter"))) filter_app.top
+odfilter_app =
+    with_subcommand (with_required_subcommand (with_version (new_app (codes "odfilter")))) filter_app.top
 
 -- `clap` takes the words: no step of its reading fails
 abbrev pub IsTaken : List Text → Type 0
 IsTaken words = fault_of odfilter_app words ≡ []
 
 -- the matches of the subcommand that was entered, option by option, if it is `filter`
-abbrev pub behind_filter : Option (Text × List Row) → List Row
-behind_filter None = []
-behind_filter (Some entered) = if bytes_eq entered.0 (codes "filter") then entered.1 else []
+abbrev pub matches_if_filter : Option (Text × List Row) → List Row
+matches_if_filter None = []
+matches_if_filter (Some entered) = if bytes_eq entered.0 (codes "filter") then entered.1 else []
 
--- what the words give behind `filter`
-abbrev pub given : List Text → List Row
-given words = behind_filter (subcommand_of odfilter_app words)
+-- what the words say behind `filter`, option by option
+abbrev pub filter_matches : List Text → List Row
+filter_matches words = matches_if_filter (subcommand_of odfilter_app words)
 
 -- the plan has the options' values; the empty text stands for a value that is not there
 pub record HasValues (found : List Row) (plan : Plan) : Type 0 where
-  pub planned : IsFilterPlan plan
+  pub is_filter_plan : IsFilterPlan plan
   pub schema : plan.schema.now ≡ unwrap_or (first_of (codes "schema") found) []
   pub named : plan.named.now ≡ unwrap_or (first_of (codes "type") found) []
   pub filter : option_map (λ s. s.now) plan.filter ≡ first_of (codes "filter") found
@@ -57,8 +62,8 @@ pub record HasValues (found : List Row) (plan : Plan) : Type 0 where
 
 -- the words ask for this plan
 pub record IsPlanOf (words : List Text) (plan : Plan) : Type 0 where
-  pub taken : IsTaken words
-  pub values : HasValues (given words) plan
+  pub is_taken : IsTaken words
+  pub values : HasValues (filter_matches words) plan
 
 -- the options' values do not have exactly one of filter and query
 abbrev pub LacksOneOf : List Row → Type 0
@@ -66,8 +71,8 @@ LacksOneOf found = ¬ IsOneOf (first_of (codes "filter") found) (first_of (codes
 
 -- `clap` takes the words, and not exactly one of filter and query is among them
 pub record GivesNotOne (words : List Text) : Type 0 where
-  pub taken : IsTaken words
-  pub lacks : LacksOneOf (given words)
+  pub is_taken : IsTaken words
+  pub lacks : LacksOneOf (filter_matches words)
 
 -- why the words ask for no plan; an error of `clap` has a kind that its reading of them gives
 abbrev pub IsRefusedBy : List Text → PlanFault → Type 0

@@ -2,25 +2,38 @@
 use Rattle.std.specs.Prelude.{List, [], ◌∷◌, ◌++◌, codes}
 use Rattle.clap.specs.Words.{Text}
 
--- `odfilter filter --type N.T`, without a schema
-abbrev pub typed : List Text
-typed = codes "odfilter" ∷ codes "filter" ∷ codes "--type" ∷ codes "N.T" ∷ []
+-- `odfilter filter --type N.T`
+abbrev pub without_schema : List Text
+without_schema = codes "odfilter" ∷ codes "filter" ∷ codes "--type" ∷ codes "N.T" ∷ []
 
--- with a schema, without a filter
-abbrev pub unfiltered : List Text
-unfiltered = typed ++ codes "--schema=s" ∷ []
+-- with a schema, and neither a filter nor a query
+abbrev pub without_filter : List Text
+without_filter = without_schema ++ codes "--schema=s" ∷ []
 
+-- with a filter and rows
 abbrev pub whole : List Text
-whole = unfiltered ++ codes "--filter" ∷ codes "true" ∷ codes "--rows=r" ∷ []
+whole = without_filter ++ codes "--filter" ∷ codes "true" ∷ codes "--rows=r" ∷ []
 
 -- with a query in place of a filter
-abbrev pub queried : List Text
-queried = unfiltered ++ codes "--query=x" ∷ []
+abbrev pub with_query : List Text
+with_query = without_filter ++ codes "--query=x" ∷ []
 
--- with both
-abbrev pub both : List Text
-both = whole ++ codes "--query=x" ∷ []
+-- with a filter and a query
+abbrev pub with_both : List Text
+with_both = whole ++ codes "--query=x" ∷ []
 
--- with an option that the program has not
-abbrev pub timed : List Text
-timed = whole ++ codes "--now=x" ∷ []
+-- with an option that the program does not have
+abbrev pub with_unknown_option : List Text
+with_unknown_option = whole ++ codes "--now=x" ∷ []
+
+-- `odfilter --version`
+abbrev pub version_alone : List Text
+version_alone = codes "odfilter" ∷ codes "--version" ∷ []
+
+-- `odfilter filter --version`
+abbrev pub version_of_filter : List Text
+version_of_filter = codes "odfilter" ∷ codes "filter" ∷ codes "--version" ∷ []
+
+-- `odfilter filter --help`
+abbrev pub help_of_filter : List Text
+help_of_filter = codes "odfilter" ∷ codes "filter" ∷ codes "--help" ∷ []

@@ -2,12 +2,30 @@ ghost use Rattle.std.specs.Prelude.{◌≡◌, IfOk, MatchResult, false, map};
 ghost use Rattle.clap.specs.Words.{found_of, rows_of, rule_of};
 ghost use Rattle.odata_filter.specs.FilterPlan.{IsFilterPlan};
 ghost use Rattle.odata_filter.specs.CommandLine.{HasValues, IsPlanOf, IsRefusedBy, filter_app, odfilter_app, text_rule};
-ghost use Rattle.odata_filter.specs.private.PlanSteps.{IsApp, IsNotOneFault, Tells};
+ghost use Rattle.odata_filter.specs.private.PlanSteps.{IsApp, IsFaultOf, IsNotOneFault};
 
 use crate::command_line::{Plan, PlanFault, Verb};
 use clap::error::ErrorKind;
 use clap::{Arg, ArgAction, ArgMatches, Command, Error};
 use std::alloc::{AllocError, Global};
+
+/// The version that the program tells.
+const VERSION: &str = "0.1.0";
+
+/// What stands at the end of each help.
+const AFTER_HELP: &str = "\
+Examples:
+  odfilter filter --schema schema.json --type Mini.Item --filter \"Name eq 'a'\" --rows rows.json
+  odfilter filter --schema schema.json --type Mini.Item --query '$filter=ID%20eq%201' <rows.json
+
+Statuses:
+  0  done; or help or the version was asked for
+  1  the filter was refused
+  2  the command line was refused
+  3  the schema was refused, or has no such entity type
+  4  a row was refused, or its evaluation failed
+  5  a file or stream could not be read or written
+  6  no memory";
 
 /// An option that takes a text.
 fn text_option<'a>(alloc: Global, name: &'a str, value: &'a str, help: &'a str) -> Arg<'a>
@@ -50,6 +68,7 @@ fn filter_command<'a>(alloc: Global) -> Result<Command<'a>, AllocError>
     );
     Command::new(alloc, "filter")
         .about("Writes the rows whose outcome is true")
+        .after_help(AFTER_HELP)
         .arg(schema)?
         .arg(named)?
         .arg(filter)?
@@ -63,12 +82,14 @@ fn command<'a>(alloc: Global) -> Result<Command<'a>, AllocError>
 {
     Command::new(alloc, "odfilter")
         .about("Checks an OData $filter against a type, and filters rows by it")
+        .after_help(AFTER_HELP)
+        .version(VERSION)
         .subcommand_required(true)
         .subcommand(filter_command(alloc)?)
 }
 
 fn fault_of(error: Error) -> PlanFault
-    ensures { Tells error result }
+    ensures { IsFaultOf error result }
 {
     match error.kind() {
         ErrorKind::OutOfMemory => PlanFault::Memory,
@@ -100,7 +121,8 @@ fn plan_of<'a>(matches: &ArgMatches<'a>) -> Result<Plan<'a>, PlanFault>
 
 /// Reads a command line, the program's name first.
 ///
-/// `OneOf` comes where not exactly one of filter and query is given, `Clap` where `clap` refuses the words or is asked for help.
+/// `OneOf` comes where not exactly one of filter and query is given, `Clap` where `clap` refuses the words or is asked
+/// for help or the version.
 pub fn plan<'a>(alloc: Global, words: &'a [&'a str]) -> Result<Plan<'a>, PlanFault>
     ensures filters { IfOk result IsFilterPlan }
     ensures asked { MatchResult result (IsPlanOf (map (λ s. s.now) words.entry.now))

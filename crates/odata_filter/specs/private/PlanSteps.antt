@@ -1,5 +1,5 @@
 -- What the steps of reading a command line say to one another. Private clauses alone cite these.
-use Rattle.std.specs.Prelude.{◌≡◌, ⊤, List, false}
+use Rattle.std.specs.Prelude.{◌≡◌, List, false}
 use Rattle.clap.specs.Words.{App, Row, app_of, kind_of}
 use Rattle.clap.specs.declared.builder.command.Command.{Command}
 use Rattle.clap.specs.declared.builder.command.Command.TheViews.{out-Command}
@@ -15,10 +15,10 @@ pub record IsApp (app : App) (command : Command) : Type 0 where
   pub local : (out-Command command).has_globals ≡ false
 
 -- the fault that an error of `clap` becomes
-abbrev pub Tells : Error → PlanFault → Type 0
-Tells error (Clap e) = (e ≡ error) × (kind_of e ≡ OutOfMemory → ⊥)
-Tells error OneOf = ⊥
-Tells error Memory = ⊤
+abbrev pub IsFaultOf : Error → PlanFault → Type 0
+IsFaultOf error (Clap e) = (e ≡ error) × (kind_of e ≡ OutOfMemory → ⊥)
+IsFaultOf error OneOf = ⊥
+IsFaultOf error Memory = kind_of error ≡ OutOfMemory
 
 -- the one fault behind words that were taken
 abbrev pub IsNotOneFault : List Row → PlanFault → Type 0
