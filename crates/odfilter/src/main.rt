@@ -1,8 +1,9 @@
-//! The program: files, streams and the status. What it does with them is `odata_filter`'s.
+//! The program: words, files, streams and the status. What it does with them is `odata_filter`'s.
 #![tactic(auto)]
 
 use odata_filter::command_line::{Plan, PlanFault};
 use odata_filter::{plan, run};
+use std::fmt::Display;
 use std::fs::File;
 use std::io::{ErrorKind, Read};
 use std::process::ExitCode;
@@ -11,9 +12,27 @@ use std::{env, io};
 /// More of a schema file than this is of no use: one byte past the largest document.
 const SCHEMA_BYTES: u64 = 1_048_577;
 
-/// The words of the command line, the program's name first.
-fn words(rt: &HostRuntime) -> io::Result<Vec<String>> {
-    Ok(env::args(rt)?.collect(rt.alloc())?)
+/// Tells a line on standard error. The status was decided before, so it stands where standard error fails.
+fn tell<D: Display + Drop>(rt: &HostRuntime, line: D, status: u8) -> u8 {
+    let _ = eprintln!(rt; "{line}");
+    status
+}
+
+/// Tells that an allocation was refused.
+fn tell_memory(rt: &HostRuntime) -> u8 {
+    tell(rt, "memory", 6)
+}
+
+/// Tells why there is no plan, or what `clap` was asked for.
+fn tell_fault(rt: &HostRuntime, fault: PlanFault) -> u8 {
+    match fault {
+        PlanFault::Clap(error) => {
+            let _ = error.print(rt);
+            if error.use_stderr() { 2 } else { 0 }
+        }
+        PlanFault::OneOf => tell(rt, format_args!("usage {fault}"), 2),
+        PlanFault::Memory => tell_memory(rt),
+    }
 }
 
 /// The bytes of the schema file, as many as matter.
@@ -25,40 +44,16 @@ fn schema_bytes(rt: &HostRuntime, name: &str) -> io::Result<Vec<u8>> {
     Ok(bytes)
 }
 
-/// Tells why the command line was refused; the status is 0 where it asked for help.
-fn told(rt: &HostRuntime, fault: PlanFault) -> io::Result<u8> {
-    match fault {
-        PlanFault::Clap(error) => {
-            error.print(rt)?;
-            Ok(if error.use_stderr() { 2 } else { 0 })
-        }
-        PlanFault::OneOf => {
-            eprintln!(rt; "usage give one of filter and query")?;
-            Ok(2)
-        }
-        PlanFault::Memory => {
-            eprintln!(rt; "memory")?;
-            Ok(6)
-        }
-    }
-}
-
-/// Reads the files that the plan names, and carries it out.
-fn carried_out(rt: &HostRuntime, plan: &Plan<'_>) -> io::Result<u8> {
+/// Reads the schema file, opens the rows that the plan names, and carries it out.
+fn carry_out(rt: &HostRuntime, plan: &Plan<'_>) -> u8 {
     let document = match schema_bytes(rt, plan.schema) {
         Ok(document) => document,
-        Err(error) if error.kind() == ErrorKind::OutOfMemory => {
-            eprintln!(rt; "memory")?;
-            return Ok(6);
-        }
-        Err(_) => {
-            eprintln!(rt; "read {}", plan.schema)?;
-            return Ok(5);
-        }
+        Err(error) if error.kind() == ErrorKind::OutOfMemory => return tell_memory(rt),
+        Err(_) => return tell(rt, format_args!("read {}", plan.schema), 5),
     };
     let (alloc, document) = (rt.alloc(), document.as_slice());
     let (mut out, mut err) = (rt.stdout(), rt.stderr());
-    Ok(match plan.rows {
+    match plan.rows {
         Some(name) => run(
             alloc,
             plan,
@@ -68,26 +63,31 @@ fn carried_out(rt: &HostRuntime, plan: &Plan<'_>) -> io::Result<u8> {
             &mut err,
         ),
         None => run(alloc, plan, document, Some(rt.stdin()), &mut out, &mut err),
-    })
+    }
 }
 
-/// The status of the whole run. An error is one of standard error, or of the words themselves.
+/// The words of the command line, the program's name first.
+fn words(rt: &HostRuntime) -> io::Result<Vec<String>> {
+    Ok(env::args(rt)?.collect(rt.alloc())?)
+}
+
+/// The status of the whole run. An error is one of the words: want of memory for them, or a word that is not UTF-8.
 fn status(rt: &HostRuntime) -> io::Result<u8> {
     let words = words(rt)?;
     let mut texts = Vec::new(rt.alloc());
     for word in &words {
         texts.push(word.as_str())?;
     }
-    match plan(rt.alloc(), texts.as_slice()) {
-        Ok(plan) => carried_out(rt, &plan),
-        Err(fault) => told(rt, fault),
-    }
+    Ok(match plan(rt.alloc(), texts.as_slice()) {
+        Ok(plan) => carry_out(rt, &plan),
+        Err(fault) => tell_fault(rt, fault),
+    })
 }
 
 fn main(rt: HostRuntime) -> ExitCode {
-    match status(&rt) {
-        Ok(status) => ExitCode::from(status),
-        Err(error) if error.kind() == ErrorKind::OutOfMemory => ExitCode::from(6),
-        Err(_) => ExitCode::from(5),
-    }
+    ExitCode::from(match status(&rt) {
+        Ok(status) => status,
+        Err(error) if error.kind() == ErrorKind::OutOfMemory => tell_memory(&rt),
+        Err(_) => tell(&rt, "usage not UTF-8", 2),
+    })
 }
