@@ -1,0 +1,49 @@
+//! Texts of 16,384 bytes, of 4,096 tokens, and those next to them.
+use crate::told::is_told;
+use odata_text::tokens;
+use std::alloc::{AllocError, Global};
+use std::test::Fail;
+
+/// A piece so many times, and another behind it.
+fn repeated(alloc: Global, piece: &str, times: usize, last: &str) -> Result<String, AllocError> {
+    let mut text = piece.repeat(alloc, times)?;
+    text.push_str(last)?;
+    Ok(text)
+}
+
+#[test]
+fn longest_texts(rt: HostRuntime) -> Result<(), Fail> {
+    for (piece, times, last, count) in [
+        (" ", 16_384, "", 0),
+        (" ", 16_383, "1", 1),
+        ("a ", 4_096, "", 4_096),
+        ("a ", 4_095, "1", 4_096),
+    ] {
+        let text = repeated(rt.alloc(), piece, times, last)?;
+        let found = tokens(rt.alloc(), text.as_str())?;
+        assert_eq!(rt; found.len(), count, "{times} of {piece}");
+    }
+    Ok(())
+}
+
+/// The length of the text goes before all faults; a fault of a token itself goes before the number of tokens.
+#[test]
+fn texts_too_long(rt: HostRuntime) -> Result<(), Fail> {
+    for (piece, times, last, wanted) in [
+        (" ", 16_385, "", "TooLong 0..16385"),
+        ("'", 16_385, "", "TooLong 0..16385"),
+        ("'", 16_384, "€", "TooLong 0..16387"),
+        (",", 4_097, "", "TooLong 4096..4097"),
+        (",", 4_098, "€", "TooLong 4096..4097"),
+        ("a ", 4_095, "1a", "RunOn 8190..8192"),
+        ("a ", 4_096, "1", "TooLong 8192..8193"),
+        ("a ", 4_096, "1a", "RunOn 8192..8194"),
+    ] {
+        let text = repeated(rt.alloc(), piece, times, last)?;
+        assert!(rt;
+            is_told(rt.alloc(), text.as_str(), wanted),
+            "{times} of {piece}"
+        );
+    }
+    Ok(())
+}

@@ -1,0 +1,82 @@
+//! Calls of which one allocation is refused; `bench/refused` says which. Each answers its memory fault and leaves its
+//! text as it was, or answers the same as with ample memory, and prints which of the two.
+use edm_values::{
+    LitFault, read_date, read_guid, read_moment, read_string, write_date, write_guid, write_int,
+    write_moment, write_string,
+};
+use std::process::Abort;
+use std::test::Fail;
+
+/// Prints whether a call wrote the whole text, or was refused memory and left its empty text as it was.
+fn tell_write(
+    rt: &(impl Abort + Print),
+    call: &str,
+    is_written: bool,
+    out: &str,
+    whole: &str,
+) -> Result<(), Fail> {
+    if is_written {
+        assert_eq!(rt; out, whole, "{call}");
+        println!(rt; "{call} ample")?;
+    } else {
+        assert_eq!(rt; out, "", "{call}");
+        println!(rt; "{call} no memory")?;
+    }
+    Ok(())
+}
+
+#[test]
+fn whole_numbers(rt: HostRuntime) -> Result<(), Fail> {
+    let mut out = String::new(rt.alloc());
+    let is_written = write_int(&mut out, -42).is_ok();
+    tell_write(&rt, "write_int", is_written, out.as_str(), "-42")
+}
+
+#[test]
+fn dates(rt: HostRuntime) -> Result<(), Fail> {
+    let mut out = String::new(rt.alloc());
+    let text = "2020-02-29";
+    let date = read_date(text).ok_or("no date")?;
+    let is_written = write_date(&mut out, date).is_ok();
+    tell_write(&rt, "write_date", is_written, out.as_str(), text)
+}
+
+#[test]
+fn moments(rt: HostRuntime) -> Result<(), Fail> {
+    let mut out = String::new(rt.alloc());
+    let text = "2020-02-29T01:02:03.04+05:06";
+    let moment = read_moment(text).ok_or("no moment")?;
+    let is_written = write_moment(&mut out, &moment).is_ok();
+    tell_write(&rt, "write_moment", is_written, out.as_str(), text)
+}
+
+#[test]
+fn guids(rt: HostRuntime) -> Result<(), Fail> {
+    let mut out = String::new(rt.alloc());
+    let text = "01234567-89ab-cdef-0123-456789abcdef";
+    let guid = read_guid(text).ok_or("no Guid")?;
+    let is_written = write_guid(&mut out, guid).is_ok();
+    tell_write(&rt, "write_guid", is_written, out.as_str(), text)
+}
+
+#[test]
+fn strings(rt: HostRuntime) -> Result<(), Fail> {
+    let mut out = String::new(rt.alloc());
+    let is_written = write_string(&mut out, "O'Neil").is_ok();
+    tell_write(&rt, "write_string", is_written, out.as_str(), "'O''Neil'")
+}
+
+#[test]
+fn values_of_strings(rt: HostRuntime) -> Result<(), Fail> {
+    match read_string(rt.alloc(), "'O''Neil'") {
+        Ok(value) => {
+            assert_eq!(rt; value.as_str(), "O'Neil");
+            println!(rt; "read_string ample")?;
+        }
+        Err(fault) => {
+            assert!(rt; matches!(fault, LitFault::Memory));
+            println!(rt; "read_string no memory")?;
+        }
+    }
+    Ok(())
+}

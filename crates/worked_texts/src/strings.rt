@@ -1,0 +1,29 @@
+//! Texts in quotes.
+use edm_values::{LitFault, read_string, write_string};
+use std::test::Fail;
+
+#[test]
+fn strings(rt: HostRuntime) -> Result<(), Fail> {
+    for (text, value) in [
+        ("''", ""),
+        ("''''", "'"),
+        ("'O''Neil'", "O'Neil"),
+        ("'aé'''''", "aé''"),
+    ] {
+        assert_eq!(rt; read_string(rt.alloc(), text)?.as_str(), value);
+        let mut out = String::from_str(rt.alloc(), "s=")?;
+        write_string(&mut out, value)?;
+        assert_eq!(rt; out.as_str().strip_prefix("s="), Some(text));
+    }
+    Ok(())
+}
+
+#[test]
+fn texts_without_string(rt: HostRuntime) {
+    for text in ["", "'", "'''", "'a'b'", "'a", "a'", "a", "'a' "] {
+        assert!(rt;
+            matches!(read_string(rt.alloc(), text), Err(LitFault::Form)),
+            "at {text}"
+        );
+    }
+}

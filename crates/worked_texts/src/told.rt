@@ -1,0 +1,43 @@
+//! What is read of a text, in one line.
+use odata_text::{Span, TextFault, tokens};
+use std::alloc::{AllocError, Global};
+
+/// A fault's name and its place.
+fn name_and_span(fault: TextFault) -> (&'static str, Span) {
+    match fault {
+        TextFault::BadCharacter { span } => ("BadCharacter", span),
+        TextFault::UnclosedString { span } => ("UnclosedString", span),
+        TextFault::LeftOutLiteral { span } => ("LeftOutLiteral", span),
+        TextFault::RunOn { span } => ("RunOn", span),
+        TextFault::TooLong { span } => ("TooLong", span),
+        TextFault::Memory => ("Memory", Span { start: 0, stop: 0 }),
+    }
+}
+
+/// The tokens of a text, or its first fault, with their places in bytes: `Int 0..1, Word 2..4`, or `RunOn 0..2`.
+pub(crate) fn told(alloc: Global, text: &str) -> Result<String, AllocError> {
+    let found = match tokens(alloc, text) {
+        Ok(found) => found,
+        Err(fault) => {
+            let (name, Span { start, stop }) = name_and_span(fault);
+            return format!(in alloc; "{name} {start}..{stop}");
+        }
+    };
+    let mut line = String::new(alloc);
+    for token in &found {
+        if !line.is_empty() {
+            line.push_str(", ")?;
+        }
+        let Span { start, stop } = token.span;
+        line.push_str(format!(in alloc; "{:?} {start}..{stop}", token.kind)?.as_str())?;
+    }
+    Ok(line)
+}
+
+/// Whether a text is told so.
+pub(crate) fn is_told(alloc: Global, text: &str, wanted: &str) -> bool {
+    match told(alloc, text) {
+        Ok(line) => line.as_str() == wanted,
+        Err(_) => false,
+    }
+}
