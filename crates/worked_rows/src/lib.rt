@@ -2,16 +2,18 @@
 #![tactic(auto)]
 
 #[cfg(test)]
-mod devices;
-#[cfg(test)]
 mod happy_paths;
 #[cfg(test)]
 mod limits;
 #[cfg(test)]
 mod queries;
 #[cfg(test)]
+mod readers;
+#[cfg(test)]
 mod refused;
 #[cfg(test)]
 mod runs;
 #[cfg(test)]
 mod told;
+#[cfg(test)]
+mod writers;

@@ -1,9 +1,9 @@
-//! Readers and writers that fail.
+//! Readers that fail.
 use crate::told::{FIRST, SCHEMA, Told, plan_of};
 use odata_filter::run;
 use std::alloc::Global;
 use std::io;
-use std::io::{Read, Write};
+use std::io::Read;
 
 const A: &str = "{\"ID\":1,\"Name\":\"a\",\"Active\":true}\n";
 
@@ -26,26 +26,19 @@ impl Read for FailingReader<'_> {
     }
 }
 
-/// Takes so many bytes in all, and then fails.
+/// Fails at its first read, and is at its end from then on. Between two readers it is one failure in the middle.
 #[derive(Drop)]
-struct FailingWriter {
-    taken: Vec<u8>,
-    room: usize,
+struct FailsOnce {
+    has_failed: bool,
 }
 
-impl Write for FailingWriter {
-    fn write(&mut self, bytes: &[u8]) -> io::Result<usize> {
-        let count = bytes.len().min(self.room);
-        if count == 0 {
-            return Err(io::Error::from(io::ErrorKind::BrokenPipe));
+impl Read for FailsOnce {
+    fn read(&mut self, _buffer: &mut [u8]) -> io::Result<usize> {
+        if self.has_failed {
+            return Ok(0);
         }
-        self.taken.extend_from_slice(&bytes[..count])?;
-        self.room = self.room.saturating_sub(count);
-        Ok(count)
-    }
-
-    fn flush(&mut self) -> io::Result<()> {
-        Ok(())
+        self.has_failed = true;
+        Err(io::Error::from(io::ErrorKind::Interrupted))
     }
 }
 
@@ -97,29 +90,44 @@ fn a_faulty_line_goes_before_a_failed_read(rt: HostRuntime) {
     }
 }
 
-/// Of the kept text a beginning has been written.
+/// A run over rows of which some come, then a read fails, and then the others would come, with what is left of these.
+fn run_of_interrupted<'a>(alloc: Global, first: &[u8], behind: &'a [u8]) -> (Told, &'a [u8]) {
+    let mut left = behind;
+    let failure = FailsOnce { has_failed: false };
+    let rows = first.chain(failure).chain(&mut left);
+    let mut out = Vec::new(alloc);
+    let mut err = Vec::new(alloc);
+    let plan = plan_of("Mini.Item", FIRST);
+    let status = run(
+        alloc,
+        &plan,
+        SCHEMA.as_bytes(),
+        Some(rows),
+        &mut out,
+        &mut err,
+    );
+    (Told { out, err, status }, left)
+}
+
+/// A failed read is not tried again: what the reader would give behind it is not read.
 #[test]
-fn a_failed_write_is_told(rt: HostRuntime) {
-    for room in [0, 1, 33, 34, 67] {
-        let mut out = FailingWriter {
-            taken: Vec::new(rt.alloc()),
-            room,
-        };
-        let mut err = Vec::new(rt.alloc());
-        let plan = plan_of("Mini.Item", FIRST);
-        let rows =
-            b"{\"ID\":1,\"Name\":\"a\",\"Active\":true}\n{\"ID\":1,\"Name\":\"a\",\"Active\":true}\n";
-        let status = run(
-            rt.alloc(),
-            &plan,
-            SCHEMA.as_bytes(),
-            Some(rows.as_slice()),
-            &mut out,
-            &mut err,
-        );
-        assert_eq!(rt; status, 5);
-        assert_eq!(rt; out.taken.len(), room);
-        assert!(rt; rows.starts_with(out.taken.as_slice()));
-        assert!(rt; err.as_slice() == b"write\n".as_slice());
+fn nothing_is_read_behind_a_failed_read(rt: HostRuntime) {
+    for (first, behind, out, line, status) in [
+        ("", A, "", "read rows 1\n", 5),
+        (A, A, A, "read rows 2\n", 5),
+        ("{}", "\n", "", "read rows 1\n", 5),
+        (
+            "{\"ID\":1,\"Name\":\"a\"",
+            ",\"Active\":true}\n",
+            "",
+            "read rows 1\n",
+            5,
+        ),
+        ("\n\n", A, "", "read rows 3\n", 5),
+        ("{\n", A, "", "row 1 Json\n", 4),
+    ] {
+        let (told, left) = run_of_interrupted(rt.alloc(), first.as_bytes(), behind.as_bytes());
+        assert!(rt; told.is(out, line, status), "behind {first}");
+        assert!(rt; left == behind.as_bytes(), "behind {first}");
     }
 }

@@ -1,0 +1,143 @@
+//! Writers that fail, or take little at a time.
+use crate::told::{FIRST, SCHEMA, plan_of};
+use odata_filter::run;
+use std::alloc::Global;
+use std::io;
+use std::io::Write;
+use std::test::Fail;
+
+const A: &str = "{\"ID\":1,\"Name\":\"a\",\"Active\":true}\n";
+
+const A_TWICE: &str =
+    "{\"ID\":1,\"Name\":\"a\",\"Active\":true}\n{\"ID\":1,\"Name\":\"a\",\"Active\":true}\n";
+
+/// Of three rows the first and the last are kept: `A_TWICE`.
+const THREE: &str =
+    "{\"ID\":1,\"Name\":\"a\",\"Active\":true}\n{\"ID\":1,\"Name\":\"b\",\"Active\":true}\n{\"ID\":1,\"Name\":\"a\",\"Active\":true}\n";
+
+/// What a writer does once its room is filled.
+#[derive(Clone, Copy)]
+enum Filled {
+    Fails,
+    TakesNone,
+}
+
+/// Takes at most so many bytes a call and so many in all. Its flush may fail.
+#[derive(Drop)]
+struct FailingWriter {
+    taken: Vec<u8>,
+    piece: usize,
+    room: usize,
+    filled: Filled,
+    flush_fails: bool,
+}
+
+impl Write for FailingWriter {
+    fn write(&mut self, bytes: &[u8]) -> io::Result<usize> {
+        let count = bytes.len().min(self.piece).min(self.room);
+        if count == 0 && matches!(self.filled, Filled::Fails) {
+            return Err(io::Error::from(io::ErrorKind::BrokenPipe));
+        }
+        self.taken.extend_from_slice(&bytes[..count])?;
+        self.room = self.room.saturating_sub(count);
+        Ok(count)
+    }
+
+    fn flush(&mut self) -> io::Result<()> {
+        if self.flush_fails {
+            return Err(io::Error::from(io::ErrorKind::BrokenPipe));
+        }
+        Ok(())
+    }
+}
+
+/// Whether a run over these rows tells this line and status, and the writer has got this text by then.
+fn is_written(
+    alloc: Global,
+    rows: &str,
+    mut writer: FailingWriter,
+    out: &[u8],
+    line: &str,
+    status: u8,
+) -> bool {
+    let mut err = Vec::new(alloc);
+    let plan = plan_of("Mini.Item", FIRST);
+    let ended = run(
+        alloc,
+        &plan,
+        SCHEMA.as_bytes(),
+        Some(rows.as_bytes()),
+        &mut writer,
+        &mut err,
+    );
+    ended == status && writer.taken.as_slice() == out && err.as_slice() == line.as_bytes()
+}
+
+/// Of the kept text a beginning has been written, as long as the writer's room.
+#[test]
+fn a_failed_write_is_told(rt: HostRuntime) -> Result<(), Fail> {
+    for (room, filled) in [
+        (0, Filled::Fails),
+        (0, Filled::TakesNone),
+        (1, Filled::Fails),
+        (33, Filled::TakesNone),
+        (34, Filled::Fails),
+        (67, Filled::TakesNone),
+    ] {
+        let writer = FailingWriter {
+            taken: Vec::new(rt.alloc()),
+            piece: 10,
+            room,
+            filled,
+            flush_fails: false,
+        };
+        let out = A_TWICE.as_bytes().get(..room).ok_or("the beginning")?;
+        assert!(rt;
+            is_written(rt.alloc(), THREE, writer, out, "write\n", 5),
+            "at {room}"
+        );
+    }
+    Ok(())
+}
+
+/// The room of a writer is just what is written, and each call takes few bytes of it.
+#[test]
+fn a_writer_that_takes_little_gets_all(rt: HostRuntime) {
+    for piece in [1, 33, 34, 100] {
+        let writer = FailingWriter {
+            taken: Vec::new(rt.alloc()),
+            piece,
+            room: A_TWICE.len(),
+            filled: Filled::Fails,
+            flush_fails: false,
+        };
+        assert!(rt;
+            is_written(rt.alloc(), THREE, writer, A_TWICE.as_bytes(), "", 0),
+            "at {piece}"
+        );
+    }
+}
+
+/// The flush that ends a run without a fault: what was written stays. Behind a fault it changes nothing of what is told.
+#[test]
+fn a_failed_flush_is_told(rt: HostRuntime) {
+    for (rows, out, line, status) in [
+        (THREE, A_TWICE, "write\n", 5),
+        (A, A, "write\n", 5),
+        ("", "", "write\n", 5),
+        ("{}\n", "", "row 1 Missing Active\n", 4),
+        ("\n{\n", "", "row 2 Json\n", 4),
+    ] {
+        let writer = FailingWriter {
+            taken: Vec::new(rt.alloc()),
+            piece: 1000,
+            room: 1000,
+            filled: Filled::Fails,
+            flush_fails: true,
+        };
+        assert!(rt;
+            is_written(rt.alloc(), rows, writer, out.as_bytes(), line, status),
+            "at {rows}"
+        );
+    }
+}
