@@ -2,9 +2,13 @@
 #![tactic(auto)]
 
 #[cfg(test)]
+mod documents;
+#[cfg(test)]
 mod happy_paths;
 #[cfg(test)]
 mod limits;
+#[cfg(test)]
+mod outcomes;
 #[cfg(test)]
 mod queries;
 #[cfg(test)]
@@ -15,5 +19,7 @@ mod refused;
 mod runs;
 #[cfg(test)]
 mod told;
+#[cfg(test)]
+mod typings;
 #[cfg(test)]
 mod writers;
