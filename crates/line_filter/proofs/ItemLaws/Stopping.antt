@@ -1,0 +1,180 @@
+-- Where a run over items stops.
+use Rattle.std.proofs.Common.{◌≡◌, ℕ, ◌+◌, List, [], ◌∷◌, ◌++◌, length, refl, sym, ap, ◌∙◌, subst, append_assoc, Result, Ok, Err}
+use Rattle.std.specs.Prelude.{IfOk}
+use Rattle.line_filter.specs.Kept.{Sieve, Items, Passes, StopsAt, StopsBefore, StopsWithin, Stops}
+use Rattle.line_filter.specs.private.Walk.{step_of, text_where_kept, IsOfItem}
+use Rattle.line_filter.specs.declared.judge.Judgment.{Judgment}
+use Rattle.line_filter.specs.declared.finding.Finding.{Finding}
+use Rattle.line_filter.specs.declared.step.Step.{Step}
+use Rattle.line_filter.specs.declared.stop.Stop.{Stop}
+use Rattle.line_filter.specs.declared.tally.Tally.{Tally}
+
+-- ---- the step of one item
+
+pub step_of-of_item : {F E : Type 0} (number : ℕ) (found : Result (Finding F) E) (stop : Stop F) → step_of number found ≡ Step.Stopped stop → IsOfItem stop
+step_of-of_item number found (Stop.Fault line fault) step = tt
+step_of-of_item number found (Stop.TooLong line) step = tt
+step_of-of_item number found (Stop.Memory line) step = tt
+step_of-of_item number (Ok Finding.TooLong) (Stop.Read line) step = absurd cc
+step_of-of_item number (Ok Finding.PassedOver) (Stop.Read line) step = absurd cc
+step_of-of_item number (Ok (Finding.Judged Judgment.Kept)) (Stop.Read line) step = absurd cc
+step_of-of_item number (Ok (Finding.Judged Judgment.LeftOut)) (Stop.Read line) step = absurd cc
+step_of-of_item number (Ok (Finding.Judged (Judgment.Fault fault))) (Stop.Read line) step = absurd cc
+step_of-of_item number (Err e) (Stop.Read line) step = absurd cc
+step_of-of_item number (Ok Finding.TooLong) Stop.Write step = absurd cc
+step_of-of_item number (Ok Finding.PassedOver) Stop.Write step = absurd cc
+step_of-of_item number (Ok (Finding.Judged Judgment.Kept)) Stop.Write step = absurd cc
+step_of-of_item number (Ok (Finding.Judged Judgment.LeftOut)) Stop.Write step = absurd cc
+step_of-of_item number (Ok (Finding.Judged (Judgment.Fault fault))) Stop.Write step = absurd cc
+step_of-of_item number (Err e) Stop.Write step = absurd cc
+
+-- nothing is written of an item where a run stops
+pub text_where_stopped : {F E : Type 0} (number : ℕ) (found : Result (Finding F) E) (stop : Stop F) (text : List ℕ) → step_of number found ≡ Step.Stopped stop → text_where_kept found text ≡ []
+text_where_stopped number (Ok Finding.TooLong) stop text step = refl
+text_where_stopped number (Ok Finding.PassedOver) stop text step = refl
+text_where_stopped number (Ok (Finding.Judged Judgment.Kept)) stop text step = absurd cc
+text_where_stopped number (Ok (Finding.Judged Judgment.LeftOut)) stop text step = refl
+text_where_stopped number (Ok (Finding.Judged (Judgment.Fault fault))) stop text step = refl
+text_where_stopped number (Err e) stop text step = refl
+
+module _ {X F : Type 0} (items : Items X F) where
+  -- the items before this one are those that passed
+  pub Stops-one : {E : Type 0} (before after : List X) (item : X) (text : List ℕ) (tally : Tally) (number : ℕ) (found : Result (Finding F) E) (stop : Stop F)
+      → items.all ≡ before ++ item ∷ after → items.CameWhole before → Passes items.sieve before text tally → number ≡ length before + 1
+      → IfOk found (items.sieve.finds item) → step_of number found ≡ Step.Stopped stop → Stops items text stop
+  Stops-one before after item text tally number (Ok Finding.TooLong) stop whole came passes counted finds step =
+      let same : Stop.TooLong number ≡ stop = cc in
+      subst (Stops items text) same (record {
+        before = before;
+        bad = item;
+        after = after;
+        tally = tally;
+        whole = whole;
+        counted = counted;
+        passes = passes;
+        found = finds;
+      })
+  Stops-one before after item text tally number (Ok Finding.PassedOver) stop whole came passes counted finds step = absurd cc
+  Stops-one before after item text tally number (Ok (Finding.Judged Judgment.Kept)) stop whole came passes counted finds step = absurd cc
+  Stops-one before after item text tally number (Ok (Finding.Judged Judgment.LeftOut)) stop whole came passes counted finds step = absurd cc
+  Stops-one before after item text tally number (Ok (Finding.Judged (Judgment.Fault fault))) stop whole came passes counted finds step =
+      let same : Stop.Fault number fault ≡ stop = cc in
+      subst (Stops items text) same (record {
+        before = before;
+        bad = item;
+        after = after;
+        tally = tally;
+        whole = whole;
+        counted = counted;
+        passes = passes;
+        found = finds;
+      })
+  Stops-one before after item text tally number (Err e) stop whole came passes counted finds step =
+      let same : Stop.Memory number ≡ stop = cc in
+      subst (Stops items text) same (record {
+        before = before;
+        after = item ∷ after;
+        tally = tally;
+        whole = whole;
+        came_whole = came;
+        counted = counted;
+        passes = passes;
+      })
+
+  -- ---- of the text that was to be written, a beginning was
+
+  StopsAt-within : (text rest : List ℕ) (number : ℕ) (finding : Finding F) → StopsAt items (text ++ rest) number finding → StopsWithin items text
+  StopsAt-within text rest number finding stop = record {
+    before = stop.before;
+    after = stop.bad ∷ stop.after;
+    tally = stop.tally;
+    unwritten = rest;
+    whole = stop.whole;
+    passes = stop.passes;
+  }
+
+  StopsBefore-within : (text rest : List ℕ) (number : ℕ) → StopsBefore items (text ++ rest) number → StopsWithin items text
+  StopsBefore-within text rest number stop = record {
+    before = stop.before;
+    after = stop.after;
+    tally = stop.tally;
+    unwritten = rest;
+    whole = stop.whole;
+    passes = stop.passes;
+  }
+
+  pub Passes-within : (some more : List X) (text rest : List ℕ) (tally : Tally) → items.all ≡ some ++ more → Passes items.sieve some (text ++ rest) tally → StopsWithin items text
+  Passes-within some more text rest tally whole passes = record {
+    before = some;
+    after = more;
+    tally = tally;
+    unwritten = rest;
+    whole = whole;
+    passes = passes;
+  }
+
+  StopsWithin-within : (text rest : List ℕ) → StopsWithin items (text ++ rest) → StopsWithin items text
+  StopsWithin-within text rest stop = record {
+    before = stop.before;
+    after = stop.after;
+    tally = stop.tally;
+    unwritten = rest ++ stop.unwritten;
+    whole = stop.whole;
+    passes = subst (λ l. Passes items.sieve stop.before l stop.tally) (append_assoc text rest stop.unwritten) stop.passes;
+  }
+
+  pub Stops-within : (text rest : List ℕ) (stop : Stop F) → Stops items (text ++ rest) stop → StopsWithin items text
+  Stops-within text rest (Stop.Fault line fault) stop = StopsAt-within text rest line _ stop
+  Stops-within text rest (Stop.TooLong line) stop = StopsAt-within text rest line _ stop
+  Stops-within text rest (Stop.Read line) stop = StopsBefore-within text rest line stop
+  Stops-within text rest Stop.Write stop = StopsWithin-within text rest stop
+  Stops-within text rest (Stop.Memory line) stop = StopsBefore-within text rest line stop
+
+-- ---- items behind those that were looked at change nothing
+
+module _ {X F : Type 0} (sieve : Sieve X F) (few more many : List X) (Few Many : List X → Type 0) (whole : many ≡ few ++ more) (came : (before : List X) → Few before → Many before) where
+  abbrev these : Items X F
+  these = record { all = few; sieve = sieve; CameWhole = Few }
+
+  abbrev those : Items X F
+  those = record { all = many; sieve = sieve; CameWhole = Many }
+
+  StopsAt-more : (text : List ℕ) (number : ℕ) (finding : Finding F) → StopsAt these text number finding → StopsAt those text number finding
+  StopsAt-more text number finding stop = record {
+    before = stop.before;
+    bad = stop.bad;
+    after = stop.after ++ more;
+    tally = stop.tally;
+    whole = whole ∙ ap (λ l. l ++ more) stop.whole ∙ append_assoc stop.before (stop.bad ∷ stop.after) more;
+    counted = stop.counted;
+    passes = stop.passes;
+    found = stop.found;
+  }
+
+  StopsBefore-more : (text : List ℕ) (number : ℕ) → StopsBefore these text number → StopsBefore those text number
+  StopsBefore-more text number stop = record {
+    before = stop.before;
+    after = stop.after ++ more;
+    tally = stop.tally;
+    whole = whole ∙ ap (λ l. l ++ more) stop.whole ∙ append_assoc stop.before stop.after more;
+    came_whole = came stop.before stop.came_whole;
+    counted = stop.counted;
+    passes = stop.passes;
+  }
+
+  pub StopsWithin-more : (text : List ℕ) → StopsWithin these text → StopsWithin those text
+  StopsWithin-more text stop = record {
+    before = stop.before;
+    after = stop.after ++ more;
+    tally = stop.tally;
+    unwritten = stop.unwritten;
+    whole = whole ∙ ap (λ l. l ++ more) stop.whole ∙ append_assoc stop.before stop.after more;
+    passes = stop.passes;
+  }
+
+  pub Stops-more : (text : List ℕ) (stop : Stop F) → Stops these text stop → Stops those text stop
+  Stops-more text (Stop.Fault line fault) stop = StopsAt-more text line _ stop
+  Stops-more text (Stop.TooLong line) stop = StopsAt-more text line _ stop
+  Stops-more text (Stop.Read line) stop = StopsBefore-more text line stop
+  Stops-more text Stop.Write stop = StopsWithin-more text stop
+  Stops-more text (Stop.Memory line) stop = StopsBefore-more text line stop

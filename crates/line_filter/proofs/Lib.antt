@@ -1,0 +1,4 @@
+mod ItemLaws
+mod LineLaws
+mod RunLaws
+mod WriteLaws

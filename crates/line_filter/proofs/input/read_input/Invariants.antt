@@ -1,0 +1,11 @@
+-- What is filled was read, and there is less and less room for more.
+use Rattle.std.proofs.Common.{◌-◌, ◌<◌, ◌≤◌, ◌^◌, take, vec_len}
+use Rattle.std.specs.Io.KnownBytes.{Consumes}
+use Rattle.line_filter.proofs.input.read_input.Given as goal
+
+abbrev pub invariant-loop-bytes : goal.invariant-loop-bytes
+invariant-loop-bytes g l = (l.filled ≤ vec_len l.bytes) × (l.filled < 2 ^ 63)
+    × Consumes (g.R.Read.remaining l.initial.reader) (g.R.Read.remaining l.reader) (take l.filled l.bytes.items)
+
+abbrev pub decreases-loop-bytes : goal.decreases-loop-bytes
+decreases-loop-bytes g l = 2 ^ 63 - l.filled

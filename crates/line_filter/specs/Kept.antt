@@ -1,0 +1,95 @@
+-- What is kept of items that are judged one by one, in order, up to the first that is at fault.
+use Rattle.std.specs.Prelude.{◌≡◌, ℕ, ◌+◌, List, ◌∷◌, ◌++◌, Bool, true, false, length, map, filter, flat_map, count_by, All}
+use Rattle.line_filter.specs.declared.judge.Judgment.{Judgment}
+use Rattle.line_filter.specs.declared.finding.Finding.{Finding}
+use Rattle.line_filter.specs.declared.stop.Stop.{Stop}
+use Rattle.line_filter.specs.declared.tally.Tally.{Tally}
+
+-- it is no fault
+abbrev pub IsFaultless : {F : Type 0} → Finding F → Type 0
+IsFaultless Finding.TooLong = ⊥
+IsFaultless Finding.PassedOver = Unit {0}
+IsFaultless (Finding.Judged Judgment.Kept) = Unit {0}
+IsFaultless (Finding.Judged Judgment.LeftOut) = Unit {0}
+IsFaultless (Finding.Judged (Judgment.Fault fault)) = ⊥
+
+-- it keeps its item
+abbrev pub is_kept : {F : Type 0} → Finding F → Bool
+is_kept (Finding.Judged Judgment.Kept) = true
+is_kept _ = false
+
+-- it counts its item as a row
+abbrev pub is_row : {F : Type 0} → Finding F → Bool
+is_row (Finding.Judged _) = true
+is_row _ = false
+
+-- what may be found of an item, and the text that is written of one that is kept
+pub record Sieve (X F : Type 0) : Type 1 where
+  pub finds : X → Finding F → Type 0
+  pub text_of : X → List ℕ
+
+-- items in order, their sieve, and which first ones of them came in whole before a device failed
+pub record Items (X F : Type 0) : Type 1 where
+  pub all : List X
+  pub sieve : Sieve X F
+  pub CameWhole : List X → Type 0
+
+-- an item and what is found of it
+pub record SiftedItem (X F : Type 0) : Type 0 where
+  pub item : X
+  pub finding : Finding F
+
+-- the texts of the kept ones
+abbrev pub kept_text : {X F : Type 0} → (X → List ℕ) → List (SiftedItem X F) → List ℕ
+kept_text text_of all = flat_map (λ s. text_of s.item) (filter (λ s. is_kept s.finding) all)
+
+-- None of these items is at fault, the text is that of the kept ones, and the tally counts the rows and the kept ones.
+pub record Passes {X F : Type 0} (sieve : Sieve X F) (items : List X) (text : List ℕ) (tally : Tally) : Type 0 where
+  pub all : List (SiftedItem X F)
+  pub in_order : map (λ s. s.item) all ≡ items
+  pub found : All (λ s. sieve.finds s.item s.finding × IsFaultless s.finding) all
+  pub kept : text ≡ kept_text sieve.text_of all
+  pub rows_counted : tally.rows ≡ count_by (λ s. is_row s.finding) all
+  pub kept_counted : tally.kept ≡ count_by (λ s. is_kept s.finding) all
+
+-- all the items pass
+abbrev pub Filters : {X F : Type 0} → Items X F → List ℕ → Tally → Type 0
+Filters items text tally = Passes items.sieve items.all text tally
+
+-- The item of this number, from 1, is the first at fault, by this finding; the text is that of the kept ones before it.
+pub record StopsAt {X F : Type 0} (items : Items X F) (text : List ℕ) (number : ℕ) (finding : Finding F) : Type 0 where
+  pub before : List X
+  pub bad : X
+  pub after : List X
+  pub tally : Tally
+  pub whole : items.all ≡ before ++ bad ∷ after
+  pub counted : number ≡ length before + 1
+  pub passes : Passes items.sieve before text tally
+  pub found : items.sieve.finds bad finding
+
+-- The items before this number came in whole, none is at fault, and the text is that of the kept ones among them.
+pub record StopsBefore {X F : Type 0} (items : Items X F) (text : List ℕ) (number : ℕ) : Type 0 where
+  pub before : List X
+  pub after : List X
+  pub tally : Tally
+  pub whole : items.all ≡ before ++ after
+  pub came_whole : items.CameWhole before
+  pub counted : number ≡ length before + 1
+  pub passes : Passes items.sieve before text tally
+
+-- The text is a beginning of that of the kept ones among some first items of which none is at fault.
+pub record StopsWithin {X F : Type 0} (items : Items X F) (text : List ℕ) : Type 0 where
+  pub before : List X
+  pub after : List X
+  pub tally : Tally
+  pub unwritten : List ℕ
+  pub whole : items.all ≡ before ++ after
+  pub passes : Passes items.sieve before (text ++ unwritten) tally
+
+-- what a stop says of the items and of the text that was written
+abbrev pub Stops : {X F : Type 0} → Items X F → List ℕ → Stop F → Type 0
+Stops items text (Stop.Fault line fault) = StopsAt items text line (Finding.Judged (Judgment.Fault fault))
+Stops items text (Stop.TooLong line) = StopsAt items text line Finding.TooLong
+Stops items text (Stop.Read line) = StopsBefore items text line
+Stops items text Stop.Write = StopsWithin items text
+Stops items text (Stop.Memory line) = StopsBefore items text line

@@ -1,0 +1,5 @@
+pub mod Lines
+pub mod Kept
+pub mod LineItems
+pub mod Growth
+pub mod private

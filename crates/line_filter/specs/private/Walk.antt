@@ -1,0 +1,57 @@
+-- What the walk over the lines keeps from line to line. Private clauses alone cite these.
+use Rattle.std.specs.Prelude.{◌≡◌, ℕ, ◌+◌, List, [], length, MatchOption, MatchResult, Result, Ok, Err}
+use Rattle.line_filter.specs.declared.judge.Judgment.{Judgment}
+use Rattle.line_filter.specs.declared.finding.Finding.{Finding}
+use Rattle.line_filter.specs.declared.input.Ending.{Ending}
+use Rattle.line_filter.specs.declared.step.Step.{Step}
+use Rattle.line_filter.specs.declared.walk.Progress.{Progress}
+use Rattle.line_filter.specs.declared.stop.Stop.{Stop}
+use Rattle.line_filter.specs.declared.tally.Tally.{Tally}
+use Rattle.line_filter.specs.Kept.{Filters, Stops}
+use Rattle.line_filter.specs.LineItems.{LineJudge, lines}
+use Rattle.line_filter.specs.Lines.{lines_of, text_of_lines}
+
+-- the tallies of items and of those behind them, together
+abbrev pub sum_of : Tally → Tally → Tally
+sum_of a b = record { rows = a.rows + b.rows; kept = a.kept + b.kept }
+
+-- what becomes of the item of this number, of which this is found
+abbrev pub step_of : {F E : Type 0} → ℕ → Result (Finding F) E → Step F
+step_of number (Ok Finding.TooLong) = Step.Stopped (Stop.TooLong number)
+step_of number (Ok Finding.PassedOver) = Step.Passed (record { rows = 0; kept = 0 })
+step_of number (Ok (Finding.Judged Judgment.Kept)) = Step.Passed (record { rows = 1; kept = 1 })
+step_of number (Ok (Finding.Judged Judgment.LeftOut)) = Step.Passed (record { rows = 1; kept = 0 })
+step_of number (Ok (Finding.Judged (Judgment.Fault fault))) = Step.Stopped (Stop.Fault number fault)
+step_of number (Err _) = Step.Stopped (Stop.Memory number)
+
+-- the text of an item of which this is found: nothing where it is not kept
+abbrev pub text_where_kept : {F E : Type 0} → Result (Finding F) E → List ℕ → List ℕ
+text_where_kept (Ok (Finding.Judged Judgment.Kept)) text = text
+text_where_kept _ text = []
+
+-- the stop is told of an item, and of no device
+abbrev pub IsOfItem : {F : Type 0} → Stop F → Type 0
+IsOfItem (Stop.Read line) = ⊥
+IsOfItem Stop.Write = ⊥
+IsOfItem _ = Unit {0}
+
+-- how far the lines went, and the text that they gave
+abbrev pub Goes : {F : Type 0} → LineJudge F → List ℕ → List ℕ → Progress F → Type 0
+Goes judge bytes text progress = MatchOption progress.stop
+    (Filters (lines judge bytes) text progress.tally × (progress.lines ≡ length (lines_of bytes)))
+    (λ stop. Stops (lines judge bytes) text stop)
+
+-- what a run answers where no line that was judged is at fault
+abbrev pub Closes : {F : Type 0} → Progress F → Ending → Result Tally (Stop F) → Type 0
+Closes progress Ending.AtEnd answer =
+    MatchResult answer (λ tally. tally ≡ progress.tally) (λ stop. stop ≡ Stop.Write)
+Closes progress Ending.ReadFailed answer = answer ≡ Err (Stop.Read (progress.lines + 1))
+Closes progress Ending.NoMemory answer = answer ≡ Err (Stop.Memory (progress.lines + 1))
+
+-- what a run answers: the stop at a line goes before that of the reader
+abbrev pub Ends : {F : Type 0} → Progress F → Ending → Result Tally (Stop F) → Type 0
+Ends progress ending answer = MatchOption progress.stop (Closes progress ending answer) (λ stop. answer ≡ Err stop)
+
+-- an LF stands behind each line of these bytes, the last among them
+abbrev pub IsOfWholeLines : List ℕ → Type 0
+IsOfWholeLines bytes = bytes ≡ text_of_lines (lines_of bytes)

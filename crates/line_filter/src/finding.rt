@@ -1,0 +1,45 @@
+ghost use Rattle.std.specs.Prelude.{IfOk, IsTrue, ◌↔◌, ◌≡◌};
+ghost use Rattle.line_filter.specs.LineItems.{IsFoundOf, SaysTheSame};
+ghost use Rattle.line_filter.specs.Lines.{IsBlank, is_space};
+
+use super::judge::{Judge, Judgment};
+use std::alloc::AllocError;
+
+/// The most bytes that a line may have before its LF.
+pub const LONGEST_LINE: usize = 1_048_576;
+
+/// What is found of any item. A line that is too long or blank is not judged; items of other kinds may all be.
+#[derive(Debug, Drop)]
+pub enum Finding<F> {
+    TooLong,
+    PassedOver,
+    Judged(Judgment<F>),
+}
+
+fn is_space(byte: u8) -> bool
+    ensures { result ≡ is_space byte }
+{
+    byte == b' ' || byte == b'\t' || byte == b'\r'
+}
+
+/// Whether the line has nothing but spaces, tabs and CRs.
+pub(crate) fn is_blank(line: &[u8]) -> bool
+    ensures { IsTrue result ↔ IsBlank line.now }
+{
+    line.iter().all(|byte| is_space(*byte))
+}
+
+/// What is found of a line, whatever it holds.
+pub(crate) fn find<J: Judge>(judge: &mut J, line: &[u8]) -> Result<Finding<J::Fault>, AllocError>
+    ensures found { IfOk result (IsFoundOf (J.says judge.old) line.now) }
+    ensures same { SaysTheSame (J.says judge.old) (J.says judge.new) }
+{
+    if line.len() > LONGEST_LINE {
+        return Ok(Finding::TooLong);
+    }
+    if is_blank(line) {
+        return Ok(Finding::PassedOver);
+    }
+    let judgment = judge.judge(line)?;
+    Ok(Finding::Judged(judgment))
+}

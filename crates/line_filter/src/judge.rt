@@ -1,0 +1,26 @@
+ghost use Rattle.std.specs.Prelude.{IfOk};
+ghost use Rattle.line_filter.specs.LineItems.{LineJudge, SaysTheSame};
+
+use std::alloc::AllocError;
+
+/// What a judge says of a line that is neither too long nor blank.
+#[derive(Debug, Drop)]
+pub enum Judgment<F> {
+    Kept,
+    LeftOut,
+    Fault(F),
+}
+
+/// Looks at lines that are neither too long nor blank, one by one. It may keep scratch space from line to line.
+pub trait Judge {
+    /// What can be wrong with a line.
+    type Fault: Drop;
+
+    // What may be said of a line. It depends on the line alone.
+    ghost says: { Self → LineJudge Self.Fault };
+
+    /// Judges one line, without its LF. `Err` says that memory was refused, and ends the run.
+    fn judge(&mut self, line: &[u8]) -> Result<Judgment<Self::Fault>, AllocError>
+        ensures said { IfOk result (says self.old line.now) }
+        ensures same { SaysTheSame (says self.old) (says self.new) };
+}

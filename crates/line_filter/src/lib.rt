@@ -1,0 +1,23 @@
+//! The lines of a reader are judged one by one, and those that are kept go to a writer.
+//!
+//! What judges a line is a [`Judge`], whose faults are of its own type. The first line at fault ends the run.
+#![tactic(auto)]
+
+mod filter;
+mod finding;
+mod input;
+mod judge;
+mod laws;
+mod output;
+mod split;
+mod step;
+mod stop;
+mod tally;
+mod walk;
+
+pub use filter::{filter_bytes, filter_reader};
+pub use finding::{Finding, LONGEST_LINE};
+pub use judge::{Judge, Judgment};
+pub use laws::slices_tell_their_bytes;
+pub use stop::Stop;
+pub use tally::Tally;

@@ -1,0 +1,70 @@
+ghost use Rattle.std.specs.Prelude.{◌≡◌, ◌++◌, Ok, IfOk, OnOk, OnErr};
+ghost use Rattle.line_filter.specs.declared.judge.Judgment.{Judgment as JudgmentModel};
+ghost use Rattle.line_filter.specs.declared.finding.Finding.{Finding as FindingModel};
+ghost use Rattle.line_filter.specs.Lines.{text_of_line};
+ghost use Rattle.line_filter.specs.private.HeldBack.{WritesFront, WritesBut};
+ghost use Rattle.line_filter.specs.private.Walk.{step_of, text_where_kept};
+
+use super::finding::Finding;
+use super::judge::Judgment;
+use super::output::{NotWritten, hold};
+use super::stop::Stop;
+use super::tally::Tally;
+use std::alloc::AllocError;
+use std::io::Write;
+
+/// What became of one item.
+#[derive(Drop)]
+pub enum Step<F> {
+    Passed(Tally),
+    Stopped(Stop<F>),
+}
+
+/// Writes the text and then LF.
+fn keep<W: Write>(out: &mut W, held: &mut Vec<u8>, text: &[u8]) -> Result<(), NotWritten>
+    ensures ok { OnOk result
+        (WritesBut (W.contents out.old) (W.contents out.new) held.new.items (held.old.items ++ text_of_line text.now)) }
+    ensures err { OnErr result
+        (WritesFront (W.contents out.old) (W.contents out.new) (held.old.items ++ text_of_line text.now)) }
+{
+    hold(out, held, text)?;
+    hold(out, held, b"\n")
+}
+
+/// What becomes of the item of this number, of which that was found. Where it is kept, the text is written and then LF:
+/// of a line that is the line itself.
+pub fn settle<F: Drop, W: Write>(
+    found: Result<Finding<F>, AllocError>,
+    text: &[u8],
+    number: u64,
+    out: &mut W,
+    held: &mut Vec<u8>,
+) -> Result<Step<F>, NotWritten>
+    ensures ok { OnOk result (WritesBut (W.contents out.old) (W.contents out.new) held.new.items
+        (held.old.items ++ text_where_kept found (text_of_line text.now))) }
+    ensures step { IfOk result (λ step. step ≡ step_of number found) }
+    ensures kept { OnErr result (found ≡ Ok (FindingModel.Judged JudgmentModel.Kept)) }
+    ensures err { OnErr result
+        (WritesFront (W.contents out.old) (W.contents out.new) (held.old.items ++ text_of_line text.now)) }
+{
+    let judgment = match found {
+        Ok(Finding::TooLong) => return Ok(Step::Stopped(Stop::TooLong { line: number })),
+        Ok(Finding::PassedOver) => return Ok(Step::Passed(Tally { rows: 0, kept: 0 })),
+        Ok(Finding::Judged(judgment)) => judgment,
+        Err(_) => return Ok(Step::Stopped(Stop::Memory { line: number })),
+    };
+    match judgment {
+        Judgment::Kept => {
+            keep(out, held, text)?;
+            Ok(Step::Passed(Tally { rows: 1, kept: 1 }))
+        }
+        Judgment::LeftOut => Ok(Step::Passed(Tally { rows: 1, kept: 0 })),
+        Judgment::Fault(fault) => {
+            let stop = Stop::Fault {
+                line: number,
+                fault,
+            };
+            Ok(Step::Stopped(stop))
+        }
+    }
+}

@@ -1,0 +1,6 @@
+/// How many rows a run saw and kept. A line that is passed over is no row.
+#[derive(Clone, Copy, Debug, PartialEq, Eq)]
+pub struct Tally {
+    pub rows: u64,
+    pub kept: u64,
+}
