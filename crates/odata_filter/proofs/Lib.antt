@@ -1,8 +1,3 @@
-mod CommandLineWorked
-mod FilterLemmas
-mod LineLemmas
-mod PlanLemmas
-mod RowJudges
-mod RunEndings
-mod RunLemmas
-mod WriteLemmas
+pub mod LineLemmas
+pub mod RowLemmas
+pub mod RunLemmas

@@ -6,9 +6,9 @@ use Rattle.clap.specs.Words.{App, Row, Rule, Text, IsAmong, fault_of, first_of, 
 use Rattle.clap.specs.Words.{new_app, new_rule, subcommand_of, with_rule, with_subcommand}
 use Rattle.clap.specs.declared.builder.action.ArgAction.TheVariants.{Set}
 use Rattle.odata_filter.specs.FilterPlan.{IsFilterPlan, IsOneOf}
-use Rattle.odata_filter.specs.declared.command_line.Plan.{Plan}
-use Rattle.odata_filter.specs.declared.command_line.PlanFault.{PlanFault}
-use Rattle.odata_filter.specs.declared.command_line.PlanFault.TheVariants.{Clap, OneOf, Memory}
+use Rattle.odata_filter.specs.declared.command.command_line.Plan.{Plan}
+use Rattle.odata_filter.specs.declared.command.command_line.PlanFault.{PlanFault}
+use Rattle.odata_filter.specs.declared.command.command_line.PlanFault.TheVariants.{Clap, OneOf, Memory}
 
 -- an option `--name TEXT`, which the words must have or may have
 abbrev pub text_rule : Text → Bool → Rule

@@ -1,7 +1,7 @@
 -- The one kind of command line that is taken so far.
 use Rattle.std.specs.Prelude.{◌≡◌, ⊤, Option, Some, None, IsNone, false}
-use Rattle.odata_filter.specs.declared.command_line.Plan.{Plan}
-use Rattle.odata_filter.specs.declared.command_line.Verb.TheVariants.{Filter}
+use Rattle.odata_filter.specs.declared.command.command_line.Plan.{Plan}
+use Rattle.odata_filter.specs.declared.command.command_line.Verb.TheVariants.{Filter}
 
 -- one of the two is there, and the other is not
 abbrev pub IsOneOf : {X : Type 0} → Option X → Option X → Type 0

@@ -24,10 +24,12 @@ pub use Rattle.odata_eval.specs.Outcome
 pub use Rattle.odata_eval.specs.VerdictView
 pub use Rattle.odata_typing.specs.Filter
 pub use Rattle.odata_typing.specs.HasTyping
-pub mod Lines
-pub mod Judges
-pub mod Kept
-pub mod Writes
+pub use Rattle.line_filter.specs.Growth
+pub use Rattle.line_filter.specs.Kept
+pub use Rattle.line_filter.specs.LineItems
+pub use Rattle.line_filter.specs.Lines
+pub mod RowJudgment
+pub mod RunStops
 pub mod FilterPlan
 pub mod CommandLine
 pub mod WorkedLines

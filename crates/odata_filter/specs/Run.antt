@@ -6,17 +6,16 @@ use Rattle.edm_values.specs.MomentParts.{MomentParts}
 use Rattle.odata_text.specs.Query as query
 use Rattle.odata_text.specs.declared.query_fault.QueryFault.{QueryFault}
 use Rattle.odata_filter.specs.FilterPlan.{IsFilterPlan}
-use Rattle.odata_filter.specs.Judges.{JudgesRow}
-use Rattle.odata_filter.specs.Kept.{Filters, StopsAt, StopsWithin, IsSound}
-use Rattle.odata_filter.specs.Lines.{lines_of}
-use Rattle.odata_filter.specs.Writes.{Writes}
+use Rattle.line_filter.specs.Growth.{Writes}
+use Rattle.line_filter.specs.Kept.{Items, Filters, StopsAt, StopsWithin, IsFaultless}
+use Rattle.line_filter.specs.declared.finding.Finding.{Finding}
+use Rattle.line_filter.specs.declared.tally.Tally.{Tally}
+use Rattle.odata_filter.specs.RowJudgment.{rows_of}
+use Rattle.odata_filter.specs.declared.bad_row.BadRow.{BadRow}
 use Rattle.csdl_schema.specs.Document.{StandsFor, IsFirstFault}
 use Rattle.csdl_schema.specs.Faults.{Fault}
 use Rattle.csdl_schema.specs.SchemaModel.{SchemaModel, IsEntityAt, place_named, slots_of, type_name_at}
-use Rattle.odata_filter.specs.declared.command_line.Plan.{Plan}
-use Rattle.odata_filter.specs.declared.lines.said.Judgment.{Judgment}
-use Rattle.odata_filter.specs.declared.lines.said.Said.{Said}
-use Rattle.odata_filter.specs.declared.lines.tally.Tally.{Tally}
+use Rattle.odata_filter.specs.declared.command.command_line.Plan.{Plan}
 use Rattle.odata_typing.specs.Filter.{Filter, tree_of_filter}
 use Rattle.odata_typing.specs.HasTyping.{HasTyping, HasNoTyping}
 
@@ -70,29 +69,40 @@ HasNoType plan document =
     ((fault : Fault) × IsFirstFault document fault)
     ⊎ ((schema : SchemaModel) × StandsFor document schema × ((place : ℕ) → place_named schema plan.named.now ≡ Some place → ¬ IsEntityAt schema place))
 
--- There are rows, and where their bytes are known and what standard output has, P holds of the bytes and of the text that was written.
-abbrev pub OverRows : Option (Option (List ℕ)) → Option (List ℕ) → Option (List ℕ) → (List ℕ → List ℕ → Type 0) → Type 0
-OverRows rows old new P = IsSomeAnd rows (λ known. IfSome known (λ bytes. Writes old new (P bytes)))
+-- What a run reads and writes: what its rows had to give, unknown where their reader does not tell, and none where their file
+-- cannot be opened; and what standard output held before and after, where it tells that.
+pub record Streams : Type 0 where
+  pub rows : Option (Option (List ℕ))
+  pub old : Option (List ℕ)
+  pub new : Option (List ℕ)
 
--- what is said of lines and of a text, given what may be said of a line
-abbrev pub OfLines : Type 1
-OfLines = (List ℕ → Judgment → Type 0) → List (List ℕ) → List ℕ → Type 0
+-- nothing was written
+abbrev pub WroteNothing : Streams → Type 0
+WroteNothing streams = Keeps streams.old streams.new
 
--- The plan's text is a filter, and P holds of what it says of the rows' lines and of the text that was written.
-pub record ByFilter (P : OfLines) (plan : Plan) (document : List ℕ) (rows : Option (Option (List ℕ))) (old new : Option (List ℕ)) : Type 0 where
+-- There are rows, and where their bytes are known and what standard output holds, P holds of the bytes and of the text that was written.
+abbrev pub OverRows : Streams → (List ℕ → List ℕ → Type 0) → Type 0
+OverRows streams P = IsSomeAnd streams.rows (λ known. IfSome known (λ bytes. Writes streams.old streams.new (P bytes)))
+
+-- what is said of rows and of a text
+abbrev pub OfRows : Type 1
+OfRows = Items (List ℕ) BadRow → List ℕ → Type 0
+
+-- The plan's text is a filter, and P holds of the rows by that filter and of the text that was written.
+pub record ByFilter (P : OfRows) (plan : Plan) (document : List ℕ) (streams : Streams) : Type 0 where
   pub filter : Filter
   pub is_filter : IsFilterOf plan document filter
   pub now : MomentParts
   pub is_first : IsFirstMoment now
-  pub written : OverRows rows old new (λ bytes. P (JudgesRow filter now) (lines_of bytes))
+  pub written : OverRows streams (λ bytes. P (rows_of filter now bytes))
 
--- no line is at fault, and the text is that of the kept ones
-abbrev pub FiltersAll : OfLines
-FiltersAll judge lines text = (tally : Tally) × Filters judge lines text tally
+-- no row is at fault, and the text is that of the kept ones
+abbrev pub FiltersAll : OfRows
+FiltersAll rows text = (tally : Tally) × Filters rows text tally
 
--- some line is the first at fault, and the text is that of the kept lines before it
-abbrev pub StopsAtFault : OfLines
-StopsAtFault judge lines text = (place : ℕ) × (said : Said) × (¬ IsSound said) × StopsAt judge lines text place said
+-- some row is the first at fault, and the text is that of the kept ones before it
+abbrev pub StopsAtFault : OfRows
+StopsAtFault rows text = (number : ℕ) × (finding : Finding BadRow) × (¬ IsFaultless finding) × StopsAt rows text number finding
 
 -- how a run ends
 pub data Status : Type 0 where
@@ -114,24 +124,25 @@ status_number at_fault = 4
 status_number unread = 5
 status_number without_memory = 6
 
--- What each says: all rows were filtered; the text is no filter; the plan is none to filter rows or its query has no filter; there is no such entity type;
--- a row is at fault; there is a filter, and of its rows nothing is said; nothing is said. Nothing was written in the second to fourth.
-abbrev pub StatusSays : Status → Plan → List ℕ → Option (Option (List ℕ)) → Option (List ℕ) → Option (List ℕ) → Type 0
-StatusSays done plan document rows old new = ByFilter FiltersAll plan document rows old new
-StatusSays refused plan document rows old new = HasNoFilter plan document × Keeps old new
-StatusSays misused plan document rows old new = ((¬ IsFilterPlan plan) ⊎ HasNoOption plan document) × Keeps old new
-StatusSays without_type plan document rows old new = IsFilterPlan plan × (HasNoType plan document × Keeps old new)
-StatusSays at_fault plan document rows old new = ByFilter StopsAtFault plan document rows old new
-StatusSays unread plan document rows old new = HasFilter plan document
-StatusSays without_memory plan document rows old new = Unit {0}
+-- What each says: all rows were filtered; the text is no filter; the plan is none to filter rows or its query has no filter; there is no
+-- such entity type; a row is at fault; there is a filter, and of its rows nothing is said; nothing is said. Nothing was written in the
+-- second to fourth.
+abbrev pub StatusSays : Status → Plan → List ℕ → Streams → Type 0
+StatusSays done plan document streams = ByFilter FiltersAll plan document streams
+StatusSays refused plan document streams = HasNoFilter plan document × WroteNothing streams
+StatusSays misused plan document streams = ((¬ IsFilterPlan plan) ⊎ HasNoOption plan document) × WroteNothing streams
+StatusSays without_type plan document streams = IsFilterPlan plan × (HasNoType plan document × WroteNothing streams)
+StatusSays at_fault plan document streams = ByFilter StopsAtFault plan document streams
+StatusSays unread plan document streams = HasFilter plan document
+StatusSays without_memory plan document streams = Unit {0}
 
--- nothing was written, or a beginning of the text of the kept lines among some first lines of which none is at fault
-abbrev pub Begins : Plan → List ℕ → Option (Option (List ℕ)) → Option (List ℕ) → Option (List ℕ) → Type 0
-Begins plan document rows old new = Keeps old new ⊎ ByFilter StopsWithin plan document rows old new
+-- nothing was written, or a beginning of the text of the kept rows among some first ones of which none is at fault
+abbrev pub Begins : Plan → List ℕ → Streams → Type 0
+Begins plan document streams = WroteNothing streams ⊎ ByFilter StopsWithin plan document streams
 
 -- The answer is a status, what that says holds, and what was written by then is right.
-pub record Answers (answer : ℕ) (plan : Plan) (document : List ℕ) (rows : Option (Option (List ℕ))) (old new : Option (List ℕ)) : Type 0 where
+pub record Answers (answer : ℕ) (plan : Plan) (document : List ℕ) (streams : Streams) : Type 0 where
   pub status : Status
   pub is_answer : answer ≡ status_number status
-  pub says : StatusSays status plan document rows old new
-  pub begins : Begins plan document rows old new
+  pub says : StatusSays status plan document streams
+  pub begins : Begins plan document streams

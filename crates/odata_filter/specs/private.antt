@@ -1,4 +1,4 @@
 -- Definitions that private clauses alone cite.
-pub mod PlanSteps
 pub mod Failures
-pub mod Passing
+pub mod PlanSteps
+pub mod Verdicts

@@ -1,12 +1,17 @@
-//! Rows in, rows out: the filter over lines of JSON, and the command line.
+//! Rows in, rows out: the lines of JSON that a filter keeps, and the program's command line over them.
 #![tactic(auto)]
 
-pub mod command_line;
-mod failure;
-pub mod lines;
-mod planner;
-mod runner;
+mod bad_row;
+pub mod command;
+mod filter;
+mod row_judge;
+mod run_fault;
 
-pub use lines::{filter_lines, filter_slice, slices_tell_their_bytes};
-pub use planner::plan;
-pub use runner::run;
+pub use bad_row::BadRow;
+pub use command::command_line;
+pub use command::laws::worked_lines;
+pub use command::planner::plan;
+pub use command::runner::run;
+pub use filter::{filter_lines, filter_slice};
+pub use line_filter::{Tally, slices_tell_their_bytes};
+pub use run_fault::RunFault;

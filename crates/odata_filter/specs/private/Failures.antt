@@ -1,19 +1,19 @@
 -- The failures of a run. Private clauses alone cite these.
 use Rattle.std.specs.Prelude.{ℕ, List, Option, Result, Ok, Err}
-use Rattle.std.specs.Io.KnownBytes.{Keeps}
+use Rattle.line_filter.specs.Kept.{Items}
+use Rattle.odata_filter.specs.declared.bad_row.BadRow.{BadRow}
 use Rattle.odata_text.specs.declared.query_fault.QueryFault.{QueryFault}
 use Rattle.odata_text.specs.declared.query_fault.QueryFault.TheVariants as query
-use Rattle.odata_filter.specs.Kept.{Stops}
-use Rattle.odata_filter.specs.Run.{OverRows, Status, StatusSays, done, refused, misused, without_type, at_fault, unread, without_memory}
-use Rattle.odata_filter.specs.declared.lines.said.Judgment.{Judgment}
+use Rattle.odata_filter.specs.RunStops.{StopsBy}
+use Rattle.odata_filter.specs.Run.{Streams, WroteNothing, OverRows, OfRows, Status, StatusSays, done, refused, misused, without_type, at_fault, unread, without_memory}
 use Rattle.csdl_schema.specs.declared.fault.SchemaFault.{SchemaFault}
 use Rattle.csdl_schema.specs.declared.fault.SchemaFault.TheVariants as schema
-use Rattle.odata_filter.specs.declared.command_line.Plan.{Plan}
-use Rattle.odata_filter.specs.declared.failure.Failure.{Failure}
-use Rattle.odata_filter.specs.declared.failure.Failure.TheVariants.{NotYet, OneOf, Schema, UnknownType, Query, NoOption, Refused, RowsFile, Rows}
-use Rattle.odata_filter.specs.declared.lines.tally.Tally.{Tally}
-use Rattle.odata_filter.specs.declared.lines.run_fault.RunFault.{RunFault}
-use Rattle.odata_filter.specs.declared.lines.run_fault.RunFault.TheVariants as rows
+use Rattle.odata_filter.specs.declared.command.command_line.Plan.{Plan}
+use Rattle.odata_filter.specs.declared.command.failure.Failure.{Failure}
+use Rattle.odata_filter.specs.declared.command.failure.Failure.TheVariants.{NotYet, OneOf, Schema, UnknownType, Query, NoOption, Refused, RowsFile, Rows}
+use Rattle.line_filter.specs.declared.tally.Tally.{Tally}
+use Rattle.odata_filter.specs.declared.run_fault.RunFault.{RunFault}
+use Rattle.odata_filter.specs.declared.run_fault.RunFault.TheVariants as rows
 use Rattle.odata_typing.specs.declared.refusal.Refusal.{Refusal}
 use Rattle.odata_typing.specs.declared.refusal.Refusal.TheVariants as refusal
 
@@ -52,12 +52,12 @@ status_of (RowsFile name) = unread
 status_of (Rows fault) = status_of_rows fault
 
 -- what a failure over the rows says of them and of what was written
-abbrev pub StopsOver : (List ℕ → Judgment → Type 0) → Failure → Option (Option (List ℕ)) → Option (List ℕ) → Option (List ℕ) → Type 0
-StopsOver judge (Rows fault) rows old new = OverRows rows old new (λ bytes text. Stops judge bytes text fault)
-StopsOver judge (RowsFile name) rows old new = Keeps old new
-StopsOver judge other rows old new = ⊥
+abbrev pub StopsOver : (List ℕ → Items (List ℕ) BadRow) → Failure → Streams → Type 0
+StopsOver rows (Rows fault) streams = OverRows streams (λ bytes text. StopsBy (rows bytes) text fault)
+StopsOver rows (RowsFile name) streams = WroteNothing streams
+StopsOver rows other streams = ⊥
 
 -- what an answer says of the plan, of the rows and of what was written
-abbrev pub AnswerSays : Result Tally Failure → Plan → List ℕ → Option (Option (List ℕ)) → Option (List ℕ) → Option (List ℕ) → Type 0
+abbrev pub AnswerSays : Result Tally Failure → Plan → List ℕ → Streams → Type 0
 AnswerSays (Ok tally) = StatusSays done
 AnswerSays (Err failure) = StatusSays (status_of failure)

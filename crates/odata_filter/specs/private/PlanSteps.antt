@@ -6,8 +6,8 @@ use Rattle.clap.specs.declared.builder.command.Command.TheViews.{out-Command}
 use Rattle.clap.specs.declared.error.Error.{Error}
 use Rattle.clap.specs.declared.error.kind.ErrorKind.TheVariants.{OutOfMemory}
 use Rattle.odata_filter.specs.CommandLine.{LacksOneOf}
-use Rattle.odata_filter.specs.declared.command_line.PlanFault.{PlanFault}
-use Rattle.odata_filter.specs.declared.command_line.PlanFault.TheVariants.{Clap, OneOf, Memory}
+use Rattle.odata_filter.specs.declared.command.command_line.PlanFault.{PlanFault}
+use Rattle.odata_filter.specs.declared.command.command_line.PlanFault.TheVariants.{Clap, OneOf, Memory}
 
 -- `clap` reads the command as this one, and none of its options is global
 pub record IsApp (app : App) (command : Command) : Type 0 where

@@ -1,0 +1,228 @@
+-- What a run answers, by its first failure.
+use Rattle.std.proofs.Common.{◌≡◌, ◌≢◌, ℕ, List, [], ◌∷◌, ◌++◌, Option, None, Some, Result, Ok, Err, inl, inr, sym, subst, append-nil}
+use Rattle.std.specs.Borrow.{Bor}
+use Rattle.std.specs.Prelude.{IfOk, IfErr, IsSomeAnd}
+use Rattle.std.specs.Io.KnownBytes.{Keeps}
+use Rattle.std.proofs.KnownBytes.{Keeps-trans, Appends-kept}
+use Rattle.edm_values.specs.MomentParts.{MomentParts}
+use Rattle.odata_text.specs.Query as query_model
+use Rattle.odata_text.specs.Query.{IsQueryFault}
+use Rattle.odata_text.specs.declared.query_fault.QueryFault.{QueryFault}
+use Rattle.odata_text.specs.declared.query_fault.QueryFault.TheVariants as query
+use Rattle.line_filter.specs.Kept.{Items, Filters, Passes, Stops, StopsWithin}
+use Rattle.line_filter.specs.declared.finding.Finding.{Finding}
+use Rattle.line_filter.specs.declared.judge.Judgment.{Judgment}
+use Rattle.line_filter.specs.declared.stop.Stop.{Stop}
+use Rattle.line_filter.specs.declared.tally.Tally.{Tally}
+use Rattle.odata_filter.specs.RowJudgment.{rows_of}
+use Rattle.odata_filter.specs.RunStops.{stop_of, StopsBy}
+use Rattle.odata_filter.specs.declared.bad_row.BadRow.{BadRow}
+use Rattle.odata_filter.specs.private.Failures.{AnswerSays, status_of, status_of_query, status_of_refusal, StopsOver}
+use Rattle.odata_filter.specs.Run.{IsFirstMoment, NamesType, AsksFor, IsFilterOf, HasNoFilter, Streams, OverRows, OfRows, ByFilter, FiltersAll, StopsAtFault, Status, done, refused, misused, without_type, at_fault, unread, without_memory, StatusSays, Begins}
+use Rattle.csdl_schema.specs.SchemaModel.{SchemaModel, slots_of, type_name_at}
+use Rattle.odata_filter.specs.declared.command.command_line.Plan.{Plan}
+use Rattle.odata_filter.specs.declared.command.failure.Failure.{Failure}
+use Rattle.odata_filter.specs.declared.command.failure.Failure.TheVariants.{NotYet, OneOf, Schema, UnknownType, Query, NoOption, Refused, RowsFile, Rows}
+use Rattle.odata_filter.specs.declared.run_fault.RunFault.TheVariants.{Json, Row, Arithmetic, LineTooLong, NotACollection, Read, Write, Memory}
+use Rattle.odata_typing.specs.declared.refusal.Refusal.{Refusal}
+use Rattle.odata_typing.specs.declared.refusal.Refusal.TheVariants as refusal
+use Rattle.odata_typing.specs.Filter.{Filter, tree_of_filter}
+use Rattle.odata_typing.specs.HasTyping.{HasTyping, HasNoTyping, UnlessMemory}
+
+abbrev streams : Option (Option (List ℕ)) → Option (List ℕ) → Option (List ℕ) → Streams
+streams rows old new = record { rows = rows; old = old; new = new }
+
+-- ---- the plan's text is a filter, or is none
+
+pub is_filter_of : (plan : Plan) (document : List ℕ) (schema : SchemaModel) (place : ℕ) (text : List ℕ) (filter : Filter)
+    → NamesType plan document schema place → AsksFor plan text
+    → filter.schema ≡ schema → filter.filtered ≡ place
+    → HasTyping (slots_of filter.schema) (type_name_at filter.schema filter.filtered) text (tree_of_filter filter) → IsFilterOf plan document filter
+is_filter_of plan document schema place text filter names asked same at typed = record {
+  names = subst (λ s. NamesType plan document s filter.filtered) (sym same) (subst (NamesType plan document schema) (sym at) names);
+  text = text;
+  asked = asked;
+  typed = typed;
+}
+
+refused_as : (plan : Plan) (document : List ℕ) (rows : Option (Option (List ℕ))) (out : Option (List ℕ)) (fault : Refusal) (P : Type 0)
+    → (P → HasNoFilter plan document) → Keeps out out → UnlessMemory fault P → StatusSays (status_of_refusal fault) plan document (streams rows out out)
+refused_as plan document rows out (refusal.Text fault) P none kept p = (none p, kept)
+refused_as plan document rows out (refusal.Syntax fault) P none kept p = (none p, kept)
+refused_as plan document rows out (refusal.Typing fault) P none kept p = (none p, kept)
+refused_as plan document rows out refusal.Memory P none kept p = tt
+
+pub refused_by : (plan : Plan) (document : List ℕ) (schema : SchemaModel) (place : ℕ) (text : List ℕ) (rows : Option (Option (List ℕ))) (out : Option (List ℕ)) (fault : Refusal)
+    → NamesType plan document schema place → AsksFor plan text → Keeps out out
+    → UnlessMemory fault (HasNoTyping (slots_of schema) (type_name_at schema place) text) → StatusSays (status_of_refusal fault) plan document (streams rows out out)
+refused_by plan document schema place text rows out fault names asked kept none =
+    refused_as plan document rows out fault (HasNoTyping (slots_of schema) (type_name_at schema place) text)
+    (λ none. record {
+      schema = schema;
+      place = place;
+      names = names;
+      none = inl (text, asked, none);
+    })
+    kept none
+
+-- ---- the plan's query has a fault, or no filter
+
+query_given : (given : Option (Bor (List ℕ))) (query : Bor (List ℕ)) (P : List ℕ → Type 0) → given ≡ Some query → P query.now → IsSomeAnd given (λ q. P q.now)
+query_given given query P is p = subst (λ g. IsSomeAnd g (λ q. P q.now)) (sym is) p
+
+refused_query : (plan : Plan) (document : List ℕ) (schema : SchemaModel) (place : ℕ) (given : Bor (List ℕ)) (fault : QueryFault)
+    → NamesType plan document schema place → plan.query ≡ Some given → IsQueryFault given.now fault → HasNoFilter plan document
+refused_query plan document schema place given fault names is at = record {
+  schema = schema;
+  place = place;
+  names = names;
+  none = inr (query_given plan.query given (λ q. (f : QueryFault) × IsQueryFault q f) is (fault, at));
+}
+
+pub query_refused : (plan : Plan) (document : List ℕ) (schema : SchemaModel) (place : ℕ) (given : Bor (List ℕ)) (rows : Option (Option (List ℕ))) (out : Option (List ℕ)) (fault : QueryFault)
+    → NamesType plan document schema place → plan.query ≡ Some given → Keeps out out → (fault ≢ query.Memory → IsQueryFault given.now fault)
+    → StatusSays (status_of_query fault) plan document (streams rows out out)
+query_refused plan document schema place given rows out query.Memory names is kept at = tt
+query_refused plan document schema place given rows out (query.BadEscape n) names is kept at = (refused_query plan document schema place given _ names is (at (λ e. cc)), kept)
+query_refused plan document schema place given rows out (query.NotUtf8 n) names is kept at = (refused_query plan document schema place given _ names is (at (λ e. cc)), kept)
+query_refused plan document schema place given rows out (query.Repeated n) names is kept at = (refused_query plan document schema place given _ names is (at (λ e. cc)), kept)
+query_refused plan document schema place given rows out (query.OtherOption n) names is kept at = (refused_query plan document schema place given _ names is (at (λ e. cc)), kept)
+
+-- ---- what was written
+
+over_from : (rows : Option (Option (List ℕ))) (old new : Option (List ℕ)) (P Q : List ℕ → List ℕ → Type 0)
+    → ((bytes text : List ℕ) → P bytes text → Q bytes text) → OverRows (streams rows old new) P → OverRows (streams rows old new) Q
+over_from None old new P Q f held = held
+over_from (Some None) old new P Q f held = tt
+over_from (Some (Some bytes)) old new P Q f (text, wrote, said) = (text, wrote, f bytes text said)
+
+over : (s : Streams) (P Q : List ℕ → List ℕ → Type 0)
+    → ((bytes text : List ℕ) → P bytes text → Q bytes text) → OverRows s P → OverRows s Q
+over s P Q f held = over_from s.rows s.old s.new P Q f held
+
+by_filter : (P : Items (List ℕ) BadRow → List ℕ → Type 0) (Q : OfRows) (plan : Plan) (document : List ℕ) (s : Streams) (filter : Filter) (now : MomentParts)
+    → IsFilterOf plan document filter → IsFirstMoment now
+    → ((bytes text : List ℕ) → P (rows_of filter now bytes) text → Q (rows_of filter now bytes) text)
+    → OverRows s (λ bytes. P (rows_of filter now bytes)) → ByFilter Q plan document s
+by_filter P Q plan document s filter now is_filter is_first f held = record {
+  filter = filter;
+  is_filter = is_filter;
+  now = now;
+  is_first = is_first;
+  written = over s (λ bytes. P (rows_of filter now bytes)) (λ bytes. Q (rows_of filter now bytes)) f held;
+}
+
+failed : (plan : Plan) (document : List ℕ) (s : Streams) (filter : Filter) (now : MomentParts) (failure : Failure)
+    → IsFilterOf plan document filter → IsFirstMoment now → StopsOver (rows_of filter now) failure s → StatusSays (status_of failure) plan document s
+failed plan document s filter now (NotYet option) is_filter is_first held = absurd held
+failed plan document s filter now OneOf is_filter is_first held = absurd held
+failed plan document s filter now (Query fault) is_filter is_first held = absurd held
+failed plan document s filter now NoOption is_filter is_first held = absurd held
+failed plan document s filter now (Schema fault) is_filter is_first held = absurd held
+failed plan document s filter now (UnknownType name) is_filter is_first held = absurd held
+failed plan document s filter now (Refused fault) is_filter is_first held = absurd held
+failed plan document s filter now (RowsFile name) is_filter is_first held = (filter, is_filter)
+failed plan document s filter now (Rows (Json line)) is_filter is_first held =
+    by_filter (λ rows text. StopsBy rows text (Json line)) StopsAtFault plan document s filter now is_filter is_first
+    (λ bytes text stops. (line, Finding.Judged (Judgment.Fault BadRow.NotJson), (λ sound. sound), stops)) held
+failed plan document s filter now (Rows (Row line fault)) is_filter is_first held =
+    by_filter (λ rows text. StopsBy rows text (Row line fault)) StopsAtFault plan document s filter now is_filter is_first
+    (λ bytes text stops. (line, Finding.Judged (Judgment.Fault (BadRow.NoEntity fault)), (λ sound. sound), stops)) held
+failed plan document s filter now (Rows (Arithmetic line fault)) is_filter is_first held =
+    by_filter (λ rows text. StopsBy rows text (Arithmetic line fault)) StopsAtFault plan document s filter now is_filter is_first
+    (λ bytes text stops. (line, Finding.Judged (Judgment.Fault (BadRow.NoValue fault)), (λ sound. sound), stops)) held
+failed plan document s filter now (Rows (LineTooLong line)) is_filter is_first held =
+    by_filter (λ rows text. StopsBy rows text (LineTooLong line)) StopsAtFault plan document s filter now is_filter is_first
+    (λ bytes text stops. (line, Finding.TooLong, (λ sound. sound), stops)) held
+failed plan document s filter now (Rows NotACollection) is_filter is_first held =
+    by_filter (λ rows text. StopsBy rows text NotACollection) StopsAtFault plan document s filter now is_filter is_first (λ bytes text stops. absurd stops) held
+failed plan document s filter now (Rows (Read line)) is_filter is_first held = (filter, is_filter)
+failed plan document s filter now (Rows Write) is_filter is_first held = (filter, is_filter)
+failed plan document s filter now (Rows (Memory line)) is_filter is_first held = tt
+
+pub says_by : (plan : Plan) (document : List ℕ) (s : Streams) (filter : Filter) (now : MomentParts) (answer : Result Tally Failure)
+    → IsFilterOf plan document filter → IsFirstMoment now
+    → IfOk answer (λ tally. OverRows s (λ bytes text. Filters (rows_of filter now bytes) text tally))
+    → IfErr answer (λ failure. StopsOver (rows_of filter now) failure s) → AnswerSays answer plan document s
+says_by plan document s filter now (Ok tally) is_filter is_first held stopped =
+    by_filter (λ rows text. Filters rows text tally) FiltersAll plan document s filter now is_filter is_first (λ bytes text filtered. (tally, filtered)) held
+says_by plan document s filter now (Err failure) is_filter is_first held stopped = failed plan document s filter now failure is_filter is_first stopped
+
+-- ---- a beginning was written
+
+module _ {X F : Type 0} (items : Items X F) (text : List ℕ) where
+  passed : (before after : List X) (tally : Tally) → items.all ≡ before ++ after → Passes items.sieve before text tally → StopsWithin items text
+  passed before after tally whole passes = record {
+    before = before;
+    after = after;
+    tally = tally;
+    unwritten = [];
+    whole = whole;
+    passes = subst (λ t. Passes items.sieve before t tally) (sym (append-nil text)) passes;
+  }
+
+  within_all : (tally : Tally) → Filters items text tally → StopsWithin items text
+  within_all tally filtered = passed items.all [] tally (sym (append-nil items.all)) filtered
+
+  within_stop : (stop : Stop F) → Stops items text stop → StopsWithin items text
+  within_stop (Stop.Fault line fault) stops = passed stops.before (stops.bad ∷ stops.after) stops.tally stops.whole stops.passes
+  within_stop (Stop.TooLong line) stops = passed stops.before (stops.bad ∷ stops.after) stops.tally stops.whole stops.passes
+  within_stop (Stop.Read line) stops = passed stops.before stops.after stops.tally stops.whole stops.passes
+  within_stop Stop.Write stops = stops
+  within_stop (Stop.Memory line) stops = passed stops.before stops.after stops.tally stops.whole stops.passes
+
+  within_stops : (told : Option (Stop F)) → IsSomeAnd told (Stops items text) → StopsWithin items text
+  within_stops None stops = absurd stops
+  within_stops (Some stop) stops = within_stop stop stops
+
+pub begins_by : (plan : Plan) (document : List ℕ) (s : Streams) (filter : Filter) (now : MomentParts) (answer : Result Tally Failure)
+    → IsFilterOf plan document filter → IsFirstMoment now
+    → IfOk answer (λ tally. OverRows s (λ bytes text. Filters (rows_of filter now bytes) text tally))
+    → IfErr answer (λ failure. StopsOver (rows_of filter now) failure s) → Begins plan document s
+begins_by plan document s filter now (Ok tally) is_filter is_first held stopped =
+    inr (by_filter (λ rows text. Filters rows text tally) StopsWithin plan document s filter now is_filter is_first
+    (λ bytes text. within_all (rows_of filter now bytes) text tally) held)
+begins_by plan document s filter now (Err (Rows fault)) is_filter is_first held stopped =
+    inr (by_filter (λ rows text. StopsBy rows text fault) StopsWithin plan document s filter now is_filter is_first
+    (λ bytes text. within_stops (rows_of filter now bytes) text (stop_of fault)) stopped)
+begins_by plan document s filter now (Err (RowsFile name)) is_filter is_first held stopped = inl stopped
+begins_by plan document s filter now (Err (NotYet option)) is_filter is_first held stopped = absurd stopped
+begins_by plan document s filter now (Err OneOf) is_filter is_first held stopped = absurd stopped
+begins_by plan document s filter now (Err (Query fault)) is_filter is_first held stopped = absurd stopped
+begins_by plan document s filter now (Err NoOption) is_filter is_first held stopped = absurd stopped
+begins_by plan document s filter now (Err (Schema fault)) is_filter is_first held stopped = absurd stopped
+begins_by plan document s filter now (Err (UnknownType name)) is_filter is_first held stopped = absurd stopped
+begins_by plan document s filter now (Err (Refused fault)) is_filter is_first held stopped = absurd stopped
+
+-- ---- standard output was flushed
+
+over_kept : (rows : Option (Option (List ℕ))) (a b c : Option (List ℕ)) (P : List ℕ → List ℕ → Type 0)
+    → OverRows (streams rows a b) P → Keeps b c → OverRows (streams rows a c) P
+over_kept None a b c P held kept = held
+over_kept (Some None) a b c P held kept = tt
+over_kept (Some (Some bytes)) a b c P (text, wrote, said) kept = (text, Appends-kept a b c text wrote kept, said)
+
+by_filter_kept : (P : OfRows) (plan : Plan) (document : List ℕ) (rows : Option (Option (List ℕ))) (a b c : Option (List ℕ))
+    → ByFilter P plan document (streams rows a b) → Keeps b c → ByFilter P plan document (streams rows a c)
+by_filter_kept P plan document rows a b c by kept = record {
+  filter = by.filter;
+  is_filter = by.is_filter;
+  now = by.now;
+  is_first = by.is_first;
+  written = over_kept rows a b c (λ bytes. P (rows_of by.filter by.now bytes)) by.written kept;
+}
+
+pub StatusSays-kept : (status : Status) (plan : Plan) (document : List ℕ) (rows : Option (Option (List ℕ))) (a b c : Option (List ℕ))
+    → StatusSays status plan document (streams rows a b) → Keeps b c → StatusSays status plan document (streams rows a c)
+StatusSays-kept done plan document rows a b c ends kept = by_filter_kept FiltersAll plan document rows a b c ends kept
+StatusSays-kept refused plan document rows a b c ends kept = (ends.0, Keeps-trans a b c ends.1 kept)
+StatusSays-kept misused plan document rows a b c ends kept = (ends.0, Keeps-trans a b c ends.1 kept)
+StatusSays-kept without_type plan document rows a b c ends kept = (ends.0, (ends.1.0, Keeps-trans a b c ends.1.1 kept))
+StatusSays-kept at_fault plan document rows a b c ends kept = by_filter_kept StopsAtFault plan document rows a b c ends kept
+StatusSays-kept unread plan document rows a b c ends kept = ends
+StatusSays-kept without_memory plan document rows a b c ends kept = tt
+
+pub Begins-kept : (plan : Plan) (document : List ℕ) (rows : Option (Option (List ℕ))) (a b c : Option (List ℕ))
+    → Begins plan document (streams rows a b) → Keeps b c → Begins plan document (streams rows a c)
+Begins-kept plan document rows a b c (inl none) kept = inl (Keeps-trans a b c none kept)
+Begins-kept plan document rows a b c (inr by) kept = inr (by_filter_kept StopsWithin plan document rows a b c by kept)

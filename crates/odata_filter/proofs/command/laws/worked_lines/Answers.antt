@@ -1,0 +1,44 @@
+use Rattle.odata_filter.proofs.LineLemmas.CommandLineWorked as line
+use Rattle.odata_filter.proofs.command.laws.worked_lines.Goals as goal
+
+pub returns-clause-taken : goal.returns-clause-taken
+returns-clause-taken c = line.whole_taken
+
+pub returns-clause-schema : goal.returns-clause-schema
+returns-clause-schema c = line.whole_schema
+
+pub returns-clause-named : goal.returns-clause-named
+returns-clause-named c = line.whole_type
+
+pub returns-clause-filter : goal.returns-clause-filter
+returns-clause-filter c = line.whole_filter
+
+pub returns-clause-rows : goal.returns-clause-rows
+returns-clause-rows c = line.whole_rows
+
+pub returns-clause-query_taken : goal.returns-clause-query_taken
+returns-clause-query_taken c = line.query_taken
+
+pub returns-clause-query : goal.returns-clause-query
+returns-clause-query c = line.query_found
+
+pub returns-clause-neither : goal.returns-clause-neither
+returns-clause-neither c = line.neither
+
+pub returns-clause-both : goal.returns-clause-both
+returns-clause-both c = line.both
+
+pub returns-clause-missing : goal.returns-clause-missing
+returns-clause-missing c = line.no_schema
+
+pub returns-clause-unknown : goal.returns-clause-unknown
+returns-clause-unknown c = line.unknown_option
+
+pub returns-clause-version : goal.returns-clause-version
+returns-clause-version c = line.version
+
+pub returns-clause-no_version : goal.returns-clause-no_version
+returns-clause-no_version c = line.no_version
+
+pub returns-clause-help : goal.returns-clause-help
+returns-clause-help c = line.help

@@ -1,0 +1,6 @@
+//! The program's command line, the run that it asks for, and the lines that are printed.
+pub mod command_line;
+mod failure;
+pub(crate) mod laws;
+pub(crate) mod planner;
+pub(crate) mod runner;

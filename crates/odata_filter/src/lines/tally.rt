@@ -1,6 +1,0 @@
-/// How many rows a run saw and kept. A blank line is no row.
-#[derive(Clone, Copy, Debug, PartialEq, Eq)]
-pub struct Tally {
-    pub rows: u64,
-    pub kept: u64,
-}

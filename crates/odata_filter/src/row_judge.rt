@@ -1,0 +1,69 @@
+ghost use Rattle.std.specs.Prelude.{◌≡◌, IfOk};
+ghost use Rattle.serde_json.specs.View.{view};
+ghost use Rattle.odata_filter.specs.RowJudgment.{JudgesValue, JudgesRow};
+ghost use Rattle.odata_filter.specs.private.Verdicts.{judgment_of};
+
+use crate::bad_row::BadRow;
+use edm_entities::{Entity, RowFault};
+use edm_values::Moment;
+use line_filter::{Judge, Judgment};
+use odata_eval::{EvalFault, Verdict, evaluate};
+use odata_typing::Checked;
+use serde_json::Value;
+use std::alloc::{AllocError, Global};
+
+/// Judges rows by a filter.
+#[derive(Drop)]
+pub struct RowJudge<'c, 's> {
+    pub alloc: Global,
+    pub checked: &'c Checked<'s>,
+    pub moment: &'c Moment,
+}
+
+impl RowJudge<'_, '_> {
+    /// Judges a JSON value.
+    fn judge_value(&self, json: &Value) -> Result<Judgment<BadRow>, AllocError>
+        ensures { IfOk result (JudgesValue self.now.checked.now self.now.moment.now (view json.now)) }
+    {
+        let (schema, type_id) = (self.checked.schema(), self.checked.filtered_type());
+        let entity = match Entity::from_json(self.alloc, schema, type_id, json) {
+            Ok(entity) => entity,
+            Err(RowFault::Memory) => return Err(AllocError),
+            Err(fault) => return Ok(Judgment::Fault(BadRow::NoEntity(fault))),
+        };
+        match evaluate(self.alloc, self.checked, &entity, self.moment) {
+            Ok(verdict) => Ok(judgment_of(verdict)),
+            Err(EvalFault::Memory) => Err(AllocError),
+            Err(fault) => Ok(Judgment::Fault(BadRow::NoValue(fault))),
+        }
+    }
+}
+
+/// What a verdict says of its row.
+fn judgment_of(verdict: Verdict) -> Judgment<BadRow>
+    ensures { result ≡ judgment_of verdict }
+{
+    match verdict {
+        Verdict::True => Judgment::Kept,
+        Verdict::False | Verdict::Null => Judgment::LeftOut,
+    }
+}
+
+impl Judge for RowJudge<'_, '_> {
+    type Fault = BadRow;
+
+    ghost says = { λ judge. JudgesRow judge.checked.now judge.moment.now };
+
+    fn judge(&mut self, line: &[u8]) -> Result<Judgment<BadRow>, AllocError> {
+        match Value::from_slice(self.alloc, line) {
+            Ok(json) => self.judge_value(&json),
+            Err(error) => {
+                if error.is_memory() {
+                    Err(AllocError)
+                } else {
+                    Ok(Judgment::Fault(BadRow::NotJson))
+                }
+            }
+        }
+    }
+}

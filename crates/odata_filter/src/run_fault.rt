@@ -1,0 +1,45 @@
+ghost use Rattle.std.specs.Prelude.{◌≡◌, Some};
+ghost use Rattle.odata_filter.specs.RunStops.{stop_of};
+
+use crate::bad_row::BadRow;
+use edm_entities::RowFault;
+use line_filter::Stop;
+use odata_eval::EvalFault;
+
+/// Why a run over rows ended early. Lines are counted from 1.
+#[derive(Debug, Drop)]
+pub enum RunFault {
+    /// The line is not UTF-8, or no JSON that `serde_json` reads.
+    Json { line: u64 },
+    /// The line's value is no entity of the filtered type.
+    Row { line: u64, fault: RowFault },
+    /// The filter has no value on the line's entity.
+    Arithmetic { line: u64, fault: EvalFault },
+    /// The line has more than 1,048,576 bytes before its LF.
+    LineTooLong { line: u64 },
+    /// The document is not an object with an array `value`.
+    NotACollection,
+    /// A read failed in this line, so the line is the number of LFs read plus one.
+    Read { line: u64 },
+    /// A write or the last flush failed.
+    Write,
+    /// Memory was refused in this line, or while it was read.
+    Memory { line: u64 },
+}
+
+/// The fault of a run over rows that stopped so.
+pub(crate) fn run_fault(stop: Stop<BadRow>) -> RunFault
+    ensures { stop_of result ≡ Some stop }
+{
+    match stop {
+        Stop::Fault { line, fault } => match fault {
+            BadRow::NotJson => RunFault::Json { line },
+            BadRow::NoEntity(fault) => RunFault::Row { line, fault },
+            BadRow::NoValue(fault) => RunFault::Arithmetic { line, fault },
+        },
+        Stop::TooLong { line } => RunFault::LineTooLong { line },
+        Stop::Read { line } => RunFault::Read { line },
+        Stop::Write => RunFault::Write,
+        Stop::Memory { line } => RunFault::Memory { line },
+    }
+}
