@@ -7,7 +7,7 @@ use edm_entities::{Entity, RowFault};
 use edm_values::{Moment, Value};
 use jiff::civil;
 use odata_eval::{Verdict, evaluate};
-use odata_filter::lines::{RunFault, Tally, filter_lines};
+use odata_filter::{RunFault, Tally, filter_lines};
 use odata_typing::{Checked, Refusal, TypeFaultCode, check};
 use std::alloc::{AllocError, Global};
 use std::io;

@@ -1,5 +1,5 @@
 //! Documents and what is read of them (CSDL JSON 4.01).
-use crate::told::SCHEMA;
+use crate::mini::SCHEMA;
 use csdl_schema::{PropertyKind, Schema, SchemaFault};
 use edm_values::Prim;
 use std::alloc::{AllocError, Global};

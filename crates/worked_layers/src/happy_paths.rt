@@ -1,13 +1,12 @@
 //! The public calls of a run from text to kept lines, with what they answer.
-use crate::told::{FIRST, SCHEMA};
+use crate::mini::{FIRST, SCHEMA};
 use csdl_schema::{PropertyKind, Schema};
 use edm_entities::Entity;
 use edm_values::{Moment, Prim, Value as Held, read_int, read_string};
 use jiff::civil;
 use odata_eval::{Verdict, evaluate};
 use odata_filter::command_line::{PlanFault, Verb};
-use odata_filter::lines::run_fault::RunFault;
-use odata_filter::{filter_lines, filter_slice, plan};
+use odata_filter::{RunFault, filter_lines, filter_slice, plan};
 use odata_syntax::{Node, parse};
 use odata_text::{Span, TokenKind, filter_of_query, is_identifier, tokens};
 use odata_typing::{EdmType, ValueType, check};

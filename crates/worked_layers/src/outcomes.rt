@@ -1,5 +1,5 @@
 //! What a filter says of a row of the entity type `Mini.Item`.
-use crate::told::{FIRST, SCHEMA};
+use crate::mini::{FIRST, SCHEMA};
 use csdl_schema::Schema;
 use edm_entities::Entity;
 use edm_values::Moment;

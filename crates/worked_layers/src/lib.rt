@@ -1,0 +1,15 @@
+//! The calls of the crates, one by one, as tables of inputs and wanted answers. There is nothing here but tests.
+#![tactic(auto)]
+
+#[cfg(test)]
+mod documents;
+#[cfg(test)]
+mod happy_paths;
+#[cfg(test)]
+mod mini;
+#[cfg(test)]
+mod outcomes;
+#[cfg(test)]
+mod refused;
+#[cfg(test)]
+mod typings;
