@@ -11,6 +11,7 @@ use Rattle.edm_values.specs.IntLiteral.{IntValue}
 use Rattle.edm_values.specs.MomentLiteral.{clock_text, SecondsValue, OffsetValue, MomentValue}
 use Rattle.edm_values.specs.MomentParts.{MomentParts, IsFourDigitYear}
 use Rattle.edm_values.proofs.Dates.{date_text-same, same_parts}
+use Rattle.edm_values.proofs.Guids.{parsed-GuidValue}
 use Rattle.edm_values.proofs.Ints.{IntNumber-same}
 use Rattle.edm_values.proofs.Moments.{front_is, same_clock}
 use Rattle.edm_values.proofs.Offsets.{offset_end}
@@ -33,7 +34,7 @@ pub DateValue-same : (text : List ℕ) (a b : Date) → DateValue text a → Dat
 DateValue-same text a b first second = same_date_text a b first.0 second.0 (sym first.1 ∙ second.1)
 
 pub GuidValue-same : (text a b : List ℕ) → GuidValue text a → GuidValue text b → a ≡ b
-GuidValue-same text a b first second = same_Some a b (sym first ∙ second)
+GuidValue-same text a b first second = same_Some a b (sym (parsed-GuidValue text a first) ∙ parsed-GuidValue text b second)
 
 two_same : (m n : ℕ) → 48 + m / 10 ≡ 48 + n / 10 → 48 + m % 10 ≡ 48 + n % 10 → m ≡ n
 two_same m n tens units = omega (arith, tens, units)
