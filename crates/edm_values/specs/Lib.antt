@@ -5,6 +5,7 @@ pub mod Instant
 pub mod IntLiteral
 pub mod MomentLiteral
 pub mod MomentParts
+pub mod NumberTypes
 pub mod PlainVal
 pub mod StringLiteral
 pub mod Val
