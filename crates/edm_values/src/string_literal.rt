@@ -2,13 +2,16 @@ ghost use Rattle.std.specs.Prelude.{◌≡◌, ℕ, List, IfOk, IfErr, IfSome, I
 ghost use Rattle.edm_values.specs.StringLiteral.{quote, doubled, string_spelling, StringValue, IsStringFault, IsUndoublingFault};
 
 use std::alloc::{AllocError, Global};
+use thiserror::Error;
 
 /// Why a text is not read as a String literal.
-#[derive(Debug, Drop)]
+#[derive(Debug, Drop, Error)]
 pub enum LitFault {
     /// It is not spelled as one.
+    #[error("Form")]
     Form,
     /// There was no memory for the value.
+    #[error("memory")]
     Memory,
 }
 
