@@ -1,10 +1,2 @@
-pub mod Dates
-pub mod Guids
-pub mod Instants
-pub mod Ints
-pub mod MomentLaws
-pub mod Moments
-pub mod Offsets
-pub mod OneValue
-pub mod Places
-pub mod Quotes
+pub mod literals
+pub mod moments

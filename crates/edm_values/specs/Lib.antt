@@ -9,3 +9,4 @@ pub mod NumberTypes
 pub mod PlainVal
 pub mod StringLiteral
 pub mod Val
+pub mod private

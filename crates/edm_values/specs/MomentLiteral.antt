@@ -18,7 +18,7 @@ abbrev pub IsSecondsSpelling : List ℕ → Type 0
 IsSecondsSpelling text =
     (text ≡ [])
     ⊎ ((second : ℕ) × (second < 100)
-    × ((text ≡ 58 ∷ two_digits second) ⊎ ((places : List ℕ) × IsNumeral 10 places × (text ≡ 58 ∷ two_digits second ++ 46 ∷ places))))
+    × ((text ≡ 58 ∷ two_digits second) ⊎ ((digits : List ℕ) × IsNumeral 10 digits × (text ≡ 58 ∷ two_digits second ++ 46 ∷ digits))))
 
 -- `Z`, `z`, or a sign and `hh:mm`
 abbrev pub IsOffsetSpelling : List ℕ → Type 0
@@ -42,17 +42,17 @@ pub record IsMomentSpelling (text : List ℕ) : Type 0 where
   pub is_seconds : IsSecondsSpelling seconds
   pub is_offset : IsOffsetSpelling offset
 
--- the nanoseconds that one to nine decimal places of a second stand for
+-- the nanoseconds that one to nine digits behind the dot of a second stand for
 abbrev pub FractionValue : List ℕ → ℕ → Type 0
-FractionValue places nanoseconds =
-    IsNumeral 10 places × (length places ≤ 9) × (nanoseconds ≡ digits_value 10 places * 10 ^ (9 - length places))
+FractionValue digits nanoseconds =
+    IsNumeral 10 digits × (length digits ≤ 9) × (nanoseconds ≡ digits_value 10 digits * 10 ^ (9 - length digits))
 
--- what follows `hh:mm`: nothing, the seconds, or the seconds, a dot (46) and decimal places
+-- what follows `hh:mm`: nothing, the seconds, or the seconds, a dot (46) and digits
 abbrev pub SecondsValue : List ℕ → ℕ → ℕ → Type 0
 SecondsValue text second nanosecond =
     ((text ≡ []) × (second ≡ 0) × (nanosecond ≡ 0))
     ⊎ (((text ≡ 58 ∷ two_digits second) × (nanosecond ≡ 0))
-    ⊎ ((places : List ℕ) × (text ≡ 58 ∷ two_digits second ++ 46 ∷ places) × FractionValue places nanosecond))
+    ⊎ ((digits : List ℕ) × (text ≡ 58 ∷ two_digits second ++ 46 ∷ digits) × FractionValue digits nanosecond))
 
 -- the minutes of an offset: `Z` (90), `z` (122), or a plus (43) or minus (45) and less than 24 hours
 abbrev pub OffsetValue : List ℕ → ℤ → Type 0
@@ -78,14 +78,14 @@ pub record MomentValue (text : List ℕ) (m : MomentParts) : Type 0 where
   pub is_seconds : SecondsValue seconds m.civil.time.second m.civil.time.subsec_nanosecond
   pub is_offset : OffsetValue offset m.offset_minutes
 
--- the decimal places of n, of so many as there may be, up to the last that is not zero
-unfoldable pub significant_places : ℕ → ℕ → List ℕ
-significant_places zero n = []
-significant_places (suc k) n = if n == 0 then [] else (48 + n / 10 ^ k) ∷ significant_places k (n % 10 ^ k)
+-- the digits of n as a fraction of so many digits, up to the last that is not zero
+unfoldable pub significant_digits : ℕ → ℕ → List ℕ
+significant_digits zero n = []
+significant_digits (suc k) n = if n == 0 then [] else (48 + n / 10 ^ k) ∷ significant_digits k (n % 10 ^ k)
 
--- a dot and the places of a second, unless the fraction is zero
+-- a dot and the digits of the fraction, unless it is zero
 abbrev pub fraction_text : ℕ → List ℕ
-fraction_text nanoseconds = if nanoseconds == 0 then [] else 46 ∷ significant_places 9 nanoseconds
+fraction_text nanoseconds = if nanoseconds == 0 then [] else 46 ∷ significant_digits 9 nanoseconds
 
 -- `Z` for an offset of zero, else its sign and `hh:mm`
 abbrev pub offset_text : ℤ → List ℕ
@@ -98,8 +98,3 @@ abbrev pub moment_spelling : MomentParts → List ℕ
 moment_spelling m =
     (date_spelling m.civil.date ++ 84 ∷ clock_text m.civil.time.hour m.civil.time.minute)
     ++ ((58 ∷ two_digits m.civil.time.second ++ fraction_text m.civil.time.subsec_nanosecond) ++ offset_text m.offset_minutes)
-
--- for private clauses: the four digits of `hh:mm`
-abbrev pub IsClock : ℕ → ℕ → ℕ → ℕ → ℕ → ℕ → Type 0
-IsClock a b c d hour minute =
-    (a ≡ 48 + hour / 10) × (b ≡ 48 + hour % 10) × (c ≡ 48 + minute / 10) × (d ≡ 48 + minute % 10)

@@ -32,7 +32,3 @@ OnForm Memory P = Unit {0}
 -- what a refusal says of the text; want of memory says nothing
 abbrev pub IsStringFault : List ℕ → LitFault → Type 0
 IsStringFault spelling fault = OnForm fault (¬ (IsStringSpelling spelling))
-
--- for private clauses: the same of the text between the quotes
-abbrev pub IsUndoublingFault : List ℕ → LitFault → Type 0
-IsUndoublingFault inner fault = OnForm fault ((value : List ℕ) → ¬ (inner ≡ doubled value))

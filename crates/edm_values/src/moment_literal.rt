@@ -2,7 +2,8 @@ ghost use Rattle.std.specs.Prelude.{◌≡◌, ℕ, ◌<◌, ◌≤◌, ◌*◌,
 ghost use Rattle.std.specs.Str.Parse.{AllDigits, digits_value};
 ghost use Rattle.edm_values.specs.Civil.{Date as PlainDate, Time as PlainTime, IsHms};
 ghost use Rattle.edm_values.specs.MomentParts.{MomentParts, IsOffset};
-ghost use Rattle.edm_values.specs.MomentLiteral.{clock_text, IsClock, FractionValue, SecondsValue, OffsetValue, MinutesValue, MomentValue, significant_places, fraction_text, offset_text, moment_spelling};
+ghost use Rattle.edm_values.specs.MomentLiteral.{clock_text, FractionValue, SecondsValue, OffsetValue, MinutesValue, MomentValue, significant_digits, fraction_text, offset_text, moment_spelling};
+ghost use Rattle.edm_values.specs.private.Clock.{AreClockDigits};
 
 use crate::Moment;
 use crate::date_literal::date_of;
@@ -67,20 +68,20 @@ fn read_seconds(text: &[u8]) -> Option<(u8, u32)>
     match text {
         [] => Some((0, 0)),
         [b':', a, b] => Some((read_two(*a, *b)?, 0)),
-        [b':', a, b, b'.', places @ ..] => Some((read_two(*a, *b)?, read_fraction(places)?)),
+        [b':', a, b, b'.', digits @ ..] => Some((read_two(*a, *b)?, read_fraction(digits)?)),
         _ => None,
     }
 }
 
-fn read_fraction(places: &[u8]) -> Option<u32>
-    ensures value { IfSome result (λ n. (n < 10 ^ 9) × FractionValue places.now n) }
-    ensures only { (n : ℕ) → FractionValue places.now n → result ≡ Some n }
+fn read_fraction(digits: &[u8]) -> Option<u32>
+    ensures value { IfSome result (λ n. (n < 10 ^ 9) × FractionValue digits.now n) }
+    ensures only { (n : ℕ) → FractionValue digits.now n → result ≡ Some n }
 {
-    if places.is_empty() || 9 < places.len() {
+    if digits.is_empty() || 9 < digits.len() {
         return None;
     }
-    let digits = read_digits(places)?;
-    Some(digits * 10_u32.pow(9 - places.len() as u32))
+    let number = read_digits(digits)?;
+    Some(number * 10_u32.pow(9 - digits.len() as u32))
 }
 
 fn read_digits(digits: &[u8]) -> Option<u32>
@@ -113,8 +114,8 @@ fn read_offset(text: &[u8]) -> Option<i16>
 
 fn read_minutes_ahead(a: u8, b: u8, c: u8, d: u8) -> Option<i16>
     ensures value { IfSome result (λ n. (h : ℕ) × (m : ℕ) × (h < 24) × (m < 60)
-        × IsClock a b c d h m × (n ≡ pos (60 * h + m))) }
-    ensures only { (h m : ℕ) → h < 24 → m < 60 → IsClock a b c d h m
+        × AreClockDigits a b c d h m × (n ≡ pos (60 * h + m))) }
+    ensures only { (h m : ℕ) → h < 24 → m < 60 → AreClockDigits a b c d h m
         → result ≡ Some (pos (60 * h + m)) }
 {
     let hours = read_two(a, b)?;
@@ -184,20 +185,20 @@ fn push_fraction(text: &mut String, nanoseconds: u32) -> Result<(), AllocError>
         return Ok(());
     }
     text.push('.')?;
-    push_places(text, nanoseconds)
+    push_fraction_digits(text, nanoseconds)
 }
 
-/// Appends the nine decimal places of a second, up to the last that is not zero.
-fn push_places(text: &mut String, nanoseconds: u32) -> Result<(), AllocError>
+/// Appends the nine digits of a second's fraction, up to the last that is not zero.
+fn push_fraction_digits(text: &mut String, nanoseconds: u32) -> Result<(), AllocError>
     requires { nanoseconds < 10 ^ 9 }
     ensures { OnOk result (string_bytes text.new
-        ≡ string_bytes text.old ++ significant_places 9 nanoseconds) }
+        ≡ string_bytes text.old ++ significant_digits 9 nanoseconds) }
 {
-    let mut places = 9;
+    let mut digits_left = 9;
     let mut rest = nanoseconds;
     while rest != 0 {
-        places -= 1;
-        let unit = 10_u32.pow(places);
+        digits_left -= 1;
+        let unit = 10_u32.pow(digits_left);
         text.push(char::from(b'0' + (rest / unit) as u8))?;
         rest %= unit;
     }

@@ -1,5 +1,6 @@
 ghost use Rattle.std.specs.Prelude.{◌≡◌, ℕ, List, IfOk, IfErr, IfSome, IfNone, OnOk, OnErr, ◌∷◌, ◌++◌, [], string_bytes};
-ghost use Rattle.edm_values.specs.StringLiteral.{quote, doubled, string_spelling, StringValue, IsStringFault, IsUndoublingFault};
+ghost use Rattle.edm_values.specs.StringLiteral.{quote, doubled, string_spelling, StringValue, IsStringFault};
+ghost use Rattle.edm_values.specs.private.BetweenQuotes.{IsInnerFault};
 
 use std::alloc::{AllocError, Global};
 use thiserror::Error;
@@ -32,7 +33,7 @@ pub fn read_string(alloc: Global, text: &str) -> Result<String, LitFault>
     ensures fault { IfErr result (IsStringFault text.now) }
 {
     match between_quotes(text) {
-        Some(inner) => undoubled(alloc, inner),
+        Some(inner) => merge_doubled_quotes(alloc, inner),
         None => Err(LitFault::Form),
     }
 }
@@ -44,9 +45,9 @@ fn between_quotes(text: &str) -> Option<&str>
     text.strip_prefix('\'')?.strip_suffix('\'')
 }
 
-fn undoubled(alloc: Global, inner: &str) -> Result<String, LitFault>
+fn merge_doubled_quotes(alloc: Global, inner: &str) -> Result<String, LitFault>
     ensures value { IfOk result (λ value. inner.now ≡ doubled (string_bytes value)) }
-    ensures fault { IfErr result (IsUndoublingFault inner.now) }
+    ensures fault { IfErr result (IsInnerFault inner.now) }
 {
     let mut value = String::new(alloc);
     let mut rest = inner;
@@ -67,11 +68,11 @@ pub fn write_string(out: &mut String, text: &str) -> Result<(), AllocError>
     ensures ok { OnOk result (string_bytes out.new ≡ string_bytes out.old ++ string_spelling text.now) }
     ensures err { OnErr result (string_bytes out.new ≡ string_bytes out.old) }
 {
-    let spelling = quoted(*out.allocator(), text)?;
+    let spelling = spelling_of(*out.allocator(), text)?;
     out.push_str(spelling.as_str())
 }
 
-fn quoted(alloc: Global, text: &str) -> Result<String, AllocError>
+fn spelling_of(alloc: Global, text: &str) -> Result<String, AllocError>
     ensures { IfOk result (λ spelling. string_bytes spelling ≡ string_spelling text.now) }
 {
     let mut spelling = String::from_str(alloc, "'")?;

@@ -1,5 +1,5 @@
 use Rattle.std.proofs.Common.{◌∙◌}
-use Rattle.edm_values.proofs.Dates.{calendar_made}
+use Rattle.edm_values.proofs.literals.Dates.{calendar_made}
 use Rattle.edm_values.proofs.date_literal.calendar_date.Goals as goal
 
 pub returns-clause-only : goal.returns-clause-only

@@ -1,6 +1,6 @@
 use Rattle.std.proofs.Common.{arith, ◌+◌, ◌*◌, ◌≡◌}
 use Rattle.edm_values.specs.DateLiteral.{date_text}
-use Rattle.edm_values.proofs.Dates.{date_from_bytes}
+use Rattle.edm_values.proofs.literals.Dates.{date_from_bytes}
 use Rattle.edm_values.proofs.date_literal.date_numbers.Goals as goal
 
 pub returns-clause-value : goal.returns-clause-value

@@ -2,7 +2,7 @@ use Rattle.std.proofs.Common.{◌∙◌, sym, ap, subst, IfSome, Option, List, �
 use Rattle.std.specs.Result.{result_ok}
 use Rattle.uuid.proofs.RoundTrips.{parse_gives}
 use Rattle.edm_values.specs.GuidLiteral.{GuidValue}
-use Rattle.edm_values.proofs.Guids.{parsed-36, GuidValue-len, GuidValue-read, parsed-GuidValue}
+use Rattle.edm_values.proofs.literals.Guids.{parsed-36, GuidValue-len, GuidValue-read, parsed-GuidValue}
 use Rattle.edm_values.proofs.guid_literal.read_guid.Goals as goal
 
 pub returns-clause-value : goal.returns-clause-value

@@ -1,5 +1,5 @@
 use Rattle.std.proofs.Common.{◌≡◌, ◌++◌, List, ℕ, OnOk, string_bytes, subst, rules}
-use Rattle.edm_values.proofs.Guids.{hyphenated-spelling}
+use Rattle.edm_values.proofs.literals.Guids.{hyphenated-spelling}
 use Rattle.edm_values.proofs.guid_literal.write_guid.Goals as goal
 
 pub returns-clause-ok : goal.returns-clause-ok

@@ -1,4 +1,4 @@
-use Rattle.edm_values.proofs.Guids.{GuidValue-spelling}
+use Rattle.edm_values.proofs.literals.Guids.{GuidValue-spelling}
 use Rattle.edm_values.proofs.laws.guids_read_back.Goals as goal
 
 pub returns : goal.returns

@@ -1,4 +1,4 @@
-use Rattle.edm_values.proofs.Ints.{IntValue-spelling}
+use Rattle.edm_values.proofs.literals.Ints.{IntValue-spelling}
 use Rattle.edm_values.proofs.laws.ints_read_back.Goals as goal
 
 pub returns : goal.returns

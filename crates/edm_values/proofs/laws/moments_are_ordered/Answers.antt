@@ -1,6 +1,6 @@
 use Rattle.std.proofs.lemmas.Cmp.{int_cmp_total, on_total, then_total}
 use Rattle.edm_values.specs.Instant.{instant, offset_of}
-use Rattle.edm_values.proofs.Instants.{moment_cmp-equal}
+use Rattle.edm_values.proofs.moments.Instants.{moment_cmp-equal}
 use Rattle.edm_values.proofs.laws.moments_are_ordered.Goals as goal
 
 pub returns-clause-total : goal.returns-clause-total

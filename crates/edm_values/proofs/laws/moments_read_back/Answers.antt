@@ -1,4 +1,4 @@
-use Rattle.edm_values.proofs.MomentLaws.{MomentValue-spelling, IsMomentSpelling-value}
+use Rattle.edm_values.proofs.moments.MomentSpellings.{MomentValue-spelling, IsMomentSpelling-value}
 use Rattle.edm_values.proofs.laws.moments_read_back.Goals as goal
 
 pub returns-clause-value : goal.returns-clause-value

@@ -1,5 +1,5 @@
-use Rattle.edm_values.proofs.OneValue.{IntValue-same, DateValue-same, MomentValue-same, GuidValue-same}
-use Rattle.edm_values.proofs.Quotes.{StringValue-same}
+use Rattle.edm_values.proofs.literals.OneValue.{IntValue-same, DateValue-same, MomentValue-same, GuidValue-same}
+use Rattle.edm_values.proofs.literals.Quotes.{StringValue-same}
 use Rattle.edm_values.proofs.laws.texts_have_one_value.Goals as goal
 
 pub returns-clause-int : goal.returns-clause-int

@@ -1,5 +1,5 @@
 use Rattle.std.proofs.Common.{◌∙◌}
-use Rattle.edm_values.proofs.Moments.{clock_made}
+use Rattle.edm_values.proofs.moments.Moments.{clock_made}
 use Rattle.edm_values.proofs.moment_literal.clock_time.Goals as goal
 
 pub returns-clause-only : goal.returns-clause-only

@@ -1,5 +1,5 @@
 use Rattle.std.proofs.Common.{◌≡◌, ◌⊎◌, get_or, arith}
-use Rattle.edm_values.proofs.Moments.{minutes_read}
+use Rattle.edm_values.proofs.moments.Moments.{minutes_read}
 use Rattle.edm_values.proofs.moment_literal.read_minutes.Goals as goal
 
 pub returns-clause-value : goal.returns-clause-value

@@ -1,10 +1,10 @@
 use Rattle.std.proofs.Common.{ℕ, List, pos, take, drop, arith, ap, sym, subst, ◌∙◌}
 use mir.Val.{to_z, of_z}
 use Rattle.std.specs.Int.{w16}
-use Rattle.edm_values.proofs.Offsets.{offset_kept}
+use Rattle.edm_values.proofs.moments.Offsets.{offset_kept}
 use Rattle.std.proofs.lemmas.Option.{same_Some}
 use Rattle.edm_values.specs.MomentLiteral.{MinutesValue, SecondsValue, OffsetValue}
-use Rattle.edm_values.proofs.Moments.{front_is, moment_read, moment_made, same_three, same_two}
+use Rattle.edm_values.proofs.moments.Moments.{front_is, moment_read, moment_made, same_three, same_two}
 use Rattle.edm_values.proofs.moment_literal.read_moment.Goals as goal
 
 pub returns-in_err-date-clause-only : goal.returns-in_err-date-clause-only

@@ -1,5 +1,5 @@
 use Rattle.std.proofs.Common.{◌+◌, ◌*◌, inl, inr, arith}
-use Rattle.edm_values.proofs.Offsets.{signed_clock, negated, ahead_kept}
+use Rattle.edm_values.proofs.moments.Offsets.{signed_clock, negated, ahead_kept}
 use Rattle.edm_values.proofs.moment_literal.read_offset.Goals as goal
 
 pub returns-in_ok-read_minutes_ahead-in-43-clause-value : goal.returns-in_ok-read_minutes_ahead-in-43-clause-value

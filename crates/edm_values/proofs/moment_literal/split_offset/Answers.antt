@@ -1,5 +1,5 @@
 use Rattle.std.proofs.Common.{◌≡◌, length, arith, ap, length-append}
-use Rattle.edm_values.proofs.Moments.{split_found}
+use Rattle.edm_values.proofs.moments.Moments.{split_found}
 use Rattle.edm_values.proofs.moment_literal.split_offset.Goals as goal
 
 pub returns-in_err-checked_sub-clause-only : goal.returns-in_err-checked_sub-clause-only

@@ -1,6 +1,6 @@
 use Rattle.std.proofs.Common.{lit<}
 use Rattle.std.proofs.lemmas.Str.Pattern.{strip_prefix_char, strip_suffix_char}
-use Rattle.edm_values.proofs.Quotes.{between-some, between-none}
+use Rattle.edm_values.proofs.literals.Quotes.{between-some, between-none}
 use Rattle.edm_values.proofs.string_literal.between_quotes.Goals as goal
 
 pub returns-in_err-strip_prefix-clause-none : goal.returns-in_err-strip_prefix-clause-none

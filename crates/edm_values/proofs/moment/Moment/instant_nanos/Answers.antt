@@ -4,7 +4,7 @@ use Rattle.std.proofs.lemmas.Int.{to_z-of_z}
 use Rattle.jiff.proofs.SpanFacts.{signed_arith}
 use Rattle.jiff.specs.Words.{civil_nanos}
 use Rattle.edm_values.specs.MomentParts.{MomentParts, IsMoment}
-use Rattle.edm_values.proofs.Instants.{nanos_computed}
+use Rattle.edm_values.proofs.moments.Instants.{nanos_computed}
 use Rattle.edm_values.proofs.moment.Moment.instant_nanos.Goals as goal
 
 pub returns : goal.returns

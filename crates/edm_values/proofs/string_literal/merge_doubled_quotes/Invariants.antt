@@ -2,7 +2,7 @@ use Rattle.std.proofs.Common.{◌≡◌, ◌++◌, length, string_bytes}
 use denote.Text.{Utf8}
 use denote.Shadow.{shadow}
 use Rattle.edm_values.specs.StringLiteral.{doubled}
-use Rattle.edm_values.proofs.string_literal.undoubled.Given as goal
+use Rattle.edm_values.proofs.string_literal.merge_doubled_quotes.Given as goal
 
 -- what is read so far, and the text that is left
 abbrev pub invariant-loop-piece : goal.invariant-loop-piece

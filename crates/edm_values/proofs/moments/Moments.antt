@@ -14,8 +14,9 @@ use Rattle.jiff.proofs.Family.{same_time}
 use Rattle.jiff.proofs.SpanFacts.{signed_arith}
 use Rattle.edm_values.specs.MomentParts.{MomentParts, IsMoment}
 use Rattle.edm_values.specs.DateLiteral.{DateValue, date_spelling}
-use Rattle.edm_values.specs.MomentLiteral.{IsClock, MinutesValue, SecondsValue, OffsetValue, MomentValue}
-use Rattle.edm_values.proofs.Offsets.{OffsetValue-within, signed_clock}
+use Rattle.edm_values.specs.MomentLiteral.{MinutesValue, SecondsValue, OffsetValue, MomentValue}
+use Rattle.edm_values.specs.private.Clock.{AreClockDigits}
+use Rattle.edm_values.proofs.moments.Offsets.{OffsetValue-within, signed_clock}
 
 -- a time of day is its hour, minute, second and fraction
 pub same_clock : (a b : Time) → a.hour ≡ b.hour → a.minute ≡ b.minute → a.second ≡ b.second → a.subsec_nanosecond ≡ b.subsec_nanosecond → a ≡ b
@@ -99,7 +100,7 @@ moment_made None civil ahead text m value made is date time offset =
     let refused : ◌≡◌ {A = Bool} false true = made.1 (rw date value.is_minutes.0, rw offset within) in
     cc
 
--- the two pieces that were cut off at a place
+-- the two pieces that a text was cut into
 pub split_found : (r : Option (Bor (List ℕ) × Bor (List ℕ))) (text before offset : List ℕ) (mid : ℕ)
     → MatchOption r (length text < mid) (λ p. IsSplitAt text mid p.0.now p.1.now)
     → text ≡ before ++ offset → mid ≡ length before → IsSomeAnd r (λ p. (p.0.now ≡ before) × (p.1.now ≡ offset))
@@ -113,7 +114,7 @@ split_found None text before offset mid found same place =
 -- sixteen bytes that are a date and six more
 pub minutes_read : (text front clock : List ℕ) (date : Date) (hour minute : ℕ) → front ≡ take 10 text → clock ≡ drop 10 text
     → DateValue front date → length clock ≡ 6 → (get_or clock 0 0 ≡ 84) ⊎ (get_or clock 0 0 ≡ 116) → get_or clock 3 0 ≡ 58
-    → IsClock (get_or clock 1 0) (get_or clock 2 0) (get_or clock 4 0) (get_or clock 5 0) hour minute
+    → AreClockDigits (get_or clock 1 0) (get_or clock 2 0) (get_or clock 4 0) (get_or clock 5 0) hour minute
     → MinutesValue text date hour minute
 minutes_read text front clock date hour minute is_front is_clock value len letter colon digits = (
   value.0,

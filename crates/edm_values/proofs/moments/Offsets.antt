@@ -6,12 +6,13 @@ use Rattle.std.proofs.lemmas.Int.{ints, to_z-of_z}
 use Rattle.jiff.proofs.SpanFacts.{signed_arith}
 use Rattle.std.proofs.lemmas.List.{get_or-append-add}
 use Rattle.std.proofs.lemmas.Slice.Eq.{text_from_reads}
-use Rattle.edm_values.specs.MomentLiteral.{clock_text, IsClock, OffsetValue}
+use Rattle.edm_values.specs.MomentLiteral.{clock_text, OffsetValue}
+use Rattle.edm_values.specs.private.Clock.{AreClockDigits}
 use Rattle.edm_values.specs.MomentParts.{IsOffset}
 
 -- the bytes of `+hh:mm` or `-hh:mm`
 pub signed_clock : (text : List ℕ) (sign hours minutes : ℕ) → length text ≡ 6 → get_or text 0 0 ≡ sign → get_or text 3 0 ≡ 58
-    → IsClock (get_or text 1 0) (get_or text 2 0) (get_or text 4 0) (get_or text 5 0) hours minutes
+    → AreClockDigits (get_or text 1 0) (get_or text 2 0) (get_or text 4 0) (get_or text 5 0) hours minutes
     → text ≡ sign ∷ clock_text hours minutes
 signed_clock text sign hours minutes len first colon digits =
     text_from_reads text (sign ∷ clock_text hours minutes) len (first, (digits.0, (digits.1, (colon, (digits.2, (digits.3, tt))))))

@@ -5,91 +5,12 @@ use Rattle.std.specs.List.{list_all}
 use Rattle.std.specs.Result.{result_ok}
 use Rattle.std.specs.Str.Parse.{AllDigits}
 use Rattle.std.proofs.lemmas.Bool.{and_parts, eqb-true}
-use Rattle.std.proofs.lemmas.Bool.Decides.{nat_tests}
 use Rattle.std.proofs.lemmas.List.{get_or_default}
 use Rattle.std.proofs.lemmas.Option.{same_Some}
-use Rattle.uuid.specs.Text.{by_index, byte_of_digits, digits_of, has_hyphens, hex_digit, hyphenated_text, is_hex_digit, lower, nibble, parsed, parsed_hyphenated, parsed_simple, simple_text, value_of}
+use Rattle.uuid.specs.Text.{by_index, byte_of_digits, digits_of, has_hyphens, hex_digit, hyphenated_text, is_hex_digit, lower, nibble, parsed, parsed_hyphenated, parsed_simple, simple_text}
 use Rattle.uuid.proofs.TextLemmas.{by_index_length, by_index_same, hyphens_pass, simple_some}
 use Rattle.edm_values.specs.GuidLiteral.{GuidValue, guid_spelling, guid_text, hex_bytes, hex_digits}
-
--- Digits.
-
-hex-value : (c : ℕ) → is_hex_digit c ≡ true → (digit_value c < 16) × (value_of c ≡ digit_value c)
-hex-value c hex = (grind (arith, nat_tests), grind (arith, nat_tests))
-
-value-hex : (c : ℕ) → digit_value c < 16 → is_hex_digit c ≡ true
-value-hex c small = grind (arith, nat_tests)
-
-digit-value : (d : ℕ) → d < 16 → digit_value (digit_char d) ≡ d
-digit-value d small = grind (arith, nat_tests)
-
-digit-lower : (d : ℕ) → d < 16 → digit_char d ≡ hex_digit lower d
-digit-lower d small = grind (arith, nat_tests)
-
-all-digits : (ds : List ℕ) → list_all is_hex_digit ds ≡ true → AllDigits 16 ds
-all-digits [] all = tt
-all-digits (d ∷ ds) all =
-    let parts = and_parts (is_hex_digit d) (list_all is_hex_digit ds) all in
-    ((hex-value d parts.0).0, all-digits ds parts.1)
-
-digit-at : (ds : List ℕ) → AllDigits 16 ds → (k : ℕ) → k < length ds → is_hex_digit (get_or ds k 0) ≡ true
-digit-at [] all k within = absurd (omega arith)
-digit-at (d ∷ ds) all zero within = value-hex d all.0
-digit-at (d ∷ ds) all (suc k) within = digit-at ds all.1 k (omega arith)
-
--- Bytes of digits, and digits of bytes.
-
-byte-at : (ds : List ℕ) → AllDigits 16 ds → (k d : ℕ) → 2 * k + 1 < length ds → get_or (hex_bytes ds) k d ≡ byte_of_digits ds k
-byte-at [] all k d within = absurd (omega arith)
-byte-at (h ∷ []) all k d within = absurd (omega arith)
-byte-at (h ∷ l ∷ ds) all zero d within =
-    let high = (hex-value h (value-hex h all.0)).1 in
-    let low = (hex-value l (value-hex l all.1.0)).1 in
-    rw (high, low) (omega arith)
-byte-at (h ∷ l ∷ ds) all (suc k) d within =
-    let even : 2 * suc k ≡ suc (suc (2 * k)) = omega arith in
-    let odd : suc (suc (2 * k)) + 1 ≡ suc (suc (2 * k + 1)) = omega arith in
-    rw (even, odd) (byte-at ds all.1.1 k d (omega arith))
-
-length-hex_bytes : (n : ℕ) (ds : List ℕ) → length ds ≡ 2 * n → length (hex_bytes ds) ≡ n
-length-hex_bytes zero [] len = refl
-length-hex_bytes zero (d ∷ ds) len = absurd (omega arith)
-length-hex_bytes (suc n) [] len = absurd (omega arith)
-length-hex_bytes (suc n) (h ∷ []) len = absurd (omega arith)
-length-hex_bytes (suc n) (h ∷ l ∷ ds) len = omega (arith, length-hex_bytes n ds (omega arith))
-
-length-hex_digits : (xs : List ℕ) → length (hex_digits xs) ≡ 2 * length xs
-length-hex_digits [] = refl
-length-hex_digits (x ∷ xs) = omega (arith, length-hex_digits xs)
-
--- what holds of all holds of the first and of the others
-All-head : (x : ℕ) (xs : List ℕ) → All (λ b. b < 256) (x ∷ xs) → x < 256
-All-head x xs all = all 0 0 (omega arith)
-
-All-tail : (x : ℕ) (xs : List ℕ) → All (λ b. b < 256) (x ∷ xs) → All (λ b. b < 256) xs
-All-tail x xs all = λ k d within. all (suc k) d (omega arith)
-
-All-cons : (x : ℕ) (xs : List ℕ) → x < 256 → All (λ b. b < 256) xs → All (λ b. b < 256) (x ∷ xs)
-All-cons x xs first others zero d within = first
-All-cons x xs first others (suc k) d within = others k d (omega arith)
-
-all-hex_digits : (xs : List ℕ) → All (λ b. b < 256) xs → AllDigits 16 (hex_digits xs)
-all-hex_digits [] all = tt
-all-hex_digits (x ∷ xs) all =
-    let small = All-head x xs all in
-    let high : x / 16 < 16 = omega arith in
-    let low : x % 16 < 16 = omega arith in
-    (omega (arith, digit-value (x / 16) high), (omega (arith, digit-value (x % 16) low), all-hex_digits xs (All-tail x xs all)))
-
-hex_bytes-hex_digits : (xs : List ℕ) → All (λ b. b < 256) xs → hex_bytes (hex_digits xs) ≡ xs
-hex_bytes-hex_digits [] all = refl
-hex_bytes-hex_digits (x ∷ xs) all =
-    let small = All-head x xs all in
-    let high : digit_value (digit_char (x / 16)) ≡ x / 16 = digit-value (x / 16) (omega arith) in
-    let low : digit_value (digit_char (x % 16)) ≡ x % 16 = digit-value (x % 16) (omega arith) in
-    let byte : 16 * digit_value (digit_char (x / 16)) + digit_value (digit_char (x % 16)) ≡ x = rw (high, low) (omega arith) in
-    let others = hex_bytes-hex_digits xs (All-tail x xs all) in
-    rw (byte, others) refl
+use Rattle.edm_values.proofs.literals.HexDigits.{digit-lower, all-digits, digit-at, byte-at, length-hex_bytes, length-hex_digits, All-head, All-tail, All-cons, all-hex_digits, hex_bytes-hex_digits}
 
 -- What `uuid` reads.
 
@@ -105,20 +26,20 @@ four s e =
     (eqb-true _ _ one.0, eqb-true _ _ one.1, eqb-true _ _ two.1, eqb-true _ _ three.1)
 
 -- a list of n numbers, one by one
-by_place : (n : ℕ) (xs : List ℕ) → length xs ≡ n → xs ≡ by_index n (λ k. get_or xs k 0)
-by_place n xs len = by_index_same xs n (λ k. get_or xs k 0) len (λ k d within. get_or_default xs k d 0 (omega arith))
+by_index-get_or : (n : ℕ) (xs : List ℕ) → length xs ≡ n → xs ≡ by_index n (λ k. get_or xs k 0)
+by_index-get_or n xs len = by_index_same xs n (λ k. get_or xs k 0) len (λ k d within. get_or_default xs k d 0 (omega arith))
 
 text_digits : (text : List ℕ) → length text ≡ 36 → has_hyphens text ≡ true → text ≡ guid_text (digits_of text)
 unfolding by_index
 text_digits text len hyphens =
     let at = four text hyphens in
     let same : by_index 36 (λ k. get_or text k 0) ≡ guid_text (digits_of text) = rw (at.0, at.1, at.2, at.3) refl in
-    by_place 36 text len ∙ same
+    by_index-get_or 36 text len ∙ same
 
 digits_text : (ds : List ℕ) → length ds ≡ 32 → (length (guid_text ds) ≡ 36) × (has_hyphens (guid_text ds) ≡ true) × (digits_of (guid_text ds) ≡ ds)
 unfolding by_index
 digits_text ds len =
-    subst (λ (xs : List ℕ). (length (guid_text xs) ≡ 36) × (has_hyphens (guid_text xs) ≡ true) × (digits_of (guid_text xs) ≡ xs)) (sym (by_place 32 ds len))
+    subst (λ (xs : List ℕ). (length (guid_text xs) ≡ 36) × (has_hyphens (guid_text xs) ≡ true) × (digits_of (guid_text xs) ≡ xs)) (sym (by_index-get_or 32 ds len))
     (refl, refl, refl)
 
 pub GuidValue-parsed : (text bytes : List ℕ) → parsed_hyphenated text ≡ Some bytes → GuidValue text bytes
@@ -172,7 +93,7 @@ GuidValue-spelling guid len small = record {
   value = sym (hex_bytes-hex_digits guid small);
 }
 
--- the digit at each place, as `uuid` picks it
+-- the digits one by one, as `uuid` picks them
 lower-at : (xs : List ℕ) → All (λ b. b < 256) xs → (k d : ℕ) → k < 2 * length xs → get_or (hex_digits xs) k d ≡ hex_digit lower (nibble xs k)
 lower-at [] all k d within = absurd (omega arith)
 lower-at (x ∷ xs) all zero d within =

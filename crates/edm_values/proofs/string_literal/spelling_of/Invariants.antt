@@ -2,7 +2,7 @@ use Rattle.std.proofs.Common.{◌≡◌, ◌∷◌, ◌++◌, length, string_byt
 use denote.Text.{Utf8}
 use denote.Shadow.{shadow}
 use Rattle.edm_values.specs.StringLiteral.{quote, doubled}
-use Rattle.edm_values.proofs.string_literal.quoted.Given as goal
+use Rattle.edm_values.proofs.string_literal.spelling_of.Given as goal
 
 -- what is written, and the text that is left
 abbrev pub invariant-loop-piece : goal.invariant-loop-piece

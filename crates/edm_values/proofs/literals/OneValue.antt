@@ -10,11 +10,11 @@ use Rattle.edm_values.specs.GuidLiteral.{GuidValue}
 use Rattle.edm_values.specs.IntLiteral.{IntValue}
 use Rattle.edm_values.specs.MomentLiteral.{clock_text, SecondsValue, OffsetValue, MomentValue}
 use Rattle.edm_values.specs.MomentParts.{MomentParts, IsFourDigitYear}
-use Rattle.edm_values.proofs.Dates.{date_text-same, same_parts}
-use Rattle.edm_values.proofs.Guids.{parsed-GuidValue}
-use Rattle.edm_values.proofs.Ints.{IntNumber-same}
-use Rattle.edm_values.proofs.Moments.{front_is, same_clock}
-use Rattle.edm_values.proofs.Offsets.{offset_end}
+use Rattle.edm_values.proofs.literals.Dates.{date_text-same, same_parts}
+use Rattle.edm_values.proofs.literals.Guids.{parsed-GuidValue}
+use Rattle.edm_values.proofs.literals.Ints.{IntNumber-same}
+use Rattle.edm_values.proofs.moments.Moments.{front_is, same_clock}
+use Rattle.edm_values.proofs.moments.Offsets.{offset_end}
 
 pub IntValue-same : (text : List ℕ) (m n : ℤ) → IntValue text m → IntValue text n → m ≡ n
 IntValue-same text m n first second = IntNumber-same text m n first.0 second.0
@@ -56,8 +56,8 @@ SecondsValue-same text s n t k (inr (inr a)) (inr (inr b)) =
     let e = sym a.1 ∙ b.1 in
     let tens : 48 + s / 10 ≡ 48 + t / 10 = cc in
     let units : 48 + s % 10 ≡ 48 + t % 10 = cc in
-    let places : a.0 ≡ b.0 = cc in
-    (two_same s t tens units, a.2.2 ∙ ap (λ (xs : List ℕ). digits_value 10 xs * 10 ^ (9 - length xs)) places ∙ sym b.2.2)
+    let digits : a.0 ≡ b.0 = cc in
+    (two_same s t tens units, a.2.2 ∙ ap (λ (xs : List ℕ). digits_value 10 xs * 10 ^ (9 - length xs)) digits ∙ sym b.2.2)
 
 clock_same : (h m g n : ℕ) → clock_text h m ≡ clock_text g n → (h ≡ g) × (m ≡ n)
 clock_same h m g n same =
@@ -110,9 +110,9 @@ cut_same rest s o t p a b first second cut other =
             | inr also ↦ signed.0 ∙ sym also.0
           ]
     ] in
-    let place : length s ≡ length t = omega (arith, len, ap length cut, ap length other, length-append s o, length-append t p) in (
-      sym (take_at s o (length t) place) ∙ ap (λ (xs : List ℕ). take (length t) xs) (sym cut ∙ other) ∙ take_at t p (length t) refl,
-      sym (drop_at s o (length t) place) ∙ ap (λ (xs : List ℕ). drop (length t) xs) (sym cut ∙ other) ∙ drop_at t p (length t) refl,
+    let same_length : length s ≡ length t = omega (arith, len, ap length cut, ap length other, length-append s o, length-append t p) in (
+      sym (take_at s o (length t) same_length) ∙ ap (λ (xs : List ℕ). take (length t) xs) (sym cut ∙ other) ∙ take_at t p (length t) refl,
+      sym (drop_at s o (length t) same_length) ∙ ap (λ (xs : List ℕ). drop (length t) xs) (sym cut ∙ other) ∙ drop_at t p (length t) refl,
     )
 
 minutes_same : (y m d h n l z k e g j i : ℕ) → date_text y m d ++ l ∷ clock_text h n ≡ date_text z k e ++ i ∷ clock_text g j

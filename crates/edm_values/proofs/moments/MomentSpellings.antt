@@ -4,9 +4,9 @@ use Rattle.std.proofs.lemmas.Bool.Decides.{eqb_tells}
 use Rattle.jiff.proofs.SpanFacts.{signed_arith}
 use Rattle.edm_values.specs.DateLiteral.{two_digits, date_spelling}
 use Rattle.edm_values.specs.MomentParts.{MomentParts, IsMoment, IsOffset}
-use Rattle.edm_values.specs.MomentLiteral.{clock_text, SecondsValue, OffsetValue, MomentValue, significant_places, fraction_text, offset_text, moment_spelling, IsSecondsSpelling, IsOffsetSpelling, IsMomentSpelling}
-use Rattle.edm_values.proofs.Dates.{IsDateSpelling-date}
-use Rattle.edm_values.proofs.Places.{places_value, some_places}
+use Rattle.edm_values.specs.MomentLiteral.{clock_text, SecondsValue, OffsetValue, MomentValue, significant_digits, fraction_text, offset_text, moment_spelling, IsSecondsSpelling, IsOffsetSpelling, IsMomentSpelling}
+use Rattle.edm_values.proofs.literals.Dates.{IsDateSpelling-date}
+use Rattle.edm_values.proofs.moments.FractionDigits.{are-significant_digits, some-significant_digits}
 
 -- the canonical fraction has its value
 seconds_back : (second nanosecond : ℕ) → nanosecond < 10 ^ 9 → SecondsValue (58 ∷ two_digits second ++ fraction_text nanosecond) second nanosecond
@@ -14,11 +14,11 @@ seconds_back second nanosecond below =
     elim (eqb_tells nanosecond 0) [
       | inl none ↦ rw none.0 (inr (inl (refl, none.1)))
       | inr some ↦
-          let places = places_value 9 nanosecond below in
+          let digits = are-significant_digits 9 nanosecond below in
           rw some.0 (inr (inr (
-            significant_places 9 nanosecond,
+            significant_digits 9 nanosecond,
             refl,
-            ((some_places 8 nanosecond some.1, places.digits), places.few, sym places.value),
+            ((some-significant_digits 8 nanosecond some.1, digits.all_digits), digits.few, sym digits.value),
           )))
     ]
 
@@ -48,7 +48,7 @@ MomentValue-spelling m within = record {
 seconds_spelled : (text : List ℕ) (second nanosecond : ℕ) → second < 100 → SecondsValue text second nanosecond → IsSecondsSpelling text
 seconds_spelled text second nanosecond small (inl none) = inl none.0
 seconds_spelled text second nanosecond small (inr (inl whole)) = inr (second, small, inl whole.0)
-seconds_spelled text second nanosecond small (inr (inr (places, spelled, value))) = inr (second, small, inr (places, value.0, spelled))
+seconds_spelled text second nanosecond small (inr (inr (digits, spelled, value))) = inr (second, small, inr (digits, value.0, spelled))
 
 offset_spelled : (text : List ℕ) (minutes : ℤ) → OffsetValue text minutes → IsOffsetSpelling text
 offset_spelled text minutes (inl (inl big, none)) = inl big

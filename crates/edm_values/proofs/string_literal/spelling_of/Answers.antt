@@ -3,8 +3,8 @@ use Rattle.std.specs.Prelude.{string_bytes}
 use Rattle.std.proofs.lemmas.Str.{encode_ascii}
 use Rattle.std.proofs.lemmas.Str.Pattern.{split_parts}
 use Rattle.edm_values.specs.StringLiteral.{quote, doubled}
-use Rattle.edm_values.proofs.Quotes.{one_quoted, last_quoted}
-use Rattle.edm_values.proofs.string_literal.quoted.Goals as goal
+use Rattle.edm_values.proofs.literals.Quotes.{one_quoted, last_quoted}
+use Rattle.edm_values.proofs.string_literal.spelling_of.Goals as goal
 
 pub loop-piece-preserved : goal.loop-piece-preserved
 loop-piece-preserved c =

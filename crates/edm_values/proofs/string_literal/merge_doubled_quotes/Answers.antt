@@ -3,8 +3,8 @@ use Rattle.std.proofs.lemmas.Str.{encode_ascii}
 use Rattle.std.specs.Prelude.{string_bytes}
 use Rattle.std.proofs.lemmas.Str.Pattern.{strip_prefix_char, split_parts}
 use Rattle.edm_values.specs.StringLiteral.{doubled}
-use Rattle.edm_values.proofs.Quotes.{odd_quote, doubled_front, doubled-append, doubled-plain, one_more}
-use Rattle.edm_values.proofs.string_literal.undoubled.Goals as goal
+use Rattle.edm_values.proofs.literals.Quotes.{odd_quote, doubled_front, doubled-append, doubled-plain, one_more}
+use Rattle.edm_values.proofs.string_literal.merge_doubled_quotes.Goals as goal
 
 pub returns-in_default-strip_prefix-clause-fault :
     goal.returns-in_default-strip_prefix-clause-fault

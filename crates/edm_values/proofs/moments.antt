@@ -1,0 +1,5 @@
+pub mod FractionDigits
+pub mod Instants
+pub mod MomentSpellings
+pub mod Moments
+pub mod Offsets

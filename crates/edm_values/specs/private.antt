@@ -1,0 +1,2 @@
+pub mod BetweenQuotes
+pub mod Clock
