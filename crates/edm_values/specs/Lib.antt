@@ -9,4 +9,5 @@ pub mod NumberTypes
 pub mod PlainVal
 pub mod StringLiteral
 pub mod Val
+pub mod WorkedLiterals
 pub mod private

@@ -1,7 +1,7 @@
 //! What is written is read again, and moments are in one order. Each law is the contract of a
 //! function that does nothing.
 
-ghost use Rattle.std.specs.Prelude.{◌≡◌, ◌<◌, ◌<ℤ◌, ℕ, ℤ, List, All, length, FitsSigned};
+ghost use Rattle.std.specs.Prelude.{◌≡◌, ◌<◌, ◌<ℤ◌, ℕ, ℤ, List, All, codes, length, FitsSigned};
 ghost use Rattle.std.specs.Int.{w64};
 ghost use Rattle.std.specs.Cmp.{IsTotalOrder};
 ghost use Rattle.std.specs.declared.cmp.Ordering.TheVariants.{Less, Equal};
@@ -11,8 +11,9 @@ ghost use Rattle.edm_values.specs.Instant.{instant, moment_cmp};
 ghost use Rattle.edm_values.specs.IntLiteral.{IntValue, int_spelling};
 ghost use Rattle.edm_values.specs.DateLiteral.{DateValue, IsDateSpelling, date_spelling};
 ghost use Rattle.edm_values.specs.MomentLiteral.{MomentValue, IsMomentSpelling, moment_spelling};
-ghost use Rattle.edm_values.specs.GuidLiteral.{GuidValue, guid_spelling};
+ghost use Rattle.edm_values.specs.GuidLiteral.{GuidValue, IsGuidSpelling, guid_spelling};
 ghost use Rattle.edm_values.specs.StringLiteral.{StringValue, string_spelling};
+ghost use Rattle.edm_values.specs.WorkedLiterals.{IsNewYear, IsLeapDay, counting_bytes};
 
 /// A whole number's canonical spelling has that number as its value.
 pub fn ints_read_back()
@@ -59,4 +60,25 @@ pub fn texts_have_one_value()
         → a ≡ b }
     ensures guid { (text a b : List ℕ) → GuidValue text a → GuidValue text b → a ≡ b }
     ensures string { (text a b : List ℕ) → StringValue text a → StringValue text b → a ≡ b }
+{}
+
+/// Two moments as they are read and written. The offset of zero is written as `Z`, the letters in
+/// upper case, the seconds always, and a fraction without its last zeros.
+pub fn worked_moments()
+    ensures new_year { (m : MomentParts) × IsNewYear m }
+    ensures new_year_read { (m : MomentParts) → IsNewYear m → MomentValue (codes "2020-01-01t00:00z") m }
+    ensures new_year_written { (m : MomentParts) → IsNewYear m
+        → moment_spelling m ≡ codes "2020-01-01T00:00:00Z" }
+    ensures leap_day { (m : MomentParts) × IsLeapDay m }
+    ensures leap_day_read { (m : MomentParts) → IsLeapDay m
+        → MomentValue (codes "2020-02-29T23:59:00.120-05:30") m }
+    ensures leap_day_written { (m : MomentParts) → IsLeapDay m
+        → moment_spelling m ≡ codes "2020-02-29T23:59:00.12-05:30" }
+{}
+
+/// A Guid as it is read and written; without its hyphens it is spelled as none.
+pub fn worked_guids()
+    ensures read { GuidValue (codes "01234567-89AB-CDEF-0123-456789ABCDEF") counting_bytes }
+    ensures written { guid_spelling counting_bytes ≡ codes "01234567-89ab-cdef-0123-456789abcdef" }
+    ensures no_hyphens { ¬ (IsGuidSpelling (codes "0123456789ABCDEF0123456789ABCDEF")) }
 {}
