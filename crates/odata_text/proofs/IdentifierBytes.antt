@@ -1,11 +1,11 @@
 -- Which ASCII bytes an identifier has.
-use Rattle.std.proofs.Common.{◌≡◌, ℕ, ◌<◌, zero, suc, ◌||◌, ◌&&◌, ◌==◌, Bool, true, false, not, cond, List, [], ◌∷◌, length, get_or, arith, refl, sym, ◌∙◌, ap, chars}
+use Rattle.std.proofs.Common.{◌≡◌, ⊎_elim, ℕ, ◌<◌, ◌≤◌, nat_le, zero, suc, ◌||◌, ◌&&◌, ◌==◌, Bool, true, false, not, cond, List, [], ◌∷◌, length, get_or, arith, refl, sym, ◌∙◌, ap, chars}
 use Rattle.std.specs.Char.{is_ascii, is_ascii_alphabetic, is_ascii_alphanumeric}
 use Rattle.std.specs.Bool.{beq}
 use Rattle.std.specs.List.{list_all, take_while}
 use Rattle.std.specs.Str.{IsAscii, NonePass, encode_utf8_all}
 use Rattle.std.proofs.lemmas.Bool.Decides.{nat_tests}
-use Rattle.std.proofs.lemmas.Bool.{and_from, and_parts, both_ways, not-false}
+use Rattle.std.proofs.lemmas.Bool.{and_from, and_parts, both_ways, cases_lt, not-false, or_left, or_right}
 use Rattle.std.proofs.lemmas.List.Sums.{take_while-cons}
 use Rattle.std.proofs.lemmas.Str.{IsUtf8-from_ascii, NoCharPasses-byte, char_from_byte, chars-IsAscii, chars-nil, encodes-chars}
 use Rattle.std.proofs.lemmas.Str.Ascii.{IsAscii-cons, IsAscii-nil}
@@ -23,6 +23,14 @@ is_first_byte b = is_ascii_alphabetic b || (b == 95)
 -- these and digits
 abbrev pub is_name_byte : ℕ → Bool
 is_name_byte b = is_ascii_alphanumeric b || (b == 95)
+
+-- a first byte of an identifier: those of ASCII, or one of a character past ASCII
+abbrev pub is_word_start : ℕ → Bool
+is_word_start b = is_first_byte b || nat_le 128 b
+
+-- a byte of an identifier
+abbrev pub is_part_byte : ℕ → Bool
+is_part_byte b = is_name_byte b || nat_le 128 b
 
 pub continues-ascii : (c : ℕ) → c < 128 → continues_identifier c ≡ is_name_byte c
 unfolding ucd_category continues_identifier begins_identifier
@@ -63,6 +71,23 @@ first-begins xs (c ∷ cs) identifier bytes some ascii =
 pub identifier-first : (xs : List ℕ) → IsIdentifier xs → get_or xs 0 0 < 128 → is_first_byte (get_or xs 0 0) ≡ true
 identifier-first xs identifier ascii =
     first-begins xs (chars xs) identifier.characters (encodes-chars xs identifier.utf8) (identifier-nonempty xs identifier) ascii
+
+past-ascii : (b : ℕ) → 128 ≤ b → nat_le 128 b ≡ true
+past-ascii b far = grind (arith, nat_tests)
+
+pub identifier-start : (xs : List ℕ) → IsIdentifier xs → is_word_start (get_or xs 0 0) ≡ true
+identifier-start xs identifier =
+    ⊎_elim
+    (λ ascii. or_left _ _ (identifier-first xs identifier ascii))
+    (λ far. or_right _ _ (past-ascii _ far))
+    (cases_lt (get_or xs 0 0) 128)
+
+pub identifier-part : (xs : List ℕ) → IsIdentifier xs → (i : ℕ) → i < length xs → is_part_byte (get_or xs i 0) ≡ true
+identifier-part xs identifier i inside =
+    ⊎_elim
+    (λ ascii. or_left _ _ (identifier-byte xs identifier i inside ascii))
+    (λ far. or_right _ _ (past-ascii _ far))
+    (cases_lt (get_or xs i 0) 128)
 
 -- Identifiers of ASCII bytes alone.
 

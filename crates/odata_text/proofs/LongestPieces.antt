@@ -11,7 +11,7 @@ use Rattle.odata_text.specs.declared.form.Form.{Form}
 use Rattle.odata_text.specs.declared.form.Form.TheVariants.{Token, LeftOut}
 use Rattle.odata_text.specs.declared.form.LeftOutKind.TheVariants.{Number, TimeOfDay, Quoted}
 use Rattle.odata_text.specs.declared.token.TokenKind.TheVariants.{Word, Dollar, Int, Date, Moment, Guid, Str, EnumLit, Open, Close, Comma, Slash, Colon, Minus}
-use Rattle.odata_text.proofs.Starts.{started}
+use Rattle.odata_text.proofs.machine.Longest.{formed-some}
 
 -- all forms
 abbrev pub forms : List Form
@@ -77,7 +77,7 @@ longest-best candidates rest best are among most some =
 
 pub none-best : (candidates : List (Form × ℕ)) (rest : List ℕ) (best : Form × ℕ) → AreCandidates candidates rest → All (λ (other : Form × ℕ). other.1 ≤ best.1) candidates → best.1 ≡ 0 → NoneSpelled rest
 none-best candidates rest best are most none form m spelled =
-    let some = (started form (take m rest) spelled).nonempty in
+    let some = formed-some form (take m rest) spelled in
     let size = length-take m rest in
     let front : IsFormed form (take (min m (length rest)) rest) = subst (IsFormed form) (sym (take_min m rest)) spelled in
     let reached = spelled-within candidates rest best are most form (min m (length rest)) (omega arith) front in

@@ -1,23 +1,23 @@
 -- A text has at most one token list or first fault, and never both.
-use Rattle.std.proofs.Common.{◌≡◌, inl, inr, ⊎_elim, ℕ, suc, ◌+◌, ◌-◌, ◌<◌, ◌≤◌, List, [], ◌∷◌, ◌++◌, length, get_or, take, drop, Option, Some, None, arith, refl, sym, ◌∙◌, ap, subst, add-zero}
+use Rattle.std.proofs.Common.{◌≡◌, inl, inr, ⊎_elim, ℕ, suc, ◌+◌, ◌-◌, ◌<◌, ◌≤◌, ◌&&◌, nat_lt, cond, chars, append-nil, List, [], ◌∷◌, ◌++◌, length, get_or, take, drop, Option, Some, None, arith, refl, sym, ◌∙◌, ap, subst, add-zero}
 use Rattle.std.specs.Prelude.{slice_range, encode_utf8}
 use Rattle.std.specs.Char.{len_utf8}
-use Rattle.std.proofs.lemmas.Bool.{cases_order}
+use Rattle.std.proofs.lemmas.Bool.{and_from, and_parts, cases_order, cond-false, cond-true, false_from_ne_true, lt-ltb, ltb-true}
 use Rattle.std.proofs.lemmas.List.{get_or-drop, get_or-take, length-drop, length-take-le, take-append-drop}
-use Rattle.std.proofs.lemmas.Str.{encode_same}
+use Rattle.std.proofs.lemmas.Str.{chars-append, chars-nil, chars_past_char, IsUtf8-encode}
 use Rattle.odata_text.specs.ByteClass.{class_of}
 use Rattle.odata_text.specs.Piece.{Piece}
 use Rattle.odata_text.specs.Identifier.{identifier_run}
 use Rattle.odata_text.specs.Spelling.{IsFormed}
-use Rattle.odata_text.specs.Tokens.{AreTokensFrom, IsBadCharacter, IsCharacterAt, IsFaultAt, IsFaultBehind, IsGap, IsLeftOutLiteral, IsLongest, IsNoToken, IsOneTooMany, IsPieceAt, IsRunOn, IsTextFault, IsTokenAt, IsTokenList, IsUnclosed, RunsOn, end_of, token_limit}
-use Rattle.odata_text.specs.declared.byte_class.ByteClass.TheVariants.{Space}
+use Rattle.odata_text.specs.Tokens.{AreTokensFrom, IsBadCharacter, IsFaultAt, IsFaultBehind, IsGap, IsLongest, IsPieceAt, IsRunOn, IsTextFault, IsTokenAt, IsTokenList, NoneSpelled, end_of, is_undelimited, token_limit}
+use Rattle.odata_text.specs.declared.byte_class.ByteClass.{ByteClass}
+use Rattle.odata_text.specs.declared.byte_class.ByteClass.TheVariants.{Quote, Space, Other}
 use Rattle.odata_text.specs.declared.fault.TextFault.{TextFault}
 use Rattle.odata_text.specs.declared.fault.TextFault.TheVariants.{BadCharacter, UnclosedString, LeftOutLiteral, RunOn, TooLong, Memory}
 use Rattle.odata_text.specs.declared.form.Form.{Form}
 use Rattle.odata_text.specs.declared.form.Form.TheVariants.{Token, LeftOut}
 use Rattle.odata_text.specs.declared.span.Span.{Span}
-use Rattle.odata_text.proofs.Forms.{same_form}
-use Rattle.odata_text.proofs.Starts.{solid-start, started}
+use Rattle.odata_text.proofs.machine.Longest.{formed-some, same_form, solid-start}
 
 -- One piece at a place.
 
@@ -55,7 +55,7 @@ record IsSolid (text : List ℕ) (place : ℕ) : Type 0 where
 IsSolid-longest : (text : List ℕ) (start n : ℕ) (form : Form) → IsLongest form n (drop start text) → IsSolid text start
 IsSolid-longest text start n form longest =
     let within = longest.within in
-    let some = (started form (take n (drop start text)) longest.spelled).nonempty in
+    let some = formed-some form (take n (drop start text)) longest.spelled in
     let size = length-take-le n (drop start text) within in
     let room = length-drop start text in
     let byte : get_or (take n (drop start text)) 0 0 ≡ get_or text start 0 =
@@ -67,9 +67,6 @@ IsSolid-longest text start n form longest =
 
 IsSolid-piece : (text : List ℕ) (piece : Piece) → IsPieceAt text piece → IsSolid text piece.start
 IsSolid-piece text piece is_piece = IsSolid-longest text piece.start (piece.stop - piece.start) (Token piece.kind) is_piece.longest
-
-IsSolid-left_out : (text : List ℕ) (span : Span) → IsLeftOutLiteral text span → IsSolid text span.start
-IsSolid-left_out text span literal = IsSolid-longest text span.start (span.stop - span.start) (LeftOut literal.kind) literal.longest
 
 same_place : (text : List ℕ) (from a b : ℕ) → IsGap text from a → IsGap text from b → IsSolid text a → IsSolid text b → a ≡ b
 same_place text from a b to_a to_b solid_a solid_b =
@@ -84,131 +81,126 @@ not_at_end text from a to_a to_end solid = solid.solid (to_end.white a to_a.orde
 
 -- One fault at a place.
 
-IsSolid-none : (text : List ℕ) (place start : ℕ) → start ≡ place → IsNoToken text start → IsSolid text place
-IsSolid-none text place start here none = subst (IsSolid text) here (record { inside = none.inside; solid = none.solid })
+-- what stands at the front: the longest piece, or none
+abbrev IsFound : List ℕ → Option (Form × ℕ) → Type 0
+IsFound rest None = NoneSpelled rest
+IsFound rest (Some (form, n)) = IsLongest form n rest
+
+same_found : (rest : List ℕ) (a b : Option (Form × ℕ)) → IsFound rest a → IsFound rest b → a ≡ b
+same_found rest None None one two = refl
+same_found rest None (Some (form, n)) one two = absurd (one form n two.spelled)
+same_found rest (Some (form, n)) None one two = absurd (two form n one.spelled)
+same_found rest (Some (f, m)) (Some (g, n)) one two = let same = same_longest rest f g m n one two in λ i. Some (same.0 i, same.1 i)
+
+abbrev span_of : ℕ → ℕ → Span
+span_of start stop = record { start = start; stop = stop }
+
+-- the fault of a place at which nothing stands
+abbrev unread : List ℕ → ℕ → ByteClass → TextFault
+unread text place Quote = UnclosedString (span_of place (length text))
+unread text place _ = BadCharacter (span_of place (place + len_utf8 (get_or (chars (drop place text)) 0 0)))
+
+-- the fault of a place at which that stands: of a faultless token that it is one too many
+abbrev fault_of : List ℕ → ℕ → Option (Form × ℕ) → TextFault
+fault_of text place None = unread text place (class_of (get_or text place 0))
+fault_of text place (Some (LeftOut kind, n)) = LeftOutLiteral (span_of place (place + n))
+fault_of text place (Some (Token kind, n)) =
+    cond (is_undelimited kind && nat_lt 0 (identifier_run (drop (place + n) text)))
+    (RunOn (span_of place (place + n + identifier_run (drop (place + n) text)))) (TooLong (span_of place (place + n)))
+
+-- a fault at a place is that of what stands there
+record IsOf (text : List ℕ) (place : ℕ) (fault : TextFault) : Type 0 where
+  found : Option (Form × ℕ)
+  is_found : IsFound (drop place text) found
+  is : fault ≡ fault_of text place found
+
+of_piece : (text : List ℕ) (piece : Piece) (fault : TextFault) → IsPieceAt text piece → fault ≡ fault_of text piece.start (Some (Token piece.kind, piece.stop - piece.start)) → IsOf text piece.start fault
+of_piece text piece fault is_piece is = record { found = Some (Token piece.kind, piece.stop - piece.start); is_found = is_piece.longest; is = is }
+
+-- a faultless token
+token_fault : (text : List ℕ) (piece : Piece) → IsTokenAt text piece → fault_of text piece.start (Some (Token piece.kind, piece.stop - piece.start)) ≡ TooLong (span_of piece.start piece.stop)
+token_fault text piece token =
+    let order = token.longest.order in
+    let stop : piece.start + (piece.stop - piece.start) ≡ piece.stop = omega arith in
+    let ends = token.ends in
+    rw stop (cond-false (is_undelimited piece.kind && nat_lt 0 (identifier_run (drop piece.stop text))) _ _
+    (false_from_ne_true _ (λ both. let parts = and_parts (is_undelimited piece.kind) _ both in ends (parts.0, ltb-true 0 _ parts.1))))
+
+run_fault : (text : List ℕ) (span : Span) (run : IsRunOn text span) → RunOn span ≡ fault_of text run.piece.start (Some (Token run.piece.kind, run.piece.stop - run.piece.start))
+run_fault text span run =
+    let piece = run.piece in
+    let order = run.longest.order in
+    let stop : piece.start + (piece.stop - piece.start) ≡ piece.stop = omega arith in
+    let start = run.start in
+    let end = run.stop in
+    let span_is : span ≡ span_of piece.start (piece.stop + identifier_run (drop piece.stop text)) = (λ i. record { start = start i; stop = end i }) in
+    rw stop (ap RunOn span_is ∙ sym (cond-true (is_undelimited piece.kind && nat_lt 0 (identifier_run (drop piece.stop text))) _ _
+    (and_from (is_undelimited piece.kind) _ run.runs_on.0 (lt-ltb 0 _ run.runs_on.1))))
+
+unread_other : (text : List ℕ) (place : ℕ) (class : ByteClass) → (class ≡ Quote → ⊥) → unread text place class ≡ unread text place Other
+unread_other text place Quote other = absurd (other refl)
+unread_other text place _ other = refl
+
+bad_fault : (text : List ℕ) (span : Span) → IsBadCharacter text span → BadCharacter span ≡ fault_of text span.start None
+bad_fault text span bad =
+    let c = bad.character.0 in
+    let at = bad.character.1 in
+    let rest = drop span.start text in
+    let size = span.stop - span.start in
+    let whole : rest ≡ encode_utf8 c ++ drop size rest = sym (take-append-drop size rest) ∙ ap (λ (front : List ℕ). front ++ drop size rest) at.bytes in
+    let one : chars (encode_utf8 c) ≡ c ∷ [] = chars_past_char (encode_utf8 c) [] c (IsUtf8-encode c at.scalar) (sym (append-nil (encode_utf8 c))) ∙ ap (λ (cs : List ℕ). c ∷ cs) chars-nil in
+    let first : get_or (chars rest) 0 0 ≡ c = ap (λ (xs : List ℕ). get_or (chars xs) 0 0) whole
+    ∙ ap (λ (cs : List ℕ). get_or cs 0 0) (chars-append (encode_utf8 c) (drop size rest) (IsUtf8-encode c at.scalar) ∙ ap (λ (cs : List ℕ). cs ++ chars (drop size rest)) one) in
+    let stop : span.stop ≡ span.start + len_utf8 (get_or (chars rest) 0 0) = at.stop ∙ sym (ap (λ (d : ℕ). span.start + len_utf8 d) first) in
+    ap BadCharacter (λ i. record { start = span.start; stop = stop i }) ∙ sym (unread_other text span.start (class_of (get_or text span.start 0)) bad.unquoted)
+
+of_fault : (text : List ℕ) (place before : ℕ) (fault : TextFault) → IsFaultAt text place before fault → IsOf text place fault
+of_fault text place before (BadCharacter span) (here, bad) =
+    subst (λ (p : ℕ). IsOf text p (BadCharacter span)) here (record { found = None; is_found = λ form m spelled. bad.no_token.none form m spelled; is = bad_fault text span bad })
+of_fault text place before (UnclosedString span) (here, unclosed) =
+    let stop = unclosed.stop in
+    subst (λ (p : ℕ). IsOf text p (UnclosedString span)) here (record {
+      found = None;
+      is_found = λ form m spelled. unclosed.no_token.none form m spelled;
+      is = ap UnclosedString (λ i. record { start = span.start; stop = stop i }) ∙ sym (ap (unread text span.start) unclosed.quoted);
+    })
+of_fault text place before (LeftOutLiteral span) (here, literal) =
+    let order = literal.order in
+    let stop : span.stop ≡ span.start + (span.stop - span.start) = omega arith in
+    subst (λ (p : ℕ). IsOf text p (LeftOutLiteral span)) here (record {
+      found = Some (LeftOut literal.kind, span.stop - span.start);
+      is_found = literal.longest;
+      is = ap LeftOutLiteral (λ i. record { start = span.start; stop = stop i });
+    })
+of_fault text place before (RunOn span) (here, run) =
+    subst (λ (p : ℕ). IsOf text p (RunOn span)) (sym run.start ∙ here) (of_piece text run.piece (RunOn span) run.longest (run_fault text span run))
+of_fault text place before (TooLong span) (here, many) =
+    let start = many.start in
+    let stop = many.stop in
+    subst (λ (p : ℕ). IsOf text p (TooLong span)) (sym many.start ∙ here)
+    (of_piece text many.piece (TooLong span) many.token.longest (ap TooLong (λ i. record { start = start i; stop = stop i }) ∙ sym (token_fault text many.piece many.token)))
+of_fault text place before Memory fault = absurd fault
 
 IsSolid-fault : (text : List ℕ) (place before : ℕ) (fault : TextFault) → IsFaultAt text place before fault → IsSolid text place
-IsSolid-fault text place before (BadCharacter span) fault = IsSolid-none text place span.start fault.0 fault.1.no_token
-IsSolid-fault text place before (UnclosedString span) fault = IsSolid-none text place span.start fault.0 fault.1.no_token
-IsSolid-fault text place before (LeftOutLiteral span) fault = subst (IsSolid text) fault.0 (IsSolid-left_out text span fault.1)
-IsSolid-fault text place before (RunOn span) fault = subst (IsSolid text) (sym fault.1.start ∙ fault.0) (IsSolid-piece text fault.1.piece fault.1.longest)
-IsSolid-fault text place before (TooLong span) fault = subst (IsSolid text) (sym fault.1.start ∙ fault.0) (IsSolid-piece text fault.1.piece fault.1.token.longest)
+IsSolid-fault text place before (BadCharacter span) (here, bad) = subst (IsSolid text) here (record { inside = bad.no_token.inside; solid = bad.no_token.solid })
+IsSolid-fault text place before (UnclosedString span) (here, unclosed) = subst (IsSolid text) here (record { inside = unclosed.no_token.inside; solid = unclosed.no_token.solid })
+IsSolid-fault text place before (LeftOutLiteral span) (here, literal) = subst (IsSolid text) here (IsSolid-longest text span.start (span.stop - span.start) (LeftOut literal.kind) literal.longest)
+IsSolid-fault text place before (RunOn span) (here, run) = subst (IsSolid text) (sym run.start ∙ here) (IsSolid-piece text run.piece run.longest)
+IsSolid-fault text place before (TooLong span) (here, many) = subst (IsSolid text) (sym many.start ∙ here) (IsSolid-piece text many.piece many.token.longest)
 IsSolid-fault text place before Memory fault = absurd fault
 
-no_piece : (text : List ℕ) (place start : ℕ) (piece : Piece) → start ≡ place → IsNoToken text start → piece.start ≡ place → IsPieceAt text piece → ⊥
-no_piece text place start piece here none piece_here is_piece =
-    none.none (Token piece.kind) (piece.stop - start) (at_start text piece start (piece_here ∙ sym here) is_piece).spelled
-
-left_out_at : (text : List ℕ) (place : ℕ) (span : Span) → span.start ≡ place → (literal : IsLeftOutLiteral text span) → IsLongest (LeftOut literal.kind) (span.stop - place) (drop place text)
-left_out_at text place span here literal = subst (λ (s : ℕ). IsLongest (LeftOut literal.kind) (span.stop - s) (drop s text)) here literal.longest
-
-no_left_out : (text : List ℕ) (place start : ℕ) (span : Span) → start ≡ place → IsNoToken text start → span.start ≡ place → IsLeftOutLiteral text span → ⊥
-no_left_out text place start span here none span_here literal =
-    none.none (LeftOut literal.kind) (span.stop - start) (left_out_at text start span (span_here ∙ sym here) literal).spelled
-
-piece_or_left_out : (text : List ℕ) (place : ℕ) (piece : Piece) (span : Span) → piece.start ≡ place → IsPieceAt text piece → span.start ≡ place → IsLeftOutLiteral text span → ⊥
-piece_or_left_out text place piece span piece_here is_piece span_here literal =
-    let same = same_longest (drop place text) (Token piece.kind) (LeftOut literal.kind) (piece.stop - place) (span.stop - place) (at_start text piece place piece_here is_piece) (left_out_at text place span span_here literal) in
-    let form : Token piece.kind ≡ LeftOut literal.kind = same.0 in
-    cc
-
-same_left_out : (text : List ℕ) (place : ℕ) (s t : Span) → s.start ≡ place → t.start ≡ place → IsLeftOutLiteral text s → IsLeftOutLiteral text t → s ≡ t
-same_left_out text place s t s_here t_here one two =
-    let same = same_longest (drop place text) (LeftOut one.kind) (LeftOut two.kind) (s.stop - place) (t.stop - place) (left_out_at text place s s_here one) (left_out_at text place t t_here two) in
-    let size = same.1 in
-    let s_order = one.order in
-    let t_order = two.order in
-    let start : s.start ≡ t.start = s_here ∙ sym t_here in
-    let stop : s.stop ≡ t.stop = omega arith in
-    λ i. record { start = start i; stop = stop i }
-
--- the text from the place on begins with the character
-begins : (text : List ℕ) (place : ℕ) (span : Span) (c : ℕ) → span.start ≡ place → IsCharacterAt text span c → drop place text ≡ encode_utf8 c ++ drop (span.stop - place) (drop place text)
-begins text place span c here character =
-    let bytes : take (span.stop - place) (drop place text) ≡ encode_utf8 c = sym (ap (λ (s : ℕ). slice_range text s span.stop) here) ∙ character.bytes in
-    sym (take-append-drop (span.stop - place) (drop place text)) ∙ ap (λ (front : List ℕ). front ++ drop (span.stop - place) (drop place text)) bytes
-
-same_character : (text : List ℕ) (place : ℕ) (s t : Span) → s.start ≡ place → t.start ≡ place → IsBadCharacter text s → IsBadCharacter text t → s ≡ t
-same_character text place s t s_here t_here s_bad t_bad =
-    let c = s_bad.character.0 in
-    let d = t_bad.character.0 in
-    let one : c ≡ d = (encode_same c d (drop (s.stop - place) (drop place text)) (drop (t.stop - place) (drop place text))
-    (sym (begins text place s c s_here s_bad.character.1) ∙ begins text place t d t_here t_bad.character.1)).0 in
-    let start : s.start ≡ t.start = s_here ∙ sym t_here in
-    let size = ap len_utf8 one in
-    let s_stop = s_bad.character.1.stop in
-    let t_stop = t_bad.character.1.stop in
-    let stop : s.stop ≡ t.stop = omega arith in
-    λ i. record { start = start i; stop = stop i }
-
-same_quote : (text : List ℕ) (place : ℕ) (s t : Span) → s.start ≡ place → t.start ≡ place → IsUnclosed text s → IsUnclosed text t → s ≡ t
-same_quote text place s t s_here t_here s_open t_open =
-    let start : s.start ≡ t.start = s_here ∙ sym t_here in
-    let stop : s.stop ≡ t.stop = s_open.stop ∙ sym t_open.stop in
-    λ i. record { start = start i; stop = stop i }
-
-quote_or_not : (text : List ℕ) (place : ℕ) (s t : Span) → s.start ≡ place → t.start ≡ place → IsBadCharacter text s → IsUnclosed text t → ⊥
-quote_or_not text place s t s_here t_here bad quoted =
-    let start : s.start ≡ t.start = s_here ∙ sym t_here in
-    bad.unquoted (ap (λ (i : ℕ). class_of (get_or text i 0)) start ∙ quoted.quoted)
-
-same_run : (text : List ℕ) (place : ℕ) (s t : Span) → s.start ≡ place → t.start ≡ place → IsRunOn text s → IsRunOn text t → s ≡ t
-same_run text place s t s_here t_here one two =
-    let piece : one.piece ≡ two.piece = same_piece text one.piece two.piece place (sym one.start ∙ s_here) (sym two.start ∙ t_here) one.longest two.longest in
-    let start : s.start ≡ t.start = s_here ∙ sym t_here in
-    let stop : s.stop ≡ t.stop = one.stop ∙ ap (λ (p : Piece). p.stop + identifier_run (drop p.stop text)) piece ∙ sym two.stop in
-    λ i. record { start = start i; stop = stop i }
-
-same_many : (text : List ℕ) (place before : ℕ) (s t : Span) → s.start ≡ place → t.start ≡ place → IsOneTooMany text before s → IsOneTooMany text before t → s ≡ t
-same_many text place before s t s_here t_here one two =
-    let piece : one.piece ≡ two.piece = same_piece text one.piece two.piece place (sym one.start ∙ s_here) (sym two.start ∙ t_here) one.token.longest two.token.longest in
-    let start : s.start ≡ t.start = s_here ∙ sym t_here in
-    let stop : s.stop ≡ t.stop = one.stop ∙ ap (λ (p : Piece). p.stop) piece ∙ sym two.stop in
-    λ i. record { start = start i; stop = stop i }
-
-runs_and_ends : (text : List ℕ) (place : ℕ) (span : Span) (piece : Piece) → span.start ≡ place → piece.start ≡ place → IsRunOn text span → IsTokenAt text piece → ⊥
-runs_and_ends text place span piece span_here piece_here run token =
-    let same : run.piece ≡ piece = same_piece text run.piece piece place (sym run.start ∙ span_here) piece_here run.longest token.longest in
-    token.ends (subst (λ (p : Piece). RunsOn p.kind (drop p.stop text)) same run.runs_on)
+-- two faults of one place are one
+same_of : (text : List ℕ) (place : ℕ) (f g : TextFault) → IsOf text place f → IsOf text place g → f ≡ g
+same_of text place f g one two = one.is ∙ ap (fault_of text place) (same_found (drop place text) one.found two.found one.is_found two.is_found) ∙ sym two.is
 
 -- a place where a token is has no other fault than that it is one too many
-no_token : (text : List ℕ) (place before : ℕ) (fault : TextFault) (piece : Piece) → IsFaultAt text place before fault → piece.start ≡ place → IsTokenAt text piece → before ≡ token_limit
-no_token text place before (BadCharacter span) piece fault here token = absurd (no_piece text place span.start piece fault.0 fault.1.no_token here token.longest)
-no_token text place before (UnclosedString span) piece fault here token = absurd (no_piece text place span.start piece fault.0 fault.1.no_token here token.longest)
-no_token text place before (LeftOutLiteral span) piece fault here token = absurd (piece_or_left_out text place piece span here token.longest fault.0 fault.1)
-no_token text place before (RunOn span) piece fault here token = absurd (runs_and_ends text place span piece fault.0 here fault.1 token)
-no_token text place before (TooLong span) piece fault here token = fault.1.count
-no_token text place before Memory piece fault here token = absurd fault
-
--- a place has one fault
-same_fault : (text : List ℕ) (place before : ℕ) (f g : TextFault) → IsFaultAt text place before f → IsFaultAt text place before g → f ≡ g
-same_fault text place before (BadCharacter s) (BadCharacter t) a b = ap BadCharacter (same_character text place s t a.0 b.0 a.1 b.1)
-same_fault text place before (BadCharacter s) (UnclosedString t) a b = absurd (quote_or_not text place s t a.0 b.0 a.1 b.1)
-same_fault text place before (BadCharacter s) (RunOn t) a b = absurd (no_piece text place s.start b.1.piece a.0 a.1.no_token (sym b.1.start ∙ b.0) b.1.longest)
-same_fault text place before (BadCharacter s) (TooLong t) a b = absurd (no_piece text place s.start b.1.piece a.0 a.1.no_token (sym b.1.start ∙ b.0) b.1.token.longest)
-same_fault text place before (UnclosedString s) (BadCharacter t) a b = absurd (quote_or_not text place t s b.0 a.0 b.1 a.1)
-same_fault text place before (UnclosedString s) (UnclosedString t) a b = ap UnclosedString (same_quote text place s t a.0 b.0 a.1 b.1)
-same_fault text place before (UnclosedString s) (RunOn t) a b = absurd (no_piece text place s.start b.1.piece a.0 a.1.no_token (sym b.1.start ∙ b.0) b.1.longest)
-same_fault text place before (UnclosedString s) (TooLong t) a b = absurd (no_piece text place s.start b.1.piece a.0 a.1.no_token (sym b.1.start ∙ b.0) b.1.token.longest)
-same_fault text place before (RunOn s) (BadCharacter t) a b = absurd (no_piece text place t.start a.1.piece b.0 b.1.no_token (sym a.1.start ∙ a.0) a.1.longest)
-same_fault text place before (RunOn s) (UnclosedString t) a b = absurd (no_piece text place t.start a.1.piece b.0 b.1.no_token (sym a.1.start ∙ a.0) a.1.longest)
-same_fault text place before (RunOn s) (RunOn t) a b = ap RunOn (same_run text place s t a.0 b.0 a.1 b.1)
-same_fault text place before (RunOn s) (TooLong t) a b = absurd (runs_and_ends text place s b.1.piece a.0 (sym b.1.start ∙ b.0) a.1 b.1.token)
-same_fault text place before (TooLong s) (BadCharacter t) a b = absurd (no_piece text place t.start a.1.piece b.0 b.1.no_token (sym a.1.start ∙ a.0) a.1.token.longest)
-same_fault text place before (TooLong s) (UnclosedString t) a b = absurd (no_piece text place t.start a.1.piece b.0 b.1.no_token (sym a.1.start ∙ a.0) a.1.token.longest)
-same_fault text place before (TooLong s) (RunOn t) a b = absurd (runs_and_ends text place t a.1.piece b.0 (sym a.1.start ∙ a.0) b.1 a.1.token)
-same_fault text place before (TooLong s) (TooLong t) a b = ap TooLong (same_many text place before s t a.0 b.0 a.1 b.1)
-same_fault text place before (LeftOutLiteral s) (LeftOutLiteral t) a b = ap LeftOutLiteral (same_left_out text place s t a.0 b.0 a.1 b.1)
-same_fault text place before (LeftOutLiteral s) (BadCharacter t) a b = absurd (no_left_out text place t.start s b.0 b.1.no_token a.0 a.1)
-same_fault text place before (LeftOutLiteral s) (UnclosedString t) a b = absurd (no_left_out text place t.start s b.0 b.1.no_token a.0 a.1)
-same_fault text place before (LeftOutLiteral s) (RunOn t) a b = absurd (piece_or_left_out text place b.1.piece s (sym b.1.start ∙ b.0) b.1.longest a.0 a.1)
-same_fault text place before (LeftOutLiteral s) (TooLong t) a b = absurd (piece_or_left_out text place b.1.piece s (sym b.1.start ∙ b.0) b.1.token.longest a.0 a.1)
-same_fault text place before (BadCharacter s) (LeftOutLiteral t) a b = absurd (no_left_out text place s.start t a.0 a.1.no_token b.0 b.1)
-same_fault text place before (UnclosedString s) (LeftOutLiteral t) a b = absurd (no_left_out text place s.start t a.0 a.1.no_token b.0 b.1)
-same_fault text place before (RunOn s) (LeftOutLiteral t) a b = absurd (piece_or_left_out text place a.1.piece t (sym a.1.start ∙ a.0) a.1.longest b.0 b.1)
-same_fault text place before (TooLong s) (LeftOutLiteral t) a b = absurd (piece_or_left_out text place a.1.piece t (sym a.1.start ∙ a.0) a.1.token.longest b.0 b.1)
-same_fault text place before Memory g a b = absurd a
-same_fault text place before f Memory a b = absurd b
+no_token : (text : List ℕ) (before : ℕ) (fault : TextFault) (piece : Piece) → IsFaultAt text piece.start before fault → IsTokenAt text piece → before ≡ token_limit
+no_token text before fault piece faulty token =
+    let is : fault ≡ TooLong (span_of piece.start piece.stop) =
+    same_of text piece.start fault (TooLong (span_of piece.start piece.stop)) (of_fault text piece.start before fault faulty)
+    (of_piece text piece (TooLong (span_of piece.start piece.stop)) token.longest (sym (token_fault text piece token))) in
+    let many = subst (IsFaultAt text piece.start before) is faulty in
+    many.1.count
 
 -- One reading of a text.
 
@@ -227,7 +219,7 @@ no_more : (text : List ℕ) (from before : ℕ) (end : Option TextFault) (piece 
 no_more text from before None piece ends gap token = absurd (not_at_end text from piece.start gap ends (IsSolid-piece text piece token.longest))
 no_more text from before (Some fault) piece ends gap token =
     let here : piece.start ≡ ends.place = same_place text from piece.start ends.place gap ends.gap (IsSolid-piece text piece token.longest) (IsSolid-fault text ends.place before fault ends.fault_at) in
-    no_token text ends.place before fault piece ends.fault_at here token
+    no_token text before fault piece (subst (λ (p : ℕ). IsFaultAt text p before fault) (sym here) ends.fault_at) token
 
 same_end : (text : List ℕ) (from before : ℕ) (a b : Option TextFault) → EndsFrom text from before a → EndsFrom text from before b → a ≡ b
 same_end text from before None None a_ends b_ends = refl
@@ -235,7 +227,7 @@ same_end text from before None (Some g) a_ends b_ends = absurd (not_at_end text 
 same_end text from before (Some f) None a_ends b_ends = absurd (not_at_end text from a_ends.place a_ends.gap b_ends (IsSolid-fault text a_ends.place before f a_ends.fault_at))
 same_end text from before (Some f) (Some g) a_ends b_ends =
     let here : b_ends.place ≡ a_ends.place = same_place text from b_ends.place a_ends.place b_ends.gap a_ends.gap (IsSolid-fault text b_ends.place before g b_ends.fault_at) (IsSolid-fault text a_ends.place before f a_ends.fault_at) in
-    ap Some (same_fault text a_ends.place before f g a_ends.fault_at (subst (λ (p : ℕ). IsFaultAt text p before g) here b_ends.fault_at))
+    ap Some (same_of text a_ends.place f g (of_fault text a_ends.place before f a_ends.fault_at) (subst (λ (p : ℕ). IsOf text p g) here (of_fault text b_ends.place before g b_ends.fault_at)))
 
 -- tokens from a place on behind so many others, within the limit, and how they end
 record IsReading (text : List ℕ) (from before : ℕ) (pieces : List Piece) (end : Option TextFault) : Type 0 where

@@ -1,32 +1,48 @@
 -- What the parts of pieces that are made of two begin with, and which bytes they do not have.
-use Rattle.std.proofs.Common.{◌≡◌, ℕ, ◌<◌, List, [], length, get_or, arith, refl, sym, ◌∙◌, ap}
+use Rattle.std.proofs.Common.{◌≡◌, ℕ, zero, suc, ◌<◌, ◌≤◌, List, [], ◌∷◌, ◌++◌, length, get_or, arith, refl, sym, ◌∙◌, ap, subst, length-append}
 use Rattle.std.specs.Char.{is_ascii_alphabetic}
+use Rattle.std.specs.List.{AllByRecursion as AllOf}
 use Rattle.std.proofs.lemmas.Bool.{both_ways}
 use Rattle.edm_values.specs.StringLiteral.{IsStringSpelling}
 use Rattle.odata_text.specs.Identifier.{IsIdentifier}
-use Rattle.odata_text.specs.Spelling.{IsDottedWord, IsLeftOutName}
-use Rattle.odata_text.specs.declared.form.Form.TheVariants.{Token}
-use Rattle.odata_text.specs.declared.token.TokenKind.TheVariants.{Word, Str}
-use Rattle.odata_text.proofs.IdentifierBytes.{identifier-nonempty}
+use Rattle.odata_text.specs.Spelling.{IsDottedWord, IsLeftOutName, joined}
+use Rattle.odata_text.proofs.IdentifierBytes.{identifier-nonempty, identifier-part, is_part_byte}
 use Rattle.odata_text.proofs.Names.{left_out-letters}
-use Rattle.odata_text.proofs.Starts.{started}
-use Rattle.odata_text.proofs.FormOf.{is_quote, is_word_byte}
-use Rattle.odata_text.proofs.WordForms.{is_word}
+use Rattle.odata_text.proofs.Sequences.{each-append}
+use Rattle.odata_text.proofs.Words.{dotted-pair}
+
+no_quote-identifier : (xs : List ℕ) → IsIdentifier xs → (i : ℕ) → i < length xs → get_or xs i 0 ≡ 39 → ⊥
+no_quote-identifier xs identifier i inside quote = both_ways (is_part_byte 39) refl (sym (ap is_part_byte quote) ∙ identifier-part xs identifier i inside)
+
+no_quote-dot : (xs : List ℕ) → ((i : ℕ) → i < length xs → get_or xs i 0 ≡ 39 → ⊥) → (i : ℕ) → i < length (46 ∷ xs) → get_or (46 ∷ xs) i 0 ≡ 39 → ⊥
+no_quote-dot xs none zero inside quote = absurd (omega arith)
+no_quote-dot xs none (suc i) inside quote = none i (omega arith) quote
+
+no_quote-joined : (part : List ℕ) (more : List (List ℕ)) → IsIdentifier part → AllOf IsIdentifier more → (i : ℕ) → i < length (joined part more) → get_or (joined part more) i 0 ≡ 39 → ⊥
+no_quote-joined part [] identifier all = no_quote-identifier part identifier
+no_quote-joined part (next ∷ more) identifier all =
+    each-append (λ b. b ≡ 39 → ⊥) (joined part (next ∷ more)) part (46 ∷ joined next more) refl (no_quote-identifier part identifier)
+    (no_quote-dot (joined next more) (no_quote-joined next more all.0 all.1))
 
 pub no_quote-word : (xs : List ℕ) → IsDottedWord xs → (i : ℕ) → i < length xs → get_or xs i 0 ≡ 39 → ⊥
-no_quote-word xs dotted i inside quote = both_ways (is_word_byte 39) refl (sym (ap is_word_byte quote) ∙ is_word xs dotted.word i inside)
+no_quote-word xs dotted =
+    subst (λ (ys : List ℕ). (i : ℕ) → i < length ys → get_or ys i 0 ≡ 39 → ⊥) (sym dotted.word.whole)
+    (no_quote-joined dotted.word.part dotted.word.more dotted.word.identifier dotted.word.identifiers)
 
 pub no_quote-name : (xs : List ℕ) → IsLeftOutName xs → (i : ℕ) → i < length xs → get_or xs i 0 ≡ 39 → ⊥
 no_quote-name xs name i inside quote = both_ways (is_ascii_alphabetic 39) refl (sym (ap is_ascii_alphabetic quote) ∙ (left_out-letters xs name).letters i inside)
 
 pub string-starts : (ys : List ℕ) → IsStringSpelling ys → (0 < length ys) × (get_or ys 0 0 ≡ 39)
-string-starts ys spelled = let quoted = started (Token Str) ys spelled in (quoted.nonempty, is_quote (get_or ys 0 0) quoted.first)
+string-starts ys spelled = (omega (arith, ap length spelled.1), ap (λ (zs : List ℕ). get_or zs 0 0) spelled.1)
 
 pub string-none : IsStringSpelling [] → ⊥
 string-none spelled = let some = (string-starts [] spelled).0 in absurd (omega arith)
 
 pub dotted-none : IsDottedWord [] → ⊥
-dotted-none dotted = let some = (started (Token Word) [] dotted.word).nonempty in absurd (omega arith)
+dotted-none dotted =
+    let pair = dotted-pair [] dotted in
+    let some = identifier-nonempty pair.front pair.is_front in
+    absurd (omega (arith, ap length pair.whole, length-append pair.front pair.back))
 
 pub name-none : IsLeftOutName [] → ⊥
 name-none name = let some = (left_out-letters [] name).nonempty in absurd (omega arith)

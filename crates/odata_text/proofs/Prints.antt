@@ -6,6 +6,7 @@ use Rattle.std.specs.Str.{encode_utf8_all}
 use Rattle.std.proofs.Math.ListN.{get_or-append}
 use Rattle.std.proofs.Math.Seq.{drop-append_seam, get_or-append_right}
 use Rattle.std.proofs.lemmas.Bool.{and_parts, cond-false, false≢true}
+use Rattle.std.proofs.lemmas.Bool.Decides.{nat_tests}
 use Rattle.std.proofs.lemmas.List.{take_at}
 use Rattle.std.proofs.lemmas.List.Sums.{take_while-cons}
 use Rattle.std.proofs.lemmas.Str.{chars-append, chars-IsAscii, chars-nil, IsUtf8-from_ascii}
@@ -19,11 +20,16 @@ use Rattle.odata_text.specs.declared.byte_class.ByteClass.TheVariants.{Space}
 use Rattle.odata_text.specs.declared.form.Form.TheVariants.{Token}
 use Rattle.odata_text.specs.declared.token.TokenKind.{TokenKind}
 use Rattle.odata_text.specs.declared.token.TokenKind.TheVariants.{Int, Open, Close, Comma, Slash, Colon}
-use Rattle.odata_text.proofs.Separated.{separated}
-use Rattle.odata_text.proofs.IdentifierBytes.{continues-ascii}
-use Rattle.odata_text.proofs.Alone.{separator-ascii, separator-name}
+use Rattle.odata_text.proofs.IdentifierBytes.{continues-ascii, is_name_byte}
+use Rattle.odata_text.proofs.machine.Longest.{longest-before}
 
--- ---- no identifier character stands behind a token
+-- No identifier character stands behind a token.
+
+separator-ascii : (b : ℕ) → is_separator b ≡ true → b < 128
+separator-ascii b separator = grind (arith, nat_tests)
+
+separator-name : (b : ℕ) → is_separator b ≡ true → is_name_byte b ≡ false
+separator-name b separator = grind (arith, nat_tests)
 
 run-none : (b : ℕ) (more : List ℕ) → is_separator b ≡ true → identifier_run (b ∷ more) ≡ 0
 run-none b more separator =
@@ -50,14 +56,16 @@ no_run kind (b ∷ more) follows runs =
     let some = runs.1 in
     absurd (omega arith)
 
--- ---- one token
+-- One token.
 
 token_at : (before text rest : List ℕ) (kind : TokenKind) → Spells kind text → MayFollow kind rest
     → IsTokenAt (before ++ (text ++ rest)) (record { kind = kind; start = length before; stop = length before + length text; text = text })
 token_at before text rest kind spelled follows =
     let behind : drop (length before) (before ++ (text ++ rest)) ≡ text ++ rest = drop-append_seam before (text ++ rest) in
     let size : length before + length text - length before ≡ length text = omega arith in
-    let longest : IsLongest (Token kind) (length text) (text ++ rest) = separated kind text rest spelled follows in
+    let all = length-append text rest in
+    let longest : IsLongest (Token kind) (length text) (text ++ rest) =
+    longest-before kind (text ++ rest) (length text) (omega arith) (subst (Spells kind) (sym (take_at text rest (length text) refl)) spelled) (subst (MayFollow kind) (sym (drop-append_seam text rest)) follows) in
     let past : drop (length before + length text) (before ++ (text ++ rest)) ≡ rest =
     ap (drop (length before + length text)) (sym (append_assoc before text rest)) ∙ ap (λ (n : ℕ). drop n ((before ++ text) ++ rest)) (sym (length-append before text)) ∙ drop-append_seam (before ++ text) rest in
     record {
@@ -69,7 +77,7 @@ token_at before text rest kind spelled follows =
       ends = λ runs. no_run kind rest follows (subst (RunsOn kind) past runs);
     }
 
--- ---- all of them
+-- All of them.
 
 record AreRead (text : List ℕ) (from at : ℕ) (prints : List Print) : Type 0 where
   tokens : AreTokensFrom text from (placed at prints)

@@ -47,7 +47,7 @@ doubled-quote : (c : ℕ) (cs : List ℕ) → (c == 39) ≡ true → doubled (c 
 doubled-quote c cs e = cond-true (c == 39) (39 ∷ 39 ∷ doubled cs) (c ∷ doubled cs) e
 
 -- doubled quotes leave a text open
-open-doubled : (value more : List ℕ) → fold quoted_after Open (doubled value ++ more) ≡ fold quoted_after Open more
+pub open-doubled : (value more : List ℕ) → fold quoted_after Open (doubled value ++ more) ≡ fold quoted_after Open more
 open-doubled [] more = refl
 open-doubled (c ∷ cs) more =
     elim (eqb_tells c 39) [

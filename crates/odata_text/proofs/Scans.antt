@@ -11,7 +11,7 @@ use Rattle.odata_text.specs.declared.fault.TextFault.{TextFault}
 use Rattle.odata_text.specs.declared.fault.TextFault.TheVariants.{TooLong}
 use Rattle.odata_text.specs.declared.token.Token.{Token}
 use Rattle.odata_text.specs.declared.form.Form.TheVariants.{Token as IsToken}
-use Rattle.odata_text.proofs.Starts.{started}
+use Rattle.odata_text.proofs.machine.Longest.{formed-some}
 use Rattle.odata_text.proofs.Places.{boundary-gap}
 
 tokens-push : (text : List ℕ) (from : ℕ) (pieces : List Piece) (piece : Piece) → AreTokensFrom text from pieces → IsGap text (end_of from pieces) piece.start → IsTokenAt text piece
@@ -33,7 +33,7 @@ IsInside-token text piece token =
     let longest = token.longest.longest in
     let within = longest.within in
     let size = length-take-le (piece.stop - piece.start) (drop piece.start text) within in
-    let some = (started (IsToken piece.kind) _ longest.spelled).nonempty in
+    let some = formed-some (IsToken piece.kind) _ longest.spelled in
     let room = length-drop piece.start text in
     record { nonempty = omega arith; within = omega arith }
 

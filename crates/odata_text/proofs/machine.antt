@@ -1,0 +1,4 @@
+pub mod Longest
+pub mod Runs
+pub mod States
+pub mod Steps

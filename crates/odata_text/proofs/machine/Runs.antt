@@ -1,0 +1,296 @@
+-- Where the machine ends on a piece of each form.
+use Rattle.std.proofs.Common.{◌≡◌, ◌⊎◌, inl, inr, ⊎_elim, ℕ, min, ◌+◌, ◌<◌, ◌≤◌, ◌==◌, Bool, true, false, List, [], ◌∷◌, ◌++◌, length, get_or, drop, Option, Some, suc, arith, refl, sym, ◌∙◌, ap, subst, length-append}
+use Rattle.std.specs.Prelude.{fold}
+use Rattle.std.specs.Char.{is_ascii_alphabetic, is_ascii_hexdigit}
+use Rattle.std.specs.List.{AllByRecursion as AllOf, list_all}
+use Rattle.std.proofs.lemmas.Bool.{and_parts, cases_lt, eqb-true, false≢true, or_cases}
+use Rattle.std.proofs.lemmas.Bool.Decides.{nat_tests}
+use Rattle.edm_values.specs.GuidLiteral.{IsGuidSpelling}
+use Rattle.edm_values.specs.IntLiteral.{IsIntSpelling}
+use Rattle.edm_values.specs.MomentLiteral.{IsMomentSpelling, IsOffsetSpelling, IsSecondsSpelling}
+use Rattle.edm_values.specs.StringLiteral.{IsStringSpelling, doubled}
+use Rattle.odata_text.specs.Identifier.{IsIdentifier}
+use Rattle.odata_text.specs.LeftOut.{IsDecimals, IsExponent, IsFraction}
+use Rattle.odata_text.specs.Patterns.{Fits, passes}
+use Rattle.odata_text.specs.Spelling.{IsFormed, IsLeftOutName, IsWord, joined}
+use Rattle.odata_text.specs.declared.byte_test.ByteTest.{ByteTest}
+use Rattle.odata_text.specs.declared.byte_test.ByteTest.TheVariants.{HexDigit, Hyphen, Sign as SignTest, TimeMark, OffsetMark}
+use Rattle.odata_text.specs.declared.form.Form.{Form}
+use Rattle.odata_text.specs.declared.form.Form.TheVariants.{Token, LeftOut}
+use Rattle.odata_text.specs.declared.form.LeftOutKind.TheVariants.{Number, TimeOfDay, Quoted}
+use Rattle.odata_text.specs.declared.quoted.Quoted.TheVariants.{Open as Opened, Closed}
+use Rattle.odata_text.specs.declared.token.TokenKind.TheVariants.{Word, Dollar, Int, Date, Moment, Guid, Str, EnumLit, Open, Close, Comma, Slash, Colon, Minus}
+use Rattle.odata_text.proofs.Decimals.{IsIntByte, int-byte}
+use Rattle.odata_text.proofs.Guids.{fits-guid, guid_pattern}
+use Rattle.odata_text.proofs.IdentifierBytes.{identifier-nonempty, identifier-part, identifier-start, is_part_byte, is_word_start}
+use Rattle.odata_text.proofs.Names.{left_out-letters}
+use Rattle.odata_text.proofs.Quotes.{open-doubled}
+use Rattle.odata_text.proofs.Times.{IsSecondsByte, clock_pattern, date_pattern, fits-clock, fits-date, fits-marked, offset-fits, parts-from_moment, seconds-byte}
+use Rattle.odata_text.proofs.machine.States.{Letter, AnE, AHexLetter, ADigit, ALetter, AHyphen, Sort, State, Start, Whole, Text, Sign, SignedDigits, Pointed, Powered, Digits, PowerDigits, PowerHyphen, OneHyphen, TwoHyphens, Hexes, Clock, Timed, Ahead, AheadColon, Name, Dotted, Dollared, Lead, Bare, Named, Qualified, enter, form_at, run, sort_of, step}
+use Rattle.odata_text.proofs.machine.Steps.{digit-goes, goes-both, goes-digits, goes-fits, goes-text, hex-sorts, name-starts, part-kept, stays}
+
+-- Words.
+
+name-run : (xs : List ℕ) → 0 < length xs → is_word_start (get_or xs 0 0) ≡ true → ((i : ℕ) → i < length xs → is_part_byte (get_or xs i 0) ≡ true) → run xs ≡ Name
+name-run [] some start parts = absurd (omega arith)
+name-run (b ∷ bs) some start parts =
+    ap (λ (s : State). fold step s bs) (name-starts b start)
+    ∙ stays (λ c. is_part_byte c ≡ true) Name bs (part-kept Name refl (λ l. refl)) (λ i inside. parts (suc i) (omega arith))
+
+part-run : (q : State) (xs : List ℕ) → enter q ADigit ≡ q → ((l : Letter) → enter q (ALetter l) ≡ q) → IsIdentifier xs → fold step q xs ≡ q
+part-run q xs by_digit by_letter identifier = stays (λ c. is_part_byte c ≡ true) q xs (part-kept q by_digit by_letter) (identifier-part xs identifier)
+
+dotted-run : (part : List ℕ) (more : List (List ℕ)) → IsIdentifier part → AllOf IsIdentifier more → fold step Dotted (joined part more) ≡ Dotted
+dotted-run part [] identifier all = part-run Dotted part refl (λ l. refl) identifier
+dotted-run part (next ∷ more) identifier all =
+    goes-both Dotted Dotted (joined part (next ∷ more)) part (46 ∷ joined next more) refl (part-run Dotted part refl (λ l. refl) identifier)
+    ∙ dotted-run next more all.0 all.1
+
+-- a word of one part or of several
+abbrev at_word : List (List ℕ) → State
+at_word [] = Name
+at_word (part ∷ more) = Dotted
+
+identifier-run : (xs : List ℕ) → IsIdentifier xs → run xs ≡ Name
+identifier-run xs identifier = name-run xs (identifier-nonempty xs identifier) (identifier-start xs identifier) (identifier-part xs identifier)
+
+joined-run : (part : List ℕ) (more : List (List ℕ)) → IsIdentifier part → AllOf IsIdentifier more → run (joined part more) ≡ at_word more
+joined-run part [] identifier all = identifier-run part identifier
+joined-run part (next ∷ more) identifier all =
+    goes-both Start Name (joined part (next ∷ more)) part (46 ∷ joined next more) refl (identifier-run part identifier)
+    ∙ dotted-run next more all.0 all.1
+
+word-run : (xs : List ℕ) (word : IsWord xs) → run xs ≡ at_word word.more
+word-run xs word = ap run word.whole ∙ joined-run word.part word.more word.identifier word.identifiers
+
+word-form : (more : List (List ℕ)) → form_at (at_word more) ≡ Some (Token Word)
+word-form [] = refl
+word-form (part ∷ more) = refl
+
+dotted-word : (more : List (List ℕ)) → 0 < length more → at_word more ≡ Dotted
+dotted-word [] some = absurd (omega arith)
+dotted-word (part ∷ more) some = refl
+
+named-run : (xs : List ℕ) → IsLeftOutName xs → run xs ≡ Name
+named-run xs name =
+    let letters = left_out-letters xs name in
+    name-run xs letters.nonempty (start (get_or xs 0 0) (letters.letters 0 letters.nonempty)) (λ i inside. part (get_or xs i 0) (letters.letters i inside))
+  where
+    start : (b : ℕ) → is_ascii_alphabetic b ≡ true → is_word_start b ≡ true
+    start b letter = grind (arith, nat_tests)
+
+    part : (b : ℕ) → is_ascii_alphabetic b ≡ true → is_part_byte b ≡ true
+    part b letter = grind (arith, nat_tests)
+
+-- Texts in quotes, behind what the state has read.
+
+text-run : (q : State) (lead : Lead) (xs : List ℕ) → step q 39 ≡ Text lead Opened → IsStringSpelling xs → fold step q xs ≡ Text lead Closed
+text-run q lead xs opens spelled =
+    let behind = doubled spelled.0 ++ 39 ∷ [] in
+    ap (fold step q) spelled.1
+    ∙ ap (λ (s : State). fold step s behind) opens
+    ∙ goes-text lead Opened behind
+    ∙ ap (Text lead) (open-doubled spelled.0 (39 ∷ []))
+
+-- Numbers.
+
+-- a whole number ends in one of two states
+int-run : (xs : List ℕ) → IsIntSpelling xs → (run xs ≡ SignedDigits) ⊎ (run xs ≡ Digits)
+int-run [] int = absurd int.1
+int-run (c ∷ ds) int =
+    elim int.1 [
+      | inl plus ↦ inl (ap (λ (b : ℕ). fold step (step Start b) ds) plus.0 ∙ goes-digits Sign SignedDigits ds refl refl plus.1)
+      | inr other ↦ elim other [
+        | inl minus ↦ inl (ap (λ (b : ℕ). fold step (step Start b) ds) minus.0 ∙ goes-digits Sign SignedDigits ds refl refl minus.1)
+        | inr plain ↦ inr (goes-digits Start Digits (c ∷ ds) refl refl plain.0)
+      ]
+    ]
+
+fraction-run : (q : State) (xs : List ℕ) → step q 46 ≡ Pointed → IsFraction xs → fold step q xs ≡ Pointed
+fraction-run q [] dot fraction = absurd fraction
+fraction-run q (b ∷ digits) dot fraction =
+    ap (λ (c : ℕ). fold step (step q c) digits) fraction.0 ∙ ap (λ (s : State). fold step s digits) dot ∙ goes-digits Pointed Pointed digits refl refl fraction.1
+
+powered-kept : (b : ℕ) → IsIntByte b → step Powered b ≡ Powered
+powered-kept b (inl (inl plus)) = ap (step Powered) plus
+powered-kept b (inl (inr minus)) = ap (step Powered) minus
+powered-kept b (inr digit) = digit-goes Powered Powered refl b digit
+
+power-run : (q : State) (xs : List ℕ) → ((b : ℕ) → (b ≡ 101) ⊎ (b ≡ 69) → step q b ≡ Powered) → IsExponent xs → fold step q xs ≡ Powered
+power-run q [] mark exponent = absurd exponent
+power-run q (b ∷ power) mark exponent =
+    ap (λ (s : State). fold step s power) (mark b exponent.0) ∙ stays IsIntByte Powered power powered-kept (int-byte power exponent.1)
+
+-- behind digits alone an `e` may belong to a Guid
+digits-power : (xs : List ℕ) → IsExponent xs → form_at (fold step Digits xs) ≡ Some (LeftOut Number)
+digits-power [] exponent = absurd exponent
+digits-power (b ∷ power) exponent =
+    ap (λ (s : State). form_at (fold step s power)) (⊎_elim (λ small. ap (step Digits) small) (λ big. ap (step Digits) big) exponent.0) ∙ sign power exponent.1
+  where
+    sign : (ys : List ℕ) → IsIntSpelling ys → form_at (fold step PowerDigits ys) ≡ Some (LeftOut Number)
+    sign [] int = absurd int.1
+    sign (c ∷ ds) int =
+        elim int.1 [
+          | inl plus ↦ ap (λ (d : ℕ). form_at (fold step (step PowerDigits d) ds)) plus.0 ∙ ap form_at (goes-digits Powered Powered ds refl refl plus.1)
+          | inr other ↦ elim other [
+            | inl minus ↦ ap (λ (d : ℕ). form_at (fold step (step PowerDigits d) ds)) minus.0 ∙ ap form_at (goes-digits PowerHyphen PowerHyphen ds refl refl minus.1)
+            | inr plain ↦ ap form_at (goes-digits PowerDigits PowerDigits (c ∷ ds) refl refl plain.0)
+          ]
+        ]
+
+decimals-run : (q : State) (xs : List ℕ) → step q 46 ≡ Pointed → ((ys : List ℕ) → IsExponent ys → form_at (fold step q ys) ≡ Some (LeftOut Number)) → IsDecimals xs
+    → form_at (fold step q xs) ≡ Some (LeftOut Number)
+decimals-run q xs dot power (inl fraction) = ap form_at (fraction-run q xs dot fraction)
+decimals-run q xs dot power (inr (inl exponent)) = power xs exponent
+decimals-run q xs dot power (inr (inr pair)) =
+    ap form_at (goes-both q Pointed xs pair.front pair.back pair.whole (fraction-run q pair.front dot pair.is_front) ∙ power-run Pointed pair.back pointed pair.is_back)
+  where
+    pointed : (b : ℕ) → (b ≡ 101) ⊎ (b ≡ 69) → step Pointed b ≡ Powered
+    pointed b (inl small) = ap (step Pointed) small
+    pointed b (inr big) = ap (step Pointed) big
+
+-- behind a whole number
+number-run : (front back : List ℕ) → (run front ≡ SignedDigits) ⊎ (run front ≡ Digits) → IsDecimals back → form_at (run (front ++ back)) ≡ Some (LeftOut Number)
+number-run front back (inl signed') decimals =
+    ap form_at (goes-both Start SignedDigits (front ++ back) front back refl signed') ∙ decimals-run SignedDigits back refl (λ ys exponent. ap form_at (power-run SignedDigits ys mark exponent)) decimals
+  where
+    mark : (b : ℕ) → (b ≡ 101) ⊎ (b ≡ 69) → step SignedDigits b ≡ Powered
+    mark b (inl small) = ap (step SignedDigits) small
+    mark b (inr big) = ap (step SignedDigits) big
+number-run front back (inr digits) decimals =
+    ap form_at (goes-both Start Digits (front ++ back) front back refl digits) ∙ decimals-run Digits back refl digits-power decimals
+
+-- Dates and times.
+
+seconds-run : (q : State) (xs : List ℕ) → step q 46 ≡ q → step q 58 ≡ q → enter q ADigit ≡ q → IsSecondsSpelling xs → fold step q xs ≡ q
+seconds-run q xs dot colon digit seconds = stays IsSecondsByte q xs kept (seconds-byte xs seconds)
+  where
+    kept : (b : ℕ) → IsSecondsByte b → step q b ≡ q
+    kept b (inl is) = ap (step q) is ∙ dot
+    kept b (inr range) =
+        let low = range.0 in
+        let high = range.1 in
+        ⊎_elim (λ below. digit-goes q q digit b (low, omega arith)) (λ above. let is : b ≡ 58 = omega arith in ap (step q) is ∙ colon) (cases_lt b 58)
+
+offset-run : (xs : List ℕ) → IsOffsetSpelling xs → form_at (fold step Timed xs) ≡ Some (Token Moment)
+offset-run xs offset = ⊎_elim (λ mark. ap form_at (goes-fits (OffsetMark ∷ []) Timed xs refl mark)) (λ ahead. sign xs ahead) (offset-fits xs offset)
+  where
+    sign : (ys : List ℕ) → Fits (SignTest ∷ clock_pattern) ys → form_at (fold step Timed ys) ≡ Some (Token Moment)
+    sign [] fits = absurd fits
+    sign (b ∷ clock) fits =
+        let ahead : step Timed b ≡ Ahead = ⊎_elim (λ plus. ap (step Timed) (eqb-true b 43 plus)) (λ minus. ap (step Timed) (eqb-true b 45 minus)) (or_cases (b == 43) (b == 45) fits.0) in
+        ap (λ (s : State). form_at (fold step s clock)) ahead ∙ ap form_at (goes-fits clock_pattern Ahead clock refl fits.1)
+
+moment-run : (xs : List ℕ) → IsMomentSpelling xs → form_at (run xs) ≡ Some (Token Moment)
+moment-run xs moment =
+    let pair = parts-from_moment xs moment in
+    let timed = pair.is_back in
+    let zoned = timed.is_back in
+    ap form_at (goes-both Start TwoHyphens xs pair.front pair.back pair.whole (goes-fits date_pattern Start pair.front refl (fits-date pair.front pair.is_front))
+    ∙ goes-both TwoHyphens Timed pair.back timed.front timed.back timed.whole (goes-fits (TimeMark ∷ clock_pattern) TwoHyphens timed.front refl (fits-marked timed.front timed.is_front))
+    ∙ goes-both Timed Timed timed.back zoned.front zoned.back zoned.whole (seconds-run Timed zoned.front refl refl refl zoned.is_front))
+    ∙ offset-run zoned.back zoned.is_back
+
+-- Guids: how many hyphens there are at least, four where only a Guid can end.
+
+abbrev level : State → ℕ
+level Digits = 1
+level PowerDigits = 1
+level Name = 1
+level OneHyphen = 2
+level PowerHyphen = 2
+level TwoHyphens = 3
+level Hexes = 4
+level _ = 0
+
+abbrev raised : ℕ → ByteTest → ℕ
+raised n Hyphen = min 4 (n + 1)
+raised n _ = n
+
+abbrev is_guid_test : ByteTest → Bool
+is_guid_test HexDigit = true
+is_guid_test Hyphen = true
+is_guid_test _ = false
+
+level-digit : (q : State) → level q ≤ level (enter q ADigit)
+level-digit Start = omega arith
+level-digit _ = omega arith
+
+level-e : (q : State) → level q ≤ level (enter q (ALetter AnE))
+level-e Start = omega arith
+level-e _ = omega arith
+
+level-letter : (q : State) → level q ≤ level (enter q (ALetter AHexLetter))
+level-letter Start = omega arith
+level-letter _ = omega arith
+
+level-hyphen : (q : State) → 0 < level q → min 4 (level q + 1) ≤ level (enter q AHyphen)
+level-hyphen Start some = absurd (omega arith)
+level-hyphen _ some = omega arith
+
+level-step : (test : ByteTest) (b n : ℕ) (q : State) → is_guid_test test ≡ true → passes test b ≡ true → 0 < n → n ≤ level q → raised n test ≤ level (step q b)
+level-step HexDigit b n q known passed some below =
+    let digit = level-digit q in
+    let e = level-e q in
+    let letter = level-letter q in
+    ⊎_elim (λ is. rw is (omega arith)) (λ other. ⊎_elim (λ is. rw is (omega arith)) (λ is. rw is (omega arith)) other) (hex-sorts b passed)
+level-step Hyphen b n q known passed some below =
+    let up = level-hyphen q (omega arith) in
+    let is = eqb-true b 45 passed in
+    rw is (omega arith)
+level-step _ b n q known passed some below = absurd (false≢true known)
+
+level-fits : (tests : List ByteTest) (xs : List ℕ) (n : ℕ) (q : State) → list_all is_guid_test tests ≡ true → Fits tests xs → 0 < n → n ≤ level q
+    → fold raised n tests ≤ level (fold step q xs)
+level-fits [] [] n q known fits some below = below
+level-fits [] (b ∷ bs) n q known fits some below = absurd fits
+level-fits (test ∷ tests) [] n q known fits some below = absurd fits
+level-fits (test ∷ tests) (b ∷ bs) n q known fits some below =
+    let parts = and_parts (is_guid_test test) (list_all is_guid_test tests) known in
+    level-fits tests bs (raised n test) (step q b) parts.1 fits.1 (more test n some) (level-step test b n q parts.0 fits.0 some below)
+  where
+    more : (t : ByteTest) (k : ℕ) → 0 < k → 0 < raised k t
+    more Hyphen k some = omega arith
+    more _ k some = some
+
+level-guid : (q : State) → 4 ≤ level q → q ≡ Hexes
+level-guid Hexes top = refl
+level-guid _ top = absurd (omega arith)
+
+guid-run : (xs : List ℕ) → IsGuidSpelling xs → run xs ≡ Hexes
+guid-run xs guid = first xs (fits-guid xs guid)
+  where
+    first : (ys : List ℕ) → Fits guid_pattern ys → run ys ≡ Hexes
+    first [] fits = absurd fits
+    first (b ∷ bs) fits =
+        let start : 1 ≤ level (step Start b) =
+        ⊎_elim (λ is. rw is (omega arith)) (λ other. ⊎_elim (λ is. rw is (omega arith)) (λ is. rw is (omega arith)) other) (hex-sorts b fits.0) in
+        level-guid (fold step (step Start b) bs) (level-fits (drop 1 guid_pattern) bs 1 (step Start b) refl fits.1 (omega arith) start)
+
+-- Every form.
+
+pub reads : (form : Form) (xs : List ℕ) → IsFormed form xs → form_at (run xs) ≡ Some form
+reads (Token Word) xs formed = ap form_at (word-run xs formed) ∙ word-form formed.more
+reads (Token Dollar) xs formed =
+    ap form_at (goes-both Start Dollared xs formed.front formed.back formed.whole (ap run formed.is_front)
+    ∙ part-run Dollared formed.back refl (λ l. refl) formed.is_back)
+reads (Token Int) xs formed = ⊎_elim (λ signed'. ap form_at signed') (λ digits. ap form_at digits) (int-run xs formed)
+reads (Token Date) xs formed = ap form_at (goes-fits date_pattern Start xs refl (fits-date xs formed))
+reads (Token Moment) xs formed = moment-run xs formed
+reads (Token Guid) xs formed = ap form_at (guid-run xs formed)
+reads (Token Str) xs formed = ap form_at (text-run Start Bare xs refl formed)
+reads (Token EnumLit) xs formed =
+    ap form_at (goes-both Start Dotted xs formed.front formed.back formed.whole (word-run formed.front formed.is_front.word ∙ dotted-word formed.is_front.word.more formed.is_front.dotted)
+    ∙ text-run Dotted Qualified formed.back refl formed.is_back)
+reads (Token Open) xs formed = ap (λ (ys : List ℕ). form_at (run ys)) formed
+reads (Token Close) xs formed = ap (λ (ys : List ℕ). form_at (run ys)) formed
+reads (Token Comma) xs formed = ap (λ (ys : List ℕ). form_at (run ys)) formed
+reads (Token Slash) xs formed = ap (λ (ys : List ℕ). form_at (run ys)) formed
+reads (Token Colon) xs formed = ap (λ (ys : List ℕ). form_at (run ys)) formed
+reads (Token Minus) xs formed = ap (λ (ys : List ℕ). form_at (run ys)) formed
+reads (LeftOut Number) xs formed = ap (λ (ys : List ℕ). form_at (run ys)) formed.whole ∙ number-run formed.front formed.back (int-run formed.front formed.is_front) formed.is_back
+reads (LeftOut TimeOfDay) xs formed =
+    ap form_at (goes-both Start Clock xs formed.front formed.back formed.whole (goes-fits clock_pattern Start formed.front refl (fits-clock formed.front formed.is_front))
+    ∙ seconds-run Clock formed.back refl refl refl formed.is_back)
+reads (LeftOut Quoted) xs formed =
+    ap form_at (goes-both Start Name xs formed.front formed.back formed.whole (named-run formed.front formed.is_front) ∙ text-run Name Named formed.back refl formed.is_back)
