@@ -1,7 +1,7 @@
 -- Tokens that are printed one after another (for a printer of filters).
 use Rattle.std.specs.Prelude.{◌≡◌, ⊤, ℕ, ◌+◌, ◌==◌, ◌||◌, ◌&&◌, not, Bool, true, List, [], ◌∷◌, ◌++◌, length, flat_map, All}
 use Rattle.odata_text.specs.ByteClass.{class_of}
-use Rattle.odata_text.specs.Piece.{Piece}
+use Rattle.odata_text.specs.TokenModel.{TokenModel}
 use Rattle.odata_text.specs.Spelling.{Spells}
 use Rattle.odata_text.specs.declared.byte_class.ByteClass.TheVariants.{Space}
 use Rattle.odata_text.specs.declared.token.TokenKind.{TokenKind}
@@ -13,8 +13,8 @@ pub record Print : Type 0 where
   pub text : List ℕ
   pub gap : List ℕ
 
-abbrev pub printed : List Print → List ℕ
-printed prints = flat_map (λ p. p.text ++ p.gap) prints
+abbrev pub print_text : List Print → List ℕ
+print_text prints = flat_map (λ p. p.text ++ p.gap) prints
 
 -- space, tab and `( ) , / :`
 abbrev pub is_separator : ℕ → Bool
@@ -38,11 +38,11 @@ MayFollow kind (b ∷ more) = may_follow kind b ≡ true
 abbrev pub ArePrintable : List Print → Type 0
 ArePrintable [] = ⊤
 ArePrintable (p ∷ prints) =
-    Spells p.kind p.text × (All (λ b. class_of b ≡ Space) p.gap × (MayFollow p.kind (p.gap ++ printed prints) × ArePrintable prints))
+    Spells p.kind p.text × (All (λ b. class_of b ≡ Space) p.gap × (MayFollow p.kind (p.gap ++ print_text prints) × ArePrintable prints))
 
 -- the tokens at their places, from a place on
-abbrev pub placed : ℕ → List Print → List Piece
-placed from [] = []
-placed from (p ∷ prints) =
+abbrev pub print_tokens : ℕ → List Print → List TokenModel
+print_tokens from [] = []
+print_tokens from (p ∷ prints) =
     record { kind = p.kind; start = from; stop = from + length p.text; text = p.text }
-    ∷ placed (from + length p.text + length p.gap) prints
+    ∷ print_tokens (from + length p.text + length p.gap) prints

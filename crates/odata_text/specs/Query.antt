@@ -8,7 +8,7 @@ use Rattle.odata_text.specs.declared.query_fault.QueryFault.TheVariants.{BadEsca
 
 -- Options.
 
--- the pieces between `&`, numbered from 0; an empty piece has an empty name and an empty value
+-- what stands between `&`, numbered from 0; an empty option has an empty name and an empty value
 abbrev pub options_of : List ℕ → List (List ℕ)
 options_of query = slice_split (λ b. b == 38) query
 
@@ -33,7 +33,7 @@ is_bad_escape part place =
     && not (is_escape percent_sign (slice_index part (place + 1)) (slice_index part (place + 2)))
 
 -- a name or a value that decodes to a text
-pub record IsSound (part : List ℕ) : Type 0 where
+pub record IsDecodable (part : List ℕ) : Type 0 where
   pub escapes : (place : ℕ) → is_bad_escape part place ≡ false
   pub utf8 : IsUtf8 (percent_decode part)
 
@@ -90,8 +90,8 @@ is_filter option = is_filter_name (decoded_name option)
 
 -- the filter or a custom option, whose name and value are texts
 pub record IsReadable (option : List ℕ) : Type 0 where
-  pub name : IsSound (name_of option)
-  pub value : IsSound (value_of option)
+  pub name : IsDecodable (name_of option)
+  pub value : IsDecodable (value_of option)
   pub known : is_refused_name (decoded_name option) ≡ false
 
 -- readable options, at most one of them the filter
@@ -123,8 +123,8 @@ IsNameFault name number filters _ = ⊥
 abbrev pub IsOptionFault : List ℕ → ℕ → ℕ → ℕ → QueryFault → Type 0
 IsOptionFault option number start filters fault =
     IsPartFault (name_of option) number start fault
-    ⊎ ((IsSound (name_of option) × IsPartFault (value_of option) number (start + length (name_of option) + 1) fault)
-    ⊎ (IsSound (name_of option) × IsSound (value_of option) × IsNameFault (decoded_name option) number filters fault))
+    ⊎ ((IsDecodable (name_of option) × IsPartFault (value_of option) number (start + length (name_of option) + 1) fault)
+    ⊎ (IsDecodable (name_of option) × IsDecodable (value_of option) × IsNameFault (decoded_name option) number filters fault))
 
 -- the fault of an option, with none among those before it
 pub record IsQueryFault (query : List ℕ) (fault : QueryFault) : Type 0 where

@@ -24,21 +24,21 @@ IsByte b bytes = bytes ≡ b ∷ []
 -- Words.
 
 -- parts with a dot (46) before each but the first
-abbrev pub joined : List ℕ → List (List ℕ) → List ℕ
-joined part [] = part
-joined part (next ∷ more) = part ++ 46 ∷ joined next more
+abbrev pub dotted_parts : List ℕ → List (List ℕ) → List ℕ
+dotted_parts part [] = part
+dotted_parts part (next ∷ more) = part ++ 46 ∷ dotted_parts next more
 
 -- one identifier, or several joined by dots (qualifiedTypeName)
-pub record IsWord (bytes : List ℕ) : Type 0 where
+pub record IsWordSpelling (bytes : List ℕ) : Type 0 where
   pub part : List ℕ
   pub more : List (List ℕ)
   pub identifier : IsIdentifier part
   pub identifiers : AllOf IsIdentifier more
-  pub whole : bytes ≡ joined part more
+  pub whole : bytes ≡ dotted_parts part more
 
 -- with a dot or more
 pub record IsDottedWord (bytes : List ℕ) : Type 0 where
-  pub word : IsWord bytes
+  pub word : IsWordSpelling bytes
   pub dotted : 0 < length word.more
 
 -- Literals that are left out.
@@ -62,7 +62,7 @@ SpellsLeftOut Quoted bytes = FollowedBy IsLeftOutName IsStringSpelling bytes
 
 -- the bytes are spelled as a token of the kind
 abbrev pub Spells : TokenKind → List ℕ → Type 0
-Spells Word bytes = IsWord bytes
+Spells Word bytes = IsWordSpelling bytes
 Spells Dollar bytes = FollowedBy (IsByte 36) IsIdentifier bytes
 Spells Int bytes = IsIntSpelling bytes
 Spells Date bytes = IsDateSpelling bytes

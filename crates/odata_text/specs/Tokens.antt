@@ -2,7 +2,7 @@
 use Rattle.std.specs.Prelude.{◌≡◌, ℕ, ◌+◌, ◌-◌, ◌<◌, ◌≤◌, ◌⊎◌, Bool, true, false, IsTrue, List, [], ◌∷◌, length, drop, take, slice_index, slice_range, encode_utf8}
 use Rattle.std.specs.Char.{IsScalar, len_utf8}
 use Rattle.odata_text.specs.ByteClass.{class_of}
-use Rattle.odata_text.specs.Piece.{Piece}
+use Rattle.odata_text.specs.TokenModel.{TokenModel}
 use Rattle.odata_text.specs.Identifier.{identifier_run}
 use Rattle.odata_text.specs.Spelling.{IsFormed}
 use Rattle.odata_text.specs.declared.byte_class.ByteClass.TheVariants.{Space, Quote}
@@ -22,7 +22,7 @@ text_limit = 16384
 abbrev pub token_limit : ℕ
 token_limit = 4096
 
--- Pieces.
+-- The longest piece.
 
 -- the first n bytes are of the form, and no form spells a longer beginning
 pub record IsLongest (form : Form) (n : ℕ) (rest : List ℕ) : Type 0 where
@@ -46,16 +46,16 @@ is_undelimited _ = false
 abbrev pub RunsOn : TokenKind → List ℕ → Type 0
 RunsOn kind rest = IsTrue (is_undelimited kind) × (0 < identifier_run rest)
 
--- the piece is the longest at its place
-pub record IsPieceAt (text : List ℕ) (piece : Piece) : Type 0 where
-  pub order : piece.start ≤ piece.stop
-  pub longest : IsLongest (Token piece.kind) (piece.stop - piece.start) (drop piece.start text)
-  pub bytes : piece.text ≡ slice_range text piece.start piece.stop
+-- the token is the longest piece at its place
+pub record IsLongestToken (text : List ℕ) (token : TokenModel) : Type 0 where
+  pub order : token.start ≤ token.stop
+  pub longest : IsLongest (Token token.kind) (token.stop - token.start) (drop token.start text)
+  pub bytes : token.text ≡ slice_range text token.start token.stop
 
 -- a faultless token
-pub record IsTokenAt (text : List ℕ) (piece : Piece) : Type 0 where
-  pub longest : IsPieceAt text piece
-  pub ends : RunsOn piece.kind (drop piece.stop text) → ⊥
+pub record IsTokenAt (text : List ℕ) (token : TokenModel) : Type 0 where
+  pub longest : IsLongestToken text token
+  pub ends : RunsOn token.kind (drop token.stop text) → ⊥
 
 -- Token lists.
 
@@ -65,23 +65,23 @@ pub record IsGap (text : List ℕ) (from to : ℕ) : Type 0 where
   pub within : to ≤ length text
   pub white : (i : ℕ) → from ≤ i → i < to → class_of (slice_index text i) ≡ Space
 
--- where the last of the pieces stops
-abbrev pub end_of : ℕ → List Piece → ℕ
+-- where the last of the tokens stops
+abbrev pub end_of : ℕ → List TokenModel → ℕ
 end_of from [] = from
-end_of from (piece ∷ pieces) = end_of piece.stop pieces
+end_of from (token ∷ list) = end_of token.stop list
 
 -- faultless tokens that follow one another from a place on, with white space alone before and between them
-abbrev pub AreTokensFrom : List ℕ → ℕ → List Piece → Type 0
+abbrev pub AreTokensFrom : List ℕ → ℕ → List TokenModel → Type 0
 AreTokensFrom text from [] = Unit {0}
-AreTokensFrom text from (piece ∷ pieces) =
-    IsGap text from piece.start × (IsTokenAt text piece × AreTokensFrom text piece.stop pieces)
+AreTokensFrom text from (token ∷ list) =
+    IsGap text from token.start × (IsTokenAt text token × AreTokensFrom text token.stop list)
 
 -- the tokens of a whole text
-pub record IsTokenList (text : List ℕ) (pieces : List Piece) : Type 0 where
+pub record IsTokenList (text : List ℕ) (list : List TokenModel) : Type 0 where
   pub short : length text ≤ text_limit
-  pub few : length pieces ≤ token_limit
-  pub tokens : AreTokensFrom text 0 pieces
-  pub ends : IsGap text (end_of 0 pieces) (length text)
+  pub few : length list ≤ token_limit
+  pub tokens : AreTokensFrom text 0 list
+  pub ends : IsGap text (end_of 0 list) (length text)
 
 -- Faults.
 
@@ -117,19 +117,19 @@ pub record IsLeftOutLiteral (text : List ℕ) (span : Span) : Type 0 where
 
 -- a piece with identifier characters directly behind it, up to the last of these
 pub record IsRunOn (text : List ℕ) (span : Span) : Type 0 where
-  pub piece : Piece
-  pub longest : IsPieceAt text piece
-  pub runs_on : RunsOn piece.kind (drop piece.stop text)
-  pub start : span.start ≡ piece.start
-  pub stop : span.stop ≡ piece.stop + identifier_run (drop piece.stop text)
+  pub token : TokenModel
+  pub longest : IsLongestToken text token
+  pub runs_on : RunsOn token.kind (drop token.stop text)
+  pub start : span.start ≡ token.start
+  pub stop : span.stop ≡ token.stop + identifier_run (drop token.stop text)
 
 -- a faultless token more than there may be
 pub record IsOneTooMany (text : List ℕ) (before : ℕ) (span : Span) : Type 0 where
   pub count : before ≡ token_limit
-  pub piece : Piece
-  pub token : IsTokenAt text piece
-  pub start : span.start ≡ piece.start
-  pub stop : span.stop ≡ piece.stop
+  pub last : TokenModel
+  pub token : IsTokenAt text last
+  pub start : span.start ≡ last.start
+  pub stop : span.stop ≡ last.stop
 
 -- the fault's span starts at the place, behind so many tokens
 abbrev pub IsFaultAt : List ℕ → ℕ → ℕ → TextFault → Type 0
@@ -143,7 +143,7 @@ IsFaultAt text place before Memory = ⊥
 -- faultless tokens, white space, and then the fault
 pub record IsFaultBehind (text : List ℕ) (fault : TextFault) : Type 0 where
   pub short : length text ≤ text_limit
-  pub before : List Piece
+  pub before : List TokenModel
   pub few : length before ≤ token_limit
   pub tokens : AreTokensFrom text 0 before
   pub place : ℕ

@@ -1,6 +1,6 @@
 ghost use Rattle.std.specs.Prelude.{◌≡◌};
-ghost use Rattle.odata_text.specs.Lengths.{IsReach};
-ghost use Rattle.odata_text.specs.Patterns.{Fits, passes};
+ghost use Rattle.odata_text.specs.private.Lengths.{IsReach};
+ghost use Rattle.odata_text.specs.private.Patterns.{Fits, passes};
 
 /// What may stand at one place of a pattern.
 #[derive(Clone, Copy, Debug, PartialEq, Eq)]

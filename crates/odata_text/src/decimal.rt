@@ -2,7 +2,7 @@ ghost use Rattle.std.specs.Prelude.{◌≡◌, ◌≤◌, length};
 ghost use Rattle.std.specs.Char.{is_ascii_digit};
 ghost use Rattle.std.specs.List.{prefix_len};
 ghost use Rattle.odata_text.specs.LeftOut.{IsDecimalSpelling, IsDecimals, IsExponent, IsFraction};
-ghost use Rattle.odata_text.specs.Lengths.{IsReach};
+ghost use Rattle.odata_text.specs.private.Lengths.{IsReach};
 
 use super::byte_test::{ByteTest, pattern_length};
 use super::number::{digit_run, int_length};

@@ -1,5 +1,5 @@
 ghost use Rattle.edm_values.specs.GuidLiteral.{IsGuidSpelling};
-ghost use Rattle.odata_text.specs.Lengths.{IsReach};
+ghost use Rattle.odata_text.specs.private.Lengths.{IsReach};
 
 use super::byte_test::ByteTest::{self, HexDigit, Hyphen};
 use super::byte_test::pattern_length;

@@ -1,7 +1,7 @@
 ghost use Rattle.std.specs.Prelude.{◌≡◌, IsCharBoundary, chars};
 ghost use Rattle.odata_text.specs.Identifier.{IsIdentifier, begins_identifier, continues_identifier};
 ghost use Rattle.odata_text.specs.Identifier.{identifier_run, is_following, is_identifier, is_leading};
-ghost use Rattle.odata_text.specs.Lengths.{IsReach};
+ghost use Rattle.odata_text.specs.private.Lengths.{IsReach};
 
 use unicode::properties::GeneralCategory;
 

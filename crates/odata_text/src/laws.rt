@@ -1,8 +1,8 @@
 //! What the definitions of tokens and faults say of every text, and of two texts.
 
 ghost use Rattle.std.specs.Prelude.{◌≡◌, ◌≤◌, ℕ, List, length};
-ghost use Rattle.odata_text.specs.Piece.{Piece};
-ghost use Rattle.odata_text.specs.Printing.{ArePrintable, Print, placed, printed};
+ghost use Rattle.odata_text.specs.TokenModel.{TokenModel};
+ghost use Rattle.odata_text.specs.Printing.{ArePrintable, Print, print_tokens, print_text};
 ghost use Rattle.odata_text.specs.TokenExamples.{plain_filter, plain_tokens, run_on_filter};
 ghost use Rattle.odata_text.specs.Tokens.{IsTextFault, IsTokenList, text_limit, token_limit};
 ghost use Rattle.odata_text.specs.declared.fault.TextFault.{TextFault};
@@ -11,10 +11,10 @@ ghost use Rattle.odata_text.specs.declared.fault.TextFault.{TextFault};
 pub fn one_reading()
     ensures fault { (text : List ℕ) (first second : TextFault)
         → IsTextFault text first → IsTextFault text second → first ≡ second }
-    ensures list { (text : List ℕ) (first second : List Piece)
+    ensures list { (text : List ℕ) (first second : List TokenModel)
         → IsTokenList text first → IsTokenList text second → first ≡ second }
-    ensures not_both { (text : List ℕ) (fault : TextFault) (pieces : List Piece)
-        → IsTextFault text fault → IsTokenList text pieces → ⊥ }
+    ensures not_both { (text : List ℕ) (fault : TextFault) (list : List TokenModel)
+        → IsTextFault text fault → IsTokenList text list → ⊥ }
 {}
 
 /// `Active and ID eq 1 and Name eq 'a'` has nine tokens.
@@ -25,11 +25,11 @@ pub fn plain_reading()
 /// `1st` is a number that runs on up to its third byte, and so has no tokens.
 pub fn run_on_reading()
     ensures fault { IsTextFault run_on_filter (TextFault.RunOn (record { start = 0; stop = 3 })) }
-    ensures none { (pieces : List Piece) → IsTokenList run_on_filter pieces → ⊥ }
+    ensures none { (list : List TokenModel) → IsTokenList run_on_filter list → ⊥ }
 {}
 
 /// Tokens that are printed one after another are the tokens of what was printed.
 pub fn printed_reading()
-    ensures { (prints : List Print) → ArePrintable prints → length (printed prints) ≤ text_limit → length prints ≤ token_limit
-        → IsTokenList (printed prints) (placed 0 prints) }
+    ensures { (prints : List Print) → ArePrintable prints → length (print_text prints) ≤ text_limit → length prints ≤ token_limit
+        → IsTokenList (print_text prints) (print_tokens 0 prints) }
 {}

@@ -2,7 +2,7 @@ ghost use Rattle.std.specs.Prelude.{◌≡◌, ◌≤◌, length};
 ghost use Rattle.std.specs.Char.{is_ascii_digit};
 ghost use Rattle.std.specs.List.{prefix_len};
 ghost use Rattle.edm_values.specs.IntLiteral.{IsIntSpelling};
-ghost use Rattle.odata_text.specs.Lengths.{IsReach, sign_length};
+ghost use Rattle.odata_text.specs.private.Lengths.{IsReach, sign_length};
 
 /// How many bytes the digits at the front take.
 pub fn digit_run(rest: &[u8]) -> usize

@@ -1,4 +1,4 @@
-ghost use Rattle.odata_text.specs.Lengths.{IsReach};
+ghost use Rattle.odata_text.specs.private.Lengths.{IsReach};
 ghost use Rattle.odata_text.specs.Spelling.{IsByte};
 
 /// 1 if the byte stands at the front, else 0.

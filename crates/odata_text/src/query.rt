@@ -2,7 +2,7 @@ ghost use Rattle.std.specs.Prelude.{◌≡◌, ◌≢◌, ℕ, ◌+◌, ◌<◌,
 ghost use Rattle.std.specs.Cow.{cow_str_bytes};
 ghost use Rattle.std.specs.List.{position_or_len};
 ghost use Rattle.odata_text.specs.Query.{IsFilterOf, IsOptionFault, IsQueryFault, IsReadable, name_of, value_of};
-ghost use Rattle.odata_text.specs.QueryParts.{AreTwo, Joins, Says};
+ghost use Rattle.odata_text.specs.private.QueryParts.{AreTwoFilters, KeepsFilter, GivesFilter};
 
 use super::query_fault::QueryFault;
 use super::query_name::{is_filter_name, is_refused_name};
@@ -52,7 +52,7 @@ fn filter_of_option(
 ) -> Result<Option<String>, QueryFault>
     requires { start + length option.now < 2 ^ 63 }
     ensures readable { IfOk result (λ filter. IsReadable option.now) }
-    ensures says { IfOk result (λ filter. Says option.now (option_map string_bytes filter)) }
+    ensures gives { IfOk result (λ filter. GivesFilter option.now (option_map string_bytes filter)) }
     ensures fault { IfErr result (λ fault. fault ≢ QueryFault.Memory
         → (filters : ℕ) → IsOptionFault option.now number start filters fault) }
 {
@@ -83,10 +83,10 @@ fn with_found(
     found: Option<String>,
     number: usize,
 ) -> Result<Option<String>, QueryFault>
-    ensures ok { IfOk result (λ kept. Joins (option_map string_bytes filter)
+    ensures ok { IfOk result (λ kept. KeepsFilter (option_map string_bytes filter)
         (option_map string_bytes found) (option_map string_bytes kept)) }
     ensures fault { IfErr result (λ fault. (fault ≡ QueryFault.Repeated number)
-        × AreTwo (option_map string_bytes filter) (option_map string_bytes found)) }
+        × AreTwoFilters (option_map string_bytes filter) (option_map string_bytes found)) }
 {
     match (filter, found) {
         (Some(_), Some(_)) => Err(QueryFault::Repeated { option: number }),
@@ -98,7 +98,7 @@ fn with_found(
 
 /// The text of the filter that a query string asks for, decoded; `None` where it asks for none.
 ///
-/// The options are the pieces between `&`; the filter is the one named `filter` or `$filter` in any ASCII case. Custom
+/// The options stand between `&`; the filter is the one named `filter` or `$filter` in any ASCII case. Custom
 /// options are passed over, but they too are decoded; a `+` is a `+`, as RFC 3986 has it. A refusal other than `Memory`
 /// is the first fault from the left: of each option, the escapes and the UTF-8 of its name, then those of its value, then what
 /// the decoded name is.

@@ -2,8 +2,8 @@ ghost use Rattle.std.specs.Prelude.{◌≡◌, ◌≢◌, ℕ, ◌+◌, ◌<◌,
 ghost use Rattle.std.specs.Char.{is_digit};
 ghost use Rattle.std.specs.Cow.{cow_str_bytes};
 ghost use Rattle.percent_encoding.specs.Percent.{percent_decode};
-ghost use Rattle.odata_text.specs.Query.{IsPartFault, IsSound, is_bad_escape};
-ghost use Rattle.odata_text.specs.QueryParts.{IsFirstBad};
+ghost use Rattle.odata_text.specs.Query.{IsPartFault, IsDecodable, is_bad_escape};
+ghost use Rattle.odata_text.specs.private.QueryParts.{IsFirstBad};
 
 use super::query_fault::QueryFault;
 use percent_encoding::{DecodeError, percent_decode};
@@ -48,7 +48,7 @@ pub fn decoded_part(
     start: usize,
 ) -> Result<CowStr<'_, Global>, QueryFault>
     requires { start + length part.now < 2 ^ 64 }
-    ensures sound { IfOk result (λ text. IsSound part.now) }
+    ensures decodable { IfOk result (λ text. IsDecodable part.now) }
     ensures text { IfOk result (λ text. cow_str_bytes text ≡ percent_decode part.now) }
     ensures fault { IfErr result (λ fault. fault ≢ QueryFault.Memory
         → IsPartFault part.now number start fault) }

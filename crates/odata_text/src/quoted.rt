@@ -1,5 +1,5 @@
 ghost use Rattle.std.specs.Prelude.{◌≡◌};
-ghost use Rattle.odata_text.specs.Lengths.{IsReach, quoted_after};
+ghost use Rattle.odata_text.specs.private.Lengths.{IsReach, quoted_after};
 ghost use Rattle.edm_values.specs.StringLiteral.{IsStringSpelling};
 
 /// How far a quoted text has come: a quote closes it, unless the next byte is a quote too.

@@ -1,6 +1,6 @@
 ghost use Rattle.std.specs.Prelude.{◌≡◌, ◌≢◌, ◌<◌, ◌≤◌, ℕ, IfOk, IfErr, IsCharBoundary, List, length, slice_index};
 ghost use Rattle.odata_text.specs.ByteClass.{class_of};
-ghost use Rattle.odata_text.specs.Piece.{Piece, piece_of, pieces_of};
+ghost use Rattle.odata_text.specs.TokenModel.{TokenModel, token_model, token_models};
 ghost use Rattle.odata_text.specs.Tokens.{IsFaultAt, IsFaultBehind, IsGap, IsNoToken, IsTextFault};
 ghost use Rattle.odata_text.specs.Tokens.{IsTokenAt, IsTokenList, is_undelimited, text_limit};
 
@@ -72,7 +72,7 @@ fn token_at(text: &str, start: usize) -> Result<Token<'_>, TextFault>
     requires boundary { IsCharBoundary text.now start }
     requires solid { class_of (slice_index text.now start) ≢ ByteClass.Space }
     ensures start { IfOk result (λ token. token.span.start ≡ start) }
-    ensures token { IfOk result (λ token. IsTokenAt text.now (piece_of token)) }
+    ensures token { IfOk result (λ token. IsTokenAt text.now (token_model token)) }
     ensures boundary { IfOk result (λ token. IsCharBoundary text.now token.span.stop) }
     ensures fault { IfErr result (λ fault. (before : ℕ) → IsFaultAt text.now start before fault) }
 {
@@ -105,7 +105,7 @@ fn token_at(text: &str, start: usize) -> Result<Token<'_>, TextFault>
 /// The tokens of a text that is not too long.
 fn scan<'t>(alloc: Global, text: &'t str) -> Result<Vec<Token<'t>>, TextFault>
     requires { length text.now ≤ text_limit }
-    ensures ok { IfOk result (λ tokens. IsTokenList text.now (pieces_of tokens.items)) }
+    ensures ok { IfOk result (λ tokens. IsTokenList text.now (token_models tokens.items)) }
     ensures fault { IfErr result (λ fault. fault ≢ TextFault.Memory
         → IsFaultBehind text.now fault) }
 {
@@ -129,12 +129,12 @@ fn scan<'t>(alloc: Global, text: &'t str) -> Result<Vec<Token<'t>>, TextFault>
 /// A refusal other than `Memory` is the first fault from the left: `TooLong` where `text` has over 16,384 bytes comes
 /// before all others, and where a 4,097th token is faultless it names that token.
 pub fn tokens<'t>(alloc: Global, text: &'t str) -> Result<Vec<Token<'t>>, TextFault>
-    ensures ok { IfOk result (λ tokens. IsTokenList text.now (pieces_of tokens.items)) }
-    ensures only { IfOk result (λ tokens. (pieces : List Piece)
-        → IsTokenList text.now pieces → pieces ≡ pieces_of tokens.items) }
+    ensures ok { IfOk result (λ tokens. IsTokenList text.now (token_models tokens.items)) }
+    ensures only { IfOk result (λ tokens. (other : List TokenModel)
+        → IsTokenList text.now other → other ≡ token_models tokens.items) }
     ensures fault { IfErr result (λ fault. fault ≢ TextFault.Memory → IsTextFault text.now fault) }
-    ensures none { IfErr result (λ fault. fault ≢ TextFault.Memory → (pieces : List Piece)
-        → IsTokenList text.now pieces → ⊥) }
+    ensures none { IfErr result (λ fault. fault ≢ TextFault.Memory → (other : List TokenModel)
+        → IsTokenList text.now other → ⊥) }
 {
     if text.len() > TEXT_LIMIT {
         let span = Span {

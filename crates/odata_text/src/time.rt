@@ -1,8 +1,8 @@
 ghost use Rattle.edm_values.specs.DateLiteral.{IsDateSpelling};
 ghost use Rattle.edm_values.specs.MomentLiteral.{IsMomentSpelling, IsOffsetSpelling, IsSecondsSpelling};
 ghost use Rattle.odata_text.specs.LeftOut.{IsTimeOfDaySpelling};
-ghost use Rattle.odata_text.specs.Lengths.{IsReach};
-ghost use Rattle.odata_text.specs.Patterns.{IsTimed, IsZoned};
+ghost use Rattle.odata_text.specs.private.Lengths.{IsReach};
+ghost use Rattle.odata_text.specs.private.Patterns.{IsTimed, IsZoned};
 
 use super::byte_test::ByteTest::{self, Colon, Digit, Hyphen, OffsetMark, Sign, TimeMark};
 use super::byte_test::pattern_length;

@@ -1,6 +1,6 @@
 ghost use Rattle.std.specs.Prelude.{◌≡◌, IsCharBoundary, max};
-ghost use Rattle.odata_text.specs.Lengths.{IsReach};
-ghost use Rattle.odata_text.specs.Spelling.{IsDottedWord, IsLeftOutName, IsNamed, IsWord, Spells, SpellsLeftOut};
+ghost use Rattle.odata_text.specs.private.Lengths.{IsReach};
+ghost use Rattle.odata_text.specs.Spelling.{IsDottedWord, IsLeftOutName, IsNamed, IsWordSpelling, Spells, SpellsLeftOut};
 
 use super::ascii_case::is_named;
 use super::form::LeftOutKind;
@@ -11,7 +11,7 @@ use super::token::TokenKind;
 
 /// How many bytes the word at the front takes, with all its dots, 0 if there is none.
 pub fn word_length(rest: &str) -> usize
-    ensures reach { IsReach IsWord result rest.now }
+    ensures reach { IsReach IsWordSpelling result rest.now }
     ensures boundary { IsCharBoundary rest.now result }
 {
     let mut length = identifier_length(rest);

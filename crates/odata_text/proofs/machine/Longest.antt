@@ -15,7 +15,7 @@ use Rattle.odata_text.specs.declared.form.Form.TheVariants.{Token}
 use Rattle.odata_text.specs.declared.quoted.Quoted.TheVariants.{Before, Open as Opened, Closed, Over}
 use Rattle.odata_text.specs.declared.token.TokenKind.{TokenKind}
 use Rattle.odata_text.specs.declared.token.TokenKind.TheVariants.{Word, Dollar, Int, Date, Moment, Guid, Str, EnumLit, Minus}
-use Rattle.odata_text.proofs.ByteClasses.{space-from_class}
+use Rattle.odata_text.proofs.characters.ByteClasses.{space-from_class}
 use Rattle.odata_text.proofs.machine.States.{State, Start, Stuck, Whole, Text, Sign, SignedDigits, Digits, TwoHyphens, Hexes, AheadColon, Name, Dotted, Dollared, Bare, Named, Qualified, APlain, ALetter, IsDead, enter, form_at, run, step}
 use Rattle.odata_text.proofs.machine.Runs.{reads}
 

@@ -11,8 +11,8 @@ use Rattle.edm_values.specs.MomentLiteral.{IsMomentSpelling, IsOffsetSpelling, I
 use Rattle.edm_values.specs.StringLiteral.{IsStringSpelling, doubled}
 use Rattle.odata_text.specs.Identifier.{IsIdentifier}
 use Rattle.odata_text.specs.LeftOut.{IsDecimals, IsExponent, IsFraction}
-use Rattle.odata_text.specs.Patterns.{Fits, passes}
-use Rattle.odata_text.specs.Spelling.{IsFormed, IsLeftOutName, IsWord, joined}
+use Rattle.odata_text.specs.private.Patterns.{Fits, passes}
+use Rattle.odata_text.specs.Spelling.{IsFormed, IsLeftOutName, IsWordSpelling, dotted_parts}
 use Rattle.odata_text.specs.declared.byte_test.ByteTest.{ByteTest}
 use Rattle.odata_text.specs.declared.byte_test.ByteTest.TheVariants.{HexDigit, Hyphen, Sign as SignTest, TimeMark, OffsetMark}
 use Rattle.odata_text.specs.declared.form.Form.{Form}
@@ -20,12 +20,12 @@ use Rattle.odata_text.specs.declared.form.Form.TheVariants.{Token, LeftOut}
 use Rattle.odata_text.specs.declared.form.LeftOutKind.TheVariants.{Number, TimeOfDay, Quoted}
 use Rattle.odata_text.specs.declared.quoted.Quoted.TheVariants.{Open as Opened, Closed}
 use Rattle.odata_text.specs.declared.token.TokenKind.TheVariants.{Word, Dollar, Int, Date, Moment, Guid, Str, EnumLit, Open, Close, Comma, Slash, Colon, Minus}
-use Rattle.odata_text.proofs.Decimals.{IsIntByte, int-byte}
-use Rattle.odata_text.proofs.Guids.{fits-guid, guid_pattern}
-use Rattle.odata_text.proofs.IdentifierBytes.{identifier-nonempty, identifier-part, identifier-start, is_part_byte, is_word_start}
-use Rattle.odata_text.proofs.Names.{left_out-letters}
-use Rattle.odata_text.proofs.Quotes.{open-doubled}
-use Rattle.odata_text.proofs.Times.{IsSecondsByte, clock_pattern, date_pattern, fits-clock, fits-date, fits-marked, offset-fits, parts-from_moment, seconds-byte}
+use Rattle.odata_text.proofs.spellings.Decimals.{IsIntByte, int-byte}
+use Rattle.odata_text.proofs.spellings.Guids.{fits-guid, guid_pattern}
+use Rattle.odata_text.proofs.characters.IdentifierBytes.{identifier-nonempty, identifier-part, identifier-start, is_part_byte, is_word_start}
+use Rattle.odata_text.proofs.spellings.Names.{left_out-letters}
+use Rattle.odata_text.proofs.spellings.Quotes.{open-doubled}
+use Rattle.odata_text.proofs.spellings.Times.{IsSecondsByte, clock_pattern, date_pattern, fits-clock, fits-date, fits-marked, offset-fits, parts-from_moment, seconds-byte}
 use Rattle.odata_text.proofs.machine.States.{Letter, AnE, AHexLetter, ADigit, ALetter, AHyphen, Sort, State, Start, Whole, Text, Sign, SignedDigits, Pointed, Powered, Digits, PowerDigits, PowerHyphen, OneHyphen, TwoHyphens, Hexes, Clock, Timed, Ahead, AheadColon, Name, Dotted, Dollared, Lead, Bare, Named, Qualified, enter, form_at, run, sort_of, step}
 use Rattle.odata_text.proofs.machine.Steps.{digit-goes, goes-both, goes-digits, goes-fits, goes-text, hex-sorts, name-starts, part-kept, stays}
 
@@ -40,10 +40,10 @@ name-run (b ∷ bs) some start parts =
 part-run : (q : State) (xs : List ℕ) → enter q ADigit ≡ q → ((l : Letter) → enter q (ALetter l) ≡ q) → IsIdentifier xs → fold step q xs ≡ q
 part-run q xs by_digit by_letter identifier = stays (λ c. is_part_byte c ≡ true) q xs (part-kept q by_digit by_letter) (identifier-part xs identifier)
 
-dotted-run : (part : List ℕ) (more : List (List ℕ)) → IsIdentifier part → AllOf IsIdentifier more → fold step Dotted (joined part more) ≡ Dotted
+dotted-run : (part : List ℕ) (more : List (List ℕ)) → IsIdentifier part → AllOf IsIdentifier more → fold step Dotted (dotted_parts part more) ≡ Dotted
 dotted-run part [] identifier all = part-run Dotted part refl (λ l. refl) identifier
 dotted-run part (next ∷ more) identifier all =
-    goes-both Dotted Dotted (joined part (next ∷ more)) part (46 ∷ joined next more) refl (part-run Dotted part refl (λ l. refl) identifier)
+    goes-both Dotted Dotted (dotted_parts part (next ∷ more)) part (46 ∷ dotted_parts next more) refl (part-run Dotted part refl (λ l. refl) identifier)
     ∙ dotted-run next more all.0 all.1
 
 -- a word of one part or of several
@@ -54,14 +54,14 @@ at_word (part ∷ more) = Dotted
 identifier-run : (xs : List ℕ) → IsIdentifier xs → run xs ≡ Name
 identifier-run xs identifier = name-run xs (identifier-nonempty xs identifier) (identifier-start xs identifier) (identifier-part xs identifier)
 
-joined-run : (part : List ℕ) (more : List (List ℕ)) → IsIdentifier part → AllOf IsIdentifier more → run (joined part more) ≡ at_word more
-joined-run part [] identifier all = identifier-run part identifier
-joined-run part (next ∷ more) identifier all =
-    goes-both Start Name (joined part (next ∷ more)) part (46 ∷ joined next more) refl (identifier-run part identifier)
+dotted_parts-run : (part : List ℕ) (more : List (List ℕ)) → IsIdentifier part → AllOf IsIdentifier more → run (dotted_parts part more) ≡ at_word more
+dotted_parts-run part [] identifier all = identifier-run part identifier
+dotted_parts-run part (next ∷ more) identifier all =
+    goes-both Start Name (dotted_parts part (next ∷ more)) part (46 ∷ dotted_parts next more) refl (identifier-run part identifier)
     ∙ dotted-run next more all.0 all.1
 
-word-run : (xs : List ℕ) (word : IsWord xs) → run xs ≡ at_word word.more
-word-run xs word = ap run word.whole ∙ joined-run word.part word.more word.identifier word.identifiers
+word-run : (xs : List ℕ) (word : IsWordSpelling xs) → run xs ≡ at_word word.more
+word-run xs word = ap run word.whole ∙ dotted_parts-run word.part word.more word.identifier word.identifiers
 
 word-form : (more : List (List ℕ)) → form_at (at_word more) ≡ Some (Token Word)
 word-form [] = refl

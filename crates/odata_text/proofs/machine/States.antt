@@ -9,7 +9,7 @@ use Rattle.odata_text.specs.declared.quoted.Quoted.{Quoted}
 use Rattle.odata_text.specs.declared.quoted.Quoted.TheVariants.{Before, Open as Opened, Closed, Over}
 use Rattle.odata_text.specs.declared.token.TokenKind.{TokenKind}
 use Rattle.odata_text.specs.declared.token.TokenKind.TheVariants.{Word, Dollar, Int, Date, Moment, Guid, Str, EnumLit, Open, Close, Comma, Slash, Colon, Minus}
-use Rattle.odata_text.proofs.IdentifierBytes.{is_part_byte}
+use Rattle.odata_text.proofs.characters.IdentifierBytes.{is_part_byte}
 
 -- Bytes.
 

@@ -8,14 +8,14 @@ use Rattle.std.proofs.lemmas.Bool.{and_parts, cases_Bool, cond_both, cond-true, 
 use Rattle.std.proofs.lemmas.Bool.Decides.{nat_tests}
 use Rattle.std.proofs.lemmas.List.Sums.{fold-append}
 use Rattle.std.proofs.lemmas.Str.Parse.{digit_at}
-use Rattle.odata_text.specs.Lengths.{quoted_after}
-use Rattle.odata_text.specs.Patterns.{Fits, passes}
+use Rattle.odata_text.specs.private.Lengths.{quoted_after}
+use Rattle.odata_text.specs.private.Patterns.{Fits, passes}
 use Rattle.odata_text.specs.declared.byte_test.ByteTest.{ByteTest}
 use Rattle.odata_text.specs.declared.byte_test.ByteTest.TheVariants.{Digit, HexDigit, Hyphen, Colon, Dot, Sign, TimeMark, OffsetMark, ExponentMark}
 use Rattle.odata_text.specs.declared.quoted.Quoted.{Quoted}
 use Rattle.odata_text.specs.declared.quoted.Quoted.TheVariants.{Before, Open, Closed, Over}
 use Rattle.odata_text.specs.declared.token.TokenKind.TheVariants.{Colon as ColonToken}
-use Rattle.odata_text.proofs.IdentifierBytes.{is_part_byte, is_word_start}
+use Rattle.odata_text.proofs.characters.IdentifierBytes.{is_part_byte, is_word_start}
 use Rattle.odata_text.proofs.machine.States.{Letter, AnE, AHexLetter, ATime, AZulu, APlain, Sort, ADigit, ALetter, ADot, AHyphen, AMark, AnyOther, State, Start, Name, Lead, Text, enter, is_quote, letter_of, quoted_by, sort_of, step}
 
 -- What a byte is to the machine.

@@ -2,8 +2,8 @@ use Rattle.std.proofs.Common.{◌<◌, arith}
 use Rattle.std.proofs.lemmas.List.{take_rest}
 use Rattle.edm_values.specs.IntLiteral.{IsIntSpelling}
 use Rattle.odata_text.specs.LeftOut.{IsDecimals}
-use Rattle.odata_text.proofs.Decimals.{decimals-none, int-exact, int-none}
-use Rattle.odata_text.proofs.Sequences.{measured-both, measured-no_first, measured-no_second}
+use Rattle.odata_text.proofs.spellings.Decimals.{decimals-none, int-exact, int-none}
+use Rattle.odata_text.proofs.spellings.Sequences.{measured-both, measured-no_first, measured-no_second}
 use Rattle.odata_text.proofs.decimal.decimal_length.Goals as goal
 
 pub returns-in-0 : goal.returns-in-0

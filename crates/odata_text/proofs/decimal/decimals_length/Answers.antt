@@ -1,5 +1,5 @@
 use Rattle.std.proofs.lemmas.List.{take_rest}
-use Rattle.odata_text.proofs.Decimals.{decimals-reach}
+use Rattle.odata_text.proofs.spellings.Decimals.{decimals-reach}
 use Rattle.odata_text.proofs.decimal.decimals_length.Goals as goal
 
 pub returns : goal.returns

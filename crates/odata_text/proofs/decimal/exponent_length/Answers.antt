@@ -2,11 +2,11 @@ use Rattle.std.proofs.Common.{◌+◌, ◌<◌, [], ◌∷◌, arith}
 use Rattle.std.proofs.lemmas.List.{take_rest}
 use Rattle.edm_values.specs.IntLiteral.{IsIntSpelling}
 use Rattle.odata_text.specs.LeftOut.{IsExponent}
-use Rattle.odata_text.specs.Patterns.{Fits}
+use Rattle.odata_text.specs.private.Patterns.{Fits}
 use Rattle.odata_text.specs.declared.byte_test.ByteTest.TheVariants.{ExponentMark}
-use Rattle.odata_text.proofs.Decimals.{ExponentPair, exponent-from_pair, exponent-pair, int-none}
-use Rattle.odata_text.proofs.Patterns.{fits-exact, fits-nonempty}
-use Rattle.odata_text.proofs.Sequences.{measured-both, measured-no_first, measured-no_second, reach-as}
+use Rattle.odata_text.proofs.spellings.Decimals.{ExponentPair, exponent-from_pair, exponent-pair, int-none}
+use Rattle.odata_text.proofs.spellings.Patterns.{fits-exact, fits-nonempty}
+use Rattle.odata_text.proofs.spellings.Sequences.{measured-both, measured-no_first, measured-no_second, reach-as}
 use Rattle.odata_text.proofs.decimal.exponent_length.Goals as goal
 
 pub returns-in-0 : goal.returns-in-0

@@ -1,7 +1,7 @@
-use Rattle.odata_text.specs.Patterns.{Fits}
+use Rattle.odata_text.specs.private.Patterns.{Fits}
 use Rattle.edm_values.specs.GuidLiteral.{IsGuidSpelling}
-use Rattle.odata_text.proofs.Guids.{fits-guid, guid-fits, guid_pattern}
-use Rattle.odata_text.proofs.Sequences.{reach-as}
+use Rattle.odata_text.proofs.spellings.Guids.{fits-guid, guid-fits, guid_pattern}
+use Rattle.odata_text.proofs.spellings.Sequences.{reach-as}
 use Rattle.odata_text.proofs.guid.guid_length.Goals as goal
 
 pub returns : goal.returns

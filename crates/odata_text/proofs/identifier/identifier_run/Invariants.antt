@@ -1,4 +1,4 @@
-use Rattle.odata_text.proofs.Identifiers.{IsRunSoFar}
+use Rattle.odata_text.proofs.characters.Identifiers.{IsRunSoFar}
 use Rattle.odata_text.proofs.identifier.identifier_run.Given as goal
 
 abbrev pub invariant-loop-character : goal.invariant-loop-character

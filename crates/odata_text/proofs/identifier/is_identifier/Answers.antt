@@ -1,6 +1,6 @@
 use Rattle.std.proofs.Common.{arith, ◌∙◌}
 use Rattle.std.proofs.lemmas.Bool.{le-ltb}
-use Rattle.odata_text.proofs.Identifiers.{reach-tells-none}
+use Rattle.odata_text.proofs.characters.Identifiers.{reach-tells-none}
 use Rattle.odata_text.proofs.identifier.is_identifier.Goals as goal
 
 pub returns-else-length-gt0 : goal.returns-else-length-gt0

@@ -1,4 +1,4 @@
-use Rattle.odata_text.proofs.OneReading.{no_list, one_fault, one_list}
+use Rattle.odata_text.proofs.readings.OneReading.{no_list, one_fault, one_list}
 use Rattle.odata_text.proofs.laws.one_reading.Goals as goal
 
 pub returns-clause-fault : goal.returns-clause-fault

@@ -1,4 +1,4 @@
-use Rattle.odata_text.proofs.Examples.{plain_list}
+use Rattle.odata_text.proofs.readings.Examples.{plain_list}
 use Rattle.odata_text.proofs.laws.plain_reading.Goals as goal
 
 pub returns : goal.returns

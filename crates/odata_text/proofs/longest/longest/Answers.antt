@@ -1,6 +1,6 @@
 use Rattle.std.proofs.Common.{ℕ, List, [], ◌∷◌, arith, refl, subst}
-use Rattle.odata_text.specs.Lengths.{IsReach}
-use Rattle.odata_text.proofs.LongestPieces.{AreCandidates, are-candidates, longest-best, none-best}
+use Rattle.odata_text.specs.private.Lengths.{IsReach}
+use Rattle.odata_text.proofs.readings.LongestPieces.{AreCandidates, are-candidates, longest-best, none-best}
 use Rattle.odata_text.proofs.longest.longest.Goals as goal
 
 pub returns-then-best-eq0 : goal.returns-then-best-eq0

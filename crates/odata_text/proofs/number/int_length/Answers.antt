@@ -1,5 +1,5 @@
 use Rattle.std.proofs.Common.{◌<◌, arith}
-use Rattle.odata_text.proofs.Reaches.{IsReach-int, IsReach-none}
+use Rattle.odata_text.proofs.spellings.Reaches.{IsReach-int, IsReach-none}
 use Rattle.odata_text.proofs.number.int_length.Goals as goal
 
 pub returns-in-0 : goal.returns-in-0

@@ -1,6 +1,6 @@
 use Rattle.std.proofs.Common.{◌≡◌, length, arith, ap}
 use Rattle.odata_text.specs.Query.{name_of, value_of}
-use Rattle.odata_text.proofs.QueryLoops.{name-room}
+use Rattle.odata_text.proofs.queries.QueryLoops.{name-room}
 use Rattle.odata_text.proofs.query.filter_of_option.Goals as goal
 
 pub decoded_part-requires-2 : goal.decoded_part-requires-2

@@ -2,8 +2,8 @@ use Rattle.std.proofs.Common.{◌+◌, ◌==◌, ◌∷◌, [], ℕ, arith, refl
 use Rattle.std.proofs.lemmas.Iterator.Splits.{YieldsList-from_slice_split}
 use Rattle.std.proofs.lemmas.List.{length-append}
 use Rattle.odata_text.specs.Query.{IsQueryFault}
-use Rattle.odata_text.proofs.Queries.{no_fault, one_filter}
-use Rattle.odata_text.proofs.QueryLoops.{IsNext, all-given, next-given, read-all, read-fault, read-joined, read-room, read-two}
+use Rattle.odata_text.proofs.queries.Queries.{no_fault, one_filter}
+use Rattle.odata_text.proofs.queries.QueryLoops.{IsNext, all-given, next-given, read-all, read-fault, read-kept, read-room, read-two}
 use Rattle.odata_text.proofs.query.filter_of_query.Goals as goal
 
 pub filter_of_option-requires : goal.filter_of_option-requires
@@ -34,7 +34,7 @@ returns-in-Err-with_found-clause-fault c =
     next-given c.args.query.now c.loop-option.number c.loop-option.yielded (λ o. o.now) c.loop-option.option-iterator c.loop-option.yielded_by c.loop-option.invariant.1 _ _ c.in-Some.option c.in-Some.is c.next.ensures.steps
     (YieldsList-from_slice_split _ (λ b. b == 38) c.args.query.now (cc) (cc) refl (λ x r q k. search (rules, tests))) in
     let two = c.in-Err-with_found.ensures.fault in
-    λ known. subst (IsQueryFault c.args.query.now) (sym two.0) (read-two c.args.query.now c.in-Some.option.now c.loop-option.number c.loop-option.start _ _ c.loop-option.invariant.0 next c.in-Ok.ensures.readable c.in-Ok.ensures.says two.1)
+    λ known. subst (IsQueryFault c.args.query.now) (sym two.0) (read-two c.args.query.now c.in-Some.option.now c.loop-option.number c.loop-option.start _ _ c.loop-option.invariant.0 next c.in-Ok.ensures.readable c.in-Ok.ensures.gives two.1)
 
 pub returns-in-Err-with_found-clause-none : goal.returns-in-Err-with_found-clause-none
 returns-in-Err-with_found-clause-none c =
@@ -42,7 +42,7 @@ returns-in-Err-with_found-clause-none c =
     next-given c.args.query.now c.loop-option.number c.loop-option.yielded (λ o. o.now) c.loop-option.option-iterator c.loop-option.yielded_by c.loop-option.invariant.1 _ _ c.in-Some.option c.in-Some.is c.next.ensures.steps
     (YieldsList-from_slice_split _ (λ b. b == 38) c.args.query.now (cc) (cc) refl (λ x r q k. search (rules, tests))) in
     let two = c.in-Err-with_found.ensures.fault in
-    λ known filter asked. no_fault c.args.query.now filter asked c.in-Err-with_found.fault (subst (IsQueryFault c.args.query.now) (sym two.0) (read-two c.args.query.now c.in-Some.option.now c.loop-option.number c.loop-option.start _ _ c.loop-option.invariant.0 next c.in-Ok.ensures.readable c.in-Ok.ensures.says two.1))
+    λ known filter asked. no_fault c.args.query.now filter asked c.in-Err-with_found.fault (subst (IsQueryFault c.args.query.now) (sym two.0) (read-two c.args.query.now c.in-Some.option.now c.loop-option.number c.loop-option.start _ _ c.loop-option.invariant.0 next c.in-Ok.ensures.readable c.in-Ok.ensures.gives two.1))
 
 pub overflow_add-start-in-loop-option : goal.overflow_add-start-in-loop-option
 overflow_add-start-in-loop-option c =
@@ -57,7 +57,7 @@ loop-option-preserved c =
     let next : IsNext c.args.query.now c.loop-option.number c.in-Some.option.now =
     next-given c.args.query.now c.loop-option.number c.loop-option.yielded (λ o. o.now) c.loop-option.option-iterator c.loop-option.yielded_by c.loop-option.invariant.1 _ _ c.in-Some.option c.in-Some.is c.next.ensures.steps
     (YieldsList-from_slice_split _ (λ b. b == 38) c.args.query.now (cc) (cc) refl (λ x r q k. search (rules, tests))) in (
-      read-joined c.args.query.now c.in-Some.option.now c.loop-option.number c.loop-option.start _ _ _ c.loop-option.invariant.0 next c.in-Ok.ensures.readable c.in-Ok.ensures.says c.in-Ok-with_found.ensures.ok,
+      read-kept c.args.query.now c.in-Some.option.now c.loop-option.number c.loop-option.start _ _ _ c.loop-option.invariant.0 next c.in-Ok.ensures.readable c.in-Ok.ensures.gives c.in-Ok-with_found.ensures.ok,
       ap (λ (n : ℕ). n + 1) c.loop-option.invariant.1 ∙ sym (length-append c.loop-option.yielded (c.in-Some.option ∷ [])),
     )
 

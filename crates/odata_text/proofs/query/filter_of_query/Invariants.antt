@@ -1,5 +1,5 @@
 use Rattle.std.proofs.Common.{◌≡◌, length, option_map, string_bytes}
-use Rattle.odata_text.proofs.QueryLoops.{IsReadSoFar}
+use Rattle.odata_text.proofs.queries.QueryLoops.{IsReadSoFar}
 use Rattle.odata_text.proofs.query.filter_of_query.Given as goal
 
 abbrev pub invariant-loop-option : goal.invariant-loop-option

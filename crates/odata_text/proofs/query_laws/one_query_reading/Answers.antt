@@ -1,4 +1,4 @@
-use Rattle.odata_text.proofs.Queries.{no_fault, one_fault, one_filter}
+use Rattle.odata_text.proofs.queries.Queries.{no_fault, one_fault, one_filter}
 use Rattle.odata_text.proofs.query_laws.one_query_reading.Goals as goal
 
 pub returns-clause-filter : goal.returns-clause-filter

@@ -1,5 +1,5 @@
 use Rattle.std.proofs.Common.{sym, ◌∙◌}
-use Rattle.odata_text.proofs.QueryLoops.{good-more}
+use Rattle.odata_text.proofs.queries.QueryLoops.{good-more}
 use Rattle.odata_text.proofs.query_part.bad_escape.Goals as goal
 
 pub loop-place-preserved : goal.loop-place-preserved

@@ -1,5 +1,5 @@
 use Rattle.std.proofs.Common.{◌≡◌, ℕ, length, arith, subst}
-use Rattle.odata_text.proofs.Quotes.{IsQuotedSoFar, quoted_so_far-over, quoted_so_far-end}
+use Rattle.odata_text.proofs.spellings.Quotes.{IsQuotedSoFar, quoted_so_far-over, quoted_so_far-end}
 use Rattle.odata_text.proofs.quoted.string_length.Goals as goal
 
 pub returns-in-Over : goal.returns-in-Over

@@ -1,4 +1,4 @@
-use Rattle.odata_text.proofs.Quotes.{IsQuotedSoFar}
+use Rattle.odata_text.proofs.spellings.Quotes.{IsQuotedSoFar}
 use Rattle.odata_text.proofs.quoted.string_length.Given as goal
 
 abbrev pub invariant-loop-i : goal.invariant-loop-i

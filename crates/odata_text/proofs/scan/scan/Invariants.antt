@@ -1,10 +1,10 @@
 use Rattle.std.proofs.Common.{◌-◌, length}
-use Rattle.odata_text.specs.Piece.{pieces_of}
-use Rattle.odata_text.proofs.Scans.{IsScanned}
+use Rattle.odata_text.specs.TokenModel.{token_models}
+use Rattle.odata_text.proofs.readings.Scans.{IsScanned}
 use Rattle.odata_text.proofs.scan.scan.Given as goal
 
 abbrev pub invariant-loop-place : goal.invariant-loop-place
-invariant-loop-place l = IsScanned l.text (pieces_of l.tokens.items) l.place
+invariant-loop-place l = IsScanned l.text (token_models l.tokens.items) l.place
 
 abbrev pub decreases-loop-place : goal.decreases-loop-place
 decreases-loop-place l = length l.bytes - l.place

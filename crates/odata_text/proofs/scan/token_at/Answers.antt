@@ -1,6 +1,6 @@
 use Rattle.std.proofs.Common.{arith, refl, sym, ◌∙◌, ap}
 use Rattle.odata_text.specs.Identifier.{identifier_run}
-use Rattle.odata_text.proofs.Places.{boundary-behind, longest-token, run_on}
+use Rattle.odata_text.proofs.readings.Places.{boundary-behind, longest-token, run_on}
 use Rattle.odata_text.proofs.scan.token_at.Goals as goal
 
 pub range_from-requires-then-is_undelimited : goal.range_from-requires-then-is_undelimited

@@ -1,7 +1,7 @@
 use Rattle.edm_values.specs.DateLiteral.{IsDateSpelling}
-use Rattle.odata_text.specs.Patterns.{Fits}
-use Rattle.odata_text.proofs.Sequences.{reach-as}
-use Rattle.odata_text.proofs.Times.{date-fits, date_pattern, fits-date}
+use Rattle.odata_text.specs.private.Patterns.{Fits}
+use Rattle.odata_text.proofs.spellings.Sequences.{reach-as}
+use Rattle.odata_text.proofs.spellings.Times.{date-fits, date_pattern, fits-date}
 use Rattle.odata_text.proofs.time.date_length.Goals as goal
 
 pub returns : goal.returns

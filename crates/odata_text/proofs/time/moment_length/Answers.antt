@@ -1,9 +1,9 @@
 use Rattle.std.proofs.Common.{◌+◌, ◌<◌, arith}
 use Rattle.std.proofs.lemmas.List.{take_rest}
 use Rattle.edm_values.specs.DateLiteral.{IsDateSpelling}
-use Rattle.odata_text.specs.Patterns.{IsTimed}
-use Rattle.odata_text.proofs.Sequences.{measured-both, measured-no_first, measured-no_second}
-use Rattle.odata_text.proofs.Times.{date-exact, date-none, moment-reach, timed-none}
+use Rattle.odata_text.specs.private.Patterns.{IsTimed}
+use Rattle.odata_text.proofs.spellings.Sequences.{measured-both, measured-no_first, measured-no_second}
+use Rattle.odata_text.proofs.spellings.Times.{date-exact, date-none, moment-reach, timed-none}
 use Rattle.odata_text.proofs.time.moment_length.Goals as goal
 
 pub returns-in-0 : goal.returns-in-0

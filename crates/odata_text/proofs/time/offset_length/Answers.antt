@@ -1,5 +1,5 @@
 use Rattle.std.proofs.Common.{◌<◌, arith}
-use Rattle.odata_text.proofs.Times.{offset-ahead, offset-by_mark}
+use Rattle.odata_text.proofs.spellings.Times.{offset-ahead, offset-by_mark}
 use Rattle.odata_text.proofs.time.offset_length.Goals as goal
 
 pub returns-in-0 : goal.returns-in-0

@@ -1,11 +1,11 @@
 use Rattle.std.proofs.Common.{◌<◌, [], ◌∷◌, arith}
 use Rattle.std.proofs.lemmas.List.{take_rest}
 use Rattle.odata_text.specs.LeftOut.{IsFraction}
-use Rattle.odata_text.specs.Patterns.{Fits}
+use Rattle.odata_text.specs.private.Patterns.{Fits}
 use Rattle.odata_text.specs.declared.byte_test.ByteTest.TheVariants.{Colon, Digit}
-use Rattle.odata_text.proofs.Patterns.{fits-nonempty}
-use Rattle.odata_text.proofs.Sequences.{Perhaps, measured-no_first}
-use Rattle.odata_text.proofs.Times.{seconds-by_parts, seconds-reach, seconds_pattern}
+use Rattle.odata_text.proofs.spellings.Patterns.{fits-nonempty}
+use Rattle.odata_text.proofs.spellings.Sequences.{Perhaps, measured-no_first}
+use Rattle.odata_text.proofs.spellings.Times.{seconds-by_parts, seconds-reach, seconds_pattern}
 use Rattle.odata_text.proofs.time.seconds_length.Goals as goal
 
 pub returns-in-0 : goal.returns-in-0

@@ -1,6 +1,6 @@
 use Rattle.std.proofs.Common.{◌<◌, arith}
 use Rattle.std.proofs.lemmas.List.{take_rest}
-use Rattle.odata_text.proofs.Times.{time_of_day-by_parts, time_of_day-none}
+use Rattle.odata_text.proofs.spellings.Times.{time_of_day-by_parts, time_of_day-none}
 use Rattle.odata_text.proofs.time.time_of_day_length.Goals as goal
 
 pub returns-in-0 : goal.returns-in-0

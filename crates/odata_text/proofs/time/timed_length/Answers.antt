@@ -1,8 +1,8 @@
 use Rattle.std.proofs.Common.{◌<◌, arith}
 use Rattle.std.proofs.lemmas.List.{take_rest}
-use Rattle.odata_text.specs.Patterns.{IsMarkedClock, IsZoned}
-use Rattle.odata_text.proofs.Sequences.{measured-both, measured-no_first, measured-no_second}
-use Rattle.odata_text.proofs.Times.{marked-exact, marked-none, marked-reach, zoned-none}
+use Rattle.odata_text.specs.private.Patterns.{IsMarkedClock, IsZoned}
+use Rattle.odata_text.proofs.spellings.Sequences.{measured-both, measured-no_first, measured-no_second}
+use Rattle.odata_text.proofs.spellings.Times.{marked-exact, marked-none, marked-reach, zoned-none}
 use Rattle.odata_text.proofs.time.timed_length.Goals as goal
 
 pub returns-in-0 : goal.returns-in-0

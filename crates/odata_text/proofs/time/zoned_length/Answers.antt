@@ -1,8 +1,8 @@
 use Rattle.std.proofs.Common.{◌<◌, arith}
 use Rattle.std.proofs.lemmas.List.{take_rest}
 use Rattle.edm_values.specs.MomentLiteral.{IsOffsetSpelling, IsSecondsSpelling}
-use Rattle.odata_text.proofs.Sequences.{measured-no_second}
-use Rattle.odata_text.proofs.Times.{offset-none, seconds-exact, zoned-by_parts}
+use Rattle.odata_text.proofs.spellings.Sequences.{measured-no_second}
+use Rattle.odata_text.proofs.spellings.Times.{offset-none, seconds-exact, zoned-by_parts}
 use Rattle.odata_text.proofs.time.zoned_length.Goals as goal
 
 pub returns-in-0 : goal.returns-in-0

@@ -1,9 +1,9 @@
 use Rattle.std.proofs.Common.{arith}
 use Rattle.odata_text.specs.Identifier.{IsIdentifier}
 use Rattle.odata_text.specs.Spelling.{IsByte}
-use Rattle.odata_text.proofs.Parts.{identifier-none}
-use Rattle.odata_text.proofs.Fronts.{byte-boundary, byte-exact, byte-none, on_text}
-use Rattle.odata_text.proofs.Sequences.{measured-both, measured-no_first, measured-no_second}
+use Rattle.odata_text.proofs.spellings.Parts.{identifier-none}
+use Rattle.odata_text.proofs.spellings.Fronts.{byte-boundary, byte-exact, byte-none, on_text}
+use Rattle.odata_text.proofs.spellings.Sequences.{measured-both, measured-no_first, measured-no_second}
 use Rattle.odata_text.proofs.word.dollar_length.Goals as goal
 
 pub range_from-requires : goal.range_from-requires

@@ -1,4 +1,4 @@
-use Rattle.odata_text.proofs.Words.{reach-dotted, reach-undotted}
+use Rattle.odata_text.proofs.spellings.Words.{reach-dotted, reach-undotted}
 use Rattle.odata_text.proofs.word.dotted_length.Goals as goal
 
 pub returns-then-identifier_length-word : goal.returns-then-identifier_length-word

@@ -1,9 +1,9 @@
 use Rattle.std.proofs.Common.{◌≡◌, ℕ, arith}
 use Rattle.edm_values.specs.StringLiteral.{IsStringSpelling}
 use Rattle.odata_text.specs.Spelling.{IsDottedWord}
-use Rattle.odata_text.proofs.Parts.{dotted-none, no_quote-word, string-none, string-starts}
-use Rattle.odata_text.proofs.Fronts.{left_of}
-use Rattle.odata_text.proofs.Sequences.{exact-by_byte, measured-both, measured-no_first, measured-no_second}
+use Rattle.odata_text.proofs.spellings.Parts.{dotted-none, no_quote-word, string-none, string-starts}
+use Rattle.odata_text.proofs.spellings.Fronts.{left_of}
+use Rattle.odata_text.proofs.spellings.Sequences.{exact-by_byte, measured-both, measured-no_first, measured-no_second}
 use Rattle.odata_text.proofs.word.enum_length.Goals as goal
 
 pub returns-in-0 : goal.returns-in-0

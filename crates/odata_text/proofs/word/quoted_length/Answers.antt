@@ -2,8 +2,8 @@ use Rattle.std.proofs.Common.{◌≡◌, ℕ, arith}
 use Rattle.std.proofs.lemmas.List.{take_rest}
 use Rattle.edm_values.specs.StringLiteral.{IsStringSpelling}
 use Rattle.odata_text.specs.Spelling.{IsLeftOutName}
-use Rattle.odata_text.proofs.Parts.{name-none, no_quote-name, string-none, string-starts}
-use Rattle.odata_text.proofs.Sequences.{exact-by_byte, measured-both, measured-no_first, measured-no_second}
+use Rattle.odata_text.proofs.spellings.Parts.{name-none, no_quote-name, string-none, string-starts}
+use Rattle.odata_text.proofs.spellings.Sequences.{exact-by_byte, measured-both, measured-no_first, measured-no_second}
 use Rattle.odata_text.proofs.word.quoted_length.Goals as goal
 
 pub returns-in-0 : goal.returns-in-0

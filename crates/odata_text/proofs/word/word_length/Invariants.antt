@@ -1,6 +1,6 @@
 use Rattle.std.proofs.Common.{◌-◌}
 use Rattle.std.proofs.Common.{length as list_length}
-use Rattle.odata_text.proofs.Words.{IsWordSoFar}
+use Rattle.odata_text.proofs.spellings.Words.{IsWordSoFar}
 use Rattle.odata_text.proofs.word.word_length.Given as goal
 
 abbrev pub invariant-loop-length : goal.invariant-loop-length

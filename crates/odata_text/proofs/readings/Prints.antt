@@ -13,14 +13,14 @@ use Rattle.std.proofs.lemmas.Str.{chars-append, chars-IsAscii, chars-nil, IsUtf8
 use Rattle.std.proofs.lemmas.Str.Ascii.{IsAscii-cons, IsAscii-nil}
 use Rattle.odata_text.specs.ByteClass.{class_of}
 use Rattle.odata_text.specs.Identifier.{continues_identifier, identifier_run}
-use Rattle.odata_text.specs.Printing.{ArePrintable, MayFollow, Print, is_separator, may_follow, placed, printed}
+use Rattle.odata_text.specs.Printing.{ArePrintable, MayFollow, Print, is_separator, may_follow, print_tokens, print_text}
 use Rattle.odata_text.specs.Spelling.{Spells}
 use Rattle.odata_text.specs.Tokens.{AreTokensFrom, IsGap, IsLongest, IsTokenAt, IsTokenList, RunsOn, end_of, is_undelimited, text_limit, token_limit}
 use Rattle.odata_text.specs.declared.byte_class.ByteClass.TheVariants.{Space}
 use Rattle.odata_text.specs.declared.form.Form.TheVariants.{Token}
 use Rattle.odata_text.specs.declared.token.TokenKind.{TokenKind}
 use Rattle.odata_text.specs.declared.token.TokenKind.TheVariants.{Int, Open, Close, Comma, Slash, Colon}
-use Rattle.odata_text.proofs.IdentifierBytes.{continues-ascii, is_name_byte}
+use Rattle.odata_text.proofs.characters.IdentifierBytes.{continues-ascii, is_name_byte}
 use Rattle.odata_text.proofs.machine.Longest.{longest-before}
 
 -- No identifier character stands behind a token.
@@ -80,8 +80,8 @@ token_at before text rest kind spelled follows =
 -- All of them.
 
 record AreRead (text : List ℕ) (from at : ℕ) (prints : List Print) : Type 0 where
-  tokens : AreTokensFrom text from (placed at prints)
-  ends : IsGap text (end_of from (placed at prints)) (length text)
+  tokens : AreTokensFrom text from (print_tokens at prints)
+  ends : IsGap text (end_of from (print_tokens at prints)) (length text)
 
 white_gap : (before gap rest : List ℕ) → All (λ b. class_of b ≡ Space) gap → IsGap (before ++ (gap ++ rest)) (length before) (length (before ++ gap))
 white_gap before gap rest white =
@@ -98,12 +98,12 @@ white_gap before gap rest white =
           ap class_of byte ∙ white (i - length before) 0 place;
     }
 
-read : (before : List ℕ) (prints : List Print) (from : ℕ) → ArePrintable prints → IsGap (before ++ printed prints) from (length before) → AreRead (before ++ printed prints) from (length before) prints
+read : (before : List ℕ) (prints : List Print) (from : ℕ) → ArePrintable prints → IsGap (before ++ print_text prints) from (length before) → AreRead (before ++ print_text prints) from (length before) prints
 read before [] from printable gap =
     let all : length (before ++ []) ≡ length before = ap length (append-nil before) in
     record { tokens = tt; ends = subst (IsGap (before ++ []) from) (sym all) gap }
 read before (p ∷ prints) from printable gap =
-    let rest = printed prints in
+    let rest = print_text prints in
     let shape : before ++ ((p.text ++ p.gap) ++ rest) ≡ before ++ (p.text ++ (p.gap ++ rest)) = ap (λ (xs : List ℕ). before ++ xs) (append_assoc p.text p.gap rest) in
     let token = token_at before p.text (p.gap ++ rest) p.kind printable.0 printable.1.1.0 in
     let front : before ++ (p.text ++ (p.gap ++ rest)) ≡ (before ++ p.text) ++ (p.gap ++ rest) = sym (append_assoc before p.text (p.gap ++ rest)) in
@@ -122,12 +122,12 @@ read before (p ∷ prints) from printable gap =
       ends = more_here.ends;
     }
 
-length-placed : (at : ℕ) (prints : List Print) → length (placed at prints) ≡ length prints
-length-placed at [] = refl
-length-placed at (p ∷ prints) = ap suc (length-placed (at + length p.text + length p.gap) prints)
+length-print_tokens : (at : ℕ) (prints : List Print) → length (print_tokens at prints) ≡ length prints
+length-print_tokens at [] = refl
+length-print_tokens at (p ∷ prints) = ap suc (length-print_tokens (at + length p.text + length p.gap) prints)
 
-pub printed-list : (prints : List Print) → ArePrintable prints → length (printed prints) ≤ text_limit → length prints ≤ token_limit → IsTokenList (printed prints) (placed 0 prints)
+pub printed-list : (prints : List Print) → ArePrintable prints → length (print_text prints) ≤ text_limit → length prints ≤ token_limit → IsTokenList (print_text prints) (print_tokens 0 prints)
 printed-list prints printable short few =
     let all = read [] prints 0 printable (record { order = omega arith; within = omega arith; white = λ i low high. absurd (omega arith) }) in
-    let count = length-placed 0 prints in
+    let count = length-print_tokens 0 prints in
     record { short = short; few = omega arith; tokens = all.tokens; ends = all.ends }

@@ -9,15 +9,15 @@ use Rattle.std.proofs.lemmas.Str.{IsCharBoundary-after_ascii, IsCharBoundary-fro
 use Rattle.std.proofs.lemmas.Str.Ascii.{IsAscii-cons, IsAscii-nil}
 use Rattle.odata_text.specs.Identifier.{IsIdentifier, identifier_run}
 use Rattle.odata_text.specs.Sequence.{FollowedBy}
-use Rattle.odata_text.specs.Spelling.{IsByte, IsWord, Spells, joined}
+use Rattle.odata_text.specs.Spelling.{IsByte, IsWordSpelling, Spells, dotted_parts}
 use Rattle.odata_text.specs.Tokens.{IsGap, IsLongest, IsRunOn, is_undelimited}
 use Rattle.odata_text.specs.declared.byte_class.ByteClass.TheVariants.{Space, Other}
 use Rattle.odata_text.specs.declared.token.TokenKind.{TokenKind}
 use Rattle.odata_text.specs.declared.token.TokenKind.TheVariants.{Word, Dollar}
 use Rattle.odata_text.specs.declared.form.Form.{Form}
 use Rattle.odata_text.specs.declared.form.Form.TheVariants.{Token}
-use Rattle.odata_text.proofs.ByteClasses.{class_of-non_ascii}
-use Rattle.odata_text.proofs.Words.{boundary-shift}
+use Rattle.odata_text.proofs.characters.ByteClasses.{class_of-non_ascii}
+use Rattle.odata_text.proofs.spellings.Words.{boundary-shift}
 use Rattle.odata_text.proofs.machine.Longest.{formed-some, past-word}
 use Rattle.odata_text.proofs.machine.Runs.{reads}
 use Rattle.odata_text.proofs.machine.States.{ALetter, APlain, Start, enter, form_at, run, step}
@@ -25,11 +25,11 @@ use Rattle.odata_text.proofs.machine.Steps.{past-sort}
 
 -- Words are text.
 
-utf8-joined : (part : List ℕ) (more : List (List ℕ)) → IsIdentifier part → AllOf IsIdentifier more → IsUtf8 (joined part more)
-utf8-joined part [] identifier all = identifier.utf8
-utf8-joined part (next ∷ more) identifier all =
-    IsUtf8-append part (46 ∷ joined next more) identifier.utf8
-    (IsUtf8-append (46 ∷ []) (joined next more) (IsUtf8-from_ascii (46 ∷ []) (IsAscii-cons 46 [] (omega arith) IsAscii-nil)) (utf8-joined next more all.0 all.1))
+utf8-dotted_parts : (part : List ℕ) (more : List (List ℕ)) → IsIdentifier part → AllOf IsIdentifier more → IsUtf8 (dotted_parts part more)
+utf8-dotted_parts part [] identifier all = identifier.utf8
+utf8-dotted_parts part (next ∷ more) identifier all =
+    IsUtf8-append part (46 ∷ dotted_parts next more) identifier.utf8
+    (IsUtf8-append (46 ∷ []) (dotted_parts next more) (IsUtf8-from_ascii (46 ∷ []) (IsAscii-cons 46 [] (omega arith) IsAscii-nil)) (utf8-dotted_parts next more all.0 all.1))
 
 utf8-dollar : (xs : List ℕ) → FollowedBy (IsByte 36) IsIdentifier xs → IsUtf8 xs
 utf8-dollar xs pair =
@@ -56,8 +56,8 @@ past-utf8 kind rest n some within far spelled =
   where
     word : (k : TokenKind) → Spells k (take n rest) → (k ≡ Word) ⊎ (k ≡ Dollar) → IsUtf8 (take n rest)
     word k spelled (inl is) =
-        let as_word : IsWord (take n rest) = subst (λ (j : TokenKind). Spells j (take n rest)) is spelled in
-        subst IsUtf8 (sym as_word.whole) (utf8-joined as_word.part as_word.more as_word.identifier as_word.identifiers)
+        let as_word : IsWordSpelling (take n rest) = subst (λ (j : TokenKind). Spells j (take n rest)) is spelled in
+        subst IsUtf8 (sym as_word.whole) (utf8-dotted_parts as_word.part as_word.more as_word.identifier as_word.identifiers)
     word k spelled (inr is) = utf8-dollar (take n rest) (subst (λ (j : TokenKind). Spells j (take n rest)) is spelled)
 
 -- what the code found of a rest it found of the text
@@ -97,7 +97,7 @@ pub run_on : (text : List ℕ) (start n behind : ℕ) (kind : TokenKind) → IsL
 run_on text start n behind kind longest undelimited run some =
     let size : start + n - start ≡ n = omega arith in
     record {
-      piece = record { kind = kind; start = start; stop = start + n; text = slice_range text start (start + n) };
+      token = record { kind = kind; start = start; stop = start + n; text = slice_range text start (start + n) };
       longest = record { order = omega arith; longest = subst (λ (k : ℕ). IsLongest (Token kind) k (drop start text)) (sym size) longest; bytes = refl };
       runs_on = (undelimited, omega arith);
       start = refl;

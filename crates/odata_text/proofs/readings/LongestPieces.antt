@@ -4,7 +4,7 @@ use Rattle.std.specs.List.{All, AllByRecursion as AllOf, Contains, zip}
 use Rattle.std.proofs.lemmas.List.{get_or-map, length-map, length-take, take_min}
 use Rattle.std.proofs.lemmas.List.Elements.{All-contains, All-from_recursion}
 use Rattle.std.proofs.lemmas.Map.Made.{keys_of-zip}
-use Rattle.odata_text.specs.Lengths.{IsReach}
+use Rattle.odata_text.specs.private.Lengths.{IsReach}
 use Rattle.odata_text.specs.Spelling.{IsFormed}
 use Rattle.odata_text.specs.Tokens.{IsLongest, NoneSpelled}
 use Rattle.odata_text.specs.declared.form.Form.{Form}

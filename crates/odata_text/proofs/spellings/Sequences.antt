@@ -4,7 +4,7 @@ use Rattle.std.proofs.Math.ListN.{get_or-append}
 use Rattle.std.proofs.Math.Seq.{get_or-append_right}
 use Rattle.std.proofs.lemmas.Bool.{cases_eq, cases_lt}
 use Rattle.std.proofs.lemmas.List.{take_at, drop_at, drop-take, take-take, take-append-drop, get_or-take, get_or-drop, length-take-le, length-drop}
-use Rattle.odata_text.specs.Lengths.{IsReach}
+use Rattle.odata_text.specs.private.Lengths.{IsReach}
 use Rattle.odata_text.specs.Sequence.{FollowedBy}
 
 -- what holds of each byte of two pieces holds of each byte of both

@@ -10,7 +10,7 @@ use Rattle.std.proofs.lemmas.List.{get_or-take, length-take-le, length-drop, dro
 use Rattle.std.proofs.lemmas.List.Sums.{prefix_len-le-length, prefix_len_passes, prefix_len_stops}
 use Rattle.std.proofs.lemmas.Str.Parse.{digit_at, numerals_by_value, tells_by_index}
 use Rattle.edm_values.specs.IntLiteral.{IsIntSpelling}
-use Rattle.odata_text.specs.Lengths.{IsReach, sign_length}
+use Rattle.odata_text.specs.private.Lengths.{IsReach, sign_length}
 
 -- what passes from the front on is within the run
 pub prefix_len-reaches : (p : ℕ → Bool) (rest : List ℕ) (m : ℕ) → m ≤ length rest → ((k : ℕ) → k < m → p (get_or rest k 0) ≡ true) → m ≤ prefix_len p rest

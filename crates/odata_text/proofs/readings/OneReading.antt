@@ -6,10 +6,10 @@ use Rattle.std.proofs.lemmas.Bool.{and_from, and_parts, cases_order, cond-false,
 use Rattle.std.proofs.lemmas.List.{get_or-drop, get_or-take, length-drop, length-take-le, take-append-drop}
 use Rattle.std.proofs.lemmas.Str.{chars-append, chars-nil, chars_past_char, IsUtf8-encode}
 use Rattle.odata_text.specs.ByteClass.{class_of}
-use Rattle.odata_text.specs.Piece.{Piece}
+use Rattle.odata_text.specs.TokenModel.{TokenModel}
 use Rattle.odata_text.specs.Identifier.{identifier_run}
 use Rattle.odata_text.specs.Spelling.{IsFormed}
-use Rattle.odata_text.specs.Tokens.{AreTokensFrom, IsBadCharacter, IsFaultAt, IsFaultBehind, IsGap, IsLongest, IsPieceAt, IsRunOn, IsTextFault, IsTokenAt, IsTokenList, NoneSpelled, end_of, is_undelimited, token_limit}
+use Rattle.odata_text.specs.Tokens.{AreTokensFrom, IsBadCharacter, IsFaultAt, IsFaultBehind, IsGap, IsLongest, IsLongestToken, IsRunOn, IsTextFault, IsTokenAt, IsTokenList, NoneSpelled, end_of, is_undelimited, token_limit}
 use Rattle.odata_text.specs.declared.byte_class.ByteClass.{ByteClass}
 use Rattle.odata_text.specs.declared.byte_class.ByteClass.TheVariants.{Quote, Space, Other}
 use Rattle.odata_text.specs.declared.fault.TextFault.{TextFault}
@@ -29,10 +29,10 @@ same_longest rest f g m n first second =
     let size : n ≡ m = omega arith in
     (same_form (take m rest) f g first.spelled (subst (λ (k : ℕ). IsFormed g (take k rest)) size second.spelled), sym size)
 
-at_start : (text : List ℕ) (piece : Piece) (start : ℕ) → piece.start ≡ start → IsPieceAt text piece → IsLongest (Token piece.kind) (piece.stop - start) (drop start text)
+at_start : (text : List ℕ) (piece : TokenModel) (start : ℕ) → piece.start ≡ start → IsLongestToken text piece → IsLongest (Token piece.kind) (piece.stop - start) (drop start text)
 at_start text piece start here is_piece = subst (λ (s : ℕ). IsLongest (Token piece.kind) (piece.stop - s) (drop s text)) here is_piece.longest
 
-same_piece : (text : List ℕ) (p q : Piece) (place : ℕ) → p.start ≡ place → q.start ≡ place → IsPieceAt text p → IsPieceAt text q → p ≡ q
+same_piece : (text : List ℕ) (p q : TokenModel) (place : ℕ) → p.start ≡ place → q.start ≡ place → IsLongestToken text p → IsLongestToken text q → p ≡ q
 same_piece text p q place p_here q_here p_is q_is =
     let same = same_longest (drop place text) (Token p.kind) (Token q.kind) (p.stop - place) (q.stop - place) (at_start text p place p_here p_is) (at_start text q place q_here q_is) in
     let form : Token p.kind ≡ Token q.kind = same.0 in
@@ -65,7 +65,7 @@ IsSolid-longest text start n form longest =
       solid = λ space. solid-start form (take n (drop start text)) longest.spelled (ap class_of byte ∙ space);
     }
 
-IsSolid-piece : (text : List ℕ) (piece : Piece) → IsPieceAt text piece → IsSolid text piece.start
+IsSolid-piece : (text : List ℕ) (piece : TokenModel) → IsLongestToken text piece → IsSolid text piece.start
 IsSolid-piece text piece is_piece = IsSolid-longest text piece.start (piece.stop - piece.start) (Token piece.kind) is_piece.longest
 
 same_place : (text : List ℕ) (from a b : ℕ) → IsGap text from a → IsGap text from b → IsSolid text a → IsSolid text b → a ≡ b
@@ -114,11 +114,11 @@ record IsOf (text : List ℕ) (place : ℕ) (fault : TextFault) : Type 0 where
   is_found : IsFound (drop place text) found
   is : fault ≡ fault_of text place found
 
-of_piece : (text : List ℕ) (piece : Piece) (fault : TextFault) → IsPieceAt text piece → fault ≡ fault_of text piece.start (Some (Token piece.kind, piece.stop - piece.start)) → IsOf text piece.start fault
+of_piece : (text : List ℕ) (piece : TokenModel) (fault : TextFault) → IsLongestToken text piece → fault ≡ fault_of text piece.start (Some (Token piece.kind, piece.stop - piece.start)) → IsOf text piece.start fault
 of_piece text piece fault is_piece is = record { found = Some (Token piece.kind, piece.stop - piece.start); is_found = is_piece.longest; is = is }
 
 -- a faultless token
-token_fault : (text : List ℕ) (piece : Piece) → IsTokenAt text piece → fault_of text piece.start (Some (Token piece.kind, piece.stop - piece.start)) ≡ TooLong (span_of piece.start piece.stop)
+token_fault : (text : List ℕ) (piece : TokenModel) → IsTokenAt text piece → fault_of text piece.start (Some (Token piece.kind, piece.stop - piece.start)) ≡ TooLong (span_of piece.start piece.stop)
 token_fault text piece token =
     let order = token.longest.order in
     let stop : piece.start + (piece.stop - piece.start) ≡ piece.stop = omega arith in
@@ -126,9 +126,9 @@ token_fault text piece token =
     rw stop (cond-false (is_undelimited piece.kind && nat_lt 0 (identifier_run (drop piece.stop text))) _ _
     (false_from_ne_true _ (λ both. let parts = and_parts (is_undelimited piece.kind) _ both in ends (parts.0, ltb-true 0 _ parts.1))))
 
-run_fault : (text : List ℕ) (span : Span) (run : IsRunOn text span) → RunOn span ≡ fault_of text run.piece.start (Some (Token run.piece.kind, run.piece.stop - run.piece.start))
+run_fault : (text : List ℕ) (span : Span) (run : IsRunOn text span) → RunOn span ≡ fault_of text run.token.start (Some (Token run.token.kind, run.token.stop - run.token.start))
 run_fault text span run =
-    let piece = run.piece in
+    let piece = run.token in
     let order = run.longest.order in
     let stop : piece.start + (piece.stop - piece.start) ≡ piece.stop = omega arith in
     let start = run.start in
@@ -173,20 +173,20 @@ of_fault text place before (LeftOutLiteral span) (here, literal) =
       is = ap LeftOutLiteral (λ i. record { start = span.start; stop = stop i });
     })
 of_fault text place before (RunOn span) (here, run) =
-    subst (λ (p : ℕ). IsOf text p (RunOn span)) (sym run.start ∙ here) (of_piece text run.piece (RunOn span) run.longest (run_fault text span run))
+    subst (λ (p : ℕ). IsOf text p (RunOn span)) (sym run.start ∙ here) (of_piece text run.token (RunOn span) run.longest (run_fault text span run))
 of_fault text place before (TooLong span) (here, many) =
     let start = many.start in
     let stop = many.stop in
     subst (λ (p : ℕ). IsOf text p (TooLong span)) (sym many.start ∙ here)
-    (of_piece text many.piece (TooLong span) many.token.longest (ap TooLong (λ i. record { start = start i; stop = stop i }) ∙ sym (token_fault text many.piece many.token)))
+    (of_piece text many.last (TooLong span) many.token.longest (ap TooLong (λ i. record { start = start i; stop = stop i }) ∙ sym (token_fault text many.last many.token)))
 of_fault text place before Memory fault = absurd fault
 
 IsSolid-fault : (text : List ℕ) (place before : ℕ) (fault : TextFault) → IsFaultAt text place before fault → IsSolid text place
 IsSolid-fault text place before (BadCharacter span) (here, bad) = subst (IsSolid text) here (record { inside = bad.no_token.inside; solid = bad.no_token.solid })
 IsSolid-fault text place before (UnclosedString span) (here, unclosed) = subst (IsSolid text) here (record { inside = unclosed.no_token.inside; solid = unclosed.no_token.solid })
 IsSolid-fault text place before (LeftOutLiteral span) (here, literal) = subst (IsSolid text) here (IsSolid-longest text span.start (span.stop - span.start) (LeftOut literal.kind) literal.longest)
-IsSolid-fault text place before (RunOn span) (here, run) = subst (IsSolid text) (sym run.start ∙ here) (IsSolid-piece text run.piece run.longest)
-IsSolid-fault text place before (TooLong span) (here, many) = subst (IsSolid text) (sym many.start ∙ here) (IsSolid-piece text many.piece many.token.longest)
+IsSolid-fault text place before (RunOn span) (here, run) = subst (IsSolid text) (sym run.start ∙ here) (IsSolid-piece text run.token run.longest)
+IsSolid-fault text place before (TooLong span) (here, many) = subst (IsSolid text) (sym many.start ∙ here) (IsSolid-piece text many.last many.token.longest)
 IsSolid-fault text place before Memory fault = absurd fault
 
 -- two faults of one place are one
@@ -194,7 +194,7 @@ same_of : (text : List ℕ) (place : ℕ) (f g : TextFault) → IsOf text place 
 same_of text place f g one two = one.is ∙ ap (fault_of text place) (same_found (drop place text) one.found two.found one.is_found two.is_found) ∙ sym two.is
 
 -- a place where a token is has no other fault than that it is one too many
-no_token : (text : List ℕ) (before : ℕ) (fault : TextFault) (piece : Piece) → IsFaultAt text piece.start before fault → IsTokenAt text piece → before ≡ token_limit
+no_token : (text : List ℕ) (before : ℕ) (fault : TextFault) (piece : TokenModel) → IsFaultAt text piece.start before fault → IsTokenAt text piece → before ≡ token_limit
 no_token text before fault piece faulty token =
     let is : fault ≡ TooLong (span_of piece.start piece.stop) =
     same_of text piece.start fault (TooLong (span_of piece.start piece.stop)) (of_fault text piece.start before fault faulty)
@@ -215,7 +215,7 @@ EndsFrom text from before None = IsGap text from (length text)
 EndsFrom text from before (Some fault) = IsFaultFrom text from before fault
 
 -- where one reading ends no other has a token, unless there are too many
-no_more : (text : List ℕ) (from before : ℕ) (end : Option TextFault) (piece : Piece) → EndsFrom text from before end → IsGap text from piece.start → IsTokenAt text piece → before ≡ token_limit
+no_more : (text : List ℕ) (from before : ℕ) (end : Option TextFault) (piece : TokenModel) → EndsFrom text from before end → IsGap text from piece.start → IsTokenAt text piece → before ≡ token_limit
 no_more text from before None piece ends gap token = absurd (not_at_end text from piece.start gap ends (IsSolid-piece text piece token.longest))
 no_more text from before (Some fault) piece ends gap token =
     let here : piece.start ≡ ends.place = same_place text from piece.start ends.place gap ends.gap (IsSolid-piece text piece token.longest) (IsSolid-fault text ends.place before fault ends.fault_at) in
@@ -230,18 +230,18 @@ same_end text from before (Some f) (Some g) a_ends b_ends =
     ap Some (same_of text a_ends.place f g (of_fault text a_ends.place before f a_ends.fault_at) (subst (λ (p : ℕ). IsOf text p g) here (of_fault text b_ends.place before g b_ends.fault_at)))
 
 -- tokens from a place on behind so many others, within the limit, and how they end
-record IsReading (text : List ℕ) (from before : ℕ) (pieces : List Piece) (end : Option TextFault) : Type 0 where
+record IsReading (text : List ℕ) (from before : ℕ) (pieces : List TokenModel) (end : Option TextFault) : Type 0 where
   few : before + length pieces ≤ token_limit
   tokens : AreTokensFrom text from pieces
   ends : EndsFrom text (end_of from pieces) (before + length pieces) end
 
-behind_first : (text : List ℕ) (from before : ℕ) (piece : Piece) (pieces : List Piece) (end : Option TextFault) → IsReading text from before (piece ∷ pieces) end → IsReading text piece.stop (suc before) pieces end
+behind_first : (text : List ℕ) (from before : ℕ) (piece : TokenModel) (pieces : List TokenModel) (end : Option TextFault) → IsReading text from before (piece ∷ pieces) end → IsReading text piece.stop (suc before) pieces end
 behind_first text from before piece pieces end reading =
     let few = reading.few in
     let count : before + length (piece ∷ pieces) ≡ suc before + length pieces = omega arith in
     record { few = omega arith; tokens = reading.tokens.1.1; ends = subst (λ (n : ℕ). EndsFrom text (end_of piece.stop pieces) n end) count reading.ends }
 
-same_reading : (text : List ℕ) (from before : ℕ) (ps qs : List Piece) (a b : Option TextFault) → IsReading text from before ps a → IsReading text from before qs b → (ps ≡ qs) × (a ≡ b)
+same_reading : (text : List ℕ) (from before : ℕ) (ps qs : List TokenModel) (a b : Option TextFault) → IsReading text from before ps a → IsReading text from before qs b → (ps ≡ qs) × (a ≡ b)
 same_reading text from before [] [] a b one two = (refl, same_end text from (before + 0) a b one.ends two.ends)
 same_reading text from before [] (q ∷ qs) a b one two =
     let full = no_more text from (before + 0) a q one.ends two.tokens.0 two.tokens.1.0 in
@@ -254,14 +254,14 @@ same_reading text from before (p ∷ ps) [] a b one two =
 same_reading text from before (p ∷ ps) (q ∷ qs) a b one two =
     let start : p.start ≡ q.start = same_place text from p.start q.start one.tokens.0 two.tokens.0 (IsSolid-piece text p one.tokens.1.0.longest) (IsSolid-piece text q two.tokens.1.0.longest) in
     let first : p ≡ q = same_piece text p q q.start start refl one.tokens.1.0.longest two.tokens.1.0.longest in
-    let stop : q.stop ≡ p.stop = sym (ap (λ (piece : Piece). piece.stop) first) in
+    let stop : q.stop ≡ p.stop = sym (ap (λ (piece : TokenModel). piece.stop) first) in
     let rest = same_reading text p.stop (suc before) ps qs a b (behind_first text from before p ps a one)
     (subst (λ (place : ℕ). IsReading text place (suc before) qs b) stop (behind_first text from before q qs b two)) in
     ((λ i. first i ∷ rest.0 i), rest.1)
 
 -- The laws.
 
-reading_of_list : (text : List ℕ) (pieces : List Piece) → IsTokenList text pieces → IsReading text 0 0 pieces None
+reading_of_list : (text : List ℕ) (pieces : List TokenModel) → IsTokenList text pieces → IsReading text 0 0 pieces None
 reading_of_list text pieces list = let few = list.few in record { few = omega arith; tokens = list.tokens; ends = list.ends }
 
 reading_of_fault : (text : List ℕ) (fault : TextFault) (behind : IsFaultBehind text fault) → IsReading text 0 0 behind.before (Some fault)
@@ -274,10 +274,10 @@ reading_of_fault text fault behind =
       ends = record { place = behind.place; gap = behind.gap; fault_at = subst (λ (n : ℕ). IsFaultAt text behind.place n fault) count behind.fault_at };
     }
 
-pub one_list : (text : List ℕ) (ps qs : List Piece) → IsTokenList text ps → IsTokenList text qs → ps ≡ qs
+pub one_list : (text : List ℕ) (ps qs : List TokenModel) → IsTokenList text ps → IsTokenList text qs → ps ≡ qs
 one_list text ps qs one two = (same_reading text 0 0 ps qs None None (reading_of_list text ps one) (reading_of_list text qs two)).0
 
-pub no_list : (text : List ℕ) (fault : TextFault) → IsTextFault text fault → (pieces : List Piece) → IsTokenList text pieces → ⊥
+pub no_list : (text : List ℕ) (fault : TextFault) → IsTextFault text fault → (pieces : List TokenModel) → IsTokenList text pieces → ⊥
 no_list text fault faulty pieces list =
     elim faulty [
       | inl overlong ↦ let long = overlong.long in let short = list.short in omega arith

@@ -5,41 +5,41 @@ use Rattle.std.proofs.lemmas.Bool.{both_ways}
 use Rattle.std.proofs.lemmas.List.{drop-drop, get_or-drop, get_or-take, length-drop, length-take-le}
 use Rattle.std.proofs.lemmas.Str.{IsCharBoundary-from_drop, IsUtf8-drop}
 use Rattle.odata_text.specs.Identifier.{IsIdentifier}
-use Rattle.odata_text.specs.Lengths.{IsReach}
+use Rattle.odata_text.specs.private.Lengths.{IsReach}
 use Rattle.odata_text.specs.Sequence.{FollowedBy}
-use Rattle.odata_text.specs.Spelling.{IsByte, IsDottedWord, IsWord, joined}
-use Rattle.odata_text.proofs.IdentifierBytes.{identifier-byte, identifier-nonempty, is_name_byte}
-use Rattle.odata_text.proofs.Sequences.{exact-by_byte, pair-found, pair_at}
+use Rattle.odata_text.specs.Spelling.{IsByte, IsDottedWord, IsWordSpelling, dotted_parts}
+use Rattle.odata_text.proofs.characters.IdentifierBytes.{identifier-byte, identifier-nonempty, is_name_byte}
+use Rattle.odata_text.proofs.spellings.Sequences.{exact-by_byte, pair-found, pair_at}
 
 -- A word is one identifier, or one with a dot and a word behind it.
 
 abbrev pub DotAndWord : List ℕ → Type 0
-DotAndWord xs = FollowedBy (IsByte 46) IsWord xs
+DotAndWord xs = FollowedBy (IsByte 46) IsWordSpelling xs
 
-word-front : (xs part : List ℕ) (more : List (List ℕ)) → IsIdentifier part → AllOf IsIdentifier more → xs ≡ joined part more → IsIdentifier xs ⊎ FollowedBy IsIdentifier DotAndWord xs
+word-front : (xs part : List ℕ) (more : List (List ℕ)) → IsIdentifier part → AllOf IsIdentifier more → xs ≡ dotted_parts part more → IsIdentifier xs ⊎ FollowedBy IsIdentifier DotAndWord xs
 word-front xs part [] identifier all whole = inl (subst IsIdentifier (sym whole) identifier)
 word-front xs part (next ∷ more) identifier all whole = inr (record {
   front = part;
-  back = 46 ∷ joined next more;
+  back = 46 ∷ dotted_parts next more;
   whole = whole;
   is_front = identifier;
-  is_back = record { front = 46 ∷ []; back = joined next more; whole = refl; is_front = refl; is_back = record { part = next; more = more; identifier = all.0; identifiers = all.1; whole = refl } };
+  is_back = record { front = 46 ∷ []; back = dotted_parts next more; whole = refl; is_front = refl; is_back = record { part = next; more = more; identifier = all.0; identifiers = all.1; whole = refl } };
 })
 
-pub word-cases : (xs : List ℕ) → IsWord xs → IsIdentifier xs ⊎ FollowedBy IsIdentifier DotAndWord xs
+pub word-cases : (xs : List ℕ) → IsWordSpelling xs → IsIdentifier xs ⊎ FollowedBy IsIdentifier DotAndWord xs
 word-cases xs word = word-front xs word.part word.more word.identifier word.identifiers word.whole
 
-joined-push : (part : List ℕ) (more : List (List ℕ)) (next : List ℕ) → joined part more ++ 46 ∷ next ≡ joined part (more ++ next ∷ [])
-joined-push part [] next = refl
-joined-push part (first ∷ more) next =
-    append_assoc part (46 ∷ joined first more) (46 ∷ next) ∙ ap (λ (ys : List ℕ). part ++ 46 ∷ ys) (joined-push first more next)
+dotted_parts-push : (part : List ℕ) (more : List (List ℕ)) (next : List ℕ) → dotted_parts part more ++ 46 ∷ next ≡ dotted_parts part (more ++ next ∷ [])
+dotted_parts-push part [] next = refl
+dotted_parts-push part (first ∷ more) next =
+    append_assoc part (46 ∷ dotted_parts first more) (46 ∷ next) ∙ ap (λ (ys : List ℕ). part ++ 46 ∷ ys) (dotted_parts-push first more next)
 
 all-push : (more : List (List ℕ)) (next : List ℕ) → AllOf IsIdentifier more → IsIdentifier next → AllOf IsIdentifier (more ++ next ∷ [])
 all-push [] next all identifier = (identifier, tt)
 all-push (first ∷ more) next all identifier = (all.0, all-push more next all.1 identifier)
 
 -- one identifier more
-word-push : (xs : List ℕ) → FollowedBy IsWord (FollowedBy (IsByte 46) IsIdentifier) xs → IsWord xs
+word-push : (xs : List ℕ) → FollowedBy IsWordSpelling (FollowedBy (IsByte 46) IsIdentifier) xs → IsWordSpelling xs
 word-push xs pair =
     let word = pair.is_front in
     let next = pair.is_back in
@@ -50,11 +50,11 @@ word-push xs pair =
       identifiers = all-push word.more next.back word.identifiers next.is_back;
       whole = pair.whole
           ∙ ap (λ (ys : List ℕ). ys ++ pair.back) word.whole
-          ∙ ap (λ (ys : List ℕ). joined word.part word.more ++ ys) (next.whole ∙ ap (λ (ys : List ℕ). ys ++ next.back) next.is_front)
-          ∙ joined-push word.part word.more next.back;
+          ∙ ap (λ (ys : List ℕ). dotted_parts word.part word.more ++ ys) (next.whole ∙ ap (λ (ys : List ℕ). ys ++ next.back) next.is_front)
+          ∙ dotted_parts-push word.part word.more next.back;
     }
 
-pub word-one : (xs : List ℕ) → IsIdentifier xs → IsWord xs
+pub word-one : (xs : List ℕ) → IsIdentifier xs → IsWordSpelling xs
 word-one xs identifier = record { part = xs; more = []; identifier = identifier; identifiers = tt; whole = refl }
 
 -- Words at the front of a text.
@@ -74,7 +74,7 @@ no_dot xs identifier i inside dot =
 pub record IsMore (rest : List ℕ) (n m : ℕ) : Type 0 where
   pub below : n < m
   pub dot : get_or rest n 0 ≡ 46
-  pub word : IsWord (take (m - (n + 1)) (drop (n + 1) rest))
+  pub word : IsWordSpelling (take (m - (n + 1)) (drop (n + 1) rest))
 
 more-behind : (rest : List ℕ) (n j m : ℕ) → m ≡ n + j → m ≤ length rest → DotAndWord (take j (drop n rest)) → IsMore rest n m
 more-behind rest n j m size inside dot =
@@ -82,7 +82,7 @@ more-behind rest n j m size inside dot =
     let starts = dot-starts (take j (drop n rest)) dot in
     let some = starts.0 in
     let taken = length-take-le j (drop n rest) (omega arith) in
-    let pair = pair_at (IsByte 46) IsWord (drop n rest) j (omega arith) dot in
+    let pair = pair_at (IsByte 46) IsWordSpelling (drop n rest) j (omega arith) dot in
     let first = ap length pair.is_first in
     let parts = pair.size in
     let one_taken = length-take-le pair.first (drop n rest) (omega arith) in
@@ -91,13 +91,13 @@ more-behind rest n j m size inside dot =
     record {
       below = omega arith;
       dot = sym (get_or-take j (drop n rest) 0 0 (omega arith) ∙ get_or-drop n rest 0 0 ∙ ap (λ (i : ℕ). get_or rest i 0) (add-zero n)) ∙ starts.1;
-      word = subst (λ (k : ℕ). IsWord (take k (drop (n + 1) rest))) rest_size
-          (subst (λ (xs : List ℕ). IsWord (take pair.second xs)) (drop-drop 1 n rest)
-          (subst (λ (k : ℕ). IsWord (take pair.second (drop k (drop n rest)))) one pair.is_second));
+      word = subst (λ (k : ℕ). IsWordSpelling (take k (drop (n + 1) rest))) rest_size
+          (subst (λ (xs : List ℕ). IsWordSpelling (take pair.second xs)) (drop-drop 1 n rest)
+          (subst (λ (k : ℕ). IsWordSpelling (take pair.second (drop k (drop n rest)))) one pair.is_second));
     }
 
 -- a word ends in the longest identifier at its front, or goes on behind that
-word-part : (rest : List ℕ) (n m : ℕ) → IsReach IsIdentifier n rest → m ≤ length rest → IsWord (take m rest) → (m ≤ n) ⊎ IsMore rest n m
+word-part : (rest : List ℕ) (n m : ℕ) → IsReach IsIdentifier n rest → m ≤ length rest → IsWordSpelling (take m rest) → (m ≤ n) ⊎ IsMore rest n m
 word-part rest n m reach inside word =
     ⊎_elim
     (λ identifier. inl (reach.reaches m inside identifier))
@@ -110,7 +110,7 @@ word-part rest n m reach inside word =
     (word-cases (take m rest) word)
 
 -- no word begins where no identifier does
-word-none : (rest : List ℕ) (m : ℕ) → IsReach IsIdentifier 0 rest → m ≤ length rest → IsWord (take m rest) → ⊥
+word-none : (rest : List ℕ) (m : ℕ) → IsReach IsIdentifier 0 rest → m ≤ length rest → IsWordSpelling (take m rest) → ⊥
 word-none rest m reach inside word =
     ⊎_elim
     (λ identifier.
@@ -127,7 +127,7 @@ word-none rest m reach inside word =
     absurd (omega arith))
     (word-cases (take m rest) word)
 
-pub reach-no_word : (rest : List ℕ) → IsReach IsIdentifier 0 rest → IsReach IsWord 0 rest
+pub reach-no_word : (rest : List ℕ) → IsReach IsIdentifier 0 rest → IsReach IsWordSpelling 0 rest
 reach-no_word rest reach = record {
   within = omega arith;
   found = λ positive. absurd (omega arith);
@@ -137,9 +137,9 @@ reach-no_word rest reach = record {
 -- n bytes are a word, and what is longer goes on behind them
 pub record IsWordSoFar (rest : List ℕ) (n : ℕ) : Type 0 where
   pub within : n ≤ length rest
-  pub word : IsWord (take n rest)
+  pub word : IsWordSpelling (take n rest)
   pub boundary : IsCharBoundary rest n
-  pub reaches : (m : ℕ) → m ≤ length rest → IsWord (take m rest) → (m ≤ n) ⊎ IsMore rest n m
+  pub reaches : (m : ℕ) → m ≤ length rest → IsWordSpelling (take m rest) → (m ≤ n) ⊎ IsMore rest n m
 
 pub word-start : (rest : List ℕ) (n : ℕ) → IsReach IsIdentifier n rest → 0 < n → IsCharBoundary rest n → IsWordSoFar rest n
 word-start rest n reach some boundary = record {
@@ -150,7 +150,7 @@ word-start rest n reach some boundary = record {
 }
 
 -- no dot stands behind the word
-pub word-end : (rest : List ℕ) (n : ℕ) → IsWordSoFar rest n → (n < length rest → get_or rest n 0 ≡ 46 → ⊥) → IsReach IsWord n rest
+pub word-end : (rest : List ℕ) (n : ℕ) → IsWordSoFar rest n → (n < length rest → get_or rest n 0 ≡ 46 → ⊥) → IsReach IsWordSpelling n rest
 word-end rest n so_far dotless = record {
   within = so_far.within;
   found = λ positive. so_far.word;
@@ -158,7 +158,7 @@ word-end rest n so_far dotless = record {
 }
 
 -- no identifier stands behind the dot
-pub word-dot : (rest : List ℕ) (n : ℕ) → IsWordSoFar rest n → IsReach IsIdentifier 0 (drop (n + 1) rest) → IsReach IsWord n rest
+pub word-dot : (rest : List ℕ) (n : ℕ) → IsWordSoFar rest n → IsReach IsIdentifier 0 (drop (n + 1) rest) → IsReach IsWordSpelling n rest
 word-dot rest n so_far none = record {
   within = so_far.within;
   found = λ positive. so_far.word;
@@ -181,8 +181,8 @@ more-next rest n p m below more =
     record {
       below = omega arith;
       dot = sym (get_or-drop (n + 1) rest p 0 ∙ ap (λ (i : ℕ). get_or rest i 0) place) ∙ more.dot;
-      word = subst (λ (k : ℕ). IsWord (take k (drop (n + (1 + p) + 1) rest))) size
-          (subst (λ (xs : List ℕ). IsWord (take (m - (n + 1) - (p + 1)) xs)) (drop-drop (p + 1) (n + 1) rest ∙ ap (λ (i : ℕ). drop i rest) behind) more.word);
+      word = subst (λ (k : ℕ). IsWordSpelling (take k (drop (n + (1 + p) + 1) rest))) size
+          (subst (λ (xs : List ℕ). IsWordSpelling (take (m - (n + 1) - (p + 1)) xs)) (drop-drop (p + 1) (n + 1) rest ∙ ap (λ (i : ℕ). drop i rest) behind) more.word);
     }
 
 -- a dot and an identifier more
@@ -197,7 +197,7 @@ word-more rest n p so_far inside dot reach some utf8 boundary =
     let next : IsIdentifier (take p (drop 1 (drop n rest))) = subst (λ (xs : List ℕ). IsIdentifier (take p xs)) (sym (drop-drop 1 n rest)) (reach.found some) in
     record {
       within = omega arith;
-      word = word-push (take (n + (1 + p)) rest) (pair-found IsWord (FollowedBy (IsByte 46) IsIdentifier) rest n (1 + p) so_far.word (pair-found (IsByte 46) IsIdentifier (drop n rest) 1 p one next));
+      word = word-push (take (n + (1 + p)) rest) (pair-found IsWordSpelling (FollowedBy (IsByte 46) IsIdentifier) rest n (1 + p) so_far.word (pair-found (IsByte 46) IsIdentifier (drop n rest) 1 p one next));
       boundary = subst (IsCharBoundary rest) place (boundary-shift rest (n + 1) p utf8 (omega arith) within boundary);
       reaches = λ m inside_m word. ⊎_elim (λ most. inl (omega arith))
           (λ more. let below = more.below in ⊎_elim (λ most. inl (omega arith)) (λ further. inr (more-next rest n p m below further))
@@ -211,17 +211,17 @@ word-more rest n p so_far inside dot reach some utf8 boundary =
 
 -- Dotted words.
 
-dotted-front : (xs part : List ℕ) (more : List (List ℕ)) → IsIdentifier part → AllOf IsIdentifier more → xs ≡ joined part more → 0 < length more → FollowedBy IsIdentifier DotAndWord xs
+dotted-front : (xs part : List ℕ) (more : List (List ℕ)) → IsIdentifier part → AllOf IsIdentifier more → xs ≡ dotted_parts part more → 0 < length more → FollowedBy IsIdentifier DotAndWord xs
 dotted-front xs part [] identifier all whole some = absurd (omega arith)
 dotted-front xs part (next ∷ more) identifier all whole some = record {
   front = part;
-  back = 46 ∷ joined next more;
+  back = 46 ∷ dotted_parts next more;
   whole = whole;
   is_front = identifier;
-  is_back = record { front = 46 ∷ []; back = joined next more; whole = refl; is_front = refl; is_back = record { part = next; more = more; identifier = all.0; identifiers = all.1; whole = refl } };
+  is_back = record { front = 46 ∷ []; back = dotted_parts next more; whole = refl; is_front = refl; is_back = record { part = next; more = more; identifier = all.0; identifiers = all.1; whole = refl } };
 }
 
-dotted-from_parts : (xs part : List ℕ) (more : List (List ℕ)) → IsIdentifier part → AllOf IsIdentifier more → xs ≡ joined part more → (IsIdentifier xs → ⊥) → IsDottedWord xs
+dotted-from_parts : (xs part : List ℕ) (more : List (List ℕ)) → IsIdentifier part → AllOf IsIdentifier more → xs ≡ dotted_parts part more → (IsIdentifier xs → ⊥) → IsDottedWord xs
 dotted-from_parts xs part [] identifier all whole not_one = absurd (not_one (subst IsIdentifier (sym whole) identifier))
 dotted-from_parts xs part (next ∷ more) identifier all whole not_one = record {
   word = record { part = part; more = next ∷ more; identifier = identifier; identifiers = all; whole = whole };
@@ -231,7 +231,7 @@ dotted-from_parts xs part (next ∷ more) identifier all whole not_one = record 
 pub dotted-pair : (xs : List ℕ) → IsDottedWord xs → FollowedBy IsIdentifier DotAndWord xs
 dotted-pair xs dotted = dotted-front xs dotted.word.part dotted.word.more dotted.word.identifier dotted.word.identifiers dotted.word.whole dotted.dotted
 
-pub reach-dotted : (rest : List ℕ) (n w : ℕ) → IsReach IsIdentifier n rest → IsReach IsWord w rest → n < w → IsReach IsDottedWord w rest
+pub reach-dotted : (rest : List ℕ) (n w : ℕ) → IsReach IsIdentifier n rest → IsReach IsWordSpelling w rest → n < w → IsReach IsDottedWord w rest
 reach-dotted rest n w identifier word longer =
     let within = word.within in
     let found = word.found (omega arith) in
@@ -242,7 +242,7 @@ reach-dotted rest n w identifier word longer =
       reaches = λ m inside dotted. word.reaches m inside dotted.word;
     }
 
-pub reach-undotted : (rest : List ℕ) (n w : ℕ) → IsReach IsIdentifier n rest → IsReach IsWord w rest → w ≤ n → IsReach IsDottedWord 0 rest
+pub reach-undotted : (rest : List ℕ) (n w : ℕ) → IsReach IsIdentifier n rest → IsReach IsWordSpelling w rest → w ≤ n → IsReach IsDottedWord 0 rest
 reach-undotted rest n w identifier word shorter = record {
   within = omega arith;
   found = λ positive. absurd (omega arith);

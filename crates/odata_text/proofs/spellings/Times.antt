@@ -10,13 +10,13 @@ use Rattle.std.proofs.lemmas.Str.Parse.{digit_at}
 use Rattle.edm_values.specs.DateLiteral.{IsDateSpelling, date_text, two_digits}
 use Rattle.edm_values.specs.MomentLiteral.{IsClockSpelling, IsMomentSpelling, IsOffsetSpelling, IsSecondsSpelling, clock_text}
 use Rattle.odata_text.specs.LeftOut.{IsFraction, IsTimeOfDaySpelling}
-use Rattle.odata_text.specs.Lengths.{IsReach}
-use Rattle.odata_text.specs.Patterns.{Fits, IsMarkedClock, IsTimed, IsZoned, passes}
+use Rattle.odata_text.specs.private.Lengths.{IsReach}
+use Rattle.odata_text.specs.private.Patterns.{Fits, IsMarkedClock, IsTimed, IsZoned, passes}
 use Rattle.odata_text.specs.Sequence.{FollowedBy}
 use Rattle.odata_text.specs.declared.byte_test.ByteTest.{ByteTest}
 use Rattle.odata_text.specs.declared.byte_test.ByteTest.TheVariants.{Digit, Hyphen, Colon, Sign, TimeMark, OffsetMark}
-use Rattle.odata_text.proofs.Patterns.{fits-at, fits-exact, fits-length, fits-nonempty}
-use Rattle.odata_text.proofs.Sequences.{IsExact, Perhaps, either-first, either-second, exact-by_byte, exact-by_length, followed-both, measured-no_first, perhaps-found, perhaps-reach, reach-as}
+use Rattle.odata_text.proofs.spellings.Patterns.{fits-at, fits-exact, fits-length, fits-nonempty}
+use Rattle.odata_text.proofs.spellings.Sequences.{IsExact, Perhaps, either-first, either-second, exact-by_byte, exact-by_length, followed-both, measured-no_first, perhaps-found, perhaps-reach, reach-as}
 
 -- Two digits.
 

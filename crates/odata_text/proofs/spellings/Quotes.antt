@@ -6,7 +6,7 @@ use Rattle.std.proofs.lemmas.Bool.{cases_lt, cond-true, cond-false}
 use Rattle.std.proofs.lemmas.Bool.Decides.{eqb_tells}
 use Rattle.std.proofs.lemmas.List.{take-append-drop, take-take}
 use Rattle.std.proofs.lemmas.List.Sums.{fold-append, fold_more}
-use Rattle.odata_text.specs.Lengths.{IsReach, quoted_after, quoted_of}
+use Rattle.odata_text.specs.private.Lengths.{IsReach, quoted_after, quoted_of}
 use Rattle.edm_values.specs.StringLiteral.{doubled, IsStringSpelling}
 use Rattle.odata_text.specs.declared.quoted.Quoted.{Quoted}
 use Rattle.odata_text.specs.declared.quoted.Quoted.TheVariants.{Before, Open, Closed, Over}

@@ -14,10 +14,10 @@ use Rattle.odata_text.specs.declared.fault.TextFault.TheVariants.{RunOn}
 use Rattle.odata_text.specs.declared.form.Form.TheVariants.{Token}
 use Rattle.odata_text.specs.declared.token.TokenKind.{TokenKind}
 use Rattle.odata_text.specs.declared.token.TokenKind.TheVariants.{Word, Int, Str}
-use Rattle.odata_text.proofs.IdentifierBytes.{ascii-identifier, is_ascii_name, run-ascii}
-use Rattle.odata_text.proofs.Places.{run_on}
-use Rattle.odata_text.proofs.Prints.{printed-list}
-use Rattle.odata_text.proofs.Words.{word-one}
+use Rattle.odata_text.proofs.characters.IdentifierBytes.{ascii-identifier, is_ascii_name, run-ascii}
+use Rattle.odata_text.proofs.readings.Places.{run_on}
+use Rattle.odata_text.proofs.readings.Prints.{printed-list}
+use Rattle.odata_text.proofs.spellings.Words.{word-one}
 use Rattle.odata_text.proofs.machine.Longest.{longest-dead}
 
 word : (name : List ℕ) → is_ascii_name name ≡ true → Spells Word name

@@ -4,7 +4,7 @@ use Rattle.std.specs.Prelude.{IsCharBoundary}
 use Rattle.std.proofs.lemmas.List.{length-map, length-take-le, length-drop, length_push, map_push}
 use Rattle.std.proofs.lemmas.Str.{IsCharBoundary-start}
 use Rattle.odata_text.specs.ByteClass.{class_of}
-use Rattle.odata_text.specs.Piece.{Piece, piece_of, pieces_of}
+use Rattle.odata_text.specs.TokenModel.{TokenModel, token_model, token_models}
 use Rattle.odata_text.specs.Tokens.{AreTokensFrom, IsFaultAt, IsFaultBehind, IsGap, IsTokenAt, IsTokenList, end_of, text_limit, token_limit}
 use Rattle.odata_text.specs.declared.byte_class.ByteClass.TheVariants.{Space}
 use Rattle.odata_text.specs.declared.fault.TextFault.{TextFault}
@@ -12,23 +12,23 @@ use Rattle.odata_text.specs.declared.fault.TextFault.TheVariants.{TooLong}
 use Rattle.odata_text.specs.declared.token.Token.{Token}
 use Rattle.odata_text.specs.declared.form.Form.TheVariants.{Token as IsToken}
 use Rattle.odata_text.proofs.machine.Longest.{formed-some}
-use Rattle.odata_text.proofs.Places.{boundary-gap}
+use Rattle.odata_text.proofs.readings.Places.{boundary-gap}
 
-tokens-push : (text : List ℕ) (from : ℕ) (pieces : List Piece) (piece : Piece) → AreTokensFrom text from pieces → IsGap text (end_of from pieces) piece.start → IsTokenAt text piece
+tokens-push : (text : List ℕ) (from : ℕ) (pieces : List TokenModel) (piece : TokenModel) → AreTokensFrom text from pieces → IsGap text (end_of from pieces) piece.start → IsTokenAt text piece
     → AreTokensFrom text from (pieces ++ piece ∷ [])
 tokens-push text from [] piece tokens gap token = (gap, (token, tt))
 tokens-push text from (first ∷ pieces) piece tokens gap token = (tokens.0, (tokens.1.0, tokens-push text first.stop pieces piece tokens.1.1 gap token))
 
-end_of-push : (from : ℕ) (pieces : List Piece) (piece : Piece) → end_of from (pieces ++ piece ∷ []) ≡ piece.stop
+end_of-push : (from : ℕ) (pieces : List TokenModel) (piece : TokenModel) → end_of from (pieces ++ piece ∷ []) ≡ piece.stop
 end_of-push from [] piece = refl
 end_of-push from (first ∷ pieces) piece = end_of-push first.stop pieces piece
 
 -- a token takes a byte or more of the text
-pub record IsInside (text : List ℕ) (piece : Piece) : Type 0 where
+pub record IsInside (text : List ℕ) (piece : TokenModel) : Type 0 where
   pub nonempty : piece.start < piece.stop
   pub within : piece.stop ≤ length text
 
-pub IsInside-token : (text : List ℕ) (piece : Piece) → IsTokenAt text piece → IsInside text piece
+pub IsInside-token : (text : List ℕ) (piece : TokenModel) → IsTokenAt text piece → IsInside text piece
 IsInside-token text piece token =
     let longest = token.longest.longest in
     let within = longest.within in
@@ -38,7 +38,7 @@ IsInside-token text piece token =
     record { nonempty = omega arith; within = omega arith }
 
 -- the pieces are tokens of a beginning, and at the place a token or a fault begins, or the text ends
-pub record IsScanned (text : List ℕ) (pieces : List Piece) (place : ℕ) : Type 0 where
+pub record IsScanned (text : List ℕ) (pieces : List TokenModel) (place : ℕ) : Type 0 where
   pub tokens : AreTokensFrom text 0 pieces
   pub few : length pieces ≤ token_limit
   pub gap : IsGap text (end_of 0 pieces) place
@@ -50,10 +50,10 @@ solid_in : (text bytes : List ℕ) (place : ℕ) → bytes ≡ text → (place <
 solid_in text bytes place same solid = subst (λ (xs : List ℕ). place < length xs → class_of (get_or xs place 0) ≡ Space → ⊥) same solid
 
 pub scanned-none : (text bytes : List ℕ) (tokens : List Token) (place : ℕ) → bytes ≡ text → tokens ≡ [] → IsUtf8 text → IsGap bytes 0 place
-    → (place < length bytes → class_of (get_or bytes place 0) ≡ Space → ⊥) → IsScanned text (pieces_of tokens) place
+    → (place < length bytes → class_of (get_or bytes place 0) ≡ Space → ⊥) → IsScanned text (token_models tokens) place
 scanned-none text bytes tokens place same none utf8 gap solid =
     let white = subst (λ (xs : List ℕ). IsGap xs 0 place) same gap in
-    subst (λ (ts : List Token). IsScanned text (pieces_of ts) place) (sym none) (record {
+    subst (λ (ts : List Token). IsScanned text (token_models ts) place) (sym none) (record {
       tokens = tt;
       few = omega arith;
       gap = white;
@@ -62,33 +62,33 @@ scanned-none text bytes tokens place same none utf8 gap solid =
     })
 
 -- one token more
-pub scanned-push : (text bytes : List ℕ) (tokens more : List Token) (token : Token) (place next : ℕ) → bytes ≡ text → more ≡ tokens ++ token ∷ [] → IsUtf8 text → IsScanned text (pieces_of tokens) place
-    → token.span.start ≡ place → IsTokenAt text (piece_of token) → IsCharBoundary text token.span.stop → (length tokens ≡ token_limit → ⊥)
+pub scanned-push : (text bytes : List ℕ) (tokens more : List Token) (token : Token) (place next : ℕ) → bytes ≡ text → more ≡ tokens ++ token ∷ [] → IsUtf8 text → IsScanned text (token_models tokens) place
+    → token.span.start ≡ place → IsTokenAt text (token_model token) → IsCharBoundary text token.span.stop → (length tokens ≡ token_limit → ⊥)
     → IsGap bytes token.span.stop next → (next < length bytes → class_of (get_or bytes next 0) ≡ Space → ⊥)
-    → IsScanned text (pieces_of more) next
+    → IsScanned text (token_models more) next
 scanned-push text bytes tokens more token place next same grown utf8 scanned here is_token boundary room gap solid =
     let white = subst (λ (xs : List ℕ). IsGap xs token.span.stop next) same gap in
-    let pieces : pieces_of more ≡ pieces_of tokens ++ piece_of token ∷ [] = ap pieces_of grown ∙ map_push piece_of tokens token in
-    let count = length_push (pieces_of tokens) (piece_of token) in
-    let each = length-map tokens piece_of in
+    let pieces : token_models more ≡ token_models tokens ++ token_model token ∷ [] = ap token_models grown ∙ map_push token_model tokens token in
+    let count = length_push (token_models tokens) (token_model token) in
+    let each = length-map tokens token_model in
     let few = scanned.few in
-    subst (λ (ps : List Piece). IsScanned text ps next) (sym pieces) (record {
-      tokens = tokens-push text 0 (pieces_of tokens) (piece_of token) scanned.tokens (subst (IsGap text (end_of 0 (pieces_of tokens))) (sym here) scanned.gap) is_token;
+    subst (λ (ps : List TokenModel). IsScanned text ps next) (sym pieces) (record {
+      tokens = tokens-push text 0 (token_models tokens) (token_model token) scanned.tokens (subst (IsGap text (end_of 0 (token_models tokens))) (sym here) scanned.gap) is_token;
       few = omega arith;
-      gap = subst (λ (end : ℕ). IsGap text end next) (sym (end_of-push 0 (pieces_of tokens) (piece_of token))) white;
+      gap = subst (λ (end : ℕ). IsGap text end next) (sym (end_of-push 0 (token_models tokens) (token_model token))) white;
       solid = solid_in text bytes next same solid;
       boundary = boundary-gap text token.span.stop next utf8 boundary white;
     })
 
 -- the text is at its end
-pub scanned-all : (text : List ℕ) (pieces : List Piece) (place : ℕ) → length text ≤ text_limit → length text ≤ place → IsScanned text pieces place → IsTokenList text pieces
+pub scanned-all : (text : List ℕ) (pieces : List TokenModel) (place : ℕ) → length text ≤ text_limit → length text ≤ place → IsScanned text pieces place → IsTokenList text pieces
 scanned-all text pieces place short over scanned =
     let within = scanned.gap.within in
     let at_end : place ≡ length text = omega arith in
     record { short = short; few = scanned.few; tokens = scanned.tokens; ends = subst (IsGap text (end_of 0 pieces)) at_end scanned.gap }
 
 -- a fault at the place
-pub scanned-fault : (text : List ℕ) (pieces : List Piece) (place : ℕ) (fault : TextFault) → length text ≤ text_limit → IsScanned text pieces place → ((before : ℕ) → IsFaultAt text place before fault) → IsFaultBehind text fault
+pub scanned-fault : (text : List ℕ) (pieces : List TokenModel) (place : ℕ) (fault : TextFault) → length text ≤ text_limit → IsScanned text pieces place → ((before : ℕ) → IsFaultAt text place before fault) → IsFaultBehind text fault
 scanned-fault text pieces place fault short scanned at_place = record {
   short = short;
   before = pieces;
@@ -100,8 +100,8 @@ scanned-fault text pieces place fault short scanned at_place = record {
 }
 
 -- a token too many
-pub scanned-too_many : (text : List ℕ) (pieces : List Piece) (place : ℕ) (token : Token) → length text ≤ text_limit → IsScanned text pieces place
-    → token.span.start ≡ place → IsTokenAt text (piece_of token) → length pieces ≡ token_limit → IsFaultBehind text (TooLong token.span)
+pub scanned-too_many : (text : List ℕ) (pieces : List TokenModel) (place : ℕ) (token : Token) → length text ≤ text_limit → IsScanned text pieces place
+    → token.span.start ≡ place → IsTokenAt text (token_model token) → length pieces ≡ token_limit → IsFaultBehind text (TooLong token.span)
 scanned-too_many text pieces place token short scanned here is_token full = record {
   short = short;
   before = pieces;
@@ -109,5 +109,5 @@ scanned-too_many text pieces place token short scanned here is_token full = reco
   tokens = scanned.tokens;
   place = place;
   gap = scanned.gap;
-  fault_at = (here, record { count = full; piece = piece_of token; token = is_token; start = refl; stop = refl });
+  fault_at = (here, record { count = full; last = token_model token; token = is_token; start = refl; stop = refl });
 }

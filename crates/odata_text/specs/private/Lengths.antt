@@ -1,4 +1,4 @@
--- What the functions that measure pieces answer. Private clauses alone cite these.
+-- What the functions that measure pieces answer.
 use Rattle.std.specs.Prelude.{ℕ, ◌<◌, ◌≤◌, ◌==◌, ◌||◌, slice_index, if◌then◌else◌, List, length, take, fold}
 use Rattle.odata_text.specs.declared.quoted.Quoted.{Quoted}
 use Rattle.odata_text.specs.declared.quoted.Quoted.TheVariants.{Before, Open, Closed, Over}

@@ -5,11 +5,11 @@ use Rattle.std.specs.List.{AllByRecursion as AllOf}
 use Rattle.std.proofs.lemmas.Bool.{both_ways}
 use Rattle.edm_values.specs.StringLiteral.{IsStringSpelling}
 use Rattle.odata_text.specs.Identifier.{IsIdentifier}
-use Rattle.odata_text.specs.Spelling.{IsDottedWord, IsLeftOutName, joined}
-use Rattle.odata_text.proofs.IdentifierBytes.{identifier-nonempty, identifier-part, is_part_byte}
-use Rattle.odata_text.proofs.Names.{left_out-letters}
-use Rattle.odata_text.proofs.Sequences.{each-append}
-use Rattle.odata_text.proofs.Words.{dotted-pair}
+use Rattle.odata_text.specs.Spelling.{IsDottedWord, IsLeftOutName, dotted_parts}
+use Rattle.odata_text.proofs.characters.IdentifierBytes.{identifier-nonempty, identifier-part, is_part_byte}
+use Rattle.odata_text.proofs.spellings.Names.{left_out-letters}
+use Rattle.odata_text.proofs.spellings.Sequences.{each-append}
+use Rattle.odata_text.proofs.spellings.Words.{dotted-pair}
 
 no_quote-identifier : (xs : List ℕ) → IsIdentifier xs → (i : ℕ) → i < length xs → get_or xs i 0 ≡ 39 → ⊥
 no_quote-identifier xs identifier i inside quote = both_ways (is_part_byte 39) refl (sym (ap is_part_byte quote) ∙ identifier-part xs identifier i inside)
@@ -18,16 +18,16 @@ no_quote-dot : (xs : List ℕ) → ((i : ℕ) → i < length xs → get_or xs i 
 no_quote-dot xs none zero inside quote = absurd (omega arith)
 no_quote-dot xs none (suc i) inside quote = none i (omega arith) quote
 
-no_quote-joined : (part : List ℕ) (more : List (List ℕ)) → IsIdentifier part → AllOf IsIdentifier more → (i : ℕ) → i < length (joined part more) → get_or (joined part more) i 0 ≡ 39 → ⊥
-no_quote-joined part [] identifier all = no_quote-identifier part identifier
-no_quote-joined part (next ∷ more) identifier all =
-    each-append (λ b. b ≡ 39 → ⊥) (joined part (next ∷ more)) part (46 ∷ joined next more) refl (no_quote-identifier part identifier)
-    (no_quote-dot (joined next more) (no_quote-joined next more all.0 all.1))
+no_quote-dotted_parts : (part : List ℕ) (more : List (List ℕ)) → IsIdentifier part → AllOf IsIdentifier more → (i : ℕ) → i < length (dotted_parts part more) → get_or (dotted_parts part more) i 0 ≡ 39 → ⊥
+no_quote-dotted_parts part [] identifier all = no_quote-identifier part identifier
+no_quote-dotted_parts part (next ∷ more) identifier all =
+    each-append (λ b. b ≡ 39 → ⊥) (dotted_parts part (next ∷ more)) part (46 ∷ dotted_parts next more) refl (no_quote-identifier part identifier)
+    (no_quote-dot (dotted_parts next more) (no_quote-dotted_parts next more all.0 all.1))
 
 pub no_quote-word : (xs : List ℕ) → IsDottedWord xs → (i : ℕ) → i < length xs → get_or xs i 0 ≡ 39 → ⊥
 no_quote-word xs dotted =
     subst (λ (ys : List ℕ). (i : ℕ) → i < length ys → get_or ys i 0 ≡ 39 → ⊥) (sym dotted.word.whole)
-    (no_quote-joined dotted.word.part dotted.word.more dotted.word.identifier dotted.word.identifiers)
+    (no_quote-dotted_parts dotted.word.part dotted.word.more dotted.word.identifier dotted.word.identifiers)
 
 pub no_quote-name : (xs : List ℕ) → IsLeftOutName xs → (i : ℕ) → i < length xs → get_or xs i 0 ≡ 39 → ⊥
 no_quote-name xs name i inside quote = both_ways (is_ascii_alphabetic 39) refl (sym (ap is_ascii_alphabetic quote) ∙ (left_out-letters xs name).letters i inside)

@@ -3,9 +3,9 @@ use Rattle.std.proofs.Common.{◌≡◌, ◌⊎◌, inl, inr, ⊎_elim, ℕ, ◌
 use Rattle.std.proofs.lemmas.Bool.{cases_lt}
 use Rattle.std.proofs.lemmas.List.{get_or-take, length-take-le, take_rest}
 use Rattle.std.proofs.lemmas.Str.{IsCharBoundary-after_ascii}
-use Rattle.odata_text.specs.Lengths.{IsReach}
+use Rattle.odata_text.specs.private.Lengths.{IsReach}
 use Rattle.odata_text.specs.Spelling.{IsByte}
-use Rattle.odata_text.proofs.Sequences.{IsExact, exact-by_length}
+use Rattle.odata_text.proofs.spellings.Sequences.{IsExact, exact-by_length}
 
 -- what is left of a text behind its first bytes
 pub left_of : (text bytes : List ℕ) (n : ℕ) → bytes ≡ text → take (length bytes - n) (drop n bytes) ≡ drop n text

@@ -7,7 +7,7 @@ use Rattle.std.proofs.lemmas.Bool.Decides.{nat_tests}
 use Rattle.std.proofs.lemmas.List.{get_or-map, length-map, length-take-le}
 use Rattle.std.proofs.lemmas.List.Sums.{prefix_len_passes}
 use Rattle.std.proofs.lemmas.Slice.Eq.{bytes_eq-Decides}
-use Rattle.odata_text.specs.Lengths.{IsReach}
+use Rattle.odata_text.specs.private.Lengths.{IsReach}
 use Rattle.odata_text.specs.Spelling.{IsLeftOutName, IsNamed}
 
 same-lowered : (name xs : List ℕ) → IsNamed name xs → str_to_ascii_lowercase xs ≡ str_to_ascii_lowercase name

@@ -11,7 +11,7 @@ use Rattle.std.proofs.lemmas.List.Sums.{take_while-cons}
 use Rattle.std.proofs.Math.Utf8.{scalar, encode}
 use Rattle.std.proofs.lemmas.Str.{chars-nil, chars-append, chars-encodes, encodes-append, encodes-chars, scalars-chars, length-encode, IsCharBoundary-at_seam, IsCharBoundary-from_take}
 use Rattle.odata_text.specs.Identifier.{IsIdentifier, begins_identifier, continues_identifier, identifier_run, is_identifier}
-use Rattle.odata_text.specs.Lengths.{IsReach}
+use Rattle.odata_text.specs.private.Lengths.{IsReach}
 
 -- Lists of characters.
 

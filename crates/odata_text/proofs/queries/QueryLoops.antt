@@ -13,10 +13,10 @@ use Rattle.std.proofs.lemmas.List.Sums.{count_by_more_yes, count_by_more_no, pre
 use Rattle.std.proofs.Math.Seq.{take-length}
 use Rattle.percent_encoding.specs.Percent.{percent_decode}
 use Rattle.odata_text.specs.Query.{AreFaultless, HasFilter, IsFilterOf, IsOptionFault, IsQueryFault, IsReadable, is_bad_escape, is_filter, name_of, option_start, options_of, value_of}
-use Rattle.odata_text.specs.QueryParts.{AreTwo, IsFirstBad, Joins, Says}
+use Rattle.odata_text.specs.private.QueryParts.{AreTwoFilters, IsFirstBad, KeepsFilter, GivesFilter}
 use Rattle.odata_text.specs.declared.query_fault.QueryFault.{QueryFault}
 use Rattle.odata_text.specs.declared.query_fault.QueryFault.TheVariants.{Repeated}
-use Rattle.odata_text.proofs.Queries.{filter-counted}
+use Rattle.odata_text.proofs.queries.Queries.{filter-counted}
 
 -- Escapes.
 
@@ -175,14 +175,14 @@ read-found query option text number start so_far next read is says =
       begins = next-start query option number start so_far.begins next;
     }
 
-pub read-joined : (query option : List ℕ) (number start : ℕ) (filter found kept : Option (List ℕ)) → IsReadSoFar query number start filter → IsNext query number option → IsReadable option → Says option found → Joins filter found kept → IsReadSoFar query (number + 1) (start + (length option + 1)) kept
-read-joined query option number start None None kept so_far next read says joins =
+pub read-kept : (query option : List ℕ) (number start : ℕ) (filter found kept : Option (List ℕ)) → IsReadSoFar query number start filter → IsNext query number option → IsReadable option → GivesFilter option found → KeepsFilter filter found kept → IsReadSoFar query (number + 1) (start + (length option + 1)) kept
+read-kept query option number start None None kept so_far next read says joins =
     subst (IsReadSoFar query (number + 1) (start + (length option + 1))) (sym joins) (read-passed query option number start None so_far next read says)
-read-joined query option number start None (Some text) kept so_far next read says joins =
+read-kept query option number start None (Some text) kept so_far next read says joins =
     subst (IsReadSoFar query (number + 1) (start + (length option + 1))) (sym joins) (read-found query option text number start so_far next read says.0 says.1)
-read-joined query option number start (Some text) None kept so_far next read says joins =
+read-kept query option number start (Some text) None kept so_far next read says joins =
     subst (IsReadSoFar query (number + 1) (start + (length option + 1))) (sym joins) (read-passed query option number start (Some text) so_far next read says)
-read-joined query option number start (Some text) (Some other) kept so_far next read says joins = absurd joins
+read-kept query option number start (Some text) (Some other) kept so_far next read says joins = absurd joins
 
 pub read-fault : (query option : List ℕ) (number start : ℕ) (filter : Option (List ℕ)) (fault : QueryFault) → IsReadSoFar query number start filter → IsNext query number option → ((filters : ℕ) → IsOptionFault option number start filters fault) → IsQueryFault query fault
 read-fault query option number start filter fault so_far next faulty =
@@ -207,7 +207,7 @@ read-repeated query option text number start so_far next read is =
           (inr (inr (read.name, read.value, (refl, is, some))));
     }
 
-pub read-two : (query option : List ℕ) (number start : ℕ) (filter found : Option (List ℕ)) → IsReadSoFar query number start filter → IsNext query number option → IsReadable option → Says option found → AreTwo filter found → IsQueryFault query (Repeated number)
+pub read-two : (query option : List ℕ) (number start : ℕ) (filter found : Option (List ℕ)) → IsReadSoFar query number start filter → IsNext query number option → IsReadable option → GivesFilter option found → AreTwoFilters filter found → IsQueryFault query (Repeated number)
 read-two query option number start None None so_far next read says two = absurd two
 read-two query option number start None (Some text) so_far next read says two = absurd two
 read-two query option number start (Some text) None so_far next read says two = absurd two

@@ -2,11 +2,11 @@
 use Rattle.std.proofs.Common.{◌≡◌, ℕ, zero, suc, ◌<◌, ◌≤◌, true, false, List, [], ◌∷◌, ◌++◌, length, get_or, take, arith, refl, sym, ◌∙◌, ap}
 use Rattle.std.proofs.lemmas.Bool.{both_ways}
 use Rattle.std.proofs.lemmas.List.{get_or-take, length-take-le}
-use Rattle.odata_text.specs.Lengths.{IsReach}
-use Rattle.odata_text.specs.Patterns.{Fits, passes}
+use Rattle.odata_text.specs.private.Lengths.{IsReach}
+use Rattle.odata_text.specs.private.Patterns.{Fits, passes}
 use Rattle.odata_text.specs.Sequence.{FollowedBy}
 use Rattle.odata_text.specs.declared.byte_test.ByteTest.{ByteTest}
-use Rattle.odata_text.proofs.Sequences.{IsExact, exact-by_length}
+use Rattle.odata_text.proofs.spellings.Sequences.{IsExact, exact-by_length}
 
 pub fits-length : (tests : List ByteTest) (bytes : List ℕ) → Fits tests bytes → length bytes ≡ length tests
 fits-length [] [] fits = refl

@@ -4,14 +4,14 @@ use Rattle.odata_text.specs.declared.token.TokenKind.{TokenKind}
 use Rattle.odata_text.specs.declared.token.Token.{Token}
 
 -- a kind, a place in bytes, and the bytes there
-pub record Piece : Type 0 where
+pub record TokenModel : Type 0 where
   pub kind : TokenKind
   pub start : ℕ
   pub stop : ℕ
   pub text : List ℕ
 
-abbrev pub piece_of : Token → Piece
-piece_of t = record { kind = t.kind; start = t.span.start; stop = t.span.stop; text = t.text.now }
+abbrev pub token_model : Token → TokenModel
+token_model t = record { kind = t.kind; start = t.span.start; stop = t.span.stop; text = t.text.now }
 
-abbrev pub pieces_of : List Token → List Piece
-pieces_of = map piece_of
+abbrev pub token_models : List Token → List TokenModel
+token_models = map token_model

@@ -10,13 +10,13 @@ use Rattle.std.proofs.lemmas.List.{get_or-take, length-drop, length-take-le}
 use Rattle.std.proofs.lemmas.Str.Parse.{digit_at}
 use Rattle.edm_values.specs.IntLiteral.{IsIntSpelling}
 use Rattle.odata_text.specs.LeftOut.{IsDecimals, IsExponent, IsFraction}
-use Rattle.odata_text.specs.Lengths.{IsReach}
-use Rattle.odata_text.specs.Patterns.{Fits, passes}
+use Rattle.odata_text.specs.private.Lengths.{IsReach}
+use Rattle.odata_text.specs.private.Patterns.{Fits, passes}
 use Rattle.odata_text.specs.Sequence.{FollowedBy}
 use Rattle.odata_text.specs.declared.byte_test.ByteTest.TheVariants.{Dot, ExponentMark}
-use Rattle.odata_text.proofs.Patterns.{marked-from_pair, pair-from_marked}
-use Rattle.odata_text.proofs.Reaches.{digits-reach}
-use Rattle.odata_text.proofs.Sequences.{IsExact, exact-by_byte, pair-found, pair_at}
+use Rattle.odata_text.proofs.spellings.Patterns.{marked-from_pair, pair-from_marked}
+use Rattle.odata_text.proofs.spellings.Reaches.{digits-reach}
+use Rattle.odata_text.proofs.spellings.Sequences.{IsExact, exact-by_byte, pair-found, pair_at}
 
 -- A mark, and digits or a whole number.
 

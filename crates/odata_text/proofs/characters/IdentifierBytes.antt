@@ -14,7 +14,7 @@ use Rattle.unicode.proofs.Facts.{Stepped-below, same_from_beq}
 use Rattle.unicode.proofs.CategoryComputing.{ucd_category}
 use Rattle.unicode.proofs.GeneralCategoryLemmas.{general_category_stepped}
 use Rattle.odata_text.specs.Identifier.{IsIdentifier, begins_identifier, continues_identifier, identifier_run, is_following, is_identifier, is_leading}
-use Rattle.odata_text.proofs.Identifiers.{all-from_identifier}
+use Rattle.odata_text.proofs.characters.Identifiers.{all-from_identifier}
 
 -- letters and `_`
 abbrev pub is_first_byte : ℕ → Bool

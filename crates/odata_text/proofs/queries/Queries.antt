@@ -6,7 +6,7 @@ use Rattle.std.proofs.lemmas.List.{get_or-take, length-take-le, get_or_default}
 use Rattle.std.proofs.lemmas.List.Sums.{get_or-le-sum_by, sum_by_more_le}
 use Rattle.std.proofs.Math.Seq.{take-length}
 use Rattle.percent_encoding.specs.Percent.{percent_decode}
-use Rattle.odata_text.specs.Query.{AreFaultless, HasFilter, IsFilterOf, IsFirstBadEscape, IsNameFault, IsNoText, IsOptionFault, IsPartFault, IsQueryFault, IsReadable, IsSound, decoded_name, is_filter, is_filter_name, is_refused_name, name_of, option_start, options_of, value_of}
+use Rattle.odata_text.specs.Query.{AreFaultless, HasFilter, IsFilterOf, IsFirstBadEscape, IsNameFault, IsNoText, IsOptionFault, IsPartFault, IsQueryFault, IsReadable, IsDecodable, decoded_name, is_filter, is_filter_name, is_refused_name, name_of, option_start, options_of, value_of}
 use Rattle.odata_text.specs.declared.query_fault.QueryFault.{QueryFault}
 use Rattle.odata_text.specs.declared.query_fault.QueryFault.TheVariants.{BadEscape, NotUtf8, Repeated, OtherOption, Memory}
 
@@ -41,7 +41,7 @@ none-before p xs i j d few order inside passes_i passes_j =
 
 -- Names and values.
 
-unsound : (part : List ℕ) (number start : ℕ) (fault : QueryFault) → IsSound part → IsPartFault part number start fault → ⊥
+unsound : (part : List ℕ) (number start : ℕ) (fault : QueryFault) → IsDecodable part → IsPartFault part number start fault → ⊥
 unsound part number start (BadEscape place) sound fault = both_ways _ (sound.escapes fault.within) fault.bad
 unsound part number start (NotUtf8 option) sound fault = let none = fault.1 in none.not_utf8 sound.utf8
 unsound part number start (Repeated option) sound fault = fault

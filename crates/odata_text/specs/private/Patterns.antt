@@ -1,4 +1,4 @@
--- Patterns of bytes, and the parts of a moment. Private clauses alone cite these.
+-- Patterns of bytes, and the parts of a moment.
 use Rattle.std.specs.Prelude.{◌≡◌, ◌⊎◌, ℕ, ◌==◌, ◌||◌, Bool, true, List, [], ◌∷◌}
 use Rattle.std.specs.Char.{is_ascii_digit, is_ascii_hexdigit}
 use Rattle.edm_values.specs.MomentLiteral.{IsClockSpelling, IsOffsetSpelling, IsSecondsSpelling}

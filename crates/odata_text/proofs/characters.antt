@@ -1,0 +1,3 @@
+pub mod ByteClasses
+pub mod IdentifierBytes
+pub mod Identifiers

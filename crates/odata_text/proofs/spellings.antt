@@ -1,0 +1,11 @@
+pub mod Decimals
+pub mod Fronts
+pub mod Guids
+pub mod Names
+pub mod Parts
+pub mod Patterns
+pub mod Quotes
+pub mod Reaches
+pub mod Sequences
+pub mod Times
+pub mod Words
