@@ -3,21 +3,28 @@ ghost use Rattle.odata_text.specs.declared.fault.TextFault.TheVariants.{Memory};
 
 use super::span::Span;
 use std::alloc::AllocFailed;
+use thiserror::Error;
 
 /// Why a text has no tokens: its first fault from the left, with its place in bytes.
-#[derive(Clone, Copy, Debug, PartialEq, Eq)]
+#[derive(Clone, Copy, Debug, PartialEq, Eq, Error)]
 pub enum TextFault {
     /// A character with which no token begins.
+    #[error("BadCharacter {span}")]
     BadCharacter { span: Span },
     /// A `'` that no other one closes, up to the end of the text.
+    #[error("UnclosedString {span}")]
     UnclosedString { span: Span },
     /// A literal of the standard that is no part of this profile.
+    #[error("LeftOutLiteral {span}")]
     LeftOutLiteral { span: Span },
     /// A number, date, moment or Guid directly followed by identifier characters, up to the last of these.
+    #[error("RunOn {span}")]
     RunOn { span: Span },
     /// The whole text, or the first token more than there may be.
+    #[error("TooLong {span}")]
     TooLong { span: Span },
     /// No memory was left for the tokens.
+    #[error("memory")]
     Memory,
 }
 
