@@ -10,6 +10,7 @@ pub mod Identifier
 pub mod LeftOut
 pub mod Printing
 pub mod Query
+pub mod QueryExamples
 pub mod Sequence
 pub mod Spelling
 pub mod TokenExamples

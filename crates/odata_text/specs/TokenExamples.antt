@@ -2,9 +2,9 @@
 use Rattle.std.specs.Prelude.{ℕ, List, [], ◌∷◌, codes, slice_range}
 use Rattle.odata_text.specs.TokenModel.{TokenModel}
 use Rattle.odata_text.specs.declared.token.TokenKind.{TokenKind}
-use Rattle.odata_text.specs.declared.token.TokenKind.TheVariants.{Word, Int, Str}
+use Rattle.odata_text.specs.declared.token.TokenKind.TheVariants.{Word, Int, Moment, Str, EnumLit}
 
--- the piece of a text from one place to another
+-- the token of a text from one place to another
 abbrev pub token_in : List ℕ → TokenKind → ℕ → ℕ → TokenModel
 token_in text kind start stop = record { kind = kind; start = start; stop = stop; text = slice_range text start stop }
 
@@ -23,6 +23,24 @@ plain_tokens =
     ∷ token_in plain_filter Word 28 30
     ∷ token_in plain_filter Str 31 34
     ∷ []
+
+-- a moment, which begins with what could be a date
+abbrev pub moment_filter : List ℕ
+moment_filter = codes "Changed gt 2020-01-01T00:00Z"
+
+abbrev pub moment_tokens : List TokenModel
+moment_tokens = token_in moment_filter Word 0 7 ∷ token_in moment_filter Word 8 10 ∷ token_in moment_filter Moment 11 28 ∷ []
+
+-- a dotted word and a text in quotes
+abbrev pub enumeration_filter : List ℕ
+enumeration_filter = codes "a.b'x'"
+
+abbrev pub enumeration_tokens : List TokenModel
+enumeration_tokens = token_in enumeration_filter EnumLit 0 6 ∷ []
+
+-- a number with a fraction
+abbrev pub fraction_filter : List ℕ
+fraction_filter = codes "1.5"
 
 -- a number with letters directly behind it
 abbrev pub run_on_filter : List ℕ

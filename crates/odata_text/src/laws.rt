@@ -3,7 +3,8 @@
 ghost use Rattle.std.specs.Prelude.{◌≡◌, ◌≤◌, ℕ, List, length};
 ghost use Rattle.odata_text.specs.TokenModel.{TokenModel};
 ghost use Rattle.odata_text.specs.Printing.{ArePrintable, Print, print_tokens, print_text};
-ghost use Rattle.odata_text.specs.TokenExamples.{plain_filter, plain_tokens, run_on_filter};
+ghost use Rattle.odata_text.specs.TokenExamples.{enumeration_filter, enumeration_tokens, fraction_filter};
+ghost use Rattle.odata_text.specs.TokenExamples.{moment_filter, moment_tokens, plain_filter, plain_tokens, run_on_filter};
 ghost use Rattle.odata_text.specs.Tokens.{IsTextFault, IsTokenList, text_limit, token_limit};
 ghost use Rattle.odata_text.specs.declared.fault.TextFault.{TextFault};
 
@@ -20,6 +21,22 @@ pub fn one_reading()
 /// `Active and ID eq 1 and Name eq 'a'` has nine tokens.
 pub fn plain_reading()
     ensures { IsTokenList plain_filter plain_tokens }
+{}
+
+/// `Changed gt 2020-01-01T00:00Z` ends in a moment.
+pub fn moment_reading()
+    ensures { IsTokenList moment_filter moment_tokens }
+{}
+
+/// `a.b'x'` is one token, an enumeration literal.
+pub fn enumeration_reading()
+    ensures { IsTokenList enumeration_filter enumeration_tokens }
+{}
+
+/// `1.5` is a literal that is left out, and so has no tokens.
+pub fn fraction_reading()
+    ensures fault { IsTextFault fraction_filter (TextFault.LeftOutLiteral (record { start = 0; stop = 3 })) }
+    ensures none { (list : List TokenModel) → IsTokenList fraction_filter list → ⊥ }
 {}
 
 /// `1st` is a number that runs on up to its third byte, and so has no tokens.

@@ -1,7 +1,8 @@
 //! What the definitions of a query's filter and of its first fault say of every query.
 
-ghost use Rattle.std.specs.Prelude.{◌≡◌, ℕ, List, Option};
+ghost use Rattle.std.specs.Prelude.{◌≡◌, ℕ, List, Option, Some};
 ghost use Rattle.odata_text.specs.Query.{IsFilterOf, IsQueryFault};
+ghost use Rattle.odata_text.specs.QueryExamples.{escaped_filter, escaped_query, paged_query};
 ghost use Rattle.odata_text.specs.declared.query_fault.QueryFault.{QueryFault};
 
 /// A query has at most one filter or first fault, and never both.
@@ -12,4 +13,14 @@ pub fn one_query_reading()
         → IsQueryFault query first → IsQueryFault query second → first ≡ second }
     ensures not_both { (query : List ℕ) (filter : Option (List ℕ)) (fault : QueryFault)
         → IsFilterOf query filter → IsQueryFault query fault → ⊥ }
+{}
+
+/// `$filter=a%2Bb%26c` asks for `a+b&c`.
+pub fn escaped_query_reading()
+    ensures { IsFilterOf escaped_query (Some escaped_filter) }
+{}
+
+/// `$top=5&$filter=Active` has another system query option in front.
+pub fn paged_query_reading()
+    ensures { IsQueryFault paged_query (QueryFault.OtherOption 0) }
 {}

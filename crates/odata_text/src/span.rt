@@ -1,4 +1,4 @@
-use std::fmt;
+use std::fmt::{self, Display, Formatter, Write};
 
 /// A place in the decoded text, in bytes: from `start` up to `stop`.
 ///
@@ -9,8 +9,8 @@ pub struct Span {
     pub stop: usize,
 }
 
-impl fmt::Display for Span {
-    fn fmt(&self, f: &mut fmt::Formatter<'_>) -> fmt::Result {
+impl Display for Span {
+    fn fmt<W: Write>(&self, f: &mut Formatter<W>) -> Result<(), fmt::Error> {
         write!(f, "{}..{}", self.start, self.stop)
     }
 }

@@ -149,7 +149,7 @@ take_while-ascii (b ∷ bs) all =
     ∙ ap (λ (xs : List ℕ). cond (is_name_byte b) (b ∷ xs) []) (take_while-ascii bs parts.1)
     ∙ sym (take_while-cons is_name_byte b bs)
 
-all-ascii : (bs : List ℕ) → list_all is_ascii bs ≡ true → IsAscii bs
+pub all-ascii : (bs : List ℕ) → list_all is_ascii bs ≡ true → IsAscii bs
 all-ascii [] all = IsAscii-nil
 all-ascii (b ∷ bs) all =
     let parts = and_parts (is_ascii b) (list_all is_ascii bs) all in

@@ -36,7 +36,7 @@ good-more part place so_far this =
           (cases_lt earlier place);
     }
 
-outside-good : (part : List ℕ) (place : ℕ) → length part ≤ place → is_bad_escape part place ≡ false
+pub outside-good : (part : List ℕ) (place : ℕ) → length part ≤ place → is_bad_escape part place ≡ false
 outside-good part place outside = and_left _ _ (ap (λ (b : ℕ). b == 37) (get_or_past part place 0 outside))
 
 pub good-all : (part : List ℕ) → IsGoodSoFar part (length part) → (place : ℕ) → is_bad_escape part place ≡ false

@@ -6,14 +6,15 @@ use Rattle.std.proofs.lemmas.List.Elements.{All-cons, All-nil}
 use Rattle.edm_values.specs.IntLiteral.{IsIntSpelling}
 use Rattle.odata_text.specs.ByteClass.{class_of}
 use Rattle.odata_text.specs.Printing.{ArePrintable, Print}
-use Rattle.odata_text.specs.Spelling.{Spells}
-use Rattle.odata_text.specs.TokenExamples.{plain_filter, plain_tokens, run_on_filter}
-use Rattle.odata_text.specs.Tokens.{IsFaultBehind, IsTokenList}
+use Rattle.odata_text.specs.Spelling.{IsFormed, Spells}
+use Rattle.odata_text.specs.TokenExamples.{enumeration_filter, enumeration_tokens, fraction_filter, moment_filter, moment_tokens, plain_filter, plain_tokens, run_on_filter}
+use Rattle.odata_text.specs.Tokens.{IsFaultBehind, IsGap, IsTokenList}
 use Rattle.odata_text.specs.declared.byte_class.ByteClass.TheVariants.{Space}
-use Rattle.odata_text.specs.declared.fault.TextFault.TheVariants.{RunOn}
-use Rattle.odata_text.specs.declared.form.Form.TheVariants.{Token}
+use Rattle.odata_text.specs.declared.fault.TextFault.TheVariants.{LeftOutLiteral, RunOn}
+use Rattle.odata_text.specs.declared.form.Form.TheVariants.{Token, LeftOut}
+use Rattle.odata_text.specs.declared.form.LeftOutKind.TheVariants.{Number}
 use Rattle.odata_text.specs.declared.token.TokenKind.{TokenKind}
-use Rattle.odata_text.specs.declared.token.TokenKind.TheVariants.{Word, Int, Str}
+use Rattle.odata_text.specs.declared.token.TokenKind.TheVariants.{Word, Int, Moment, Str, EnumLit}
 use Rattle.odata_text.proofs.characters.IdentifierBytes.{ascii-identifier, is_ascii_name, run-ascii}
 use Rattle.odata_text.proofs.readings.Places.{run_on}
 use Rattle.odata_text.proofs.readings.Prints.{printed-list}
@@ -53,6 +54,10 @@ plain_printable =
 pub plain_list : IsTokenList plain_filter plain_tokens
 plain_list = printed-list plain_prints plain_printable (omega arith) (omega arith)
 
+-- no white space in front
+start_gap : (text : List ℕ) → IsGap text 0 0
+start_gap text = record { order = omega arith; within = omega arith; white = λ i low high. absurd (omega arith) }
+
 pub run_on_fault : IsFaultBehind run_on_filter (RunOn (record { start = 0; stop = 3 }))
 unfolding lib.Utf8.encode
 run_on_fault = record {
@@ -61,6 +66,61 @@ run_on_fault = record {
   few = omega arith;
   tokens = tt;
   place = 0;
-  gap = record { order = omega arith; within = omega arith; white = λ i low high. absurd (omega arith) };
+  gap = start_gap run_on_filter;
   fault_at = (refl, run_on run_on_filter 0 1 2 Int (longest-dead (Token Int) run_on_filter 1 (omega arith) one (λ more. tt)) refl (sym (run-ascii (codes "st") refl)) (omega arith));
+}
+
+moment : Spells Moment (codes "2020-01-01T00:00Z")
+moment = record {
+  date = codes "2020-01-01";
+  letter = 84;
+  clock = codes "00:00";
+  seconds = [];
+  offset = codes "Z";
+  spelled = refl;
+  is_date = (2020, 1, 1, omega arith, omega arith, omega arith, refl);
+  is_letter = inl refl;
+  is_clock = (0, 0, omega arith, omega arith, refl);
+  is_seconds = inl refl;
+  is_offset = inl refl;
+}
+
+pub moment_list : IsTokenList moment_filter moment_tokens
+moment_list =
+    printed-list (spaced Word (codes "Changed") ∷ spaced Word (codes "gt") ∷ last Moment (codes "2020-01-01T00:00Z") ∷ [])
+    (word (codes "Changed") refl, (blank, (refl, (word (codes "gt") refl, (blank, (refl, (moment, (none, (tt, tt))))))))) (omega arith) (omega arith)
+
+enumeration : Spells EnumLit (codes "a.b'x'")
+enumeration = record {
+  front = codes "a.b";
+  back = codes "'x'";
+  whole = refl;
+  is_front = record {
+    word = record {
+      part = codes "a";
+      more = codes "b" ∷ [];
+      identifier = ascii-identifier (codes "a") refl;
+      identifiers = (ascii-identifier (codes "b") refl, tt);
+      whole = refl;
+    };
+    dotted = omega arith;
+  };
+  is_back = (codes "x", refl);
+}
+
+pub enumeration_list : IsTokenList enumeration_filter enumeration_tokens
+enumeration_list = printed-list (last EnumLit enumeration_filter ∷ []) (enumeration, (none, (tt, tt))) (omega arith) (omega arith)
+
+fraction : IsFormed (LeftOut Number) fraction_filter
+fraction = record { front = codes "1"; back = codes ".5"; whole = refl; is_front = one; is_back = inl (refl, (omega arith, (omega arith, tt))) }
+
+pub fraction_fault : IsFaultBehind fraction_filter (LeftOutLiteral (record { start = 0; stop = 3 }))
+fraction_fault = record {
+  short = omega arith;
+  before = [];
+  few = omega arith;
+  tokens = tt;
+  place = 0;
+  gap = start_gap fraction_filter;
+  fault_at = (refl, record { kind = Number; order = omega arith; longest = longest-dead (LeftOut Number) fraction_filter 3 (omega arith) fraction (λ more. absurd (omega arith)) });
 }

@@ -1,0 +1,53 @@
+-- Queries whose filter or first fault is known.
+use Rattle.std.proofs.Common.{◌≡◌, inr, ⊎_elim, ℕ, ◌<◌, ◌≤◌, Bool, true, false, List, [], ◌∷◌, codes, length, take, Some, All, IsUtf8, arith, refl, sym, ◌∙◌, subst}
+use Rattle.std.specs.Bool.{beq}
+use Rattle.std.specs.Char.{is_ascii}
+use Rattle.std.specs.List.{list_all}
+use Rattle.std.specs.Str.{IsAscii}
+use Rattle.std.proofs.lemmas.Bool.{agree_below, agree_below_at, cases_lt}
+use Rattle.std.proofs.lemmas.List.Elements.{All-cons, All-nil}
+use Rattle.std.proofs.lemmas.Str.{IsUtf8-from_ascii}
+use Rattle.percent_encoding.specs.Percent.{percent_decode}
+use Rattle.odata_text.specs.Query.{IsDecodable, IsFilterOf, IsQueryFault, IsReadable, is_bad_escape, is_filter_name, is_refused_word, name_of, value_of}
+use Rattle.odata_text.specs.QueryExamples.{escaped_filter, escaped_query, paged_query}
+use Rattle.odata_text.specs.declared.query_fault.QueryFault.TheVariants.{OtherOption}
+use Rattle.odata_text.proofs.characters.IdentifierBytes.{all-ascii}
+use Rattle.odata_text.proofs.queries.QueryLoops.{outside-good}
+
+-- a part of ASCII bytes whose escapes are whole, by computing
+decodable : (part : List ℕ) → agree_below (is_bad_escape part) (λ place. false) (length part) ≡ true → list_all is_ascii (percent_decode part) ≡ true → IsDecodable part
+decodable part whole ascii = record {
+  escapes = λ place. ⊎_elim
+      (λ inside. agree_below_at (is_bad_escape part) (λ k. false) (length part) place whole inside)
+      (λ past. outside-good part place past)
+      (cases_lt place (length part));
+  utf8 = IsUtf8-from_ascii (percent_decode part) (all-ascii (percent_decode part) ascii);
+}
+
+filter_name : IsDecodable (codes "$filter")
+unfolding percent_decode
+filter_name = decodable (codes "$filter") refl refl
+
+filter_value : IsDecodable (codes "a%2Bb%26c")
+unfolding percent_decode
+filter_value = decodable (codes "a%2Bb%26c") refl refl
+
+escaped_option : IsReadable (codes "$filter=a%2Bb%26c")
+unfolding percent_decode name_of value_of is_filter_name is_refused_word
+escaped_option = record { name = filter_name; value = filter_value; known = refl }
+
+pub escaped-filter : IsFilterOf escaped_query (Some escaped_filter)
+unfolding percent_decode name_of value_of is_filter_name
+escaped-filter = record {
+  faultless = record { readable = All-cons IsReadable (codes "$filter=a%2Bb%26c") [] escaped_option (All-nil IsReadable); single = omega arith };
+  has = (0, codes "$filter=a%2Bb%26c", omega arith, refl, (refl, refl));
+}
+
+pub paged-fault : IsQueryFault paged_query (OtherOption 0)
+unfolding percent_decode name_of value_of is_filter_name is_refused_word
+paged-fault = record {
+  number = 0;
+  within = omega arith;
+  before = record { readable = All-nil IsReadable; single = omega arith };
+  at = inr (inr (decodable (codes "$top") refl refl, decodable (codes "5") refl refl, (refl, refl)));
+}
