@@ -6,31 +6,24 @@ ghost use Rattle.odata_text.specs.private.Lengths.{IsReach};
 
 use super::byte_test::{ByteTest, pattern_length};
 use super::number::{digit_run, int_length};
+use super::pattern::{both_length, longer};
 
 /// How many bytes the dot and the digits at the front take, 0 if there are none.
 pub fn fraction_length(rest: &[u8]) -> usize
     ensures { IsReach IsFraction result rest.now }
 {
-    match pattern_length(&[ByteTest::Dot], rest) {
-        0 => 0,
-        dot => match digit_run(&rest[dot..]) {
-            0 => 0,
-            digits => dot + digits,
-        },
-    }
+    let dot = pattern_length(&[ByteTest::Dot], rest);
+    let digits = digit_run(&rest[dot..]);
+    both_length(dot, digits)
 }
 
 /// How many bytes the exponent at the front takes, 0 if there is none.
 fn exponent_length(rest: &[u8]) -> usize
     ensures { IsReach IsExponent result rest.now }
 {
-    match pattern_length(&[ByteTest::ExponentMark], rest) {
-        0 => 0,
-        mark => match int_length(&rest[mark..]) {
-            0 => 0,
-            power => mark + power,
-        },
-    }
+    let mark = pattern_length(&[ByteTest::ExponentMark], rest);
+    let power = int_length(&rest[mark..]);
+    both_length(mark, power)
 }
 
 /// How many bytes the fraction, the exponent or both take at the front, 0 if there is neither.
@@ -38,18 +31,16 @@ fn decimals_length(rest: &[u8]) -> usize
     ensures { IsReach IsDecimals result rest.now }
 {
     let fraction = fraction_length(rest);
-    fraction + exponent_length(&rest[fraction..])
+    let behind = exponent_length(&rest[fraction..]);
+    let both = both_length(fraction, behind);
+    longer(fraction, longer(exponent_length(rest), both))
 }
 
 /// How many bytes the number with a fraction, an exponent or both at the front takes, 0 if there is none.
 pub fn decimal_length(rest: &[u8]) -> usize
     ensures { IsReach IsDecimalSpelling result rest.now }
 {
-    match int_length(rest) {
-        0 => 0,
-        whole => match decimals_length(&rest[whole..]) {
-            0 => 0,
-            decimals => whole + decimals,
-        },
-    }
+    let whole = int_length(rest);
+    let decimals = decimals_length(&rest[whole..]);
+    both_length(whole, decimals)
 }

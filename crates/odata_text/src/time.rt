@@ -7,6 +7,7 @@ ghost use Rattle.odata_text.specs.private.Patterns.{IsTimed, IsZoned};
 use super::byte_test::ByteTest::{self, Colon, Digit, Hyphen, OffsetMark, Sign, TimeMark};
 use super::byte_test::pattern_length;
 use super::decimal::fraction_length;
+use super::pattern::{both_length, longer};
 
 /// `YYYY-MM-DD`.
 const DATE: [ByteTest; 10] = [
@@ -46,10 +47,9 @@ fn seconds_length(rest: &[u8]) -> usize
 fn offset_length(rest: &[u8]) -> usize
     ensures { IsReach IsOffsetSpelling result rest.now }
 {
-    match pattern_length(&[OffsetMark], rest) {
-        0 => pattern_length(&SIGNED_CLOCK, rest),
-        mark => mark,
-    }
+    let mark = pattern_length(&[OffsetMark], rest);
+    let clock = pattern_length(&SIGNED_CLOCK, rest);
+    longer(mark, clock)
 }
 
 /// How many bytes the seconds, if any, and the offset at the front take, 0 if there is no offset.
@@ -67,26 +67,18 @@ fn zoned_length(rest: &[u8]) -> usize
 fn timed_length(rest: &[u8]) -> usize
     ensures { IsReach IsTimed result rest.now }
 {
-    match pattern_length(&MARKED_CLOCK, rest) {
-        0 => 0,
-        clock => match zoned_length(&rest[clock..]) {
-            0 => 0,
-            zoned => clock + zoned,
-        },
-    }
+    let clock = pattern_length(&MARKED_CLOCK, rest);
+    let zoned = zoned_length(&rest[clock..]);
+    both_length(clock, zoned)
 }
 
 /// How many bytes the moment at the front takes, 0 if there is none.
 pub fn moment_length(rest: &[u8]) -> usize
     ensures { IsReach IsMomentSpelling result rest.now }
 {
-    match date_length(rest) {
-        0 => 0,
-        date => match timed_length(&rest[date..]) {
-            0 => 0,
-            timed => date + timed,
-        },
-    }
+    let date = date_length(rest);
+    let timed = timed_length(&rest[date..]);
+    both_length(date, timed)
 }
 
 /// How many bytes the time of day at the front takes, 0 if there is none.

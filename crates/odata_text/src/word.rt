@@ -1,11 +1,11 @@
-ghost use Rattle.std.specs.Prelude.{◌≡◌, IsCharBoundary, max};
+ghost use Rattle.std.specs.Prelude.{◌≡◌, IsCharBoundary};
 ghost use Rattle.odata_text.specs.private.Lengths.{IsReach};
 ghost use Rattle.odata_text.specs.Spelling.{IsDottedWord, IsLeftOutName, IsNamed, IsWordSpelling, Spells, SpellsLeftOut};
 
 use super::ascii_case::is_named;
 use super::form::LeftOutKind;
 use super::identifier::identifier_length;
-use super::pattern::byte_length;
+use super::pattern::{both_length, byte_length, longer};
 use super::quoted::string_length;
 use super::token::TokenKind;
 
@@ -43,26 +43,18 @@ fn dotted_length(rest: &str) -> usize
 pub fn dollar_length(rest: &str) -> usize
     ensures { IsReach (Spells TokenKind.Dollar) result rest.now }
 {
-    match byte_length(b'$', rest.as_bytes()) {
-        0 => 0,
-        mark => match identifier_length(&rest[mark..]) {
-            0 => 0,
-            name => mark + name,
-        },
-    }
+    let mark = byte_length(b'$', rest.as_bytes());
+    let name = identifier_length(&rest[mark..]);
+    both_length(mark, name)
 }
 
 /// How many bytes the enumeration literal at the front takes, 0 if there is none.
 pub fn enum_length(rest: &str) -> usize
     ensures { IsReach (Spells TokenKind.EnumLit) result rest.now }
 {
-    match dotted_length(rest) {
-        0 => 0,
-        word => match string_length(&rest.as_bytes()[word..]) {
-            0 => 0,
-            text => word + text,
-        },
-    }
+    let word = dotted_length(rest);
+    let text = string_length(&rest.as_bytes()[word..]);
+    both_length(word, text)
 }
 
 /// The length of the name, if it stands at the front in any case of its letters, else 0.
@@ -86,21 +78,11 @@ fn left_out_name_length(rest: &[u8]) -> usize
     longer(duration, longer(binary, longer(geography, geometry)))
 }
 
-fn longer(first: usize, second: usize) -> usize
-    ensures { result ≡ max first second }
-{
-    if first < second { second } else { first }
-}
-
 /// How many bytes the name of a type that is left out and the text in quotes at the front take, 0 if there are none.
 pub fn quoted_length(rest: &[u8]) -> usize
     ensures { IsReach (SpellsLeftOut LeftOutKind.Quoted) result rest.now }
 {
-    match left_out_name_length(rest) {
-        0 => 0,
-        name => match string_length(&rest[name..]) {
-            0 => 0,
-            text => name + text,
-        },
-    }
+    let name = left_out_name_length(rest);
+    let text = string_length(&rest[name..]);
+    both_length(name, text)
 }

@@ -113,12 +113,7 @@ names-continue (b ∷ bs) all =
     let parts = and_parts (is_name_byte b) (list_all is_name_byte bs) all in
     and_from (continues_identifier b) (list_all continues_identifier bs) (continues-ascii b (name-ascii b parts.0) ∙ parts.0) (names-continue bs parts.1)
 
-pub names-at : (bs : List ℕ) → list_all is_name_byte bs ≡ true → (k : ℕ) → k < length bs → is_name_byte (get_or bs k 0) ≡ true
-names-at [] all k below = absurd (omega arith)
-names-at (b ∷ bs) all zero below = (and_parts (is_name_byte b) (list_all is_name_byte bs) all).0
-names-at (b ∷ bs) all (suc k) below = names-at bs ((and_parts (is_name_byte b) (list_all is_name_byte bs) all).1) k (omega arith)
-
-pub names-from_ascii_name : (bs : List ℕ) → is_ascii_name bs ≡ true → list_all is_name_byte bs ≡ true
+names-from_ascii_name : (bs : List ℕ) → is_ascii_name bs ≡ true → list_all is_name_byte bs ≡ true
 names-from_ascii_name [] name = refl
 names-from_ascii_name (b ∷ bs) name =
     let parts = and_parts (is_first_byte b) (list_all is_name_byte bs) name in

@@ -2,7 +2,7 @@
 use Rattle.std.proofs.Common.{◌≡◌, inl, inr, ◌⊎◌, ℕ, suc, zero, ◌+◌, ◌<◌, ◌≤◌, Bool, true, cond, List, [], ◌∷◌, length, take, get_or, Option, Some, None, arith, refl, sym, ◌∙◌, ap, subst}
 use Rattle.std.specs.List.{count_by}
 use Rattle.std.proofs.lemmas.Bool.{both_ways, cases_order, cond-true}
-use Rattle.std.proofs.lemmas.List.{get_or-take, length-take-le, get_or_default}
+use Rattle.std.proofs.lemmas.List.{get_or-take, length-take-le, get_or_default, take-take}
 use Rattle.std.proofs.lemmas.List.Sums.{get_or-le-sum_by, sum_by_more_le}
 use Rattle.std.proofs.Math.Seq.{take-length}
 use Rattle.percent_encoding.specs.Percent.{percent_decode}
@@ -11,12 +11,6 @@ use Rattle.odata_text.specs.declared.query_fault.QueryFault.{QueryFault}
 use Rattle.odata_text.specs.declared.query_fault.QueryFault.TheVariants.{BadEscape, NotUtf8, Repeated, OtherOption, Memory}
 
 -- Lists.
-
-take-take : {X : Type 0} (n m : ℕ) (xs : List X) → n ≤ m → take n (take m xs) ≡ take n xs
-take-take zero m xs order = refl
-take-take (suc n) zero xs order = absurd (omega arith)
-take-take (suc n) (suc m) [] order = refl
-take-take (suc n) (suc m) (x ∷ xs) order = ap (λ ys. x ∷ ys) (take-take n m xs (omega arith))
 
 -- one that passes is counted
 pub counted : {X : Type 0} (p : X → Bool) (xs : List X) (i : ℕ) (d : X) → i < length xs → p (get_or xs i d) ≡ true → 0 < count_by p xs
@@ -44,9 +38,7 @@ none-before p xs i j d few order inside passes_i passes_j =
 unsound : (part : List ℕ) (number start : ℕ) (fault : QueryFault) → IsDecodable part → IsPartFault part number start fault → ⊥
 unsound part number start (BadEscape place) sound fault = both_ways _ (sound.escapes fault.within) fault.bad
 unsound part number start (NotUtf8 option) sound fault = let none = fault.1 in none.not_utf8 sound.utf8
-unsound part number start (Repeated option) sound fault = fault
-unsound part number start (OtherOption option) sound fault = fault
-unsound part number start Memory sound fault = fault
+unsound part number start _ sound fault = fault
 
 same-within : (part : List ℕ) (start place other : ℕ) → (f : IsFirstBadEscape part start place) → (g : IsFirstBadEscape part start other) → (f.within ≡ g.within) ⊎ ((f.within < g.within) ⊎ (g.within < f.within)) → place ≡ other
 same-within part start place other f g (inl same) = f.global ∙ ap (λ (k : ℕ). start + k) same ∙ sym g.global
@@ -60,17 +52,11 @@ part-fault-same : (part : List ℕ) (number start : ℕ) (f g : QueryFault) → 
 part-fault-same part number start (BadEscape place) (BadEscape other) f g =
     ap BadEscape (same-within part start place other f g (cases_order f.within g.within))
 part-fault-same part number start (BadEscape place) (NotUtf8 option) f g = absurd (escaped-text part start place f g.1)
-part-fault-same part number start (BadEscape place) (Repeated option) f g = absurd g
-part-fault-same part number start (BadEscape place) (OtherOption option) f g = absurd g
-part-fault-same part number start (BadEscape place) Memory f g = absurd g
+part-fault-same part number start (BadEscape place) _ f g = absurd g
 part-fault-same part number start (NotUtf8 option) (BadEscape place) f g = absurd (escaped-text part start place g f.1)
 part-fault-same part number start (NotUtf8 option) (NotUtf8 other) f g = ap NotUtf8 (f.0 ∙ sym g.0)
-part-fault-same part number start (NotUtf8 option) (Repeated other) f g = absurd g
-part-fault-same part number start (NotUtf8 option) (OtherOption other) f g = absurd g
-part-fault-same part number start (NotUtf8 option) Memory f g = absurd g
-part-fault-same part number start (Repeated option) g f h = absurd f
-part-fault-same part number start (OtherOption option) g f h = absurd f
-part-fault-same part number start Memory g f h = absurd f
+part-fault-same part number start (NotUtf8 option) _ f g = absurd g
+part-fault-same part number start _ g f h = absurd f
 
 -- the filter's name is no other option's
 filter-not_other : (name : List ℕ) → is_filter_name name ≡ true → is_refused_name name ≡ true → ⊥
@@ -80,17 +66,11 @@ filter-not_other name filter other =
 name-fault-same : (name : List ℕ) (number filters : ℕ) (f g : QueryFault) → IsNameFault name number filters f → IsNameFault name number filters g → f ≡ g
 name-fault-same name number filters (Repeated option) (Repeated other) f g = ap Repeated (f.0 ∙ sym g.0)
 name-fault-same name number filters (Repeated option) (OtherOption other) f g = absurd (filter-not_other name f.1 g.1)
-name-fault-same name number filters (Repeated option) (BadEscape place) f g = absurd g
-name-fault-same name number filters (Repeated option) (NotUtf8 other) f g = absurd g
-name-fault-same name number filters (Repeated option) Memory f g = absurd g
+name-fault-same name number filters (Repeated option) _ f g = absurd g
 name-fault-same name number filters (OtherOption option) (Repeated other) f g = absurd (filter-not_other name g.1 f.1)
 name-fault-same name number filters (OtherOption option) (OtherOption other) f g = ap OtherOption (f.0 ∙ sym g.0)
-name-fault-same name number filters (OtherOption option) (BadEscape place) f g = absurd g
-name-fault-same name number filters (OtherOption option) (NotUtf8 other) f g = absurd g
-name-fault-same name number filters (OtherOption option) Memory f g = absurd g
-name-fault-same name number filters (BadEscape place) g f h = absurd f
-name-fault-same name number filters (NotUtf8 option) g f h = absurd f
-name-fault-same name number filters Memory g f h = absurd f
+name-fault-same name number filters (OtherOption option) _ f g = absurd g
+name-fault-same name number filters _ g f h = absurd f
 
 option-fault-same : (option : List ℕ) (number start filters : ℕ) (f g : QueryFault) → IsOptionFault option number start filters f → IsOptionFault option number start filters g → f ≡ g
 option-fault-same option number start filters f g (inl a) (inl b) = part-fault-same (name_of option) number start f g a b
@@ -107,9 +87,7 @@ option-fault-same option number start filters f g (inr (inr a)) (inr (inr b)) = 
 name-fault-read : (option : List ℕ) (number filters : ℕ) (fault : QueryFault) → IsReadable option → IsNameFault (decoded_name option) number filters fault → (is_filter option ≡ true) × (0 < filters)
 name-fault-read option number filters (Repeated other) read fault = (fault.1, fault.2)
 name-fault-read option number filters (OtherOption other) read fault = absurd (both_ways _ read.known fault.1)
-name-fault-read option number filters (BadEscape place) read fault = absurd fault
-name-fault-read option number filters (NotUtf8 other) read fault = absurd fault
-name-fault-read option number filters Memory read fault = absurd fault
+name-fault-read option number filters _ read fault = absurd fault
 
 option-fault-read : (option : List ℕ) (number start filters : ℕ) (fault : QueryFault) → IsReadable option → IsOptionFault option number start filters fault → (is_filter option ≡ true) × (0 < filters)
 option-fault-read option number start filters fault read (inl a) = absurd (unsound (name_of option) number start fault read.name a)

@@ -14,9 +14,9 @@ use Rattle.odata_text.specs.private.Lengths.{IsReach}
 use Rattle.odata_text.specs.private.Patterns.{Fits, passes}
 use Rattle.odata_text.specs.Sequence.{FollowedBy}
 use Rattle.odata_text.specs.declared.byte_test.ByteTest.TheVariants.{Dot, ExponentMark}
-use Rattle.odata_text.proofs.spellings.Patterns.{marked-from_pair, pair-from_marked}
+use Rattle.odata_text.proofs.spellings.Patterns.{fits-exact, fits-nonempty, marked-from_pair, pair-from_marked}
 use Rattle.odata_text.proofs.spellings.Reaches.{digits-reach}
-use Rattle.odata_text.proofs.spellings.Sequences.{IsExact, exact-by_byte, pair-found, pair_at}
+use Rattle.odata_text.proofs.spellings.Sequences.{ArePieces, exact-by_byte}
 
 -- A mark, and digits or a whole number.
 
@@ -68,11 +68,8 @@ exponent-from_pair xs pair =
 pub numeral-run : (rest : List ℕ) (n : ℕ) → n ≡ prefix_len is_ascii_digit rest → IsReach (IsNumeral 10) n rest
 numeral-run rest n run = subst (λ (k : ℕ). IsReach (IsNumeral 10) k rest) (sym run) (digits-reach rest)
 
-pub numeral-none : IsNumeral 10 [] → ⊥
+numeral-none : IsNumeral 10 [] → ⊥
 numeral-none numeral = let some = numeral.0 in absurd (omega arith)
-
-pub int-none : IsIntSpelling [] → ⊥
-int-none int = int.1
 
 -- Which bytes each part has.
 
@@ -128,50 +125,20 @@ no_exponent xs fraction i inside start = apart (get_or xs i 0) (fraction-byte xs
     apart : (b : ℕ) → IsFractionByte b → IsExponentStart b → ⊥
     apart b byte start = grind arith
 
--- The length of a fraction, an exponent or both.
+-- Pieces of two.
 
-pub decimals-reach : (rest left : List ℕ) (f e : ℕ) → left ≡ drop f rest → IsReach IsFraction f rest → IsReach IsExponent e left → IsReach IsDecimals (f + e) rest
-decimals-reach rest left f e behind fraction power =
-    let exponent : IsReach IsExponent e (drop f rest) = subst (IsReach IsExponent e) behind power in
-    let f_within = fraction.within in
-    let e_within = exponent.within in
-    let room = length-drop f rest in
-    let exact = exact-by_byte IsFraction IsExponent IsExponentStart f rest fraction no_exponent exponent-starts in
-    record {
-      within = omega arith;
-      found = λ positive. ⊎_elim
-          (λ none. let here : e ≡ f + e = omega arith in inr (inl (subst (λ (k : ℕ). IsExponent (take k rest)) here (subst (λ (k : ℕ). IsExponent (take e (drop k rest))) none (exponent.found (omega arith))))))
-          (λ some. ⊎_elim
-          (λ alone. let here : f ≡ f + e = omega arith in inl (subst (λ (k : ℕ). IsFraction (take k rest)) here (fraction.found (omega arith))))
-          (λ both. inr (inr (pair-found IsFraction IsExponent rest f e (fraction.found (omega arith)) (exponent.found (omega arith)))))
-          (cases_eq e 0))
-          (cases_eq f 0);
-      reaches = λ m inside decimals. ⊎_elim
-          (λ one. let most = fraction.reaches m inside one in omega arith)
-          (λ more. ⊎_elim
-          (λ alone. ⊎_elim
-          (λ none. let most = exponent.reaches m (omega arith) (subst (λ (k : ℕ). IsExponent (take m (drop k rest))) (sym none) alone) in omega arith)
-          (λ some. absurd (apart m inside alone (omega arith)))
-          (cases_eq f 0))
-          (λ pair.
-          let parts = pair_at IsFraction IsExponent rest m inside pair in
-          let size = parts.size in
-          let here = exact.exact parts.first parts.second (omega arith) parts.is_first parts.is_second in
-          let most = exponent.reaches parts.second (omega arith) (subst (λ (k : ℕ). IsExponent (take parts.second (drop k rest))) here parts.is_second) in
-          omega arith)
-          more)
-          decimals;
-    }
-  where
-    apart : (m : ℕ) → m ≤ length rest → IsExponent (take m rest) → 0 < f → ⊥
-    apart m inside alone some =
-        let dot = fraction-starts (take f rest) (fraction.found some) in
-        let start = exponent-starts (take m rest) alone in
-        let nonempty = start.0 in
-        let taken = length-take-le m rest inside in
-        let first : get_or rest 0 0 ≡ 46 = sym (get_or-take f rest 0 0 some) ∙ dot.1 in
-        let other = subst IsExponentStart (get_or-take m rest 0 0 (omega arith)) start.1 in
-        ⊎_elim (λ small. absurd (omega arith)) (λ big. absurd (omega arith)) other
+pub dot_digits : ArePieces (Fits (Dot ∷ [])) (IsNumeral 10)
+dot_digits = record { no_first = fits-nonempty Dot []; no_second = numeral-none; exact = λ n rest reach some. fits-exact (Dot ∷ []) (IsNumeral 10) n rest reach some }
+
+pub mark_power : ArePieces (Fits (ExponentMark ∷ [])) IsIntSpelling
+mark_power = record { no_first = fits-nonempty ExponentMark []; no_second = λ int. int.1; exact = λ n rest reach some. fits-exact (ExponentMark ∷ []) IsIntSpelling n rest reach some }
+
+pub fraction_exponent : ArePieces IsFraction IsExponent
+fraction_exponent = record {
+  no_first = λ fraction. fraction;
+  no_second = λ exponent. exponent;
+  exact = λ n rest reach some. exact-by_byte IsFraction IsExponent IsExponentStart n rest reach no_exponent exponent-starts;
+}
 
 -- A whole number, and a fraction, an exponent or both behind it.
 
@@ -184,7 +151,7 @@ decimals-starts xs (inr (inr pair)) =
     let nonempty = start.0 in
     (omega arith, inl (ap (λ (ys : List ℕ). get_or ys 0 0) pair.whole ∙ get_or-append pair.front pair.back 0 0 nonempty ∙ start.1))
 
-pub decimals-none : IsDecimals [] → ⊥
+decimals-none : IsDecimals [] → ⊥
 decimals-none decimals = let some = (decimals-starts [] decimals).0 in absurd (omega arith)
 
 no_decimals : (xs : List ℕ) → IsIntSpelling xs → (i : ℕ) → i < length xs → IsDecimalsStart (get_or xs i 0) → ⊥
@@ -193,5 +160,9 @@ no_decimals xs int i inside start = apart (get_or xs i 0) (int-byte xs int i ins
     apart : (b : ℕ) → IsIntByte b → IsDecimalsStart b → ⊥
     apart b byte start = grind arith
 
-pub int-exact : (n : ℕ) (rest : List ℕ) → IsReach IsIntSpelling n rest → IsExact IsIntSpelling IsDecimals n rest
-int-exact n rest reach = exact-by_byte IsIntSpelling IsDecimals IsDecimalsStart n rest reach no_decimals decimals-starts
+pub int_decimals : ArePieces IsIntSpelling IsDecimals
+int_decimals = record {
+  no_first = λ int. int.1;
+  no_second = decimals-none;
+  exact = λ n rest reach some. exact-by_byte IsIntSpelling IsDecimals IsDecimalsStart n rest reach no_decimals decimals-starts;
+}

@@ -157,26 +157,3 @@ quoted_so_far-over rest i quoted next n inside so_far is over =
           (λ later. let stuck : Over ≡ Closed = sym (stays_over rest (i + 1) m later within (sym state ∙ over)) ∙ closed in cc)
           (cases_lt m (i + 1));
     }
-
--- a text in quotes with anything but a quote behind it is the longest
-pub string-bound : (text rest : List ℕ) (m : ℕ) → IsStringSpelling text → (0 < length rest → (get_or rest 0 0 == 39) ≡ false) → m ≤ length (text ++ rest) → IsStringSpelling (take m (text ++ rest)) → m ≤ length text
-string-bound text rest m spelled other inside longer =
-    let size = length-append text rest in
-    ⊎_elim
-    (λ past.
-    let k = m - length text in
-    let whole : take m (text ++ rest) ≡ text ++ take k rest = ap (λ (n : ℕ). take n (text ++ rest)) (the_sum (length text) m (omega arith)) ∙ take-append-add text rest k in
-    let closed : fold quoted_after Closed (take k rest) ≡ Closed =
-    sym (ap (λ (q : Quoted). fold quoted_after q (take k rest)) (closed-from_spelling text spelled))
-    ∙ sym (fold-append quoted_after Before text (take k rest)) ∙ sym (ap quoted_of whole) ∙ closed-from_spelling (take m (text ++ rest)) longer in
-    absurd (closed-past rest k (omega arith) (omega arith) (other (omega arith)) closed))
-    (λ most. most)
-    (cases_lt (length text) m)
-  where
-    the_sum : (a b : ℕ) → a < b → b ≡ a + (b - a)
-    the_sum a b below = omega arith
-
-    closed-past : (xs : List ℕ) (k : ℕ) → 0 < k → 0 < length xs → (get_or xs 0 0 == 39) ≡ false → fold quoted_after Closed (take k xs) ≡ Closed → ⊥
-    closed-past [] k some inside other closed = absurd (omega arith)
-    closed-past (b ∷ bs) zero some inside other closed = absurd (omega arith)
-    closed-past (b ∷ bs) (suc k) some inside other closed = never_closes (take k bs) (behind (take k bs) (closed-other b other) closed)

@@ -3,8 +3,9 @@ use Rattle.std.proofs.Common.{◌≡◌, ◌⊎◌, inl, inr, ⊎_elim, ℕ, ◌
 use Rattle.std.proofs.Math.ListN.{get_or-append}
 use Rattle.std.proofs.Math.Seq.{get_or-append_right}
 use Rattle.std.proofs.lemmas.Bool.{cases_eq, cases_lt}
+use Rattle.std.proofs.lemmas.Bool.Decides.{nat_tests}
 use Rattle.std.proofs.lemmas.List.{take_at, drop_at, drop-take, take-take, take-append-drop, get_or-take, get_or-drop, length-take-le, length-drop}
-use Rattle.odata_text.specs.private.Lengths.{IsReach}
+use Rattle.odata_text.specs.private.Lengths.{IsReach, both_length}
 use Rattle.odata_text.specs.Sequence.{FollowedBy}
 
 -- what holds of each byte of two pieces holds of each byte of both
@@ -91,34 +92,12 @@ exact-by_byte A B Starts a rest reach never starts = record {
       (cases_lt k a);
 }
 
--- no first piece
-pub followed-no_first : (A B : List ℕ → Type 0) (rest : List ℕ) → (A [] → ⊥) → IsReach A 0 rest → IsReach (FollowedBy A B) 0 rest
-followed-no_first A B rest nonempty reach = record {
+-- no first piece, or no second behind it
+pub followed-none : (A B : List ℕ → Type 0) (rest : List ℕ) → ((k j : ℕ) → k + j ≤ length rest → A (take k rest) → B (take j (drop k rest)) → ⊥) → IsReach (FollowedBy A B) 0 rest
+followed-none A B rest none = record {
   within = omega arith;
   found = λ positive. absurd (omega arith);
-  reaches = λ m inside pair.
-      let at_front = pair_at A B rest m inside pair in
-      let size = at_front.size in
-      let most = reach.reaches at_front.first (omega arith) at_front.is_first in
-      let none : at_front.first ≡ 0 = omega arith in
-      absurd (nonempty (subst (λ (k : ℕ). A (take k rest)) none at_front.is_first));
-}
-
--- no second piece behind the first
-pub followed-no_second : (A B : List ℕ → Type 0) (rest : List ℕ) (a : ℕ) → (B [] → ⊥) → IsExact A B a rest → IsReach B 0 (drop a rest) → IsReach (FollowedBy A B) 0 rest
-followed-no_second A B rest a nonempty exact reach = record {
-  within = omega arith;
-  found = λ positive. absurd (omega arith);
-  reaches = λ m inside pair.
-      let at_front = pair_at A B rest m inside pair in
-      let size = at_front.size in
-      let j = at_front.second in
-      let here = exact.exact at_front.first j (omega arith) at_front.is_first at_front.is_second in
-      let second : B (take j (drop a rest)) = subst (λ (k : ℕ). B (take j (drop k rest))) here at_front.is_second in
-      let room = length-drop a rest in
-      let most = reach.reaches j (omega arith) second in
-      let none : j ≡ 0 = omega arith in
-      absurd (nonempty (subst (λ (k : ℕ). B (take k (drop a rest))) none second));
+  reaches = λ m inside pair. let at_front = pair_at A B rest m inside pair in let size = at_front.size in absurd (none at_front.first at_front.second (omega arith) at_front.is_first at_front.is_second);
 }
 
 -- both
@@ -138,19 +117,55 @@ followed-both A B rest a b first second inside exact reach =
           omega arith;
     }
 
--- The same, as the code measures: a second piece in what is left behind the first.
+-- no piece is longer than 0, and none is empty
+pub nothing : (P : List ℕ → Type 0) (m n : ℕ) (rest : List ℕ) → (P [] → ⊥) → IsReach P n rest → n ≡ 0 → m ≤ length rest → P (take m rest) → ⊥
+nothing P m n rest nonempty reach none inside spelled =
+    let most = reach.reaches m inside spelled in
+    let here : m ≡ 0 = omega arith in
+    nonempty (subst (λ (k : ℕ). P (take k rest)) here spelled)
 
-pub measured-no_first : (A B : List ℕ → Type 0) (rest : List ℕ) (a : ℕ) → (A [] → ⊥) → IsReach A a rest → a ≡ 0 → IsReach (FollowedBy A B) 0 rest
-measured-no_first A B rest a nonempty reach none = followed-no_first A B rest nonempty (subst (λ (n : ℕ). IsReach A n rest) none reach)
+pub followed-no_first : (A B : List ℕ → Type 0) (rest : List ℕ) (a : ℕ) → (A [] → ⊥) → IsReach A a rest → a ≡ 0 → IsReach (FollowedBy A B) 0 rest
+followed-no_first A B rest a nonempty reach none = followed-none A B rest (λ k j inside first second. nothing A k a rest nonempty reach none (omega arith) first)
 
-pub measured-no_second : (A B : List ℕ → Type 0) (rest left : List ℕ) (a b : ℕ) → left ≡ drop a rest → (B [] → ⊥) → IsExact A B a rest → IsReach B b left → b ≡ 0 → IsReach (FollowedBy A B) 0 rest
-measured-no_second A B rest left a b behind nonempty exact reach none =
-    followed-no_second A B rest a nonempty exact (subst (IsReach B 0) behind (subst (λ (n : ℕ). IsReach B n left) none reach))
+pub followed-no_second : (A B : List ℕ → Type 0) (rest left : List ℕ) (a b : ℕ) → left ≡ drop a rest → (B [] → ⊥) → IsExact A B a rest → IsReach B b left → b ≡ 0 → IsReach (FollowedBy A B) 0 rest
+followed-no_second A B rest left a b behind nonempty exact reach none =
+    let room = length-drop a rest in
+    followed-none A B rest (λ k j inside first second.
+    let here = exact.exact k j inside first second in
+    nothing B j b (drop a rest) nonempty (subst (IsReach B b) behind reach) none (omega arith) (subst (λ (n : ℕ). B (take j (drop n rest))) here second))
 
-pub measured-both : (A B : List ℕ → Type 0) (rest left : List ℕ) (a b : ℕ) → left ≡ drop a rest → IsExact A B a rest → IsReach A a rest → IsReach B b left → 0 < a → 0 < b → IsReach (FollowedBy A B) (a + b) rest
-measured-both A B rest left a b behind exact first second some some_more =
+-- two pieces, neither of them empty, of which the first ends where the longest does
+pub record ArePieces (A B : List ℕ → Type 0) : Type 0 where
+  pub no_first : A [] → ⊥
+  pub no_second : B [] → ⊥
+  pub exact : (a : ℕ) (rest : List ℕ) → IsReach A a rest → 0 < a → IsExact A B a rest
+
+-- as the code measures them: the second in what is left behind the first
+pub followed : (A B : List ℕ → Type 0) → ArePieces A B → (rest left : List ℕ) (a b n : ℕ) → left ≡ drop a rest → IsReach A a rest → IsReach B b left → n ≡ both_length a b → IsReach (FollowedBy A B) n rest
+followed A B pieces rest left a b n behind first second is =
+    subst (λ (k : ℕ). IsReach (FollowedBy A B) k rest) (sym is)
+    (⊎_elim
+    (λ none. subst (λ (k : ℕ). IsReach (FollowedBy A B) k rest) (sym (first-missing a b none)) (followed-no_first A B rest a pieces.no_first first none))
+    (λ some. ⊎_elim
+    (λ none. subst (λ (k : ℕ). IsReach (FollowedBy A B) k rest) (sym (second-missing a b none)) (followed-no_second A B rest left a b behind pieces.no_second (pieces.exact a rest first (positive a some)) second none))
+    (λ more.
     let reach = subst (IsReach B b) behind second in
-    followed-both A B rest a b (first.found some) (reach.found some_more) first.within exact reach
+    subst (λ (k : ℕ). IsReach (FollowedBy A B) k rest) (sym (neither a b some more))
+    (followed-both A B rest a b (first.found (positive a some)) (reach.found (positive b more)) first.within (pieces.exact a rest first (positive a some)) reach))
+    (cases_eq b 0))
+    (cases_eq a 0))
+  where
+    positive : (k : ℕ) → (k ≡ 0 → ⊥) → 0 < k
+    positive k some = omega arith
+
+    first-missing : (i j : ℕ) → i ≡ 0 → both_length i j ≡ 0
+    first-missing i j none = grind (arith, nat_tests)
+
+    second-missing : (i j : ℕ) → j ≡ 0 → both_length i j ≡ 0
+    second-missing i j none = grind (arith, nat_tests)
+
+    neither : (i j : ℕ) → (i ≡ 0 → ⊥) → (j ≡ 0 → ⊥) → both_length i j ≡ i + j
+    neither i j one two = grind (arith, nat_tests)
 
 -- Nothing, or a piece.
 
@@ -172,20 +187,4 @@ perhaps-reach P n rest reach = record {
       (λ none. let size = length-take-le m rest inside in let empty = ap length none in omega arith)
       (λ some. reach.reaches m inside some)
       spelled;
-}
-
--- One of two.
-
-pub either-first : (P Q : List ℕ → Type 0) (n : ℕ) (rest : List ℕ) → IsReach P n rest → ((m : ℕ) → m ≤ length rest → Q (take m rest) → ⊥) → IsReach (λ xs. P xs ⊎ Q xs) n rest
-either-first P Q n rest reach never = record {
-  within = reach.within;
-  found = λ positive. inl (reach.found positive);
-  reaches = λ m inside spelled. ⊎_elim (λ first. reach.reaches m inside first) (λ second. absurd (never m inside second)) spelled;
-}
-
-pub either-second : (P Q : List ℕ → Type 0) (n : ℕ) (rest : List ℕ) → IsReach P 0 rest → IsReach Q n rest → IsReach (λ xs. P xs ⊎ Q xs) n rest
-either-second P Q n rest none reach = record {
-  within = reach.within;
-  found = λ positive. inr (reach.found positive);
-  reaches = λ m inside spelled. ⊎_elim (λ first. let most = none.reaches m inside first in omega arith) (λ second. reach.reaches m inside second) spelled;
 }

@@ -16,7 +16,8 @@ use Rattle.odata_text.specs.Sequence.{FollowedBy}
 use Rattle.odata_text.specs.declared.byte_test.ByteTest.{ByteTest}
 use Rattle.odata_text.specs.declared.byte_test.ByteTest.TheVariants.{Digit, Hyphen, Colon, Sign, TimeMark, OffsetMark}
 use Rattle.odata_text.proofs.spellings.Patterns.{fits-at, fits-exact, fits-length, fits-nonempty}
-use Rattle.odata_text.proofs.spellings.Sequences.{IsExact, Perhaps, either-first, either-second, exact-by_byte, exact-by_length, followed-both, measured-no_first, perhaps-found, perhaps-reach, reach-as}
+use Rattle.odata_text.proofs.spellings.Reaches.{digit_range}
+use Rattle.odata_text.proofs.spellings.Sequences.{ArePieces, IsExact, Perhaps, exact-by_byte, exact-by_length, followed-both, followed-no_first, perhaps-found, perhaps-reach, reach-as}
 
 -- Two digits.
 
@@ -31,9 +32,6 @@ units n = let remainder : n % 10 < 10 = omega arith in digit (n % 10) remainder
   where
     digit : (q : ℕ) → q < 10 → is_ascii_digit (48 + q) ≡ true
     digit q below = grind (arith, nat_tests)
-
-digit_range : (c : ℕ) → is_ascii_digit c ≡ true → IsInRange 48 57 c
-digit_range c digit = grind (arith, nat_tests)
 
 -- the number that two digits write
 record IsTwo (a b : ℕ) : Type 0 where
@@ -241,29 +239,8 @@ offset-fits xs (inr (inl small)) = inl (subst (Fits (OffsetMark ∷ [])) (sym sm
 offset-fits xs (inr (inr (sign, clock, is_sign, is_clock, whole))) =
     inr (subst (Fits (Sign ∷ clock_pattern)) (sym whole) (⊎_elim (λ plus. ap (passes Sign) plus) (λ minus. ap (passes Sign) minus) is_sign, fits-clock clock is_clock))
 
--- no byte is a mark and a sign
-offset-apart : (rest : List ℕ) (n m : ℕ) → 0 < n → m ≤ length rest → Fits (OffsetMark ∷ []) (take n rest) → Fits (Sign ∷ clock_pattern) (take m rest) → ⊥
-offset-apart rest n m some inside mark ahead =
-    let size = fits-length (Sign ∷ clock_pattern) (take m rest) ahead in
-    let taken = length-take-le m rest inside in
-    let some_more : 0 < m = omega arith in
-    apart (get_or rest 0 0)
-    (sym (ap (passes OffsetMark) (get_or-take n rest 0 0 some)) ∙ fits-at (OffsetMark ∷ []) (take n rest) mark 0 Digit (omega arith))
-    (sym (ap (passes Sign) (get_or-take m rest 0 0 some_more)) ∙ fits-at (Sign ∷ clock_pattern) (take m rest) ahead 0 Digit (omega arith))
-  where
-    apart : (b : ℕ) → passes OffsetMark b ≡ true → passes Sign b ≡ true → ⊥
-    apart b mark sign = grind (arith, nat_tests)
-
 pub offset-reach : (n : ℕ) (rest : List ℕ) → IsReach IsOffset n rest → IsReach IsOffsetSpelling n rest
 offset-reach n rest reach = reach-as IsOffset IsOffsetSpelling n rest offset-spelled offset-fits reach
-
-pub offset-by_mark : (n : ℕ) (rest : List ℕ) → 0 < n → IsReach (Fits (OffsetMark ∷ [])) n rest → IsReach IsOffsetSpelling n rest
-offset-by_mark n rest some mark =
-    offset-reach n rest (either-first (Fits (OffsetMark ∷ [])) (Fits (Sign ∷ clock_pattern)) n rest mark (λ m inside ahead. offset-apart rest n m some inside (mark.found some) ahead))
-
-pub offset-ahead : (n mark : ℕ) (rest : List ℕ) → IsReach (Fits (OffsetMark ∷ [])) mark rest → mark ≡ 0 → IsReach (Fits (Sign ∷ clock_pattern)) n rest → IsReach IsOffsetSpelling n rest
-offset-ahead n mark rest none is ahead =
-    offset-reach n rest (either-second (Fits (OffsetMark ∷ [])) (Fits (Sign ∷ clock_pattern)) n rest (subst (λ (k : ℕ). IsReach (Fits (OffsetMark ∷ [])) k rest) is none) ahead)
 
 -- `Z`, `z` or a sign
 abbrev pub IsOffsetStart : ℕ → Type 0
@@ -289,22 +266,22 @@ seconds-exact n rest reach = exact-by_byte IsSecondsSpelling IsOffsetSpelling Is
 
 -- Moments.
 
-pub zoned-none : IsZoned [] → ⊥
+zoned-none : IsZoned [] → ⊥
 zoned-none pair =
     let some = (offset-starts pair.back pair.is_back).0 in
     let size = ap length pair.whole ∙ length-append pair.front pair.back in
     absurd (omega arith)
 
-pub timed-none : IsTimed [] → ⊥
+timed-none : IsTimed [] → ⊥
 timed-none pair =
     let marked = fits-length (TimeMark ∷ clock_pattern) pair.front (fits-marked pair.front pair.is_front) in
     let size = ap length pair.whole ∙ length-append pair.front pair.back in
     absurd (omega arith)
 
-pub date-length : (xs : List ℕ) → IsDateSpelling xs → length xs ≡ 10
+date-length : (xs : List ℕ) → IsDateSpelling xs → length xs ≡ 10
 date-length xs date = fits-length date_pattern xs (fits-date xs date)
 
-pub date-none : IsDateSpelling [] → ⊥
+date-none : IsDateSpelling [] → ⊥
 date-none date = let size = date-length [] date in absurd (omega arith)
 
 pub moment-from_parts : (xs : List ℕ) → FollowedBy IsDateSpelling IsTimed xs → IsMomentSpelling xs
@@ -359,9 +336,6 @@ zoned-by_parts rest left a b behind seconds reach some =
 pub marked-reach : (n : ℕ) (rest : List ℕ) → IsReach (Fits (TimeMark ∷ clock_pattern)) n rest → IsReach IsMarkedClock n rest
 marked-reach n rest reach = reach-as (Fits (TimeMark ∷ clock_pattern)) IsMarkedClock n rest marked-fits fits-marked reach
 
-pub marked-none : IsMarkedClock [] → ⊥
-marked-none marked = marked
-
 -- a spelling that fits a pattern is as long wherever it stands
 exact-by_fits : (P B : List ℕ → Type 0) (tests : List ByteTest) (n : ℕ) (rest : List ℕ) → ((xs : List ℕ) → P xs → Fits tests xs) → IsReach P n rest → 0 < n → IsExact P B n rest
 exact-by_fits P B tests n rest fits reach some =
@@ -370,11 +344,11 @@ exact-by_fits P B tests n rest fits reach some =
     let taken = length-take-le n rest within in
     exact-by_length P B n rest (λ xs spelled. let here = fits-length tests xs (fits xs spelled) in omega arith)
 
-pub marked-exact : (n : ℕ) (rest : List ℕ) → IsReach IsMarkedClock n rest → 0 < n → IsExact IsMarkedClock IsZoned n rest
-marked-exact n rest reach some = exact-by_fits IsMarkedClock IsZoned (TimeMark ∷ clock_pattern) n rest fits-marked reach some
+pub marked_zoned : ArePieces IsMarkedClock IsZoned
+marked_zoned = record { no_first = λ marked. marked; no_second = zoned-none; exact = λ n rest reach some. exact-by_fits IsMarkedClock IsZoned (TimeMark ∷ clock_pattern) n rest fits-marked reach some }
 
-pub date-exact : (n : ℕ) (rest : List ℕ) → IsReach IsDateSpelling n rest → 0 < n → IsExact IsDateSpelling IsTimed n rest
-date-exact n rest reach some = exact-by_fits IsDateSpelling IsTimed date_pattern n rest fits-date reach some
+pub date_timed : ArePieces IsDateSpelling IsTimed
+date_timed = record { no_first = date-none; no_second = timed-none; exact = λ n rest reach some. exact-by_fits IsDateSpelling IsTimed date_pattern n rest fits-date reach some }
 
 pub moment-reach : (n : ℕ) (rest : List ℕ) → IsReach (FollowedBy IsDateSpelling IsTimed) n rest → IsReach IsMomentSpelling n rest
 moment-reach n rest reach = reach-as (FollowedBy IsDateSpelling IsTimed) IsMomentSpelling n rest moment-from_parts parts-from_moment reach
@@ -386,7 +360,7 @@ clock-none : IsClockSpelling [] → ⊥
 clock-none clock = fits-nonempty Digit (Digit ∷ Colon ∷ Digit ∷ Digit ∷ []) (fits-clock [] clock)
 
 pub time_of_day-none : (rest : List ℕ) (a : ℕ) → IsReach (Fits clock_pattern) a rest → a ≡ 0 → IsReach IsTimeOfDaySpelling 0 rest
-time_of_day-none rest a reach none = measured-no_first IsClockSpelling IsSecondsSpelling rest a clock-none (clock-reach a rest reach) none
+time_of_day-none rest a reach none = followed-no_first IsClockSpelling IsSecondsSpelling rest a clock-none (clock-reach a rest reach) none
 
 pub time_of_day-by_parts : (rest left : List ℕ) (a b : ℕ) → left ≡ drop a rest → IsReach (Fits clock_pattern) a rest → 0 < a → IsReach IsSecondsSpelling b left → IsReach IsTimeOfDaySpelling (a + b) rest
 time_of_day-by_parts rest left a b behind reach some measured =
