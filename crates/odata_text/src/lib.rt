@@ -35,6 +35,3 @@ pub use query_laws::{escaped_query_reading, one_query_reading, paged_query_readi
 pub use scan::tokens;
 pub use span::Span;
 pub use token::{Token, TokenKind};
-
-#[cfg(test)]
-mod tests;
