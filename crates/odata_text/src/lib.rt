@@ -27,8 +27,10 @@ mod word;
 
 pub use fault::TextFault;
 pub use identifier::is_identifier;
-pub use laws::{enumeration_reading, fraction_reading, moment_reading, one_reading};
-pub use laws::{plain_reading, printed_reading, run_on_reading};
+pub use laws::{
+    enumeration_reading, fraction_reading, moment_reading, one_reading, plain_reading,
+    printed_reading, run_on_reading,
+};
 pub use query::filter_of_query;
 pub use query_fault::QueryFault;
 pub use query_laws::{escaped_query_reading, one_query_reading, paged_query_reading};

@@ -1,5 +1,5 @@
 -- What follows from where the machine ends: bytes have one form, and which piece is the longest.
-use Rattle.std.proofs.Common.{◌≡◌, ◌⊎◌, inl, inr, ⊎_elim, ℕ, ◌+◌, ◌<◌, ◌≤◌, ◌==◌, ◌&&◌, not, Bool, true, false, List, [], ◌∷◌, ◌++◌, length, get_or, take, drop, Option, Some, None, arith, refl, sym, ◌∙◌, ap, subst, take-append-drop}
+use Rattle.std.proofs.Common.{◌≡◌, ◌⊎◌, inl, inr, ⊎_elim, ℕ, ◌+◌, ◌<◌, ◌≤◌, ◌==◌, not, true, List, [], ◌∷◌, ◌++◌, length, get_or, take, drop, Some, None, arith, refl, sym, ◌∙◌, ap, subst, take-append-drop}
 use Rattle.std.specs.Prelude.{fold}
 use Rattle.std.proofs.lemmas.Bool.{and_parts, cases_lt, false≢true}
 use Rattle.std.proofs.lemmas.Bool.Decides.{nat_tests}
@@ -77,8 +77,19 @@ at_separator : (P : ℕ → Type 0) → P 32 → P 9 → P 40 → P 41 → P 44 
 at_separator P p32 p9 p40 p41 p44 p47 p58 b separator =
     elim (one b separator) [
       | inl is ↦ rw is p32
-      | inr other ↦ elim other [ | inl is ↦ rw is p9 | inr other ↦ elim other [ | inl is ↦ rw is p40 | inr other ↦ elim other [ | inl is ↦ rw is p41 | inr other ↦ elim other [
-        | inl is ↦ rw is p44 | inr other ↦ elim other [ | inl is ↦ rw is p47 | inr is ↦ rw is p58 ] ] ] ] ]
+      | inr other ↦ elim other [
+        | inl is ↦ rw is p9
+        | inr other ↦ elim other [
+          | inl is ↦ rw is p40
+          | inr other ↦ elim other [
+            | inl is ↦ rw is p41
+            | inr other ↦ elim other [
+              | inl is ↦ rw is p44
+              | inr other ↦ elim other [ inl is ↦ rw is p47 | inr is ↦ rw is p58 ]
+            ]
+          ]
+        ]
+      ]
     ]
   where
     one : (c : ℕ) → is_separator c ≡ true → (c ≡ 32) ⊎ ((c ≡ 9) ⊎ ((c ≡ 40) ⊎ ((c ≡ 41) ⊎ ((c ≡ 44) ⊎ ((c ≡ 47) ⊎ (c ≡ 58))))))

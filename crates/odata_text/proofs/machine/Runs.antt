@@ -1,7 +1,7 @@
 -- Where the machine ends on a piece of each form.
-use Rattle.std.proofs.Common.{◌≡◌, ◌⊎◌, inl, inr, ⊎_elim, ℕ, min, ◌+◌, ◌<◌, ◌≤◌, ◌==◌, Bool, true, false, List, [], ◌∷◌, ◌++◌, length, get_or, drop, Option, Some, suc, arith, refl, sym, ◌∙◌, ap, subst, length-append}
+use Rattle.std.proofs.Common.{◌≡◌, ◌⊎◌, inl, inr, ⊎_elim, ℕ, min, ◌+◌, ◌<◌, ◌≤◌, ◌==◌, Bool, true, false, List, [], ◌∷◌, ◌++◌, length, get_or, drop, Some, suc, arith, refl, ◌∙◌, ap}
 use Rattle.std.specs.Prelude.{fold}
-use Rattle.std.specs.Char.{is_ascii_alphabetic, is_ascii_hexdigit}
+use Rattle.std.specs.Char.{is_ascii_alphabetic}
 use Rattle.std.specs.List.{AllByRecursion as AllOf, list_all}
 use Rattle.std.proofs.lemmas.Bool.{and_parts, cases_lt, eqb-true, false≢true, or_cases}
 use Rattle.std.proofs.lemmas.Bool.Decides.{nat_tests}
@@ -26,7 +26,7 @@ use Rattle.odata_text.proofs.characters.IdentifierBytes.{identifier-nonempty, id
 use Rattle.odata_text.proofs.spellings.Names.{left_out-letters}
 use Rattle.odata_text.proofs.spellings.Quotes.{open-doubled}
 use Rattle.odata_text.proofs.spellings.Times.{IsSecondsByte, clock_pattern, date_pattern, fits-clock, fits-date, fits-marked, offset-fits, parts-from_moment, seconds-byte}
-use Rattle.odata_text.proofs.machine.States.{Letter, AnE, AHexLetter, ADigit, ALetter, AHyphen, Sort, State, Start, Whole, Text, Sign, SignedDigits, Pointed, Powered, Digits, PowerDigits, PowerHyphen, OneHyphen, TwoHyphens, Hexes, Clock, Timed, Ahead, AheadColon, Name, Dotted, Dollared, Lead, Bare, Named, Qualified, enter, form_at, run, sort_of, step}
+use Rattle.odata_text.proofs.machine.States.{Letter, AnE, AHexLetter, ADigit, ALetter, AHyphen, State, Start, Text, Sign, SignedDigits, Pointed, Powered, Digits, PowerDigits, PowerHyphen, OneHyphen, TwoHyphens, Hexes, Clock, Timed, Ahead, Name, Dotted, Dollared, Lead, Bare, Named, Qualified, enter, form_at, run, step}
 use Rattle.odata_text.proofs.machine.Steps.{digit-goes, goes-both, goes-digits, goes-fits, goes-text, hex-sorts, name-starts, part-kept, stays}
 
 -- Words.

@@ -1,7 +1,6 @@
 -- Texts whose tokens or first fault are known.
-use Rattle.std.proofs.Common.{◌≡◌, ℕ, ◌<◌, ◌≤◌, true, List, [], ◌∷◌, codes, length, pos, inl, inr, arith, refl, sym}
+use Rattle.std.proofs.Common.{◌≡◌, ℕ, true, List, [], ◌∷◌, codes, pos, inl, inr, arith, refl, sym}
 use Rattle.std.specs.Prelude.{All}
-use Rattle.std.specs.Str.Parse.{IsNumeral}
 use Rattle.std.proofs.lemmas.List.Elements.{All-cons, All-nil}
 use Rattle.edm_values.specs.IntLiteral.{IsIntSpelling}
 use Rattle.odata_text.specs.ByteClass.{class_of}
@@ -47,9 +46,52 @@ plain_prints =
     ∷ spaced Word (codes "and") ∷ spaced Word (codes "Name") ∷ spaced Word (codes "eq") ∷ last Str (codes "'a'") ∷ []
 
 plain_printable : ArePrintable plain_prints
-plain_printable =
-    (word (codes "Active") refl, (blank, (refl, (word (codes "and") refl, (blank, (refl, (word (codes "ID") refl, (blank, (refl, (word (codes "eq") refl, (blank, (refl, (one, (blank, (refl,
-    (word (codes "and") refl, (blank, (refl, (word (codes "Name") refl, (blank, (refl, (word (codes "eq") refl, (blank, (refl, ((97 ∷ [], refl), (none, (tt, tt)))))))))))))))))))))))))))
+plain_printable = (
+  word (codes "Active") refl,
+  (
+    blank,
+    (
+      refl,
+      (
+        word (codes "and") refl,
+        (
+          blank,
+          (
+            refl,
+            (
+              word (codes "ID") refl,
+              (
+                blank,
+                (
+                  refl,
+                  (
+                    word (codes "eq") refl,
+                    (
+                      blank,
+                      (
+                        refl,
+                        (
+                          one,
+                          (
+                            blank,
+                            (
+                              refl,
+                              (word (codes "and") refl, (blank, (refl, (word (codes "Name") refl, (blank, (refl, (word (codes "eq") refl, (blank, (refl, ((97 ∷ [], refl), (none, (tt, tt)))))))))))),
+                            ),
+                          ),
+                        ),
+                      ),
+                    ),
+                  ),
+                ),
+              ),
+            ),
+          ),
+        ),
+      ),
+    ),
+  ),
+)
 
 pub plain_list : IsTokenList plain_filter plain_tokens
 plain_list = printed-list plain_prints plain_printable (omega arith) (omega arith)
