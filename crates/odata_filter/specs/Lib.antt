@@ -3,7 +3,7 @@ pub use Rattle.edm_values.specs.MomentParts
 pub use Rattle.edm_values.specs.PlainVal
 pub use Rattle.edm_values.specs.StringLiteral
 pub use Rattle.edm_values.specs.Val
-pub use Rattle.odata_text.specs.Piece
+pub use Rattle.odata_text.specs.TokenModel
 pub use Rattle.odata_text.specs.Query
 pub use Rattle.odata_text.specs.Tokens
 pub use Rattle.odata_syntax.specs.Parse

@@ -3,14 +3,14 @@ use Rattle.std.specs.Prelude.{ℕ, List, [], ◌∷◌, codes}
 use Rattle.odata_syntax.specs.declared.node.BinaryOperator.{BinaryOperator}
 use Rattle.odata_syntax.specs.declared.node.LiteralKind.{LiteralKind}
 use Rattle.odata_text.specs.declared.token.TokenKind.{TokenKind}
-use Rattle.odata_text.specs.Piece.{Piece}
+use Rattle.odata_text.specs.TokenModel.{TokenModel}
 use Rattle.odata_syntax.specs.Tree.{Tree, node, literal, name, binary}
 
-abbrev pub piece : TokenKind → ℕ → ℕ → List ℕ → Piece
+abbrev pub piece : TokenKind → ℕ → ℕ → List ℕ → TokenModel
 piece kind start stop text = record { kind = kind; start = start; stop = stop; text = text }
 
 -- `Active and ID eq 1 and Name eq 'a'`
-abbrev pub first_run_tokens : List Piece
+abbrev pub first_run_tokens : List TokenModel
 first_run_tokens =
     piece TokenKind.Word 0 6 (codes "Active")
     ∷ piece TokenKind.Word 7 10 (codes "and")
@@ -43,5 +43,5 @@ abbrev pub first_run_tree : Tree
 first_run_tree = node 0 34 (binary BinaryOperator.And active_and_id name_is_a)
 
 -- `Name eq`
-abbrev pub name_eq : List Piece
+abbrev pub name_eq : List TokenModel
 name_eq = piece TokenKind.Word 0 4 (codes "Name") ∷ piece TokenKind.Word 5 7 (codes "eq") ∷ []

@@ -1,7 +1,7 @@
 -- Tokens that an expression may begin with.
 use Rattle.std.specs.Prelude.{ℕ, ◌+◌, ◌≤◌, List, ◌++◌, take, Bool, true, false, count_by}
 use Rattle.odata_text.specs.declared.token.TokenKind.{TokenKind}
-use Rattle.odata_text.specs.Piece.{Piece}
+use Rattle.odata_text.specs.TokenModel.{TokenModel}
 use Rattle.odata_syntax.specs.Tree.{Tree}
 use Rattle.odata_syntax.specs.Grammar.{or_level, Derives}
 
@@ -14,10 +14,10 @@ abbrev pub closes : TokenKind → Bool
 closes TokenKind.Close = true
 closes _ = false
 
-abbrev pub open_count : List Piece → ℕ
+abbrev pub open_count : List TokenModel → ℕ
 open_count = count_by (λ p. opens p.kind)
 
-abbrev pub close_count : List Piece → ℕ
+abbrev pub close_count : List TokenModel → ℕ
 close_count = count_by (λ p. closes p.kind)
 
 -- no more parentheses are open at once
@@ -25,18 +25,18 @@ abbrev pub depth_limit : ℕ
 depth_limit = 64
 
 -- no beginning has more `(` without their `)` than may be open
-pub record IsShallow (ts : List Piece) : Type 0 where
+pub record IsShallow (ts : List TokenModel) : Type 0 where
   pub within : (n : ℕ) → open_count (take n ts) ≤ close_count (take n ts) + depth_limit
 
 -- some continuation is an expression, however deep
-pub record IsWideFront (ts : List Piece) : Type 0 where
-  pub more : List Piece
+pub record IsWideFront (ts : List TokenModel) : Type 0 where
+  pub more : List TokenModel
   pub tree : Tree
   pub derived : Derives or_level (ts ++ more) tree
 
 -- some continuation is an expression, and nowhere too deep
-pub record IsFront (ts : List Piece) : Type 0 where
-  pub more : List Piece
+pub record IsFront (ts : List TokenModel) : Type 0 where
+  pub more : List TokenModel
   pub tree : Tree
   pub derived : Derives or_level (ts ++ more) tree
   pub shallow : IsShallow (ts ++ more)

@@ -2,7 +2,7 @@
 use Rattle.std.specs.Prelude.{ℕ, suc, List, [], ◌∷◌, ◌++◌}
 use Rattle.odata_syntax.specs.declared.node.BinaryOperator.{BinaryOperator}
 use Rattle.odata_syntax.specs.declared.node.LiteralKind.{LiteralKind}
-use Rattle.odata_text.specs.Piece.{Piece}
+use Rattle.odata_text.specs.TokenModel.{TokenModel}
 use Rattle.odata_syntax.specs.Tree.{Tree, node, start_of, stop_of, literal, name, binary}
 use Rattle.odata_syntax.specs.Lexeme.{IsLiteral, IsName, IsOperator}
 
@@ -56,25 +56,25 @@ abbrev pub binary_tree : BinaryOperator → Tree → Tree → Tree
 binary_tree operator left right = node (start_of left) (stop_of right) (binary operator left right)
 
 -- at this level, these tokens are this tree
-pub data Derives : Level → List Piece → Tree → Type 0 where
+pub data Derives : Level → List TokenModel → Tree → Type 0 where
   -- a form of the next level
   looser :
-      {level : Level} {ts : List Piece} {tree : Tree}
+      {level : Level} {ts : List TokenModel} {tree : Tree}
       → Derives (suc level) ts tree
       → Derives level ts tree
   -- one token that is a literal
   derives_literal :
-      {kind : LiteralKind} {t : Piece}
+      {kind : LiteralKind} {t : TokenModel}
       → IsLiteral kind t
       → Derives base_level (t ∷ []) (node t.start t.stop (literal kind t.text))
   -- one token that is a name
   derives_name :
-      {t : Piece}
+      {t : TokenModel}
       → IsName t
       → Derives base_level (t ∷ []) (node t.start t.stop (name t.text))
   -- an operator, whose own form may stand again to its left alone
   derives_binary :
-      {operator : BinaryOperator} {ls rs : List Piece} {t : Piece} {left right : Tree}
+      {operator : BinaryOperator} {ls rs : List TokenModel} {t : TokenModel} {left right : Tree}
       → Derives (operator_level operator) ls left
       → IsOperator operator t
       → Derives (suc (operator_level operator)) rs right

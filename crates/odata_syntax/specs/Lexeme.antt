@@ -5,18 +5,18 @@ use Rattle.std.specs.Str.{str_eq_ignore_ascii_case}
 use Rattle.odata_syntax.specs.declared.node.BinaryOperator.{BinaryOperator}
 use Rattle.odata_syntax.specs.declared.node.LiteralKind.{LiteralKind}
 use Rattle.odata_text.specs.declared.token.TokenKind.{TokenKind}
-use Rattle.odata_text.specs.Piece.{Piece}
+use Rattle.odata_text.specs.TokenModel.{TokenModel}
 
 -- two texts are equal in all but the case of ASCII letters
 abbrev pub same_word : List ℕ → List ℕ → Bool
 same_word = str_eq_ignore_ascii_case
 
 -- the token is of this kind
-pub record IsA (kind : TokenKind) (p : Piece) : Type 0 where
+pub record IsA (kind : TokenKind) (p : TokenModel) : Type 0 where
   pub of_kind : p.kind ≡ kind
 
 -- the token is this word
-pub record SpellsWord (word : List ℕ) (p : Piece) : Type 0 where
+pub record SpellsWord (word : List ℕ) (p : TokenModel) : Type 0 where
   pub of_kind : p.kind ≡ TokenKind.Word
   pub spelled : IsTrue (same_word p.text word)
 
@@ -25,16 +25,16 @@ abbrev pub operator_word : BinaryOperator → List ℕ
 operator_word BinaryOperator.And = codes "and"
 operator_word BinaryOperator.Eq = codes "eq"
 
-pub record IsOperator (operator : BinaryOperator) (p : Piece) : Type 0 where
+pub record IsOperator (operator : BinaryOperator) (p : TokenModel) : Type 0 where
   pub word : SpellsWord (operator_word operator) p
 
 -- the token is a literal of this kind (URL Conventions 4.01, 5.1.1.14; ABNF 4.01, section 7)
-abbrev pub SpellsLiteral : LiteralKind → Piece → Type 0
+abbrev pub SpellsLiteral : LiteralKind → TokenModel → Type 0
 SpellsLiteral LiteralKind.Bool p = SpellsWord (codes "true") p ⊎ SpellsWord (codes "false") p
 SpellsLiteral LiteralKind.Int p = IsA TokenKind.Int p
 SpellsLiteral LiteralKind.Str p = IsA TokenKind.Str p
 
-pub record IsLiteral (kind : LiteralKind) (p : Piece) : Type 0 where
+pub record IsLiteral (kind : LiteralKind) (p : TokenModel) : Type 0 where
   pub spelled : SpellsLiteral kind p
 
 -- the words that are no name where an operand is expected
@@ -42,6 +42,6 @@ abbrev pub reserved_words : List (List ℕ)
 reserved_words = codes "true" ∷ codes "false" ∷ codes "null" ∷ codes "not" ∷ []
 
 -- a word that stands for a property where an operand is expected
-pub record IsName (p : Piece) : Type 0 where
+pub record IsName (p : TokenModel) : Type 0 where
   pub of_kind : p.kind ≡ TokenKind.Word
   pub free : ¬ IsTrue (list_any (same_word p.text) reserved_words)

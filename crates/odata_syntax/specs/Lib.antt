@@ -1,4 +1,4 @@
-pub use Rattle.odata_text.specs.Piece
+pub use Rattle.odata_text.specs.TokenModel
 pub mod Tree
 pub mod TreeView
 pub mod Lexeme

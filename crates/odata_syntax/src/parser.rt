@@ -4,7 +4,7 @@ ghost use Rattle.std.specs.Prelude.{◌≡◌, ◌≢◌, Some, IfOk, IfErr};
 ghost use Rattle.odata_syntax.specs.declared.syntax_fault.SyntaxFault.{SyntaxFault};
 ghost use Rattle.odata_syntax.specs.Tree.{Tree};
 ghost use Rattle.odata_syntax.specs.TreeView.{tree_of};
-ghost use Rattle.odata_text.specs.Piece.{pieces_of};
+ghost use Rattle.odata_text.specs.TokenModel.{token_models};
 ghost use Rattle.odata_syntax.specs.Grammar.{or_level, Derives};
 ghost use Rattle.odata_syntax.specs.Parse.{IsParse, HasNoParse, IsSyntaxFault};
 ghost use Rattle.odata_syntax.specs.private.Machine.{run, start};
@@ -28,13 +28,13 @@ use std::alloc::Global;
 /// `Unexpected` names the first token with which the tokens so far begin no expression; where every beginning is one
 /// and the whole is none, it is the empty span at `len`. `TooDeep` names the 65th parenthesis that would be open.
 pub fn parse(alloc: Global, tokens: &[Token<'_>], len: usize) -> Result<Expr, SyntaxFault>
-    ensures derived { IfOk result (λ expr. IsParse (pieces_of tokens.now) (tree_of expr)) }
+    ensures derived { IfOk result (λ expr. IsParse (token_models tokens.now) (tree_of expr)) }
     // it is the only one, at any depth
     ensures only { IfOk result (λ expr.
-        (tree : Tree) → Derives or_level (pieces_of tokens.now) tree → tree ≡ tree_of expr) }
+        (tree : Tree) → Derives or_level (token_models tokens.now) tree → tree ≡ tree_of expr) }
     ensures fault { IfErr result (λ fault.
-        fault ≢ SyntaxFault.Memory → IsSyntaxFault (pieces_of tokens.now) len fault) }
-    ensures none { IfErr result (λ fault. fault ≢ SyntaxFault.Memory → HasNoParse (pieces_of tokens.now)) }
+        fault ≢ SyntaxFault.Memory → IsSyntaxFault (token_models tokens.now) len fault) }
+    ensures none { IfErr result (λ fault. fault ≢ SyntaxFault.Memory → HasNoParse (token_models tokens.now)) }
 {
     let state = take_all(alloc, tokens)?;
     let root = step::finish(alloc, state, len)?;
@@ -43,8 +43,8 @@ pub fn parse(alloc: Global, tokens: &[Token<'_>], len: usize) -> Result<Expr, Sy
 
 /// The machine behind all tokens.
 fn take_all(alloc: Global, tokens: &[Token<'_>]) -> Result<State, SyntaxFault>
-    ensures taken { IfOk result (λ state. run (pieces_of tokens.now) start ≡ Some (machine_of state)) }
-    ensures refused { IfErr result (RefusesOneOf (pieces_of tokens.now)) }
+    ensures taken { IfOk result (λ state. run (token_models tokens.now) start ≡ Some (machine_of state)) }
+    ensures refused { IfErr result (RefusesOneOf (token_models tokens.now)) }
 {
     let mut state = State::new(alloc);
     for token in tokens {

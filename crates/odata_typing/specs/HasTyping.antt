@@ -1,7 +1,7 @@
 -- Which texts are filters, and why others are not (OData URL Conventions 4.01, section 5.1.1).
 use Rattle.std.specs.Prelude.{◌≡◌, ℕ, List, [], length}
 use Rattle.odata_syntax.specs.Parse.{IsParse, IsSyntaxFault}
-use Rattle.odata_text.specs.Piece.{Piece}
+use Rattle.odata_text.specs.TokenModel.{TokenModel}
 use Rattle.odata_text.specs.Tokens.{IsTokenList, IsTextFault}
 use Rattle.odata_syntax.specs.Tree.{Tree}
 use Rattle.odata_text.specs.declared.fault.TextFault.{TextFault}
@@ -16,7 +16,7 @@ use Rattle.odata_typing.specs.Typed.{Typed}
 
 -- the text has tokens, and these are the tree
 pub record HasTree (text : List ℕ) (tree : Tree) : Type 0 where
-  pub pieces : List Piece
+  pub pieces : List TokenModel
   pub tokens : IsTokenList text pieces
   pub parse : IsParse pieces tree
 
@@ -32,7 +32,7 @@ HasNoTyping slots root text = (tree : Tree) → ¬ HasTyping slots root text tre
 
 -- the text has tokens, and these have the fault
 pub record HasSyntaxFault (text : List ℕ) (fault : SyntaxFault) : Type 0 where
-  pub pieces : List Piece
+  pub pieces : List TokenModel
   pub tokens : IsTokenList text pieces
   pub fault_of : IsSyntaxFault pieces (length text) fault
 

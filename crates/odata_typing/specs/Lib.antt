@@ -4,7 +4,7 @@ pub use Rattle.edm_values.specs.IntLiteral
 pub use Rattle.edm_values.specs.PlainVal
 pub use Rattle.edm_values.specs.StringLiteral
 pub use Rattle.edm_values.specs.Val
-pub use Rattle.odata_text.specs.Piece
+pub use Rattle.odata_text.specs.TokenModel
 pub use Rattle.odata_text.specs.Tokens
 pub use Rattle.odata_syntax.specs.Parse
 pub use Rattle.odata_syntax.specs.Tree

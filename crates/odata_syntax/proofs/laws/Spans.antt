@@ -3,16 +3,16 @@ use Rattle.std.proofs.Common.{ℕ, ◌⊎◌, inl, inr, subst, ◌≡◌, refl, 
 use Rattle.std.proofs.lemmas.List.{append-nil}
 use Rattle.odata_syntax.specs.declared.node.BinaryOperator.{BinaryOperator}
 use Rattle.odata_syntax.specs.declared.node.LiteralKind.{LiteralKind}
-use Rattle.odata_text.specs.Piece.{Piece}
+use Rattle.odata_text.specs.TokenModel.{TokenModel}
 use Rattle.odata_syntax.specs.Tree.{Tree, node, literal, name, binary, start_of, stop_of}
 use Rattle.odata_syntax.specs.Grammar.{Level, binary_tree, Derives, looser, derives_literal, derives_name, derives_binary}
 use Rattle.odata_syntax.specs.Spans.{IsWithin, is_root, in_left, in_right, IsSpanned, IsSpannedWithin}
 
-one_token : (t : Piece) (tree : Tree) → start_of tree ≡ t.start → stop_of tree ≡ t.stop → IsSpanned (t ∷ []) tree
+one_token : (t : TokenModel) (tree : Tree) → start_of tree ≡ t.start → stop_of tree ≡ t.stop → IsSpanned (t ∷ []) tree
 one_token t tree starts stops = record { first = t; later = []; begins = refl; starts = starts; earlier = []; last = t; ends = refl; stops = stops }
 
 -- two trees with a token between them
-between : (ls rs : List Piece) (t : Piece) (left right whole : Tree) → IsSpanned ls left → IsSpanned rs right → start_of whole ≡ start_of left → stop_of whole ≡ stop_of right → IsSpanned (ls ++ (t ∷ rs)) whole
+between : (ls rs : List TokenModel) (t : TokenModel) (left right whole : Tree) → IsSpanned ls left → IsSpanned rs right → start_of whole ≡ start_of left → stop_of whole ≡ stop_of right → IsSpanned (ls ++ (t ∷ rs)) whole
 between ls rs t left right whole l r starts stops =
     record {
       first = l.first;
@@ -25,7 +25,7 @@ between ls rs t left right whole l r starts stops =
       stops = stops ∙ r.stops;
     }
 
-pub derived_spanned : {level : Level} {ts : List Piece} {tree : Tree} → Derives level ts tree → IsSpanned ts tree
+pub derived_spanned : {level : Level} {ts : List TokenModel} {tree : Tree} → Derives level ts tree → IsSpanned ts tree
 derived_spanned (looser d) = derived_spanned d
 derived_spanned (derives_literal {t = t} l) = one_token t _ refl refl
 derived_spanned (derives_name {t = t} n) = one_token t _ refl refl
@@ -44,25 +44,25 @@ within_name : {part : Tree} {start stop : ℕ} {text : List ℕ} → IsWithin pa
 within_name is_root = refl
 
 -- the whole, and more tokens on either side
-whole : (ts : List Piece) (tree part : Tree) → part ≡ tree → IsSpanned ts tree → IsSpannedWithin ts part
+whole : (ts : List TokenModel) (tree part : Tree) → part ≡ tree → IsSpanned ts tree → IsSpannedWithin ts part
 whole ts tree part e s =
     let P : Tree → Type 0 = λ k. IsSpanned ts k in
     record { before = []; own = ts; behind = []; split = sym (append-nil ts); spanned = subst P (sym e) s }
 
-in_front : (ls rs : List Piece) (part : Tree) → IsSpannedWithin ls part → IsSpannedWithin (ls ++ rs) part
+in_front : (ls rs : List TokenModel) (part : Tree) → IsSpannedWithin ls part → IsSpannedWithin (ls ++ rs) part
 in_front ls rs part s =
     record { before = s.before; own = s.own; behind = s.behind ++ rs; split = ap (λ k. k ++ rs) s.split ∙ append_assoc s.before (s.own ++ s.behind) rs ∙ ap (λ k. s.before ++ k) (append_assoc s.own s.behind rs); spanned = s.spanned }
 
-in_back : (ls rs : List Piece) (part : Tree) → IsSpannedWithin rs part → IsSpannedWithin (ls ++ rs) part
+in_back : (ls rs : List TokenModel) (part : Tree) → IsSpannedWithin rs part → IsSpannedWithin (ls ++ rs) part
 in_back ls rs part s =
     record { before = ls ++ s.before; own = s.own; behind = s.behind; split = ap (λ k. ls ++ k) s.split ∙ sym (append_assoc ls s.before (s.own ++ s.behind)); spanned = s.spanned }
 
-within_either : (ls rs : List Piece) (t : Piece) (left right part all : Tree) → IsSpanned (ls ++ (t ∷ rs)) all → (IsWithin part left → IsSpannedWithin ls part) → (IsWithin part right → IsSpannedWithin rs part) → (part ≡ all) ⊎ (IsWithin part left ⊎ IsWithin part right) → IsSpannedWithin (ls ++ (t ∷ rs)) part
+within_either : (ls rs : List TokenModel) (t : TokenModel) (left right part all : Tree) → IsSpanned (ls ++ (t ∷ rs)) all → (IsWithin part left → IsSpannedWithin ls part) → (IsWithin part right → IsSpannedWithin rs part) → (part ≡ all) ⊎ (IsWithin part left ⊎ IsWithin part right) → IsSpannedWithin (ls ++ (t ∷ rs)) part
 within_either ls rs t left right part all s l r (inl e) = whole (ls ++ (t ∷ rs)) all part e s
 within_either ls rs t left right part all s l r (inr (inl w)) = in_front ls (t ∷ rs) part (l w)
 within_either ls rs t left right part all s l r (inr (inr w)) = in_back ls (t ∷ rs) part (in_back (t ∷ []) rs part (r w))
 
-pub within_spanned : {level : Level} {ts : List Piece} {tree : Tree} → Derives level ts tree → (part : Tree) → IsWithin part tree → IsSpannedWithin ts part
+pub within_spanned : {level : Level} {ts : List TokenModel} {tree : Tree} → Derives level ts tree → (part : Tree) → IsWithin part tree → IsSpannedWithin ts part
 within_spanned (looser d) part w = within_spanned d part w
 within_spanned (derives_literal {kind = kind} {t = t} l) part w = whole (t ∷ []) (node t.start t.stop (literal kind t.text)) part (within_literal w) (one_token t (node t.start t.stop (literal kind t.text)) refl refl)
 within_spanned (derives_name {t = t} n) part w = whole (t ∷ []) (node t.start t.stop (name t.text)) part (within_name w) (one_token t (node t.start t.stop (name t.text)) refl refl)

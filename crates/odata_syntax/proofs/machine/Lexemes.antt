@@ -9,7 +9,7 @@ use Rattle.odata_syntax.specs.declared.node.BinaryOperator.{BinaryOperator}
 use Rattle.odata_syntax.specs.declared.node.LiteralKind.{LiteralKind}
 use Rattle.odata_text.specs.declared.token.TokenKind.{TokenKind}
 use Rattle.odata_syntax.specs.declared.parser.operand.Leaf.{Leaf}
-use Rattle.odata_text.specs.Piece.{Piece}
+use Rattle.odata_text.specs.TokenModel.{TokenModel}
 use Rattle.odata_syntax.specs.Lexeme.{SpellsWord, operator_word, IsOperator, SpellsLiteral, IsLiteral, IsName, reserved_words, same_word}
 use Rattle.odata_syntax.specs.Grammar.{base_level, Derives, derives_literal, derives_name}
 use Rattle.odata_syntax.specs.private.Machine.{word_operator, operator_of_kind, word_leaf, leaf_of_kind, leaf_tree}
@@ -30,7 +30,7 @@ unfolding word_operator
 operator_word_found BinaryOperator.And text h = rw h refl
 operator_word_found BinaryOperator.Eq text h = rw (other_word text (codes "eq") (codes "and") h eq_is_no_and, h) refl
 
-pub operator_found : {operator : BinaryOperator} {p : Piece} → IsOperator operator p → operator_of_kind p.kind p.text ≡ Some operator
+pub operator_found : {operator : BinaryOperator} {p : TokenModel} → IsOperator operator p → operator_of_kind p.kind p.text ≡ Some operator
 operator_found {operator} {p} o = rw o.word.of_kind (operator_word_found operator p.text o.word.spelled)
 
 -- and it finds no other
@@ -53,7 +53,7 @@ operator_kind : (kind : TokenKind) (text : List ℕ) (operator : BinaryOperator)
 operator_kind TokenKind.Word text operator e = (refl, e)
 operator_kind _ text operator e = absurd (cc)
 
-pub operator_spelled : (p : Piece) (operator : BinaryOperator) → operator_of_kind p.kind p.text ≡ Some operator → IsOperator operator p
+pub operator_spelled : (p : TokenModel) (operator : BinaryOperator) → operator_of_kind p.kind p.text ≡ Some operator → IsOperator operator p
 operator_spelled p operator e =
     let found = operator_kind p.kind p.text operator e in
     record { word = record { of_kind = found.0; spelled = operator_word_spelled operator p.text found.1 } }
@@ -82,19 +82,19 @@ name_word_found : (text : List ℕ) → ¬ IsTrue (list_any (same_word text) res
 unfolding word_leaf
 name_word_found text h = none_of (Some (Leaf.Lit LiteralKind.Bool)) None (Some Leaf.Name) (same_word text (codes "true")) (same_word text (codes "false")) (same_word text (codes "null")) (same_word text (codes "not")) h
 
-boolean_found : (p : Piece) → SpellsWord (codes "true") p ⊎ SpellsWord (codes "false") p → leaf_of_kind p.kind p.text ≡ Some (Leaf.Lit LiteralKind.Bool)
+boolean_found : (p : TokenModel) → SpellsWord (codes "true") p ⊎ SpellsWord (codes "false") p → leaf_of_kind p.kind p.text ≡ Some (Leaf.Lit LiteralKind.Bool)
 boolean_found p (inl w) = rw w.of_kind (true_found p.text w.spelled)
 boolean_found p (inr w) = rw w.of_kind (false_found p.text w.spelled)
 
-spelled_found : (kind : LiteralKind) (p : Piece) → SpellsLiteral kind p → leaf_of_kind p.kind p.text ≡ Some (Leaf.Lit kind)
+spelled_found : (kind : LiteralKind) (p : TokenModel) → SpellsLiteral kind p → leaf_of_kind p.kind p.text ≡ Some (Leaf.Lit kind)
 spelled_found LiteralKind.Bool p h = boolean_found p h
 spelled_found LiteralKind.Int p h = rw h.of_kind refl
 spelled_found LiteralKind.Str p h = rw h.of_kind refl
 
-pub literal_found : {kind : LiteralKind} {p : Piece} → IsLiteral kind p → leaf_of_kind p.kind p.text ≡ Some (Leaf.Lit kind)
+pub literal_found : {kind : LiteralKind} {p : TokenModel} → IsLiteral kind p → leaf_of_kind p.kind p.text ≡ Some (Leaf.Lit kind)
 literal_found {kind} {p} l = spelled_found kind p l.spelled
 
-pub name_found : {p : Piece} → IsName p → leaf_of_kind p.kind p.text ≡ Some Leaf.Name
+pub name_found : {p : TokenModel} → IsName p → leaf_of_kind p.kind p.text ≡ Some Leaf.Name
 name_found {p} n = rw n.of_kind (name_word_found p.text n.free)
 
 -- and it finds no other
@@ -133,12 +133,12 @@ leaf_spelled TokenKind.Int text leaf e = subst (λ (l : Leaf). SpellsLeaf TokenK
 leaf_spelled TokenKind.Str text leaf e = subst (λ (l : Leaf). SpellsLeaf TokenKind.Str text l) (same_Some (Leaf.Lit LiteralKind.Str) leaf e) refl
 leaf_spelled _ text leaf e = absurd (cc)
 
-boolean_word : (p : Piece) → p.kind ≡ TokenKind.Word → (same_word p.text (codes "true") ≡ true) ⊎ (same_word p.text (codes "false") ≡ true) → SpellsWord (codes "true") p ⊎ SpellsWord (codes "false") p
+boolean_word : (p : TokenModel) → p.kind ≡ TokenKind.Word → (same_word p.text (codes "true") ≡ true) ⊎ (same_word p.text (codes "false") ≡ true) → SpellsWord (codes "true") p ⊎ SpellsWord (codes "false") p
 boolean_word p k (inl h) = inl (record { of_kind = k; spelled = h })
 boolean_word p k (inr h) = inr (record { of_kind = k; spelled = h })
 
 -- an operand that the machine finds is derived
-pub leaf_derived : (p : Piece) (leaf : Leaf) → leaf_of_kind p.kind p.text ≡ Some leaf → Derives base_level (p ∷ []) (leaf_tree leaf p)
+pub leaf_derived : (p : TokenModel) (leaf : Leaf) → leaf_of_kind p.kind p.text ≡ Some leaf → Derives base_level (p ∷ []) (leaf_tree leaf p)
 unfolding SpellsLeaf
 leaf_derived p (Leaf.Lit LiteralKind.Bool) e =
     let spelled = leaf_spelled p.kind p.text (Leaf.Lit LiteralKind.Bool) e in

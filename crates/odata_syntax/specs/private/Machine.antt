@@ -5,7 +5,7 @@ use Rattle.odata_syntax.specs.declared.node.BinaryOperator.{BinaryOperator}
 use Rattle.odata_syntax.specs.declared.node.LiteralKind.{LiteralKind}
 use Rattle.odata_text.specs.declared.token.TokenKind.{TokenKind}
 use Rattle.odata_syntax.specs.declared.parser.operand.Leaf.{Leaf}
-use Rattle.odata_text.specs.Piece.{Piece}
+use Rattle.odata_text.specs.TokenModel.{TokenModel}
 use Rattle.odata_syntax.specs.Tree.{Tree, node, literal, name}
 use Rattle.odata_syntax.specs.Grammar.{Level, or_level, operator_level, binary_tree}
 
@@ -49,7 +49,7 @@ leaf_of_kind TokenKind.Str text = Some (Leaf.Lit LiteralKind.Str)
 leaf_of_kind _ text = None
 
 -- the tree of an operand of one token
-abbrev pub leaf_tree : Leaf → Piece → Tree
+abbrev pub leaf_tree : Leaf → TokenModel → Tree
 leaf_tree (Leaf.Lit kind) p = node p.start p.stop (literal kind p.text)
 leaf_tree Leaf.Name p = node p.start p.stop (name p.text)
 
@@ -79,7 +79,7 @@ reduce level (w ∷ below) tree =
     else record { waiting = w ∷ below; tree = tree }
 
 -- one more token, where an operand is expected, and where one has been read
-abbrev pub take_leaf : List Waiting → Piece → Option Leaf → Option Machine
+abbrev pub take_leaf : List Waiting → TokenModel → Option Leaf → Option Machine
 take_leaf waiting p (Some leaf) = Some (record { waiting = waiting; expected = operator_or_end (leaf_tree leaf p) })
 take_leaf waiting p None = None
 
@@ -90,15 +90,15 @@ abbrev pub take_operator : List Waiting → Tree → Option BinaryOperator → O
 take_operator waiting tree (Some operator) = Some (wait_behind operator (reduce (operator_level operator) waiting tree))
 take_operator waiting tree None = None
 
-abbrev pub step_at : Expected → List Waiting → Piece → Option Machine
+abbrev pub step_at : Expected → List Waiting → TokenModel → Option Machine
 step_at operand waiting p = take_leaf waiting p (leaf_of_kind p.kind p.text)
 step_at (operator_or_end tree) waiting p = take_operator waiting tree (operator_of_kind p.kind p.text)
 
-abbrev pub step : Machine → Piece → Option Machine
+abbrev pub step : Machine → TokenModel → Option Machine
 step m p = step_at m.expected m.waiting p
 
 -- the machine behind these tokens
-abbrev pub run : List Piece → Machine → Option Machine
+abbrev pub run : List TokenModel → Machine → Option Machine
 run [] m = Some m
 run (p ∷ ps) m = option_and_then (λ n. run ps n) (step m p)
 

@@ -5,7 +5,7 @@ use Rattle.odata_syntax.specs.declared.syntax_fault.SyntaxFault.{SyntaxFault}
 use Rattle.odata_syntax.specs.declared.parser.state.Frame.{Frame}
 use Rattle.odata_syntax.specs.declared.parser.state.Stage.{Stage}
 use Rattle.odata_syntax.specs.declared.parser.state.State.{State}
-use Rattle.odata_text.specs.Piece.{Piece, piece_of}
+use Rattle.odata_text.specs.TokenModel.{TokenModel, token_model}
 use Rattle.odata_syntax.specs.declared.node.Node.{Node}
 use Rattle.odata_text.specs.declared.token.Token.{Token}
 use Rattle.odata_syntax.specs.TreeView.{tree_of}
@@ -33,13 +33,13 @@ reduction_of frames grown = record { waiting = stack_of frames; tree = tree_of g
 
 -- the machine behind a token where an operand is expected, and behind the operand that has been read
 abbrev pub operand_step : List Frame → Token → Option Machine
-operand_step frames token = step_at operand (stack_of frames) (piece_of token)
+operand_step frames token = step_at operand (stack_of frames) (token_model token)
 
 abbrev pub operator_step : List Frame → Node → Token → Option Machine
-operator_step frames read token = step_at (operator_or_end (tree_of read)) (stack_of frames) (piece_of token)
+operator_step frames read token = step_at (operator_or_end (tree_of read)) (stack_of frames) (token_model token)
 
 -- what a refusal of a step says: it has no next machine, and the span is the token's
-abbrev pub Refuses : Option Machine → Piece → SyntaxFault → Type 0
+abbrev pub Refuses : Option Machine → TokenModel → SyntaxFault → Type 0
 Refuses next p (SyntaxFault.Unexpected span) = IsSpanOf p span × (next ≡ None)
 Refuses next p (SyntaxFault.TooDeep span) = ⊥
 Refuses next p SyntaxFault.Memory = Unit {0}
@@ -51,17 +51,17 @@ RefusesEnd tree len (SyntaxFault.TooDeep span) = ⊥
 RefusesEnd tree len SyntaxFault.Memory = Unit {0}
 
 -- the machine takes the tokens before this one and not this one
-pub record IsStuck (ts : List Piece) (span : Span) : Type 0 where
-  pub before : List Piece
-  pub token : Piece
-  pub behind : List Piece
+pub record IsStuck (ts : List TokenModel) (span : Span) : Type 0 where
+  pub before : List TokenModel
+  pub token : TokenModel
+  pub behind : List TokenModel
   pub split : ts ≡ before ++ (token ∷ behind)
   pub reached : Machine
   pub takes : run before start ≡ Some reached
   pub stuck : step reached token ≡ None
   pub spanned : IsSpanOf token span
 
-abbrev pub RefusesOneOf : List Piece → SyntaxFault → Type 0
+abbrev pub RefusesOneOf : List TokenModel → SyntaxFault → Type 0
 RefusesOneOf ts (SyntaxFault.Unexpected span) = IsStuck ts span
 RefusesOneOf ts (SyntaxFault.TooDeep span) = ⊥
 RefusesOneOf ts SyntaxFault.Memory = Unit {0}

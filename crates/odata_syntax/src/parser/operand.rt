@@ -1,5 +1,5 @@
 ghost use Rattle.std.specs.Prelude.{◌≡◌, Some, IfOk, IfErr};
-ghost use Rattle.odata_text.specs.Piece.{piece_of};
+ghost use Rattle.odata_text.specs.TokenModel.{token_model};
 ghost use Rattle.odata_syntax.specs.TreeView.{tree_of};
 ghost use Rattle.odata_syntax.specs.private.Machine.{word_leaf as machine_word, leaf_of_kind, leaf_tree};
 ghost use Rattle.odata_syntax.specs.private.MachineView.{machine_of, operand_step, Refuses};
@@ -24,7 +24,7 @@ pub fn take_operand(
     token: &Token<'_>,
 ) -> Result<State, SyntaxFault>
     ensures taken { IfOk result (λ next. operand_step frames.items token.now ≡ Some (machine_of next)) }
-    ensures refused { IfErr result (Refuses (operand_step frames.items token.now) (piece_of token.now)) }
+    ensures refused { IfErr result (Refuses (operand_step frames.items token.now) (token_model token.now)) }
 {
     match read_leaf(token) {
         Some(leaf) => {
@@ -66,7 +66,7 @@ fn word_leaf(text: &str) -> Option<Leaf>
 
 /// The node of an operand of one token.
 fn leaf_node(alloc: Global, leaf: Leaf, token: &Token<'_>) -> Result<Box<Node>, AllocError>
-    ensures { IfOk result (λ read. tree_of read.value ≡ leaf_tree leaf (piece_of token.now)) }
+    ensures { IfOk result (λ read. tree_of read.value ≡ leaf_tree leaf (token_model token.now)) }
 {
     let span = token.span;
     let text = String::from_str(alloc, token.text)?;

@@ -1,6 +1,6 @@
 ghost use Rattle.std.specs.Prelude.{◌≡◌, Some, IfOk, IfErr};
 ghost use Rattle.odata_syntax.specs.Grammar.{operator_level};
-ghost use Rattle.odata_text.specs.Piece.{piece_of};
+ghost use Rattle.odata_text.specs.TokenModel.{token_model};
 ghost use Rattle.odata_syntax.specs.private.Machine.{word_operator as machine_word, operator_of_kind};
 ghost use Rattle.odata_syntax.specs.private.MachineView.{machine_of, operator_step, Refuses};
 
@@ -20,7 +20,7 @@ pub fn take_operator(
     token: &Token<'_>,
 ) -> Result<State, SyntaxFault>
     ensures taken { IfOk result (λ next. operator_step frames.items read.value token.now ≡ Some (machine_of next)) }
-    ensures refused { IfErr result (Refuses (operator_step frames.items read.value token.now) (piece_of token.now)) }
+    ensures refused { IfErr result (Refuses (operator_step frames.items read.value token.now) (token_model token.now)) }
 {
     match read_operator(token) {
         Some(operator) => {

@@ -1,5 +1,5 @@
 ghost use Rattle.std.specs.Prelude.{◌≡◌, Some, IfOk, IfErr};
-ghost use Rattle.odata_text.specs.Piece.{piece_of};
+ghost use Rattle.odata_text.specs.TokenModel.{token_model};
 ghost use Rattle.odata_syntax.specs.TreeView.{tree_of};
 ghost use Rattle.odata_syntax.specs.private.Machine.{step as machine_step, finish as machine_finish};
 ghost use Rattle.odata_syntax.specs.private.MachineView.{machine_of, Refuses, RefusesEnd};
@@ -16,9 +16,9 @@ use std::alloc::Global;
 /// The machine behind one more token.
 pub fn step(alloc: Global, state: State, token: &Token<'_>) -> Result<State, SyntaxFault>
     ensures taken { IfOk result (λ next.
-        machine_step (machine_of state) (piece_of token.now) ≡ Some (machine_of next)) }
+        machine_step (machine_of state) (token_model token.now) ≡ Some (machine_of next)) }
     ensures refused { IfErr result
-        (Refuses (machine_step (machine_of state) (piece_of token.now)) (piece_of token.now)) }
+        (Refuses (machine_step (machine_of state) (token_model token.now)) (token_model token.now)) }
 {
     let State { frames, stage } = state;
     match stage {

@@ -7,7 +7,7 @@ use Rattle.std.proofs.lemmas.Bool.Decides.{nat_tests}
 use Rattle.std.proofs.lemmas.List.{drop_at, length-take-le, take_at}
 use Rattle.edm_values.specs.GuidLiteral.{IsGuidSpelling, digit_groups, hex_bytes}
 use Rattle.odata_text.specs.private.Patterns.{Fits}
-use Rattle.odata_text.specs.private.Sequence.{FollowedBy}
+use Rattle.odata_text.specs.Sequence.{FollowedBy}
 use Rattle.odata_text.specs.declared.byte_test.ByteTest.{ByteTest}
 use Rattle.odata_text.specs.declared.byte_test.ByteTest.TheVariants.{HexDigit, Hyphen}
 

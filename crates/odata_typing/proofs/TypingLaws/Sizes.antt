@@ -1,13 +1,13 @@
 -- A tree has no more nodes than tokens.
 use Rattle.std.proofs.Common.{◌≡◌, ℕ, ◌≤◌, ◌+◌, List, [], ◌∷◌, ◌++◌, length, length-append, arith}
 use Rattle.odata_syntax.specs.Grammar.{Level, Derives, looser, derives_literal, derives_name, derives_binary}
-use Rattle.odata_text.specs.Piece.{Piece}
+use Rattle.odata_text.specs.TokenModel.{TokenModel}
 use Rattle.odata_text.specs.Tokens.{token_limit}
 use Rattle.odata_syntax.specs.Tree.{Tree, node, literal, name, binary}
 use Rattle.odata_typing.specs.HasTyping.{HasTree}
 use Rattle.odata_typing.specs.PreOrder.{pre_order}
 
-pub nodes_of_tokens : (level : Level) (ts : List Piece) (tree : Tree) → Derives level ts tree → length (pre_order tree) ≤ length ts
+pub nodes_of_tokens : (level : Level) (ts : List TokenModel) (tree : Tree) → Derives level ts tree → length (pre_order tree) ≤ length ts
 nodes_of_tokens level ts tree (looser {level = q} {ts = us} {tree = t} derived) = nodes_of_tokens _ us t derived
 nodes_of_tokens level ts tree (derives_literal is) = omega arith
 nodes_of_tokens level ts tree (derives_name is) = omega arith
