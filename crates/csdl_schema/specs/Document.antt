@@ -1,19 +1,12 @@
 -- Which schema a document stands for, and which fault is its first (CSDL JSON 4.01).
-use Rattle.std.specs.Prelude.{◌≡◌, ℕ, ◌<◌, ◌≤◌, ◌⊎◌, ◌∷◌, [], List, length, Some, None, IsUtf8, string_bytes}
+use Rattle.std.specs.Prelude.{◌≡◌, ℕ, ◌<◌, ◌≤◌, ◌⊎◌, ◌∷◌, [], List, length, string_bytes}
 use Rattle.serde_json.specs.Data.{Data}
-use Rattle.serde_json.specs.Read.{read}
 use Rattle.csdl_schema.specs.declared.fault.SchemaFault.{SchemaFault}
 use Rattle.csdl_schema.specs.declared.fault.SchemaFault.TheVariants as code
 use Rattle.csdl_schema.specs.SchemaModel.{SchemaModel}
 use Rattle.csdl_schema.specs.Declarations.{declared_schema}
+use Rattle.csdl_schema.specs.JsonText.{IsJsonOf, IsNoJson}
 use Rattle.csdl_schema.specs.Faults.{Fault, not_json, not_object, version, bad_type, bad_property, unknown_base, base_cycle, property_twice, bad_enum_member, too_large, document_faults}
-
--- the bytes are the JSON text of a value
-abbrev pub IsJsonOf : List ℕ → Data → Type 0
-IsJsonOf document d = IsUtf8 document × (read document ≡ Some d)
-
-abbrev pub IsNoJson : List ℕ → Type 0
-IsNoJson document = IsUtf8 document → read document ≡ None
 
 -- a document of at most a mebibyte, JSON, without faults, and the schema that it declares
 pub record StandsFor (document : List ℕ) (schema : SchemaModel) : Type 0 where

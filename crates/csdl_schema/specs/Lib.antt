@@ -7,6 +7,7 @@ pub mod SchemaModel
 pub mod PropertyView
 pub mod Declarations
 pub mod Faults
+pub mod JsonText
 pub mod Document
 pub mod Worked
 pub mod private

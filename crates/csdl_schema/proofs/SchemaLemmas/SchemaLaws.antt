@@ -5,7 +5,8 @@ use Rattle.serde_json.specs.Data.{Data}
 use Rattle.csdl_schema.specs.SchemaModel.{PropertyModel, SchemaModel, properties_in, slots_of}
 use Rattle.csdl_schema.specs.Declarations.{TypeDeclaration, full_name, declared_in, declared_property, declared_type, first_named, in_name_order, declared_slots, types_declared, declared_schema}
 use Rattle.csdl_schema.specs.Faults.{Fault, document_faults}
-use Rattle.csdl_schema.specs.Document.{StandsFor, IsJsonOf, IsNoJson, IsFirstFault}
+use Rattle.csdl_schema.specs.Document.{StandsFor, IsFirstFault}
+use Rattle.csdl_schema.specs.JsonText.{IsJsonOf, IsNoJson}
 use Rattle.csdl_schema.proofs.SchemaLemmas.NameOrder.{by_name}
 
 -- a text is the JSON of one value
