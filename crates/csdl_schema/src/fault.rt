@@ -1,18 +1,43 @@
 use std::alloc::{AllocError, AllocFailed};
+use thiserror::Error;
 
-/// Why a document is no schema. `owner` is a qualified name.
-#[derive(Debug, Drop)]
+/// Why a document is no schema. `owner` is the name of a type with its namespace. Shown, a fault is its
+/// name and the names that it tells, as `BadProperty Shop.Order Total`; want of memory is `memory`.
+#[derive(Debug, Drop, Error)]
 pub enum SchemaFault {
+    /// The bytes are no JSON text.
+    #[error("NotJson")]
     NotJson,
+    /// The document is no JSON object.
+    #[error("NotObject")]
     NotObject,
+    /// `$Version` is neither `4.0` nor `4.01` (CSDL JSON 4.01, section 2).
+    #[error("Version")]
     Version,
+    /// A namespace whose value is no object, or whose alias is no text of its own (section 4), or a type
+    /// of another shape than an entity type's (section 6).
+    #[error("BadType {name}")]
     BadType { name: String },
+    /// A member of a type that is no property (section 7).
+    #[error("BadProperty {owner} {name}")]
     BadProperty { owner: String, name: String },
+    /// A base type that is not there; no type is read as a base yet.
+    #[error("UnknownBase {owner}")]
     UnknownBase { owner: String },
+    /// A type that is its own base, however far up. Not answered yet.
+    #[error("BaseCycle {owner}")]
     BaseCycle { owner: String },
+    /// A property that a base type declares too. Not answered yet.
+    #[error("PropertyTwice {owner} {name}")]
     PropertyTwice { owner: String, name: String },
+    /// A member of an enumeration that has no value. Not answered yet.
+    #[error("BadEnumMember {owner} {name}")]
     BadEnumMember { owner: String, name: String },
+    /// A document of more than 1,048,576 bytes or 4,096 types, or a type of more than 1,024 properties.
+    #[error("TooLarge")]
     TooLarge,
+    /// An allocation was refused.
+    #[error("memory")]
     Memory,
 }
 
