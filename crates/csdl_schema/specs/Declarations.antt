@@ -28,9 +28,9 @@ abbrev pub is_name_byte : ℕ → Bool
 is_name_byte b = is_name_start b || (nat_le 48 b && nat_le b 57)
 
 -- letters, digits and `_`, and no digit first
-abbrev pub is_identifier : List ℕ → Bool
-is_identifier [] = false
-is_identifier (b ∷ bs) = is_name_start b && list_all is_name_byte bs
+abbrev pub is_ascii_identifier : List ℕ → Bool
+is_ascii_identifier [] = false
+is_ascii_identifier (b ∷ bs) = is_name_start b && list_all is_name_byte bs
 
 -- ---- members
 
@@ -92,10 +92,16 @@ type_text d = unwrap_or (text_at (codes "$Type") d) (codes "Edm.String")
 -- one value that is never null, by its type's name; navigation, collections and what may be null are opaque
 abbrev pub type_of_property : Data → PropertyType
 type_of_property d =
-    if is_navigation d || (is_true_at (codes "$Collection") d || is_true_at (codes "$Nullable") d) then opaque else named_type (type_text d)
+    if is_navigation d || (is_true_at (codes "$Collection") d || is_true_at (codes "$Nullable") d) then opaque
+    else named_type (type_text d)
 
 abbrev pub declared_property : List ℕ × Data → PropertyModel
-declared_property m = record { name = m.0; type_of = type_of_property m.1; many = is_true_at (codes "$Collection") m.1; nullable = is_true_at (codes "$Nullable") m.1 }
+declared_property m = record {
+  name = m.0;
+  type_of = type_of_property m.1;
+  many = is_true_at (codes "$Collection") m.1;
+  nullable = is_true_at (codes "$Nullable") m.1;
+}
 
 -- ---- types (section 6)
 
@@ -121,7 +127,9 @@ type_in namespace alias m = record { namespace = namespace; alias = alias; name 
 
 abbrev pub types_among : List ℕ → Option (List ℕ) → List (List ℕ × Data) → List TypeDeclaration
 types_among namespace alias [] = []
-types_among namespace alias (m ∷ ms) = if is_other_kind m.1 then types_among namespace alias ms else type_in namespace alias m ∷ types_among namespace alias ms
+types_among namespace alias (m ∷ ms) =
+    if is_other_kind m.1 then types_among namespace alias ms
+    else type_in namespace alias m ∷ types_among namespace alias ms
 
 -- the types of one schema, well formed or not
 abbrev pub types_in : List ℕ × Data → List TypeDeclaration
@@ -148,7 +156,8 @@ pub record AreByName (types ordered : List TypeDeclaration) : Type 0 where
 -- a type goes before those of higher whole names, and in place of one of the same
 abbrev pub put_type : TypeDeclaration → List TypeDeclaration → List TypeDeclaration
 put_type t [] = t ∷ []
-put_type t (u ∷ us) = match_ordering (slice_cmp nat_cmp (full_name t) (full_name u)) (t ∷ u ∷ us) (t ∷ us) (u ∷ put_type t us)
+put_type t (u ∷ us) =
+    match_ordering (slice_cmp nat_cmp (full_name t) (full_name u)) (t ∷ u ∷ us) (t ∷ us) (u ∷ put_type t us)
 
 -- the types by name, as the law `types_by_name` says
 abbrev pub in_name_order : List TypeDeclaration → List TypeDeclaration
@@ -159,7 +168,13 @@ abbrev pub types_in_order : Data → List TypeDeclaration
 types_in_order document = in_name_order (types_declared document)
 
 abbrev pub entity_type : TypeDeclaration → List PropertyModel → TypeModel
-entity_type t properties = record { namespace = t.namespace; alias = t.alias; name = t.name; is_entity = true; properties = properties }
+entity_type t properties = record {
+  namespace = t.namespace;
+  alias = t.alias;
+  name = t.name;
+  is_entity = true;
+  properties = properties;
+}
 
 abbrev pub declared_type : TypeDeclaration → TypeModel
 declared_type t = entity_type t (map declared_property (declared_in t.body))
@@ -171,4 +186,6 @@ declared_schema document = record { types = map declared_type (types_in_order do
 -- the properties of the first declared type of a whole name, in the document's own order
 abbrev pub declared_slots : List TypeDeclaration → Slots
 declared_slots [] asked = []
-declared_slots (t ∷ ts) asked = if pointwise nat_eq (full_name t) asked then map declared_property (declared_in t.body) else declared_slots ts asked
+declared_slots (t ∷ ts) asked =
+    if pointwise nat_eq (full_name t) asked then map declared_property (declared_in t.body)
+    else declared_slots ts asked

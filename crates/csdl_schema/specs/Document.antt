@@ -17,22 +17,26 @@ pub record StandsFor (document : List ℕ) (schema : SchemaModel) : Type 0 where
   pub is_declared : schema ≡ declared_schema json
 
 -- the size goes first, then whether the document is JSON, then the faults of the value
-abbrev pub IsFirstFault : List ℕ → Fault → Type 0
-IsFirstFault document fault =
+abbrev pub IsFirstDocumentFault : List ℕ → Fault → Type 0
+IsFirstDocumentFault document fault =
     ((1048576 < length document) × (fault ≡ too_large))
     ⊎ ((length document ≤ 1048576) × IsNoJson document × (fault ≡ not_json))
-    ⊎ ((length document ≤ 1048576) × (d : Data) × IsJsonOf document d × (later : List Fault) × (document_faults d ≡ fault ∷ later))
+    ⊎ ((length document ≤ 1048576) × (json : Data) × IsJsonOf document json × (later : List Fault)
+    × (document_faults json ≡ fault ∷ later))
 
 -- what a refusal says; want of memory says nothing
 abbrev pub IsSchemaFault : List ℕ → SchemaFault → Type 0
-IsSchemaFault document code.NotJson = IsFirstFault document not_json
-IsSchemaFault document code.NotObject = IsFirstFault document not_object
-IsSchemaFault document code.Version = IsFirstFault document version
-IsSchemaFault document (code.BadType name) = IsFirstFault document (bad_type (string_bytes name))
-IsSchemaFault document (code.BadProperty owner name) = IsFirstFault document (bad_property (string_bytes owner) (string_bytes name))
-IsSchemaFault document (code.UnknownBase owner) = IsFirstFault document (unknown_base (string_bytes owner))
-IsSchemaFault document (code.BaseCycle owner) = IsFirstFault document (base_cycle (string_bytes owner))
-IsSchemaFault document (code.PropertyTwice owner name) = IsFirstFault document (property_twice (string_bytes owner) (string_bytes name))
-IsSchemaFault document (code.BadEnumMember owner name) = IsFirstFault document (bad_enum_member (string_bytes owner) (string_bytes name))
-IsSchemaFault document code.TooLarge = IsFirstFault document too_large
+IsSchemaFault document code.NotJson = IsFirstDocumentFault document not_json
+IsSchemaFault document code.NotObject = IsFirstDocumentFault document not_object
+IsSchemaFault document code.Version = IsFirstDocumentFault document version
+IsSchemaFault document (code.BadType name) = IsFirstDocumentFault document (bad_type (string_bytes name))
+IsSchemaFault document (code.BadProperty owner name) =
+    IsFirstDocumentFault document (bad_property (string_bytes owner) (string_bytes name))
+IsSchemaFault document (code.UnknownBase owner) = IsFirstDocumentFault document (unknown_base (string_bytes owner))
+IsSchemaFault document (code.BaseCycle owner) = IsFirstDocumentFault document (base_cycle (string_bytes owner))
+IsSchemaFault document (code.PropertyTwice owner name) =
+    IsFirstDocumentFault document (property_twice (string_bytes owner) (string_bytes name))
+IsSchemaFault document (code.BadEnumMember owner name) =
+    IsFirstDocumentFault document (bad_enum_member (string_bytes owner) (string_bytes name))
+IsSchemaFault document code.TooLarge = IsFirstDocumentFault document too_large
 IsSchemaFault document code.Memory = Unit {0}

@@ -1,4 +1,4 @@
--- Types of properties and expressions, by name (CSDL JSON 4.01, sections 3 and 7; OData URL Conventions 4.01, section 5.1.1).
+-- Types of properties and expressions, by name (CSDL JSON 4.01, sections 3 and 7; URL Conventions 4.01, section 5.1.1).
 use Rattle.std.specs.Prelude.{ℕ, List}
 use Rattle.edm_values.specs.declared.primitive.PrimitiveType.{PrimitiveType}
 

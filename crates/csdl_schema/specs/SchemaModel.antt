@@ -40,12 +40,13 @@ Slots = List ℕ → List PropertyModel
 -- the properties of the first type of that name
 abbrev pub properties_in : List TypeModel → Slots
 properties_in [] asked = []
-properties_in (t ∷ ts) asked = if pointwise nat_eq (qualified_name t) asked then t.properties else properties_in ts asked
+properties_in (t ∷ ts) asked =
+    if pointwise nat_eq (qualified_name t) asked then t.properties else properties_in ts asked
 
 abbrev pub slots_of : SchemaModel → Slots
 slots_of schema = properties_in schema.types
 
--- the qualified name of the type at a place; the empty text past the end
+-- the qualified name of the type at an index; the empty text past the end
 abbrev pub name_in : List TypeModel → ℕ → List ℕ
 name_in [] n = []
 name_in (t ∷ ts) zero = qualified_name t
@@ -54,7 +55,7 @@ name_in (t ∷ ts) (suc n) = name_in ts n
 abbrev pub type_name_at : SchemaModel → ℕ → List ℕ
 type_name_at schema = name_in schema.types
 
--- the properties of the type at a place, in slot order; none past the end
+-- the properties of the type at an index, in slot order; none past the end
 abbrev pub properties_at : SchemaModel → ℕ → List PropertyModel
 properties_at schema n = slots_of schema (type_name_at schema n)
 
@@ -70,11 +71,11 @@ is_text_of (Some text) asked = pointwise nat_eq text asked
 abbrev pub is_named : TypeModel → List ℕ → Bool
 is_named t asked = pointwise nat_eq (qualified_name t) asked || is_text_of (alias_name t) asked
 
--- the place of the first type of the asked name
-abbrev pub place_named : SchemaModel → List ℕ → Option ℕ
-place_named schema asked = position (λ t. is_named t asked) schema.types
+-- the index of the first type of the asked name
+abbrev pub index_named : SchemaModel → List ℕ → Option ℕ
+index_named schema asked = position (λ t. is_named t asked) schema.types
 
--- there is a type at the place, and it is an entity type
+-- there is a type at the index, and it is an entity type
 abbrev pub IsEntityAt : SchemaModel → ℕ → Type 0
 IsEntityAt schema n = IsSomeAnd (slice_get schema.types n) (λ t. IsTrue t.is_entity)
 
@@ -86,6 +87,6 @@ slot_named properties asked = position (λ p. pointwise nat_eq asked p.name) pro
 abbrev pub IsInNameOrder : List PropertyModel → Type 0
 IsInNameOrder properties = IsStrictlySortedBy (slice_cmp nat_cmp) (map (λ p. p.name) properties)
 
--- the qualified name of the type at a place, if there is one
+-- the qualified name of the type at an index, if there is one
 abbrev pub type_name_of : SchemaModel → ℕ → Option (List ℕ)
 type_name_of schema n = option_map qualified_name (slice_get schema.types n)

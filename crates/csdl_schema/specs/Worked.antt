@@ -19,6 +19,8 @@ mini_schema = record {
     alias = None;
     name = codes "Item";
     is_entity = true;
-    properties = simple (codes "Active") prim.Bool ∷ simple (codes "ID") prim.Int32 ∷ simple (codes "Name") prim.String ∷ [];
+    properties =
+        simple (codes "Active") prim.Bool ∷ simple (codes "ID") prim.Int32
+        ∷ simple (codes "Name") prim.String ∷ [];
   } ∷ [];
 }

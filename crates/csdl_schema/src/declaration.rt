@@ -42,12 +42,12 @@ impl<'d> Declaration<'d> {
 
 /// Two texts with a dot between them.
 pub(crate) fn join(alloc: Global, front: &str, name: &str) -> Result<String, AllocError>
-    ensures { IfOk result (λ joined. string_bytes joined ≡ front.now ++ 46 ∷ name.now) }
+    ensures { IfOk result (λ text. string_bytes text ≡ front.now ++ 46 ∷ name.now) }
 {
-    let mut joined = front.to_owned(alloc)?;
-    joined.push_str(".")?;
-    joined.push_str(name)?;
-    Ok(joined)
+    let mut text = front.to_owned(alloc)?;
+    text.push_str(".")?;
+    text.push_str(name)?;
+    Ok(text)
 }
 
 /// The types of all schemas, in the order of namespaces and then of names.

@@ -5,41 +5,41 @@ use std::marker::Model;
 /// An entity or complex type of a schema.
 #[derive(Clone, Copy, Debug, PartialEq, Eq)]
 pub struct TypeId {
-    place: usize,
+    index: usize,
 }
 
 impl Model for TypeId {
     ghost Value = { ℕ };
 
-    ghost view = { λ id. id.place };
+    ghost view = { λ id. id.index };
 
-    ghost inverse = { λ n. record { place = n } };
+    ghost inverse = { λ n. record { index = n } };
 }
 
 impl TypeId {
-    pub(crate) fn at(place: usize) -> TypeId
-        ensures { result ≡ place }
+    pub(crate) fn from_index(index: usize) -> TypeId
+        ensures { result ≡ index }
     {
-        TypeId { place }
+        TypeId { index }
     }
 
-    pub(crate) fn place(self) -> usize
+    pub(crate) fn index(self) -> usize
         ensures { result ≡ self }
     {
-        self.place
+        self.index
     }
 }
 
 /// An enumeration type of a schema.
 #[derive(Clone, Copy, Debug, PartialEq, Eq)]
 pub struct EnumId {
-    place: usize,
+    index: usize,
 }
 
 impl Model for EnumId {
     ghost Value = { ℕ };
 
-    ghost view = { λ id. id.place };
+    ghost view = { λ id. id.index };
 
-    ghost inverse = { λ n. record { place = n } };
+    ghost inverse = { λ n. record { index = n } };
 }

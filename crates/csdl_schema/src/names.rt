@@ -1,6 +1,6 @@
 //! The names of a document's members.
 ghost use Rattle.std.specs.Prelude.{◌≡◌};
-ghost use Rattle.csdl_schema.specs.Declarations.{is_read_over, is_identifier, is_name_start, is_name_byte};
+ghost use Rattle.csdl_schema.specs.Declarations.{is_read_over, is_ascii_identifier, is_name_start, is_name_byte};
 
 /// Whether a member of that name is control information or an annotation, which declare nothing.
 pub(crate) fn is_read_over(name: &str) -> bool
@@ -26,8 +26,8 @@ fn is_name_byte(byte: u8) -> bool
 }
 
 /// Whether a name is of ASCII letters, digits and `_`, and begins with no digit.
-pub(crate) fn is_identifier(name: &str) -> bool
-    ensures { result ≡ is_identifier name.now }
+pub(crate) fn is_ascii_identifier(name: &str) -> bool
+    ensures { result ≡ is_ascii_identifier name.now }
 {
     let bytes = name.as_bytes();
     match bytes.split_first() {

@@ -22,9 +22,10 @@ const MAX_TYPES: usize = 4096;
 impl Schema {
     /// The schema that a CSDL JSON document of at most 1,048,576 bytes declares.
     ///
-    /// A refusal tells the first fault: `TooLarge` for the document's size, `NotJson`, `NotObject`, `Version`, `BadType` of a
-    /// namespace, `TooLarge` for more than 4,096 types, then, in the byte order of types' whole names, `BadType` and
-    /// `BadProperty`, and at last, in the same order, `UnknownBase` and `TooLarge` for more than 1,024 properties.
+    /// A refusal tells the first fault: `TooLarge` for the document's size, `NotJson`, `NotObject`, `Version`,
+    /// `BadType` of a namespace, `TooLarge` for more than 4,096 types, then, in the byte order of types' whole
+    /// names, `BadType` and `BadProperty`, and at last, in the same order, `UnknownBase` and `TooLarge` for more
+    /// than 1,024 properties.
     pub fn read(alloc: Global, document: &[u8]) -> Result<Schema, SchemaFault>
         ensures accepted { IfOk result (StandsFor document.now) }
         ensures refused { IfErr result (IsSchemaFault document.now) }

@@ -11,7 +11,7 @@ ghost use Rattle.csdl_schema.specs.private.DocumentView.{member_view, members_of
 
 use super::fault::SchemaFault;
 use super::member::{Member, is_text, is_text_if_given, is_true_at, is_truth_if_given, text_at};
-use super::names::is_identifier;
+use super::names::is_ascii_identifier;
 use super::property::{Property, PropertyKind};
 use super::refusals::bad_property;
 use edm_values::Prim;
@@ -46,7 +46,7 @@ fn is_property_type(value: &Value) -> bool
 fn is_property(member: Member<'_>) -> bool
     ensures { result ≡ is_property (member_view member.entry) }
 {
-    is_identifier(member.name)
+    is_ascii_identifier(member.name)
         && member.value.is_object()
         && is_property_kind(member.value)
         && is_property_type(member.value)

@@ -10,7 +10,7 @@ ghost use Rattle.csdl_schema.specs.private.DocumentView.{declaration_view, decla
 use super::declaration::{Declaration, is_entity_type};
 use super::fault::SchemaFault;
 use super::member::{declared_members, is_text_if_given};
-use super::names::is_identifier;
+use super::names::is_ascii_identifier;
 use super::read_properties::read_properties;
 use super::refusals::{bad_type, unknown_base};
 use super::structured_type::StructuredType;
@@ -30,10 +30,10 @@ pub(crate) fn in_name_order<'d>(
     ensures types { IfOk result (λ m. types_of m.entries ≡ in_name_order (declarations_of declarations.now)) }
 {
     let mut ordered = BTreeMap::new(alloc);
-    let mut place = declarations.len();
-    while place > 0 {
-        place -= 1;
-        let declaration = declarations[place];
+    let mut index = declarations.len();
+    while index > 0 {
+        index -= 1;
+        let declaration = declarations[index];
         let name = declaration.full_name(alloc)?;
         ordered.insert(name, declaration)?;
     }
@@ -44,7 +44,7 @@ fn is_type(declaration: &Declaration<'_>) -> bool
     ensures { result ≡ is_type (declaration_view declaration.now) }
 {
     is_entity_type(declaration.body)
-        && is_identifier(declaration.name)
+        && is_ascii_identifier(declaration.name)
         && is_text_if_given(declaration.body, "$BaseType")
 }
 

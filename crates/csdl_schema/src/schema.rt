@@ -1,7 +1,7 @@
 ghost use Rattle.std.specs.Prelude.{ℕ, List, position, if◌then◌else◌, IfOk, IfErr, OnOk, ◌≡◌, ◌<◌, ◌↔◌, length, map, slice_get, Some, IsTrue, IfSome, option_map};
-ghost use Rattle.csdl_schema.specs.SchemaModel.{alias_name, is_named, is_text_of, place_named, properties_at, slot_named, type_name_of, IsEntityAt, IsInNameOrder};
+ghost use Rattle.csdl_schema.specs.SchemaModel.{alias_name, is_named, is_text_of, index_named, properties_at, slot_named, type_name_of, IsEntityAt, IsInNameOrder};
 ghost use Rattle.indexmap.specs.IndexMap.{get_by_text};
-ghost use Rattle.csdl_schema.specs.private.SchemaView.{own_properties, schema_of, AreInOrder};
+ghost use Rattle.csdl_schema.specs.private.SchemaView.{own_properties, schema_of, AreTypesInOrder};
 ghost use Rattle.csdl_schema.specs.PropertyView.{property_type, IsReadAs};
 
 use super::fault::SchemaFault;
@@ -12,11 +12,11 @@ use indexmap::IndexMap;
 use std::alloc::Global;
 use std::marker::Model;
 
-/// The entity types of a document, by name and by place.
+/// The entity types of a document, by name and by index.
 #[derive(Drop)]
 pub struct Schema {
     types: Vec<StructuredType>,
-    places: IndexMap<String, usize>,
+    index_by_name: IndexMap<String, usize>,
 }
 
 impl Model for Schema {
@@ -34,36 +34,39 @@ impl Model for Schema {
 impl Schema {
     /// The schema of types in the order of their whole names.
     pub(crate) fn new(alloc: Global, types: Vec<StructuredType>) -> Result<Schema, SchemaFault>
-        requires { AreInOrder types.items }
+        requires { AreTypesInOrder types.items }
         ensures refused { IfErr result (λ e. e ≡ SchemaFault.Memory) }
         ensures made { IfOk result (λ s. s ≡ schema_of types.items) }
     {
-        let places = index_types(alloc, &types)?;
-        Ok(Schema { types, places })
+        let index_by_name = index_types(alloc, &types)?;
+        Ok(Schema {
+            types,
+            index_by_name,
+        })
     }
 
-    /// The place of an entity or complex type, by its name with its namespace or the alias of that.
+    /// The index of an entity or complex type, by its name with its namespace or the alias of that.
     pub fn type_named(&self, name: &str) -> Option<TypeId>
-        ensures { result ≡ place_named self.now name.now }
+        ensures { result ≡ index_named self.now name.now }
     {
-        match self.places.get(name) {
-            Some(place) => Some(TypeId::at(*place)),
+        match self.index_by_name.get(name) {
+            Some(index) => Some(TypeId::from_index(*index)),
             None => None,
         }
     }
 
-    /// Whether this schema has a type at that place.
+    /// Whether this schema has a type at that index.
     pub fn holds(&self, id: TypeId) -> bool
         ensures { IsTrue result ↔ (id < length self.now.types) }
     {
-        id.place() < self.types.len()
+        id.index() < self.types.len()
     }
 
     fn type_at(&self, id: TypeId) -> Option<&StructuredType>
         ensures found { option_map (λ t. t.now) result ≡ slice_get self.now.types id }
         ensures properties { properties_at self.now id ≡ own_properties (option_map (λ t. t.now) result) }
     {
-        self.types.get(id.place())
+        self.types.get(id.index())
     }
 
     /// Whether the type is there and is an entity type.
@@ -131,53 +134,54 @@ impl Schema {
     }
 }
 
-/// The place of each type by its names; of equal names the first place.
+/// The index of each type by its names; of equal names the lowest.
 fn index_types(
     alloc: Global,
     types: &[StructuredType],
 ) -> Result<IndexMap<String, usize>, SchemaFault>
     ensures refused { IfErr result (λ e. e ≡ SchemaFault.Memory) }
-    ensures indexed { IfOk result (λ m. (asked : List ℕ) → get_by_text m asked ≡ position (λ t. is_named t asked) types.now) }
+    ensures indexed { IfOk result (λ m. (asked : List ℕ)
+        → get_by_text m asked ≡ position (λ t. is_named t asked) types.now) }
 {
-    let mut places = IndexMap::new(alloc);
-    let mut place = types.len();
-    while place > 0 {
-        place -= 1;
-        add_names(alloc, &types[place], place, &mut places)?;
+    let mut index_by_name = IndexMap::new(alloc);
+    let mut index = types.len();
+    while index > 0 {
+        index -= 1;
+        add_names(alloc, &types[index], index, &mut index_by_name)?;
     }
-    Ok(places)
+    Ok(index_by_name)
 }
 
-/// Gives both names of a type its place.
+/// Gives both names of a type its index.
 fn add_names(
     alloc: Global,
     found: &StructuredType,
-    place: usize,
-    places: &mut IndexMap<String, usize>,
+    index: usize,
+    index_by_name: &mut IndexMap<String, usize>,
 ) -> Result<(), SchemaFault>
     ensures refused { IfErr result (λ e. e ≡ SchemaFault.Memory) }
-    ensures added { OnOk result ((asked : List ℕ) → get_by_text places.new asked
-        ≡ (if is_named found.now asked then Some place else get_by_text places.old asked)) }
+    ensures added { OnOk result ((asked : List ℕ) → get_by_text index_by_name.new asked
+        ≡ (if is_named found.now asked then Some index else get_by_text index_by_name.old asked)) }
 {
-    add_alias_name(alloc, found, place, places)?;
+    add_alias_name(alloc, found, index, index_by_name)?;
     let name = found.qualified_name().to_owned(alloc)?;
-    places.insert(name, place)?;
+    index_by_name.insert(name, index)?;
     Ok(())
 }
 
 fn add_alias_name(
     alloc: Global,
     found: &StructuredType,
-    place: usize,
-    places: &mut IndexMap<String, usize>,
+    index: usize,
+    index_by_name: &mut IndexMap<String, usize>,
 ) -> Result<(), SchemaFault>
     ensures refused { IfErr result (λ e. e ≡ SchemaFault.Memory) }
-    ensures added { OnOk result ((asked : List ℕ) → get_by_text places.new asked
-        ≡ (if is_text_of (alias_name found.now) asked then Some place else get_by_text places.old asked)) }
+    ensures added { OnOk result ((asked : List ℕ) → get_by_text index_by_name.new asked
+        ≡ (if is_text_of (alias_name found.now) asked then Some index else get_by_text index_by_name.old asked)) }
 {
     match found.name_by_alias(alloc)? {
         Some(name) => {
-            places.insert(name, place)?;
+            index_by_name.insert(name, index)?;
             Ok(())
         }
         None => Ok(()),

@@ -45,7 +45,8 @@ impl StructuredType {
         requires named { name.now ≡ full_name (declaration_view declaration.now) }
         requires ordered { IsInNameOrder (map property_model properties.entries) }
         requires kinds { AreOfReadKinds properties.entries }
-        ensures { IfOk result (λ t. t ≡ entity_type (declaration_view declaration.now) (map property_model properties.entries)) }
+        ensures { IfOk result (λ t.
+            t ≡ entity_type (declaration_view declaration.now) (map property_model properties.entries)) }
     {
         let alias = match declaration.alias {
             Some(alias) => Some(alias.to_owned(alloc)?),

@@ -12,9 +12,9 @@ use Rattle.line_filter.specs.declared.finding.Finding.{Finding}
 use Rattle.line_filter.specs.declared.tally.Tally.{Tally}
 use Rattle.odata_filter.specs.RowJudgment.{rows_of}
 use Rattle.odata_filter.specs.declared.bad_row.BadRow.{BadRow}
-use Rattle.csdl_schema.specs.Document.{StandsFor, IsFirstFault}
+use Rattle.csdl_schema.specs.Document.{StandsFor, IsFirstDocumentFault}
 use Rattle.csdl_schema.specs.Faults.{Fault}
-use Rattle.csdl_schema.specs.SchemaModel.{SchemaModel, IsEntityAt, place_named, slots_of, type_name_at}
+use Rattle.csdl_schema.specs.SchemaModel.{SchemaModel, IsEntityAt, index_named, slots_of, type_name_at}
 use Rattle.odata_filter.specs.declared.command.command_line.Plan.{Plan}
 use Rattle.odata_typing.specs.Filter.{Filter, tree_of_filter}
 use Rattle.odata_typing.specs.HasTyping.{HasTyping, HasNoTyping}
@@ -23,12 +23,12 @@ use Rattle.odata_typing.specs.HasTyping.{HasTyping, HasNoTyping}
 abbrev pub IsFirstMoment : MomentParts → Type 0
 IsFirstMoment now = IsYmd (pos 1) (pos 1) (pos 1) now.civil.date × IsHms (pos 0) (pos 0) (pos 0) (pos 0) now.civil.time × (now.offset_minutes ≡ pos 0)
 
--- The schema's bytes stand for this schema, and the type that the plan names is the entity type at this place in it.
-pub record NamesType (plan : Plan) (document : List ℕ) (schema : SchemaModel) (place : ℕ) : Type 0 where
+-- The schema's bytes stand for this schema, and the type that the plan names is the entity type at this index in it.
+pub record NamesType (plan : Plan) (document : List ℕ) (schema : SchemaModel) (index : ℕ) : Type 0 where
   pub planned : IsFilterPlan plan
   pub stands : StandsFor document schema
-  pub named : place_named schema plan.named.now ≡ Some place
-  pub entity : IsEntityAt schema place
+  pub named : index_named schema plan.named.now ≡ Some index
+  pub entity : IsEntityAt schema index
 
 -- the text of the filter that the plan asks for: its own, or that of its query's filter option (OData URL Conventions 4.01, section 5.1)
 abbrev pub AsksFor : Plan → List ℕ → Type 0
@@ -52,22 +52,22 @@ HasQueryFault plan = IsSomeAnd plan.query (λ given. (fault : QueryFault) × que
 -- The plan names a type, and its text is no filter of that, or its query has a fault.
 pub record HasNoFilter (plan : Plan) (document : List ℕ) : Type 0 where
   pub schema : SchemaModel
-  pub place : ℕ
-  pub names : NamesType plan document schema place
-  pub none : ((text : List ℕ) × AsksFor plan text × HasNoTyping (slots_of schema) (type_name_at schema place) text) ⊎ HasQueryFault plan
+  pub index : ℕ
+  pub names : NamesType plan document schema index
+  pub none : ((text : List ℕ) × AsksFor plan text × HasNoTyping (slots_of schema) (type_name_at schema index) text) ⊎ HasQueryFault plan
 
 -- The plan names a type, and its query has no filter option.
 pub record HasNoOption (plan : Plan) (document : List ℕ) : Type 0 where
   pub schema : SchemaModel
-  pub place : ℕ
-  pub names : NamesType plan document schema place
+  pub index : ℕ
+  pub names : NamesType plan document schema index
   pub none : IsSomeAnd plan.query (λ given. query.IsFilterOf given.now None)
 
 -- the schema's bytes have a fault, or the schema has no entity type of that name (CSDL JSON 4.01)
 abbrev pub HasNoType : Plan → List ℕ → Type 0
 HasNoType plan document =
-    ((fault : Fault) × IsFirstFault document fault)
-    ⊎ ((schema : SchemaModel) × StandsFor document schema × ((place : ℕ) → place_named schema plan.named.now ≡ Some place → ¬ IsEntityAt schema place))
+    ((fault : Fault) × IsFirstDocumentFault document fault)
+    ⊎ ((schema : SchemaModel) × StandsFor document schema × ((index : ℕ) → index_named schema plan.named.now ≡ Some index → ¬ IsEntityAt schema index))
 
 -- What a run reads and writes: what its rows had to give, unknown where their reader does not tell, and none where their file
 -- cannot be opened; and what standard output held before and after, where it tells that.

@@ -59,7 +59,7 @@ hidden t u asked rest same = by (pointwise nat_eq (full_name t) asked) (pointwis
     by true b same = refl
     by false b same = ap (λ v. cond v (Some u) rest) same
 
--- two types of different names may change places
+-- two types of different names may be swapped
 swapped : (t u : TypeDeclaration) (asked : List ℕ) (rest : Option TypeDeclaration) → (full_name t ≡ full_name u → ⊥) → before u asked (before t asked rest) ≡ before t asked (before u asked rest)
 swapped t u asked rest apart = by (pointwise nat_eq (full_name t) asked) (pointwise nat_eq (full_name u) asked) refl refl
   where

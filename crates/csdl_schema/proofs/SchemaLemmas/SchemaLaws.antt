@@ -5,7 +5,7 @@ use Rattle.serde_json.specs.Data.{Data}
 use Rattle.csdl_schema.specs.SchemaModel.{PropertyModel, SchemaModel, properties_in, slots_of}
 use Rattle.csdl_schema.specs.Declarations.{TypeDeclaration, full_name, declared_in, declared_property, declared_type, first_named, in_name_order, declared_slots, types_declared, declared_schema}
 use Rattle.csdl_schema.specs.Faults.{Fault, document_faults}
-use Rattle.csdl_schema.specs.Document.{StandsFor, IsFirstFault}
+use Rattle.csdl_schema.specs.Document.{StandsFor, IsFirstDocumentFault}
 use Rattle.csdl_schema.specs.JsonText.{IsJsonOf, IsNoJson}
 use Rattle.csdl_schema.proofs.SchemaLemmas.NameOrder.{by_name}
 
@@ -26,7 +26,7 @@ one_schema document a b here there = here.is_declared ∙ ap declared_schema (on
 first_of : (f g : Fault) (fs gs : List Fault) → f ∷ fs ≡ g ∷ gs → f ≡ g
 first_of f g fs gs same = cc
 
-pub one_fault : (document : List ℕ) (f g : Fault) → IsFirstFault document f → IsFirstFault document g → f ≡ g
+pub one_fault : (document : List ℕ) (f g : Fault) → IsFirstDocumentFault document f → IsFirstDocumentFault document g → f ≡ g
 one_fault document f g (inl a) (inl b) = a.1 ∙ sym b.1
 one_fault document f g (inl a) (inr (inl b)) = absurd (omega (arith, a.0, b.0))
 one_fault document f g (inl a) (inr (inr b)) = absurd (omega (arith, a.0, b.0))
@@ -38,7 +38,7 @@ one_fault document f g (inr (inr a)) (inr (inl b)) = absurd (no_value document a
 one_fault document f g (inr (inr a)) (inr (inr b)) =
     first_of f g a.3 b.3 (sym a.4 ∙ ap document_faults (one_value document a.1 b.1 a.2 b.2) ∙ b.4)
 
-pub fault_or_schema : (document : List ℕ) (a : SchemaModel) (f : Fault) → StandsFor document a → IsFirstFault document f → ⊥
+pub fault_or_schema : (document : List ℕ) (a : SchemaModel) (f : Fault) → StandsFor document a → IsFirstDocumentFault document f → ⊥
 fault_or_schema document a f here (inl b) = omega (arith, here.size, b.0)
 fault_or_schema document a f here (inr (inl b)) = no_value document here.json b.1 here.is_json
 fault_or_schema document a f here (inr (inr b)) =

@@ -9,7 +9,7 @@ use Rattle.std.proofs.lemmas.Slice.Eq.{bytes_eq-Decides}
 use Rattle.csdl_schema.specs.private.SchemaView.{own_properties}
 use Rattle.csdl_schema.specs.SchemaModel.{PropertyModel, TypeModel, qualified_name, properties_in, name_in, IsInNameOrder}
 
--- the first place of a test in a list made of another
+-- the first index of a test in a list made of another
 pub position_or_len-map : {A B : Type 0} (f : A → B) (p : B → Bool) (xs : List A) → position_or_len p (map f xs) ≡ position_or_len (λ x. p (f x)) xs
 position_or_len-map f p [] = refl
 position_or_len-map f p (x ∷ xs) = rw (position_or_len-map f p xs)
@@ -39,7 +39,7 @@ apart first [] n below some = some
 apart first (t ∷ ts) zero below some = unequal first (qualified_name t) below.0
 apart first (t ∷ ts) (suc n) below some = apart first ts n below.1 some
 
--- in order, the properties of a place are those of the type there
+-- in order, the properties of an index are those of the type there
 pub properties_own : (types : List TypeModel) (n : ℕ) → IsStrictlySortedBy (slice_cmp nat_cmp) (map qualified_name types)
     → properties_in types (name_in types n) ≡ own_properties (slice_get types n)
 unfolding IsStrictlySortedBy
@@ -53,7 +53,7 @@ pub none_ordered : (ps : List PropertyModel) → ps ≡ [] → IsInNameOrder ps
 unfolding IsStrictlySortedBy
 none_ordered ps none = subst IsInNameOrder (sym none) tt
 
--- what holds of each item holds of the one at a place
+-- what holds of each item holds of the one at an index
 pub each_at : {X : Type 0} (P : X → Type 0) (xs : List X) (n : ℕ) (x : X) → AllByRecursion P xs → slice_get xs n ≡ Some x → P x
 each_at P [] n x all at = absurd (cc)
 each_at P (y ∷ ys) zero x all at = let same : y ≡ x = cc in subst P same all.0

@@ -20,7 +20,7 @@ use Rattle.serde_json.proofs.Views.{Entry}
 use Rattle.csdl_schema.specs.declared.property.Property.{Property}
 use Rattle.csdl_schema.specs.declared.declaration.Declaration.{Declaration}
 use Rattle.csdl_schema.specs.SchemaModel.{PropertyModel, qualified_name, IsInNameOrder}
-use Rattle.csdl_schema.specs.private.SchemaView.{AreInOrder}
+use Rattle.csdl_schema.specs.private.SchemaView.{AreTypesInOrder}
 use Rattle.csdl_schema.specs.PropertyView.{type_of_kind}
 use Rattle.csdl_schema.specs.private.TypeView.{property_model}
 use Rattle.csdl_schema.specs.Declarations.{is_object, text_at, declared_in, types_in_order, type_count, is_read_over, declared_among, declared_of, declared_property, declared_type, full_name, put_type}
@@ -85,9 +85,9 @@ insert_last (e ∷ es) k v p rest named ordered =
 
 -- ---- one step of a walk
 
--- the rest at a place begins with the item there
-pub at_place : {X : Type 0} (xs : List X) (i : ℕ) (x : X) → i < length xs → x ≡ get_or xs i x → drop i xs ≡ x ∷ drop (i + 1) xs
-at_place xs i x within is = rw (add-one, drop-cons xs i x within) (ap (λ y. y ∷ drop (suc i) xs) (sym is))
+-- the rest at an index begins with the item there
+pub at_index : {X : Type 0} (xs : List X) (i : ℕ) (x : X) → i < length xs → x ≡ get_or xs i x → drop i xs ≡ x ∷ drop (i + 1) xs
+at_index xs i x within is = rw (add-one, drop-cons xs i x within) (ap (λ y. y ∷ drop (suc i) xs) (sym is))
 
 -- a fault of the first item is the first of all that are left
 pub found_among : {X : Type 0} (faults : X → List Fault) (told : Option Fault) (x : X) (rest : List X) (all : List Fault) → flat_map faults (x ∷ rest) ≡ all
@@ -181,7 +181,7 @@ above_kept first [] named h = tt
 above_kept first (e ∷ es) named h = (subst (λ n. slice_cmp nat_cmp first n ≡ Less) named.0 h.0, above_kept first es named.1 h.1)
 
 -- types kept in the order of names are in that order
-pub kept_in_order : (es : List Named) → AreNamed es → IsStrictlySortedBy string_cmp (keys_of es) → AreInOrder (map declared_type (types_of es))
+pub kept_in_order : (es : List Named) → AreNamed es → IsStrictlySortedBy string_cmp (keys_of es) → AreTypesInOrder (map declared_type (types_of es))
 unfolding IsStrictlySortedBy
 kept_in_order [] named h = tt
 kept_in_order (e ∷ es) named h = (subst (λ n. AllAbove n (map qualified_name (map declared_type (types_of es)))) named.0 (above_kept (string_bytes e.0) es named.1 h.0), kept_in_order es named.1 h.1)

@@ -10,7 +10,7 @@ use Rattle.serde_json.specs.Read.{read}
 use Rattle.serde_json.proofs.OnLiterals.{serde_json_on_literals}
 use Rattle.csdl_schema.specs.Faults.{not_object, document_faults}
 use Rattle.csdl_schema.specs.Declarations.{declared_schema}
-use Rattle.csdl_schema.specs.Document.{StandsFor, IsFirstFault}
+use Rattle.csdl_schema.specs.Document.{StandsFor, IsFirstDocumentFault}
 use Rattle.csdl_schema.specs.Worked.{mini_text, mini_schema}
 
 both : (a b : Bool) → (a && b) ≡ true → (a ≡ true) × (b ≡ true)
@@ -43,7 +43,7 @@ array_reads : read (codes "[]") ≡ Some (array no_items)
 unfolding serde_json_on_literals
 array_reads = refl
 
-pub array_refused : IsFirstFault (codes "[]") not_object
+pub array_refused : IsFirstDocumentFault (codes "[]") not_object
 array_refused = inr (inr (lit≤ tt, array no_items, (IsUtf8-from_ascii (codes "[]") (ascii_tested (codes "[]") refl), array_reads), [], refl))
 
 mini_reads : read mini_text ≡ Some mini_value

@@ -25,7 +25,12 @@ abbrev pub AreNamesInOrder : List (List ℕ × Data) → Type 0
 AreNamesInOrder ms = IsStrictlySortedBy (slice_cmp nat_cmp) (map (λ m. m.0) ms)
 
 abbrev pub declaration_view : Declaration → TypeDeclaration
-declaration_view t = record { namespace = t.namespace.now; alias = option_map (λ s. s.now) t.alias; name = t.name.now; body = view t.body.now }
+declaration_view t = record {
+  namespace = t.namespace.now;
+  alias = option_map (λ s. s.now) t.alias;
+  name = t.name.now;
+  body = view t.body.now;
+}
 
 abbrev pub declarations_of : List Declaration → List TypeDeclaration
 declarations_of ts = map declaration_view ts
@@ -52,8 +57,8 @@ fault_of code.TooLarge = Some too_large
 fault_of code.Memory = None
 
 -- the refusal tells this fault, or want of memory
-abbrev pub Tells : SchemaFault → Fault → Type 0
-Tells e fault = IfSome (fault_of e) (λ told. told ≡ fault)
+abbrev pub TellsFault : SchemaFault → Fault → Type 0
+TellsFault e fault = IfSome (fault_of e) (λ told. told ≡ fault)
 
 -- the refusal is the first of the faults
 abbrev pub IsFirstOf : List Fault → Option Fault → Type 0

@@ -34,11 +34,11 @@ streams rows old new = record { rows = rows; old = old; new = new }
 
 -- ---- the plan's text is a filter, or is none
 
-pub is_filter_of : (plan : Plan) (document : List ℕ) (schema : SchemaModel) (place : ℕ) (text : List ℕ) (filter : Filter)
-    → NamesType plan document schema place → AsksFor plan text
-    → filter.schema ≡ schema → filter.filtered ≡ place
+pub is_filter_of : (plan : Plan) (document : List ℕ) (schema : SchemaModel) (index : ℕ) (text : List ℕ) (filter : Filter)
+    → NamesType plan document schema index → AsksFor plan text
+    → filter.schema ≡ schema → filter.filtered ≡ index
     → HasTyping (slots_of filter.schema) (type_name_at filter.schema filter.filtered) text (tree_of_filter filter) → IsFilterOf plan document filter
-is_filter_of plan document schema place text filter names asked same at typed = record {
+is_filter_of plan document schema index text filter names asked same at typed = record {
   names = subst (λ s. NamesType plan document s filter.filtered) (sym same) (subst (NamesType plan document schema) (sym at) names);
   text = text;
   asked = asked;
@@ -52,14 +52,14 @@ refused_as plan document rows out (refusal.Syntax fault) P none kept p = (none p
 refused_as plan document rows out (refusal.Typing fault) P none kept p = (none p, kept)
 refused_as plan document rows out refusal.Memory P none kept p = tt
 
-pub refused_by : (plan : Plan) (document : List ℕ) (schema : SchemaModel) (place : ℕ) (text : List ℕ) (rows : Option (Option (List ℕ))) (out : Option (List ℕ)) (fault : Refusal)
-    → NamesType plan document schema place → AsksFor plan text → Keeps out out
-    → UnlessMemory fault (HasNoTyping (slots_of schema) (type_name_at schema place) text) → StatusSays (status_of_refusal fault) plan document (streams rows out out)
-refused_by plan document schema place text rows out fault names asked kept none =
-    refused_as plan document rows out fault (HasNoTyping (slots_of schema) (type_name_at schema place) text)
+pub refused_by : (plan : Plan) (document : List ℕ) (schema : SchemaModel) (index : ℕ) (text : List ℕ) (rows : Option (Option (List ℕ))) (out : Option (List ℕ)) (fault : Refusal)
+    → NamesType plan document schema index → AsksFor plan text → Keeps out out
+    → UnlessMemory fault (HasNoTyping (slots_of schema) (type_name_at schema index) text) → StatusSays (status_of_refusal fault) plan document (streams rows out out)
+refused_by plan document schema index text rows out fault names asked kept none =
+    refused_as plan document rows out fault (HasNoTyping (slots_of schema) (type_name_at schema index) text)
     (λ none. record {
       schema = schema;
-      place = place;
+      index = index;
       names = names;
       none = inl (text, asked, none);
     })
@@ -70,23 +70,23 @@ refused_by plan document schema place text rows out fault names asked kept none 
 query_given : (given : Option (Bor (List ℕ))) (query : Bor (List ℕ)) (P : List ℕ → Type 0) → given ≡ Some query → P query.now → IsSomeAnd given (λ q. P q.now)
 query_given given query P is p = subst (λ g. IsSomeAnd g (λ q. P q.now)) (sym is) p
 
-refused_query : (plan : Plan) (document : List ℕ) (schema : SchemaModel) (place : ℕ) (given : Bor (List ℕ)) (fault : QueryFault)
-    → NamesType plan document schema place → plan.query ≡ Some given → IsQueryFault given.now fault → HasNoFilter plan document
-refused_query plan document schema place given fault names is at = record {
+refused_query : (plan : Plan) (document : List ℕ) (schema : SchemaModel) (index : ℕ) (given : Bor (List ℕ)) (fault : QueryFault)
+    → NamesType plan document schema index → plan.query ≡ Some given → IsQueryFault given.now fault → HasNoFilter plan document
+refused_query plan document schema index given fault names is at = record {
   schema = schema;
-  place = place;
+  index = index;
   names = names;
   none = inr (query_given plan.query given (λ q. (f : QueryFault) × IsQueryFault q f) is (fault, at));
 }
 
-pub query_refused : (plan : Plan) (document : List ℕ) (schema : SchemaModel) (place : ℕ) (given : Bor (List ℕ)) (rows : Option (Option (List ℕ))) (out : Option (List ℕ)) (fault : QueryFault)
-    → NamesType plan document schema place → plan.query ≡ Some given → Keeps out out → (fault ≢ query.Memory → IsQueryFault given.now fault)
+pub query_refused : (plan : Plan) (document : List ℕ) (schema : SchemaModel) (index : ℕ) (given : Bor (List ℕ)) (rows : Option (Option (List ℕ))) (out : Option (List ℕ)) (fault : QueryFault)
+    → NamesType plan document schema index → plan.query ≡ Some given → Keeps out out → (fault ≢ query.Memory → IsQueryFault given.now fault)
     → StatusSays (status_of_query fault) plan document (streams rows out out)
-query_refused plan document schema place given rows out query.Memory names is kept at = tt
-query_refused plan document schema place given rows out (query.BadEscape n) names is kept at = (refused_query plan document schema place given _ names is (at (λ e. cc)), kept)
-query_refused plan document schema place given rows out (query.NotUtf8 n) names is kept at = (refused_query plan document schema place given _ names is (at (λ e. cc)), kept)
-query_refused plan document schema place given rows out (query.Repeated n) names is kept at = (refused_query plan document schema place given _ names is (at (λ e. cc)), kept)
-query_refused plan document schema place given rows out (query.OtherOption n) names is kept at = (refused_query plan document schema place given _ names is (at (λ e. cc)), kept)
+query_refused plan document schema index given rows out query.Memory names is kept at = tt
+query_refused plan document schema index given rows out (query.BadEscape n) names is kept at = (refused_query plan document schema index given _ names is (at (λ e. cc)), kept)
+query_refused plan document schema index given rows out (query.NotUtf8 n) names is kept at = (refused_query plan document schema index given _ names is (at (λ e. cc)), kept)
+query_refused plan document schema index given rows out (query.Repeated n) names is kept at = (refused_query plan document schema index given _ names is (at (λ e. cc)), kept)
+query_refused plan document schema index given rows out (query.OtherOption n) names is kept at = (refused_query plan document schema index given _ names is (at (λ e. cc)), kept)
 
 -- ---- what was written
 

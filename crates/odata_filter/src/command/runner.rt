@@ -4,7 +4,7 @@ ghost use Rattle.line_filter.specs.Kept.{Filters};
 ghost use Rattle.odata_filter.specs.RowJudgment.{rows_of};
 ghost use Rattle.odata_filter.specs.Run.{Answers, AsksFor, Begins, IsFirstMoment, NamesType, OverRows, misused, without_type};
 ghost use Rattle.odata_filter.specs.private.Failures.{AnswerSays, StopsOver, status_of};
-ghost use Rattle.csdl_schema.specs.SchemaModel.{IsEntityAt, place_named};
+ghost use Rattle.csdl_schema.specs.SchemaModel.{IsEntityAt, index_named};
 
 use super::command_line::{Plan, Verb};
 use super::failure::Failure;
@@ -56,9 +56,9 @@ fn is_planned<'p>(plan: &Plan<'p>) -> Result<(), Failure<'p>>
 /// The entity type that the plan names.
 fn entity_type<'p>(schema: &Schema, named: &'p str) -> Result<TypeId, Failure<'p>>
     ensures held { IfOk result (λ id. id < length schema.now.types) }
-    ensures found { IfOk result (λ id. place_named schema.now named.entry.now ≡ Some id) }
+    ensures found { IfOk result (λ id. index_named schema.now named.entry.now ≡ Some id) }
     ensures entity { IfOk result (IsEntityAt schema.now) }
-    ensures none { OnErr result ((id : ℕ) → place_named schema.now named.entry.now ≡ Some id → ¬ IsEntityAt schema.now id) }
+    ensures none { OnErr result ((id : ℕ) → index_named schema.now named.entry.now ≡ Some id → ¬ IsEntityAt schema.now id) }
     ensures status { IfErr result (λ failure. status_of failure ≡ without_type) }
 {
     match schema.type_named(named) {

@@ -3,7 +3,7 @@ use Rattle.std.specs.List.{flat_map}
 use Rattle.std.proofs.lemmas.Bool.Decides.{nat_tests}
 use Rattle.serde_json.specs.Data.{Data}
 use Rattle.serde_json.specs.View.{view}
-use Rattle.csdl_schema.specs.private.SchemaView.{AreInOrder}
+use Rattle.csdl_schema.specs.private.SchemaView.{AreTypesInOrder}
 use Rattle.csdl_schema.specs.Declarations.{declared_in, is_entity_type, types_in, type_count}
 use Rattle.csdl_schema.specs.Faults.{namespace_faults}
 use Rattle.csdl_schema.specs.private.DocumentView.{members_of, declarations_of}
@@ -29,4 +29,4 @@ returns-then-count_types-gt-MAX_TYPES c =
     (subst IsFaultless schemas c.in_ok-check_namespaces.ensures.0) told
 
 pub new-requires : goal.new-requires
-new-requires c = subst AreInOrder (sym c.in_ok-types.ensures.1) (kept_in_order c.in_ok-ordered.ordered.entries c.in_ok-ordered.ensures.named c.in_ok-ordered.ensures.ordered)
+new-requires c = subst AreTypesInOrder (sym c.in_ok-types.ensures.1) (kept_in_order c.in_ok-ordered.ordered.entries c.in_ok-ordered.ensures.named c.in_ok-ordered.ensures.ordered)

@@ -6,7 +6,7 @@ use Rattle.csdl_schema.specs.Declarations.{declared_property}
 use Rattle.csdl_schema.specs.Faults.{property_faults, is_property, bad_property}
 use Rattle.csdl_schema.specs.private.DocumentView.{members_of, member_view}
 use Rattle.csdl_schema.proofs.SchemaLemmas.SchemaLookUps.{each_pushed}
-use Rattle.csdl_schema.proofs.SchemaLemmas.SchemaReading.{at_place, faultless_step, unless_none, insert_last, properties_in_order, same_property, property_step}
+use Rattle.csdl_schema.proofs.SchemaLemmas.SchemaReading.{at_index, faultless_step, unless_none, insert_last, properties_in_order, same_property, property_step}
 use Rattle.csdl_schema.proofs.read_properties.read_properties.Goals as goal
 
 pub loop-member-preserved : goal.loop-member-preserved
@@ -19,7 +19,7 @@ loop-member-preserved c =
     let es = c.loop-member.properties.entries in
     let p = declared_property (member_view m) in
     let ps = map declared_property rest in
-    let step = at_place members i m c.loop-member-test.true c.member-item.is in
+    let step = at_index members i m c.loop-member-test.true c.member-item.is in
     let whole : map property_model es ++ p ∷ ps ≡ map declared_property (members_of members) =
     ap (λ ms. map property_model es ++ map declared_property (members_of ms)) (sym step) ∙ c.loop-member.invariant.1 in
     let k = c.in_ok-name.name in

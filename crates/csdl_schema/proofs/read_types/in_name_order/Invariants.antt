@@ -5,14 +5,14 @@ use Rattle.csdl_schema.specs.Declarations.{in_name_order}
 use Rattle.csdl_schema.specs.private.DocumentView.{declarations_of, types_of, AreNamed}
 use Rattle.csdl_schema.proofs.read_types.in_name_order.Given as goal
 
--- those from the place on are in order
-abbrev pub invariant-loop-place : goal.invariant-loop-place
-invariant-loop-place l = record {
-  within : l.place ≤ length l.declarations;
+-- those from the index on are in order
+abbrev pub invariant-loop-index : goal.invariant-loop-index
+invariant-loop-index l = record {
+  within : l.index ≤ length l.declarations;
   named : AreNamed l.ordered.entries;
   ordered : IsOrdered string_cmp l.ordered;
-  types : types_of l.ordered.entries ≡ in_name_order (declarations_of (drop l.place l.declarations));
+  types : types_of l.ordered.entries ≡ in_name_order (declarations_of (drop l.index l.declarations));
 }
 
-abbrev pub decreases-loop-place : goal.decreases-loop-place
-decreases-loop-place l = l.place
+abbrev pub decreases-loop-index : goal.decreases-loop-index
+decreases-loop-index l = l.index

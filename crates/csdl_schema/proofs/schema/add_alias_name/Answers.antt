@@ -6,8 +6,8 @@ use Rattle.csdl_schema.proofs.schema.add_alias_name.Goals as goal
 
 pub returns-in_ok-insert-in-Some-clause-added : goal.returns-in_ok-insert-in-Some-clause-added
 returns-in_ok-insert-in-Some-clause-added c = λ asked.
-    let old = c.args.places.now in
+    let old = c.args.index_by_name.now in
     let name = c.in-Some.name in
     hash_map_updates_text (string_bytes name) old c.insert.new.self _ c.in_ok-insert-in-Some.ensures.updates asked
-    ∙ ap (λ (o : Option (List ℕ)). if is_text_of o asked then Some c.args.place else get_by_text old asked)
+    ∙ ap (λ (o : Option (List ℕ)). if is_text_of o asked then Some c.args.index else get_by_text old asked)
     (ap (option_map string_bytes) (sym c.in-Some.is) ∙ c.in_ok-name.ensures)

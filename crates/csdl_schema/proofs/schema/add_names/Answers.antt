@@ -9,10 +9,10 @@ use Rattle.csdl_schema.proofs.schema.add_names.Goals as goal
 pub returns-clause-added : goal.returns-clause-added
 returns-clause-added c = λ asked.
     let t = c.args.found.now in
-    let old = c.args.places.now in
-    let mid = c.add_alias_name.new.places in
+    let old = c.args.index_by_name.now in
+    let mid = c.add_alias_name.new.index_by_name in
     let name = c.in_ok-name.name in
     hash_map_updates_text (string_bytes name) mid c.insert.new.self _ c.in_ok-insert.ensures.updates asked
-    ∙ ap (λ (n : List ℕ). if pointwise nat_eq n asked then Some c.args.place else get_by_text mid asked) (c.in_ok-name.ensures.ok ∙ c.qualified_name.ensures)
-    ∙ ap (λ rest. if pointwise nat_eq (qualified_name t) asked then Some c.args.place else rest) (c.in_ok-add_alias_name.ensures.added asked)
-    ∙ either_name (pointwise nat_eq (qualified_name t) asked) (is_text_of (alias_name t) asked) (Some c.args.place) (get_by_text old asked)
+    ∙ ap (λ (n : List ℕ). if pointwise nat_eq n asked then Some c.args.index else get_by_text mid asked) (c.in_ok-name.ensures.ok ∙ c.qualified_name.ensures)
+    ∙ ap (λ rest. if pointwise nat_eq (qualified_name t) asked then Some c.args.index else rest) (c.in_ok-add_alias_name.ensures.added asked)
+    ∙ either_name (pointwise nat_eq (qualified_name t) asked) (is_text_of (alias_name t) asked) (Some c.args.index) (get_by_text old asked)

@@ -4,11 +4,11 @@ use Rattle.std.specs.List.{position_from}
 use Rattle.csdl_schema.specs.SchemaModel.{is_named}
 use Rattle.csdl_schema.proofs.schema.index_types.Given as goal
 
--- the index finds those from the place on
-abbrev pub invariant-loop-place : goal.invariant-loop-place
-invariant-loop-place l =
-    (l.place ≤ length l.types)
-    × ((asked : List ℕ) → get_by_text l.places asked ≡ position_from (λ t. is_named t asked) l.place (drop l.place l.types))
+-- the look-up finds those from the index on
+abbrev pub invariant-loop-index : goal.invariant-loop-index
+invariant-loop-index l =
+    (l.index ≤ length l.types)
+    × ((asked : List ℕ) → get_by_text l.index_by_name asked ≡ position_from (λ t. is_named t asked) l.index (drop l.index l.types))
 
-abbrev pub decreases-loop-place : goal.decreases-loop-place
-decreases-loop-place l = l.place
+abbrev pub decreases-loop-index : goal.decreases-loop-index
+decreases-loop-index l = l.index

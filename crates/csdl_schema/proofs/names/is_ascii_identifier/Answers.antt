@@ -3,7 +3,7 @@ use Rattle.std.specs.List.{list_all}
 use Rattle.std.proofs.lemmas.Iterator.{YieldsList-from_slice}
 use Rattle.std.proofs.lemmas.Iterator.Search.{all_from_yields_List}
 use Rattle.csdl_schema.specs.Declarations.{is_name_byte}
-use Rattle.csdl_schema.proofs.names.is_identifier.Goals as goal
+use Rattle.csdl_schema.proofs.names.is_ascii_identifier.Goals as goal
 
 pub returns-then-is_name_start : goal.returns-then-is_name_start
 returns-then-is_name_start c =
