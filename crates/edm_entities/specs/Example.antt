@@ -9,19 +9,29 @@ use Rattle.csdl_schema.specs.ExprType.{single, primitive}
 use Rattle.csdl_schema.specs.SchemaModel.{PropertyModel, declared}
 
 abbrev pub item_property : List ℕ → PrimitiveType → PropertyModel
-item_property name type = record { name = name; type_of = declared (single (primitive type)); many = false; nullable = false }
+item_property name type = record {
+  name = name;
+  type_of = declared (single (primitive type));
+  many = false;
+  nullable = false;
+}
 
 -- the slots Active, ID and Name
 abbrev pub item_properties : List PropertyModel
-item_properties = item_property (codes "Active") EdmBoolean ∷ item_property (codes "ID") Int32 ∷ item_property (codes "Name") EdmString ∷ []
+item_properties =
+    item_property (codes "Active") EdmBoolean ∷ item_property (codes "ID") Int32
+    ∷ item_property (codes "Name") EdmString ∷ []
 
 -- {"Active":true,"ID":1,"Name":"a"}
 abbrev pub item_row : Data
-item_row = object (member (codes "Active") (boolean true) (member (codes "ID") (number (unsigned 1)) (member (codes "Name") (string (codes "a")) no_members)))
+item_row =
+    object (member (codes "Active") (boolean true) (member (codes "ID") (number (unsigned 1))
+    (member (codes "Name") (string (codes "a")) no_members)))
 
 -- {"ID":1,"Name":"a"}
 abbrev pub inactive_row : Data
-inactive_row = object (member (codes "ID") (number (unsigned 1)) (member (codes "Name") (string (codes "a")) no_members))
+inactive_row =
+    object (member (codes "ID") (number (unsigned 1)) (member (codes "Name") (string (codes "a")) no_members))
 
 -- what the first of them stands for
 abbrev pub item_field : List ℕ → val.Held

@@ -42,8 +42,8 @@ abbrev pub FitsType : ExprType → Data → Val → Type 0
 FitsType (single (primitive type)) json value = FitsPrimitive type json value
 FitsType _ json value = ⊥
 
--- what an object has under a property's name, and what the record has there: a property that is not looked at is absent from
--- the record, whatever the object has
+-- what an object has under a property's name, and what the record has there: a property that is not looked at is absent
+-- from the record, whatever the object has
 abbrev pub FitsProperty : PropertyType → Option Data → Held → Type 0
 FitsProperty (declared type) (Some json) (present value) = FitsType type json value
 FitsProperty opaque found absent = Unit {0}

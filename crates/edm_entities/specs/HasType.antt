@@ -19,11 +19,12 @@ IsPrimitiveValue (guid g) EdmGuid = Unit {0}
 IsPrimitiveValue _ type = ⊥
 
 abbrev mutual
-  -- null has every type; a record gives each property that is looked at a value of that property's type; a list's items have
-  -- the member type. Null alone has the type of null
+  -- null has every type; a record gives each property that is looked at a value of that property's type; a list's items
+  -- have the member type. Null alone has the type of null
   pub HasType : Slots → ExprType → Val → Type 0
   HasType slots type null = Unit {0}
-  HasType slots (single (structured name)) (fields f) = AllByRecursion (λ p. HasPropertyType slots p.type_of (f p.name)) (slots name)
+  HasType slots (single (structured name)) (fields f) =
+      AllByRecursion (λ p. HasPropertyType slots p.type_of (f p.name)) (slots name)
   HasType slots (collection type) (items values) = AllHaveType slots type values
   HasType slots (single (primitive type)) value = IsPrimitiveValue value type
   HasType slots type value = ⊥

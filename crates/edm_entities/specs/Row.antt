@@ -56,23 +56,23 @@ seen_step (Value-F.List v) slots type = list_of slots type v.items
 abbrev pub val_of : Value → Seen
 val_of = fold-Value Seen seen_step
 
--- an entity as contracts see it: the schema and the place of its type in it, and the values by slot
+-- an entity as contracts see it: the schema, the index of its type in that, and the values by slot
 pub record Row : Type 0 where
   pub schema : SchemaModel
   pub type_id : ℕ
-  pub held : Value
+  pub value : Value
 
 abbrev pub value_of : Row → Val
-value_of row = val_of row.held (slots_of row.schema) (single (structured (type_name_at row.schema row.type_id)))
+value_of row = val_of row.value (slots_of row.schema) (single (structured (type_name_at row.schema row.type_id)))
 
 -- an entity conforms to its type: its value fits some JSON object
 abbrev pub Conforms : Row → Type 0
 Conforms row = (json : Data) × Fits (slots_of row.schema) (type_name_at row.schema row.type_id) json (value_of row)
 
--- its value is held as a record with a value for each slot of its type
+-- its value is a record with a value for each slot of its type
 pub record HoldsSlots (row : Row) : Type 0 where
   pub slots : Vec Value Global
-  pub held_is : row.held ≡ Record slots
+  pub value_is : row.value ≡ Record slots
   pub as_many : length slots.items ≡ length (properties_at row.schema row.type_id)
 
 -- what is true of every entity

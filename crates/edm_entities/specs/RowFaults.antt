@@ -13,7 +13,7 @@ use Rattle.edm_entities.specs.NumberTypes.{IsNumberOf}
 use Rattle.edm_entities.specs.declared.fault.RowFault.{RowFault}
 use Rattle.edm_entities.specs.declared.fault.RowFault.TheVariants.{NotObject, Missing, WrongKind, NullNotAllowed, OutOfRange, BadText, Memory}
 
--- what may be wrong at the place of a fault
+-- what may be wrong with a value
 pub data Flaw : Type 0 where
   missing : Flaw
   wrong_kind : Flaw
@@ -21,7 +21,7 @@ pub data Flaw : Type 0 where
   out_of_range : Flaw
   bad_text : Flaw
 
--- the way from an entity to a value within it: names of properties, and places of items in decimal
+-- the way from an entity to a value within it: names of properties, and indices of items in decimal
 abbrev pub Path : Type 0
 Path = List (List ℕ)
 
@@ -48,16 +48,16 @@ IsPrimitiveFlaw EdmString json flaw = OnWrongKind flaw (as_str json ≡ None)
 IsPrimitiveFlaw _ json flaw = OnWrongKind flaw (Unit {0})
 
 -- the first fault in JSON, not null, where a type is wanted, and the way to it; no type with a row has parts
-abbrev pub IsFaultAt : Path → ExprType → Data → Flaw → Type 0
-IsFaultAt [] (single (primitive type)) json flaw = IsPrimitiveFlaw type json flaw
-IsFaultAt [] type json flaw = OnWrongKind flaw (Unit {0})
-IsFaultAt (name ∷ path) type json flaw = ⊥
+abbrev pub IsTypeFlaw : Path → ExprType → Data → Flaw → Type 0
+IsTypeFlaw [] (single (primitive type)) json flaw = IsPrimitiveFlaw type json flaw
+IsTypeFlaw [] type json flaw = OnWrongKind flaw (Unit {0})
+IsTypeFlaw (name ∷ path) type json flaw = ⊥
 
 -- the first fault in what an object has under a property's name
 abbrev pub IsPropertyFault : PropertyType → Option Data → Path → Flaw → Type 0
 IsPropertyFault (declared type) None path flaw = (path ≡ []) × (flaw ≡ missing)
 IsPropertyFault (declared type) (Some null) path flaw = (path ≡ []) × (flaw ≡ null_not_allowed)
-IsPropertyFault (declared type) (Some json) path flaw = IsFaultAt path type json flaw
+IsPropertyFault (declared type) (Some json) path flaw = IsTypeFlaw path type json flaw
 IsPropertyFault _ found path flaw = ⊥
 
 -- the first fault in an object, by the order of the properties: those before it have a member that fits
@@ -82,8 +82,10 @@ abbrev pub IsRowFault : Slots → List ℕ → Data → RowFault → Type 0
 IsRowFault slots type_name json NotObject = as_object json ≡ None
 IsRowFault slots type_name json (Missing path) = IsFirstFaultAt (slots type_name) json (string_bytes path) missing
 IsRowFault slots type_name json (WrongKind path) = IsFirstFaultAt (slots type_name) json (string_bytes path) wrong_kind
-IsRowFault slots type_name json (NullNotAllowed path) = IsFirstFaultAt (slots type_name) json (string_bytes path) null_not_allowed
-IsRowFault slots type_name json (OutOfRange path) = IsFirstFaultAt (slots type_name) json (string_bytes path) out_of_range
+IsRowFault slots type_name json (NullNotAllowed path) =
+    IsFirstFaultAt (slots type_name) json (string_bytes path) null_not_allowed
+IsRowFault slots type_name json (OutOfRange path) =
+    IsFirstFaultAt (slots type_name) json (string_bytes path) out_of_range
 IsRowFault slots type_name json (BadText path) = IsFirstFaultAt (slots type_name) json (string_bytes path) bad_text
 IsRowFault slots type_name json Memory = ⊥
 

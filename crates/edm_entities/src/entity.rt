@@ -19,15 +19,15 @@ pub struct Entity<'s> {
 impl<'s> Model for Entity<'s> {
     ghost use Rattle.edm_entities.specs.Row.{Row, IsEntity};
     ghost use Rattle.std.specs.Coded.{codes};
-    ghost use Rattle.edm_values.specs.contracts.value.Value as held;
+    ghost use Rattle.edm_values.specs.contracts.value.Value as value_contract;
 
     ghost Value = { Row };
 
-    ghost coded = { Prim.hlevel (codes, held.the_row.coded) };
+    ghost coded = { Prim.hlevel (codes, value_contract.the_row.coded) };
 
-    ghost view = { λ e. record { schema = e.schema.now; type_id = e.type_id; held = e.value } };
+    ghost view = { λ e. record { schema = e.schema.now; type_id = e.type_id; value = e.value } };
 
-    ghost invariant = { λ e. IsEntity (record { schema = e.schema.now; type_id = e.type_id; held = e.value }) };
+    ghost invariant = { λ e. IsEntity (record { schema = e.schema.now; type_id = e.type_id; value = e.value }) };
 }
 
 impl<'s> Entity<'s> {
@@ -83,7 +83,7 @@ impl<'s> Entity<'s> {
 
     /// Its value: a record, with the properties' values by slot.
     pub fn value(&self) -> &Value
-        ensures value { result.now ≡ self.now.held }
+        ensures value { result.now ≡ self.now.value }
         ensures entity { IsEntity self.now }
     {
         &self.value

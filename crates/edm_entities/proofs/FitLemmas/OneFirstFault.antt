@@ -9,7 +9,7 @@ use Rattle.edm_values.specs.declared.primitive.PrimitiveType.TheVariants.{Bool a
 use Rattle.csdl_schema.specs.ExprType.{ExprType, null_type, single, collection, primitive, enumeration, structured}
 use Rattle.csdl_schema.specs.SchemaModel.{PropertyModel, PropertyType, declared, opaque, navigation}
 use Rattle.edm_entities.specs.Fits.{whole_number, FitsProperty}
-use Rattle.edm_entities.specs.RowFaults.{Flaw, missing, wrong_kind, null_not_allowed, out_of_range, bad_text, Path, OnWrongKind, IsNumberFlaw, IsPrimitiveFlaw, IsFaultAt, IsPropertyFault, IsFirstFault}
+use Rattle.edm_entities.specs.RowFaults.{Flaw, missing, wrong_kind, null_not_allowed, out_of_range, bad_text, Path, OnWrongKind, IsNumberFlaw, IsPrimitiveFlaw, IsTypeFlaw, IsPropertyFault, IsFirstFault}
 use Rattle.edm_entities.proofs.FitLemmas.RowFaultRefuses.{property_clash}
 
 kind_alone : (P : Type 0) (flaw : Flaw) → OnWrongKind flaw P → flaw ≡ wrong_kind
@@ -40,7 +40,7 @@ same_primitive_flaw EdmDate json a b is_a is_b = same_kind _ a b is_a is_b
 same_primitive_flaw EdmDateTimeOffset json a b is_a is_b = same_kind _ a b is_a is_b
 same_primitive_flaw EdmGuid json a b is_a is_b = same_kind _ a b is_a is_b
 
-same_flaw : (type : ExprType) (json : Data) (a b : Flaw) → IsFaultAt [] type json a → IsFaultAt [] type json b → a ≡ b
+same_flaw : (type : ExprType) (json : Data) (a b : Flaw) → IsTypeFlaw [] type json a → IsTypeFlaw [] type json b → a ≡ b
 same_flaw (single (primitive type)) json a b is_a is_b = same_primitive_flaw type json a b is_a is_b
 same_flaw (single (enumeration name)) json a b is_a is_b = same_kind _ a b is_a is_b
 same_flaw (single (structured name)) json a b is_a is_b = same_kind _ a b is_a is_b
@@ -52,7 +52,7 @@ pub record IsSame (r s : Path) (a b : Flaw) : Type 0 where
   pub path : r ≡ s
   pub flaw : a ≡ b
 
-same_fault_at : (r s : Path) (type : ExprType) (json : Data) (a b : Flaw) → IsFaultAt r type json a → IsFaultAt s type json b → IsSame r s a b
+same_fault_at : (r s : Path) (type : ExprType) (json : Data) (a b : Flaw) → IsTypeFlaw r type json a → IsTypeFlaw s type json b → IsSame r s a b
 same_fault_at [] [] type json a b is_a is_b = record { path = refl; flaw = same_flaw type json a b is_a is_b }
 same_fault_at [] (name ∷ s) type json a b is_a is_b = absurd is_b
 same_fault_at (name ∷ r) s type json a b is_a is_b = absurd is_a

@@ -10,7 +10,7 @@ use Rattle.csdl_schema.specs.ExprType.{ExprType, null_type, single, collection, 
 use Rattle.csdl_schema.specs.SchemaModel.{Slots, PropertyModel, PropertyType, declared, opaque, navigation}
 use Rattle.edm_entities.specs.Fits.{whole_number, FitsBoolean, FitsNumber, FitsText, FitsPrimitive, FitsType, FitsProperty, FitsRecord, Fits}
 use Rattle.edm_entities.specs.NumberTypes.{IsNumberOf}
-use Rattle.edm_entities.specs.RowFaults.{Flaw, missing, wrong_kind, null_not_allowed, out_of_range, bad_text, Path, OnWrongKind, IsNumberFlaw, IsPrimitiveFlaw, IsFaultAt, IsPropertyFault, IsFirstFault, IsFirstFaultAt, IsRowFault}
+use Rattle.edm_entities.specs.RowFaults.{Flaw, missing, wrong_kind, null_not_allowed, out_of_range, bad_text, Path, OnWrongKind, IsNumberFlaw, IsPrimitiveFlaw, IsTypeFlaw, IsPropertyFault, IsFirstFault, IsFirstFaultAt, IsRowFault}
 use Rattle.edm_entities.specs.declared.fault.RowFault.{RowFault}
 use Rattle.edm_entities.specs.declared.fault.RowFault.TheVariants.{NotObject, Missing, WrongKind, NullNotAllowed, OutOfRange, BadText, Memory}
 
@@ -42,7 +42,7 @@ primitive_clash EdmDate json v flaw fits other = fits
 primitive_clash EdmDateTimeOffset json v flaw fits other = fits
 primitive_clash EdmGuid json v flaw fits other = fits
 
-value_clash : (path : Path) (type : ExprType) (json : Data) (v : Val) (flaw : Flaw) → FitsType type json v → ¬ (IsFaultAt path type json flaw)
+value_clash : (path : Path) (type : ExprType) (json : Data) (v : Val) (flaw : Flaw) → FitsType type json v → ¬ (IsTypeFlaw path type json flaw)
 value_clash [] (single (primitive type)) json v flaw fits other = primitive_clash type json v flaw fits other
 value_clash [] (single (enumeration name)) json v flaw fits other = fits
 value_clash [] (single (structured name)) json v flaw fits other = fits

@@ -18,7 +18,7 @@ use Rattle.edm_entities.proofs.FitLemmas.FitsHasType.{held_has_type}
 use Rattle.edm_entities.proofs.SlotLemmas.ReadEntities.{val_of-Record}
 use Rattle.edm_entities.proofs.SlotLemmas.SlotsByName.{here, behind, other_name}
 
--- what holds of each item holds of the one at a place
+-- what holds of each item holds of the one at an index
 each_at : {X : Type 0} (P : X → Type 0) (xs : List X) (n : ℕ) (x : X) → AllByRecursion P xs → slice_get xs n ≡ Some x → P x
 each_at P [] n x all at = absurd (cc)
 each_at P (y ∷ ys) zero x all at = let same : y ≡ x = cc in subst P same all.0
@@ -58,7 +58,7 @@ slot_value row entity slot p type at is_declared =
     let name : List ℕ = type_name_at row.schema row.type_id in
     let f : (List ℕ → Held) = held_by_name slots properties (map val_of values) in
     let record_is : value_of row ≡ fields f =
-    ap (λ (v : Value). val_of v slots (single (structured name))) entity.holds_slots.held_is ∙ val_of-Record slots (single (structured name)) entity.holds_slots.slots in
+    ap (λ (v : Value). val_of v slots (single (structured name))) entity.holds_slots.value_is ∙ val_of-Record slots (single (structured name)) entity.holds_slots.slots in
     let fits : FitsRecord properties entity.conforms.0 f = subst (Fits slots name entity.conforms.0) record_is entity.conforms.1 in
     let here_found = found slots properties values slot p entity.in_order entity.holds_slots.as_many at in
     let under : f p.name ≡ present (val_of here_found.value slots type) =

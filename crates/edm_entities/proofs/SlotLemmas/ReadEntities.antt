@@ -14,7 +14,7 @@ pub val_of-Record : (slots : Slots) (type : ExprType) (v : Vec Value Global) →
 val_of-Record slots type v = search (rules, the_lemmas)
 
 abbrev row_of : SchemaModel → ℕ → Vec Value Global → Row
-row_of schema id values = record { schema = schema; type_id = id; held = Record values }
+row_of schema id values = record { schema = schema; type_id = id; value = Record values }
 
 pub entity_fits : (schema : SchemaModel) (id : ℕ) (json : Data) (values : Vec Value Global) → IsInNameOrder (properties_at schema id) → IsSome (as_object json)
     → FitSlots (slots_of schema) json (properties_at schema id) values.items
@@ -27,7 +27,7 @@ pub is_entity : (schema : SchemaModel) (id : ℕ) (json : Data) (values : Vec Va
     → FitSlots (slots_of schema) json (properties_at schema id) values.items → IsEntity (row_of schema id values)
 is_entity schema id json values ordered is_object fits =
     record {
-      holds_slots = record { slots = values; held_is = refl; as_many = as_many (slots_of schema) json (properties_at schema id) values.items fits };
+      holds_slots = record { slots = values; value_is = refl; as_many = as_many (slots_of schema) json (properties_at schema id) values.items fits };
       in_order = ordered;
       conforms = (json, entity_fits schema id json values ordered is_object fits);
     }

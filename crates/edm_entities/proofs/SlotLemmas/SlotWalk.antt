@@ -30,7 +30,7 @@ some_fit slots json [] values fits = tt
 some_fit slots json (p ∷ ps) [] fits = absurd fits
 some_fit slots json (p ∷ ps) (v ∷ values) fits = ((held_of slots p.type_of (val_of v), fits.0), some_fit slots json ps values fits.1)
 
--- a list at one of its places
+-- a list at one of its indices
 record IsCutAt (properties : List PropertyModel) (n : ℕ) (p : PropertyModel) : Type 0 where
   split : properties ≡ take n properties ++ p ∷ drop (suc n) properties
   here : slice_get properties n ≡ Some p

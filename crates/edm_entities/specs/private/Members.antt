@@ -11,7 +11,8 @@ use Rattle.std.specs.String.{string_cmp}
 use Rattle.serde_json.specs.declared.value.Value.{Value}
 
 -- the first of them, and the others; none at the end
-abbrev pub entries_from : Option (Bor (String Global) × Bor Value) → List (String Global × Value) → List (String Global × Value)
+abbrev pub entries_from :
+    Option (Bor (String Global) × Bor Value) → List (String Global × Value) → List (String Global × Value)
 entries_from None others = []
 entries_from (Some first) others = (first.0.now, first.1.now) ∷ others
 

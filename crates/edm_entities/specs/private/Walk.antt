@@ -43,8 +43,11 @@ FitSlots slots json _ _ = ⊥
 abbrev pub IsSlotFault : PropertyType → Option Data → List ℕ → RowFault → Type 0
 IsSlotFault type found name fault.NotObject = ⊥
 IsSlotFault type found name (fault.Missing path) = IsPropertyFault type found [] missing × (string_bytes path ≡ name)
-IsSlotFault type found name (fault.WrongKind path) = IsPropertyFault type found [] wrong_kind × (string_bytes path ≡ name)
-IsSlotFault type found name (fault.NullNotAllowed path) = IsPropertyFault type found [] null_not_allowed × (string_bytes path ≡ name)
-IsSlotFault type found name (fault.OutOfRange path) = IsPropertyFault type found [] out_of_range × (string_bytes path ≡ name)
+IsSlotFault type found name (fault.WrongKind path) =
+    IsPropertyFault type found [] wrong_kind × (string_bytes path ≡ name)
+IsSlotFault type found name (fault.NullNotAllowed path) =
+    IsPropertyFault type found [] null_not_allowed × (string_bytes path ≡ name)
+IsSlotFault type found name (fault.OutOfRange path) =
+    IsPropertyFault type found [] out_of_range × (string_bytes path ≡ name)
 IsSlotFault type found name (fault.BadText path) = ⊥
 IsSlotFault type found name fault.Memory = Unit {0}
