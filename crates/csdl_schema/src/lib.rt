@@ -21,6 +21,3 @@ pub use ids::{EnumId, TypeId};
 pub use laws::{one_answer, slots_as_declared, types_by_name, worked_documents};
 pub use property::{Property, PropertyKind};
 pub use schema::Schema;
-
-#[cfg(test)]
-mod tests;
