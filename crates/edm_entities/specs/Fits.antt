@@ -1,5 +1,5 @@
 -- Which values a JSON tree stands for (OData JSON Format 4.01, sections 4.5 and 7).
-use Rattle.std.specs.Prelude.{◌≡◌, ◌≢◌, ℕ, ℤ, List, Bool, Option, Some, None, IsSome, option_and_then}
+use Rattle.std.specs.Prelude.{◌≡◌, ◌≢◌, ℕ, ℤ, List, Bool, Option, Some, IsSome, option_and_then}
 use Rattle.std.specs.List.{AllByRecursion}
 use Rattle.serde_json.specs.Data.{Data}
 use Rattle.serde_json.specs.Find.{get, as_bool, as_number, as_str, as_object, as_integer}
@@ -8,7 +8,7 @@ use Rattle.edm_values.specs.declared.primitive.PrimitiveType.{PrimitiveType}
 use Rattle.edm_values.specs.declared.primitive.PrimitiveType.TheVariants.{Bool as EdmBoolean, Byte, SByte, Int16, Int32, Int64, String as EdmString}
 use Rattle.csdl_schema.specs.ExprType.{ExprType, single, primitive}
 use Rattle.csdl_schema.specs.SchemaModel.{Slots, PropertyModel, PropertyType, declared, opaque, navigation}
-use Rattle.edm_entities.specs.NumberTypes.{IsNumberOf}
+use Rattle.edm_values.specs.NumberTypes.{IsNumberOf}
 
 -- the whole number as which a JSON number is held; none for a fraction (1.0 and 1e0 too) and for JSON of another kind
 abbrev pub whole_number : Data → Option ℤ

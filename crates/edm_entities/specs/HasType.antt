@@ -1,12 +1,11 @@
 -- Which values a type has (CSDL JSON 4.01, sections 3.3, 6, 7, 9 and 10).
-use Rattle.std.specs.Prelude.{ℕ, List}
 use Rattle.std.specs.List.{AllByRecursion}
 use Rattle.edm_values.specs.Val.{Val, null, boolean, whole, text, date, moment, guid, fields, items, Held, absent, present, Vals, no_items, item}
 use Rattle.edm_values.specs.declared.primitive.PrimitiveType.{PrimitiveType}
 use Rattle.edm_values.specs.declared.primitive.PrimitiveType.TheVariants.{Bool as EdmBoolean, String as EdmString, Date as EdmDate, DateTimeOffset as EdmDateTimeOffset, Guid as EdmGuid}
 use Rattle.csdl_schema.specs.ExprType.{ExprType, single, collection, SingleType, primitive, structured}
-use Rattle.csdl_schema.specs.SchemaModel.{Slots, PropertyModel, PropertyType, declared, opaque, navigation}
-use Rattle.edm_entities.specs.NumberTypes.{IsNumberOf}
+use Rattle.csdl_schema.specs.SchemaModel.{Slots, PropertyType, declared, opaque, navigation}
+use Rattle.edm_values.specs.NumberTypes.{IsNumberOf}
 
 -- a value of a primitive type, a number within its range
 abbrev pub IsPrimitiveValue : Val → PrimitiveType → Type 0

@@ -9,7 +9,7 @@ use Rattle.edm_values.specs.declared.primitive.PrimitiveType.TheVariants.{Bool a
 use Rattle.csdl_schema.specs.ExprType.{ExprType, single, primitive}
 use Rattle.csdl_schema.specs.SchemaModel.{Slots, PropertyModel, PropertyType, declared}
 use Rattle.edm_entities.specs.Fits.{whole_number, FitsProperty}
-use Rattle.edm_entities.specs.NumberTypes.{IsNumberOf}
+use Rattle.edm_values.specs.NumberTypes.{IsNumberOf}
 use Rattle.edm_entities.specs.declared.fault.RowFault.{RowFault}
 use Rattle.edm_entities.specs.declared.fault.RowFault.TheVariants.{NotObject, Missing, WrongKind, NullNotAllowed, OutOfRange, BadText, Memory}
 

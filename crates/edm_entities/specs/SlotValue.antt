@@ -1,5 +1,5 @@
 -- What an entity holds at the slot of a property that is looked at.
-use Rattle.std.specs.Prelude.{◌≡◌, ℕ, List, Option, Some, slice_get}
+use Rattle.std.specs.Prelude.{◌≡◌, ℕ, List, Some, slice_get}
 use Rattle.edm_values.specs.Val.{Held, fields, present}
 use Rattle.edm_values.specs.declared.value.Value.{Value}
 use Rattle.csdl_schema.specs.ExprType.{ExprType}

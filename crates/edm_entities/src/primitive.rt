@@ -1,9 +1,8 @@
-ghost use Rattle.std.specs.Prelude.{◌≡◌, ◌↔◌, ℕ, List, IfOk, IfErr, IsTrue};
+ghost use Rattle.std.specs.Prelude.{IfOk, IfErr};
 ghost use Rattle.serde_json.specs.View.{view};
 ghost use Rattle.csdl_schema.specs.ExprType.{ExprType};
 ghost use Rattle.csdl_schema.specs.SchemaModel.{Slots};
 ghost use Rattle.edm_entities.specs.Fits.{FitsBoolean, FitsNumber, FitsText, FitsPrimitive};
-ghost use Rattle.edm_entities.specs.NumberTypes.{IsNumberOf};
 ghost use Rattle.edm_entities.specs.Row.{val_of};
 ghost use Rattle.edm_entities.specs.RowFaults.{IsPrimitiveFlaw, IsNumberFlaw};
 ghost use Rattle.edm_entities.specs.private.Walk.{OnFlaw};
@@ -63,23 +62,9 @@ fn read_number(wanted: Prim, json: &serde_json::Value) -> Result<Value, ReadFlaw
     ensures flaw { IfErr result (λ f. OnFlaw f (IsNumberFlaw wanted (view json.now))) }
 {
     match json.as_i64() {
-        Some(n) if is_number_of(wanted, n) => Ok(Value::Int(n)),
+        Some(n) if wanted.holds_number(n) => Ok(Value::Int(n)),
         Some(_) => Err(ReadFlaw::OutOfRange),
         None if json.is_u64() => Err(ReadFlaw::OutOfRange),
         None => Err(ReadFlaw::WrongKind),
-    }
-}
-
-/// Whether a whole number is within that type.
-fn is_number_of(wanted: Prim, n: i64) -> bool
-    ensures { IsTrue result ↔ IsNumberOf wanted n }
-{
-    match wanted {
-        Prim::Byte => 0 <= n && n <= 255,
-        Prim::SByte => -128 <= n && n <= 127,
-        Prim::Int16 => -32_768 <= n && n <= 32_767,
-        Prim::Int32 => -2_147_483_648 <= n && n <= 2_147_483_647,
-        Prim::Int64 => true,
-        _ => false,
     }
 }

@@ -1,13 +1,13 @@
 -- Whole numbers of JSON beside the numbers of a type.
-use Rattle.std.proofs.Common.{◌≡◌, ℕ, ℤ, pos, ◌<◌, ◌≤◌, ◌^◌, Bool, true, false, Option, Some, None, is_some, nat_lt, if◌then◌else◌, refl, arith, ◌⊎◌, inl, inr, Result, IfOk}
+use Rattle.std.proofs.Common.{◌≡◌, ℕ, pos, ◌≤◌, ◌^◌, Bool, true, false, Some, None, is_some, nat_lt, if◌then◌else◌, refl, arith, ◌⊎◌, Result, IfOk}
 use Rattle.std.specs.Option.{option_and_then}
 use Rattle.std.proofs.lemmas.Int.{ints}
-use Rattle.serde_json.specs.Data.{Data, null, boolean, number, string, array, object, unsigned, negative, float}
+use Rattle.serde_json.specs.Data.{Data, number, unsigned, negative, float}
 use Rattle.serde_json.specs.Find.{as_number, as_i64, as_u64}
 use Rattle.edm_values.specs.declared.primitive.PrimitiveType.{PrimitiveType}
 use Rattle.edm_values.specs.declared.primitive.PrimitiveType.TheVariants.{Bool as EdmBoolean, Byte, SByte, Int16, Int32, Int64, String as EdmString, Date as EdmDate, DateTimeOffset as EdmDateTimeOffset, Guid as EdmGuid}
-use Rattle.edm_entities.specs.Fits.{whole_number, FitsNumber, FitsPrimitive}
-use Rattle.edm_entities.specs.NumberTypes.{IsNumberOf}
+use Rattle.edm_entities.specs.Fits.{FitsNumber, FitsPrimitive}
+use Rattle.edm_values.specs.NumberTypes.{IsNumberOf}
 use Rattle.edm_values.specs.declared.value.Value.{Value}
 use Rattle.csdl_schema.specs.ExprType.{ExprType}
 use Rattle.csdl_schema.specs.SchemaModel.{Slots}

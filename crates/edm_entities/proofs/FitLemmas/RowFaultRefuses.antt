@@ -1,5 +1,5 @@
 -- A JSON tree with a fault stands for no value.
-use Rattle.std.proofs.Common.{◌≡◌, ℕ, ℤ, List, [], ◌∷◌, ◌++◌, Bool, Option, Some, None, IsSome, sym, subst}
+use Rattle.std.proofs.Common.{◌≡◌, ℕ, List, [], ◌∷◌, ◌++◌, Option, Some, None, IsSome, subst}
 use Rattle.std.specs.List.{AllByRecursion}
 use Rattle.serde_json.specs.Data.{Data, null, boolean, number, string, array, object}
 use Rattle.serde_json.specs.Find.{get, as_object}
@@ -8,9 +8,9 @@ use Rattle.edm_values.specs.declared.primitive.PrimitiveType.{PrimitiveType}
 use Rattle.edm_values.specs.declared.primitive.PrimitiveType.TheVariants.{Bool as EdmBoolean, Byte, SByte, Int16, Int32, Int64, String as EdmString, Date as EdmDate, DateTimeOffset as EdmDateTimeOffset, Guid as EdmGuid}
 use Rattle.csdl_schema.specs.ExprType.{ExprType, null_type, single, collection, primitive, enumeration, structured}
 use Rattle.csdl_schema.specs.SchemaModel.{Slots, PropertyModel, PropertyType, declared, opaque, navigation}
-use Rattle.edm_entities.specs.Fits.{whole_number, FitsBoolean, FitsNumber, FitsText, FitsPrimitive, FitsType, FitsProperty, FitsRecord, Fits}
-use Rattle.edm_entities.specs.NumberTypes.{IsNumberOf}
-use Rattle.edm_entities.specs.RowFaults.{Flaw, missing, wrong_kind, null_not_allowed, out_of_range, bad_text, Path, OnWrongKind, IsNumberFlaw, IsPrimitiveFlaw, IsTypeFlaw, IsPropertyFault, IsFirstFault, IsFirstFaultAt, IsRowFault}
+use Rattle.edm_entities.specs.Fits.{FitsNumber, FitsPrimitive, FitsType, FitsProperty, FitsRecord, Fits}
+use Rattle.edm_values.specs.NumberTypes.{IsNumberOf}
+use Rattle.edm_entities.specs.RowFaults.{Flaw, missing, wrong_kind, null_not_allowed, out_of_range, bad_text, Path, IsNumberFlaw, IsPrimitiveFlaw, IsTypeFlaw, IsPropertyFault, IsFirstFault, IsRowFault}
 use Rattle.edm_entities.specs.declared.fault.RowFault.{RowFault}
 use Rattle.edm_entities.specs.declared.fault.RowFault.TheVariants.{NotObject, Missing, WrongKind, NullNotAllowed, OutOfRange, BadText, Memory}
 

@@ -6,7 +6,7 @@ use Rattle.edm_values.specs.declared.value.Value.{Value}
 use Rattle.csdl_schema.specs.SchemaModel.{Slots, PropertyModel, PropertyType}
 use Rattle.edm_entities.specs.Fits.{FitsProperty}
 use Rattle.edm_entities.specs.Row.{held_of, val_of}
-use Rattle.edm_entities.specs.RowFaults.{Flaw, missing, wrong_kind, null_not_allowed, out_of_range, IsPropertyFault, IsFirstFaultAt}
+use Rattle.edm_entities.specs.RowFaults.{Flaw, missing, wrong_kind, null_not_allowed, out_of_range, IsPropertyFault}
 use Rattle.edm_entities.specs.declared.flaw.ReadFlaw.{ReadFlaw}
 use Rattle.edm_entities.specs.declared.flaw.ReadFlaw.TheVariants.{Missing, WrongKind, NullNotAllowed, OutOfRange, Memory}
 use Rattle.edm_entities.specs.declared.fault.RowFault.{RowFault}
