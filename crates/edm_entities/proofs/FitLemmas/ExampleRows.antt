@@ -1,12 +1,12 @@
 -- The example rows: one stands for its value, the other for none.
-use Rattle.std.proofs.Common.{◌≡◌, ◌≢◌, ℕ, pos, List, [], ◌∷◌, Bool, true, false, codes, nat_eq, refl, sym, subst, arith}
+use Rattle.std.proofs.Common.{◌≡◌, ◌≢◌, ℕ, pos, List, Bool, true, false, codes, nat_eq, refl, sym, subst, arith}
 use Rattle.std.proofs.lemmas.Int.{ints}
 use Rattle.std.specs.Prelude.{FitsSigned}
 use Rattle.std.specs.Int.{w32}
 use Rattle.std.specs.Cmp.Lexicographic.{pointwise, same_text}
 use Rattle.std.specs.List.{AllByRecursion}
 use Rattle.edm_values.specs.Val.{Val, fields, absent}
-use Rattle.csdl_schema.specs.SchemaModel.{Slots, PropertyModel}
+use Rattle.csdl_schema.specs.SchemaModel.{Slots}
 use Rattle.edm_entities.specs.Example.{item_properties, item_row, inactive_row, item_field}
 use Rattle.edm_entities.specs.Fits.{Fits, FitsRecord}
 

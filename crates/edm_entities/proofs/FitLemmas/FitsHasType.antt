@@ -1,14 +1,14 @@
 -- A value that fits has its type.
-use Rattle.std.proofs.Common.{◌≡◌, ℕ, ℤ, List, [], ◌∷◌, Bool, Option, Some, None, sym, subst}
+use Rattle.std.proofs.Common.{ℕ, List, [], ◌∷◌, Option, Some, None, sym, subst}
 use Rattle.std.specs.List.{AllByRecursion}
 use Rattle.serde_json.specs.Data.{Data}
 use Rattle.serde_json.specs.Find.{get}
-use Rattle.edm_values.specs.Val.{Val, boolean, whole, text, fields, Held, absent, present}
+use Rattle.edm_values.specs.Val.{Val, fields, Held, absent, present}
 use Rattle.edm_values.specs.declared.primitive.PrimitiveType.{PrimitiveType}
 use Rattle.edm_values.specs.declared.primitive.PrimitiveType.TheVariants.{Bool as EdmBoolean, Byte, SByte, Int16, Int32, Int64, String as EdmString, Date as EdmDate, DateTimeOffset as EdmDateTimeOffset, Guid as EdmGuid}
 use Rattle.csdl_schema.specs.ExprType.{ExprType, null_type, single, collection, primitive, enumeration, structured}
 use Rattle.csdl_schema.specs.SchemaModel.{Slots, PropertyModel, PropertyType, declared, opaque, navigation}
-use Rattle.edm_entities.specs.Fits.{FitsBoolean, FitsNumber, FitsText, FitsPrimitive, FitsType, FitsProperty, FitsRecord, Fits}
+use Rattle.edm_entities.specs.Fits.{FitsNumber, FitsPrimitive, FitsType, FitsProperty, Fits}
 use Rattle.edm_entities.specs.HasType.{HasType, HasPropertyType}
 
 number_has_type : (slots : Slots) (type : PrimitiveType) (json : Data) (v : Val) → FitsNumber type json v → HasType slots (single (primitive type)) v

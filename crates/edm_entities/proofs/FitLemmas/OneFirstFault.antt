@@ -1,5 +1,5 @@
 -- A JSON tree has one first fault at most.
-use Rattle.std.proofs.Common.{◌≡◌, ℕ, ℤ, List, [], ◌∷◌, ◌++◌, Bool, Option, Some, None, refl, sym, ap, ◌∙◌, subst}
+use Rattle.std.proofs.Common.{◌≡◌, List, [], ◌∷◌, ◌++◌, Option, Some, None, refl, sym, ap, ◌∙◌, subst}
 use Rattle.std.specs.List.{AllByRecursion}
 use Rattle.serde_json.specs.Data.{Data, null, boolean, number, string, array, object}
 use Rattle.serde_json.specs.Find.{get}
@@ -8,8 +8,8 @@ use Rattle.edm_values.specs.declared.primitive.PrimitiveType.{PrimitiveType}
 use Rattle.edm_values.specs.declared.primitive.PrimitiveType.TheVariants.{Bool as EdmBoolean, Byte, SByte, Int16, Int32, Int64, String as EdmString, Date as EdmDate, DateTimeOffset as EdmDateTimeOffset, Guid as EdmGuid}
 use Rattle.csdl_schema.specs.ExprType.{ExprType, null_type, single, collection, primitive, enumeration, structured}
 use Rattle.csdl_schema.specs.SchemaModel.{PropertyModel, PropertyType, declared, opaque, navigation}
-use Rattle.edm_entities.specs.Fits.{whole_number, FitsProperty}
-use Rattle.edm_entities.specs.RowFaults.{Flaw, missing, wrong_kind, null_not_allowed, out_of_range, bad_text, Path, OnWrongKind, IsNumberFlaw, IsPrimitiveFlaw, IsTypeFlaw, IsPropertyFault, IsFirstFault}
+use Rattle.edm_entities.specs.Fits.{FitsProperty}
+use Rattle.edm_entities.specs.RowFaults.{Flaw, wrong_kind, out_of_range, Path, OnWrongKind, IsNumberFlaw, IsPrimitiveFlaw, IsTypeFlaw, IsPropertyFault, IsFirstFault}
 use Rattle.edm_entities.proofs.FitLemmas.RowFaultRefuses.{property_clash}
 
 kind_alone : (P : Type 0) (flaw : Flaw) → OnWrongKind flaw P → flaw ≡ wrong_kind

@@ -1,13 +1,13 @@
 -- The walk over an object's members beside the slots: a member that is passed is of no slot to come.
-use Rattle.std.proofs.Common.{◌≡◌, ◌≢◌, ℕ, zero, suc, ◌<◌, List, [], ◌∷◌, length, map, drop, Option, Some, None, option_map, slice_get, String, Global, Ordering, Less, Equal, Greater, nat_cmp, string_bytes, string_cmp, Bor, refl, sym, ap, ◌∙◌, arith}
+use Rattle.std.proofs.Common.{◌≡◌, ℕ, zero, suc, List, [], ◌∷◌, map, drop, Option, Some, None, slice_get, String, Global, Ordering, Less, Equal, Greater, nat_cmp, string_bytes, Bor, refl, sym, ap, ◌∙◌}
 use Rattle.std.proofs.lemmas.Cmp.{nat_list_cmp_total, tied_itself}
 use Rattle.std.specs.Cmp.Lexicographic.{slice_cmp}
 use Rattle.std.specs.List.{AllByRecursion}
 use Rattle.std.specs.List.Sorted.{IsStrictlySortedBy}
 use Rattle.std.specs.Map.{keys_of}
 use Rattle.std.specs.Map.Iter.{TakesFirst, deref_pair}
-use Rattle.std.specs.Ordering.{match_ordering, ordering_reverse}
-use Rattle.serde_json.specs.Data.{Data, Members, member}
+use Rattle.std.specs.Ordering.{ordering_reverse}
+use Rattle.serde_json.specs.Data.{Members}
 use Rattle.serde_json.specs.Find.{get_member}
 use Rattle.serde_json.specs.View.{view, members_view}
 use Rattle.serde_json.specs.declared.value.Value.{Value}

@@ -1,5 +1,5 @@
 -- Slots whose values fit make an entity that conforms to its type.
-use Rattle.std.proofs.Common.{◌≡◌, ℕ, List, Some, map, Vec, Global, IsSome, refl, sym, subst, rules}
+use Rattle.std.proofs.Common.{◌≡◌, ℕ, Some, map, Vec, Global, IsSome, refl, sym, subst, rules}
 use Rattle.serde_json.specs.Data.{Data, object, Members}
 use Rattle.serde_json.specs.Find.{as_object}
 use Rattle.edm_values.specs.declared.value.Value.{Value, Record, the_lemmas}

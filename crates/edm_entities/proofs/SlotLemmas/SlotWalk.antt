@@ -1,5 +1,5 @@
 -- The walk over the slots of a type: what it has read fits, and the fault at which it stops is the first.
-use Rattle.std.proofs.Common.{◌≡◌, ℕ, zero, suc, ◌<◌, List, [], ◌∷◌, ◌++◌, length, take, drop, Option, Some, None, option_map, map, slice_get, IfSome, IsSome, string_bytes, refl, sym, ap, ◌∙◌, subst, arith}
+use Rattle.std.proofs.Common.{◌≡◌, ℕ, zero, suc, ◌<◌, List, [], ◌∷◌, ◌++◌, length, take, drop, Option, Some, None, option_map, map, slice_get, IfSome, IsSome, refl, ap, ◌∙◌, subst, arith}
 use Rattle.std.specs.List.{AllByRecursion}
 use Rattle.serde_json.specs.Data.{Data}
 use Rattle.serde_json.specs.Find.{get, as_object}
@@ -8,7 +8,7 @@ use Rattle.edm_values.specs.declared.value.Value.{Value}
 use Rattle.csdl_schema.specs.SchemaModel.{Slots, PropertyModel, PropertyType}
 use Rattle.edm_entities.specs.Fits.{FitsProperty}
 use Rattle.edm_entities.specs.Row.{held_of, val_of}
-use Rattle.edm_entities.specs.RowFaults.{Flaw, missing, wrong_kind, null_not_allowed, out_of_range, IsPropertyFault, IsFirstFault, IsFirstFaultAt, IsRowFault, IsMemory}
+use Rattle.edm_entities.specs.RowFaults.{Flaw, missing, wrong_kind, null_not_allowed, out_of_range, IsPropertyFault, IsFirstFaultAt, IsRowFault, IsMemory}
 use Rattle.edm_entities.specs.private.Walk.{FitsSlot, FitSlots, IsSlotFault}
 use Rattle.edm_entities.specs.declared.fault.RowFault.{RowFault}
 use Rattle.edm_entities.specs.declared.fault.RowFault.TheVariants.{NotObject, Missing, WrongKind, NullNotAllowed, OutOfRange, BadText, Memory}

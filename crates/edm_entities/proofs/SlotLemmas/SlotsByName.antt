@@ -1,17 +1,17 @@
 -- Values by slot as a record by names: where the slots are in the order of their names, values that fit make a record that fits.
-use Rattle.std.proofs.Common.{◌≡◌, ◌≢◌, ℕ, suc, List, [], ◌∷◌, Bool, true, false, cond, map, length, IsSome, Ordering, Less, Equal, Greater, nat_cmp, nat_eq, is_eq, refl, sym, ap, ◌∙◌, subst}
+use Rattle.std.proofs.Common.{◌≡◌, ◌≢◌, ℕ, suc, List, [], ◌∷◌, Bool, true, false, map, length, IsSome, Less, nat_cmp, nat_eq, is_eq, refl, sym, ap, ◌∙◌, subst}
 use Rattle.std.proofs.lemmas.Cmp.{nat_list_eq_equiv}
 use Rattle.std.specs.Cmp.Lexicographic.{pointwise, slice_cmp, same_text, texts_ties}
 use Rattle.std.specs.List.{AllByRecursion}
 use Rattle.std.specs.List.Sorted.{IsStrictlySortedBy}
 use Rattle.serde_json.specs.Data.{Data}
 use Rattle.serde_json.specs.Find.{get, as_object}
-use Rattle.edm_values.specs.Val.{Held, absent}
+use Rattle.edm_values.specs.Val.{absent}
 use Rattle.edm_values.specs.declared.value.Value.{Value}
 use Rattle.csdl_schema.specs.SchemaModel.{Slots, PropertyModel, IsInNameOrder}
 use Rattle.edm_entities.specs.Fits.{FitsProperty, FitsRecord}
 use Rattle.edm_entities.specs.Row.{Seen, held_of, held_by_name, val_of}
-use Rattle.edm_entities.specs.private.Walk.{FitsSlot, FitSlots}
+use Rattle.edm_entities.specs.private.Walk.{FitSlots}
 
 -- a property is found under its own name
 pub here : (slots : Slots) (p : PropertyModel) (ps : List PropertyModel) (seen : Seen) (more : List Seen)

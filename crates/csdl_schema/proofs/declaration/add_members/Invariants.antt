@@ -1,4 +1,4 @@
-use Rattle.std.proofs.Common.{◌≡◌, ◌++◌, List, drop, option_map}
+use Rattle.std.proofs.Common.{◌≡◌, ◌++◌, drop, option_map}
 use Rattle.csdl_schema.specs.Declarations.{types_among}
 use Rattle.csdl_schema.specs.private.DocumentView.{members_of, declarations_of}
 use Rattle.csdl_schema.proofs.declaration.add_members.Given as goal

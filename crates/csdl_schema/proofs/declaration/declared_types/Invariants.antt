@@ -1,4 +1,4 @@
-use Rattle.std.proofs.Common.{◌≡◌, ◌++◌, List, drop}
+use Rattle.std.proofs.Common.{◌≡◌, ◌++◌, drop}
 use Rattle.std.specs.List.{flat_map}
 use Rattle.csdl_schema.specs.Declarations.{types_in}
 use Rattle.csdl_schema.specs.private.DocumentView.{members_of, declarations_of}

@@ -1,4 +1,4 @@
-use Rattle.std.proofs.Common.{◌≡◌, List, drop}
+use Rattle.std.proofs.Common.{◌≡◌, drop}
 use Rattle.std.specs.List.{flat_map}
 use Rattle.csdl_schema.specs.Faults.{namespace_faults}
 use Rattle.csdl_schema.specs.private.DocumentView.{members_of}

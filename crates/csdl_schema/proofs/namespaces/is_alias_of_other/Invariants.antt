@@ -1,4 +1,4 @@
-use Rattle.std.proofs.Common.{◌≡◌, List, drop}
+use Rattle.std.proofs.Common.{◌≡◌, drop}
 use Rattle.csdl_schema.specs.Faults.{is_alias_of_other}
 use Rattle.csdl_schema.specs.private.DocumentView.{members_of}
 use Rattle.csdl_schema.proofs.namespaces.is_alias_of_other.Given as goal

@@ -1,4 +1,4 @@
-use Rattle.std.proofs.Common.{◌≡◌, ◌+◌, ◌≤◌, List, drop, count_by}
+use Rattle.std.proofs.Common.{◌≡◌, ◌+◌, ◌≤◌, drop, count_by}
 use Rattle.csdl_schema.specs.Declarations.{is_entity_type}
 use Rattle.csdl_schema.specs.private.DocumentView.{declarations_of}
 use Rattle.csdl_schema.proofs.read.count_types.Given as goal

@@ -1,4 +1,4 @@
-use Rattle.std.proofs.Common.{◌∙◌, sym, subst, codes, is_none, is_some, not, nat_lt, length, List, ℕ}
+use Rattle.std.proofs.Common.{◌∙◌, sym, subst, codes, is_none, not, nat_lt, length, List, ℕ}
 use Rattle.serde_json.specs.Find.{get}
 use Rattle.csdl_schema.specs.Declarations.{declared_in}
 use Rattle.csdl_schema.specs.Faults.{unless, unknown_base, too_large}

@@ -1,4 +1,4 @@
-use Rattle.std.proofs.Common.{◌≡◌, List}
+use Rattle.std.proofs.Common.{◌≡◌}
 use Rattle.std.specs.List.{flat_map}
 use Rattle.csdl_schema.specs.Faults.{base_faults}
 use Rattle.csdl_schema.specs.private.DocumentView.{types_of, AreNamed}

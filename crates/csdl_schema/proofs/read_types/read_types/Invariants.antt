@@ -1,4 +1,4 @@
-use Rattle.std.proofs.Common.{◌≡◌, ◌++◌, List, map}
+use Rattle.std.proofs.Common.{◌≡◌, ◌++◌, map}
 use Rattle.std.specs.List.{flat_map}
 use Rattle.csdl_schema.specs.Declarations.{declared_type}
 use Rattle.csdl_schema.specs.Faults.{type_faults}

@@ -1,8 +1,8 @@
-use Rattle.std.proofs.Common.{◌≡◌, ◌<◌, ◌++◌, [], ◌∷◌, List, ℕ, Option, length, option_map, add-one, arith, refl, ◌∙◌}
+use Rattle.std.proofs.Common.{◌≡◌, ◌<◌, ◌++◌, [], ◌∷◌, length, option_map, add-one, arith, refl, ◌∙◌}
 use Rattle.std.proofs.lemmas.Grind.{common_steps}
-use Rattle.serde_json.specs.Data.{Data, object}
+use Rattle.serde_json.specs.Data.{object}
 use Rattle.serde_json.specs.View.{view, members_view}
-use Rattle.csdl_schema.specs.SchemaModel.{PropertyType, slots_of, type_name_at, properties_at}
+use Rattle.csdl_schema.specs.SchemaModel.{slots_of, type_name_at, properties_at}
 use Rattle.edm_entities.specs.Fits.{FitsProperty}
 use Rattle.edm_entities.specs.private.Members.{entries_from}
 use Rattle.edm_entities.specs.Row.{held_of, val_of}

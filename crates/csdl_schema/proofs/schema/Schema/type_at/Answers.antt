@@ -1,4 +1,4 @@
-use Rattle.std.proofs.Common.{◌≡◌, ◌∙◌, sym, ap, Option, arith, option_map, slice_get, Bor}
+use Rattle.std.proofs.Common.{◌≡◌, ◌∙◌, sym, ap, arith, option_map, slice_get, Bor}
 use Rattle.std.proofs.lemmas.Option.{gets}
 use Rattle.std.proofs.lemmas.Grind.{common_steps}
 use Rattle.csdl_schema.specs.SchemaModel.{TypeModel, properties_at}

@@ -1,10 +1,7 @@
-use Rattle.std.proofs.Common.{◌≡◌, Some, option_map, refl, sym, ap, subst, ◌∙◌}
-use Rattle.serde_json.specs.Data.{Data, object}
-use Rattle.serde_json.specs.Find.{as_object}
+use Rattle.std.proofs.Common.{option_map, refl, sym, ap, ◌∙◌}
+use Rattle.serde_json.specs.Data.{object}
 use Rattle.serde_json.specs.View.{view, members_view}
 use Rattle.csdl_schema.specs.SchemaModel.{slots_of, type_name_at}
-use Rattle.edm_entities.specs.Fits.{Fits}
-use Rattle.edm_entities.specs.RowFaults.{IsRowFault}
 use Rattle.edm_entities.proofs.SlotLemmas.ReadEntities.{entity_fits, is_entity, object_is}
 use Rattle.edm_entities.proofs.FitLemmas.RowFaultRefuses.{fault_refuses}
 use Rattle.edm_entities.proofs.entity.Entity.from_json.Goals as goal

@@ -1,9 +1,9 @@
-use Rattle.std.proofs.Common.{◌≡◌, ◌∷◌, List, ℕ, Option, Some, None, Ordering, Less, Equal, Greater, String, Global, Bor, sym, ap, subst, ◌∙◌, nat_cmp, string_bytes}
+use Rattle.std.proofs.Common.{◌≡◌, ◌∷◌, List, ℕ, Option, Some, Ordering, String, Global, Bor, sym, ap, subst, ◌∙◌, nat_cmp, string_bytes}
 use Rattle.std.specs.Cmp.Lexicographic.{slice_cmp}
 use Rattle.serde_json.specs.Find.{get_member}
 use Rattle.serde_json.specs.View.{members_view}
 use Rattle.serde_json.specs.declared.value.Value.{Value}
-use Rattle.edm_entities.specs.private.Members.{entries_from, AreInOrder, IsUpTo}
+use Rattle.edm_entities.specs.private.Members.{entries_from, AreInOrder}
 use Rattle.edm_entities.proofs.SlotLemmas.MemberWalk.{taken, ordered_behind, passed, here, none_here, up_to_itself}
 use Rattle.edm_entities.proofs.members.Members.find.Goals as goal
 
