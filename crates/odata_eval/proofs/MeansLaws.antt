@@ -6,7 +6,7 @@ pub mod OneOutcome
 pub mod OneStep
 pub mod OperatorSteps
 pub mod Progress
-pub mod RootSteps
+pub mod TopNode
 pub mod SlotValue
 pub mod Truths
 pub mod WalkSteps

@@ -1,14 +1,9 @@
 -- Verdicts and faults of the code as values and outcomes.
-use Rattle.std.specs.Prelude.{Bool, true, false, Option, Some, None, Result, Ok, Err}
+use Rattle.std.specs.Prelude.{true, false, Option, Some, None, Result, Ok, Err}
 use Rattle.edm_values.specs.Val.{Val, null, boolean}
 use Rattle.odata_eval.specs.declared.fault.EvalFault.{EvalFault}
 use Rattle.odata_eval.specs.declared.verdict.Verdict.{Verdict}
 use Rattle.odata_eval.specs.Outcome.{Outcome, gives, overflow, divides_by_zero}
-
--- a truth value, or null for none
-abbrev pub truth_val : Option Bool → Val
-truth_val (Some b) = boolean b
-truth_val None = null
 
 abbrev pub verdict_val : Verdict → Val
 verdict_val Verdict.True = boolean true

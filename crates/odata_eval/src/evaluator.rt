@@ -1,7 +1,8 @@
 //! The call that the other modules use.
 ghost use Rattle.std.specs.Prelude.{◌≡◌, ◌≢◌, Some, Option, Bool, Err, IfSome};
 ghost use Rattle.odata_eval.specs.MeansOn.{MeansOn, IsTheOutcome};
-ghost use Rattle.odata_eval.specs.VerdictView.{told_outcome, truth_val, verdict_val};
+ghost use Rattle.odata_eval.specs.VerdictView.{told_outcome, verdict_val};
+ghost use Rattle.odata_eval.specs.private.DatumView.{truth_val};
 ghost use Rattle.odata_typing.specs.Filter.{tree_of_filter};
 
 use super::fault::EvalFault;

@@ -3,11 +3,10 @@ ghost use Rattle.std.specs.Prelude.{◌≡◌, ◌↔◌, Some, Option, Bool, Is
 ghost use Rattle.edm_values.specs.PlainVal.{plain_val};
 ghost use Rattle.edm_values.specs.Val.{boolean};
 ghost use Rattle.odata_eval.specs.AndGives.{AndGives};
-ghost use Rattle.odata_eval.specs.private.DatumView.{plain_datum, OfBoth};
+ghost use Rattle.odata_eval.specs.private.DatumView.{plain_datum, truth_val, OfBoth};
 ghost use Rattle.odata_eval.specs.EqualGives.{EqualGives};
 ghost use Rattle.odata_eval.specs.Outcome.{Outcome, gives};
 ghost use Rattle.odata_eval.specs.private.WalkAnswer.{IsDecided, OperatorTable};
-ghost use Rattle.odata_eval.specs.VerdictView.{truth_val};
 
 use edm_values::{Datum, Value};
 use odata_syntax::BinaryOperator;

@@ -2,7 +2,7 @@
 ghost use Rattle.std.specs.Prelude.{◌<◌, [], length};
 ghost use Rattle.csdl_schema.specs.SchemaModel.{properties_at};
 ghost use Rattle.edm_entities.specs.Row.{IsEntity};
-ghost use Rattle.odata_eval.specs.private.WalkAnswer.{Answers, HoldsAt};
+ghost use Rattle.odata_eval.specs.private.WalkAnswer.{IsWalkAnswer, HoldsAt};
 ghost use Rattle.odata_typing.specs.IsChecked.{IsChecked};
 
 use super::fault::EvalFault;
@@ -31,7 +31,7 @@ pub(crate) fn walk<'e>(
 ) -> Result<Datum<'e>, EvalFault>
     requires entity { IsEntity entity.now }
     requires right { IsChecked entity.now.schema entity.now.type_id [] node.now }
-    ensures { Answers entity.now now.now node.now result }
+    ensures { IsWalkAnswer entity.now now.now node.now result }
 {
     // The two laws that the proof rests on.
     texts_have_one_value();

@@ -1,9 +1,9 @@
 pub mod Literals
 pub mod OneType
-pub mod Places
+pub mod PropertySlots
 pub mod Right
 pub mod Untypable
-pub mod Answers
+pub mod Operands
 pub mod Names
 pub mod Sizes
 pub mod PreOrders

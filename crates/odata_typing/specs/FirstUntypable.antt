@@ -7,7 +7,7 @@ use Rattle.odata_typing.specs.declared.refusal.TypeFault.{TypeFault}
 use Rattle.odata_typing.specs.declared.refusal.TypeFaultCode.{TypeFaultCode}
 use Rattle.odata_typing.specs.Considered.{IsConsidered, ChildrenTyped}
 use Rattle.odata_typing.specs.ExprTypes.{IsBooleanOrNull}
-use Rattle.odata_typing.specs.Typed.{Scope, Typed, HasNoType, property_named}
+use Rattle.odata_typing.specs.Typed.{Scope, Typed, IsUntyped, property_named}
 
 -- why a property has no type
 abbrev pub PropertyReason : PropertyType → TypeFaultCode → Type 0
@@ -27,20 +27,20 @@ IsReason slots root (node start stop (name asked)) code = NameReason (slots root
 IsReason slots root (node start stop (binary operator left right)) code = code ≡ TypeFaultCode.OperandTypes
 
 -- a considered node that has no type, while all its considered children have one
-pub record IsUntypable (slots : Slots) (root : List ℕ) (scope : Scope) (tree : Tree) (at : Scope) (place : Tree) : Type 0 where
-  pub considered : IsConsidered scope tree at place
-  pub untyped : HasNoType slots root at place
-  pub children : ChildrenTyped slots root at place
+pub record IsUntypable (slots : Slots) (root : List ℕ) (scope : Scope) (tree : Tree) (at : Scope) (part : Tree) : Type 0 where
+  pub considered : IsConsidered scope tree at part
+  pub untyped : IsUntyped slots root at part
+  pub children : ChildrenTyped slots root at part
 
 -- of these nodes the one that starts first, with its reason
 pub record IsFirstUntypable (slots : Slots) (root : List ℕ) (scope : Scope) (tree : Tree) (fault : TypeFault) : Type 0 where
   pub at : Scope
-  pub place : Tree
-  pub untypable : IsUntypable slots root scope tree at place
-  pub first : (scope' : Scope) (other : Tree) → IsUntypable slots root scope tree scope' other → start_of place ≤ start_of other
-  pub reason : IsReason slots root place fault.code
-  pub starts : fault.span.start ≡ start_of place
-  pub stops : fault.span.stop ≡ stop_of place
+  pub part : Tree
+  pub untypable : IsUntypable slots root scope tree at part
+  pub first : (scope' : Scope) (other : Tree) → IsUntypable slots root scope tree scope' other → start_of part ≤ start_of other
+  pub reason : IsReason slots root part fault.code
+  pub starts : fault.span.start ≡ start_of part
+  pub stops : fault.span.stop ≡ stop_of part
 
 -- the tree has a type, but neither Boolean nor Null; the span is the whole text
 pub record IsNotBoolean (slots : Slots) (root : List ℕ) (tree : Tree) (len : ℕ) (fault : TypeFault) : Type 0 where

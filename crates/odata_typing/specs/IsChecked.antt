@@ -15,10 +15,10 @@ use Rattle.odata_typing.specs.Typed.{Scope, PropertyTyped, OperatorTyped, variab
 use Rattle.odata_typing.specs.TypeView.{expr_type}
 
 -- the tree that a checked node stands for
-abbrev pub named : CheckedNode → Tree
-named (Lit span edm_type kind text value) = node span.start span.stop (literal kind (string_bytes text))
-named (Property span edm_type asked slot) = node span.start span.stop (name (string_bytes asked))
-named (Binary' span edm_type operator p left q right) = node span.start span.stop (binary operator (named left) (named right))
+abbrev pub tree_of_node : CheckedNode → Tree
+tree_of_node (Lit span edm_type kind text value) = node span.start span.stop (literal kind (string_bytes text))
+tree_of_node (Property span edm_type asked slot) = node span.start span.stop (name (string_bytes asked))
+tree_of_node (Binary' span edm_type operator p left q right) = node span.start span.stop (binary operator (tree_of_node left) (tree_of_node right))
 
 -- the type that it carries
 abbrev pub type_of_node : CheckedNode → EdmType
@@ -33,10 +33,10 @@ pub record IsCheckedLiteral (kind : LiteralKind) (spelling : List ℕ) (value : 
   pub value_of : LiteralValue kind spelling val
   pub typed : LiteralTyped kind spelling type
 
--- a name that is no variable, with its place among the properties and its type
+-- a name that is no variable, with its slot among the properties and its type
 pub record IsCheckedProperty (properties : List PropertyModel) (scope : Scope) (asked : List ℕ) (slot : ℕ) (type : ExprType) : Type 0 where
   pub free : variable_type scope asked ≡ None
-  pub place : slot_named properties asked ≡ Some slot
+  pub slot_of : slot_named properties asked ≡ Some slot
   pub typed : PropertyTyped properties asked type
 
 -- the node's types, values and slots are right, where the filtered type is the schema's n-th

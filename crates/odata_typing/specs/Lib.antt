@@ -6,6 +6,7 @@ pub use Rattle.edm_values.specs.StringLiteral
 pub use Rattle.edm_values.specs.Val
 pub use Rattle.odata_text.specs.TokenModel
 pub use Rattle.odata_text.specs.Tokens
+pub use Rattle.odata_syntax.specs.FirstRun
 pub use Rattle.odata_syntax.specs.Parse
 pub use Rattle.odata_syntax.specs.Tree
 pub use Rattle.odata_syntax.specs.TreeView

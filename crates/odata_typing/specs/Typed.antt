@@ -50,8 +50,8 @@ Typed slots root scope (node start stop (name asked)) type = NameTyped slots roo
 Typed slots root scope (node start stop (binary operator left right)) type =
     OperandsTyped operator (Typed slots root scope left) (Typed slots root scope right) type
 
-abbrev pub HasType : Slots → List ℕ → Scope → Tree → Type 0
-HasType slots root scope tree = (type : ExprType) × Typed slots root scope tree type
+abbrev pub IsTyped : Slots → List ℕ → Scope → Tree → Type 0
+IsTyped slots root scope tree = (type : ExprType) × Typed slots root scope tree type
 
-abbrev pub HasNoType : Slots → List ℕ → Scope → Tree → Type 0
-HasNoType slots root scope tree = (type : ExprType) → ¬ Typed slots root scope tree type
+abbrev pub IsUntyped : Slots → List ℕ → Scope → Tree → Type 0
+IsUntyped slots root scope tree = (type : ExprType) → ¬ Typed slots root scope tree type

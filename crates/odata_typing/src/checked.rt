@@ -4,7 +4,7 @@ ghost use Rattle.odata_text.specs.Tokens.{token_limit};
 ghost use Rattle.odata_typing.specs.Calls.{TakesMemory, UsesNow};
 ghost use Rattle.odata_typing.specs.ExprTypes.{IsBooleanOrNull};
 ghost use Rattle.odata_typing.specs.Filter.{IsFilter, IsTypeAt, tree_of_filter};
-ghost use Rattle.odata_typing.specs.IsChecked.{IsChecked, named, type_of_node};
+ghost use Rattle.odata_typing.specs.IsChecked.{IsChecked, tree_of_node, type_of_node};
 ghost use Rattle.odata_typing.specs.PreOrder.{pre_order, span_of_tree};
 ghost use Rattle.odata_typing.specs.TypeView.{expr_type};
 
@@ -21,7 +21,7 @@ use std::marker::Model;
 pub struct Checked<'s> {
     schema: &'s Schema,
     filtered_type: TypeId,
-    root: Box<CheckedNode>,
+    top_node: Box<CheckedNode>,
 }
 
 impl<'s> Model for Checked<'s> {
@@ -35,32 +35,32 @@ impl<'s> Model for Checked<'s> {
 
     ghost use Rattle.odata_typing.specs.Filter.{IsFilter};
 
-    ghost view = { λ c. record { schema = c.schema.now; filtered = c.filtered_type; root = c.root.value } };
+    ghost view = { λ c. record { schema = c.schema.now; filtered = c.filtered_type; top_node = c.top_node.value } };
 
-    ghost invariant = { λ c. IsFilter (record { schema = c.schema.now; filtered = c.filtered_type; root = c.root.value }) };
+    ghost invariant = { λ c. IsFilter (record { schema = c.schema.now; filtered = c.filtered_type; top_node = c.top_node.value }) };
 }
 
 impl<'s> Checked<'s> {
-    /// The filter of a root that is right, or `NotBoolean` with the whole of a text of that length.
+    /// The filter whose top node is right, or `NotBoolean` with the whole of a text of that length.
     pub(crate) fn of(
         schema: &'s Schema,
         filtered_type: TypeId,
-        root: Box<CheckedNode>,
+        top_node: Box<CheckedNode>,
         len: usize,
     ) -> Result<Checked<'s>, TypeFault>
         requires held { filtered_type < length schema.now.types }
-        requires right { IsChecked schema.now filtered_type [] root.value }
-        requires few { length (pre_order (named root.value)) ≤ token_limit }
-        ensures parts { IfOk result (λ c. c ≡ record { schema = schema.entry.now; filtered = filtered_type; root = root.value }) }
-        ensures truth { IfOk result (λ c. IsBooleanOrNull (expr_type schema.entry.now (type_of_node root.value))) }
-        ensures other { IfErr result (λ f. ¬ IsBooleanOrNull (expr_type schema.entry.now (type_of_node root.value))) }
+        requires right { IsChecked schema.now filtered_type [] top_node.value }
+        requires few { length (pre_order (tree_of_node top_node.value)) ≤ token_limit }
+        ensures parts { IfOk result (λ c. c ≡ record { schema = schema.entry.now; filtered = filtered_type; top_node = top_node.value }) }
+        ensures truth { IfOk result (λ c. IsBooleanOrNull (expr_type schema.entry.now (type_of_node top_node.value))) }
+        ensures other { IfErr result (λ f. ¬ IsBooleanOrNull (expr_type schema.entry.now (type_of_node top_node.value))) }
         ensures fault { IfErr result (λ f. f ≡ record { code = TypeFaultCode.NotBoolean; span = record { start = 0; stop = len } }) }
     {
-        if root.edm_type().is_truth() {
+        if top_node.edm_type().is_truth() {
             Ok(Checked {
                 schema,
                 filtered_type,
-                root,
+                top_node,
             })
         } else {
             let span = Span {
@@ -89,19 +89,19 @@ impl<'s> Checked<'s> {
         self.filtered_type
     }
 
-    /// The root of the tree with its types, values and slots.
+    /// The top node of the tree, with types, values and slots.
     pub fn nodes(&self) -> &CheckedNode
-        ensures root { result.now ≡ self.now.root }
+        ensures same { result.now ≡ self.now.top_node }
         ensures right { IsFilter self.now }
     {
-        &self.root
+        &self.top_node
     }
 
     /// How many nodes the tree has.
     pub fn node_count(&self) -> usize
         ensures { result ≡ length (pre_order (tree_of_filter self.now)) }
     {
-        node_count(&self.root)
+        node_count(&self.top_node)
     }
 
     /// The type of a node, numbered from 0 in pre-order. `None` past the last node.
@@ -109,17 +109,17 @@ impl<'s> Checked<'s> {
         ensures inside { IsSome result ↔ (node < length (pre_order (tree_of_filter self.now))) }
         ensures typed { IfSome result (λ t. IsTypeAt self.now node (expr_type self.now.schema t)) }
     {
-        match node_at(&self.root, node) {
+        match node_at(&self.top_node, node) {
             Ok(found) => Some(*found.edm_type()),
             Err(_) => None,
         }
     }
 
-    /// The place of a node, numbered from 0 in pre-order. `None` past the last node.
+    /// The span of a node, numbered from 0 in pre-order. `None` past the last node.
     pub fn span_of(&self, node: usize) -> Option<Span>
         ensures { result ≡ option_map span_of_tree (slice_get (pre_order (tree_of_filter self.now)) node) }
     {
-        match node_at(&self.root, node) {
+        match node_at(&self.top_node, node) {
             Ok(found) => Some(*found.span()),
             Err(_) => None,
         }

@@ -1,5 +1,5 @@
 ghost use Rattle.std.specs.Prelude.{◌≡◌, IfOk, IfErr};
-ghost use Rattle.odata_typing.specs.IsChecked.{named, type_of_node};
+ghost use Rattle.odata_typing.specs.IsChecked.{tree_of_node, type_of_node};
 ghost use Rattle.odata_typing.specs.PreOrder.{span_of_tree};
 
 use super::edm_type::EdmType;
@@ -49,7 +49,7 @@ impl CheckedNode {
 
     /// Where it stands in the text.
     pub fn span(&self) -> &Span
-        ensures { result.now ≡ span_of_tree (named self.now) }
+        ensures { result.now ≡ span_of_tree (tree_of_node self.now) }
     {
         match self {
             CheckedNode::Lit { span, .. } => span,

@@ -38,7 +38,7 @@ pub fn check<'s>(
         Err(refusal) => return Err(refusal),
     };
     match checked_tree(alloc, schema, filtered_type, expr.root()) {
-        Ok(root) => match Checked::of(schema, filtered_type, root, text.len()) {
+        Ok(top_node) => match Checked::of(schema, filtered_type, top_node, text.len()) {
             Ok(checked) => Ok(checked),
             Err(fault) => Err(Refusal::Typing(fault)),
         },

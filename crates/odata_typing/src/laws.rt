@@ -5,7 +5,7 @@ pub fn trees_have_one_type()
     ensures { OneType }
 {}
 
-/// A law: a tree that has a type has no untypable place.
+/// A law: a tree that has a type has no untypable node.
 pub fn typed_trees_are_clear()
     ensures { TypedIsClear }
 {}

@@ -17,7 +17,7 @@ use odata_syntax::{BinaryOperator, Node};
 use odata_text::Span;
 use std::alloc::Global;
 
-/// The tree with its types, values and slots, or its first untypable place.
+/// The tree with its types, values and slots, or its first untypable node.
 pub(crate) fn checked_tree(
     alloc: Global,
     schema: &Schema,
@@ -61,7 +61,7 @@ fn checked_binary(
 {
     match left {
         Ok(left) => match right {
-            Ok(right) => joined(alloc, span, operator, left, right),
+            Ok(right) => operator_node(alloc, span, operator, left, right),
             Err(behind) => Err(behind),
         },
         Err(before) => match right {
@@ -72,7 +72,7 @@ fn checked_binary(
 }
 
 /// The operator between two operands that have types.
-fn joined(
+fn operator_node(
     alloc: Global,
     span: Span,
     operator: BinaryOperator,

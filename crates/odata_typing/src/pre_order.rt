@@ -4,17 +4,17 @@ ghost use Rattle.odata_typing.specs.private.CheckedPreOrder.{checked_pre_order};
 use super::checked_node::CheckedNode;
 
 /// The node of a number, counted from 0 in pre-order; or, past the last node, by how many.
-pub(crate) fn node_at(node: &CheckedNode, place: usize) -> Result<&CheckedNode, usize>
-    ensures found { IfOk result (λ found. slice_get (checked_pre_order node.entry.now) place ≡ Some found.now) }
-    ensures past { IfErr result (λ rest. place ≡ length (checked_pre_order node.entry.now) + rest) }
+pub(crate) fn node_at(node: &CheckedNode, number: usize) -> Result<&CheckedNode, usize>
+    ensures found { IfOk result (λ found. slice_get (checked_pre_order node.entry.now) number ≡ Some found.now) }
+    ensures past { IfErr result (λ rest. number ≡ length (checked_pre_order node.entry.now) + rest) }
 {
-    if place == 0 {
+    if number == 0 {
         return Ok(node);
     }
     match node {
-        CheckedNode::Lit { .. } => Err(place - 1),
-        CheckedNode::Property { .. } => Err(place - 1),
-        CheckedNode::Binary { left, right, .. } => match node_at(left, place - 1) {
+        CheckedNode::Lit { .. } => Err(number - 1),
+        CheckedNode::Property { .. } => Err(number - 1),
+        CheckedNode::Binary { left, right, .. } => match node_at(left, number - 1) {
             Ok(found) => Ok(found),
             Err(rest) => node_at(right, rest),
         },

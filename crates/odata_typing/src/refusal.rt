@@ -19,7 +19,7 @@ pub enum TypeFaultCode {
     Navigation,
 }
 
-/// The first node that has no type, by its place, and why. For `NotBoolean` the place is the whole text.
+/// The first node that has no type, by its span, and why. For `NotBoolean` the span is the whole text.
 #[derive(Clone, Copy, Debug, PartialEq, Eq)]
 pub struct TypeFault {
     pub code: TypeFaultCode,

@@ -4,12 +4,12 @@ use Rattle.std.specs.Prelude.{MatchOption, string_bytes}
 use Rattle.csdl_schema.specs.ExprType.{ExprType}
 use Rattle.csdl_schema.specs.SchemaModel.{SchemaModel, slots_of, type_name_at}
 use Rattle.odata_typing.specs.declared.checked_node.CheckedNode.{CheckedNode, Lit, Property, Binary'}
-use Rattle.odata_typing.specs.IsChecked.{IsChecked, named, type_of_node}
+use Rattle.odata_typing.specs.IsChecked.{IsChecked, tree_of_node, type_of_node}
 use Rattle.odata_typing.specs.Typed.{Scope, Typed, PropertyTyped, variable_type}
 use Rattle.odata_typing.specs.TypeView.{expr_type}
 
 pub checked_typed : (schema : SchemaModel) (n : ℕ) (scope : Scope) (node : CheckedNode) → IsChecked schema n scope node
-    → Typed (slots_of schema) (type_name_at schema n) scope (named node) (expr_type schema (type_of_node node))
+    → Typed (slots_of schema) (type_name_at schema n) scope (tree_of_node node) (expr_type schema (type_of_node node))
 checked_typed schema n scope (Lit span edm_type kind text value) checked = checked.typed
 checked_typed schema n scope (Property span edm_type asked slot) checked =
     subst (λ (bound : Option ExprType). MatchOption bound

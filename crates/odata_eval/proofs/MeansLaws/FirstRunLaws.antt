@@ -1,4 +1,4 @@
--- The filter of the first run on its three rows.
+-- The filter of the first run on its three items.
 use Rattle.std.proofs.Common.{◌≡◌, ℕ, ℤ, pos, List, [], ◌∷◌, ◌<◌, Bool, true, false, refl, sym, ap, nat_eq, subst, inl, inr, rules, arith, lit<}
 use Rattle.std.proofs.lemmas.Int.{fits_signed_from_abs}
 use Rattle.std.specs.Prelude.{codes, FitsSigned}
@@ -8,9 +8,10 @@ use Rattle.std.specs.Str.Parse.{IsNumeral}
 use Rattle.edm_values.specs.IntLiteral.{IntValue, IntNumber}
 use Rattle.edm_values.specs.MomentParts.{MomentParts}
 use Rattle.edm_values.specs.Val.{Val, boolean, whole, text}
+use Rattle.odata_syntax.specs.FirstRun.{first_run_tree}
 use Rattle.odata_syntax.specs.Tree.{Tree}
 use Rattle.csdl_schema.specs.SchemaModel.{Slots}
-use Rattle.odata_eval.specs.FirstRun.{ComesTo, first_run, decided, row}
+use Rattle.odata_eval.specs.ComesTo.{ComesTo, false_and_missing, item_value}
 use Rattle.odata_eval.specs.Means.{Means}
 use Rattle.odata_eval.specs.Outcome.{Outcome, gives}
 use Rattle.odata_eval.proofs.MeansLaws.OneMeaning.{Means-one}
@@ -33,8 +34,8 @@ small = fits_signed_from_abs w64 (pos 1) (lit< tt)
 one : IntValue (codes "1") (pos 1)
 one = (inr (inr (numeral, refl)), small)
 
-pub kept : OneValue → ComesTo first_run (row (pos 1) (codes "a") true) (gives (boolean true))
-kept values = comes_to values first_run (row (pos 1) (codes "a") true) (gives (boolean true)) (λ slots root now. (
+pub kept_item : OneValue → ComesTo first_run_tree (item_value (pos 1) (codes "a") true) (gives (boolean true))
+kept_item values = comes_to values first_run_tree (item_value (pos 1) (codes "a") true) (gives (boolean true)) (λ slots root now. (
   gives (boolean true),
   (
     (
@@ -64,8 +65,8 @@ kept values = comes_to values first_run (row (pos 1) (codes "a") true) (gives (b
 other_text : codes "b" ≡ codes "a" → false ≡ true
 other_text same = ap (λ (xs : List ℕ). pointwise nat_eq xs (codes "a")) same
 
-pub other_name : OneValue → ComesTo first_run (row (pos 1) (codes "b") true) (gives (boolean false))
-other_name values = comes_to values first_run (row (pos 1) (codes "b") true) (gives (boolean false)) (λ slots root now. (
+pub other_item : OneValue → ComesTo first_run_tree (item_value (pos 1) (codes "b") true) (gives (boolean false))
+other_item values = comes_to values first_run_tree (item_value (pos 1) (codes "b") true) (gives (boolean false)) (λ slots root now. (
   gives (boolean true),
   (
     (
@@ -91,9 +92,9 @@ other_name values = comes_to values first_run (row (pos 1) (codes "b") true) (gi
   ),
 ))
 
-pub inactive : OneValue → ComesTo first_run (row (pos 2) (codes "a") false) (gives (boolean false))
-inactive values = comes_to values first_run (row (pos 2) (codes "a") false) (gives (boolean false)) (λ slots root now.
+pub inactive_item : OneValue → ComesTo first_run_tree (item_value (pos 2) (codes "a") false) (gives (boolean false))
+inactive_item values = comes_to values first_run_tree (item_value (pos 2) (codes "a") false) (gives (boolean false)) (λ slots root now.
     (gives (boolean false), ((gives (boolean false), (refl, refl)), refl)))
 
-pub right_side_left_out : OneValue → (value : Val) → ComesTo decided value (gives (boolean false))
-right_side_left_out values value = comes_to values decided value (gives (boolean false)) (λ slots root now. (gives (boolean false), (refl, refl)))
+pub right_side_unread : OneValue → (value : Val) → ComesTo false_and_missing value (gives (boolean false))
+right_side_unread values value = comes_to values false_and_missing value (gives (boolean false)) (λ slots root now. (gives (boolean false), (refl, refl)))

@@ -9,14 +9,13 @@ use Rattle.odata_syntax.specs.declared.node.BinaryOperator.{BinaryOperator}
 use Rattle.odata_syntax.specs.declared.node.BinaryOperator.TheVariants.{And, Eq}
 use Rattle.csdl_schema.specs.SchemaModel.{Slots}
 use Rattle.odata_eval.specs.AndGives.{AndGives, BothGive}
-use Rattle.odata_eval.specs.private.DatumView.{AtBoth}
+use Rattle.odata_eval.specs.private.DatumView.{AtBoth, truth_val}
 use Rattle.odata_eval.specs.Environment.{Environment}
 use Rattle.odata_eval.specs.EqualGives.{EqualGives}
 use Rattle.odata_eval.specs.LeftFirst.{Then, After}
 use Rattle.odata_eval.specs.Means.{Means}
 use Rattle.odata_eval.specs.OperatorGives.{OperatorGives}
 use Rattle.odata_eval.specs.Outcome.{Outcome, gives}
-use Rattle.odata_eval.specs.VerdictView.{truth_val}
 use Rattle.odata_eval.specs.private.WalkAnswer.{IsDecided, OperatorTable}
 use Rattle.odata_eval.proofs.MeansLaws.OneMeaning.{Means-one}
 use Rattle.odata_eval.proofs.MeansLaws.OneStep.{OneValue, After-follows}

@@ -93,10 +93,10 @@ plain_property slots (single (primitive p)) (Some json) v fits = plain_value slo
 plain_property slots type None v fits = absurd fits
 plain_property slots _ (Some json) v fits = absurd fits
 
--- the place that a search found
-found_place : (inside : Truth) (place n : ℕ) → cond inside (Some place) None ≡ Some n → place ≡ n
-found_place true place n at = cc
-found_place false place n at = cc
+-- the slot that a search found
+found_slot : (inside : Truth) (position n : ℕ) → cond inside (Some position) None ≡ Some n → position ≡ n
+found_slot true position n at = cc
+found_slot false position n at = cc
 
 -- the value that stands in the slot of a name is the entity's of that name, and it holds no other value
 pub slot_value : (row : Row) (slot : ℕ) (v : Value) (asked : List ℕ) (type : ExprType) → IsEntity row → HoldsAt row slot v
@@ -111,9 +111,9 @@ slot_value row slot v asked type entity holds named typed =
     let seen : value_of row ≡ fields held =
     ap (λ (h : Value). val_of h slots (single (structured type_name))) holds.1.0 ∙ val_of-Record slots (single (structured type_name)) holds.0 in
     let fits : Fits slots type_name entity.conforms.0 (fields held) = subst (Fits slots type_name entity.conforms.0) seen entity.conforms.1 in
-    let place : position_or_len (λ p. pointwise nat_eq asked p.name) (slots type_name) ≡ slot = found_place _ _ slot named in
+    let position : position_or_len (λ p. pointwise nat_eq asked p.name) (slots type_name) ≡ slot = found_slot _ _ slot named in
     let here : held asked ≡ present (val_of v slots type) =
-    held_at slots asked type v (slots type_name) values (subst (λ (n : ℕ). slice_get values n ≡ Some v) (sym place) holds.1.1) typed in
+    held_at slots asked type v (slots type_name) values (subst (λ (n : ℕ). slice_get values n ≡ Some v) (sym position) holds.1.1) typed in
     let fits_here : FitsProperty (declared type) (get asked entity.conforms.0) (held asked) =
     found_property (λ t n. FitsProperty t (get n entity.conforms.0) (held n)) asked type (slots type_name) fits.each_fits typed in
     let plain : plain_val v ≡ Some (val_of v slots type) =

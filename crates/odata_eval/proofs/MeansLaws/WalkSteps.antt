@@ -27,7 +27,7 @@ use Rattle.odata_eval.specs.OperatorGives.{OperatorGives}
 use Rattle.odata_eval.specs.Outcome.{Outcome, gives, overflow, divides_by_zero}
 use Rattle.odata_eval.specs.VerdictView.{fault_outcome}
 use Rattle.odata_eval.specs.private.WalkAnswer.{HoldsAt, IsDecided, OperatorTable}
-use Rattle.odata_typing.specs.IsChecked.{IsChecked, IsCheckedProperty, named, type_of_node}
+use Rattle.odata_typing.specs.IsChecked.{IsChecked, IsCheckedProperty, tree_of_node, type_of_node}
 use Rattle.odata_typing.specs.Typed.{OperatorTyped, Typed}
 use Rattle.odata_typing.specs.TypeView.{expr_type}
 use Rattle.odata_eval.proofs.MeansLaws.CheckedTyped.{checked_typed}
@@ -55,7 +55,7 @@ pub property_answered : (row : Row) (now : MomentParts) (start stop : ℕ) (aske
     → IsCheckedProperty (slots_of row.schema (type_name_at row.schema row.type_id)) [] asked slot type → HoldsAt row slot v → d ≡ plain_val v
     → IsSomeAnd (option_map gives d) (MeansOn row now (node start stop (name asked)))
 property_answered row now start stop asked slot type v d entity checked holds same =
-    let found = slot_value row slot v asked type entity holds checked.place checked.typed in
+    let found = slot_value row slot v asked type entity holds checked.slot_of checked.typed in
     subst (λ (o : Option Val). IsSomeAnd (option_map gives o) (MeansOn row now (node start stop (name asked)))) (sym (same ∙ found.1.0)) found.1.1
 
 -- an operator has an outcome at the values of its sides
@@ -63,19 +63,19 @@ pub operator_defined : Laws → (row : Row) (now : MomentParts) (operator : Bina
     → (IsChecked row.schema row.type_id [] left
     × IsChecked row.schema row.type_id [] right
     × OperatorTyped operator (expr_type row.schema (type_of_node left)) (expr_type row.schema (type_of_node right)) type)
-    → IsSomeAnd (option_map gives l) (MeansOn row now (named left)) → IsSomeAnd (option_map gives r) (MeansOn row now (named right))
+    → IsSomeAnd (option_map gives l) (MeansOn row now (tree_of_node left)) → IsSomeAnd (option_map gives r) (MeansOn row now (tree_of_node right))
     → (o : Outcome) × AtBoth (OperatorTable operator) l r o
 operator_defined laws row now operator left right type l r entity checked of_left of_right =
-    let typed : Typed (slots_of row.schema) (type_name_at row.schema row.type_id) [] (node 0 0 (binary operator (named left) (named right))) type = record {
+    let typed : Typed (slots_of row.schema) (type_name_at row.schema row.type_id) [] (node 0 0 (binary operator (tree_of_node left) (tree_of_node right))) type = record {
       left = expr_type row.schema (type_of_node left);
       right = expr_type row.schema (type_of_node right);
       left_typed = checked_typed row.schema row.type_id [] left checked.0;
       right_typed = checked_typed row.schema row.type_id [] right checked.1;
       operator_typed = checked.2;
     } in
-    let ends = entity_ends laws row now (node 0 0 (binary operator (named left) (named right))) type entity typed in (
+    let ends = entity_ends laws row now (node 0 0 (binary operator (tree_of_node left) (tree_of_node right))) type entity typed in (
       gives ends.0,
-      table_defined laws.values (slots_of row.schema) (type_name_at row.schema row.type_id) now (value_of row) [] operator (named left) (named right) 0 0 l r
+      table_defined laws.values (slots_of row.schema) (type_name_at row.schema row.type_id) now (value_of row) [] operator (tree_of_node left) (tree_of_node right) 0 0 l r
           (gives ends.0) ends.1.0 of_left of_right,
     )
 
@@ -89,12 +89,12 @@ operator_answered laws row now start stop operator left right l r v of_left of_r
 
 -- what a right node comes to is of its type
 pub node_value : Laws → (row : Row) (now : MomentParts) (c : CheckedNode) (v : Val) → IsEntity row → IsChecked row.schema row.type_id [] c
-    → MeansOn row now (named c) (gives v) → HasType (slots_of row.schema) (expr_type row.schema (type_of_node c)) v
+    → MeansOn row now (tree_of_node c) (gives v) → HasType (slots_of row.schema) (expr_type row.schema (type_of_node c)) v
 node_value laws row now c v entity checked related =
     let type : ExprType = expr_type row.schema (type_of_node c) in
-    let ends = entity_ends laws row now (named c) type entity (checked_typed row.schema row.type_id [] c checked) in
+    let ends = entity_ends laws row now (tree_of_node c) type entity (checked_typed row.schema row.type_id [] c checked) in
     let same : gives ends.0 ≡ gives v =
-    Means-one laws.values (slots_of row.schema) (type_name_at row.schema row.type_id) now (value_of row) [] (named c) (gives ends.0) (gives v) ends.1.0 related in
+    Means-one laws.values (slots_of row.schema) (type_name_at row.schema row.type_id) now (value_of row) [] (tree_of_node c) (gives ends.0) (gives v) ends.1.0 related in
     let same_value : ends.0 ≡ v = cc in
     subst (λ (w : Val). HasType (slots_of row.schema) type w) same_value ends.1.1
 
@@ -112,14 +112,14 @@ pub fault_answered : Laws → (row : Row) (now : MomentParts) (start stop : ℕ)
     × IsChecked row.schema row.type_id [] right
     × OperatorTyped operator (expr_type row.schema (type_of_node left)) (expr_type row.schema (type_of_node right)) type)
     → ¬ (IsDecided operator l)
-    → IsSomeAnd (option_map gives l) (MeansOn row now (named left)) → IsSomeAnd (fault_outcome fault) (MeansOn row now (named right))
-    → IsSomeAnd (fault_outcome fault) (MeansOn row now (node start stop (binary operator (named left) (named right))))
+    → IsSomeAnd (option_map gives l) (MeansOn row now (tree_of_node left)) → IsSomeAnd (fault_outcome fault) (MeansOn row now (tree_of_node right))
+    → IsSomeAnd (fault_outcome fault) (MeansOn row now (node start stop (binary operator (tree_of_node left) (tree_of_node right))))
 fault_answered laws row now start stop And left right type (Some l) EvalFault.Overflow entity checked undecided of_left of_right =
     let is_truth = truth_of (slots_of row.schema) (expr_type row.schema (type_of_node left)) l checked.2.0 (node_value laws row now left l entity checked.0 of_left) in
-    (gives l, (of_left, and_goes l (MeansOn row now (named right)) overflow is_truth undecided (overflow, (of_right, refl))))
+    (gives l, (of_left, and_goes l (MeansOn row now (tree_of_node right)) overflow is_truth undecided (overflow, (of_right, refl))))
 fault_answered laws row now start stop And left right type (Some l) EvalFault.DivideByZero entity checked undecided of_left of_right =
     let is_truth = truth_of (slots_of row.schema) (expr_type row.schema (type_of_node left)) l checked.2.0 (node_value laws row now left l entity checked.0 of_left) in
-    (gives l, (of_left, and_goes l (MeansOn row now (named right)) divides_by_zero is_truth undecided (divides_by_zero, (of_right, refl))))
+    (gives l, (of_left, and_goes l (MeansOn row now (tree_of_node right)) divides_by_zero is_truth undecided (divides_by_zero, (of_right, refl))))
 fault_answered laws row now start stop Eq left right type (Some l) EvalFault.Overflow entity checked undecided of_left of_right =
     (gives l, (of_left, (overflow, (of_right, refl))))
 fault_answered laws row now start stop Eq left right type (Some l) EvalFault.DivideByZero entity checked undecided of_left of_right =

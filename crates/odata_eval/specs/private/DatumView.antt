@@ -6,6 +6,11 @@ use Rattle.edm_values.specs.declared.datum.Datum.{Datum}
 use Rattle.edm_values.specs.declared.datum.Datum.TheVariants as datum
 use Rattle.odata_eval.specs.Outcome.{Outcome}
 
+-- a truth value, or null for none
+abbrev pub truth_val : Option Bool → Val
+truth_val (Some b) = boolean b
+truth_val None = null
+
 -- null, a primitive value or an enumeration's number; none for a record and a list, whose meaning needs their type
 abbrev pub plain_datum : Datum → Option Val
 plain_datum datum.Null = Some null

@@ -16,7 +16,7 @@ use Rattle.odata_eval.specs.private.DatumView.{plain_datum}
 use Rattle.odata_eval.specs.MeansOn.{MeansOn}
 use Rattle.odata_eval.specs.Outcome.{Outcome, gives}
 use Rattle.odata_eval.specs.VerdictView.{fault_outcome}
-use Rattle.odata_typing.specs.IsChecked.{named}
+use Rattle.odata_typing.specs.IsChecked.{tree_of_node}
 
 -- the outcome that the walk's answer tells; none for want of memory
 abbrev pub walk_outcome : Result Datum EvalFault → Option Outcome
@@ -24,8 +24,8 @@ walk_outcome (Ok datum) = option_map gives (plain_datum datum)
 walk_outcome (Err fault) = fault_outcome fault
 
 -- the answer is an outcome of the node
-abbrev pub Answers : Row → MomentParts → CheckedNode → Result Datum EvalFault → Type 0
-Answers row now node answer = IsSomeAnd (walk_outcome answer) (MeansOn row now (named node))
+abbrev pub IsWalkAnswer : Row → MomentParts → CheckedNode → Result Datum EvalFault → Type 0
+IsWalkAnswer row now node answer = IsSomeAnd (walk_outcome answer) (MeansOn row now (tree_of_node node))
 
 -- the entity has this value in the slot
 abbrev pub HoldsAt : Row → ℕ → Value → Type 0

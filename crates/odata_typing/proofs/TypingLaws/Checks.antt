@@ -11,24 +11,24 @@ use Rattle.odata_typing.specs.private.Answer.{IsCheckedTree, HasNoTree}
 use Rattle.odata_typing.specs.ExprTypes.{IsBooleanOrNull}
 use Rattle.odata_typing.specs.FirstUntypable.{IsFirstUntypable}
 use Rattle.odata_typing.specs.HasTyping.{HasTree, HasTyping, HasNoTyping, UnlessMemory}
-use Rattle.odata_typing.specs.IsChecked.{named, type_of_node}
+use Rattle.odata_typing.specs.IsChecked.{tree_of_node, type_of_node}
 use Rattle.odata_typing.specs.PreOrder.{pre_order}
 use Rattle.odata_typing.specs.Typed.{Typed}
 use Rattle.odata_typing.specs.TypeView.{expr_type}
 use Rattle.odata_typing.proofs.TypingLaws.OneType.{Typed-one}
 use Rattle.odata_typing.proofs.TypingLaws.Right.{IsChecked-typed}
 use Rattle.odata_typing.proofs.TypingLaws.Sizes.{few_nodes}
-use Rattle.odata_typing.proofs.TypingLaws.Untypable.{place_blocks}
+use Rattle.odata_typing.proofs.TypingLaws.Untypable.{untypable_blocks}
 
--- a text whose one tree has an untypable place has no typing
-pub place_refuses :
+-- a text whose one tree has an untypable node has no typing
+pub untypable_refuses :
     (slots : Slots) (root text : List ℕ) (tree : Tree) (fault : TypeFault)
     → ((other : Tree) → HasTree text other → other ≡ tree)
     → IsFirstUntypable slots root [] tree fault
     → HasNoTyping slots root text
-place_refuses slots root text tree fault only found = λ other typing.
+untypable_refuses slots root text tree fault only found = λ other typing.
     let P : Tree → Type 0 = λ (t : Tree). Typed slots root [] t typing.type_of in
-    place_blocks slots root [] tree fault found (typing.type_of, subst P (only other typing.has_tree) typing.typed)
+    untypable_blocks slots root [] tree fault found (typing.type_of, subst P (only other typing.has_tree) typing.typed)
 
 -- a text whose one tree has another type has no typing
 pub other_refuses :
@@ -58,7 +58,7 @@ pub right_typing :
     → HasTree text tree
     → IsCheckedTree schema n tree c
     → IsBooleanOrNull (expr_type schema (type_of_node c))
-    → HasTyping (slots_of schema) (type_name_at schema n) text (named c)
+    → HasTyping (slots_of schema) (type_name_at schema n) text (tree_of_node c)
 right_typing schema n text tree c has_tree checked truth = record {
   has_tree = subst (HasTree text) (sym checked.stands_for) has_tree;
   type_of = expr_type schema (type_of_node c);
@@ -67,7 +67,7 @@ right_typing schema n text tree c has_tree checked truth = record {
 }
 
 pub few_checked_nodes :
-    (schema : SchemaModel) (n : ℕ) (text : List ℕ) (tree : Tree) (c : CheckedNode) → HasTree text tree → IsCheckedTree schema n tree c → length (pre_order (named c)) ≤ token_limit
+    (schema : SchemaModel) (n : ℕ) (text : List ℕ) (tree : Tree) (c : CheckedNode) → HasTree text tree → IsCheckedTree schema n tree c → length (pre_order (tree_of_node c)) ≤ token_limit
 few_checked_nodes schema n text tree c has_tree checked =
     let P : Tree → Type 0 = λ (t : Tree). length (pre_order t) ≤ token_limit in
     subst P (sym checked.stands_for) (few_nodes text tree has_tree)

@@ -14,10 +14,10 @@ use Rattle.odata_typing.specs.declared.untyped.Untyped.{Untyped}
 use Rattle.odata_typing.specs.private.Answer.{IsAnswer, IsCheckedTree}
 use Rattle.odata_typing.specs.Considered.{IsItself}
 use Rattle.odata_typing.specs.FirstUntypable.{IsFirstUntypable, NameReason, PropertyReason}
-use Rattle.odata_typing.specs.IsChecked.{IsChecked, IsCheckedProperty, named}
+use Rattle.odata_typing.specs.IsChecked.{IsChecked, IsCheckedProperty, tree_of_node}
 use Rattle.odata_typing.specs.TypeView.{expr_type}
 use Rattle.odata_typing.specs.Typed.{PropertyTyped, Scope, property_named}
-use Rattle.odata_typing.proofs.TypingLaws.Places.{slot_below, property_at, property_none}
+use Rattle.odata_typing.proofs.TypingLaws.PropertySlots.{slot_below, property_at, property_none}
 
 same_start : (scope : Scope) (start stop : ℕ) (asked : List ℕ) (at : Scope) (other : Tree) → IsItself scope (node start stop (name asked)) at other → start ≤ start_of other
 same_start scope start stop asked at other here = let e : start_of other ≡ start = ap start_of here.1 in omega arith
@@ -30,7 +30,7 @@ pub first_name :
     → IsFirstUntypable slots root [] (node span.start span.stop (name asked)) (record { code = code; span = span })
 first_name slots root asked span code untyped reason = record {
   at = [];
-  place = node span.start span.stop (name asked);
+  part = node span.start span.stop (name asked);
   untypable = record { considered = (refl, refl); untyped = untyped; children = tt };
   first = λ at other found. same_start [] span.start span.stop asked at other found.considered;
   reason = reason;
@@ -113,6 +113,6 @@ pub property_right :
 property_right schema n span edm_type asked slot written same found typed =
     let P : List ℕ → Type 0 = λ (b : List ℕ). IsCheckedProperty (slots_of schema (type_name_at schema n)) [] b slot (expr_type schema edm_type) in
     record {
-      right = subst P (sym same) (record { free = refl; place = found; typed = typed });
+      right = subst P (sym same) (record { free = refl; slot_of = found; typed = typed });
       stands_for = ap (λ (b : List ℕ). node span.start span.stop (name b)) same;
     }

@@ -10,7 +10,7 @@ use Rattle.odata_typing.specs.declared.checked_node.CheckedNode.{CheckedNode, Li
 use Rattle.odata_typing.specs.Calls.{TakesMemory, UsesNow}
 use Rattle.odata_typing.specs.private.CheckedPreOrder.{checked_pre_order}
 use Rattle.odata_typing.specs.Filter.{Filter, IsFilter, IsTypeAt}
-use Rattle.odata_typing.specs.IsChecked.{IsChecked, named, type_of_node}
+use Rattle.odata_typing.specs.IsChecked.{IsChecked, tree_of_node, type_of_node}
 use Rattle.odata_typing.specs.PreOrder.{pre_order, span_of_tree}
 use Rattle.odata_typing.specs.Typed.{Scope, Typed}
 use Rattle.odata_typing.specs.TypeView.{expr_type}
@@ -32,20 +32,20 @@ get_parts (y ∷ xs) ys zero x found = inl (zero, found)
 get_parts (y ∷ xs) ys (suc k) x found = elim (get_parts xs ys k x found) [ inl h ↦ inl (suc h.0, h.1) | inr h ↦ inr h ]
 
 -- the checked nodes stand for the nodes of the tree
-pub pre_order-named : (c : CheckedNode) → map named (checked_pre_order c) ≡ pre_order (named c)
-pre_order-named (Lit span edm_type kind text value) = refl
-pre_order-named (Property span edm_type asked slot) = refl
-pre_order-named (Binary' span edm_type operator p left q right) =
-    ap (λ (ts : List Tree). named (Binary' span edm_type operator p left q right) ∷ ts)
-    (map-append named (checked_pre_order left) (checked_pre_order right)
-    ∙ ap (λ (ts : List Tree). ts ++ map named (checked_pre_order right)) (pre_order-named left)
-    ∙ ap (λ (ts : List Tree). pre_order (named left) ++ ts) (pre_order-named right))
+pub pre_order-of_node : (c : CheckedNode) → map tree_of_node (checked_pre_order c) ≡ pre_order (tree_of_node c)
+pre_order-of_node (Lit span edm_type kind text value) = refl
+pre_order-of_node (Property span edm_type asked slot) = refl
+pre_order-of_node (Binary' span edm_type operator p left q right) =
+    ap (λ (ts : List Tree). tree_of_node (Binary' span edm_type operator p left q right) ∷ ts)
+    (map-append tree_of_node (checked_pre_order left) (checked_pre_order right)
+    ∙ ap (λ (ts : List Tree). ts ++ map tree_of_node (checked_pre_order right)) (pre_order-of_node left)
+    ∙ ap (λ (ts : List Tree). pre_order (tree_of_node left) ++ ts) (pre_order-of_node right))
 
-pub count-named : (c : CheckedNode) → length (checked_pre_order c) ≡ length (pre_order (named c))
-count-named c = sym (length-map (checked_pre_order c) named) ∙ ap (λ (ts : List Tree). length ts) (pre_order-named c)
+pub count-of_node : (c : CheckedNode) → length (checked_pre_order c) ≡ length (pre_order (tree_of_node c))
+count-of_node c = sym (length-map (checked_pre_order c) tree_of_node) ∙ ap (λ (ts : List Tree). length ts) (pre_order-of_node c)
 
-pub at-named : (c : CheckedNode) (k : ℕ) → slice_get (pre_order (named c)) k ≡ option_map named (slice_get (checked_pre_order c) k)
-at-named c k = ap (λ (ts : List Tree). slice_get ts k) (sym (pre_order-named c)) ∙ slice_get-map named (checked_pre_order c) k
+pub at-of_node : (c : CheckedNode) (k : ℕ) → slice_get (pre_order (tree_of_node c)) k ≡ option_map tree_of_node (slice_get (checked_pre_order c) k)
+at-of_node c k = ap (λ (ts : List Tree). slice_get ts k) (sym (pre_order-of_node c)) ∙ slice_get-map tree_of_node (checked_pre_order c) k
 
 some-same : (x y : CheckedNode) → Some x ≡ Some y → x ≡ y
 some-same x y same = cc
@@ -73,18 +73,18 @@ right_at schema n scope (Binary' span edm_type operator p left q right) found (s
     ]
 
 -- the type that the node of a number carries is its type
-pub type_at : (filter : Filter) (found : CheckedNode) (k : ℕ) → IsFilter filter → slice_get (checked_pre_order filter.root) k ≡ Some found → IsTypeAt filter k (expr_type filter.schema (type_of_node found))
+pub type_at : (filter : Filter) (found : CheckedNode) (k : ℕ) → IsFilter filter → slice_get (checked_pre_order filter.top_node) k ≡ Some found → IsTypeAt filter k (expr_type filter.schema (type_of_node found))
 type_at filter found k is_filter at =
-    let typed = IsChecked-typed filter.schema filter.filtered [] found (right_at filter.schema filter.filtered [] filter.root found k is_filter.checked at) in
+    let typed = IsChecked-typed filter.schema filter.filtered [] found (right_at filter.schema filter.filtered [] filter.top_node found k is_filter.checked at) in
     let P : Option Tree → Type 0 =
-    λ (o : Option Tree). IsSomeAnd o (λ place. Typed (slots_of filter.schema) (type_name_at filter.schema filter.filtered) [] place (expr_type filter.schema (type_of_node found))) in
-    subst P (sym (at-named filter.root k ∙ ap (option_map named) at)) typed
+    λ (o : Option Tree). IsSomeAnd o (λ part. Typed (slots_of filter.schema) (type_name_at filter.schema filter.filtered) [] part (expr_type filter.schema (type_of_node found))) in
+    subst P (sym (at-of_node filter.top_node k ∙ ap (option_map tree_of_node) at)) typed
 
-pub past_end : (c : CheckedNode) (k rest : ℕ) → k ≡ length (checked_pre_order c) + rest → slice_get (pre_order (named c)) k ≡ None
+pub past_end : (c : CheckedNode) (k rest : ℕ) → k ≡ length (checked_pre_order c) + rest → slice_get (pre_order (tree_of_node c)) k ≡ None
 past_end c k rest past =
-    let e : length (checked_pre_order c) ≡ length (pre_order (named c)) = count-named c in
-    let beyond : length (pre_order (named c)) ≤ k = omega arith in
-    slice_get_past (pre_order (named c)) k beyond
+    let e : length (checked_pre_order c) ≡ length (pre_order (tree_of_node c)) = count-of_node c in
+    let beyond : length (pre_order (tree_of_node c)) ≤ k = omega arith in
+    slice_get_past (pre_order (tree_of_node c)) k beyond
 
 -- no tree calls a function yet
 pub no_memory : (tree : Tree) → ¬ TakesMemory tree
@@ -119,21 +119,21 @@ at_right x found xs ys (suc k) rest later past at =
     let e : k ≡ length xs + rest = omega arith in
     ap (slice_get (xs ++ ys)) e ∙ get_behind xs ys rest ∙ at
 
-pub few_checked : (c d : CheckedNode) → c ≡ d → length (pre_order (named d)) ≤ token_limit → length (checked_pre_order c) < 2 ^ 64
+pub few_checked : (c d : CheckedNode) → c ≡ d → length (pre_order (tree_of_node d)) ≤ token_limit → length (checked_pre_order c) < 2 ^ 64
 few_checked c d same few =
-    let e : length (checked_pre_order c) ≡ length (pre_order (named d)) = ap (λ (x : CheckedNode). length (checked_pre_order x)) same ∙ count-named d in
-    let below : length (pre_order (named d)) ≤ 4096 = few in
+    let e : length (checked_pre_order c) ≡ length (pre_order (tree_of_node d)) = ap (λ (x : CheckedNode). length (checked_pre_order x)) same ∙ count-of_node d in
+    let below : length (pre_order (tree_of_node d)) ≤ 4096 = few in
     omega arith
 
 pub span_at :
-    (c found : CheckedNode) (k : ℕ) → slice_get (checked_pre_order c) k ≡ Some found → option_map span_of_tree (slice_get (pre_order (named c)) k) ≡ Some (span_of_tree (named found))
-span_at c found k at = ap (option_map span_of_tree) (at-named c k ∙ ap (option_map named) at)
+    (c found : CheckedNode) (k : ℕ) → slice_get (checked_pre_order c) k ≡ Some found → option_map span_of_tree (slice_get (pre_order (tree_of_node c)) k) ≡ Some (span_of_tree (tree_of_node found))
+span_at c found k at = ap (option_map span_of_tree) (at-of_node c k ∙ ap (option_map tree_of_node) at)
 
-pub within : (c found : CheckedNode) (k : ℕ) → slice_get (checked_pre_order c) k ≡ Some found → k < length (pre_order (named c))
-within c found k at = slice_get_within (pre_order (named c)) k (named found) (at-named c k ∙ ap (option_map named) at)
+pub within : (c found : CheckedNode) (k : ℕ) → slice_get (checked_pre_order c) k ≡ Some found → k < length (pre_order (tree_of_node c))
+within c found k at = slice_get_within (pre_order (tree_of_node c)) k (tree_of_node found) (at-of_node c k ∙ ap (option_map tree_of_node) at)
 
-pub beyond : (c : CheckedNode) (k rest : ℕ) → k ≡ length (checked_pre_order c) + rest → ¬ (k < length (pre_order (named c)))
+pub beyond : (c : CheckedNode) (k rest : ℕ) → k ≡ length (checked_pre_order c) + rest → ¬ (k < length (pre_order (tree_of_node c)))
 beyond c k rest past below =
-    let e : length (checked_pre_order c) ≡ length (pre_order (named c)) = count-named c in
-    let h : k < length (pre_order (named c)) = below in
+    let e : length (checked_pre_order c) ≡ length (pre_order (tree_of_node c)) = count-of_node c in
+    let h : k < length (pre_order (tree_of_node c)) = below in
     omega arith

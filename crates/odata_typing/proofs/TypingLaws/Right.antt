@@ -4,7 +4,7 @@ use Rattle.std.specs.Prelude.{string_bytes}
 use Rattle.csdl_schema.specs.ExprType.{ExprType}
 use Rattle.csdl_schema.specs.SchemaModel.{PropertyModel, SchemaModel, slots_of, type_name_at}
 use Rattle.odata_typing.specs.declared.checked_node.CheckedNode.{CheckedNode, Lit, Property, Binary'}
-use Rattle.odata_typing.specs.IsChecked.{IsChecked, IsCheckedProperty, named, type_of_node}
+use Rattle.odata_typing.specs.IsChecked.{IsChecked, IsCheckedProperty, tree_of_node, type_of_node}
 use Rattle.odata_typing.specs.Typed.{Scope, Typed, NameTyped, PropertyTyped}
 use Rattle.odata_typing.specs.TypeView.{expr_type}
 
@@ -19,7 +19,7 @@ free_typed bound properties asked type free typed = rw free typed
 pub IsChecked-typed :
     (schema : SchemaModel) (n : ℕ) (scope : Scope) (c : CheckedNode)
     → IsChecked schema n scope c
-    → Typed (slots_of schema) (type_name_at schema n) scope (named c) (expr_type schema (type_of_node c))
+    → Typed (slots_of schema) (type_name_at schema n) scope (tree_of_node c) (expr_type schema (type_of_node c))
 IsChecked-typed schema n scope (Lit span edm_type kind text value) right = right.typed
 IsChecked-typed schema n scope (Property span edm_type asked slot) right =
     free_typed _ (slots_of schema (type_name_at schema n)) (string_bytes asked) (expr_type schema edm_type) right.free right.typed

@@ -10,14 +10,14 @@ use Rattle.odata_typing.specs.declared.refusal.Refusal.{Refusal}
 use Rattle.odata_typing.specs.declared.untyped.Untyped.{Untyped}
 use Rattle.odata_typing.specs.FirstUntypable.{IsFirstUntypable}
 use Rattle.odata_typing.specs.HasTyping.{HasTree}
-use Rattle.odata_typing.specs.IsChecked.{IsChecked, named}
+use Rattle.odata_typing.specs.IsChecked.{IsChecked, tree_of_node}
 
 -- a right node that stands for the tree
 pub record IsCheckedTree (schema : SchemaModel) (n : ℕ) (tree : Tree) (checked_node : CheckedNode) : Type 0 where
   pub right : IsChecked schema n [] checked_node
-  pub stands_for : named checked_node ≡ tree
+  pub stands_for : tree_of_node checked_node ≡ tree
 
--- the tree's first untypable place; want of memory says nothing
+-- the tree's first untypable node; want of memory says nothing
 abbrev pub HasFault : SchemaModel → ℕ → Tree → Untyped → Type 0
 HasFault schema n tree (Untyped.Fault fault) = IsFirstUntypable (slots_of schema) (type_name_at schema n) [] tree fault
 HasFault schema n tree Untyped.Memory = Unit {0}

@@ -1,8 +1,8 @@
-use Rattle.odata_eval.proofs.MeansLaws.FirstRunLaws.{kept, other_name, inactive, right_side_left_out}
+use Rattle.odata_eval.proofs.MeansLaws.FirstRunLaws.{kept_item, other_item, inactive_item, right_side_unread}
 use Rattle.odata_eval.proofs.MeansLaws.OneStep.{OneValue}
 use Rattle.odata_eval.proofs.laws.first_run_comes_to.Goals as goal
 
 pub returns : goal.returns
 returns c =
     let values : OneValue = (c.texts_have_one_value.ensures.int, c.texts_have_one_value.ensures.string) in
-    record { kept = kept values; other_name = other_name values; inactive = inactive values; right_side_left_out = right_side_left_out values }
+    record { kept = kept_item values; other_name = other_item values; inactive = inactive_item values; right_side_left_out = right_side_unread values }

@@ -2,7 +2,7 @@ use Rattle.std.proofs.Common.{◌≡◌, true, false}
 use Rattle.std.specs.Prelude.{string_bytes}
 use Rattle.odata_eval.specs.private.DatumView.{plain_datum}
 use Rattle.odata_eval.specs.private.WalkAnswer.{IsDecided}
-use Rattle.odata_typing.specs.IsChecked.{named}
+use Rattle.odata_typing.specs.IsChecked.{tree_of_node}
 use Rattle.odata_typing.specs.TypeView.{expr_type}
 use Rattle.odata_eval.proofs.MeansLaws.WalkSteps.{property_answered, operator_defined, operator_answered, fault_answered}
 use Rattle.odata_eval.proofs.walk.+walk.Goals as goal
@@ -32,6 +32,6 @@ returns-in-Err-walk t c =
 pub returns-in-Ok-walk : goal.returns-in-Ok-walk
 returns-in-Ok-walk t c =
     rw c.in-Binary.is (operator_answered (record { values = (c.texts_have_one_value.ensures.int, c.texts_have_one_value.ensures.string); fits = c.what_fits_has_its_type.ensures }) c.args.entity.now c.args.now.now c.in-Binary.span.start c.in-Binary.span.stop c.in-Binary.operator
-    (named c.in-Binary.left.value) (named c.in-Binary.right.value) (plain_datum c.in-Ok.datum) (plain_datum c.in-Ok-walk.datum)
+    (tree_of_node c.in-Binary.left.value) (tree_of_node c.in-Binary.right.value) (plain_datum c.in-Ok.datum) (plain_datum c.in-Ok-walk.datum)
     (plain_datum c.apply.result) (rw c.deref.ensures at c.in-Ok.ensures) (rw c.deref-in-Binary.ensures at c.in-Ok-walk.ensures)
     c.apply.ensures)

@@ -12,8 +12,8 @@ use Rattle.odata_typing.specs.private.Answer.{IsCheckedTree, HasFault, IsAnswer}
 use Rattle.odata_typing.specs.private.EarlierFault.{IsEarlier}
 use Rattle.odata_typing.specs.ExprTypes.{boolean_type}
 use Rattle.odata_typing.specs.FirstUntypable.{IsFirstUntypable}
-use Rattle.odata_typing.specs.IsChecked.{named, type_of_node}
-use Rattle.odata_typing.specs.Typed.{Typed, HasType, OperatorTyped}
+use Rattle.odata_typing.specs.IsChecked.{tree_of_node, type_of_node}
+use Rattle.odata_typing.specs.Typed.{Typed, IsTyped, OperatorTyped}
 use Rattle.odata_typing.specs.TypeView.{expr_type}
 use Rattle.odata_typing.proofs.TypingLaws.Right.{IsChecked-typed}
 use Rattle.odata_typing.proofs.TypingLaws.Untypable.{first_of_left, first_of_right, first_of_both, first_itself}
@@ -27,9 +27,9 @@ checked_typed schema n tree c checked =
     let P : Tree → Type 0 = λ (t : Tree). Typed (slots_of schema) (type_name_at schema n) [] t (expr_type schema (type_of_node c)) in
     subst P checked.stands_for (IsChecked-typed schema n [] c checked.right)
 
-pub checked_has_type :
-    (schema : SchemaModel) (n : ℕ) (tree : Tree) (c : CheckedNode) → IsCheckedTree schema n tree c → HasType (slots_of schema) (type_name_at schema n) [] tree
-checked_has_type schema n tree c checked = (expr_type schema (type_of_node c), checked_typed schema n tree c checked)
+pub checked_is_typed :
+    (schema : SchemaModel) (n : ℕ) (tree : Tree) (c : CheckedNode) → IsCheckedTree schema n tree c → IsTyped (slots_of schema) (type_name_at schema n) [] tree
+checked_is_typed schema n tree c checked = (expr_type schema (type_of_node c), checked_typed schema n tree c checked)
 
 pub HasFault-left :
     (schema : SchemaModel) (n start stop : ℕ) (operator : BinaryOperator) (l r : Tree) (c : CheckedNode) (told : Untyped)
@@ -37,7 +37,7 @@ pub HasFault-left :
     → IsCheckedTree schema n r c
     → HasFault schema n (node start stop (binary operator l r)) told
 HasFault-left schema n start stop operator l r c (Untyped.Fault fault) found checked =
-    first_of_left (slots_of schema) (type_name_at schema n) [] start stop operator l r fault found (checked_has_type schema n r c checked)
+    first_of_left (slots_of schema) (type_name_at schema n) [] start stop operator l r fault found (checked_is_typed schema n r c checked)
 HasFault-left schema n start stop operator l r c Untyped.Memory found checked = tt
 
 pub HasFault-right :
@@ -46,7 +46,7 @@ pub HasFault-right :
     → HasFault schema n r told
     → HasFault schema n (node start stop (binary operator l r)) told
 HasFault-right schema n start stop operator l r c (Untyped.Fault fault) checked found =
-    first_of_right (slots_of schema) (type_name_at schema n) [] start stop operator l r fault (checked_has_type schema n l c checked) found
+    first_of_right (slots_of schema) (type_name_at schema n) [] start stop operator l r fault (checked_is_typed schema n l c checked) found
 HasFault-right schema n start stop operator l r c Untyped.Memory checked found = tt
 
 pub HasFault-both :

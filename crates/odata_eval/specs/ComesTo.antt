@@ -1,4 +1,4 @@
--- One filter on the rows of one type, as a check of what the definitions say.
+-- Two filters on values of one type, as a check of what the definitions say.
 use Rattle.std.specs.Prelude.{◌≡◌, ◌↔◌, ℕ, ℤ, List, [], Bool, codes, nat_eq, if◌then◌else◌}
 use Rattle.std.specs.Cmp.Lexicographic.{pointwise}
 use Rattle.edm_values.specs.MomentParts.{MomentParts}
@@ -10,29 +10,20 @@ use Rattle.csdl_schema.specs.SchemaModel.{Slots}
 use Rattle.odata_eval.specs.Means.{Means}
 use Rattle.odata_eval.specs.Outcome.{Outcome}
 
--- the tree of `Active and ID eq 1 and Name eq 'a'`
-abbrev pub first_run : Tree
-first_run =
-    node 0 34 (binary BinaryOperator.And
-    (node 0 18 (binary BinaryOperator.And
-    (node 0 6 (name (codes "Active")))
-    (node 11 18 (binary BinaryOperator.Eq (node 11 13 (name (codes "ID"))) (node 17 18 (literal LiteralKind.Int (codes "1")))))))
-    (node 23 34 (binary BinaryOperator.Eq (node 23 27 (name (codes "Name"))) (node 31 34 (literal LiteralKind.Str (codes "'a'"))))))
-
 -- the tree of `false and Missing`
-abbrev pub decided : Tree
-decided = node 0 17 (binary BinaryOperator.And (node 0 5 (literal LiteralKind.Bool (codes "false"))) (node 10 17 (name (codes "Missing"))))
+abbrev pub false_and_missing : Tree
+false_and_missing = node 0 17 (binary BinaryOperator.And (node 0 5 (literal LiteralKind.Bool (codes "false"))) (node 10 17 (name (codes "Missing"))))
 
--- what a row with these three members has under a name
-abbrev pub held : ℤ → List ℕ → Bool → List ℕ → Held
-held id title active asked =
+-- what an item with these three members has under a name
+abbrev pub item_members : ℤ → List ℕ → Bool → List ℕ → Held
+item_members id title active asked =
     if pointwise nat_eq asked (codes "ID") then present (whole id)
     else if pointwise nat_eq asked (codes "Name") then present (text title)
     else if pointwise nat_eq asked (codes "Active") then present (boolean active)
     else absent
 
-abbrev pub row : ℤ → List ℕ → Bool → Val
-row id title active = fields (held id title active)
+abbrev pub item_value : ℤ → List ℕ → Bool → Val
+item_value id title active = fields (item_members id title active)
 
 -- the tree has this outcome on the value, and no other
 abbrev pub ComesTo : Tree → Val → Outcome → Type 0

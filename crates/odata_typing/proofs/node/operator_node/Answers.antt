@@ -1,7 +1,7 @@
 use Rattle.std.proofs.Common.{◌≡◌, true, false, sym, ap, ◌∙◌}
 use Rattle.odata_typing.specs.IsChecked.{type_of_node}
-use Rattle.odata_typing.proofs.TypingLaws.Answers.{refused_itself}
-use Rattle.odata_typing.proofs.node.joined.Goals as goal
+use Rattle.odata_typing.proofs.TypingLaws.Operands.{refused_itself}
+use Rattle.odata_typing.proofs.node.operator_node.Goals as goal
 
 pub returns-else-takes : goal.returns-else-takes
 returns-else-takes c = λ schema n l r left right.

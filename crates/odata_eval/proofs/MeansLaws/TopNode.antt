@@ -1,4 +1,4 @@
--- What a filter's root comes to.
+-- What a filter's top node comes to.
 use Rattle.std.proofs.Common.{◌≡◌, ◌∙◌, ℕ, List, [], Bool, Option, Some, None, refl, sym, ap, subst}
 use Rattle.std.specs.Prelude.{IsSomeAnd, IfSome}
 use Rattle.std.specs.Option.{option_map}
@@ -10,7 +10,7 @@ use Rattle.csdl_schema.specs.SchemaModel.{SchemaModel, slots_of, type_name_at}
 use Rattle.edm_entities.specs.Row.{Row, IsEntity, value_of}
 use Rattle.odata_eval.specs.MeansOn.{MeansOn, IsTheOutcome}
 use Rattle.odata_eval.specs.Outcome.{Outcome, gives}
-use Rattle.odata_eval.specs.VerdictView.{truth_val}
+use Rattle.odata_eval.specs.private.DatumView.{truth_val}
 use Rattle.odata_typing.specs.ExprTypes.{IsBooleanOrNull}
 use Rattle.odata_typing.specs.Filter.{Filter, IsFilter, tree_of_filter}
 use Rattle.odata_typing.specs.IsChecked.{IsChecked, type_of_node}
@@ -39,15 +39,15 @@ some_truth (boolean b) is_truth = (Some b, refl)
 some_truth null is_truth = (None, refl)
 some_truth _ is_truth = absurd is_truth
 
--- what a filter's root comes to is a truth value or null
-pub root_truth : Laws → (filter : Filter) (row : Row) (now : MomentParts) (d : Option Val) → IsEntity row → IsFilter filter
+-- what a filter's top node comes to is a truth value or null
+pub top_truth : Laws → (filter : Filter) (row : Row) (now : MomentParts) (d : Option Val) → IsEntity row → IsFilter filter
     → filter.schema ≡ row.schema → filter.filtered ≡ row.type_id
     → IsSomeAnd (option_map gives d) (MeansOn row now (tree_of_filter filter)) → (truth : Option Bool) × (d ≡ Some (truth_val truth))
-root_truth laws filter row now None entity right one_schema one_type related = absurd related
-root_truth laws filter row now (Some v) entity right one_schema one_type related =
-    let checked : IsChecked row.schema row.type_id [] filter.root =
-    subst (λ (s : SchemaModel). IsChecked s row.type_id [] filter.root) one_schema
-    (subst (λ (n : ℕ). IsChecked filter.schema n [] filter.root) one_type right.checked) in
-    let type : ExprType = expr_type row.schema (type_of_node filter.root) in
-    let is_truth : IsBooleanOrNull type = subst (λ (s : SchemaModel). IsBooleanOrNull (expr_type s (type_of_node filter.root))) one_schema right.truth in
-    some_truth v (truth_of (slots_of row.schema) type v is_truth (node_value laws row now filter.root v entity checked related))
+top_truth laws filter row now None entity right one_schema one_type related = absurd related
+top_truth laws filter row now (Some v) entity right one_schema one_type related =
+    let checked : IsChecked row.schema row.type_id [] filter.top_node =
+    subst (λ (s : SchemaModel). IsChecked s row.type_id [] filter.top_node) one_schema
+    (subst (λ (n : ℕ). IsChecked filter.schema n [] filter.top_node) one_type right.checked) in
+    let type : ExprType = expr_type row.schema (type_of_node filter.top_node) in
+    let is_truth : IsBooleanOrNull type = subst (λ (s : SchemaModel). IsBooleanOrNull (expr_type s (type_of_node filter.top_node))) one_schema right.truth in
+    some_truth v (truth_of (slots_of row.schema) type v is_truth (node_value laws row now filter.top_node v entity checked related))

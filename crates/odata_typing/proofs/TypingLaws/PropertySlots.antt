@@ -9,23 +9,23 @@ use Rattle.std.specs.Prelude.{nat_eq}
 use Rattle.csdl_schema.specs.SchemaModel.{PropertyModel, slot_named}
 use Rattle.odata_typing.specs.Typed.{property_named}
 
-place : {X : Type 0} (p : X → Bool) (xs : List X) (k : ℕ) → position p xs ≡ Some k → (position_or_len p xs ≡ k) × (k < length xs)
-place p xs k found = grind (arith, nat_tests)
+slot_found : {X : Type 0} (p : X → Bool) (xs : List X) (k : ℕ) → position p xs ≡ Some k → (position_or_len p xs ≡ k) × (k < length xs)
+slot_found p xs k found = grind (arith, nat_tests)
 
-no_place : {X : Type 0} (p : X → Bool) (xs : List X) → position p xs ≡ None → length xs ≤ position_or_len p xs
-no_place p xs none = grind (arith, nat_tests)
+slot_missing : {X : Type 0} (p : X → Bool) (xs : List X) → position p xs ≡ None → length xs ≤ position_or_len p xs
+slot_missing p xs none = grind (arith, nat_tests)
 
 pub slot_below : (properties : List PropertyModel) (asked : List ℕ) (k : ℕ) → slot_named properties asked ≡ Some k → k < length properties
-slot_below properties asked k found = (place (λ (p : PropertyModel). pointwise nat_eq asked p.name) properties k found).1
+slot_below properties asked k found = (slot_found (λ (p : PropertyModel). pointwise nat_eq asked p.name) properties k found).1
 
 -- the property of a name stands at the slot of that name
 pub property_at :
     (properties : List PropertyModel) (asked : List ℕ) (k : ℕ) → slot_named properties asked ≡ Some k → property_named properties asked ≡ slice_get properties k
 property_at properties asked k found =
     let test : PropertyModel → Bool = λ (p : PropertyModel). pointwise nat_eq asked p.name in
-    find_at test properties ∙ ap (λ (i : ℕ). slice_get properties i) (place test properties k found).0
+    find_at test properties ∙ ap (λ (i : ℕ). slice_get properties i) (slot_found test properties k found).0
 
 pub property_none : (properties : List PropertyModel) (asked : List ℕ) → slot_named properties asked ≡ None → property_named properties asked ≡ None
 property_none properties asked none =
     let test : PropertyModel → Bool = λ (p : PropertyModel). pointwise nat_eq asked p.name in
-    find_at test properties ∙ slice_get_past properties (position_or_len test properties) (no_place test properties none)
+    find_at test properties ∙ slice_get_past properties (position_or_len test properties) (slot_missing test properties none)
