@@ -1,10 +1,15 @@
-/// Why a filter has no value on an entity.
-#[derive(Clone, Copy, Debug, PartialEq, Eq)]
+use thiserror::Error;
+
+/// Why a filter has no value on an entity. It is shown by its name.
+#[derive(Clone, Copy, Debug, PartialEq, Eq, Error)]
 pub enum EvalFault {
     /// A result outside the type of its operator.
+    #[error("Overflow")]
     Overflow,
     /// A division by zero.
+    #[error("DivideByZero")]
     DivideByZero,
     /// A growth was refused. Only filters that make texts take memory.
+    #[error("memory")]
     Memory,
 }
