@@ -1,7 +1,9 @@
 -- Types of expressions by their role (CSDL JSON 4.01, section 3.3; OData URL Conventions 4.01, section 5.1.1.1).
 use Rattle.std.specs.Prelude.{◌≡◌, ◌⊎◌}
+use Rattle.edm_values.specs.NumberTypes.{IsNumberType}
 use Rattle.edm_values.specs.declared.primitive.PrimitiveType.{PrimitiveType}
-use Rattle.csdl_schema.specs.ExprType.{SingleType, primitive, enumeration, structured, ExprType, null_type, single, collection}
+use Rattle.csdl_schema.specs.ExprType.{SingleType, primitive, enumeration, structured}
+use Rattle.csdl_schema.specs.ExprType.{ExprType, null_type, single, collection}
 
 abbrev pub boolean_type : ExprType
 boolean_type = single (primitive PrimitiveType.Bool)
@@ -9,20 +11,12 @@ boolean_type = single (primitive PrimitiveType.Bool)
 abbrev pub string_type : ExprType
 string_type = single (primitive PrimitiveType.String)
 
--- whole numbers, by their range
-abbrev pub IsNumberPrimitive : PrimitiveType → Type 0
-IsNumberPrimitive PrimitiveType.Byte = Unit {0}
-IsNumberPrimitive PrimitiveType.SByte = Unit {0}
-IsNumberPrimitive PrimitiveType.Int16 = Unit {0}
-IsNumberPrimitive PrimitiveType.Int32 = Unit {0}
-IsNumberPrimitive PrimitiveType.Int64 = Unit {0}
-IsNumberPrimitive _ = ⊥
-
 abbrev pub IsNumberSingle : SingleType → Type 0
-IsNumberSingle (primitive p) = IsNumberPrimitive p
+IsNumberSingle (primitive p) = IsNumberType p
 IsNumberSingle (enumeration name) = ⊥
 IsNumberSingle (structured name) = ⊥
 
+-- one whole number
 abbrev pub IsNumber : ExprType → Type 0
 IsNumber null_type = ⊥
 IsNumber (single s) = IsNumberSingle s

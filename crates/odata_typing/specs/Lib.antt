@@ -1,6 +1,7 @@
 pub use Rattle.csdl_schema.specs.ExprType
 pub use Rattle.csdl_schema.specs.SchemaModel
 pub use Rattle.edm_values.specs.IntLiteral
+pub use Rattle.edm_values.specs.NumberTypes
 pub use Rattle.edm_values.specs.PlainVal
 pub use Rattle.edm_values.specs.StringLiteral
 pub use Rattle.edm_values.specs.Val

@@ -1,8 +1,8 @@
 -- The value and the type of a literal (OData ABNF Construction Rules 4.01, section 7).
-use Rattle.std.specs.Prelude.{◌≡◌, ◌⊎◌, ℕ, ℤ, List, Bool, true, false, IsTrue, codes, FitsSigned}
-use Rattle.std.specs.Int.{w32}
+use Rattle.std.specs.Prelude.{◌≡◌, ℕ, ℤ, List, Bool, true, false, IsTrue, codes}
 use Rattle.std.specs.Str.{str_eq_ignore_ascii_case}
 use Rattle.edm_values.specs.IntLiteral.{IntValue}
+use Rattle.edm_values.specs.NumberTypes.{IsIntLiteralType}
 use Rattle.edm_values.specs.StringLiteral.{StringValue}
 use Rattle.edm_values.specs.Val.{Val, boolean, whole}
 use Rattle.edm_values.specs.Val as val
@@ -26,11 +26,9 @@ LiteralValue LiteralKind.Int spelling (whole n) = IntValue spelling n
 LiteralValue LiteralKind.Str spelling (val.text bytes) = StringValue spelling bytes
 LiteralValue _ spelling _ = ⊥
 
--- the type of a whole number: Edm.Int32 where it lies within that, else Edm.Int64
+-- the type of a whole number, Edm.Int32 or Edm.Int64
 abbrev pub IntTyped : ℤ → ExprType → Type 0
-IntTyped n type =
-    (FitsSigned w32 n × (type ≡ single (primitive PrimitiveType.Int32)))
-    ⊎ ((¬ FitsSigned w32 n) × (type ≡ single (primitive PrimitiveType.Int64)))
+IntTyped n type = (p : PrimitiveType) × IsIntLiteralType n p × (type ≡ single (primitive p))
 
 -- the type of a literal that has a value
 abbrev pub LiteralTyped : LiteralKind → List ℕ → ExprType → Type 0

@@ -60,7 +60,7 @@ impl CheckedNode {
 }
 
 /// The node in memory of its own.
-pub(crate) fn boxed(alloc: Global, node: CheckedNode) -> Result<Box<CheckedNode>, Untyped>
+pub(crate) fn box_node(alloc: Global, node: CheckedNode) -> Result<Box<CheckedNode>, Untyped>
     ensures ok { IfOk result (λ b. b.value ≡ node) }
     ensures memory { IfErr result (λ untyped. untyped ≡ Untyped.Memory) }
 {

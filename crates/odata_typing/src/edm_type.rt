@@ -1,6 +1,6 @@
 ghost use Rattle.std.specs.Prelude.{◌≡◌, ◌↔◌, IsTrue};
 ghost use Rattle.csdl_schema.specs.SchemaModel.{SchemaModel};
-ghost use Rattle.odata_typing.specs.ExprTypes.{boolean_type, string_type, IsNumber, IsNumberPrimitive, IsBooleanOrNull};
+ghost use Rattle.odata_typing.specs.ExprTypes.{boolean_type, string_type, IsNumber, IsBooleanOrNull};
 ghost use Rattle.odata_typing.specs.TypeView.{expr_type};
 
 use csdl_schema::{EnumId, TypeId};
@@ -42,7 +42,7 @@ impl EdmType {
     {
         match self {
             EdmType::Null => false,
-            EdmType::Single(ValueType::Prim(prim)) => is_number_primitive(*prim),
+            EdmType::Single(ValueType::Prim(prim)) => prim.is_number(),
             EdmType::Single(ValueType::Enum(_)) => false,
             EdmType::Single(ValueType::Structured(_)) => false,
             EdmType::Collection(_) => false,
@@ -59,14 +59,5 @@ impl EdmType {
         ensures { (schema : SchemaModel) → IsTrue result ↔ (expr_type schema self.now ≡ string_type) }
     {
         *self == EdmType::Single(ValueType::Prim(Prim::String))
-    }
-}
-
-fn is_number_primitive(prim: Prim) -> bool
-    ensures { IsTrue result ↔ IsNumberPrimitive prim }
-{
-    match prim {
-        Prim::Byte | Prim::SByte | Prim::Int16 | Prim::Int32 | Prim::Int64 => true,
-        Prim::Bool | Prim::String | Prim::Date | Prim::DateTimeOffset | Prim::Guid => false,
     }
 }

@@ -1,13 +1,13 @@
-ghost use Rattle.std.specs.Prelude.{◌≡◌, ℕ, ℤ, Bool, IfOk, IfErr, IfSome, IfNone};
+ghost use Rattle.std.specs.Prelude.{◌≡◌, ℕ, Bool, IfOk, IfErr, IfSome, IfNone};
 ghost use Rattle.edm_values.specs.StringLiteral.{OnForm};
 ghost use Rattle.csdl_schema.specs.ExprType.{ExprType, single, primitive};
 ghost use Rattle.odata_syntax.specs.Tree.{node, literal};
 ghost use Rattle.csdl_schema.specs.SchemaModel.{SchemaModel};
 ghost use Rattle.odata_typing.specs.private.Answer.{IsAnswer};
 ghost use Rattle.odata_typing.specs.IsChecked.{IsCheckedLiteral};
-ghost use Rattle.odata_typing.specs.LiteralValue.{BooleanValue, IntTyped, LiteralTyped};
+ghost use Rattle.odata_typing.specs.LiteralValue.{BooleanValue, LiteralTyped};
 
-use super::checked_node::{CheckedNode, boxed};
+use super::checked_node::{CheckedNode, box_node};
 use super::edm_type::{EdmType, ValueType};
 use super::refusal::{TypeFault, TypeFaultCode};
 use super::untyped::Untyped;
@@ -23,13 +23,14 @@ pub(crate) fn checked_literal(
     kind: LiteralKind,
     spelling: &str,
 ) -> Result<Box<CheckedNode>, Untyped>
-    ensures { (schema : SchemaModel) (n : ℕ) → IsAnswer schema n (node span.start span.stop (literal kind spelling.now)) result }
+    ensures { (schema : SchemaModel) (n : ℕ) →
+        IsAnswer schema n (node span.start span.stop (literal kind spelling.now)) result }
 {
     match read_literal(alloc, kind, spelling) {
         Ok(Reading { prim, value }) => match String::from_str(alloc, spelling) {
             Ok(text) => {
                 let edm_type = EdmType::Single(ValueType::Prim(prim));
-                boxed(
+                box_node(
                     alloc,
                     CheckedNode::Lit {
                         span,
@@ -72,7 +73,7 @@ fn read_literal(alloc: Global, kind: LiteralKind, spelling: &str) -> Result<Read
         },
         LiteralKind::Int => match read_int(spelling) {
             Some(number) => Ok(Reading {
-                prim: int_type(number),
+                prim: Prim::of_int_literal(number),
                 value: Value::Int(number),
             }),
             None => Err(LitFault::Form),
@@ -98,15 +99,5 @@ fn truth_value(spelling: &str) -> Option<bool>
         Some(false)
     } else {
         None
-    }
-}
-
-/// The narrower of `Edm.Int32` and `Edm.Int64` that has the number.
-fn int_type(number: i64) -> Prim
-    ensures { IntTyped number (single (primitive result)) }
-{
-    match i32::try_from(number) {
-        Ok(_) => Prim::Int32,
-        Err(_) => Prim::Int64,
     }
 }

@@ -5,7 +5,7 @@ ghost use Rattle.csdl_schema.specs.SchemaModel.{SchemaModel};
 ghost use Rattle.odata_typing.specs.private.Answer.{IsAnswer, IsCheckedTree, HasFault};
 ghost use Rattle.odata_typing.specs.private.EarlierFault.{IsEarlier};
 
-use super::checked_node::{CheckedNode, boxed};
+use super::checked_node::{CheckedNode, box_node};
 use super::edm_type::BOOLEAN;
 use super::literal::checked_literal;
 use super::operator::takes;
@@ -79,11 +79,12 @@ fn operator_node(
     left: Box<CheckedNode>,
     right: Box<CheckedNode>,
 ) -> Result<Box<CheckedNode>, Untyped>
-    ensures { (schema : SchemaModel) (n : ℕ) (l r : Tree) → IsCheckedTree schema n l left.value → IsCheckedTree schema n r right.value
+    ensures { (schema : SchemaModel) (n : ℕ) (l r : Tree)
+        → IsCheckedTree schema n l left.value → IsCheckedTree schema n r right.value
         → IsAnswer schema n (node span.start span.stop (binary operator l r)) result }
 {
     if takes(operator, left.edm_type(), right.edm_type()) {
-        boxed(
+        box_node(
             alloc,
             CheckedNode::Binary {
                 span,

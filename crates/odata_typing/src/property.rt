@@ -6,7 +6,7 @@ ghost use Rattle.odata_typing.specs.private.Answer.{IsAnswer};
 ghost use Rattle.odata_typing.specs.FirstUntypable.{PropertyReason};
 ghost use Rattle.odata_typing.specs.TypeView.{expr_type};
 
-use super::checked_node::{CheckedNode, boxed};
+use super::checked_node::{CheckedNode, box_node};
 use super::edm_type::{EdmType, ValueType};
 use super::refusal::{TypeFault, TypeFaultCode};
 use super::untyped::Untyped;
@@ -35,7 +35,7 @@ pub(crate) fn checked_name(
     };
     match property_edm_type(schema.property(filtered_type, slot)) {
         Ok(edm_type) => match String::from_str(alloc, asked) {
-            Ok(name) => boxed(
+            Ok(name) => box_node(
                 alloc,
                 CheckedNode::Property {
                     span,
@@ -52,8 +52,10 @@ pub(crate) fn checked_name(
 
 /// The type of a property, or why a filter may not name it.
 fn property_edm_type(property: &Property) -> Result<EdmType, TypeFaultCode>
-    ensures declared { IfOk result (λ t. (schema : SchemaModel) → property_type schema property.now ≡ declared (expr_type schema t)) }
-    ensures reason { IfErr result (λ code. (schema : SchemaModel) → PropertyReason (property_type schema property.now) code) }
+    ensures declared { IfOk result (λ t. (schema : SchemaModel) →
+        property_type schema property.now ≡ declared (expr_type schema t)) }
+    ensures reason { IfErr result (λ code. (schema : SchemaModel) →
+        PropertyReason (property_type schema property.now) code) }
 {
     match property.kind {
         PropertyKind::Prim(prim) if property.many => Ok(EdmType::Collection(ValueType::Prim(prim))),

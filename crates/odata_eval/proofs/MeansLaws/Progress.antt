@@ -1,13 +1,14 @@
 -- A tree that has a type has an outcome, a value of that type.
 use Rattle.std.proofs.Common.{◌≡◌, refl, sym, subst, inl, inr, ◌⊎◌, ◌∙◌, ℕ, List, [], ◌∷◌, ℤ, Bool, true, false, Option, Some, None, cond, nat_eq}
 use Rattle.std.specs.Prelude.{map, find, MatchOption, IsSomeAnd, FitsSigned}
-use Rattle.std.specs.Int.{w32}
+use Rattle.std.specs.Int.{w64}
 use Rattle.std.specs.List.{AllByRecursion}
 use Rattle.std.specs.Option.{option_map}
 use Rattle.std.specs.Cmp.Lexicographic.{pointwise}
 use Rattle.std.proofs.lemmas.Slice.Eq.{bytes_eq-Decides}
 use Rattle.edm_values.specs.MomentParts.{MomentParts}
 use Rattle.edm_values.specs.IntLiteral.{IntValue}
+use Rattle.edm_values.specs.NumberTypes.{IsIntLiteralType}
 use Rattle.edm_values.specs.Val.{Val, null, boolean, whole, text, fields, items, Held, absent, present}
 use Rattle.edm_values.specs.declared.primitive.PrimitiveType.{PrimitiveType}
 use Rattle.odata_syntax.specs.Tree.{Tree, node, Shape, literal, name, binary}
@@ -35,9 +36,13 @@ Ends slots type Gives = (v : Val) × (Gives (gives v) × HasType slots type v)
 typed_value : (slots : Slots) (given type : ExprType) (v : Val) → type ≡ given → HasType slots given v → HasType slots type v
 typed_value slots given type v same has = subst (λ (t : ExprType). HasType slots t v) (sym same) has
 
+int_has : (slots : Slots) (n : ℤ) (p : PrimitiveType) → FitsSigned w64 n → IsIntLiteralType n p → HasType slots (single (primitive p)) (whole n)
+int_has slots n p fits (inl small) = subst (λ (q : PrimitiveType). HasType slots (single (primitive q)) (whole n)) (sym small.1) small.0
+int_has slots n p fits (inr large) = subst (λ (q : PrimitiveType). HasType slots (single (primitive q)) (whole n)) (sym large.1) fits
+
 int_ends : (slots : Slots) (type : ExprType) (spelling : List ℕ) (n : ℤ) → IntValue spelling n → IntTyped n type → HasType slots type (whole n)
-int_ends slots type spelling n value (inl small) = typed_value slots (single (primitive PrimitiveType.Int32)) type (whole n) small.1 small.0
-int_ends slots type spelling n value (inr large) = typed_value slots (single (primitive PrimitiveType.Int64)) type (whole n) large.1 value.1
+int_ends slots type spelling n value typed =
+    typed_value slots (single (primitive typed.0)) type (whole n) typed.2 (int_has slots n typed.0 value.1 typed.1)
 
 literal_ends : (slots : Slots) (kind : LiteralKind) (spelling : List ℕ) (type : ExprType) → LiteralTyped kind spelling type → Ends slots type (LiteralGives kind spelling)
 literal_ends slots LiteralKind.Bool spelling type typed = (boolean typed.0, (typed.1, typed_value slots boolean_type type (boolean typed.0) typed.2 tt))
@@ -45,20 +50,20 @@ literal_ends slots LiteralKind.Int spelling type typed = (whole typed.0, (typed.
 literal_ends slots LiteralKind.Str spelling type typed = (text typed.0, (typed.1, typed_value slots string_type type (text typed.0) typed.2 tt))
 
 -- a name is found in the scope where it is in the environment, with a value of its type
-abbrev Found : Slots → Option ExprType → Option Val → Type 0
-Found slots (Some type) (Some v) = HasType slots type v
-Found slots None None = Unit {0}
-Found slots _ _ = ⊥
+abbrev VariableFits : Slots → Option ExprType → Option Val → Type 0
+VariableFits slots (Some type) (Some v) = HasType slots type v
+VariableFits slots None None = Unit {0}
+VariableFits slots _ _ = ⊥
 
-found : (slots : Slots) (environment : Environment) (asked : List ℕ) → IsFitting slots environment
-    → Found slots (variable_type (scope_of environment) asked) (variable_value environment asked)
-found slots [] asked fitting = tt
-found slots (bound ∷ more) asked fitting =
-    elim (pointwise nat_eq asked bound.0) as (λ is_it. Found slots
+variable_fits : (slots : Slots) (environment : Environment) (asked : List ℕ) → IsFitting slots environment
+    → VariableFits slots (variable_type (scope_of environment) asked) (variable_value environment asked)
+variable_fits slots [] asked fitting = tt
+variable_fits slots (bound ∷ more) asked fitting =
+    elim (pointwise nat_eq asked bound.0) as (λ is_it. VariableFits slots
     (option_map (λ b. b.1) (cond is_it (Some (bound.0, bound.1.0)) (find (λ b. pointwise nat_eq asked b.0) (scope_of more))))
     (option_map (λ b. b.1.1) (cond is_it (Some bound) (find (λ b. pointwise nat_eq asked b.0) more)))) [
       | true ↦ fitting.0
-      | false ↦ found slots more asked fitting.1
+      | false ↦ variable_fits slots more asked fitting.1
     ]
 
 held_ends : (slots : Slots) (type : ExprType) (held : Held) → HasPropertyType slots (declared type) held → Ends slots type (HeldGives held)
@@ -87,7 +92,7 @@ step_ends slots root (fields held) asked type conforms typed =
 step_ends slots root _ asked type conforms typed = absurd conforms
 
 found_ends : (slots : Slots) (root : List ℕ) (entity : Val) (asked : List ℕ) (type : ExprType) (in_scope : Option ExprType) (value : Option Val)
-    → HasType slots (single (structured root)) entity → Found slots in_scope value
+    → HasType slots (single (structured root)) entity → VariableFits slots in_scope value
     → MatchOption in_scope (PropertyTyped (slots root) asked type) (λ t. type ≡ t) → Ends slots type (FoundGives value entity asked)
 found_ends slots root entity asked type (Some t) (Some v) conforms is_found typed = (v, (refl, typed_value slots t type v typed is_found))
 found_ends slots root entity asked type None None conforms is_found typed = step_ends slots root entity asked type conforms typed
@@ -124,7 +129,7 @@ module _ (slots : Slots) (root : List ℕ) (now : MomentParts) (entity : Val) (e
   tree_ends (node start stop (literal kind spelling)) type typed = literal_ends slots kind spelling type typed
   tree_ends (node start stop (name asked)) type typed =
       found_ends slots root entity asked type (variable_type (scope_of environment) asked) (variable_value environment asked)
-      conforms (found slots environment asked fitting) typed
+      conforms (variable_fits slots environment asked fitting) typed
   tree_ends (node start stop (binary operator left right)) type typed =
       operator_ends operator left right typed.left typed.right type typed.operator_typed
       (tree_ends left typed.left typed.left_typed) (tree_ends right typed.right typed.right_typed) start stop

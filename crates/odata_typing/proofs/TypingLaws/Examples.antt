@@ -34,7 +34,7 @@ item_filter_typed = record {
       left = int32;
       right = int32;
       left_typed = refl;
-      right_typed = (pos 1, one, inl (one_fits, refl));
+      right_typed = (pos 1, one, (PrimitiveType.Int32, inl (one_fits, refl), refl));
       operator_typed = (inl (tt, tt), refl);
     };
     operator_typed = (inl refl, inl refl, refl);

@@ -1,6 +1,8 @@
 -- A tree has at most one type.
-use Rattle.std.proofs.Common.{◌≡◌, refl, sym, ◌∙◌, inl, inr, ℕ, ◌<◌, ℤ, pos, neg_ℤ, List, [], ◌∷◌, Option, Some, None, FitsSigned, w32, subst, arith, MatchOption, IsSomeAnd}
+use Rattle.std.proofs.Common.{◌≡◌, refl, sym, ap, ◌∙◌, inl, inr, ℕ, ◌<◌, ℤ, pos, neg_ℤ, List, [], ◌∷◌, Option, Some, None, FitsSigned, w32, subst, arith, MatchOption, IsSomeAnd}
 use Rattle.edm_values.specs.IntLiteral.{IntNumber}
+use Rattle.edm_values.specs.NumberTypes.{IsIntLiteralType}
+use Rattle.edm_values.specs.declared.primitive.PrimitiveType.{PrimitiveType}
 use Rattle.odata_syntax.specs.Tree.{Tree, node, literal, name, binary}
 use Rattle.odata_syntax.specs.declared.node.BinaryOperator.{BinaryOperator}
 use Rattle.odata_syntax.specs.declared.node.LiteralKind.{LiteralKind}
@@ -15,11 +17,15 @@ one_number : (text : List ℕ) (m n : ℤ) → IntNumber text m → IntNumber te
 one_number [] m n first second = absurd first
 one_number (c ∷ digits) m n first second = grind arith
 
+IsIntLiteralType-one : (n : ℤ) (a b : PrimitiveType) → IsIntLiteralType n a → IsIntLiteralType n b → a ≡ b
+IsIntLiteralType-one n a b (inl x) (inl y) = x.1 ∙ sym y.1
+IsIntLiteralType-one n a b (inl x) (inr y) = absurd (y.0 x.0)
+IsIntLiteralType-one n a b (inr x) (inl y) = absurd (x.0 y.0)
+IsIntLiteralType-one n a b (inr x) (inr y) = x.1 ∙ sym y.1
+
 IntTyped-one : (n : ℤ) (a b : ExprType) → IntTyped n a → IntTyped n b → a ≡ b
-IntTyped-one n a b (inl x) (inl y) = x.1 ∙ sym y.1
-IntTyped-one n a b (inl x) (inr y) = absurd (y.0 x.0)
-IntTyped-one n a b (inr x) (inl y) = absurd (x.0 y.0)
-IntTyped-one n a b (inr x) (inr y) = x.1 ∙ sym y.1
+IntTyped-one n a b x y =
+    x.2 ∙ ap (λ (p : PrimitiveType). single (primitive p)) (IsIntLiteralType-one n x.0 y.0 x.1 y.1) ∙ sym y.2
 
 LiteralTyped-one : (kind : LiteralKind) (spelling : List ℕ) (a b : ExprType) → LiteralTyped kind spelling a → LiteralTyped kind spelling b → a ≡ b
 LiteralTyped-one LiteralKind.Bool spelling a b x y = x.2 ∙ sym y.2

@@ -14,7 +14,7 @@ returns-in-Ok-from_str c =
     let schema = c.args.schema.now in
     let n = c.args.filtered_type in
     let asked = c.args.asked.now in
-    boxed_answer schema n (node c.args.span.start c.args.span.stop (name asked)) _ c.boxed.result c.boxed.ensures.ok c.boxed.ensures.memory
+    boxed_answer schema n (node c.args.span.start c.args.span.stop (name asked)) _ c.box_node.result c.box_node.ensures.ok c.box_node.ensures.memory
     (property_right schema n c.args.span c.in-Ok.edm_type asked c.in-Some.slot c.in-Ok-from_str.name c.in-Ok-from_str.ensures.ok (sym c.in-Some.ensures)
     (property_typed (slots_of schema (type_name_at schema n)) asked c.in-Some.slot (expr_type schema c.in-Ok.edm_type) _ _ (sym c.in-Some.ensures) c.property.ensures (c.in-Ok.ensures.declared schema)))
 
