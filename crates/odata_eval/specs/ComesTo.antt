@@ -12,7 +12,10 @@ use Rattle.odata_eval.specs.Outcome.{Outcome}
 
 -- the tree of `false and Missing`
 abbrev pub false_and_missing : Tree
-false_and_missing = node 0 17 (binary BinaryOperator.And (node 0 5 (literal LiteralKind.Bool (codes "false"))) (node 10 17 (name (codes "Missing"))))
+false_and_missing =
+    node 0 17 (binary BinaryOperator.And
+    (node 0 5 (literal LiteralKind.Bool (codes "false")))
+    (node 10 17 (name (codes "Missing"))))
 
 -- what an item with these three members has under a name
 abbrev pub item_members : ℤ → List ℕ → Bool → List ℕ → Held
@@ -27,4 +30,6 @@ item_value id title active = fields (item_members id title active)
 
 -- the tree has this outcome on the value, and no other
 abbrev pub ComesTo : Tree → Val → Outcome → Type 0
-ComesTo tree value outcome = (slots : Slots) (root : List ℕ) (now : MomentParts) (o : Outcome) → Means slots root now value [] tree o ↔ (o ≡ outcome)
+ComesTo tree value outcome =
+    (slots : Slots) (root : List ℕ) (now : MomentParts) (o : Outcome)
+    → Means slots root now value [] tree o ↔ (o ≡ outcome)

@@ -16,7 +16,9 @@ abbrev pub GivesType : Slots → ExprType → Outcome → Type 0
 GivesType slots type = GivesSome (HasType slots type)
 
 -- the tree has an outcome, a value of the type, and no other
-pub record EndsOnce (slots : Slots) (root : List ℕ) (now : MomentParts) (entity : Val) (environment : Environment) (tree : Tree) (type : ExprType) : Type 0 where
+pub record EndsOnce
+    (slots : Slots) (root : List ℕ) (now : MomentParts) (entity : Val) (environment : Environment) (tree : Tree)
+    (type : ExprType) : Type 0 where
   pub outcome : Outcome
   pub related : Means slots root now entity environment tree outcome
   pub of_type : GivesType slots type outcome
@@ -24,7 +26,9 @@ pub record EndsOnce (slots : Slots) (root : List ℕ) (now : MomentParts) (entit
 
 -- so does every tree with a type, on every entity of the filtered type and with variables of every depth
 abbrev pub TypedEndsOnce : Type 0
-TypedEndsOnce = (slots : Slots) (root : List ℕ) (now : MomentParts) (entity : Val) (environment : Environment) (tree : Tree) (type : ExprType)
+TypedEndsOnce =
+    (slots : Slots) (root : List ℕ) (now : MomentParts) (entity : Val) (environment : Environment) (tree : Tree)
+    (type : ExprType)
     → HasType slots (single (structured root)) entity → IsFitting slots environment
     → Typed slots root (scope_of environment) tree type
     → EndsOnce slots root now entity environment tree type

@@ -15,7 +15,8 @@ Environment = List (List ℕ × (ExprType × Val))
 
 -- the value of the innermost variable of that name
 abbrev pub variable_value : Environment → List ℕ → Option Val
-variable_value environment asked = option_map (λ bound. bound.1.1) (find (λ bound. pointwise nat_eq asked bound.0) environment)
+variable_value environment asked =
+    option_map (λ bound. bound.1.1) (find (λ bound. pointwise nat_eq asked bound.0) environment)
 
 -- the names and types alone
 abbrev pub scope_of : Environment → Scope

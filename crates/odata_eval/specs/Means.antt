@@ -11,8 +11,8 @@ use Rattle.odata_eval.specs.NameGives.{NameGives}
 use Rattle.odata_eval.specs.OperatorGives.{OperatorGives}
 use Rattle.odata_eval.specs.Outcome.{Outcome}
 
--- the outcomes of a tree under the types' properties, the filtered type's name, the moment that `now` stands for, the entity
--- and the variables around the tree; a tree for which no case applies has none
+-- the outcomes of a tree under the types' properties, the filtered type's name, the moment that `now` stands for, the
+-- entity and the variables around the tree; a tree for which no case applies has none
 abbrev mutual
   pub Means : Slots → List ℕ → MomentParts → Val → Environment → Tree → Outcome → Type 0
   Means slots root now entity environment (node start stop shape) = ShapeMeans slots root now entity environment shape

@@ -1,4 +1,4 @@
--- What a name stands for: a range variable, else a property (OData URL Conventions 4.01, sections 5.1.1.13 and 5.1.1.15).
+-- What a name stands for: a range variable, else a property (OData URL Conventions 4.01, 5.1.1.13 and 5.1.1.15).
 use Rattle.std.specs.Prelude.{◌≡◌, ℕ, List, Option, Some, None}
 use Rattle.edm_values.specs.Val.{Val, null, fields, Held, absent, present}
 use Rattle.odata_eval.specs.Outcome.{Outcome, gives}

@@ -8,16 +8,17 @@ ghost use Rattle.odata_eval.specs.Outcome.{gives};
 
 use edm_values::texts_have_one_value;
 
-/// A law: an expression that has a type has exactly one outcome on every entity of the filtered type, a value of that type,
-/// whatever the range variables around it hold.
+/// A law: an expression that has a type has exactly one outcome on every entity of the filtered type, a value of that
+/// type, whatever the range variables around it hold.
 pub fn typed_trees_end_once()
     ensures { TypedEndsOnce }
 {
     texts_have_one_value();
 }
 
-/// What the definitions say of `Active and ID eq 1 and Name eq 'a'` on the rows `{"ID":1,"Name":"a","Active":true}`,
-/// `{"ID":1,"Name":"b","Active":true}` and `{"ID":2,"Name":"a","Active":false}`, and of `false and Missing` on any value.
+/// What the definitions say of `Active and ID eq 1 and Name eq 'a'` on the items `{"ID":1,"Name":"a","Active":true}`,
+/// `{"ID":1,"Name":"b","Active":true}` and `{"ID":2,"Name":"a","Active":false}`, and of `false and Missing` on any
+/// value.
 pub fn first_run_comes_to()
     ensures kept { ComesTo first_run_tree (item_value (pos 1) (codes "a") true) (gives (boolean true)) }
     ensures other_name { ComesTo first_run_tree (item_value (pos 1) (codes "b") true) (gives (boolean false)) }

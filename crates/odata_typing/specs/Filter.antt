@@ -30,4 +30,5 @@ pub record IsFilter (filter : Filter) : Type 0 where
 -- the filter's k-th node has the type
 abbrev pub IsTypeAt : Filter → ℕ → ExprType → Type 0
 IsTypeAt filter k type =
-    IsSomeAnd (slice_get (pre_order (tree_of_filter filter)) k) (λ part. Typed (slots_of filter.schema) (type_name_at filter.schema filter.filtered) [] part type)
+    IsSomeAnd (slice_get (pre_order (tree_of_filter filter)) k)
+    (λ part. Typed (slots_of filter.schema) (type_name_at filter.schema filter.filtered) [] part type)

@@ -18,7 +18,9 @@ PropertyReason navigation code = code ≡ TypeFaultCode.Navigation
 -- why a name has no type
 abbrev pub NameReason : List PropertyModel → List ℕ → TypeFaultCode → Type 0
 NameReason properties asked code =
-    MatchOption (property_named properties asked) (code ≡ TypeFaultCode.UnknownProperty) (λ p. PropertyReason p.type_of code)
+    MatchOption (property_named properties asked)
+    (code ≡ TypeFaultCode.UnknownProperty)
+    (λ p. PropertyReason p.type_of code)
 
 -- why a node has no type though its considered children have
 abbrev pub IsReason : Slots → List ℕ → Tree → TypeFaultCode → Type 0
@@ -27,17 +29,20 @@ IsReason slots root (node start stop (name asked)) code = NameReason (slots root
 IsReason slots root (node start stop (binary operator left right)) code = code ≡ TypeFaultCode.OperandTypes
 
 -- a considered node that has no type, while all its considered children have one
-pub record IsUntypable (slots : Slots) (root : List ℕ) (scope : Scope) (tree : Tree) (at : Scope) (part : Tree) : Type 0 where
+pub record IsUntypable
+    (slots : Slots) (root : List ℕ) (scope : Scope) (tree : Tree) (at : Scope) (part : Tree) : Type 0 where
   pub considered : IsConsidered scope tree at part
   pub untyped : IsUntyped slots root at part
   pub children : ChildrenTyped slots root at part
 
 -- of these nodes the one that starts first, with its reason
-pub record IsFirstUntypable (slots : Slots) (root : List ℕ) (scope : Scope) (tree : Tree) (fault : TypeFault) : Type 0 where
+pub record IsFirstUntypable
+    (slots : Slots) (root : List ℕ) (scope : Scope) (tree : Tree) (fault : TypeFault) : Type 0 where
   pub at : Scope
   pub part : Tree
   pub untypable : IsUntypable slots root scope tree at part
-  pub first : (scope' : Scope) (other : Tree) → IsUntypable slots root scope tree scope' other → start_of part ≤ start_of other
+  pub first :
+      (scope' : Scope) (other : Tree) → IsUntypable slots root scope tree scope' other → start_of part ≤ start_of other
   pub reason : IsReason slots root part fault.code
   pub starts : fault.span.start ≡ start_of part
   pub stops : fault.span.stop ≡ stop_of part
@@ -53,4 +58,5 @@ pub record IsNotBoolean (slots : Slots) (root : List ℕ) (tree : Tree) (len : �
 
 -- why the tree of a text of this length is no filter
 abbrev pub IsTypeFault : Slots → List ℕ → Tree → ℕ → TypeFault → Type 0
-IsTypeFault slots root tree len fault = IsFirstUntypable slots root [] tree fault ⊎ IsNotBoolean slots root tree len fault
+IsTypeFault slots root tree len fault =
+    IsFirstUntypable slots root [] tree fault ⊎ IsNotBoolean slots root tree len fault

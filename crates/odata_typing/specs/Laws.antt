@@ -14,16 +14,22 @@ use Rattle.odata_typing.specs.Typed.{Scope, Typed, IsTyped, IsUntyped}
 -- a tree has at most one type
 abbrev pub OneType : Type 0
 OneType =
-    (slots : Slots) (root : List ℕ) (scope : Scope) (tree : Tree) (a b : ExprType) → Typed slots root scope tree a → Typed slots root scope tree b → a ≡ b
+    (slots : Slots) (root : List ℕ) (scope : Scope) (tree : Tree) (a b : ExprType)
+    → Typed slots root scope tree a
+    → Typed slots root scope tree b
+    → a ≡ b
 
 -- a tree that has a type has no untypable node
 abbrev pub TypedIsClear : Type 0
 TypedIsClear =
-    (slots : Slots) (root : List ℕ) (scope : Scope) (tree : Tree) (at : Scope) (part : Tree) → IsTyped slots root scope tree → ¬ IsUntypable slots root scope tree at part
+    (slots : Slots) (root : List ℕ) (scope : Scope) (tree : Tree) (at : Scope) (part : Tree)
+    → IsTyped slots root scope tree
+    → ¬ IsUntypable slots root scope tree at part
 
 -- one value of a primitive type, never null
 abbrev pub plain_property : List ℕ → PrimitiveType → PropertyModel
-plain_property asked p = record { name = asked; type_of = declared (single (primitive p)); many = false; nullable = false }
+plain_property asked p =
+    record { name = asked; type_of = declared (single (primitive p)); many = false; nullable = false }
 
 -- every type has the three properties of an item
 abbrev pub item_slots : Slots
@@ -35,7 +41,10 @@ item_slots _ =
 
 -- `ID eq 'a'`
 abbrev pub mixed_filter : Tree
-mixed_filter = node 0 9 (binary BinaryOperator.Eq (node 0 2 (name (codes "ID"))) (node 6 9 (literal LiteralKind.Str (codes "'a'"))))
+mixed_filter =
+    node 0 9 (binary BinaryOperator.Eq
+    (node 0 2 (name (codes "ID")))
+    (node 6 9 (literal LiteralKind.Str (codes "'a'"))))
 
 -- of an item `Active and ID eq 1 and Name eq 'a'` is Boolean, and `ID eq 'a'` has no type
 abbrev pub ItemFilterTyped : Type 0

@@ -1,6 +1,7 @@
 -- The types of the code, by name.
 use Rattle.std.specs.Prelude.{[]}
-use Rattle.csdl_schema.specs.ExprType.{SingleType, primitive, enumeration, structured, ExprType, null_type, single, collection}
+use Rattle.csdl_schema.specs.ExprType.{SingleType, primitive, enumeration, structured}
+use Rattle.csdl_schema.specs.ExprType.{ExprType, null_type, single, collection}
 use Rattle.csdl_schema.specs.SchemaModel.{SchemaModel, type_name_at}
 use Rattle.odata_typing.specs.declared.edm_type.EdmType.{EdmType}
 use Rattle.odata_typing.specs.declared.edm_type.ValueType.{ValueType}

@@ -37,7 +37,8 @@ impl<'s> Model for Checked<'s> {
 
     ghost view = { λ c. record { schema = c.schema.now; filtered = c.filtered_type; top_node = c.top_node.value } };
 
-    ghost invariant = { λ c. IsFilter (record { schema = c.schema.now; filtered = c.filtered_type; top_node = c.top_node.value }) };
+    ghost invariant = { λ c. IsFilter
+        (record { schema = c.schema.now; filtered = c.filtered_type; top_node = c.top_node.value }) };
 }
 
 impl<'s> Checked<'s> {
@@ -51,10 +52,13 @@ impl<'s> Checked<'s> {
         requires held { filtered_type < length schema.now.types }
         requires right { IsChecked schema.now filtered_type [] top_node.value }
         requires few { length (pre_order (tree_of_node top_node.value)) ≤ token_limit }
-        ensures parts { IfOk result (λ c. c ≡ record { schema = schema.entry.now; filtered = filtered_type; top_node = top_node.value }) }
+        ensures parts { IfOk result (λ c. c ≡
+            record { schema = schema.entry.now; filtered = filtered_type; top_node = top_node.value }) }
         ensures truth { IfOk result (λ c. IsBooleanOrNull (expr_type schema.entry.now (type_of_node top_node.value))) }
-        ensures other { IfErr result (λ f. ¬ IsBooleanOrNull (expr_type schema.entry.now (type_of_node top_node.value))) }
-        ensures fault { IfErr result (λ f. f ≡ record { code = TypeFaultCode.NotBoolean; span = record { start = 0; stop = len } }) }
+        ensures other { IfErr result (λ f. ¬
+            IsBooleanOrNull (expr_type schema.entry.now (type_of_node top_node.value))) }
+        ensures fault { IfErr result (λ f. f ≡
+            record { code = TypeFaultCode.NotBoolean; span = record { start = 0; stop = len } }) }
     {
         if top_node.edm_type().is_truth() {
             Ok(Checked {

@@ -27,11 +27,14 @@ pub fn check<'s>(
     text: &str,
 ) -> Result<Checked<'s>, Refusal>
     requires { filtered_type < length schema.now.types }
-    ensures typing { IfOk result (λ c. HasTyping (slots_of c.schema) (type_name_at c.schema c.filtered) text.now (tree_of_filter c)) }
+    ensures typing { IfOk result (λ c. HasTyping (slots_of c.schema) (type_name_at c.schema c.filtered)
+        text.now (tree_of_filter c)) }
     ensures schema { IfOk result (λ c. c.schema ≡ schema.entry.now) }
     ensures filtered_type { IfOk result (λ c. c.filtered ≡ filtered_type) }
-    ensures refusal { IfErr result (λ r. UnlessMemory r (IsRefusal (slots_of schema.entry.now) (type_name_at schema.entry.now filtered_type) text.now r)) }
-    ensures none { IfErr result (λ r. UnlessMemory r (HasNoTyping (slots_of schema.entry.now) (type_name_at schema.entry.now filtered_type) text.now)) }
+    ensures refusal { IfErr result (λ r. UnlessMemory r
+        (IsRefusal (slots_of schema.entry.now) (type_name_at schema.entry.now filtered_type) text.now r)) }
+    ensures none { IfErr result (λ r. UnlessMemory r
+        (HasNoTyping (slots_of schema.entry.now) (type_name_at schema.entry.now filtered_type) text.now)) }
 {
     let expr = match tree_of_text(alloc, text) {
         Ok(expr) => expr,
@@ -51,7 +54,8 @@ pub fn check<'s>(
 fn tree_of_text(alloc: Global, text: &str) -> Result<Expr, Refusal>
     ensures tree { IfOk result (λ e. HasTree text.now (tree_of e)) }
     ensures only { IfOk result (λ e. (tree : Tree) → HasTree text.now tree → tree ≡ tree_of e) }
-    ensures refusal { (slots : Slots) (root : List ℕ) → IfErr result (λ r. UnlessMemory r (IsRefusal slots root text.now r)) }
+    ensures refusal { (slots : Slots) (root : List ℕ) → IfErr result
+        (λ r. UnlessMemory r (IsRefusal slots root text.now r)) }
     ensures none { IfErr result (λ r. UnlessMemory r (HasNoTree text.now)) }
 {
     let tokens = match tokens(alloc, text) {

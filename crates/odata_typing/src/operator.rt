@@ -9,7 +9,8 @@ use odata_syntax::BinaryOperator;
 
 /// Whether the operator takes operands of these types.
 pub(crate) fn takes(operator: BinaryOperator, left: &EdmType, right: &EdmType) -> bool
-    ensures { (schema : SchemaModel) → IsTrue result ↔ OperatorTyped operator (expr_type schema left.now) (expr_type schema right.now) boolean_type }
+    ensures { (schema : SchemaModel) → IsTrue result ↔
+        OperatorTyped operator (expr_type schema left.now) (expr_type schema right.now) boolean_type }
 {
     match operator {
         BinaryOperator::And => left.is_truth() && right.is_truth(),
@@ -19,7 +20,8 @@ pub(crate) fn takes(operator: BinaryOperator, left: &EdmType, right: &EdmType) -
 
 /// Whether the types are two numbers, two Booleans or two texts.
 fn are_comparable(left: &EdmType, right: &EdmType) -> bool
-    ensures { (schema : SchemaModel) → IsTrue result ↔ AreComparable (expr_type schema left.now) (expr_type schema right.now) }
+    ensures { (schema : SchemaModel) → IsTrue result ↔
+        AreComparable (expr_type schema left.now) (expr_type schema right.now) }
 {
     let numbers = left.is_number() && right.is_number();
     let booleans = left.is_boolean() && right.is_boolean();

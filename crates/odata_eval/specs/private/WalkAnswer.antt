@@ -29,7 +29,8 @@ IsWalkAnswer row now node answer = IsSomeAnd (walk_outcome answer) (MeansOn row 
 
 -- the entity has this value in the slot
 abbrev pub HoldsAt : Row → ℕ → Value → Type 0
-HoldsAt row slot value = (slots : Vec Value Global) × ((row.value ≡ Record slots) × (slice_get slots.items slot ≡ Some value))
+HoldsAt row slot value =
+    (slots : Vec Value Global) × ((row.value ≡ Record slots) × (slice_get slots.items slot ≡ Some value))
 
 -- the left value alone decides
 abbrev pub IsDecided : BinaryOperator → Option Val → Type 0

@@ -32,8 +32,10 @@ HasNoTree text = (tree : Tree) → ¬ HasTree text tree
 -- a fault as a refusal; want of memory is told by itself
 abbrev pub IsTextRefusal : TextFault → Refusal → Type 0
 IsTextRefusal fault refusal =
-    ((fault ≡ TextFault.Memory) × (refusal ≡ Refusal.Memory)) ⊎ ((fault ≢ TextFault.Memory) × (refusal ≡ Refusal.Text fault))
+    ((fault ≡ TextFault.Memory) × (refusal ≡ Refusal.Memory))
+    ⊎ ((fault ≢ TextFault.Memory) × (refusal ≡ Refusal.Text fault))
 
 abbrev pub IsSyntaxRefusal : SyntaxFault → Refusal → Type 0
 IsSyntaxRefusal fault refusal =
-    ((fault ≡ SyntaxFault.Memory) × (refusal ≡ Refusal.Memory)) ⊎ ((fault ≢ SyntaxFault.Memory) × (refusal ≡ Refusal.Syntax fault))
+    ((fault ≡ SyntaxFault.Memory) × (refusal ≡ Refusal.Memory))
+    ⊎ ((fault ≢ SyntaxFault.Memory) × (refusal ≡ Refusal.Syntax fault))

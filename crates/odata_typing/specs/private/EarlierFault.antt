@@ -6,7 +6,8 @@ use Rattle.odata_typing.specs.declared.untyped.Untyped.{Untyped}
 -- the second fault only where it starts before the first
 abbrev pub IsEarlierFault : TypeFault → TypeFault → TypeFault → Type 0
 IsEarlierFault first second told =
-    ((told ≡ first) × (first.span.start ≤ second.span.start)) ⊎ ((told ≡ second) × (second.span.start < first.span.start))
+    ((told ≡ first) × (first.span.start ≤ second.span.start))
+    ⊎ ((told ≡ second) × (second.span.start < first.span.start))
 
 abbrev pub IsEarlier : Untyped → Untyped → Untyped → Type 0
 IsEarlier (Untyped.Fault first) (Untyped.Fault second) (Untyped.Fault told) = IsEarlierFault first second told
