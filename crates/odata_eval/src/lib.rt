@@ -12,6 +12,3 @@ pub use evaluator::evaluate;
 pub use fault::EvalFault;
 pub use laws::{first_run_comes_to, typed_trees_end_once};
 pub use verdict::Verdict;
-
-#[cfg(test)]
-mod tests;

@@ -23,6 +23,3 @@ pub use laws::{
     a_filter_of_items_is_boolean, a_number_is_no_text, trees_have_one_type, typed_trees_are_clear,
 };
 pub use refusal::{Refusal, TypeFault, TypeFaultCode};
-
-#[cfg(test)]
-mod tests;
