@@ -1,10 +1,9 @@
 -- Which texts are filters, and why others are not (OData URL Conventions 4.01, section 5.1.1).
-use Rattle.std.specs.Prelude.{◌≡◌, ℕ, List, [], length}
+use Rattle.std.specs.Prelude.{ℕ, List, [], length}
 use Rattle.odata_syntax.specs.Parse.{IsParse, IsSyntaxFault}
 use Rattle.odata_text.specs.TokenModel.{TokenModel}
 use Rattle.odata_text.specs.Tokens.{IsTokenList, IsTextFault}
 use Rattle.odata_syntax.specs.Tree.{Tree}
-use Rattle.odata_text.specs.declared.fault.TextFault.{TextFault}
 use Rattle.odata_syntax.specs.declared.syntax_fault.SyntaxFault.{SyntaxFault}
 use Rattle.csdl_schema.specs.ExprType.{ExprType}
 use Rattle.csdl_schema.specs.SchemaModel.{Slots}

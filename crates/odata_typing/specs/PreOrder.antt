@@ -1,5 +1,5 @@
 -- The nodes of a tree, in the order in which they are numbered from 0.
-use Rattle.std.specs.Prelude.{ℕ, List, [], ◌∷◌, ◌++◌}
+use Rattle.std.specs.Prelude.{List, [], ◌∷◌, ◌++◌}
 use Rattle.odata_syntax.specs.Tree.{Tree, node, literal, name, binary, start_of, stop_of}
 use Rattle.odata_text.specs.declared.span.Span.{Span}
 

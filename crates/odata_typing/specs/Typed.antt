@@ -1,5 +1,5 @@
 -- Which type an expression has (OData URL Conventions 4.01, sections 5.1.1.1 and 5.1.1.14 to 5.1.1.17).
-use Rattle.std.specs.Prelude.{◌≡◌, ℕ, List, [], ◌∷◌, Option, IsSomeAnd, MatchOption, find, nat_eq}
+use Rattle.std.specs.Prelude.{◌≡◌, ℕ, List, Option, IsSomeAnd, MatchOption, find, nat_eq}
 use Rattle.std.specs.Option.{option_map}
 use Rattle.std.specs.Cmp.Lexicographic.{pointwise}
 use Rattle.odata_syntax.specs.Tree.{Tree, node, literal, name, binary}

@@ -1,5 +1,5 @@
 -- Literals that have been read are right.
-use Rattle.std.proofs.Common.{◌≡◌, refl, ap, ℕ, ℤ, Bool, List, Some, FitsSigned, w64, to_z, of_z}
+use Rattle.std.proofs.Common.{◌≡◌, refl, ap, ℕ, ℤ, Bool, List, Some, w64, to_z, of_z}
 use Rattle.std.proofs.Math.Facts.{to_z-of_z}
 use Rattle.std.specs.Prelude.{string_bytes}
 use Rattle.edm_values.specs.IntLiteral.{IntValue}

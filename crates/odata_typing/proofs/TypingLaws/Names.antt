@@ -14,9 +14,9 @@ use Rattle.odata_typing.specs.declared.untyped.Untyped.{Untyped}
 use Rattle.odata_typing.specs.private.Answer.{IsAnswer, IsCheckedTree}
 use Rattle.odata_typing.specs.Considered.{IsItself}
 use Rattle.odata_typing.specs.FirstUntypable.{IsFirstUntypable, NameReason, PropertyReason}
-use Rattle.odata_typing.specs.IsChecked.{IsChecked, IsCheckedProperty, tree_of_node}
+use Rattle.odata_typing.specs.IsChecked.{IsCheckedProperty}
 use Rattle.odata_typing.specs.TypeView.{expr_type}
-use Rattle.odata_typing.specs.Typed.{PropertyTyped, Scope, property_named}
+use Rattle.odata_typing.specs.Typed.{PropertyTyped, Scope}
 use Rattle.odata_typing.proofs.TypingLaws.PropertySlots.{slot_below, property_at, property_none}
 
 same_start : (scope : Scope) (start stop : ℕ) (asked : List ℕ) (at : Scope) (other : Tree) → IsItself scope (node start stop (name asked)) at other → start ≤ start_of other

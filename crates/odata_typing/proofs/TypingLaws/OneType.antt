@@ -1,5 +1,5 @@
 -- A tree has at most one type.
-use Rattle.std.proofs.Common.{◌≡◌, refl, sym, ap, ◌∙◌, inl, inr, ℕ, ◌<◌, ℤ, pos, neg_ℤ, List, [], ◌∷◌, Option, Some, None, FitsSigned, w32, subst, arith, MatchOption, IsSomeAnd}
+use Rattle.std.proofs.Common.{◌≡◌, sym, ap, ◌∙◌, inl, inr, ℕ, ℤ, List, [], ◌∷◌, Option, Some, None, subst, arith, MatchOption, IsSomeAnd}
 use Rattle.edm_values.specs.IntLiteral.{IntNumber}
 use Rattle.edm_values.specs.NumberTypes.{IsIntLiteralType}
 use Rattle.edm_values.specs.declared.primitive.PrimitiveType.{PrimitiveType}
@@ -7,10 +7,10 @@ use Rattle.odata_syntax.specs.Tree.{Tree, node, literal, name, binary}
 use Rattle.odata_syntax.specs.declared.node.BinaryOperator.{BinaryOperator}
 use Rattle.odata_syntax.specs.declared.node.LiteralKind.{LiteralKind}
 use Rattle.csdl_schema.specs.ExprType.{ExprType, single, primitive}
-use Rattle.csdl_schema.specs.SchemaModel.{PropertyModel, PropertyType, Slots, declared}
+use Rattle.csdl_schema.specs.SchemaModel.{PropertyModel, Slots, declared}
 use Rattle.odata_typing.specs.ExprTypes.{boolean_type}
 use Rattle.odata_typing.specs.LiteralValue.{IntTyped, LiteralTyped}
-use Rattle.odata_typing.specs.Typed.{Scope, Typed, OperatorTyped, OperandsTyped, NameTyped, PropertyTyped, variable_type, property_named}
+use Rattle.odata_typing.specs.Typed.{Scope, Typed, OperatorTyped, PropertyTyped, variable_type, property_named}
 
 -- an Int literal stands for one number at most
 one_number : (text : List ℕ) (m n : ℤ) → IntNumber text m → IntNumber text n → m ≡ n

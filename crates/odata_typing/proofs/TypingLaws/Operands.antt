@@ -1,5 +1,5 @@
 -- What the walk answers of an operator, from its answers of the operands.
-use Rattle.std.proofs.Common.{◌≡◌, refl, sym, ◌∙◌, ℕ, List, [], subst, Result, Ok, Err, MatchResult}
+use Rattle.std.proofs.Common.{◌≡◌, refl, ℕ, [], subst}
 use Rattle.odata_syntax.specs.Tree.{Tree, node, binary}
 use Rattle.odata_syntax.specs.declared.node.BinaryOperator.{BinaryOperator}
 use Rattle.odata_text.specs.declared.span.Span.{Span}
@@ -8,11 +8,11 @@ use Rattle.odata_typing.specs.declared.checked_node.CheckedNode.{CheckedNode}
 use Rattle.odata_typing.specs.declared.edm_type.EdmType.{EdmType}
 use Rattle.odata_typing.specs.declared.refusal.TypeFaultCode.{TypeFaultCode}
 use Rattle.odata_typing.specs.declared.untyped.Untyped.{Untyped}
-use Rattle.odata_typing.specs.private.Answer.{IsCheckedTree, HasFault, IsAnswer}
+use Rattle.odata_typing.specs.private.Answer.{IsCheckedTree, HasFault}
 use Rattle.odata_typing.specs.private.EarlierFault.{IsEarlier}
 use Rattle.odata_typing.specs.ExprTypes.{boolean_type}
 use Rattle.odata_typing.specs.FirstUntypable.{IsFirstUntypable}
-use Rattle.odata_typing.specs.IsChecked.{tree_of_node, type_of_node}
+use Rattle.odata_typing.specs.IsChecked.{type_of_node}
 use Rattle.odata_typing.specs.Typed.{Typed, IsTyped, OperatorTyped}
 use Rattle.odata_typing.specs.TypeView.{expr_type}
 use Rattle.odata_typing.proofs.TypingLaws.Right.{IsChecked-typed}

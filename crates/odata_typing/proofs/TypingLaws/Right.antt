@@ -1,11 +1,11 @@
 -- A right node has the type that it carries.
-use Rattle.std.proofs.Common.{◌≡◌, refl, ℕ, List, Option, Some, None, MatchOption, sym, subst}
+use Rattle.std.proofs.Common.{◌≡◌, ℕ, List, Option, None, MatchOption}
 use Rattle.std.specs.Prelude.{string_bytes}
 use Rattle.csdl_schema.specs.ExprType.{ExprType}
 use Rattle.csdl_schema.specs.SchemaModel.{PropertyModel, SchemaModel, slots_of, type_name_at}
 use Rattle.odata_typing.specs.declared.checked_node.CheckedNode.{CheckedNode, Lit, Property, Binary'}
-use Rattle.odata_typing.specs.IsChecked.{IsChecked, IsCheckedProperty, tree_of_node, type_of_node}
-use Rattle.odata_typing.specs.Typed.{Scope, Typed, NameTyped, PropertyTyped}
+use Rattle.odata_typing.specs.IsChecked.{IsChecked, tree_of_node, type_of_node}
+use Rattle.odata_typing.specs.Typed.{Scope, Typed, PropertyTyped}
 use Rattle.odata_typing.specs.TypeView.{expr_type}
 
 -- a name that is no variable has its property's type

@@ -1,9 +1,9 @@
 -- A tree has no more nodes than tokens.
-use Rattle.std.proofs.Common.{◌≡◌, ℕ, ◌≤◌, ◌+◌, List, [], ◌∷◌, ◌++◌, length, length-append, arith}
+use Rattle.std.proofs.Common.{ℕ, ◌≤◌, List, ◌∷◌, length, length-append, arith}
 use Rattle.odata_syntax.specs.Grammar.{Level, Derives, looser, derives_literal, derives_name, derives_binary}
 use Rattle.odata_text.specs.TokenModel.{TokenModel}
 use Rattle.odata_text.specs.Tokens.{token_limit}
-use Rattle.odata_syntax.specs.Tree.{Tree, node, literal, name, binary}
+use Rattle.odata_syntax.specs.Tree.{Tree}
 use Rattle.odata_typing.specs.HasTyping.{HasTree}
 use Rattle.odata_typing.specs.PreOrder.{pre_order}
 

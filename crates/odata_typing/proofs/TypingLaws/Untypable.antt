@@ -1,6 +1,6 @@
 -- The first untypable node of a tree, from those of its operands.
-use Rattle.std.proofs.Common.{◌≡◌, refl, sym, ap, ◌∙◌, inl, inr, ℕ, ◌<◌, ◌≤◌, List, [], subst, arith}
-use Rattle.odata_syntax.specs.Tree.{Tree, node, literal, name, binary, start_of, stop_of}
+use Rattle.std.proofs.Common.{◌≡◌, refl, sym, ap, inl, inr, ℕ, ◌<◌, ◌≤◌, List, subst, arith}
+use Rattle.odata_syntax.specs.Tree.{Tree, node, literal, name, binary, start_of}
 use Rattle.odata_syntax.specs.declared.node.BinaryOperator.{BinaryOperator}
 use Rattle.csdl_schema.specs.ExprType.{ExprType}
 use Rattle.csdl_schema.specs.SchemaModel.{Slots}
@@ -9,8 +9,8 @@ use Rattle.odata_typing.specs.declared.refusal.TypeFaultCode.{TypeFaultCode}
 use Rattle.odata_typing.specs.Considered.{IsConsidered, ChildrenTyped, IsItself}
 use Rattle.odata_typing.specs.private.EarlierFault.{IsEarlierFault}
 use Rattle.odata_typing.specs.ExprTypes.{boolean_type}
-use Rattle.odata_typing.specs.FirstUntypable.{IsUntypable, IsFirstUntypable, IsReason}
-use Rattle.odata_typing.specs.Typed.{Scope, Typed, IsTyped, IsUntyped, OperatorTyped, OperandsTyped}
+use Rattle.odata_typing.specs.FirstUntypable.{IsUntypable, IsFirstUntypable}
+use Rattle.odata_typing.specs.Typed.{Scope, Typed, IsTyped, OperatorTyped}
 use Rattle.odata_typing.proofs.TypingLaws.OneType.{Typed-one, operator_makes}
 
 itself_typed : (slots : Slots) (root : List ℕ) (scope : Scope) (tree : Tree) (at : Scope) (part : Tree) → IsTyped slots root scope tree → IsItself scope tree at part → IsTyped slots root at part

@@ -4,7 +4,7 @@ use Rattle.std.specs.Global.{Box}
 use Rattle.odata_syntax.specs.Tree.{Tree}
 use Rattle.odata_text.specs.declared.fault.TextFault.{TextFault}
 use Rattle.odata_syntax.specs.declared.syntax_fault.SyntaxFault.{SyntaxFault}
-use Rattle.csdl_schema.specs.SchemaModel.{Slots, SchemaModel, slots_of, type_name_at}
+use Rattle.csdl_schema.specs.SchemaModel.{SchemaModel, slots_of, type_name_at}
 use Rattle.odata_typing.specs.declared.checked_node.CheckedNode.{CheckedNode}
 use Rattle.odata_typing.specs.declared.refusal.Refusal.{Refusal}
 use Rattle.odata_typing.specs.declared.untyped.Untyped.{Untyped}

@@ -1,10 +1,7 @@
-use Rattle.std.proofs.Common.{◌≡◌, sym, subst, []}
-use Rattle.odata_syntax.specs.Tree.{Tree}
+use Rattle.std.proofs.Common.{◌≡◌, sym, subst}
 use Rattle.odata_syntax.specs.TreeView.{tree_of}
 use Rattle.csdl_schema.specs.SchemaModel.{slots_of, type_name_at}
-use Rattle.odata_typing.specs.private.Answer.{IsCheckedTree}
 use Rattle.odata_typing.specs.Filter.{Filter, tree_of_filter}
-use Rattle.odata_typing.specs.FirstUntypable.{IsFirstUntypable}
 use Rattle.odata_typing.specs.HasTyping.{HasTyping}
 use Rattle.odata_typing.specs.IsChecked.{type_of_node}
 use Rattle.odata_typing.specs.TypeView.{expr_type}

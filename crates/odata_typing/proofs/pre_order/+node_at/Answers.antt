@@ -1,5 +1,4 @@
-use Rattle.std.proofs.Common.{◌≡◌, sym, ap, subst, ◌∙◌, ℕ, ◌≤◌, ◌-◌, ◌+◌, length, Option, Some, slice_get, Result, Ok, Err, IfOk, arith}
-use Rattle.odata_typing.specs.declared.checked_node.CheckedNode.{CheckedNode}
+use Rattle.std.proofs.Common.{◌≤◌, Result, Ok, Err, IfOk, arith}
 use Rattle.odata_typing.specs.private.CheckedPreOrder.{checked_pre_order}
 use Rattle.odata_typing.proofs.TypingLaws.PreOrders.{first_node, at_left, at_right}
 use Rattle.odata_typing.proofs.pre_order.+node_at.Goals as goal

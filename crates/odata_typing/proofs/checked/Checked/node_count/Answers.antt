@@ -1,4 +1,4 @@
-use Rattle.std.proofs.Common.{◌≡◌, sym, ap, ◌∙◌, ℕ, length}
+use Rattle.std.proofs.Common.{ap, ◌∙◌, length}
 use Rattle.odata_typing.specs.declared.checked_node.CheckedNode.{CheckedNode}
 use Rattle.odata_typing.specs.private.CheckedPreOrder.{checked_pre_order}
 use Rattle.odata_typing.specs.Filter.{Filter, tree_of_filter}

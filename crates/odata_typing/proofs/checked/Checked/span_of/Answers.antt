@@ -1,4 +1,4 @@
-use Rattle.std.proofs.Common.{◌≡◌, sym, ap, ◌∙◌, Some, slice_get}
+use Rattle.std.proofs.Common.{sym, ap, ◌∙◌, Some, slice_get}
 use Rattle.std.specs.Option.{option_map}
 use Rattle.odata_typing.specs.Filter.{Filter, tree_of_filter}
 use Rattle.odata_typing.specs.PreOrder.{pre_order, span_of_tree}

@@ -1,4 +1,4 @@
-use Rattle.std.proofs.Common.{◌≡◌, refl, sym, subst, ◌<◌, length}
+use Rattle.std.proofs.Common.{refl, sym, subst, ◌<◌, length}
 use Rattle.odata_typing.specs.declared.edm_type.EdmType.{EdmType}
 use Rattle.odata_typing.specs.Filter.{Filter, IsTypeAt, tree_of_filter}
 use Rattle.odata_typing.specs.PreOrder.{pre_order}
