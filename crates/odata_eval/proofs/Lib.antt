@@ -1,1 +1,2 @@
-pub mod MeansLaws
+pub mod meaning
+pub mod walking

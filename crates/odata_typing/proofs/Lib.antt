@@ -1,1 +1,3 @@
-pub mod TypingLaws
+pub mod types
+pub mod untypable
+pub mod pre_orders

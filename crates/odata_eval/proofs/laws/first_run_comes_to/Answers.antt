@@ -1,5 +1,5 @@
-use Rattle.odata_eval.proofs.MeansLaws.FirstRunLaws.{kept_item, other_item, inactive_item, right_side_unread}
-use Rattle.odata_eval.proofs.MeansLaws.OneStep.{OneValue}
+use Rattle.odata_eval.proofs.meaning.FirstRunLaws.{kept_item, other_item, inactive_item, right_side_unread}
+use Rattle.odata_eval.proofs.meaning.OneStep.{OneValue}
 use Rattle.odata_eval.proofs.laws.first_run_comes_to.Goals as goal
 
 pub returns : goal.returns

@@ -1,4 +1,4 @@
-use Rattle.odata_eval.proofs.MeansLaws.OneOutcome.{ends_once}
+use Rattle.odata_eval.proofs.meaning.OneOutcome.{ends_once}
 use Rattle.odata_eval.proofs.laws.typed_trees_end_once.Goals as goal
 
 pub returns : goal.returns

@@ -1,5 +1,5 @@
 use Rattle.odata_eval.specs.private.DatumView.{plain_datum}
-use Rattle.odata_eval.proofs.MeansLaws.OperatorSteps.{and_left_truth, and_right_truth}
+use Rattle.odata_eval.proofs.walking.OperatorSteps.{and_left_truth, and_right_truth}
 use Rattle.odata_eval.proofs.operators.apply.Goals as goal
 
 pub truth_of-requires : goal.truth_of-requires

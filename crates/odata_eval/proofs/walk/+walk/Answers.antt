@@ -4,7 +4,7 @@ use Rattle.odata_eval.specs.private.DatumView.{plain_datum}
 use Rattle.odata_eval.specs.private.WalkAnswer.{IsDecided}
 use Rattle.odata_typing.specs.IsChecked.{tree_of_node}
 use Rattle.odata_typing.specs.TypeView.{expr_type}
-use Rattle.odata_eval.proofs.MeansLaws.WalkSteps.{property_answered, operator_defined, operator_answered, fault_answered}
+use Rattle.odata_eval.proofs.walking.WalkSteps.{property_answered, operator_defined, operator_answered, fault_answered}
 use Rattle.odata_eval.proofs.walk.+walk.Goals as goal
 
 pub returns-in-Property : goal.returns-in-Property

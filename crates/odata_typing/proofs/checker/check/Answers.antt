@@ -5,8 +5,8 @@ use Rattle.odata_typing.specs.Filter.{Filter, tree_of_filter}
 use Rattle.odata_typing.specs.HasTyping.{HasTyping}
 use Rattle.odata_typing.specs.IsChecked.{type_of_node}
 use Rattle.odata_typing.specs.TypeView.{expr_type}
-use Rattle.odata_typing.proofs.TypingLaws.Operands.{checked_typed}
-use Rattle.odata_typing.proofs.TypingLaws.Checks.{UnlessMemory-map, treeless, right_typing, few_checked_nodes, untypable_refuses, other_refuses}
+use Rattle.odata_typing.proofs.untypable.Operands.{checked_typed}
+use Rattle.odata_typing.proofs.untypable.Checks.{UnlessMemory-map, treeless, right_typing, few_checked_nodes, untypable_refuses, other_refuses}
 use Rattle.odata_typing.proofs.checker.check.Goals as goal
 
 pub returns-in-Err-clause-none : goal.returns-in-Err-clause-none

@@ -1,4 +1,4 @@
-use Rattle.odata_typing.proofs.TypingLaws.Examples.{mixed_filter_untyped}
+use Rattle.odata_typing.proofs.types.Examples.{mixed_filter_untyped}
 use Rattle.odata_typing.proofs.laws.a_number_is_no_text.Goals as goal
 
 pub returns : goal.returns

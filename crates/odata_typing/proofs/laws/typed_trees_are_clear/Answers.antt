@@ -1,4 +1,4 @@
-use Rattle.odata_typing.proofs.TypingLaws.Untypable.{typed_clear}
+use Rattle.odata_typing.proofs.untypable.Untypable.{typed_clear}
 use Rattle.odata_typing.proofs.laws.typed_trees_are_clear.Goals as goal
 
 pub returns : goal.returns

@@ -1,5 +1,5 @@
 use Rattle.std.proofs.Common.{refl}
-use Rattle.odata_typing.proofs.TypingLaws.Literals.{checked_truth, checked_int, checked_text}
+use Rattle.odata_typing.proofs.types.Literals.{checked_truth, checked_int, checked_text}
 use Rattle.odata_typing.proofs.literal.read_literal.Goals as goal
 
 pub returns-in-Some-clause-right : goal.returns-in-Some-clause-right

@@ -1,4 +1,4 @@
-use Rattle.odata_typing.proofs.TypingLaws.Operands.{HasFault-left, HasFault-right, HasFault-both}
+use Rattle.odata_typing.proofs.untypable.Operands.{HasFault-left, HasFault-right, HasFault-both}
 use Rattle.odata_typing.proofs.node.checked_binary.Goals as goal
 use Rattle.odata_typing.proofs.node.checked_binary.Goals.{in-Ok-right-2, in-Err-right-2}
 

@@ -1,6 +1,6 @@
 use Rattle.std.proofs.Common.{◌≡◌, true, false, ap, ◌∙◌}
 use Rattle.odata_typing.specs.IsChecked.{type_of_node}
-use Rattle.odata_typing.proofs.TypingLaws.Operands.{refused_itself}
+use Rattle.odata_typing.proofs.untypable.Operands.{refused_itself}
 use Rattle.odata_typing.proofs.node.operator_node.Goals as goal
 
 pub returns-else-takes : goal.returns-else-takes

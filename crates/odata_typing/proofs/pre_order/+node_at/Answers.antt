@@ -1,6 +1,6 @@
 use Rattle.std.proofs.Common.{◌≤◌, Result, Ok, Err, IfOk, arith}
 use Rattle.odata_typing.specs.private.CheckedPreOrder.{checked_pre_order}
-use Rattle.odata_typing.proofs.TypingLaws.PreOrders.{first_node, at_left, at_right}
+use Rattle.odata_typing.proofs.pre_orders.PreOrders.{first_node, at_left, at_right}
 use Rattle.odata_typing.proofs.pre_order.+node_at.Goals as goal
 
 lift : {A B : Type 0} (P Q : A → Type 0) (r : Result A B) → ((x : A) → P x → Q x) → IfOk r P → IfOk r Q

@@ -2,7 +2,7 @@ use Rattle.std.proofs.Common.{sym}
 use Rattle.odata_syntax.specs.Tree.{node, name}
 use Rattle.csdl_schema.specs.SchemaModel.{slots_of, type_name_at}
 use Rattle.odata_typing.specs.TypeView.{expr_type}
-use Rattle.odata_typing.proofs.TypingLaws.Names.{first_unknown, first_refused, property_typed, property_right, boxed_answer}
+use Rattle.odata_typing.proofs.untypable.Names.{first_unknown, first_refused, property_typed, property_right, boxed_answer}
 use Rattle.odata_typing.proofs.property.checked_name.Goals as goal
 
 pub returns-in-None : goal.returns-in-None

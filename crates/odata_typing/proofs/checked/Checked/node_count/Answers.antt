@@ -3,7 +3,7 @@ use Rattle.odata_typing.specs.declared.checked_node.CheckedNode.{CheckedNode}
 use Rattle.odata_typing.specs.private.CheckedPreOrder.{checked_pre_order}
 use Rattle.odata_typing.specs.Filter.{Filter, tree_of_filter}
 use Rattle.odata_typing.specs.PreOrder.{pre_order}
-use Rattle.odata_typing.proofs.TypingLaws.PreOrders.{count-of_node, few_checked}
+use Rattle.odata_typing.proofs.pre_orders.PreOrders.{count-of_node, few_checked}
 use Rattle.odata_typing.proofs.checked.Checked.node_count.Goals as goal
 
 pub node_count-requires : goal.node_count-requires

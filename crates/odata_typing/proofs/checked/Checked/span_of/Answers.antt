@@ -2,7 +2,7 @@ use Rattle.std.proofs.Common.{sym, ap, ◌∙◌, Some, slice_get}
 use Rattle.std.specs.Option.{option_map}
 use Rattle.odata_typing.specs.Filter.{Filter, tree_of_filter}
 use Rattle.odata_typing.specs.PreOrder.{pre_order, span_of_tree}
-use Rattle.odata_typing.proofs.TypingLaws.PreOrders.{span_at, past_end}
+use Rattle.odata_typing.proofs.pre_orders.PreOrders.{span_at, past_end}
 use Rattle.odata_typing.proofs.checked.Checked.span_of.Goals as goal
 
 pub returns-in-Ok : goal.returns-in-Ok

@@ -3,7 +3,7 @@ use Rattle.odata_typing.specs.declared.edm_type.EdmType.{EdmType}
 use Rattle.odata_typing.specs.Filter.{Filter, IsTypeAt, tree_of_filter}
 use Rattle.odata_typing.specs.PreOrder.{pre_order}
 use Rattle.odata_typing.specs.TypeView.{expr_type}
-use Rattle.odata_typing.proofs.TypingLaws.PreOrders.{within, beyond, type_at}
+use Rattle.odata_typing.proofs.pre_orders.PreOrders.{within, beyond, type_at}
 use Rattle.odata_typing.proofs.checked.Checked.type_of.Goals as goal
 
 pub returns-in-Ok-clause-inside : goal.returns-in-Ok-clause-inside

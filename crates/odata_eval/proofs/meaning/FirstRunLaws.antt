@@ -14,8 +14,8 @@ use Rattle.csdl_schema.specs.SchemaModel.{Slots}
 use Rattle.odata_eval.specs.ComesTo.{ComesTo, false_and_missing, item_value}
 use Rattle.odata_eval.specs.Means.{Means}
 use Rattle.odata_eval.specs.Outcome.{Outcome, gives}
-use Rattle.odata_eval.proofs.MeansLaws.OneMeaning.{Means-one}
-use Rattle.odata_eval.proofs.MeansLaws.OneStep.{OneValue}
+use Rattle.odata_eval.proofs.meaning.OneMeaning.{Means-one}
+use Rattle.odata_eval.proofs.meaning.OneStep.{OneValue}
 
 -- one outcome of a tree is the only one
 comes_to : OneValue → (tree : Tree) (value : Val) (outcome : Outcome)

@@ -11,7 +11,7 @@ use Rattle.odata_typing.specs.private.EarlierFault.{IsEarlierFault}
 use Rattle.odata_typing.specs.ExprTypes.{boolean_type}
 use Rattle.odata_typing.specs.FirstUntypable.{IsUntypable, IsFirstUntypable}
 use Rattle.odata_typing.specs.Typed.{Scope, Typed, IsTyped, OperatorTyped}
-use Rattle.odata_typing.proofs.TypingLaws.OneType.{Typed-one, operator_makes}
+use Rattle.odata_typing.proofs.types.OneType.{Typed-one, operator_makes}
 
 itself_typed : (slots : Slots) (root : List ℕ) (scope : Scope) (tree : Tree) (at : Scope) (part : Tree) → IsTyped slots root scope tree → IsItself scope tree at part → IsTyped slots root at part
 itself_typed slots root scope tree at part typed here = rw (here.0, here.1) typed

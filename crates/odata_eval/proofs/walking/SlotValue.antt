@@ -20,7 +20,7 @@ use Rattle.odata_eval.specs.NameGives.{StepGives, HeldGives}
 use Rattle.odata_eval.specs.Outcome.{Outcome, gives}
 use Rattle.odata_eval.specs.private.WalkAnswer.{HoldsAt}
 use Rattle.odata_typing.specs.Typed.{PropertyTyped, property_named}
-use Rattle.odata_eval.proofs.MeansLaws.Progress.{found_property}
+use Rattle.odata_eval.proofs.meaning.Progress.{found_property}
 
 val_of-Record : (slots : Slots) (type : ExprType) (v : Vec Value Global) → val_of (Record v) slots type ≡ record_of slots type (map val_of v.items)
 val_of-Record slots type v = search (rules, the_lemmas)

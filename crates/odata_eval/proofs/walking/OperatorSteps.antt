@@ -17,8 +17,8 @@ use Rattle.odata_eval.specs.Means.{Means}
 use Rattle.odata_eval.specs.OperatorGives.{OperatorGives}
 use Rattle.odata_eval.specs.Outcome.{Outcome, gives}
 use Rattle.odata_eval.specs.private.WalkAnswer.{IsDecided, OperatorTable}
-use Rattle.odata_eval.proofs.MeansLaws.OneMeaning.{Means-one}
-use Rattle.odata_eval.proofs.MeansLaws.OneStep.{OneValue, After-follows}
+use Rattle.odata_eval.proofs.meaning.OneMeaning.{Means-one}
+use Rattle.odata_eval.proofs.meaning.OneStep.{OneValue, After-follows}
 
 -- after an operand that gives one value
 after_value : (v : Val) (Goes : Val → Outcome → Type 0) (o : Outcome) → After (λ first. first ≡ gives v) Goes o → Goes v o

@@ -15,10 +15,10 @@ use Rattle.odata_typing.specs.ExprTypes.{IsBooleanOrNull}
 use Rattle.odata_typing.specs.Filter.{Filter, IsFilter, tree_of_filter}
 use Rattle.odata_typing.specs.IsChecked.{IsChecked, type_of_node}
 use Rattle.odata_typing.specs.TypeView.{expr_type}
-use Rattle.odata_eval.proofs.MeansLaws.OneMeaning.{Means-one}
-use Rattle.odata_eval.proofs.MeansLaws.OneStep.{OneValue}
-use Rattle.odata_eval.proofs.MeansLaws.Truths.{IsTruth, truth_of}
-use Rattle.odata_eval.proofs.MeansLaws.WalkSteps.{Laws, node_value}
+use Rattle.odata_eval.proofs.meaning.OneMeaning.{Means-one}
+use Rattle.odata_eval.proofs.meaning.OneStep.{OneValue}
+use Rattle.odata_eval.proofs.meaning.Truths.{IsTruth, truth_of}
+use Rattle.odata_eval.proofs.walking.WalkSteps.{Laws, node_value}
 
 -- no tree has two outcomes on an entity
 pub one_outcome : OneValue → (row : Row) (now : MomentParts) (tree : Tree) (a b : Outcome) → MeansOn row now tree a → MeansOn row now tree b → a ≡ b

@@ -1,9 +1,9 @@
 -- A tree that has a type has one outcome.
 use Rattle.odata_eval.specs.EndsOnce.{TypedEndsOnce}
 use Rattle.odata_eval.specs.Outcome.{gives}
-use Rattle.odata_eval.proofs.MeansLaws.OneMeaning.{Means-one}
-use Rattle.odata_eval.proofs.MeansLaws.OneStep.{OneValue}
-use Rattle.odata_eval.proofs.MeansLaws.Progress.{tree_ends}
+use Rattle.odata_eval.proofs.meaning.OneMeaning.{Means-one}
+use Rattle.odata_eval.proofs.meaning.OneStep.{OneValue}
+use Rattle.odata_eval.proofs.meaning.Progress.{tree_ends}
 
 pub ends_once : OneValue → TypedEndsOnce
 ends_once values slots root now entity environment tree type conforms fitting typed =

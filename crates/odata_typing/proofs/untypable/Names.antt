@@ -17,7 +17,7 @@ use Rattle.odata_typing.specs.FirstUntypable.{IsFirstUntypable, NameReason, Prop
 use Rattle.odata_typing.specs.IsChecked.{IsCheckedProperty}
 use Rattle.odata_typing.specs.TypeView.{expr_type}
 use Rattle.odata_typing.specs.Typed.{PropertyTyped, Scope}
-use Rattle.odata_typing.proofs.TypingLaws.PropertySlots.{slot_below, property_at, property_none}
+use Rattle.odata_typing.proofs.untypable.PropertySlots.{slot_below, property_at, property_none}
 
 same_start : (scope : Scope) (start stop : ℕ) (asked : List ℕ) (at : Scope) (other : Tree) → IsItself scope (node start stop (name asked)) at other → start ≤ start_of other
 same_start scope start stop asked at other here = let e : start_of other ≡ start = ap start_of here.1 in omega arith

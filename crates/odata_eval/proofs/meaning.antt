@@ -1,12 +1,8 @@
-pub mod CheckedTyped
+-- That a tree with a type has one outcome.
 pub mod FirstRunLaws
 pub mod OneLeaf
 pub mod OneMeaning
 pub mod OneOutcome
 pub mod OneStep
-pub mod OperatorSteps
 pub mod Progress
-pub mod TopNode
-pub mod SlotValue
 pub mod Truths
-pub mod WalkSteps

@@ -15,7 +15,7 @@ use Rattle.odata_typing.specs.LiteralValue.{LiteralValue, BooleanValue, truth_wo
 use Rattle.odata_eval.specs.NameGives.{NameGives, FoundGives, StepGives, HeldGives}
 use Rattle.odata_eval.specs.OperatorGives.{OperatorGives}
 use Rattle.odata_eval.specs.Outcome.{Outcome, gives, overflow, divides_by_zero, GivesSome}
-use Rattle.odata_eval.proofs.MeansLaws.OneStep.{AtMostOne, OneValue, same_one, GivesSome-one, After-one}
+use Rattle.odata_eval.proofs.meaning.OneStep.{AtMostOne, OneValue, same_one, GivesSome-one, After-one}
 
 false-true : IsTrue false → ⊥
 false-true same = cc

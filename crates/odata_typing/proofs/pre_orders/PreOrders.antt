@@ -14,7 +14,7 @@ use Rattle.odata_typing.specs.IsChecked.{IsChecked, tree_of_node, type_of_node}
 use Rattle.odata_typing.specs.PreOrder.{pre_order, span_of_tree}
 use Rattle.odata_typing.specs.Typed.{Scope, Typed}
 use Rattle.odata_typing.specs.TypeView.{expr_type}
-use Rattle.odata_typing.proofs.TypingLaws.Right.{IsChecked-typed}
+use Rattle.odata_typing.proofs.types.Right.{IsChecked-typed}
 
 pub get_front : {X : Type 0} (xs ys : List X) (k : ℕ) (x : X) → slice_get xs k ≡ Some x → slice_get (xs ++ ys) k ≡ Some x
 get_front [] ys k x found = absurd (none-some x found)

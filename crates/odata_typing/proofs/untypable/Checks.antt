@@ -15,10 +15,10 @@ use Rattle.odata_typing.specs.IsChecked.{tree_of_node, type_of_node}
 use Rattle.odata_typing.specs.PreOrder.{pre_order}
 use Rattle.odata_typing.specs.Typed.{Typed}
 use Rattle.odata_typing.specs.TypeView.{expr_type}
-use Rattle.odata_typing.proofs.TypingLaws.OneType.{Typed-one}
-use Rattle.odata_typing.proofs.TypingLaws.Right.{IsChecked-typed}
-use Rattle.odata_typing.proofs.TypingLaws.Sizes.{few_nodes}
-use Rattle.odata_typing.proofs.TypingLaws.Untypable.{untypable_blocks}
+use Rattle.odata_typing.proofs.types.OneType.{Typed-one}
+use Rattle.odata_typing.proofs.types.Right.{IsChecked-typed}
+use Rattle.odata_typing.proofs.pre_orders.Sizes.{few_nodes}
+use Rattle.odata_typing.proofs.untypable.Untypable.{untypable_blocks}
 
 -- a text whose one tree has an untypable node has no typing
 pub untypable_refuses :

@@ -8,8 +8,8 @@ use Rattle.odata_eval.specs.Environment.{Environment, variable_value}
 use Rattle.odata_eval.specs.OperatorGives.{OperatorGives}
 use Rattle.odata_typing.specs.LiteralValue.{LiteralValue}
 use Rattle.odata_eval.specs.Means.{Means, ShapeMeans}
-use Rattle.odata_eval.proofs.MeansLaws.OneLeaf.{LiteralValue-one, FoundGives-one, OperatorGives-one}
-use Rattle.odata_eval.proofs.MeansLaws.OneStep.{AtMostOne, OneValue, GivesSome-one, After-one}
+use Rattle.odata_eval.proofs.meaning.OneLeaf.{LiteralValue-one, FoundGives-one, OperatorGives-one}
+use Rattle.odata_eval.proofs.meaning.OneStep.{AtMostOne, OneValue, GivesSome-one, After-one}
 
 module _ (values : OneValue) (slots : Slots) (root : List ℕ) (now : MomentParts) (entity : Val) (environment : Environment) where
   mutual

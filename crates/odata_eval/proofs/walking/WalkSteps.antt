@@ -30,13 +30,13 @@ use Rattle.odata_eval.specs.private.WalkAnswer.{HoldsAt, IsDecided, OperatorTabl
 use Rattle.odata_typing.specs.IsChecked.{IsChecked, IsCheckedProperty, tree_of_node, type_of_node}
 use Rattle.odata_typing.specs.Typed.{OperatorTyped, Typed}
 use Rattle.odata_typing.specs.TypeView.{expr_type}
-use Rattle.odata_eval.proofs.MeansLaws.CheckedTyped.{checked_typed}
-use Rattle.odata_eval.proofs.MeansLaws.OneMeaning.{Means-one}
-use Rattle.odata_eval.proofs.MeansLaws.OneStep.{OneValue}
-use Rattle.odata_eval.proofs.MeansLaws.OperatorSteps.{table_defined, table_related}
-use Rattle.odata_eval.proofs.MeansLaws.Progress.{tree_ends, Ends}
-use Rattle.odata_eval.proofs.MeansLaws.SlotValue.{slot_value}
-use Rattle.odata_eval.proofs.MeansLaws.Truths.{IsTruth, truth_of}
+use Rattle.odata_eval.proofs.walking.CheckedTyped.{checked_typed}
+use Rattle.odata_eval.proofs.meaning.OneMeaning.{Means-one}
+use Rattle.odata_eval.proofs.meaning.OneStep.{OneValue}
+use Rattle.odata_eval.proofs.walking.OperatorSteps.{table_defined, table_related}
+use Rattle.odata_eval.proofs.meaning.Progress.{tree_ends, Ends}
+use Rattle.odata_eval.proofs.walking.SlotValue.{slot_value}
+use Rattle.odata_eval.proofs.meaning.Truths.{IsTruth, truth_of}
 
 -- what is known of values that fit, beside that a text spells one of them
 pub record Laws : Type 0 where

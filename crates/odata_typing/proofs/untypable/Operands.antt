@@ -15,8 +15,8 @@ use Rattle.odata_typing.specs.FirstUntypable.{IsFirstUntypable}
 use Rattle.odata_typing.specs.IsChecked.{type_of_node}
 use Rattle.odata_typing.specs.Typed.{Typed, IsTyped, OperatorTyped}
 use Rattle.odata_typing.specs.TypeView.{expr_type}
-use Rattle.odata_typing.proofs.TypingLaws.Right.{IsChecked-typed}
-use Rattle.odata_typing.proofs.TypingLaws.Untypable.{first_of_left, first_of_right, first_of_both, first_itself}
+use Rattle.odata_typing.proofs.types.Right.{IsChecked-typed}
+use Rattle.odata_typing.proofs.untypable.Untypable.{first_of_left, first_of_right, first_of_both, first_itself}
 
 -- the tree of a right node has the node's type
 pub checked_typed :

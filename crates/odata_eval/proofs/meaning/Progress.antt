@@ -27,7 +27,7 @@ use Rattle.odata_eval.specs.Outcome.{Outcome, gives}
 use Rattle.odata_typing.specs.ExprTypes.{boolean_type, string_type, IsBooleanOrNull, AreComparable}
 use Rattle.odata_typing.specs.LiteralValue.{LiteralTyped, IntTyped}
 use Rattle.odata_typing.specs.Typed.{Typed, NameTyped, PropertyTyped, OperatorTyped, OperandsTyped, variable_type, property_named}
-use Rattle.odata_eval.proofs.MeansLaws.Truths.{truth_of, boolean_of_truth, text_of, whole_of, truth_of_boolean, and_truths, equal_truths, equal_wholes, equal_texts}
+use Rattle.odata_eval.proofs.meaning.Truths.{truth_of, boolean_of_truth, text_of, whole_of, truth_of_boolean, and_truths, equal_truths, equal_wholes, equal_texts}
 
 -- some value of the type is an outcome
 abbrev pub Ends : Slots → ExprType → (Outcome → Type 0) → Type 0

@@ -1,0 +1,3 @@
+-- Nodes by their number.
+pub mod PreOrders
+pub mod Sizes

@@ -1,0 +1,5 @@
+-- Which type a node has, and that it is one.
+pub mod Examples
+pub mod Literals
+pub mod OneType
+pub mod Right
