@@ -1,5 +1,5 @@
 -- The logical `and` of three values (OData URL Conventions 4.01, section 5.1.1.2.1).
-use Rattle.std.specs.Prelude.{◌≡◌, Bool, true, false}
+use Rattle.std.specs.Prelude.{◌≡◌, true, false}
 use Rattle.edm_values.specs.Val.{Val, null, boolean}
 use Rattle.odata_eval.specs.Outcome.{Outcome, gives}
 use Rattle.odata_eval.specs.LeftFirst.{After}

@@ -5,25 +5,34 @@ use crate::bad_row::BadRow;
 use edm_entities::RowFault;
 use line_filter::Stop;
 use odata_eval::EvalFault;
+use thiserror::Error;
 
 /// Why a run over rows ended early. Lines are counted from 1.
-#[derive(Debug, Drop)]
+#[derive(Debug, Drop, Error)]
 pub enum RunFault {
     /// The line is not UTF-8, or no JSON that `serde_json` reads.
+    #[error("row {line} Json")]
     Json { line: u64 },
     /// The line's value is no entity of the filtered type.
+    #[error("row {line} {fault}")]
     Row { line: u64, fault: RowFault },
     /// The filter has no value on the line's entity.
+    #[error("row {line} {fault}")]
     Arithmetic { line: u64, fault: EvalFault },
     /// The line has more than 1,048,576 bytes before its LF.
+    #[error("row {line} LineTooLong")]
     LineTooLong { line: u64 },
     /// The document is not an object with an array `value`.
+    #[error("row NotACollection")]
     NotACollection,
     /// A read failed in this line, so the line is the number of LFs read plus one.
+    #[error("read rows {line}")]
     Read { line: u64 },
     /// A write or the last flush failed.
+    #[error("write")]
     Write,
     /// Memory was refused in this line, or while it was read.
+    #[error("memory")]
     Memory { line: u64 },
 }
 

@@ -1,11 +1,11 @@
 -- The filter of the first run on its three items.
-use Rattle.std.proofs.Common.{◌≡◌, ℕ, ℤ, pos, List, [], ◌∷◌, ◌<◌, Bool, true, false, refl, sym, ap, nat_eq, subst, inl, inr, rules, arith, lit<}
+use Rattle.std.proofs.Common.{◌≡◌, ℕ, pos, List, [], true, false, refl, sym, ap, nat_eq, subst, inr, rules, lit<}
 use Rattle.std.proofs.lemmas.Int.{fits_signed_from_abs}
 use Rattle.std.specs.Prelude.{codes, FitsSigned}
 use Rattle.std.specs.Int.{w64}
 use Rattle.std.specs.Cmp.Lexicographic.{pointwise}
 use Rattle.std.specs.Str.Parse.{IsNumeral}
-use Rattle.edm_values.specs.IntLiteral.{IntValue, IntNumber}
+use Rattle.edm_values.specs.IntLiteral.{IntValue}
 use Rattle.edm_values.specs.MomentParts.{MomentParts}
 use Rattle.edm_values.specs.Val.{Val, boolean, whole, text}
 use Rattle.odata_syntax.specs.FirstRun.{first_run_tree}

@@ -1,20 +1,18 @@
 -- Each table gives at most one outcome.
-use Rattle.std.proofs.Common.{◌≡◌, refl, sym, ◌∙◌, ap, subst, ℕ, length, List, ◌∷◌, [], ◌++◌, Bool, true, false, IsTrue, Option, Some, None, arith, ◌↔◌}
-use Rattle.std.specs.Str.{str_eq_ignore_ascii_case, str_to_ascii_lowercase, bytes_eq}
+use Rattle.std.proofs.Common.{◌≡◌, refl, sym, ◌∙◌, ap, ℕ, length, List, Bool, true, false, IsTrue, Option, Some, None, arith}
+use Rattle.std.specs.Str.{str_to_ascii_lowercase}
 use Rattle.std.specs.Prelude.{codes}
 use Rattle.std.proofs.lemmas.Slice.Eq.{bytes_eq-Decides}
-use Rattle.edm_values.specs.Val.{Val, null, boolean, whole, text, date, moment, guid, member, fields, items, Held, absent, present}
+use Rattle.edm_values.specs.Val.{Val, null, boolean, whole, text, fields, Held, absent, present}
 use Rattle.odata_syntax.specs.declared.node.BinaryOperator.{BinaryOperator}
 use Rattle.odata_syntax.specs.declared.node.LiteralKind.{LiteralKind}
 use Rattle.odata_syntax.specs.declared.node.LiteralKind.TheVariants.{Bool as BoolLiteral, Int as IntLiteral, Str as StrLiteral}
 use Rattle.odata_eval.specs.AndGives.{BothGive, AndGives}
-use Rattle.odata_eval.specs.Environment.{Environment, variable_value}
 use Rattle.odata_eval.specs.EqualGives.{IsWhether, EqualGives}
-use Rattle.odata_eval.specs.LiteralGives.{LiteralGives}
-use Rattle.odata_typing.specs.LiteralValue.{LiteralValue, BooleanValue, truth_word}
-use Rattle.odata_eval.specs.NameGives.{NameGives, FoundGives, StepGives, HeldGives}
+use Rattle.odata_typing.specs.LiteralValue.{LiteralValue, BooleanValue}
+use Rattle.odata_eval.specs.NameGives.{FoundGives, StepGives, HeldGives}
 use Rattle.odata_eval.specs.OperatorGives.{OperatorGives}
-use Rattle.odata_eval.specs.Outcome.{Outcome, gives, overflow, divides_by_zero, GivesSome}
+use Rattle.odata_eval.specs.Outcome.{Outcome, gives}
 use Rattle.odata_eval.proofs.meaning.OneStep.{AtMostOne, OneValue, same_one, GivesSome-one, After-one}
 
 false-true : IsTrue false → ⊥

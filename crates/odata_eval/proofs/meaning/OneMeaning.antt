@@ -1,5 +1,5 @@
 -- A tree has at most one outcome.
-use Rattle.std.proofs.Common.{◌≡◌, ℕ, List}
+use Rattle.std.proofs.Common.{ℕ, List}
 use Rattle.edm_values.specs.Val.{Val}
 use Rattle.edm_values.specs.MomentParts.{MomentParts}
 use Rattle.odata_syntax.specs.Tree.{Tree, node, Shape, literal, name, binary}

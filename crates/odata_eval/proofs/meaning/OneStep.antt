@@ -1,5 +1,5 @@
 -- The combinators of outcomes leave at most one outcome.
-use Rattle.std.proofs.Common.{◌≡◌, refl, sym, ◌∙◌, ap, subst, ℕ, ℤ, List}
+use Rattle.std.proofs.Common.{◌≡◌, sym, ◌∙◌, ap, subst, ℕ, ℤ, List}
 use Rattle.edm_values.specs.IntLiteral.{IntValue}
 use Rattle.edm_values.specs.StringLiteral.{StringValue}
 use Rattle.edm_values.specs.Val.{Val}

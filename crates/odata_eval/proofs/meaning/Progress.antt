@@ -1,6 +1,6 @@
 -- A tree that has a type has an outcome, a value of that type.
-use Rattle.std.proofs.Common.{◌≡◌, refl, sym, subst, inl, inr, ◌⊎◌, ◌∙◌, ℕ, List, [], ◌∷◌, ℤ, Bool, true, false, Option, Some, None, cond, nat_eq}
-use Rattle.std.specs.Prelude.{map, find, MatchOption, IsSomeAnd, FitsSigned}
+use Rattle.std.proofs.Common.{◌≡◌, refl, sym, subst, inl, inr, ℕ, List, [], ◌∷◌, ℤ, Bool, true, false, Option, Some, None, cond, nat_eq}
+use Rattle.std.specs.Prelude.{find, MatchOption, IsSomeAnd, FitsSigned}
 use Rattle.std.specs.Int.{w64}
 use Rattle.std.specs.List.{AllByRecursion}
 use Rattle.std.specs.Option.{option_map}
@@ -9,25 +9,24 @@ use Rattle.std.proofs.lemmas.Slice.Eq.{bytes_eq-Decides}
 use Rattle.edm_values.specs.MomentParts.{MomentParts}
 use Rattle.edm_values.specs.IntLiteral.{IntValue}
 use Rattle.edm_values.specs.NumberTypes.{IsIntLiteralType}
-use Rattle.edm_values.specs.Val.{Val, null, boolean, whole, text, fields, items, Held, absent, present}
+use Rattle.edm_values.specs.Val.{Val, null, boolean, whole, text, fields, Held, absent, present}
 use Rattle.edm_values.specs.declared.primitive.PrimitiveType.{PrimitiveType}
-use Rattle.odata_syntax.specs.Tree.{Tree, node, Shape, literal, name, binary}
+use Rattle.odata_syntax.specs.Tree.{Tree, node, literal, name, binary}
 use Rattle.odata_syntax.specs.declared.node.LiteralKind.{LiteralKind}
 use Rattle.odata_syntax.specs.declared.node.BinaryOperator.{BinaryOperator}
 use Rattle.csdl_schema.specs.ExprType.{ExprType, single, primitive, structured}
 use Rattle.csdl_schema.specs.SchemaModel.{Slots, PropertyModel, PropertyType, declared}
 use Rattle.edm_entities.specs.HasType.{HasType, HasPropertyType}
-use Rattle.odata_eval.specs.AndGives.{AndGives}
 use Rattle.odata_eval.specs.Environment.{Environment, variable_value, scope_of, IsFitting}
 use Rattle.odata_eval.specs.EqualGives.{EqualGives}
 use Rattle.odata_eval.specs.LiteralGives.{LiteralGives}
 use Rattle.odata_eval.specs.Means.{Means}
-use Rattle.odata_eval.specs.NameGives.{NameGives, FoundGives, StepGives, HeldGives}
+use Rattle.odata_eval.specs.NameGives.{FoundGives, StepGives, HeldGives}
 use Rattle.odata_eval.specs.Outcome.{Outcome, gives}
-use Rattle.odata_typing.specs.ExprTypes.{boolean_type, string_type, IsBooleanOrNull, AreComparable}
+use Rattle.odata_typing.specs.ExprTypes.{boolean_type, string_type, AreComparable}
 use Rattle.odata_typing.specs.LiteralValue.{LiteralTyped, IntTyped}
-use Rattle.odata_typing.specs.Typed.{Typed, NameTyped, PropertyTyped, OperatorTyped, OperandsTyped, variable_type, property_named}
-use Rattle.odata_eval.proofs.meaning.Truths.{truth_of, boolean_of_truth, text_of, whole_of, truth_of_boolean, and_truths, equal_truths, equal_wholes, equal_texts}
+use Rattle.odata_typing.specs.Typed.{Typed, PropertyTyped, OperatorTyped, variable_type, property_named}
+use Rattle.odata_eval.proofs.meaning.Truths.{truth_of, boolean_of_truth, text_of, whole_of, and_truths, equal_truths, equal_wholes, equal_texts}
 
 -- some value of the type is an outcome
 abbrev pub Ends : Slots → ExprType → (Outcome → Type 0) → Type 0

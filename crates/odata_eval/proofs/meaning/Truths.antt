@@ -1,19 +1,19 @@
 -- The kinds of values that the operators' types let through, and what the tables give of them.
-use Rattle.std.proofs.Common.{◌≡◌, refl, sym, subst, inl, inr, ◌⊎◌, ℕ, List, ℤ, Bool, true, false, Option, Some, None}
+use Rattle.std.proofs.Common.{◌≡◌, refl, sym, subst, inl, inr, Bool, true, false}
 use Rattle.std.specs.Bool.{Decides}
 use Rattle.std.specs.Ordering.{int_eq}
 use Rattle.std.specs.Str.{bytes_eq}
 use Rattle.std.proofs.lemmas.Bool.Decides.{Decides-int_eq}
 use Rattle.std.proofs.lemmas.Slice.Eq.{bytes_eq-Decides}
-use Rattle.edm_values.specs.Val.{Val, null, boolean, whole, text, date, moment, guid, member, fields, items}
+use Rattle.edm_values.specs.Val.{Val, null, boolean, whole, text}
 use Rattle.edm_values.specs.declared.primitive.PrimitiveType.{PrimitiveType}
-use Rattle.csdl_schema.specs.ExprType.{ExprType, null_type, single, collection, SingleType, primitive, enumeration, structured}
+use Rattle.csdl_schema.specs.ExprType.{ExprType, null_type, single, primitive}
 use Rattle.csdl_schema.specs.SchemaModel.{Slots}
-use Rattle.edm_entities.specs.HasType.{HasType, IsPrimitiveValue}
-use Rattle.odata_eval.specs.AndGives.{AndGives, BothGive}
-use Rattle.odata_eval.specs.EqualGives.{EqualGives, IsWhether}
+use Rattle.edm_entities.specs.HasType.{HasType}
+use Rattle.odata_eval.specs.AndGives.{AndGives}
+use Rattle.odata_eval.specs.EqualGives.{EqualGives}
 use Rattle.odata_eval.specs.Outcome.{Outcome, gives}
-use Rattle.odata_typing.specs.ExprTypes.{boolean_type, string_type, IsNumber, IsBooleanOrNull, AreComparable}
+use Rattle.odata_typing.specs.ExprTypes.{boolean_type, string_type, IsNumber, IsBooleanOrNull}
 
 -- a truth value or null
 abbrev pub IsTruth : Val → Type 0

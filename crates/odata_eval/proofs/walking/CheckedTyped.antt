@@ -1,11 +1,11 @@
 -- The tree of a checked node has the node's type.
-use Rattle.std.proofs.Common.{◌≡◌, ℕ, List, sym, subst, Option, None}
+use Rattle.std.proofs.Common.{◌≡◌, ℕ, sym, subst, Option}
 use Rattle.std.specs.Prelude.{MatchOption, string_bytes}
 use Rattle.csdl_schema.specs.ExprType.{ExprType}
 use Rattle.csdl_schema.specs.SchemaModel.{SchemaModel, slots_of, type_name_at}
 use Rattle.odata_typing.specs.declared.checked_node.CheckedNode.{CheckedNode, Lit, Property, Binary'}
 use Rattle.odata_typing.specs.IsChecked.{IsChecked, tree_of_node, type_of_node}
-use Rattle.odata_typing.specs.Typed.{Scope, Typed, PropertyTyped, variable_type}
+use Rattle.odata_typing.specs.Typed.{Scope, Typed, PropertyTyped}
 use Rattle.odata_typing.specs.TypeView.{expr_type}
 
 pub checked_typed : (schema : SchemaModel) (n : ℕ) (scope : Scope) (node : CheckedNode) → IsChecked schema n scope node

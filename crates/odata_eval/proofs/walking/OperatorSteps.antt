@@ -3,7 +3,7 @@ use Rattle.std.proofs.Common.{◌≡◌, ℕ, List, Bool, true, false, Option, S
 use Rattle.std.specs.Prelude.{IsSomeAnd}
 use Rattle.std.specs.Option.{option_map}
 use Rattle.edm_values.specs.MomentParts.{MomentParts}
-use Rattle.edm_values.specs.Val.{Val, null, boolean, whole, text, date, moment, guid, member, fields, items}
+use Rattle.edm_values.specs.Val.{Val, null, boolean}
 use Rattle.odata_syntax.specs.Tree.{Tree, node, binary}
 use Rattle.odata_syntax.specs.declared.node.BinaryOperator.{BinaryOperator}
 use Rattle.odata_syntax.specs.declared.node.BinaryOperator.TheVariants.{And, Eq}
@@ -11,7 +11,6 @@ use Rattle.csdl_schema.specs.SchemaModel.{Slots}
 use Rattle.odata_eval.specs.AndGives.{AndGives, BothGive}
 use Rattle.odata_eval.specs.private.DatumView.{AtBoth, truth_val}
 use Rattle.odata_eval.specs.Environment.{Environment}
-use Rattle.odata_eval.specs.EqualGives.{EqualGives}
 use Rattle.odata_eval.specs.LeftFirst.{Then, After}
 use Rattle.odata_eval.specs.Means.{Means}
 use Rattle.odata_eval.specs.OperatorGives.{OperatorGives}

@@ -1,7 +1,7 @@
 -- The value in a property's slot is the entity's value of the property's name.
-use Rattle.std.proofs.Common.{◌≡◌, ◌∙◌, ℕ, suc, ◌+◌, List, [], ◌∷◌, true, false, cond, not, map, Option, Some, None, slice_get, refl, rules, sym, ap, subst, nat_eq, one-add}
+use Rattle.std.proofs.Common.{◌≡◌, ◌∙◌, ℕ, ◌+◌, List, [], ◌∷◌, true, false, cond, not, map, Option, Some, None, slice_get, refl, rules, sym, ap, subst, nat_eq, one-add}
 use Rattle.std.specs.Prelude.{IsSomeAnd, Vec, position, Bool as Truth}
-use Rattle.std.specs.List.{AllByRecursion, prefix_len, position_or_len}
+use Rattle.std.specs.List.{position_or_len}
 use Rattle.std.specs.declared.alloc.Global.{Global}
 use Rattle.std.specs.Cmp.Lexicographic.{pointwise}
 use Rattle.std.proofs.lemmas.Bool.Decides.{same_from_decides, Decides-like}
@@ -9,15 +9,15 @@ use Rattle.std.proofs.lemmas.Slice.Eq.{bytes_eq-Decides}
 use Rattle.serde_json.specs.Data.{Data}
 use Rattle.serde_json.specs.Find.{get}
 use Rattle.edm_values.specs.PlainVal.{plain_val}
-use Rattle.edm_values.specs.Val.{Val, null, boolean, whole, text, fields, Held, absent, present}
+use Rattle.edm_values.specs.Val.{Val, null, boolean, whole, text, fields, Held, present}
 use Rattle.edm_values.specs.declared.primitive.PrimitiveType.{PrimitiveType}
 use Rattle.edm_values.specs.declared.value.Value.{Value, Record, Null, Bool, Int, Text, Date, Moment, Guid, Enum, Record', List', the_lemmas}
-use Rattle.csdl_schema.specs.ExprType.{ExprType, null_type, single, collection, primitive, enumeration, structured}
-use Rattle.csdl_schema.specs.SchemaModel.{Slots, PropertyModel, PropertyType, declared, opaque, navigation, slot_named, slots_of, type_name_at}
-use Rattle.edm_entities.specs.Fits.{Fits, FitsProperty, FitsType, FitsPrimitive}
-use Rattle.edm_entities.specs.Row.{Row, Seen, seen_step, val_of, value_of, held_of, held_by_name, record_of, IsEntity}
+use Rattle.csdl_schema.specs.ExprType.{ExprType, single, primitive, structured}
+use Rattle.csdl_schema.specs.SchemaModel.{Slots, PropertyModel, declared, slot_named, slots_of, type_name_at}
+use Rattle.edm_entities.specs.Fits.{Fits, FitsProperty, FitsPrimitive}
+use Rattle.edm_entities.specs.Row.{Row, val_of, value_of, held_of, held_by_name, record_of, IsEntity}
 use Rattle.odata_eval.specs.NameGives.{StepGives, HeldGives}
-use Rattle.odata_eval.specs.Outcome.{Outcome, gives}
+use Rattle.odata_eval.specs.Outcome.{gives}
 use Rattle.odata_eval.specs.private.WalkAnswer.{HoldsAt}
 use Rattle.odata_typing.specs.Typed.{PropertyTyped, property_named}
 use Rattle.odata_eval.proofs.meaning.Progress.{found_property}

@@ -1,5 +1,5 @@
 -- For private clauses: what the evaluator's values stand for that hold no other value.
-use Rattle.std.specs.Prelude.{◌≡◌, Bool, Option, Some, None}
+use Rattle.std.specs.Prelude.{Bool, Option, Some, None}
 use Rattle.std.specs.Cow.{cow_str_bytes}
 use Rattle.edm_values.specs.Val.{Val, null, boolean, whole, text, date, moment, guid, member}
 use Rattle.edm_values.specs.declared.datum.Datum.{Datum}

@@ -1,5 +1,5 @@
 -- For private clauses: what the walk of a checked tree answers, and what it finds in an entity's slots.
-use Rattle.std.specs.Prelude.{◌≡◌, ℕ, Bool, true, false, Option, Some, Result, Ok, Err, IsSomeAnd, slice_get, Vec}
+use Rattle.std.specs.Prelude.{◌≡◌, ℕ, false, Option, Some, Result, Ok, Err, IsSomeAnd, slice_get, Vec}
 use Rattle.std.specs.Option.{option_map}
 use Rattle.std.specs.declared.alloc.Global.{Global}
 use Rattle.edm_values.specs.declared.datum.Datum.{Datum}
@@ -7,7 +7,7 @@ use Rattle.edm_values.specs.declared.value.Value.{Value, Record}
 use Rattle.edm_values.specs.MomentParts.{MomentParts}
 use Rattle.edm_values.specs.Val.{Val, boolean}
 use Rattle.odata_syntax.specs.declared.node.BinaryOperator.{BinaryOperator}
-use Rattle.odata_syntax.specs.declared.node.BinaryOperator.TheVariants.{And, Eq}
+use Rattle.odata_syntax.specs.declared.node.BinaryOperator.TheVariants.{And}
 use Rattle.odata_eval.specs.OperatorGives.{OperatorGives}
 use Rattle.odata_eval.specs.declared.fault.EvalFault.{EvalFault}
 use Rattle.odata_typing.specs.declared.checked_node.CheckedNode.{CheckedNode}

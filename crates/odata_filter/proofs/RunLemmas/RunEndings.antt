@@ -5,7 +5,6 @@ use Rattle.std.specs.Prelude.{IfOk, IfErr, IsSomeAnd}
 use Rattle.std.specs.Io.KnownBytes.{Keeps}
 use Rattle.std.proofs.KnownBytes.{Keeps-trans, Appends-kept}
 use Rattle.edm_values.specs.MomentParts.{MomentParts}
-use Rattle.odata_text.specs.Query as query_model
 use Rattle.odata_text.specs.Query.{IsQueryFault}
 use Rattle.odata_text.specs.declared.query_fault.QueryFault.{QueryFault}
 use Rattle.odata_text.specs.declared.query_fault.QueryFault.TheVariants as query

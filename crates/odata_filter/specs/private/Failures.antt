@@ -1,11 +1,11 @@
 -- The failures of a run. Private clauses alone cite these.
-use Rattle.std.specs.Prelude.{ℕ, List, Option, Result, Ok, Err}
+use Rattle.std.specs.Prelude.{ℕ, List, Result, Ok, Err}
 use Rattle.line_filter.specs.Kept.{Items}
 use Rattle.odata_filter.specs.declared.bad_row.BadRow.{BadRow}
 use Rattle.odata_text.specs.declared.query_fault.QueryFault.{QueryFault}
 use Rattle.odata_text.specs.declared.query_fault.QueryFault.TheVariants as query
 use Rattle.odata_filter.specs.RunStops.{StopsBy}
-use Rattle.odata_filter.specs.Run.{Streams, WroteNothing, OverRows, OfRows, Status, StatusSays, done, refused, misused, without_type, at_fault, unread, without_memory}
+use Rattle.odata_filter.specs.Run.{Streams, WroteNothing, OverRows, Status, StatusSays, done, refused, misused, without_type, at_fault, unread, without_memory}
 use Rattle.csdl_schema.specs.declared.fault.SchemaFault.{SchemaFault}
 use Rattle.csdl_schema.specs.declared.fault.SchemaFault.TheVariants as schema
 use Rattle.odata_filter.specs.declared.command.command_line.Plan.{Plan}

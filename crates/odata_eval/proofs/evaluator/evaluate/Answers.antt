@@ -1,12 +1,7 @@
-use Rattle.std.proofs.Common.{Some, sym, ap, subst, ◌∙◌}
-use Rattle.edm_values.specs.Val.{Val}
 use Rattle.odata_eval.specs.private.DatumView.{plain_datum}
-use Rattle.odata_eval.specs.MeansOn.{MeansOn, IsTheOutcome}
-use Rattle.odata_eval.specs.Outcome.{gives}
 use Rattle.odata_eval.specs.VerdictView.{fault_outcome}
 use Rattle.odata_typing.specs.Filter.{tree_of_filter}
 use Rattle.odata_eval.proofs.walking.TopNode.{top_truth, the_outcome, told_the_outcome}
-use Rattle.odata_eval.proofs.walking.WalkSteps.{Laws}
 use Rattle.odata_eval.proofs.evaluator.evaluate.Goals as goal
 
 pub truth_of-requires : goal.truth_of-requires
