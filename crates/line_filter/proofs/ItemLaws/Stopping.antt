@@ -1,5 +1,5 @@
 -- Where a run over items stops.
-use Rattle.std.proofs.Common.{◌≡◌, ℕ, ◌+◌, List, [], ◌∷◌, ◌++◌, length, refl, sym, ap, ◌∙◌, subst, append_assoc, Result, Ok, Err}
+use Rattle.std.proofs.Common.{◌≡◌, ℕ, ◌+◌, List, [], ◌∷◌, ◌++◌, length, refl, ap, ◌∙◌, subst, append_assoc, Result, Ok, Err}
 use Rattle.std.specs.Prelude.{IfOk}
 use Rattle.line_filter.specs.Kept.{Sieve, Items, Passes, StopsAt, StopsBefore, StopsWithin, Stops}
 use Rattle.line_filter.specs.private.Walk.{step_of, text_where_kept, IsOfItem}

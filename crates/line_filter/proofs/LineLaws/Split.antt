@@ -2,7 +2,7 @@
 use Rattle.std.proofs.Common.{◌≡◌, ◌≢◌, ◌==◌, ℕ, zero, suc, ◌+◌, ◌-◌, ◌<◌, ◌≤◌, All, length-drop, List, [], ◌∷◌, ◌++◌, length, take, drop, slice_index, true, false, inl, inr, ◌⊎◌, refl, sym, ap, ◌∙◌, arith, add-one, append_assoc, append-nil}
 use Rattle.std.proofs.lemmas.List.{get_or_default, get_or-drop}
 use Rattle.std.proofs.lemmas.Bool.{cases_Bool, eqb-true}
-use Rattle.line_filter.specs.Lines.{lines_of, with_first, text_of_line, text_of_lines}
+use Rattle.line_filter.specs.Lines.{lines_of, with_first, text_of_lines}
 use Rattle.line_filter.specs.private.Walk.{IsOfWholeLines}
 
 -- no byte below the place is an LF

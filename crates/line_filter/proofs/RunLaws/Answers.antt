@@ -4,7 +4,7 @@ use Rattle.std.specs.Prelude.{IfOk, IfErr, IfSome, MatchOption, MatchResult}
 use Rattle.std.specs.Io.KnownBytes.{Consumes, IsAtEnd, Keeps}
 use Rattle.std.proofs.KnownBytes.{Appends-kept}
 use Rattle.line_filter.specs.Growth.{Writes}
-use Rattle.line_filter.specs.Kept.{Filters, Passes, StopsBefore, StopsWithin, Stops}
+use Rattle.line_filter.specs.Kept.{Filters, StopsBefore, StopsWithin, Stops}
 use Rattle.line_filter.specs.LineItems.{LineJudge, line_sieve, lines}
 use Rattle.line_filter.specs.Lines.{lines_of, text_of_lines}
 use Rattle.line_filter.specs.private.HeldBack.{WritesFront, WritesBut}

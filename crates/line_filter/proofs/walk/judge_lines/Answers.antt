@@ -1,5 +1,4 @@
 use Rattle.std.proofs.Common.{◌≤◌, ◌+◌, length, arith, sym, ◌∙◌}
-use Rattle.line_filter.proofs.ItemLaws.Stopping.{step_of-of_item}
 use Rattle.line_filter.proofs.LineLaws.Found.{SaysTheSame-refl, SaysTheSame-trans, found-same}
 use Rattle.line_filter.proofs.LineLaws.Walked.{HasPassed-none, HasPassed-more, HasPassed-failed, HasPassed-stopped}
 use Rattle.line_filter.proofs.WriteLaws.HeldBack.{OnErr-from}
