@@ -1,4 +1,4 @@
-ghost use Rattle.std.specs.Prelude.{◌≡◌, ◌<◌, [], List, length, slice_get, option_map, IfOk, IfErr, IfSome};
+ghost use Rattle.std.specs.Prelude.{◌<◌, [], length, slice_get, option_map, IfOk, IfErr, IfSome};
 ghost use Rattle.serde_json.specs.Data.{object as json_object};
 ghost use Rattle.serde_json.specs.View.{view, members_view};
 ghost use Rattle.csdl_schema.specs.PropertyView.{type_of_kind};
