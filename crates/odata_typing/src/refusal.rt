@@ -3,32 +3,48 @@ use odata_text::{Span, TextFault};
 use thiserror::Error;
 
 /// Why a node has no type. It is shown by its name.
+///
+/// Calls, lambda operators and enumeration literals are still to come, and with them `UnknownFunction`, `ArgumentCount`,
+/// `ArgumentType`, `NotCollection`, `VariableTaken`, `BodyNotBoolean` and `UnknownEnum`.
 #[derive(Clone, Copy, Debug, PartialEq, Eq, Error)]
 pub enum TypeFaultCode {
+    /// A name that is no property of its type.
     #[error("UnknownProperty")]
     UnknownProperty,
+    /// A call of no known function.
     #[error("UnknownFunction")]
     UnknownFunction,
+    /// A call with a number of arguments that its function does not take.
     #[error("ArgumentCount")]
     ArgumentCount,
+    /// An argument of a type that its function does not take.
     #[error("ArgumentType")]
     ArgumentType,
+    /// Operands of types that their operator does not take.
     #[error("OperandTypes")]
     OperandTypes,
+    /// No collection, where one is asked for.
     #[error("NotCollection")]
     NotCollection,
+    /// A lambda operator whose variable is in scope already.
     #[error("VariableTaken")]
     VariableTaken,
+    /// A lambda operator whose body is neither Boolean nor null.
     #[error("BodyNotBoolean")]
     BodyNotBoolean,
+    /// A literal without a value, as a number beyond `Edm.Int64`.
     #[error("LiteralRange")]
     LiteralRange,
+    /// An enumeration literal without a value.
     #[error("UnknownEnum")]
     UnknownEnum,
+    /// A property of a type that this profile leaves out.
     #[error("TypeLeftOut")]
     TypeLeftOut,
+    /// A whole filter that is neither Boolean nor null.
     #[error("NotBoolean")]
     NotBoolean,
+    /// A navigation property.
     #[error("Navigation")]
     Navigation,
 }
