@@ -13,7 +13,7 @@ use Rattle.odata_text.specs.private.Patterns.{Fits, passes}
 use Rattle.odata_text.specs.Sequence.{FollowedBy}
 use Rattle.odata_text.specs.declared.byte_test.ByteTest.TheVariants.{Dot, ExponentMark}
 use Rattle.odata_text.proofs.spellings.Patterns.{fits-exact, fits-nonempty, marked-from_pair, pair-from_marked}
-use Rattle.odata_text.proofs.spellings.Reaches.{digits-reach}
+use Rattle.odata_text.proofs.spellings.Reaches.{numeral-none}
 use Rattle.odata_text.proofs.spellings.Sequences.{ArePieces, exact-by_byte}
 
 -- A mark, and digits or a whole number.
@@ -61,13 +61,6 @@ exponent-from_pair xs pair =
   where
     is_power : (b : ℕ) → passes ExponentMark b ≡ true → (b ≡ 101) ⊎ (b ≡ 69)
     is_power b e = grind (arith, nat_tests)
-
--- a run of digits is the longest numeral
-pub numeral-run : (rest : List ℕ) (n : ℕ) → n ≡ prefix_len is_ascii_digit rest → IsReach (IsNumeral 10) n rest
-numeral-run rest n run = subst (λ (k : ℕ). IsReach (IsNumeral 10) k rest) (sym run) (digits-reach rest)
-
-numeral-none : IsNumeral 10 [] → ⊥
-numeral-none numeral = let some = numeral.0 in absurd (omega arith)
 
 -- Which bytes each part has.
 

@@ -1,5 +1,5 @@
 -- What the functions that measure pieces answer.
-use Rattle.std.specs.Prelude.{ℕ, ◌+◌, ◌<◌, ◌≤◌, ◌==◌, ◌||◌, slice_index, if◌then◌else◌, List, length, take, fold}
+use Rattle.std.specs.Prelude.{ℕ, ◌+◌, ◌<◌, ◌≤◌, ◌==◌, ◌||◌, if◌then◌else◌, List, length, take, fold}
 use Rattle.odata_text.specs.declared.quoted.Quoted.{Quoted}
 use Rattle.odata_text.specs.declared.quoted.Quoted.TheVariants.{Before, Open, Closed, Over}
 
@@ -12,10 +12,6 @@ pub record IsReach (IsSpelling : List ℕ → Type 0) (n : ℕ) (rest : List ℕ
 -- the length of two pieces one behind the other, 0 if either is missing
 abbrev pub both_length : ℕ → ℕ → ℕ
 both_length first second = (if (first == 0) || (second == 0) then 0 else first + second)
-
--- how many bytes the sign at the front takes
-abbrev pub sign_length : List ℕ → ℕ
-sign_length rest = (if (slice_index rest 0 == 43) || (slice_index rest 0 == 45) then 1 else 0)
 
 -- how far a quoted text has come with one byte more
 abbrev pub quoted_after : Quoted → ℕ → Quoted

@@ -4,7 +4,8 @@ use Rattle.std.proofs.lemmas.List.{take_rest}
 use Rattle.odata_text.specs.LeftOut.{IsFraction}
 use Rattle.odata_text.specs.private.Patterns.{Fits}
 use Rattle.odata_text.specs.declared.byte_test.ByteTest.TheVariants.{Dot}
-use Rattle.odata_text.proofs.spellings.Decimals.{FractionPair, dot_digits, fraction-from_pair, fraction-pair, numeral-run}
+use Rattle.odata_text.proofs.spellings.Decimals.{FractionPair, dot_digits, fraction-from_pair, fraction-pair}
+use Rattle.odata_text.proofs.spellings.Reaches.{numeral-run}
 use Rattle.odata_text.proofs.spellings.Sequences.{followed, reach-as}
 use Rattle.odata_text.proofs.decimal.fraction_length.Goals as goal
 

@@ -4,21 +4,15 @@ use Rattle.std.proofs.lemmas.Iterator.Consumers.{YieldsList-end, YieldsList-so_f
 use Rattle.odata_text.proofs.characters.Identifiers.{next-in, run-boundary, run-room, run-more, run-stops, run-whole, run-end}
 use Rattle.odata_text.proofs.identifier.identifier_run.Goals as goal
 
-pub returns-then-not-continues_identifier-clause-value :
-    goal.returns-then-not-continues_identifier-clause-value
-returns-then-not-continues_identifier-clause-value c =
+pub returns-then-not-continues_identifier : goal.returns-then-not-continues_identifier
+returns-then-not-continues_identifier c =
     let road = YieldsList-from_chars c.args.rest.now c.utf8.rest cc in
     let turn = YieldsList-turn road c.loop-character.yielded c.loop-character.character-iterator c.loop-character.yielded_by _ _ c.in-Some.character c.in-Some.is c.next.ensures.steps in
     let next = next-in c.args.rest.now c.loop-character.yielded c.in-Some.character (YieldsList-so_far road c.loop-character.yielded c.loop-character.character-iterator c.loop-character.yielded_by) turn.0 turn.1 in
-    run-stops c.args.rest.now c.loop-character.yielded c.loop-character.length c.in-Some.character (sym c.continues_identifier.ensures ∙ c.if-not-continues_identifier.true) c.loop-character.invariant next
-
-pub returns-then-not-continues_identifier-clause-boundary :
-    goal.returns-then-not-continues_identifier-clause-boundary
-returns-then-not-continues_identifier-clause-boundary c =
-    let road = YieldsList-from_chars c.args.rest.now c.utf8.rest cc in
-    let turn = YieldsList-turn road c.loop-character.yielded c.loop-character.character-iterator c.loop-character.yielded_by _ _ c.in-Some.character c.in-Some.is c.next.ensures.steps in
-    let next = next-in c.args.rest.now c.loop-character.yielded c.in-Some.character (YieldsList-so_far road c.loop-character.yielded c.loop-character.character-iterator c.loop-character.yielded_by) turn.0 turn.1 in
-    run-boundary c.args.rest.now c.loop-character.yielded c.loop-character.length c.in-Some.character c.utf8.rest c.loop-character.invariant next
+    record {
+      value = run-stops c.args.rest.now c.loop-character.yielded c.loop-character.length c.in-Some.character (sym c.continues_identifier.ensures ∙ c.if-not-continues_identifier.true) c.loop-character.invariant next;
+      boundary = run-boundary c.args.rest.now c.loop-character.yielded c.loop-character.length c.in-Some.character c.utf8.rest c.loop-character.invariant next;
+    }
 
 pub overflow_add-length : goal.overflow_add-length
 overflow_add-length c =
@@ -34,12 +28,10 @@ loop-character-preserved c =
     rw c.len_utf8-length.ensures.value
     (run-more c.loop-character.yielded c.loop-character.length c.in-Some.character (sym c.continues_identifier.ensures ∙ c.if-not-continues_identifier.false) c.loop-character.invariant)
 
-pub returns-clause-value : goal.returns-clause-value
-returns-clause-value c =
+pub returns : goal.returns
+returns c =
     let end = YieldsList-end (YieldsList-from_chars c.args.rest.now c.utf8.rest cc) c.loop-character.yielded _ c.loop-character.yielded_by _ _ c.in-None.is c.next.ensures.steps in
-    run-whole c.args.rest.now c.loop-character.yielded c.loop-character.length c.loop-character.invariant (sym (map-id c.loop-character.yielded) ∙ end.0)
-
-pub returns-clause-boundary : goal.returns-clause-boundary
-returns-clause-boundary c =
-    let end = YieldsList-end (YieldsList-from_chars c.args.rest.now c.utf8.rest cc) c.loop-character.yielded _ c.loop-character.yielded_by _ _ c.in-None.is c.next.ensures.steps in
-    run-end c.args.rest.now c.loop-character.yielded c.loop-character.length c.utf8.rest c.loop-character.invariant (sym (map-id c.loop-character.yielded) ∙ end.0)
+    record {
+      value = run-whole c.args.rest.now c.loop-character.yielded c.loop-character.length c.loop-character.invariant (sym (map-id c.loop-character.yielded) ∙ end.0);
+      boundary = run-end c.args.rest.now c.loop-character.yielded c.loop-character.length c.utf8.rest c.loop-character.invariant (sym (map-id c.loop-character.yielded) ∙ end.0);
+    }

@@ -1,11 +1,18 @@
-use Rattle.std.proofs.Common.{◌<◌, arith}
-use Rattle.odata_text.proofs.spellings.Reaches.{IsReach-int, IsReach-none}
+use Rattle.std.proofs.Common.{[], ◌∷◌}
+use Rattle.std.specs.Str.Parse.{IsNumeral}
+use Rattle.std.proofs.lemmas.List.{take_rest}
+use Rattle.edm_values.specs.IntLiteral.{IsIntSpelling}
+use Rattle.odata_text.specs.private.Patterns.{Fits}
+use Rattle.odata_text.specs.declared.byte_test.ByteTest.TheVariants.{Sign}
+use Rattle.odata_text.proofs.spellings.Fronts.{reach-either}
+use Rattle.odata_text.proofs.spellings.Reaches.{IntParts, SignedPair, int-from_parts, numeral-run, parts-from_int, sign_digits}
+use Rattle.odata_text.proofs.spellings.Sequences.{followed, reach-as}
 use Rattle.odata_text.proofs.number.int_length.Goals as goal
 
-pub returns-in-0 : goal.returns-in-0
-returns-in-0 c = IsReach-none _ _ _ c.sign_length-sign.ensures.value c.digit_run.ensures.value c.in-0.is
-
-pub returns-in_default : goal.returns-in_default
-returns-in_default c =
-    let some : 0 < c.digit_run.result = omega arith in
-    IsReach-int _ _ _ c.sign_length-sign.ensures.value c.sign_length-sign.ensures.within c.digit_run.ensures.value some
+pub returns : goal.returns
+returns c =
+    let signed' =
+    followed (Fits (Sign ∷ [])) (IsNumeral 10) sign_digits c.args.rest.now _ _ _ _ (take_rest c.args.rest.now c.pattern_length-sign.result)
+    c.pattern_length-sign.ensures (numeral-run _ _ c.digit_run-behind.ensures.value) c.both_length-signed.ensures in
+    reach-as IntParts IsIntSpelling c.longer.result c.args.rest.now int-from_parts parts-from_int
+    (reach-either (IsNumeral 10) SignedPair c.args.rest.now _ _ _ (numeral-run _ _ c.digit_run-plain.ensures.value) signed' c.longer.ensures)
