@@ -203,9 +203,9 @@ level TwoHyphens = 3
 level Hexes = 4
 level _ = 0
 
-abbrev raised : ℕ → ByteTest → ℕ
-raised n Hyphen = min 4 (n + 1)
-raised n _ = n
+abbrev level_after : ℕ → ByteTest → ℕ
+level_after n Hyphen = min 4 (n + 1)
+level_after n _ = n
 
 abbrev is_guid_test : ByteTest → Bool
 is_guid_test HexDigit = true
@@ -228,7 +228,7 @@ level-hyphen : (q : State) → 0 < level q → min 4 (level q + 1) ≤ level (en
 level-hyphen Start some = absurd (omega arith)
 level-hyphen _ some = omega arith
 
-level-step : (test : ByteTest) (b n : ℕ) (q : State) → is_guid_test test ≡ true → passes test b ≡ true → 0 < n → n ≤ level q → raised n test ≤ level (step q b)
+level-step : (test : ByteTest) (b n : ℕ) (q : State) → is_guid_test test ≡ true → passes test b ≡ true → 0 < n → n ≤ level q → level_after n test ≤ level (step q b)
 level-step HexDigit b n q known passed some below =
     let digit = level-digit q in
     let e = level-e q in
@@ -241,15 +241,15 @@ level-step Hyphen b n q known passed some below =
 level-step _ b n q known passed some below = absurd (false≢true known)
 
 level-fits : (tests : List ByteTest) (xs : List ℕ) (n : ℕ) (q : State) → list_all is_guid_test tests ≡ true → Fits tests xs → 0 < n → n ≤ level q
-    → fold raised n tests ≤ level (fold step q xs)
+    → fold level_after n tests ≤ level (fold step q xs)
 level-fits [] [] n q known fits some below = below
 level-fits [] (b ∷ bs) n q known fits some below = absurd fits
 level-fits (test ∷ tests) [] n q known fits some below = absurd fits
 level-fits (test ∷ tests) (b ∷ bs) n q known fits some below =
     let parts = and_parts (is_guid_test test) (list_all is_guid_test tests) known in
-    level-fits tests bs (raised n test) (step q b) parts.1 fits.1 (more test n some) (level-step test b n q parts.0 fits.0 some below)
+    level-fits tests bs (level_after n test) (step q b) parts.1 fits.1 (more test n some) (level-step test b n q parts.0 fits.0 some below)
   where
-    more : (t : ByteTest) (k : ℕ) → 0 < k → 0 < raised k t
+    more : (t : ByteTest) (k : ℕ) → 0 < k → 0 < level_after k t
     more Hyphen k some = omega arith
     more _ k some = some
 

@@ -12,16 +12,16 @@ use Rattle.odata_text.specs.declared.query_fault.QueryFault.TheVariants.{BadEsca
 
 -- Lists.
 
--- one that passes is counted
-pub counted : {X : Type 0} (p : X → Bool) (xs : List X) (i : ℕ) (d : X) → i < length xs → p (get_or xs i d) ≡ true → 0 < count_by p xs
-counted p xs i d inside passes =
+-- one that passes is count-some
+pub count-some : {X : Type 0} (p : X → Bool) (xs : List X) (i : ℕ) (d : X) → i < length xs → p (get_or xs i d) ≡ true → 0 < count_by p xs
+count-some p xs i d inside passes =
     let least : cond {A = ℕ} (p (get_or xs i d)) 1 0 ≤ count_by p xs = get_or-le-sum_by (λ x. cond (p x) 1 0) xs i d inside in
     let one : cond {A = ℕ} (p (get_or xs i d)) 1 0 ≡ 1 = cond-true (p (get_or xs i d)) 1 0 passes in
     omega arith
 
 -- where at most one passes, none passes before one that does
-pub alone : {X : Type 0} (p : X → Bool) (xs : List X) (j : ℕ) (d : X) → count_by p xs ≤ 1 → j < length xs → p (get_or xs j d) ≡ true → count_by p (take j xs) ≡ 0
-alone p xs j d few inside passes =
+pub count-none_before : {X : Type 0} (p : X → Bool) (xs : List X) (j : ℕ) (d : X) → count_by p xs ≤ 1 → j < length xs → p (get_or xs j d) ≡ true → count_by p (take j xs) ≡ 0
+count-none_before p xs j d few inside passes =
     let sum : count_by p (take j xs) + cond {A = ℕ} (p (get_or xs j d)) 1 0 ≤ count_by p xs = sum_by_more_le (λ x. cond (p x) 1 0) xs j d inside in
     let one : cond {A = ℕ} (p (get_or xs j d)) 1 0 ≡ 1 = cond-true (p (get_or xs j d)) 1 0 passes in
     omega arith
@@ -29,8 +29,8 @@ alone p xs j d few inside passes =
 none-before : {X : Type 0} (p : X → Bool) (xs : List X) (i j : ℕ) (d : X) → count_by p xs ≤ 1 → i < j → j < length xs → p (get_or xs i d) ≡ true → p (get_or xs j d) ≡ true → ⊥
 none-before p xs i j d few order inside passes_i passes_j =
     let size = length-take-le j xs (omega arith) in
-    let first = counted p (take j xs) i d (omega arith) (ap p (get_or-take j xs i d order) ∙ passes_i) in
-    let none = alone p xs j d few inside passes_j in
+    let first = count-some p (take j xs) i d (omega arith) (ap p (get_or-take j xs i d order) ∙ passes_i) in
+    let none = count-none_before p xs j d few inside passes_j in
     omega arith
 
 -- Names and values.
@@ -104,7 +104,7 @@ faultless-read options n m start fault order inside faultless faulty =
     let same : get_or part n [] ≡ get_or options n [] = get_or-take m options n [] order in
     let read = subst IsReadable same (faultless.readable n [] (omega arith)) in
     let second = option-fault-read (get_or options n []) n start (count_by is_filter (take n options)) fault read faulty in
-    let none = alone is_filter part n [] faultless.single (omega arith) (ap is_filter same ∙ second.0) in
+    let none = count-none_before is_filter part n [] faultless.single (omega arith) (ap is_filter same ∙ second.0) in
     let front : count_by is_filter (take n part) ≡ count_by is_filter (take n options) = ap (count_by is_filter) (take-take n m options (omega arith)) in
     let some = second.1 in
     omega arith
@@ -138,7 +138,7 @@ abbrev IsTextOf : List ℕ → List ℕ → Type 0
 IsTextOf text option = (is_filter option ≡ true) × (percent_decode (value_of option) ≡ text)
 
 pub filter-counted : (options : List (List ℕ)) (text : List ℕ) → HasFilter options (Some text) → 0 < count_by is_filter options
-filter-counted options text (k, option, inside, is, says) = counted is_filter options k option inside (ap is_filter is ∙ says.0)
+filter-counted options text (k, option, inside, is, says) = count-some is_filter options k option inside (ap is_filter is ∙ says.0)
 
 same-text : (options : List (List ℕ)) (i j : ℕ) (a b : List ℕ) (one other : List ℕ) → count_by is_filter options ≤ 1 → i < length options → j < length options → get_or options i a ≡ a → get_or options j b ≡ b → IsTextOf one a → IsTextOf other b → (i ≡ j) ⊎ ((i < j) ⊎ (j < i)) → one ≡ other
 same-text options i j a b one other few inside_i inside_j is_a is_b says_a says_b (inl same) =

@@ -34,16 +34,16 @@ none : All (λ b. class_of b ≡ Space) []
 none = All-nil (λ b. class_of b ≡ Space)
 
 -- a token with a blank behind it, or nothing
-abbrev spaced : TokenKind → List ℕ → Print
-spaced kind text = record { kind = kind; text = text; gap = 32 ∷ [] }
+abbrev with_blank : TokenKind → List ℕ → Print
+with_blank kind text = record { kind = kind; text = text; gap = 32 ∷ [] }
 
-abbrev last : TokenKind → List ℕ → Print
-last kind text = record { kind = kind; text = text; gap = [] }
+abbrev without_blank : TokenKind → List ℕ → Print
+without_blank kind text = record { kind = kind; text = text; gap = [] }
 
 abbrev plain_prints : List Print
 plain_prints =
-    spaced Word (codes "Active") ∷ spaced Word (codes "and") ∷ spaced Word (codes "ID") ∷ spaced Word (codes "eq") ∷ spaced Int (codes "1")
-    ∷ spaced Word (codes "and") ∷ spaced Word (codes "Name") ∷ spaced Word (codes "eq") ∷ last Str (codes "'a'") ∷ []
+    with_blank Word (codes "Active") ∷ with_blank Word (codes "and") ∷ with_blank Word (codes "ID") ∷ with_blank Word (codes "eq") ∷ with_blank Int (codes "1")
+    ∷ with_blank Word (codes "and") ∷ with_blank Word (codes "Name") ∷ with_blank Word (codes "eq") ∷ without_blank Str (codes "'a'") ∷ []
 
 plain_printable : ArePrintable plain_prints
 plain_printable = (
@@ -129,7 +129,7 @@ moment = record {
 
 pub moment_list : IsTokenList moment_filter moment_tokens
 moment_list =
-    printed-list (spaced Word (codes "Changed") ∷ spaced Word (codes "gt") ∷ last Moment (codes "2020-01-01T00:00Z") ∷ [])
+    printed-list (with_blank Word (codes "Changed") ∷ with_blank Word (codes "gt") ∷ without_blank Moment (codes "2020-01-01T00:00Z") ∷ [])
     (word (codes "Changed") refl, (blank, (refl, (word (codes "gt") refl, (blank, (refl, (moment, (none, (tt, tt))))))))) (omega arith) (omega arith)
 
 enumeration : Spells EnumLit (codes "a.b'x'")
@@ -151,7 +151,7 @@ enumeration = record {
 }
 
 pub enumeration_list : IsTokenList enumeration_filter enumeration_tokens
-enumeration_list = printed-list (last EnumLit enumeration_filter ∷ []) (enumeration, (none, (tt, tt))) (omega arith) (omega arith)
+enumeration_list = printed-list (without_blank EnumLit enumeration_filter ∷ []) (enumeration, (none, (tt, tt))) (omega arith) (omega arith)
 
 fraction : IsFormed (LeftOut Number) fraction_filter
 fraction = record { front = codes "1"; back = codes ".5"; whole = refl; is_front = one; is_back = inl (refl, (omega arith, (omega arith, tt))) }

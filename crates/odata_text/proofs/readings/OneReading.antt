@@ -96,13 +96,13 @@ abbrev span_of : ℕ → ℕ → Span
 span_of start stop = record { start = start; stop = stop }
 
 -- the fault of a place at which nothing stands
-abbrev unread : List ℕ → ℕ → ByteClass → TextFault
-unread text place Quote = UnclosedString (span_of place (length text))
-unread text place _ = BadCharacter (span_of place (place + len_utf8 (get_or (chars (drop place text)) 0 0)))
+abbrev fault_at_none : List ℕ → ℕ → ByteClass → TextFault
+fault_at_none text place Quote = UnclosedString (span_of place (length text))
+fault_at_none text place _ = BadCharacter (span_of place (place + len_utf8 (get_or (chars (drop place text)) 0 0)))
 
 -- the fault of a place at which that stands: of a faultless token that it is one too many
 abbrev fault_of : List ℕ → ℕ → Option (Form × ℕ) → TextFault
-fault_of text place None = unread text place (class_of (get_or text place 0))
+fault_of text place None = fault_at_none text place (class_of (get_or text place 0))
 fault_of text place (Some (LeftOut kind, n)) = LeftOutLiteral (span_of place (place + n))
 fault_of text place (Some (Token kind, n)) =
     cond (is_undelimited kind && nat_lt 0 (identifier_run (drop (place + n) text)))
@@ -137,9 +137,9 @@ run_fault text span run =
     rw stop (ap RunOn span_is ∙ sym (cond-true (is_undelimited piece.kind && nat_lt 0 (identifier_run (drop piece.stop text))) _ _
     (and_from (is_undelimited piece.kind) _ run.runs_on.0 (lt-ltb 0 _ run.runs_on.1))))
 
-unread_other : (text : List ℕ) (place : ℕ) (class : ByteClass) → (class ≡ Quote → ⊥) → unread text place class ≡ unread text place Other
-unread_other text place Quote other = absurd (other refl)
-unread_other text place _ other = refl
+fault_at_none-other : (text : List ℕ) (place : ℕ) (class : ByteClass) → (class ≡ Quote → ⊥) → fault_at_none text place class ≡ fault_at_none text place Other
+fault_at_none-other text place Quote other = absurd (other refl)
+fault_at_none-other text place _ other = refl
 
 bad_fault : (text : List ℕ) (span : Span) → IsBadCharacter text span → BadCharacter span ≡ fault_of text span.start None
 bad_fault text span bad =
@@ -152,7 +152,7 @@ bad_fault text span bad =
     let first : get_or (chars rest) 0 0 ≡ c = ap (λ (xs : List ℕ). get_or (chars xs) 0 0) whole
     ∙ ap (λ (cs : List ℕ). get_or cs 0 0) (chars-append (encode_utf8 c) (drop size rest) (IsUtf8-encode c at.scalar) ∙ ap (λ (cs : List ℕ). cs ++ chars (drop size rest)) one) in
     let stop : span.stop ≡ span.start + len_utf8 (get_or (chars rest) 0 0) = at.stop ∙ sym (ap (λ (d : ℕ). span.start + len_utf8 d) first) in
-    ap BadCharacter (λ i. record { start = span.start; stop = stop i }) ∙ sym (unread_other text span.start (class_of (get_or text span.start 0)) bad.unquoted)
+    ap BadCharacter (λ i. record { start = span.start; stop = stop i }) ∙ sym (fault_at_none-other text span.start (class_of (get_or text span.start 0)) bad.unquoted)
 
 of_fault : (text : List ℕ) (place before : ℕ) (fault : TextFault) → IsFaultAt text place before fault → IsOf text place fault
 of_fault text place before (BadCharacter span) (here, bad) =
@@ -162,7 +162,7 @@ of_fault text place before (UnclosedString span) (here, unclosed) =
     subst (λ (p : ℕ). IsOf text p (UnclosedString span)) here (record {
       found = None;
       is_found = λ form m spelled. unclosed.no_token.none form m spelled;
-      is = ap UnclosedString (λ i. record { start = span.start; stop = stop i }) ∙ sym (ap (unread text span.start) unclosed.quoted);
+      is = ap UnclosedString (λ i. record { start = span.start; stop = stop i }) ∙ sym (ap (fault_at_none text span.start) unclosed.quoted);
     })
 of_fault text place before (LeftOutLiteral span) (here, literal) =
     let order = literal.order in

@@ -118,21 +118,21 @@ followed-both A B rest a b first second inside exact reach =
     }
 
 -- no piece is longer than 0, and none is empty
-pub nothing : (P : List ℕ → Type 0) (m n : ℕ) (rest : List ℕ) → (P [] → ⊥) → IsReach P n rest → n ≡ 0 → m ≤ length rest → P (take m rest) → ⊥
-nothing P m n rest nonempty reach none inside spelled =
+pub no_piece : (P : List ℕ → Type 0) (m n : ℕ) (rest : List ℕ) → (P [] → ⊥) → IsReach P n rest → n ≡ 0 → m ≤ length rest → P (take m rest) → ⊥
+no_piece P m n rest nonempty reach none inside spelled =
     let most = reach.reaches m inside spelled in
     let here : m ≡ 0 = omega arith in
     nonempty (subst (λ (k : ℕ). P (take k rest)) here spelled)
 
 pub followed-no_first : (A B : List ℕ → Type 0) (rest : List ℕ) (a : ℕ) → (A [] → ⊥) → IsReach A a rest → a ≡ 0 → IsReach (FollowedBy A B) 0 rest
-followed-no_first A B rest a nonempty reach none = followed-none A B rest (λ k j inside first second. nothing A k a rest nonempty reach none (omega arith) first)
+followed-no_first A B rest a nonempty reach none = followed-none A B rest (λ k j inside first second. no_piece A k a rest nonempty reach none (omega arith) first)
 
 pub followed-no_second : (A B : List ℕ → Type 0) (rest left : List ℕ) (a b : ℕ) → left ≡ drop a rest → (B [] → ⊥) → IsExact A B a rest → IsReach B b left → b ≡ 0 → IsReach (FollowedBy A B) 0 rest
 followed-no_second A B rest left a b behind nonempty exact reach none =
     let room = length-drop a rest in
     followed-none A B rest (λ k j inside first second.
     let here = exact.exact k j inside first second in
-    nothing B j b (drop a rest) nonempty (subst (IsReach B b) behind reach) none (omega arith) (subst (λ (n : ℕ). B (take j (drop n rest))) here second))
+    no_piece B j b (drop a rest) nonempty (subst (IsReach B b) behind reach) none (omega arith) (subst (λ (n : ℕ). B (take j (drop n rest))) here second))
 
 -- two pieces, neither of them empty, of which the first ends where the longest does
 pub record ArePieces (A B : List ℕ → Type 0) : Type 0 where
@@ -141,8 +141,8 @@ pub record ArePieces (A B : List ℕ → Type 0) : Type 0 where
   pub exact : (a : ℕ) (rest : List ℕ) → IsReach A a rest → 0 < a → IsExact A B a rest
 
 -- as the code measures them: the second in what is left behind the first
-pub followed : (A B : List ℕ → Type 0) → ArePieces A B → (rest left : List ℕ) (a b n : ℕ) → left ≡ drop a rest → IsReach A a rest → IsReach B b left → n ≡ both_length a b → IsReach (FollowedBy A B) n rest
-followed A B pieces rest left a b n behind first second is =
+pub pair-reach : (A B : List ℕ → Type 0) → ArePieces A B → (rest left : List ℕ) (a b n : ℕ) → left ≡ drop a rest → IsReach A a rest → IsReach B b left → n ≡ both_length a b → IsReach (FollowedBy A B) n rest
+pair-reach A B pieces rest left a b n behind first second is =
     subst (λ (k : ℕ). IsReach (FollowedBy A B) k rest) (sym is)
     (⊎_elim
     (λ none. subst (λ (k : ℕ). IsReach (FollowedBy A B) k rest) (sym (first-missing a b none)) (followed-no_first A B rest a pieces.no_first first none))

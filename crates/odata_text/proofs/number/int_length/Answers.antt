@@ -6,13 +6,13 @@ use Rattle.odata_text.specs.private.Patterns.{Fits}
 use Rattle.odata_text.specs.declared.byte_test.ByteTest.TheVariants.{Sign}
 use Rattle.odata_text.proofs.spellings.Fronts.{reach-either}
 use Rattle.odata_text.proofs.spellings.Reaches.{IntParts, SignedPair, int-from_parts, numeral-run, parts-from_int, sign_digits}
-use Rattle.odata_text.proofs.spellings.Sequences.{followed, reach-as}
+use Rattle.odata_text.proofs.spellings.Sequences.{pair-reach, reach-as}
 use Rattle.odata_text.proofs.number.int_length.Goals as goal
 
 pub returns : goal.returns
 returns c =
     let signed' =
-    followed (Fits (Sign ∷ [])) (IsNumeral 10) sign_digits c.args.rest.now _ _ _ _ (take_rest c.args.rest.now c.pattern_length-sign.result)
+    pair-reach (Fits (Sign ∷ [])) (IsNumeral 10) sign_digits c.args.rest.now _ _ _ _ (take_rest c.args.rest.now c.pattern_length-sign.result)
     c.pattern_length-sign.ensures (numeral-run _ _ c.digit_run-behind.ensures.value) c.both_length-signed.ensures in
     reach-as IntParts IsIntSpelling c.longer.result c.args.rest.now int-from_parts parts-from_int
     (reach-either (IsNumeral 10) SignedPair c.args.rest.now _ _ _ (numeral-run _ _ c.digit_run-plain.ensures.value) signed' c.longer.ensures)

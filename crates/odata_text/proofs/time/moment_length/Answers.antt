@@ -1,11 +1,11 @@
 use Rattle.std.proofs.lemmas.List.{take_rest}
 use Rattle.edm_values.specs.DateLiteral.{IsDateSpelling}
 use Rattle.odata_text.specs.private.Patterns.{IsTimed}
-use Rattle.odata_text.proofs.spellings.Sequences.{followed}
+use Rattle.odata_text.proofs.spellings.Sequences.{pair-reach}
 use Rattle.odata_text.proofs.spellings.Times.{date_timed, moment-reach}
 use Rattle.odata_text.proofs.time.moment_length.Goals as goal
 
 pub returns : goal.returns
 returns c =
     moment-reach c.both_length.result c.args.rest.now
-    (followed IsDateSpelling IsTimed date_timed c.args.rest.now _ _ _ _ (take_rest c.args.rest.now c.date_length-date.result) c.date_length-date.ensures c.timed_length-timed.ensures c.both_length.ensures)
+    (pair-reach IsDateSpelling IsTimed date_timed c.args.rest.now _ _ _ _ (take_rest c.args.rest.now c.date_length-date.result) c.date_length-date.ensures c.timed_length-timed.ensures c.both_length.ensures)

@@ -1,10 +1,10 @@
 use Rattle.std.proofs.lemmas.List.{take_rest}
 use Rattle.odata_text.specs.private.Patterns.{IsMarkedClock, IsZoned}
-use Rattle.odata_text.proofs.spellings.Sequences.{followed}
+use Rattle.odata_text.proofs.spellings.Sequences.{pair-reach}
 use Rattle.odata_text.proofs.spellings.Times.{marked_zoned, marked-reach}
 use Rattle.odata_text.proofs.time.timed_length.Goals as goal
 
 pub returns : goal.returns
 returns c =
-    followed IsMarkedClock IsZoned marked_zoned c.args.rest.now _ _ _ _ (take_rest c.args.rest.now c.pattern_length-clock.result)
+    pair-reach IsMarkedClock IsZoned marked_zoned c.args.rest.now _ _ _ _ (take_rest c.args.rest.now c.pattern_length-clock.result)
     (marked-reach c.pattern_length-clock.result c.args.rest.now c.pattern_length-clock.ensures) c.zoned_length-zoned.ensures c.both_length.ensures

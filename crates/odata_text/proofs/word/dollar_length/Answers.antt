@@ -3,7 +3,7 @@ use Rattle.odata_text.specs.Identifier.{IsIdentifier}
 use Rattle.odata_text.specs.Spelling.{IsByte}
 use Rattle.odata_text.proofs.spellings.Fronts.{byte-boundary, on_text}
 use Rattle.odata_text.proofs.spellings.Parts.{mark_name}
-use Rattle.odata_text.proofs.spellings.Sequences.{followed}
+use Rattle.odata_text.proofs.spellings.Sequences.{pair-reach}
 use Rattle.odata_text.proofs.word.dollar_length.Goals as goal
 
 pub range_from-requires : goal.range_from-requires
@@ -12,5 +12,5 @@ range_from-requires c =
 
 pub returns : goal.returns
 returns c =
-    followed (IsByte 36) IsIdentifier mark_name c.args.rest.now _ _ _ _ c.range_from.ensures.value
+    pair-reach (IsByte 36) IsIdentifier mark_name c.args.rest.now _ _ _ _ c.range_from.ensures.value
     (on_text _ _ _ _ c.as_bytes.ensures.value c.byte_length-mark.ensures) c.identifier_length-name.ensures.reach c.both_length.ensures

@@ -2,10 +2,10 @@ use Rattle.edm_values.specs.StringLiteral.{IsStringSpelling}
 use Rattle.odata_text.specs.Spelling.{IsDottedWord}
 use Rattle.odata_text.proofs.spellings.Fronts.{left_of}
 use Rattle.odata_text.proofs.spellings.Parts.{word_text}
-use Rattle.odata_text.proofs.spellings.Sequences.{followed}
+use Rattle.odata_text.proofs.spellings.Sequences.{pair-reach}
 use Rattle.odata_text.proofs.word.enum_length.Goals as goal
 
 pub returns : goal.returns
 returns c =
-    followed IsDottedWord IsStringSpelling word_text c.args.rest.now _ _ _ _ (left_of c.args.rest.now c.as_bytes.result.now c.dotted_length-word.result c.as_bytes.ensures.value)
+    pair-reach IsDottedWord IsStringSpelling word_text c.args.rest.now _ _ _ _ (left_of c.args.rest.now c.as_bytes.result.now c.dotted_length-word.result c.as_bytes.ensures.value)
     c.dotted_length-word.ensures c.string_length-text.ensures c.both_length.ensures
