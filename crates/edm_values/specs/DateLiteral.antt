@@ -18,7 +18,8 @@ date_text year month day = four_digits year ++ 45 ∷ two_digits month ++ 45 ∷
 -- four digits, two and two, whether or not the calendar has such a day
 abbrev pub IsDateSpelling : List ℕ → Type 0
 IsDateSpelling text =
-    (year : ℕ) × (month : ℕ) × (day : ℕ) × (year < 10_000) × (month < 100) × (day < 100) × (text ≡ date_text year month day)
+    (year : ℕ) × (month : ℕ) × (day : ℕ) × (year < 10_000) × (month < 100) × (day < 100)
+    × (text ≡ date_text year month day)
 
 -- the one spelling of a date in the years 1 to 9999
 abbrev pub date_spelling : Date → List ℕ

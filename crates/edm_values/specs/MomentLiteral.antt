@@ -18,7 +18,8 @@ abbrev pub IsSecondsSpelling : List ℕ → Type 0
 IsSecondsSpelling text =
     (text ≡ [])
     ⊎ ((second : ℕ) × (second < 100)
-    × ((text ≡ 58 ∷ two_digits second) ⊎ ((digits : List ℕ) × IsNumeral 10 digits × (text ≡ 58 ∷ two_digits second ++ 46 ∷ digits))))
+    × ((text ≡ 58 ∷ two_digits second)
+    ⊎ ((digits : List ℕ) × IsNumeral 10 digits × (text ≡ 58 ∷ two_digits second ++ 46 ∷ digits))))
 
 -- `Z`, `z`, or a sign and `hh:mm`
 abbrev pub IsOffsetSpelling : List ℕ → Type 0
@@ -97,4 +98,5 @@ offset_text (negsuc n) = 45 ∷ clock_text (suc n / 60) (suc n % 60)
 abbrev pub moment_spelling : MomentParts → List ℕ
 moment_spelling m =
     (date_spelling m.civil.date ++ 84 ∷ clock_text m.civil.time.hour m.civil.time.minute)
-    ++ ((58 ∷ two_digits m.civil.time.second ++ fraction_text m.civil.time.subsec_nanosecond) ++ offset_text m.offset_minutes)
+    ++ ((58 ∷ two_digits m.civil.time.second ++ fraction_text m.civil.time.subsec_nanosecond)
+    ++ offset_text m.offset_minutes)

@@ -6,7 +6,8 @@ use Rattle.edm_values.specs.MomentParts.{MomentParts}
 -- midnight at the start of 2020, in UTC
 abbrev pub IsNewYear : MomentParts → Type 0
 IsNewYear m =
-    IsYmd (pos 2020) (pos 1) (pos 1) m.civil.date × IsHms (pos 0) (pos 0) (pos 0) (pos 0) m.civil.time × (m.offset_minutes ≡ pos 0)
+    IsYmd (pos 2020) (pos 1) (pos 1) m.civil.date × IsHms (pos 0) (pos 0) (pos 0) (pos 0) m.civil.time
+    × (m.offset_minutes ≡ pos 0)
 
 -- 120 milliseconds into the last minute of a leap day, by a clock five and a half hours behind UTC
 abbrev pub IsLeapDay : MomentParts → Type 0
