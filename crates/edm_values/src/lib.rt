@@ -27,6 +27,3 @@ pub use moment_literal::{read_moment, write_moment};
 pub use primitive::PrimitiveType as Prim;
 pub use string_literal::{LitFault, read_string, write_string};
 pub use value::Value;
-
-#[cfg(test)]
-mod tests;
