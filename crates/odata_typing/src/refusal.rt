@@ -4,8 +4,8 @@ use thiserror::Error;
 
 /// Why a node has no type. It is shown by its name.
 ///
-/// Calls, lambda operators and enumeration literals are still to come, and with them `UnknownFunction`, `ArgumentCount`,
-/// `ArgumentType`, `NotCollection`, `VariableTaken`, `BodyNotBoolean` and `UnknownEnum`.
+/// Calls, lambda operators and enumeration literals are still to come, and with them `UnknownFunction`,
+/// `ArgumentCount`, `ArgumentType`, `NotCollection`, `VariableTaken`, `BodyNotBoolean` and `UnknownEnum`.
 #[derive(Clone, Copy, Debug, PartialEq, Eq, Error)]
 pub enum TypeFaultCode {
     /// A name that is no property of its type.
