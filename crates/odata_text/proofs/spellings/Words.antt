@@ -16,15 +16,19 @@ use Rattle.odata_text.proofs.spellings.Sequences.{exact-by_byte, pair-found, pai
 abbrev pub DotAndWord : List ℕ → Type 0
 DotAndWord xs = FollowedBy (IsByte 46) IsWordSpelling xs
 
-word-front : (xs part : List ℕ) (more : List (List ℕ)) → IsIdentifier part → AllOf IsIdentifier more → xs ≡ dotted_parts part more → IsIdentifier xs ⊎ FollowedBy IsIdentifier DotAndWord xs
-word-front xs part [] identifier all whole = inl (subst IsIdentifier (sym whole) identifier)
-word-front xs part (next ∷ more) identifier all whole = inr (record {
+-- of several parts
+parts-pair : (xs part next : List ℕ) (more : List (List ℕ)) → IsIdentifier part → AllOf IsIdentifier (next ∷ more) → xs ≡ dotted_parts part (next ∷ more) → FollowedBy IsIdentifier DotAndWord xs
+parts-pair xs part next more identifier all whole = record {
   front = part;
   back = 46 ∷ dotted_parts next more;
   whole = whole;
   is_front = identifier;
   is_back = record { front = 46 ∷ []; back = dotted_parts next more; whole = refl; is_front = refl; is_back = record { part = next; more = more; identifier = all.0; identifiers = all.1; whole = refl } };
-})
+}
+
+word-front : (xs part : List ℕ) (more : List (List ℕ)) → IsIdentifier part → AllOf IsIdentifier more → xs ≡ dotted_parts part more → IsIdentifier xs ⊎ FollowedBy IsIdentifier DotAndWord xs
+word-front xs part [] identifier all whole = inl (subst IsIdentifier (sym whole) identifier)
+word-front xs part (next ∷ more) identifier all whole = inr (parts-pair xs part next more identifier all whole)
 
 pub word-cases : (xs : List ℕ) → IsWordSpelling xs → IsIdentifier xs ⊎ FollowedBy IsIdentifier DotAndWord xs
 word-cases xs word = word-front xs word.part word.more word.identifier word.identifiers word.whole
@@ -96,17 +100,21 @@ more-behind rest n j m size inside dot =
           (subst (λ (k : ℕ). IsWordSpelling (take pair.second (drop k (drop n rest)))) one pair.is_second));
     }
 
+-- the identifier of a word of several parts is the longest at the front
+dot-behind : (rest : List ℕ) (n m : ℕ) → IsReach IsIdentifier n rest → m ≤ length rest → FollowedBy IsIdentifier DotAndWord (take m rest) → IsMore rest n m
+dot-behind rest n m reach inside pair =
+    let parts = pair_at IsIdentifier DotAndWord rest m inside pair in
+    let size = parts.size in
+    let exact = exact-by_byte IsIdentifier DotAndWord (λ b. b ≡ 46) n rest reach no_dot dot-starts in
+    let here = exact.exact parts.first parts.second (omega arith) parts.is_first parts.is_second in
+    more-behind rest n parts.second m (omega arith) inside (subst (λ (k : ℕ). DotAndWord (take parts.second (drop k rest))) here parts.is_second)
+
 -- a word ends in the longest identifier at its front, or goes on behind that
 word-part : (rest : List ℕ) (n m : ℕ) → IsReach IsIdentifier n rest → m ≤ length rest → IsWordSpelling (take m rest) → (m ≤ n) ⊎ IsMore rest n m
 word-part rest n m reach inside word =
     ⊎_elim
     (λ identifier. inl (reach.reaches m inside identifier))
-    (λ pair.
-    let parts = pair_at IsIdentifier DotAndWord rest m inside pair in
-    let size = parts.size in
-    let exact = exact-by_byte IsIdentifier DotAndWord (λ b. b ≡ 46) n rest reach no_dot dot-starts in
-    let here = exact.exact parts.first parts.second (omega arith) parts.is_first parts.is_second in
-    inr (more-behind rest n parts.second m (omega arith) inside (subst (λ (k : ℕ). DotAndWord (take parts.second (drop k rest))) here parts.is_second)))
+    (λ pair. inr (dot-behind rest n m reach inside pair))
     (word-cases (take m rest) word)
 
 -- no word begins where no identifier does
@@ -213,13 +221,7 @@ word-more rest n p so_far inside dot reach some utf8 boundary =
 
 dotted-front : (xs part : List ℕ) (more : List (List ℕ)) → IsIdentifier part → AllOf IsIdentifier more → xs ≡ dotted_parts part more → 0 < length more → FollowedBy IsIdentifier DotAndWord xs
 dotted-front xs part [] identifier all whole some = absurd (omega arith)
-dotted-front xs part (next ∷ more) identifier all whole some = record {
-  front = part;
-  back = 46 ∷ dotted_parts next more;
-  whole = whole;
-  is_front = identifier;
-  is_back = record { front = 46 ∷ []; back = dotted_parts next more; whole = refl; is_front = refl; is_back = record { part = next; more = more; identifier = all.0; identifiers = all.1; whole = refl } };
-}
+dotted-front xs part (next ∷ more) identifier all whole some = parts-pair xs part next more identifier all whole
 
 dotted-from_parts : (xs part : List ℕ) (more : List (List ℕ)) → IsIdentifier part → AllOf IsIdentifier more → xs ≡ dotted_parts part more → (IsIdentifier xs → ⊥) → IsDottedWord xs
 dotted-from_parts xs part [] identifier all whole not_one = absurd (not_one (subst IsIdentifier (sym whole) identifier))
@@ -248,13 +250,7 @@ reach-undotted rest n w identifier word shorter = record {
   found = λ positive. absurd (omega arith);
   reaches = λ m inside dotted.
       let most = word.reaches m inside dotted.word in
-      let pair = dotted-pair (take m rest) dotted in
-      let parts = pair_at IsIdentifier DotAndWord rest m inside pair in
-      let size = parts.size in
-      let exact = exact-by_byte IsIdentifier DotAndWord (λ b. b ≡ 46) n rest identifier no_dot dot-starts in
-      let here = exact.exact parts.first parts.second (omega arith) parts.is_first parts.is_second in
-      let some = (dot-starts (take parts.second (drop parts.first rest)) parts.is_second).0 in
-      let room = length-drop parts.first rest in
-      let taken = length-take-le parts.second (drop parts.first rest) (omega arith) in
+      let more = dot-behind rest n m identifier inside (dotted-pair (take m rest) dotted) in
+      let below = more.below in
       absurd (omega arith);
 }
