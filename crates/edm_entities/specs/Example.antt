@@ -34,7 +34,7 @@ inactive_row =
     object (member (codes "ID") (number (unsigned 1)) (member (codes "Name") (string (codes "a")) no_members))
 
 -- what the first of them stands for
-abbrev pub item_field : List ℕ → val.Held
+abbrev pub item_field : List ℕ → val.FieldVal
 item_field name =
     if pointwise nat_eq (codes "Active") name then val.present (val.boolean true)
     else (if pointwise nat_eq (codes "ID") name then val.present (val.whole (pos 1))

@@ -3,7 +3,7 @@ use Rattle.std.specs.Prelude.{◌≡◌, ◌≢◌, ℕ, ℤ, List, Bool, Option
 use Rattle.std.specs.List.{AllByRecursion}
 use Rattle.serde_json.specs.Data.{Data}
 use Rattle.serde_json.specs.Find.{get, as_bool, as_number, as_str, as_object, as_integer}
-use Rattle.edm_values.specs.Val.{Val, boolean, whole, text, fields, Held, absent, present}
+use Rattle.edm_values.specs.Val.{Val, boolean, whole, text, fields, FieldVal, absent, present}
 use Rattle.edm_values.specs.declared.primitive.PrimitiveType.{PrimitiveType}
 use Rattle.edm_values.specs.declared.primitive.PrimitiveType.TheVariants.{Bool as EdmBoolean, Byte, SByte, Int16, Int32, Int64, String as EdmString}
 use Rattle.csdl_schema.specs.ExprType.{ExprType, single, primitive}
@@ -44,14 +44,14 @@ FitsType _ json value = ⊥
 
 -- what an object has under a property's name, and what the record has there: a property that is not looked at is absent
 -- from the record, whatever the object has
-abbrev pub FitsProperty : PropertyType → Option Data → Held → Type 0
+abbrev pub FitsProperty : PropertyType → Option Data → FieldVal → Type 0
 FitsProperty (declared type) (Some json) (present value) = FitsType type json value
 FitsProperty opaque found absent = Unit {0}
 FitsProperty navigation found absent = Unit {0}
 FitsProperty _ found held = ⊥
 
 -- a record gives each of these properties what fits the object's member of that name, and holds no other name
-pub record FitsRecord (properties : List PropertyModel) (json : Data) (f : List ℕ → Held) : Type 0 where
+pub record FitsRecord (properties : List PropertyModel) (json : Data) (f : List ℕ → FieldVal) : Type 0 where
   pub is_object : IsSome (as_object json)
   pub each_fits : AllByRecursion (λ p. FitsProperty p.type_of (get p.name json) (f p.name)) properties
   pub others_absent : (name : List ℕ) → AllByRecursion (λ p. p.name ≢ name) properties → f name ≡ absent

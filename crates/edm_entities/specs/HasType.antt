@@ -1,6 +1,6 @@
 -- Which values a type has (CSDL JSON 4.01, sections 3.3, 6, 7, 9 and 10).
 use Rattle.std.specs.List.{AllByRecursion}
-use Rattle.edm_values.specs.Val.{Val, null, boolean, whole, text, date, moment, guid, fields, items, Held, absent, present, Vals, no_items, item}
+use Rattle.edm_values.specs.Val.{Val, null, boolean, whole, text, date, moment, guid, fields, items, FieldVal, absent, present, Vals, no_items, item}
 use Rattle.edm_values.specs.declared.primitive.PrimitiveType.{PrimitiveType}
 use Rattle.edm_values.specs.declared.primitive.PrimitiveType.TheVariants.{Bool as EdmBoolean, String as EdmString, Date as EdmDate, DateTimeOffset as EdmDateTimeOffset, Guid as EdmGuid}
 use Rattle.csdl_schema.specs.ExprType.{ExprType, single, collection, SingleType, primitive, structured}
@@ -29,7 +29,7 @@ abbrev mutual
   HasType slots type value = ⊥
 
   -- what a record has under the name of a property of that type
-  pub HasPropertyType : Slots → PropertyType → Held → Type 0
+  pub HasPropertyType : Slots → PropertyType → FieldVal → Type 0
   HasPropertyType slots (declared type) (present value) = HasType slots type value
   HasPropertyType slots (declared type) absent = ⊥
   HasPropertyType slots opaque held = Unit {0}

@@ -3,7 +3,7 @@ use Rattle.std.specs.Prelude.{◌≡◌, ℕ, List, [], ◌∷◌, length, if◌
 use Rattle.std.specs.declared.alloc.Global.{Global}
 use Rattle.std.specs.Cmp.Lexicographic.{pointwise}
 use Rattle.serde_json.specs.Data.{Data}
-use Rattle.edm_values.specs.Val.{Val, null, boolean, whole, text, date, moment, guid, member, fields, items, Held, absent, present, Vals, no_items, item}
+use Rattle.edm_values.specs.Val.{Val, null, boolean, whole, text, date, moment, guid, member, fields, items, FieldVal, absent, present, Vals, no_items, item}
 use Rattle.edm_values.specs.declared.value.Value.{Value, Record, fold-Value}
 use Rattle.edm_values.specs.declared.value.Value.TheOpen.{Value-F}
 use Rattle.csdl_schema.specs.ExprType.{ExprType, single, collection, SingleType, structured}
@@ -15,13 +15,13 @@ abbrev pub Seen : Type 0
 Seen = Slots → ExprType → Val
 
 -- a property that is not looked at is absent, whatever its slot holds
-abbrev pub held_of : Slots → PropertyType → Seen → Held
+abbrev pub held_of : Slots → PropertyType → Seen → FieldVal
 held_of slots (declared type) seen = present (seen slots type)
 held_of slots opaque seen = absent
 held_of slots navigation seen = absent
 
 -- what slots hold for properties, by the properties' names
-abbrev pub held_by_name : Slots → List PropertyModel → List Seen → List ℕ → Held
+abbrev pub held_by_name : Slots → List PropertyModel → List Seen → List ℕ → FieldVal
 held_by_name slots [] held name = absent
 held_by_name slots (p ∷ ps) [] name = absent
 held_by_name slots (p ∷ ps) (seen ∷ more) name =

@@ -3,7 +3,7 @@ use Rattle.std.specs.Prelude.{◌≡◌, ℕ, ℤ, List, [], ◌∷◌, ◌++◌
 use Rattle.std.specs.List.{AllByRecursion, join_with_byte}
 use Rattle.serde_json.specs.Data.{Data, null}
 use Rattle.serde_json.specs.Find.{get, as_bool, as_str, as_object}
-use Rattle.edm_values.specs.Val.{Held}
+use Rattle.edm_values.specs.Val.{FieldVal}
 use Rattle.edm_values.specs.declared.primitive.PrimitiveType.{PrimitiveType}
 use Rattle.edm_values.specs.declared.primitive.PrimitiveType.TheVariants.{Bool as EdmBoolean, Byte, SByte, Int16, Int32, Int64, String as EdmString}
 use Rattle.csdl_schema.specs.ExprType.{ExprType, single, primitive}
@@ -67,7 +67,7 @@ pub record IsFirstFault (properties : List PropertyModel) (json : Data) (path : 
   pub faulty : PropertyModel
   pub behind : List PropertyModel
   pub split : properties ≡ before ++ faulty ∷ behind
-  pub before_fit : AllByRecursion (λ p. (held : Held) × FitsProperty p.type_of (get p.name json) held) before
+  pub before_fit : AllByRecursion (λ p. (held : FieldVal) × FitsProperty p.type_of (get p.name json) held) before
   pub rest : Path
   pub path_is : path ≡ faulty.name ∷ rest
   pub fault : IsPropertyFault faulty.type_of (get faulty.name json) rest flaw

@@ -8,13 +8,13 @@ abbrev pub quote : ℕ
 quote = 39
 
 -- a text with each of its quotes written twice
-abbrev pub doubled : List ℕ → List ℕ
-doubled [] = []
-doubled (c ∷ cs) = if c == quote then quote ∷ quote ∷ doubled cs else c ∷ doubled cs
+abbrev pub with_doubled_quotes : List ℕ → List ℕ
+with_doubled_quotes [] = []
+with_doubled_quotes (c ∷ cs) = if c == quote then quote ∷ quote ∷ with_doubled_quotes cs else c ∷ with_doubled_quotes cs
 
 -- the one spelling of a text: between quotes, with its own quotes doubled
 abbrev pub string_spelling : List ℕ → List ℕ
-string_spelling value = quote ∷ doubled value ++ quote ∷ []
+string_spelling value = quote ∷ with_doubled_quotes value ++ quote ∷ []
 
 -- the value of a String spelling: the text of which it is the spelling
 abbrev pub StringValue : List ℕ → List ℕ → Type 0

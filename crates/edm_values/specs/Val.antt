@@ -14,13 +14,13 @@ mutual
     moment : MomentParts → Val
     guid : List ℕ → Val
     member : ℤ → Val
-    fields : (List ℕ → Held) → Val
+    fields : (List ℕ → FieldVal) → Val
     items : Vals → Val
 
   -- what a record has under a name: nothing, or a value
-  pub data Held : Type 0 where
-    absent : Held
-    present : Val → Held
+  pub data FieldVal : Type 0 where
+    absent : FieldVal
+    present : Val → FieldVal
 
   pub data Vals : Type 0 where
     no_items : Vals

@@ -1,5 +1,5 @@
 ghost use Rattle.std.specs.Prelude.{◌≡◌, ℕ, List, IfOk, IfErr, IfSome, IfNone, OnOk, OnErr, ◌∷◌, ◌++◌, [], string_bytes};
-ghost use Rattle.edm_values.specs.StringLiteral.{quote, doubled, string_spelling, StringValue, IsStringFault};
+ghost use Rattle.edm_values.specs.StringLiteral.{quote, with_doubled_quotes, string_spelling, StringValue, IsStringFault};
 ghost use Rattle.edm_values.specs.private.BetweenQuotes.{IsInnerFault};
 
 use std::alloc::{AllocError, Global};
@@ -46,7 +46,7 @@ fn between_quotes(text: &str) -> Option<&str>
 }
 
 fn merge_doubled_quotes(alloc: Global, inner: &str) -> Result<String, LitFault>
-    ensures value { IfOk result (λ value. inner.now ≡ doubled (string_bytes value)) }
+    ensures value { IfOk result (λ value. inner.now ≡ with_doubled_quotes (string_bytes value)) }
     ensures fault { IfErr result (IsInnerFault inner.now) }
 {
     let mut value = String::new(alloc);

@@ -2,7 +2,7 @@
 use Rattle.std.specs.Prelude.{◌≡◌, ◌↔◌, ℕ, ℤ, List, [], Bool, codes, nat_eq, if◌then◌else◌}
 use Rattle.std.specs.Cmp.Lexicographic.{pointwise}
 use Rattle.edm_values.specs.MomentParts.{MomentParts}
-use Rattle.edm_values.specs.Val.{Val, boolean, whole, text, fields, Held, absent, present}
+use Rattle.edm_values.specs.Val.{Val, boolean, whole, text, fields, FieldVal, absent, present}
 use Rattle.odata_syntax.specs.Tree.{Tree, node, literal, name, binary}
 use Rattle.odata_syntax.specs.declared.node.BinaryOperator.{BinaryOperator}
 use Rattle.odata_syntax.specs.declared.node.LiteralKind.{LiteralKind}
@@ -18,7 +18,7 @@ false_and_missing =
     (node 10 17 (name (codes "Missing"))))
 
 -- what an item with these three members has under a name
-abbrev pub item_members : ℤ → List ℕ → Bool → List ℕ → Held
+abbrev pub item_members : ℤ → List ℕ → Bool → List ℕ → FieldVal
 item_members id title active asked =
     if pointwise nat_eq asked (codes "ID") then present (whole id)
     else if pointwise nat_eq asked (codes "Name") then present (text title)

@@ -1,11 +1,11 @@
 -- What a name stands for: a range variable, else a property (OData URL Conventions 4.01, 5.1.1.13 and 5.1.1.15).
 use Rattle.std.specs.Prelude.{◌≡◌, ℕ, List, Option, Some, None}
-use Rattle.edm_values.specs.Val.{Val, null, fields, Held, absent, present}
+use Rattle.edm_values.specs.Val.{Val, null, fields, FieldVal, absent, present}
 use Rattle.odata_eval.specs.Outcome.{Outcome, gives}
 use Rattle.odata_eval.specs.Environment.{Environment, variable_value}
 
 -- what a record has under a name is the outcome, if it has something
-abbrev pub HeldGives : Held → Outcome → Type 0
+abbrev pub HeldGives : FieldVal → Outcome → Type 0
 HeldGives (present v) o = o ≡ gives v
 HeldGives absent o = ⊥
 

@@ -1,6 +1,6 @@
 ghost use Rattle.std.specs.Prelude.{◌≡◌};
 ghost use Rattle.odata_text.specs.private.Lengths.{IsReach};
-ghost use Rattle.odata_text.specs.private.Patterns.{Fits, passes};
+ghost use Rattle.odata_text.specs.private.Patterns.{PassesTests, passes};
 
 /// What may stand at one place of a pattern.
 #[derive(Clone, Copy, Debug, PartialEq, Eq)]
@@ -34,7 +34,7 @@ fn passes(test: ByteTest, byte: u8) -> bool
 
 /// The length of the pattern, if the bytes at the front fit it one by one, else 0.
 pub fn pattern_length(pattern: &[ByteTest], rest: &[u8]) -> usize
-    ensures { IsReach (Fits pattern.now) result rest.now }
+    ensures { IsReach (PassesTests pattern.now) result rest.now }
 {
     if rest.len() < pattern.len() {
         return 0;

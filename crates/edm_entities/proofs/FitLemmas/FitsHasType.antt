@@ -3,7 +3,7 @@ use Rattle.std.proofs.Common.{ℕ, List, [], ◌∷◌, Option, Some, None, sym,
 use Rattle.std.specs.List.{AllByRecursion}
 use Rattle.serde_json.specs.Data.{Data}
 use Rattle.serde_json.specs.Find.{get}
-use Rattle.edm_values.specs.Val.{Val, fields, Held, absent, present}
+use Rattle.edm_values.specs.Val.{Val, fields, FieldVal, absent, present}
 use Rattle.edm_values.specs.declared.primitive.PrimitiveType.{PrimitiveType}
 use Rattle.edm_values.specs.declared.primitive.PrimitiveType.TheVariants.{Bool as EdmBoolean, Byte, SByte, Int16, Int32, Int64, String as EdmString, Date as EdmDate, DateTimeOffset as EdmDateTimeOffset, Guid as EdmGuid}
 use Rattle.csdl_schema.specs.ExprType.{ExprType, null_type, single, collection, primitive, enumeration, structured}
@@ -33,14 +33,14 @@ value_has_type slots (single (structured name)) json v fits = absurd fits
 value_has_type slots (collection type) json v fits = absurd fits
 value_has_type slots null_type json v fits = absurd fits
 
-pub held_has_type : (slots : Slots) (type : PropertyType) (found : Option Data) (held : Held) → FitsProperty type found held → HasPropertyType slots type held
+pub held_has_type : (slots : Slots) (type : PropertyType) (found : Option Data) (held : FieldVal) → FitsProperty type found held → HasPropertyType slots type held
 held_has_type slots (declared type) (Some json) (present v) fits = value_has_type slots type json v fits
 held_has_type slots (declared type) (Some json) absent fits = absurd fits
 held_has_type slots (declared type) None held fits = absurd fits
 held_has_type slots opaque found held fits = tt
 held_has_type slots navigation found held fits = tt
 
-each_has_type : (slots : Slots) (properties : List PropertyModel) (json : Data) (f : List ℕ → Held)
+each_has_type : (slots : Slots) (properties : List PropertyModel) (json : Data) (f : List ℕ → FieldVal)
     → AllByRecursion (λ p. FitsProperty p.type_of (get p.name json) (f p.name)) properties
     → AllByRecursion (λ p. HasPropertyType slots p.type_of (f p.name)) properties
 each_has_type slots [] json f each = tt

@@ -5,7 +5,7 @@ use Rattle.std.specs.List.{AllByRecursion}
 use Rattle.std.specs.Cmp.Lexicographic.{pointwise, same_text, other_text}
 use Rattle.serde_json.specs.Data.{Data}
 use Rattle.serde_json.specs.Find.{get}
-use Rattle.edm_values.specs.Val.{Val, fields, Held, absent, present}
+use Rattle.edm_values.specs.Val.{Val, fields, FieldVal, absent, present}
 use Rattle.edm_values.specs.declared.primitive.PrimitiveType.{PrimitiveType}
 use Rattle.edm_values.specs.declared.primitive.PrimitiveType.TheVariants.{Bool as EdmBoolean, Byte, SByte, Int16, Int32, Int64, String as EdmString, Date as EdmDate, DateTimeOffset as EdmDateTimeOffset, Guid as EdmGuid}
 use Rattle.csdl_schema.specs.ExprType.{ExprType, null_type, single, collection, primitive, enumeration, structured}
@@ -41,7 +41,7 @@ same_value (collection type) json v w a b = absurd a
 same_value null_type json v w a b = absurd a
 
 -- what a record has under a property's name is determined by the object
-pub same_held : (type : PropertyType) (found : Option Data) (h k : Held) → FitsProperty type found h → FitsProperty type found k → h ≡ k
+pub same_held : (type : PropertyType) (found : Option Data) (h k : FieldVal) → FitsProperty type found h → FitsProperty type found k → h ≡ k
 same_held (declared type) (Some json) (present v) (present w) a b = ap present (same_value type json v w a b)
 same_held (declared type) (Some json) (present v) absent a b = absurd b
 same_held (declared type) (Some json) absent k a b = absurd a
@@ -54,7 +54,7 @@ same_held navigation found absent (present w) a b = absurd b
 same_held navigation found (present v) k a b = absurd a
 
 -- two records that fit agree at a name, or no property has it
-agree_or_none : (properties : List PropertyModel) (json : Data) (f g : List ℕ → Held) (name : List ℕ)
+agree_or_none : (properties : List PropertyModel) (json : Data) (f g : List ℕ → FieldVal) (name : List ℕ)
     → AllByRecursion (λ p. FitsProperty p.type_of (get p.name json) (f p.name)) properties
     → AllByRecursion (λ p. FitsProperty p.type_of (get p.name json) (g p.name)) properties
     → (f name ≡ g name) ⊎ AllByRecursion (λ p. p.name ≢ name) properties
@@ -70,7 +70,7 @@ agree_or_none (p ∷ ps) json f g name a b = by (pointwise nat_eq p.name name) r
     by false e (inl same) = inl same
     by false e (inr others) = inr (other_text p.name name e, others)
 
-same_record : (properties : List PropertyModel) (json : Data) (f g : List ℕ → Held) → FitsRecord properties json f → FitsRecord properties json g
+same_record : (properties : List PropertyModel) (json : Data) (f g : List ℕ → FieldVal) → FitsRecord properties json f → FitsRecord properties json g
     → (name : List ℕ) → f name ≡ g name
 same_record properties json f g a b name = by (agree_or_none properties json f g name a.each_fits b.each_fits)
   where

@@ -3,7 +3,7 @@ use Rattle.std.proofs.Common.{◌≡◌, List, [], ◌∷◌, ◌++◌, Option, 
 use Rattle.std.specs.List.{AllByRecursion}
 use Rattle.serde_json.specs.Data.{Data, null, boolean, number, string, array, object}
 use Rattle.serde_json.specs.Find.{get}
-use Rattle.edm_values.specs.Val.{Held}
+use Rattle.edm_values.specs.Val.{FieldVal}
 use Rattle.edm_values.specs.declared.primitive.PrimitiveType.{PrimitiveType}
 use Rattle.edm_values.specs.declared.primitive.PrimitiveType.TheVariants.{Bool as EdmBoolean, Byte, SByte, Int16, Int32, Int64, String as EdmString, Date as EdmDate, DateTimeOffset as EdmDateTimeOffset, Guid as EdmGuid}
 use Rattle.csdl_schema.specs.ExprType.{ExprType, null_type, single, collection, primitive, enumeration, structured}
@@ -69,7 +69,7 @@ same_property_fault opaque found r s a b is_a is_b = absurd is_a
 same_property_fault navigation found r s a b is_a is_b = absurd is_a
 
 abbrev HasFitting : Data → PropertyModel → Type 0
-HasFitting json p = (held : Held) × FitsProperty p.type_of (get p.name json) held
+HasFitting json p = (held : FieldVal) × FitsProperty p.type_of (get p.name json) held
 
 abbrev HasFaultOf : Data → PropertyModel → Path → Flaw → Type 0
 HasFaultOf json p path flaw = IsPropertyFault p.type_of (get p.name json) path flaw

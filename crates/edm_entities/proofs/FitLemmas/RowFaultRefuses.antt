@@ -3,7 +3,7 @@ use Rattle.std.proofs.Common.{◌≡◌, ℕ, List, [], ◌∷◌, ◌++◌, Opt
 use Rattle.std.specs.List.{AllByRecursion}
 use Rattle.serde_json.specs.Data.{Data, null, boolean, number, string, array, object}
 use Rattle.serde_json.specs.Find.{get, as_object}
-use Rattle.edm_values.specs.Val.{Val, fields, Held, absent, present}
+use Rattle.edm_values.specs.Val.{Val, fields, FieldVal, absent, present}
 use Rattle.edm_values.specs.declared.primitive.PrimitiveType.{PrimitiveType}
 use Rattle.edm_values.specs.declared.primitive.PrimitiveType.TheVariants.{Bool as EdmBoolean, Byte, SByte, Int16, Int32, Int64, String as EdmString, Date as EdmDate, DateTimeOffset as EdmDateTimeOffset, Guid as EdmGuid}
 use Rattle.csdl_schema.specs.ExprType.{ExprType, null_type, single, collection, primitive, enumeration, structured}
@@ -68,7 +68,7 @@ null_clash (collection type) v fits = fits
 null_clash null_type v fits = fits
 
 -- a property with a fault gets no value
-pub property_clash : (type : PropertyType) (found : Option Data) (held : Held) (path : Path) (flaw : Flaw)
+pub property_clash : (type : PropertyType) (found : Option Data) (held : FieldVal) (path : Path) (flaw : Flaw)
     → FitsProperty type found held → ¬ (IsPropertyFault type found path flaw)
 property_clash (declared type) (Some null) (present v) path flaw fits other = null_clash type v fits
 property_clash (declared type) (Some (boolean b)) (present v) path flaw fits other = value_clash path type (boolean b) v flaw fits other
@@ -86,7 +86,7 @@ all_at P [] x behind all = all.0
 all_at P (y ∷ before) x behind all = all_at P before x behind all.1
 
 -- an object with a first fault stands for no record
-pub fault_clash : (properties : List PropertyModel) (json : Data) (f : List ℕ → Held) (path : Path) (flaw : Flaw)
+pub fault_clash : (properties : List PropertyModel) (json : Data) (f : List ℕ → FieldVal) (path : Path) (flaw : Flaw)
     → FitsRecord properties json f → ¬ (IsFirstFault properties json path flaw)
 fault_clash properties json f path flaw fits fault =
     let each = subst (AllByRecursion (λ p. FitsProperty p.type_of (get p.name json) (f p.name))) fault.split fits.each_fits in
@@ -94,7 +94,7 @@ fault_clash properties json f path flaw fits fault =
     (all_at (λ p. FitsProperty p.type_of (get p.name json) (f p.name)) fault.before fault.faulty fault.behind each)
     fault.fault
 
-record_clash : (slots : Slots) (type_name : List ℕ) (json : Data) (f : List ℕ → Held) (fault : RowFault)
+record_clash : (slots : Slots) (type_name : List ℕ) (json : Data) (f : List ℕ → FieldVal) (fault : RowFault)
     → FitsRecord (slots type_name) json f → ¬ (IsRowFault slots type_name json fault)
 record_clash slots type_name json f NotObject fits is = let some : IsSome (as_object json) = fits.is_object in cc
 record_clash slots type_name json f (Missing path) fits is = fault_clash (slots type_name) json f is.0 missing fits is.1

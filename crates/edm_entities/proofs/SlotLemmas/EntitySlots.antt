@@ -6,7 +6,7 @@ use Rattle.std.specs.List.{AllByRecursion}
 use Rattle.std.specs.List.Sorted.{IsStrictlySortedBy}
 use Rattle.std.proofs.Common.{Less}
 use Rattle.serde_json.specs.Find.{get}
-use Rattle.edm_values.specs.Val.{fields, Held, present}
+use Rattle.edm_values.specs.Val.{fields, FieldVal, present}
 use Rattle.edm_values.specs.declared.value.Value.{Value}
 use Rattle.csdl_schema.specs.ExprType.{ExprType, single, structured}
 use Rattle.csdl_schema.specs.SchemaModel.{Slots, PropertyModel, declared, slots_of, type_name_at, properties_at, IsInNameOrder}
@@ -56,7 +56,7 @@ slot_value row entity slot p type at is_declared =
     let properties : List PropertyModel = properties_at row.schema row.type_id in
     let values : List Value = entity.holds_slots.slots.items in
     let name : List ℕ = type_name_at row.schema row.type_id in
-    let f : (List ℕ → Held) = held_by_name slots properties (map val_of values) in
+    let f : (List ℕ → FieldVal) = held_by_name slots properties (map val_of values) in
     let record_is : value_of row ≡ fields f =
     ap (λ (v : Value). val_of v slots (single (structured name))) entity.holds_slots.value_is ∙ val_of-Record slots (single (structured name)) entity.holds_slots.slots in
     let fits : FitsRecord properties entity.conforms.0 f = subst (Fits slots name entity.conforms.0) record_is entity.conforms.1 in

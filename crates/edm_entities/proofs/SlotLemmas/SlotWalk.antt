@@ -3,7 +3,7 @@ use Rattle.std.proofs.Common.{◌≡◌, ℕ, zero, suc, ◌<◌, List, [], ◌�
 use Rattle.std.specs.List.{AllByRecursion}
 use Rattle.serde_json.specs.Data.{Data}
 use Rattle.serde_json.specs.Find.{get, as_object}
-use Rattle.edm_values.specs.Val.{Held}
+use Rattle.edm_values.specs.Val.{FieldVal}
 use Rattle.edm_values.specs.declared.value.Value.{Value}
 use Rattle.csdl_schema.specs.SchemaModel.{Slots, PropertyModel, PropertyType}
 use Rattle.edm_entities.specs.Fits.{FitsProperty}
@@ -25,7 +25,7 @@ fit_push slots json (p ∷ ps) (suc n) (w ∷ values) v lt fits here = (fits.0, 
 
 -- slots that hold values that fit have members that fit
 some_fit : (slots : Slots) (json : Data) (properties : List PropertyModel) (values : List Value) → FitSlots slots json properties values
-    → AllByRecursion (λ p. (held : Held) × FitsProperty p.type_of (get p.name json) held) properties
+    → AllByRecursion (λ p. (held : FieldVal) × FitsProperty p.type_of (get p.name json) held) properties
 some_fit slots json [] values fits = tt
 some_fit slots json (p ∷ ps) [] fits = absurd fits
 some_fit slots json (p ∷ ps) (v ∷ values) fits = ((held_of slots p.type_of (val_of v), fits.0), some_fit slots json ps values fits.1)

@@ -3,32 +3,32 @@ use Rattle.std.proofs.Common.{◌≡◌, ◌≢◌, inl, inr, ℕ, suc, ◌<◌,
 use Rattle.std.specs.Option.{MatchOption}
 use Rattle.std.proofs.lemmas.Bool.Decides.{eqb_tells}
 use Rattle.std.proofs.lemmas.List.{same_from_push}
-use Rattle.edm_values.specs.StringLiteral.{quote, doubled, StringValue}
+use Rattle.edm_values.specs.StringLiteral.{quote, with_doubled_quotes, StringValue}
 
 -- a text without quotes is not changed
-pub doubled-plain : (text : List ℕ) → ((i : ℕ) → i < length text → get_or text i 0 ≢ quote) → doubled text ≡ text
-doubled-plain [] plain = refl
-doubled-plain (c ∷ cs) plain =
+pub with_doubled_quotes-plain : (text : List ℕ) → ((i : ℕ) → i < length text → get_or text i 0 ≢ quote) → with_doubled_quotes text ≡ text
+with_doubled_quotes-plain [] plain = refl
+with_doubled_quotes-plain (c ∷ cs) plain =
     elim (eqb_tells c 39) [
       | inl same ↦ absurd (plain 0 (omega arith) same.1)
-      | inr other ↦ rw other.0 (ap (λ (xs : List ℕ). c ∷ xs) (doubled-plain cs (λ i below. plain (suc i) (omega arith))))
+      | inr other ↦ rw other.0 (ap (λ (xs : List ℕ). c ∷ xs) (with_doubled_quotes-plain cs (λ i below. plain (suc i) (omega arith))))
     ]
 
-pub doubled-append : (xs ys : List ℕ) → doubled (xs ++ ys) ≡ doubled xs ++ doubled ys
-doubled-append [] ys = refl
-doubled-append (c ∷ cs) ys =
+pub with_doubled_quotes-append : (xs ys : List ℕ) → with_doubled_quotes (xs ++ ys) ≡ with_doubled_quotes xs ++ with_doubled_quotes ys
+with_doubled_quotes-append [] ys = refl
+with_doubled_quotes-append (c ∷ cs) ys =
     elim (eqb_tells c 39) [
-      | inl same ↦ rw (same.0, doubled-append cs ys) refl
-      | inr other ↦ rw (other.0, doubled-append cs ys) refl
+      | inl same ↦ rw (same.0, with_doubled_quotes-append cs ys) refl
+      | inr other ↦ rw (other.0, with_doubled_quotes-append cs ys) refl
     ]
 
 -- a quote that is not doubled stands in no such text
 pub odd_quote : (piece behind text : List ℕ) → ((i : ℕ) → i < length piece → get_or piece i 0 ≢ quote)
-    → ((rest : List ℕ) → behind ≢ quote ∷ rest) → piece ++ (quote ∷ behind) ≡ doubled text → ⊥
+    → ((rest : List ℕ) → behind ≢ quote ∷ rest) → piece ++ (quote ∷ behind) ≡ with_doubled_quotes text → ⊥
 odd_quote [] behind [] plain single same = cc
 odd_quote [] behind (t ∷ ts) plain single same =
     elim (eqb_tells t 39) [
-      | inl is_quote ↦ let same' = rw is_quote.0 at same in let e : behind ≡ 39 ∷ doubled ts = cc in single (doubled ts) e
+      | inl is_quote ↦ let same' = rw is_quote.0 at same in let e : behind ≡ 39 ∷ with_doubled_quotes ts = cc in single (with_doubled_quotes ts) e
       | inr other ↦ let same' = rw other.0 at same in let e : t ≡ 39 = cc in other.1 e
     ]
 odd_quote (c ∷ cs) behind [] plain single same = cc
@@ -37,12 +37,12 @@ odd_quote (c ∷ cs) behind (t ∷ ts) plain single same =
       | inl is_quote ↦ let same' = rw is_quote.0 at same in let e : c ≡ 39 = cc in absurd (plain 0 (omega arith) e)
       | inr other ↦
           let same' = rw other.0 at same in
-          let e : cs ++ (39 ∷ behind) ≡ doubled ts = cc in
+          let e : cs ++ (39 ∷ behind) ≡ with_doubled_quotes ts = cc in
           odd_quote cs behind ts (λ i below. plain (suc i) (omega arith)) single e
     ]
 
 -- what follows the doubled form of a beginning is the doubled form of the rest
-pub doubled_front : (front rest text : List ℕ) → doubled front ++ rest ≡ doubled text → (back : List ℕ) × (rest ≡ doubled back) × (text ≡ front ++ back)
+pub doubled_front : (front rest text : List ℕ) → with_doubled_quotes front ++ rest ≡ with_doubled_quotes text → (back : List ℕ) × (rest ≡ with_doubled_quotes back) × (text ≡ front ++ back)
 doubled_front [] rest text same = (text, same, refl)
 doubled_front (c ∷ cs) rest [] same =
     elim (eqb_tells c 39) [
@@ -56,7 +56,7 @@ doubled_front (c ∷ cs) rest (t ∷ ts) same =
           elim (eqb_tells t 39) [
             | inl also ↦
                 let both = rw also.0 at here in
-                let e : doubled cs ++ rest ≡ doubled ts = cc in
+                let e : with_doubled_quotes cs ++ rest ≡ with_doubled_quotes ts = cc in
                 let found = doubled_front cs rest ts e in
                 let first : t ≡ c = omega arith in
                 (found.0, found.1, cc)
@@ -68,14 +68,14 @@ doubled_front (c ∷ cs) rest (t ∷ ts) same =
             | inl is_quote ↦ let both = rw is_quote.0 at here in let e : c ≡ 39 = cc in absurd (other.1 e)
             | inr not_quote ↦
                 let both = rw not_quote.0 at here in
-                let e : doubled cs ++ rest ≡ doubled ts = cc in
+                let e : with_doubled_quotes cs ++ rest ≡ with_doubled_quotes ts = cc in
                 let first : t ≡ c = cc in
                 let found = doubled_front cs rest ts e in
                 (found.0, found.1, cc)
           ]
     ]
 
-nothing_doubled : (text : List ℕ) → [] ≡ doubled text → text ≡ []
+nothing_doubled : (text : List ℕ) → [] ≡ with_doubled_quotes text → text ≡ []
 nothing_doubled [] same = refl
 nothing_doubled (t ∷ ts) same =
     elim (eqb_tells t 39) [
@@ -84,9 +84,9 @@ nothing_doubled (t ∷ ts) same =
     ]
 
 -- each text has one doubled form, and that is of one text
-pub doubled_same : (xs ys : List ℕ) → doubled xs ≡ doubled ys → xs ≡ ys
+pub doubled_same : (xs ys : List ℕ) → with_doubled_quotes xs ≡ with_doubled_quotes ys → xs ≡ ys
 doubled_same xs ys same =
-    let found = doubled_front xs [] ys (append-nil (doubled xs) ∙ same) in
+    let found = doubled_front xs [] ys (append-nil (with_doubled_quotes xs) ∙ same) in
     sym (found.2 ∙ ap (λ (back : List ℕ). xs ++ back) (nothing_doubled found.0 found.1) ∙ append-nil xs)
 
 -- what stands between two quotes, from what the two calls that strip them give
@@ -104,29 +104,29 @@ between-none None text stripped begins ends = λ inner same. let e : stripped �
 
 -- a piece without quotes and a doubled quote go over from what is left to what is read
 pub one_more : (inner value piece rest : List ℕ) → ((i : ℕ) → i < length piece → get_or piece i 0 ≢ quote)
-    → inner ≡ doubled value ++ (piece ++ (39 ∷ 39 ∷ rest)) → inner ≡ doubled ((value ++ piece) ++ (39 ∷ [])) ++ rest
+    → inner ≡ with_doubled_quotes value ++ (piece ++ (39 ∷ 39 ∷ rest)) → inner ≡ with_doubled_quotes ((value ++ piece) ++ (39 ∷ [])) ++ rest
 one_more inner value piece rest plain same =
-    same ∙ sym (ap (λ (xs : List ℕ). xs ++ rest) (doubled-append (value ++ piece) (39 ∷ []))
-    ∙ ap (λ (xs : List ℕ). (xs ++ (39 ∷ 39 ∷ [])) ++ rest) (doubled-append value piece ∙ ap (λ (xs : List ℕ). doubled value ++ xs) (doubled-plain piece plain))
+    same ∙ sym (ap (λ (xs : List ℕ). xs ++ rest) (with_doubled_quotes-append (value ++ piece) (39 ∷ []))
+    ∙ ap (λ (xs : List ℕ). (xs ++ (39 ∷ 39 ∷ [])) ++ rest) (with_doubled_quotes-append value piece ∙ ap (λ (xs : List ℕ). with_doubled_quotes value ++ xs) (with_doubled_quotes-plain piece plain))
     ∙ simp append_assoc)
 
 -- a spelling has one value
 pub StringValue-same : (spelling value other : List ℕ) → StringValue spelling value → StringValue spelling other → value ≡ other
 StringValue-same spelling value other first second =
-    let e : doubled value ++ (39 ∷ []) ≡ doubled other ++ (39 ∷ []) = cc in
-    doubled_same value other (same_from_push (doubled value) (doubled other) 39 39 e).0
+    let e : with_doubled_quotes value ++ (39 ∷ []) ≡ with_doubled_quotes other ++ (39 ∷ []) = cc in
+    doubled_same value other (same_from_push (with_doubled_quotes value) (with_doubled_quotes other) 39 39 e).0
 
 -- a piece without quotes and a doubled quote go over from what is left to what is written
 pub one_quoted : (all written piece behind rest next last : List ℕ) → ((i : ℕ) → i < length piece → get_or piece i 0 ≢ quote)
-    → rest ≡ piece ++ (39 ∷ behind) → all ≡ written ++ doubled rest → next ≡ written ++ piece → last ≡ next ++ (39 ∷ 39 ∷ [])
-    → all ≡ last ++ doubled behind
+    → rest ≡ piece ++ (39 ∷ behind) → all ≡ written ++ with_doubled_quotes rest → next ≡ written ++ piece → last ≡ next ++ (39 ∷ 39 ∷ [])
+    → all ≡ last ++ with_doubled_quotes behind
 one_quoted all written piece behind rest next last plain cut same is_next is_last =
-    let e : doubled rest ≡ piece ++ (39 ∷ 39 ∷ doubled behind) =
-    ap doubled cut ∙ doubled-append piece (39 ∷ behind) ∙ ap (λ (xs : List ℕ). xs ++ (39 ∷ 39 ∷ doubled behind)) (doubled-plain piece plain) in
+    let e : with_doubled_quotes rest ≡ piece ++ (39 ∷ 39 ∷ with_doubled_quotes behind) =
+    ap with_doubled_quotes cut ∙ with_doubled_quotes-append piece (39 ∷ behind) ∙ ap (λ (xs : List ℕ). xs ++ (39 ∷ 39 ∷ with_doubled_quotes behind)) (with_doubled_quotes-plain piece plain) in
     same ∙ ap (λ (xs : List ℕ). written ++ xs) e
-    ∙ sym (ap (λ (xs : List ℕ). xs ++ doubled behind) (is_last ∙ ap (λ (xs : List ℕ). xs ++ (39 ∷ 39 ∷ [])) is_next) ∙ simp append_assoc)
+    ∙ sym (ap (λ (xs : List ℕ). xs ++ with_doubled_quotes behind) (is_last ∙ ap (λ (xs : List ℕ). xs ++ (39 ∷ 39 ∷ [])) is_next) ∙ simp append_assoc)
 
 pub last_quoted : (all written rest next last : List ℕ) → ((i : ℕ) → i < length rest → get_or rest i 0 ≢ quote)
-    → all ≡ written ++ doubled rest → next ≡ written ++ rest → last ≡ next ++ (39 ∷ []) → last ≡ all ++ (39 ∷ [])
+    → all ≡ written ++ with_doubled_quotes rest → next ≡ written ++ rest → last ≡ next ++ (39 ∷ []) → last ≡ all ++ (39 ∷ [])
 last_quoted all written rest next last plain same is_next is_last =
-    is_last ∙ ap (λ (xs : List ℕ). xs ++ (39 ∷ [])) (is_next ∙ ap (λ (xs : List ℕ). written ++ xs) (sym (doubled-plain rest plain)) ∙ sym same)
+    is_last ∙ ap (λ (xs : List ℕ). xs ++ (39 ∷ [])) (is_next ∙ ap (λ (xs : List ℕ). written ++ xs) (sym (with_doubled_quotes-plain rest plain)) ∙ sym same)

@@ -3,7 +3,7 @@ use Rattle.std.proofs.Common.{◌≡◌, refl, sym, ◌∙◌, ap, ℕ, length, 
 use Rattle.std.specs.Str.{str_to_ascii_lowercase}
 use Rattle.std.specs.Prelude.{codes}
 use Rattle.std.proofs.lemmas.Slice.Eq.{bytes_eq-Decides}
-use Rattle.edm_values.specs.Val.{Val, null, boolean, whole, text, fields, Held, absent, present}
+use Rattle.edm_values.specs.Val.{Val, null, boolean, whole, text, fields, FieldVal, absent, present}
 use Rattle.odata_syntax.specs.declared.node.BinaryOperator.{BinaryOperator}
 use Rattle.odata_syntax.specs.declared.node.LiteralKind.{LiteralKind}
 use Rattle.odata_syntax.specs.declared.node.LiteralKind.TheVariants.{Bool as BoolLiteral, Int as IntLiteral, Str as StrLiteral}
@@ -58,7 +58,7 @@ pub OperatorGives-one : (operator : BinaryOperator) (v : Val) (Right : Outcome �
 OperatorGives-one BinaryOperator.And v Right one a b p q = AndGives-one v Right one a b p q
 OperatorGives-one BinaryOperator.Eq v Right one a b p q = After-one Right (EqualGives v) one (EqualGives-one v) a b p q
 
-pub HeldGives-one : (h : Held) → AtMostOne (HeldGives h)
+pub HeldGives-one : (h : FieldVal) → AtMostOne (HeldGives h)
 HeldGives-one (present v) a b p q = same_one (gives v) a b p q
 HeldGives-one absent a b p q = absurd p
 

@@ -9,7 +9,7 @@ use Rattle.std.proofs.lemmas.Slice.Eq.{bytes_eq-Decides}
 use Rattle.edm_values.specs.MomentParts.{MomentParts}
 use Rattle.edm_values.specs.IntLiteral.{IntValue}
 use Rattle.edm_values.specs.NumberTypes.{IsIntLiteralType}
-use Rattle.edm_values.specs.Val.{Val, null, boolean, whole, text, fields, Held, absent, present}
+use Rattle.edm_values.specs.Val.{Val, null, boolean, whole, text, fields, FieldVal, absent, present}
 use Rattle.edm_values.specs.declared.primitive.PrimitiveType.{PrimitiveType}
 use Rattle.odata_syntax.specs.Tree.{Tree, node, literal, name, binary}
 use Rattle.odata_syntax.specs.declared.node.LiteralKind.{LiteralKind}
@@ -65,7 +65,7 @@ variable_fits slots (bound ∷ more) asked fitting =
       | false ↦ variable_fits slots more asked fitting.1
     ]
 
-held_ends : (slots : Slots) (type : ExprType) (held : Held) → HasPropertyType slots (declared type) held → Ends slots type (HeldGives held)
+held_ends : (slots : Slots) (type : ExprType) (held : FieldVal) → HasPropertyType slots (declared type) held → Ends slots type (HeldGives held)
 held_ends slots type (present v) has = (v, (refl, has))
 held_ends slots type absent has = absurd has
 

@@ -9,7 +9,7 @@ use Rattle.std.proofs.lemmas.Slice.Eq.{bytes_eq-Decides}
 use Rattle.serde_json.specs.Data.{Data}
 use Rattle.serde_json.specs.Find.{get}
 use Rattle.edm_values.specs.PlainVal.{plain_val}
-use Rattle.edm_values.specs.Val.{Val, null, boolean, whole, text, fields, Held, present}
+use Rattle.edm_values.specs.Val.{Val, null, boolean, whole, text, fields, FieldVal, present}
 use Rattle.edm_values.specs.declared.primitive.PrimitiveType.{PrimitiveType}
 use Rattle.edm_values.specs.declared.value.Value.{Value, Record, Null, Bool, Int, Text, Date, Moment, Guid, Enum, Record', List', the_lemmas}
 use Rattle.csdl_schema.specs.ExprType.{ExprType, single, primitive, structured}
@@ -32,7 +32,7 @@ same_sides a b = same_from_decides (pointwise nat_eq a b) (pointwise nat_eq b a)
 
 module _ (slots : Slots) (asked : List ℕ) (type : ExprType) (v : Value) where
   -- at one property more
-  at_front : (is_it : Truth) (p : PropertyModel) (w : Value) (ws : List Value) (n : ℕ) (found : Option PropertyModel) (behind : Held)
+  at_front : (is_it : Truth) (p : PropertyModel) (w : Value) (ws : List Value) (n : ℕ) (found : Option PropertyModel) (behind : FieldVal)
       → slice_get (w ∷ ws) (cond (not is_it) (1 + n) 0) ≡ Some v
       → IsSomeAnd (cond is_it (Some p) found) (λ q. q.type_of ≡ declared type)
       → (slice_get ws n ≡ Some v → IsSomeAnd found (λ q. q.type_of ≡ declared type) → behind ≡ present (val_of v slots type))
@@ -107,7 +107,7 @@ slot_value row slot v asked type entity holds named typed =
     let slots : Slots = slots_of row.schema in
     let type_name : List ℕ = type_name_at row.schema row.type_id in
     let values : List Value = holds.0.items in
-    let held : List ℕ → Held = held_by_name slots (slots type_name) (map val_of values) in
+    let held : List ℕ → FieldVal = held_by_name slots (slots type_name) (map val_of values) in
     let seen : value_of row ≡ fields held =
     ap (λ (h : Value). val_of h slots (single (structured type_name))) holds.1.0 ∙ val_of-Record slots (single (structured type_name)) holds.0 in
     let fits : Fits slots type_name entity.conforms.0 (fields held) = subst (Fits slots type_name entity.conforms.0) seen entity.conforms.1 in
@@ -119,5 +119,5 @@ slot_value row slot v asked type entity holds named typed =
     let plain : plain_val v ≡ Some (val_of v slots type) =
     plain_property slots type (get asked entity.conforms.0) v (subst (FitsProperty (declared type) (get asked entity.conforms.0)) here fits_here) in
     let gives_it : StepGives (fields held) asked (gives (val_of v slots type)) =
-    subst (λ (h : Held). HeldGives h (gives (val_of v slots type))) (sym here) refl in
+    subst (λ (h : FieldVal). HeldGives h (gives (val_of v slots type))) (sym here) refl in
     (val_of v slots type, (plain, subst (λ (e : Val). StepGives e asked (gives (val_of v slots type))) (sym seen) gives_it))

@@ -8,10 +8,10 @@ use Rattle.std.proofs.lemmas.Bool.Decides.{nat_tests}
 use Rattle.edm_values.specs.GuidLiteral.{IsGuidSpelling}
 use Rattle.edm_values.specs.IntLiteral.{IsIntSpelling}
 use Rattle.edm_values.specs.MomentLiteral.{IsMomentSpelling, IsOffsetSpelling, IsSecondsSpelling}
-use Rattle.edm_values.specs.StringLiteral.{IsStringSpelling, doubled}
+use Rattle.edm_values.specs.StringLiteral.{IsStringSpelling, with_doubled_quotes}
 use Rattle.odata_text.specs.Identifier.{IsIdentifier}
 use Rattle.odata_text.specs.LeftOut.{IsDecimals, IsExponent, IsFraction}
-use Rattle.odata_text.specs.private.Patterns.{Fits, passes}
+use Rattle.odata_text.specs.private.Patterns.{PassesTests, passes}
 use Rattle.odata_text.specs.Spelling.{IsFormed, IsLeftOutName, IsWordSpelling, dotted_parts}
 use Rattle.odata_text.specs.declared.byte_test.ByteTest.{ByteTest}
 use Rattle.odata_text.specs.declared.byte_test.ByteTest.TheVariants.{HexDigit, Hyphen, Sign as SignTest, TimeMark, OffsetMark}
@@ -24,7 +24,7 @@ use Rattle.odata_text.proofs.spellings.Decimals.{IsIntByte, int-byte}
 use Rattle.odata_text.proofs.spellings.Guids.{fits-guid, guid_pattern}
 use Rattle.odata_text.proofs.characters.IdentifierBytes.{identifier-nonempty, identifier-part, identifier-start, is_part_byte, is_word_start}
 use Rattle.odata_text.proofs.spellings.Names.{left_out-letters}
-use Rattle.odata_text.proofs.spellings.Quotes.{open-doubled}
+use Rattle.odata_text.proofs.spellings.Quotes.{open-with_doubled_quotes}
 use Rattle.odata_text.proofs.spellings.Times.{IsSecondsByte, clock_pattern, date_pattern, fits-clock, fits-date, fits-marked, offset-fits, parts-from_moment, seconds-byte}
 use Rattle.odata_text.proofs.machine.States.{Letter, AnE, AHexLetter, ADigit, ALetter, AHyphen, State, Start, Text, Sign, SignedDigits, Pointed, Powered, Digits, PowerDigits, PowerHyphen, OneHyphen, TwoHyphens, Hexes, Clock, Timed, Ahead, Name, Dotted, Dollared, Lead, Bare, Named, Qualified, enter, form_at, run, step}
 use Rattle.odata_text.proofs.machine.Steps.{digit-goes, goes-both, goes-digits, goes-fits, goes-text, hex-sorts, name-starts, part-kept, stays}
@@ -86,11 +86,11 @@ named-run xs name =
 
 text-run : (q : State) (lead : Lead) (xs : List ℕ) → step q 39 ≡ Text lead Opened → IsStringSpelling xs → fold step q xs ≡ Text lead Closed
 text-run q lead xs opens spelled =
-    let behind = doubled spelled.0 ++ 39 ∷ [] in
+    let behind = with_doubled_quotes spelled.0 ++ 39 ∷ [] in
     ap (fold step q) spelled.1
     ∙ ap (λ (s : State). fold step s behind) opens
     ∙ goes-text lead Opened behind
-    ∙ ap (Text lead) (open-doubled spelled.0 (39 ∷ []))
+    ∙ ap (Text lead) (open-with_doubled_quotes spelled.0 (39 ∷ []))
 
 -- Numbers.
 
@@ -175,7 +175,7 @@ seconds-run q xs dot colon digit seconds = stays IsSecondsByte q xs kept (second
 offset-run : (xs : List ℕ) → IsOffsetSpelling xs → form_at (fold step Timed xs) ≡ Some (Token Moment)
 offset-run xs offset = ⊎_elim (λ mark. ap form_at (goes-fits (OffsetMark ∷ []) Timed xs refl mark)) (λ ahead. sign xs ahead) (offset-fits xs offset)
   where
-    sign : (ys : List ℕ) → Fits (SignTest ∷ clock_pattern) ys → form_at (fold step Timed ys) ≡ Some (Token Moment)
+    sign : (ys : List ℕ) → PassesTests (SignTest ∷ clock_pattern) ys → form_at (fold step Timed ys) ≡ Some (Token Moment)
     sign [] fits = absurd fits
     sign (b ∷ clock) fits =
         let ahead : step Timed b ≡ Ahead = ⊎_elim (λ plus. ap (step Timed) (eqb-true b 43 plus)) (λ minus. ap (step Timed) (eqb-true b 45 minus)) (or_cases (b == 43) (b == 45) fits.0) in
@@ -240,7 +240,7 @@ level-step Hyphen b n q known passed some below =
     rw is (omega arith)
 level-step _ b n q known passed some below = absurd (false≢true known)
 
-level-fits : (tests : List ByteTest) (xs : List ℕ) (n : ℕ) (q : State) → list_all is_guid_test tests ≡ true → Fits tests xs → 0 < n → n ≤ level q
+level-fits : (tests : List ByteTest) (xs : List ℕ) (n : ℕ) (q : State) → list_all is_guid_test tests ≡ true → PassesTests tests xs → 0 < n → n ≤ level q
     → fold level_after n tests ≤ level (fold step q xs)
 level-fits [] [] n q known fits some below = below
 level-fits [] (b ∷ bs) n q known fits some below = absurd fits
@@ -260,7 +260,7 @@ level-guid _ top = absurd (omega arith)
 guid-run : (xs : List ℕ) → IsGuidSpelling xs → run xs ≡ Hexes
 guid-run xs guid = first xs (fits-guid xs guid)
   where
-    first : (ys : List ℕ) → Fits guid_pattern ys → run ys ≡ Hexes
+    first : (ys : List ℕ) → PassesTests guid_pattern ys → run ys ≡ Hexes
     first [] fits = absurd fits
     first (b ∷ bs) fits =
         let start : 1 ≤ level (step Start b) =

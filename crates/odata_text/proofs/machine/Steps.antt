@@ -9,7 +9,7 @@ use Rattle.std.proofs.lemmas.Bool.Decides.{nat_tests}
 use Rattle.std.proofs.lemmas.List.Sums.{fold-append}
 use Rattle.std.proofs.lemmas.Str.Parse.{digit_at}
 use Rattle.odata_text.specs.private.Lengths.{quoted_after}
-use Rattle.odata_text.specs.private.Patterns.{Fits, passes}
+use Rattle.odata_text.specs.private.Patterns.{PassesTests, passes}
 use Rattle.odata_text.specs.declared.byte_test.ByteTest.{ByteTest}
 use Rattle.odata_text.specs.declared.byte_test.ByteTest.TheVariants.{Digit, HexDigit, Hyphen, Colon, Dot, Sign, TimeMark, OffsetMark, ExponentMark}
 use Rattle.odata_text.specs.declared.quoted.Quoted.{Quoted}
@@ -156,7 +156,7 @@ passes-sort TimeMark b plain passed = either-sort b 84 116 (ALetter ATime) passe
 passes-sort OffsetMark b plain passed = either-sort b 90 122 (ALetter AZulu) passed refl refl
 passes-sort ExponentMark b plain passed = either-sort b 101 69 (ALetter AnE) passed refl refl
 
-pub goes-fits : (tests : List ByteTest) (q : State) (xs : List ℕ) → list_all is_plain tests ≡ true → Fits tests xs → fold step q xs ≡ fold enter q (map test_sort tests)
+pub goes-fits : (tests : List ByteTest) (q : State) (xs : List ℕ) → list_all is_plain tests ≡ true → PassesTests tests xs → fold step q xs ≡ fold enter q (map test_sort tests)
 goes-fits [] q [] plain fits = refl
 goes-fits [] q (b ∷ bs) plain fits = absurd fits
 goes-fits (test ∷ tests) q [] plain fits = absurd fits

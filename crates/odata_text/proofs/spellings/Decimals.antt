@@ -1,15 +1,12 @@
 -- Fractions, exponents and numbers with either at the front of a text.
 use Rattle.std.proofs.Common.{◌≡◌, ◌⊎◌, inl, inr, ⊎_elim, ℕ, zero, suc, ◌<◌, ◌≤◌, true, List, [], ◌∷◌, length, get_or, arith, refl, sym, ◌∙◌, ap, subst, length-append}
-use Rattle.std.specs.Char.{is_ascii_digit}
-use Rattle.std.specs.List.{prefix_len}
 use Rattle.std.specs.Str.Parse.{IsNumeral}
 use Rattle.std.proofs.Math.ListN.{get_or-append}
 use Rattle.std.proofs.lemmas.Bool.Decides.{nat_tests}
 use Rattle.std.proofs.lemmas.Str.Parse.{digit_at}
 use Rattle.edm_values.specs.IntLiteral.{IsIntSpelling}
 use Rattle.odata_text.specs.LeftOut.{IsDecimals, IsExponent, IsFraction}
-use Rattle.odata_text.specs.private.Lengths.{IsReach}
-use Rattle.odata_text.specs.private.Patterns.{Fits, passes}
+use Rattle.odata_text.specs.private.Patterns.{PassesTests, passes}
 use Rattle.odata_text.specs.Sequence.{FollowedBy}
 use Rattle.odata_text.specs.declared.byte_test.ByteTest.TheVariants.{Dot, ExponentMark}
 use Rattle.odata_text.proofs.spellings.Patterns.{fits-exact, fits-nonempty, marked-from_pair, pair-from_marked}
@@ -19,10 +16,10 @@ use Rattle.odata_text.proofs.spellings.Sequences.{ArePieces, exact-by_byte}
 -- A mark, and digits or a whole number.
 
 abbrev pub FractionPair : List ℕ → Type 0
-FractionPair xs = FollowedBy (Fits (Dot ∷ [])) (IsNumeral 10) xs
+FractionPair xs = FollowedBy (PassesTests (Dot ∷ [])) (IsNumeral 10) xs
 
 abbrev pub ExponentPair : List ℕ → Type 0
-ExponentPair xs = FollowedBy (Fits (ExponentMark ∷ [])) IsIntSpelling xs
+ExponentPair xs = FollowedBy (PassesTests (ExponentMark ∷ [])) IsIntSpelling xs
 
 pub fraction-pair : (xs : List ℕ) → IsFraction xs → FractionPair xs
 fraction-pair [] fraction = absurd fraction
@@ -118,10 +115,10 @@ no_exponent xs fraction i inside start = apart (get_or xs i 0) (fraction-byte xs
 
 -- Pieces of two.
 
-pub dot_digits : ArePieces (Fits (Dot ∷ [])) (IsNumeral 10)
+pub dot_digits : ArePieces (PassesTests (Dot ∷ [])) (IsNumeral 10)
 dot_digits = record { no_first = fits-nonempty Dot []; no_second = numeral-none; exact = λ n rest reach some. fits-exact (Dot ∷ []) (IsNumeral 10) n rest reach some }
 
-pub mark_power : ArePieces (Fits (ExponentMark ∷ [])) IsIntSpelling
+pub mark_power : ArePieces (PassesTests (ExponentMark ∷ [])) IsIntSpelling
 mark_power = record { no_first = fits-nonempty ExponentMark []; no_second = λ int. int.1; exact = λ n rest reach some. fits-exact (ExponentMark ∷ []) IsIntSpelling n rest reach some }
 
 pub fraction_exponent : ArePieces IsFraction IsExponent

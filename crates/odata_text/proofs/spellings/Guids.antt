@@ -6,7 +6,7 @@ use Rattle.std.proofs.lemmas.Bool.{eqb-true}
 use Rattle.std.proofs.lemmas.Bool.Decides.{nat_tests}
 use Rattle.std.proofs.lemmas.List.{drop_at, length-take-le, take_at}
 use Rattle.edm_values.specs.GuidLiteral.{IsGuidSpelling, digit_groups, hex_bytes}
-use Rattle.odata_text.specs.private.Patterns.{Fits}
+use Rattle.odata_text.specs.private.Patterns.{PassesTests}
 use Rattle.odata_text.specs.Sequence.{FollowedBy}
 use Rattle.odata_text.specs.declared.byte_test.ByteTest.{ByteTest}
 use Rattle.odata_text.specs.declared.byte_test.ByteTest.TheVariants.{HexDigit, Hyphen}
@@ -21,13 +21,13 @@ guid_pattern =
 
 -- One pattern behind another.
 
-fits-append : (p q : List ByteTest) (xs ys : List ℕ) → Fits p xs → Fits q ys → Fits (p ++ q) (xs ++ ys)
+fits-append : (p q : List ByteTest) (xs ys : List ℕ) → PassesTests p xs → PassesTests q ys → PassesTests (p ++ q) (xs ++ ys)
 fits-append [] q [] ys first second = second
 fits-append [] q (x ∷ xs) ys first second = absurd first
 fits-append (t ∷ p) q [] ys first second = absurd first
 fits-append (t ∷ p) q (x ∷ xs) ys first second = (first.0, fits-append p q xs ys first.1 second)
 
-fits-cut : (p q : List ByteTest) (xs : List ℕ) → Fits (p ++ q) xs → FollowedBy (Fits p) (Fits q) xs
+fits-cut : (p q : List ByteTest) (xs : List ℕ) → PassesTests (p ++ q) xs → FollowedBy (PassesTests p) (PassesTests q) xs
 fits-cut [] q xs fits = record { front = []; back = xs; whole = refl; is_front = tt; is_back = fits }
 fits-cut (t ∷ p) q [] fits = absurd fits
 fits-cut (t ∷ p) q (x ∷ xs) fits =
@@ -46,7 +46,7 @@ abbrev digit_tests : ℕ → List ByteTest
 digit_tests zero = []
 digit_tests (suc n) = HexDigit ∷ digit_tests n
 
-fits-digits : (n : ℕ) (ds : List ℕ) → AllDigits 16 ds → length ds ≡ n → Fits (digit_tests n) ds
+fits-digits : (n : ℕ) (ds : List ℕ) → AllDigits 16 ds → length ds ≡ n → PassesTests (digit_tests n) ds
 fits-digits zero [] all len = tt
 fits-digits zero (d ∷ ds) all len = absurd (omega arith)
 fits-digits (suc n) [] all len = absurd (omega arith)
@@ -57,7 +57,7 @@ record AreDigits (n : ℕ) (ds : List ℕ) : Type 0 where
   all : AllDigits 16 ds
   count : length ds ≡ n
 
-digits-fit : (n : ℕ) (ds : List ℕ) → Fits (digit_tests n) ds → AreDigits n ds
+digits-fit : (n : ℕ) (ds : List ℕ) → PassesTests (digit_tests n) ds → AreDigits n ds
 digits-fit zero [] fits = record { all = tt; count = refl }
 digits-fit zero (d ∷ ds) fits = absurd fits
 digits-fit (suc n) [] fits = absurd fits
@@ -89,7 +89,7 @@ abbrev total : List ℕ → ℕ
 total [] = 12
 total (size ∷ sizes) = size + total sizes
 
-fits-groups : (sizes ds : List ℕ) → AllDigits 16 ds → length ds ≡ total sizes → Fits (group_tests sizes) (digit_groups sizes ds)
+fits-groups : (sizes ds : List ℕ) → AllDigits 16 ds → length ds ≡ total sizes → PassesTests (group_tests sizes) (digit_groups sizes ds)
 fits-groups [] ds all len = fits-digits 12 ds all len
 fits-groups (size ∷ sizes) ds all len =
     let front = fits-digits size (take size ds) (all-take size ds all) (length-take-le size ds (omega arith)) in
@@ -116,13 +116,13 @@ more-groups size sizes xs front back whole first more = record {
 record IsBehindHyphen (tests : List ByteTest) (xs : List ℕ) : Type 0 where
   back : List ℕ
   whole : xs ≡ 45 ∷ back
-  fits : Fits tests back
+  fits : PassesTests tests back
 
-behind_hyphen : (tests : List ByteTest) (xs : List ℕ) → Fits (Hyphen ∷ tests) xs → IsBehindHyphen tests xs
+behind_hyphen : (tests : List ByteTest) (xs : List ℕ) → PassesTests (Hyphen ∷ tests) xs → IsBehindHyphen tests xs
 behind_hyphen tests [] fits = absurd fits
 behind_hyphen tests (b ∷ back) fits = record { back = back; whole = ap (λ (c : ℕ). c ∷ back) (eqb-true b 45 fits.0); fits = fits.1 }
 
-groups-fit : (sizes xs : List ℕ) → Fits (group_tests sizes) xs → AreGroups sizes xs
+groups-fit : (sizes xs : List ℕ) → PassesTests (group_tests sizes) xs → AreGroups sizes xs
 groups-fit [] xs fits = record { digits = xs; are_digits = digits-fit 12 xs fits; spelled = refl }
 groups-fit (size ∷ sizes) xs fits =
     let cut = fits-cut (digit_tests size) (Hyphen ∷ group_tests sizes) xs fits in
@@ -132,11 +132,11 @@ groups-fit (size ∷ sizes) xs fits =
 
 -- Guids.
 
-pub fits-guid : (xs : List ℕ) → IsGuidSpelling xs → Fits guid_pattern xs
+pub fits-guid : (xs : List ℕ) → IsGuidSpelling xs → PassesTests guid_pattern xs
 fits-guid xs (bytes, value) =
-    subst (Fits guid_pattern) (sym value.spelled) (fits-groups (8 ∷ 4 ∷ 4 ∷ 4 ∷ []) value.digits value.all_digits value.count)
+    subst (PassesTests guid_pattern) (sym value.spelled) (fits-groups (8 ∷ 4 ∷ 4 ∷ 4 ∷ []) value.digits value.all_digits value.count)
 
-pub guid-fits : (xs : List ℕ) → Fits guid_pattern xs → IsGuidSpelling xs
+pub guid-fits : (xs : List ℕ) → PassesTests guid_pattern xs → IsGuidSpelling xs
 guid-fits xs fits =
     let groups = groups-fit (8 ∷ 4 ∷ 4 ∷ 4 ∷ []) xs fits in (
       hex_bytes groups.digits,

@@ -3,18 +3,18 @@ use Rattle.std.proofs.Common.{◌≡◌, ℕ, zero, suc, ◌<◌, ◌≤◌, tru
 use Rattle.std.proofs.lemmas.Bool.{both_ways}
 use Rattle.std.proofs.lemmas.List.{get_or-take, length-take-le}
 use Rattle.odata_text.specs.private.Lengths.{IsReach}
-use Rattle.odata_text.specs.private.Patterns.{Fits, passes}
+use Rattle.odata_text.specs.private.Patterns.{PassesTests, passes}
 use Rattle.odata_text.specs.Sequence.{FollowedBy}
 use Rattle.odata_text.specs.declared.byte_test.ByteTest.{ByteTest}
 use Rattle.odata_text.proofs.spellings.Sequences.{IsExact, exact-by_length}
 
-pub fits-length : (tests : List ByteTest) (bytes : List ℕ) → Fits tests bytes → length bytes ≡ length tests
+pub fits-length : (tests : List ByteTest) (bytes : List ℕ) → PassesTests tests bytes → length bytes ≡ length tests
 fits-length [] [] fits = refl
 fits-length [] (b ∷ bytes) fits = absurd fits
 fits-length (t ∷ tests) [] fits = absurd fits
 fits-length (t ∷ tests) (b ∷ bytes) fits = let more = fits-length tests bytes fits.1 in omega arith
 
-pub fits-at : (tests : List ByteTest) (bytes : List ℕ) → Fits tests bytes → (k : ℕ) (d : ByteTest) → k < length tests → passes (get_or tests k d) (get_or bytes k 0) ≡ true
+pub fits-at : (tests : List ByteTest) (bytes : List ℕ) → PassesTests tests bytes → (k : ℕ) (d : ByteTest) → k < length tests → passes (get_or tests k d) (get_or bytes k 0) ≡ true
 fits-at [] [] fits k d below = absurd (omega arith)
 fits-at [] (b ∷ bytes) fits k d below = absurd fits
 fits-at (t ∷ tests) [] fits k d below = absurd fits
@@ -22,19 +22,19 @@ fits-at (t ∷ tests) (b ∷ bytes) fits zero d below = fits.0
 fits-at (t ∷ tests) (b ∷ bytes) fits (suc k) d below = fits-at tests bytes fits.1 k d (omega arith)
 
 fits-from_reads : (tests : List ByteTest) (rest : List ℕ) (d : ByteTest) → length tests ≤ length rest
-    → ((k : ℕ) → k < length tests → passes (get_or tests k d) (get_or rest k 0) ≡ true) → Fits tests (take (length tests) rest)
+    → ((k : ℕ) → k < length tests → passes (get_or tests k d) (get_or rest k 0) ≡ true) → PassesTests tests (take (length tests) rest)
 fits-from_reads [] rest d within reads = tt
 fits-from_reads (t ∷ tests) [] d within reads = absurd (omega arith)
 fits-from_reads (t ∷ tests) (b ∷ rest) d within reads = (reads 0 (omega arith), fits-from_reads tests rest d (omega arith) (λ k below. reads (suc k) (omega arith)))
 
-pub pattern-short : (tests : List ByteTest) (rest : List ℕ) → length rest < length tests → IsReach (Fits tests) 0 rest
+pub pattern-short : (tests : List ByteTest) (rest : List ℕ) → length rest < length tests → IsReach (PassesTests tests) 0 rest
 pattern-short tests rest short = record {
   within = omega arith;
   found = λ positive. absurd (omega arith);
   reaches = λ m inside fits. let size = fits-length tests (take m rest) fits in let taken = length-take-le m rest inside in absurd (omega arith);
 }
 
-pub pattern-fails : (tests : List ByteTest) (rest : List ℕ) (k : ℕ) (d : ByteTest) → k < length tests → passes (get_or tests k d) (get_or rest k 0) ≡ false → IsReach (Fits tests) 0 rest
+pub pattern-fails : (tests : List ByteTest) (rest : List ℕ) (k : ℕ) (d : ByteTest) → k < length tests → passes (get_or tests k d) (get_or rest k 0) ≡ false → IsReach (PassesTests tests) 0 rest
 pattern-fails tests rest k d below fails = record {
   within = omega arith;
   found = λ positive. absurd (omega arith);
@@ -46,7 +46,7 @@ pattern-fails tests rest k d below fails = record {
 }
 
 pub pattern-stands : (tests : List ByteTest) (rest : List ℕ) (d : ByteTest) → length tests ≤ length rest
-    → ((k : ℕ) → k < length tests → passes (get_or tests k d) (get_or rest k 0) ≡ true) → IsReach (Fits tests) (length tests) rest
+    → ((k : ℕ) → k < length tests → passes (get_or tests k d) (get_or rest k 0) ≡ true) → IsReach (PassesTests tests) (length tests) rest
 pattern-stands tests rest d within reads = record {
   within = within;
   found = λ positive. fits-from_reads tests rest d within reads;
@@ -54,14 +54,14 @@ pattern-stands tests rest d within reads = record {
 }
 
 -- a pattern is as long wherever it fits
-pub fits-exact : (tests : List ByteTest) (B : List ℕ → Type 0) (n : ℕ) (rest : List ℕ) → IsReach (Fits tests) n rest → 0 < n → IsExact (Fits tests) B n rest
+pub fits-exact : (tests : List ByteTest) (B : List ℕ → Type 0) (n : ℕ) (rest : List ℕ) → IsReach (PassesTests tests) n rest → 0 < n → IsExact (PassesTests tests) B n rest
 fits-exact tests B n rest reach some =
     let within = reach.within in
     let size = fits-length tests (take n rest) (reach.found some) in
     let taken = length-take-le n rest within in
-    exact-by_length (Fits tests) B n rest (λ xs fits. let here = fits-length tests xs fits in omega arith)
+    exact-by_length (PassesTests tests) B n rest (λ xs fits. let here = fits-length tests xs fits in omega arith)
 
-pub fits-nonempty : (test : ByteTest) (tests : List ByteTest) → Fits (test ∷ tests) [] → ⊥
+pub fits-nonempty : (test : ByteTest) (tests : List ByteTest) → PassesTests (test ∷ tests) [] → ⊥
 fits-nonempty test tests fits = fits
 
 -- a byte that passes a test, and a piece behind it
@@ -72,7 +72,7 @@ pub record IsMarked (test : ByteTest) (B : List ℕ → Type 0) (bytes : List �
   pub is_mark : passes test mark ≡ true
   pub is_behind : B behind
 
-pub pair-from_marked : (test : ByteTest) (B : List ℕ → Type 0) (bytes : List ℕ) → IsMarked test B bytes → FollowedBy (Fits (test ∷ [])) B bytes
+pub pair-from_marked : (test : ByteTest) (B : List ℕ → Type 0) (bytes : List ℕ) → IsMarked test B bytes → FollowedBy (PassesTests (test ∷ [])) B bytes
 pair-from_marked test B bytes marked = record {
   front = marked.mark ∷ [];
   back = marked.behind;
@@ -81,10 +81,10 @@ pair-from_marked test B bytes marked = record {
   is_back = marked.is_behind;
 }
 
-pub marked-from_pair : (test : ByteTest) (B : List ℕ → Type 0) (bytes : List ℕ) → FollowedBy (Fits (test ∷ [])) B bytes → IsMarked test B bytes
+pub marked-from_pair : (test : ByteTest) (B : List ℕ → Type 0) (bytes : List ℕ) → FollowedBy (PassesTests (test ∷ [])) B bytes → IsMarked test B bytes
 marked-from_pair test B bytes pair = parts pair.front pair.back pair.whole pair.is_front pair.is_back
   where
-    parts : (front back : List ℕ) → bytes ≡ front ++ back → Fits (test ∷ []) front → B back → IsMarked test B bytes
+    parts : (front back : List ℕ) → bytes ≡ front ++ back → PassesTests (test ∷ []) front → B back → IsMarked test B bytes
     parts [] back whole fits is_back = absurd fits
     parts (b ∷ []) back whole fits is_back = record { mark = b; behind = back; whole = whole; is_mark = fits.0; is_behind = is_back }
     parts (b ∷ c ∷ more) back whole fits is_back = absurd fits.1

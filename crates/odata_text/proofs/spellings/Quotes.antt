@@ -6,7 +6,7 @@ use Rattle.std.proofs.lemmas.Bool.Decides.{eqb_tells}
 use Rattle.std.proofs.lemmas.List.{take-append-drop, take-take}
 use Rattle.std.proofs.lemmas.List.Sums.{fold-append, fold_more}
 use Rattle.odata_text.specs.private.Lengths.{IsReach, quoted_after, quoted_of}
-use Rattle.edm_values.specs.StringLiteral.{doubled, IsStringSpelling}
+use Rattle.edm_values.specs.StringLiteral.{with_doubled_quotes, IsStringSpelling}
 use Rattle.odata_text.specs.declared.quoted.Quoted.{Quoted}
 use Rattle.odata_text.specs.declared.quoted.Quoted.TheVariants.{Before, Open, Closed, Over}
 
@@ -39,29 +39,29 @@ over-stays (x ∷ xs) = over-stays xs
 never_closes : (xs : List ℕ) → fold quoted_after Over xs ≡ Closed → ⊥
 never_closes xs closed = let stuck : Over ≡ Closed = sym (over-stays xs) ∙ closed in cc
 
-doubled-other : (c : ℕ) (cs : List ℕ) → (c == 39) ≡ false → doubled (c ∷ cs) ≡ c ∷ doubled cs
-doubled-other c cs e = cond-false (c == 39) (39 ∷ 39 ∷ doubled cs) (c ∷ doubled cs) e
+with_doubled_quotes-other : (c : ℕ) (cs : List ℕ) → (c == 39) ≡ false → with_doubled_quotes (c ∷ cs) ≡ c ∷ with_doubled_quotes cs
+with_doubled_quotes-other c cs e = cond-false (c == 39) (39 ∷ 39 ∷ with_doubled_quotes cs) (c ∷ with_doubled_quotes cs) e
 
-doubled-quote : (c : ℕ) (cs : List ℕ) → (c == 39) ≡ true → doubled (c ∷ cs) ≡ 39 ∷ 39 ∷ doubled cs
-doubled-quote c cs e = cond-true (c == 39) (39 ∷ 39 ∷ doubled cs) (c ∷ doubled cs) e
+with_doubled_quotes-quote : (c : ℕ) (cs : List ℕ) → (c == 39) ≡ true → with_doubled_quotes (c ∷ cs) ≡ 39 ∷ 39 ∷ with_doubled_quotes cs
+with_doubled_quotes-quote c cs e = cond-true (c == 39) (39 ∷ 39 ∷ with_doubled_quotes cs) (c ∷ with_doubled_quotes cs) e
 
 -- doubled quotes leave a text open
-pub open-doubled : (value more : List ℕ) → fold quoted_after Open (doubled value ++ more) ≡ fold quoted_after Open more
-open-doubled [] more = refl
-open-doubled (c ∷ cs) more =
+pub open-with_doubled_quotes : (value more : List ℕ) → fold quoted_after Open (with_doubled_quotes value ++ more) ≡ fold quoted_after Open more
+open-with_doubled_quotes [] more = refl
+open-with_doubled_quotes (c ∷ cs) more =
     elim (eqb_tells c 39) [
-      | inl same ↦ ap (λ (ys : List ℕ). fold quoted_after Open (ys ++ more)) (doubled-quote c cs same.0) ∙ open-doubled cs more
+      | inl same ↦ ap (λ (ys : List ℕ). fold quoted_after Open (ys ++ more)) (with_doubled_quotes-quote c cs same.0) ∙ open-with_doubled_quotes cs more
       | inr other ↦
-          ap (λ (ys : List ℕ). fold quoted_after Open (ys ++ more)) (doubled-other c cs other.0)
-          ∙ ap (λ (q : Quoted). fold quoted_after q (doubled cs ++ more)) (open-other c other.0)
-          ∙ open-doubled cs more
+          ap (λ (ys : List ℕ). fold quoted_after Open (ys ++ more)) (with_doubled_quotes-other c cs other.0)
+          ∙ ap (λ (q : Quoted). fold quoted_after q (with_doubled_quotes cs ++ more)) (open-other c other.0)
+          ∙ open-with_doubled_quotes cs more
     ]
 
 closed-from_spelling : (xs : List ℕ) → IsStringSpelling xs → quoted_of xs ≡ Closed
-closed-from_spelling xs spelled = ap quoted_of spelled.1 ∙ open-doubled spelled.0 (39 ∷ [])
+closed-from_spelling xs spelled = ap quoted_of spelled.1 ∙ open-with_doubled_quotes spelled.0 (39 ∷ [])
 
 -- what closes an open text is a value with its quotes doubled, and a quote
-closing : (xs : List ℕ) → fold quoted_after Open xs ≡ Closed → (value : List ℕ) × (xs ≡ doubled value ++ 39 ∷ [])
+closing : (xs : List ℕ) → fold quoted_after Open xs ≡ Closed → (value : List ℕ) × (xs ≡ with_doubled_quotes value ++ 39 ∷ [])
 closing [] closed = cc
 closing (b ∷ []) closed =
     elim (eqb_tells b 39) [
@@ -81,7 +81,7 @@ closing (b ∷ c ∷ rest) closed =
       ]
       | inr other ↦
           let found = closing (c ∷ rest) (behind (c ∷ rest) (open-other b other.0) closed) in
-          (b ∷ found.0, ap (λ (ys : List ℕ). b ∷ ys) found.1 ∙ ap (λ (ys : List ℕ). ys ++ 39 ∷ []) (sym (doubled-other b found.0 other.0)))
+          (b ∷ found.0, ap (λ (ys : List ℕ). b ∷ ys) found.1 ∙ ap (λ (ys : List ℕ). ys ++ 39 ∷ []) (sym (with_doubled_quotes-other b found.0 other.0)))
     ]
 
 spelling-from_closed : (xs : List ℕ) → quoted_of xs ≡ Closed → IsStringSpelling xs

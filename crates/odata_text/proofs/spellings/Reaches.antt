@@ -12,7 +12,7 @@ use Rattle.std.proofs.lemmas.Str.Parse.{digit_at, numerals_by_value, tells_by_in
 use Rattle.edm_values.specs.IntLiteral.{IsIntSpelling}
 use Rattle.odata_text.specs.Sequence.{FollowedBy}
 use Rattle.odata_text.specs.private.Lengths.{IsReach}
-use Rattle.odata_text.specs.private.Patterns.{Fits, passes}
+use Rattle.odata_text.specs.private.Patterns.{PassesTests, passes}
 use Rattle.odata_text.specs.declared.byte_test.ByteTest.TheVariants.{Sign}
 use Rattle.odata_text.proofs.spellings.Patterns.{fits-exact, fits-nonempty, marked-from_pair, pair-from_marked}
 use Rattle.odata_text.proofs.spellings.Sequences.{ArePieces}
@@ -63,12 +63,12 @@ numeral-none numeral = let some = numeral.0 in absurd (omega arith)
 -- Whole numbers: digits, or a sign and digits behind it.
 
 abbrev pub SignedPair : List ℕ → Type 0
-SignedPair xs = FollowedBy (Fits (Sign ∷ [])) (IsNumeral 10) xs
+SignedPair xs = FollowedBy (PassesTests (Sign ∷ [])) (IsNumeral 10) xs
 
 abbrev pub IntParts : List ℕ → Type 0
 IntParts xs = IsNumeral 10 xs ⊎ SignedPair xs
 
-pub sign_digits : ArePieces (Fits (Sign ∷ [])) (IsNumeral 10)
+pub sign_digits : ArePieces (PassesTests (Sign ∷ [])) (IsNumeral 10)
 sign_digits = record { no_first = fits-nonempty Sign []; no_second = numeral-none; exact = λ n rest reach some. fits-exact (Sign ∷ []) (IsNumeral 10) n rest reach some }
 
 marked-digits : (c : ℕ) (ds : List ℕ) → passes Sign c ≡ true → IsNumeral 10 ds → SignedPair (c ∷ ds)

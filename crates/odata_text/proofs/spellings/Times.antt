@@ -10,7 +10,7 @@ use Rattle.edm_values.specs.DateLiteral.{IsDateSpelling, date_text, two_digits}
 use Rattle.edm_values.specs.MomentLiteral.{IsClockSpelling, IsMomentSpelling, IsOffsetSpelling, IsSecondsSpelling, clock_text}
 use Rattle.odata_text.specs.LeftOut.{IsFraction, IsTimeOfDaySpelling}
 use Rattle.odata_text.specs.private.Lengths.{IsReach}
-use Rattle.odata_text.specs.private.Patterns.{Fits, IsMarkedClock, IsTimed, IsZoned, passes}
+use Rattle.odata_text.specs.private.Patterns.{PassesTests, IsMarkedClock, IsTimed, IsZoned, passes}
 use Rattle.odata_text.specs.Sequence.{FollowedBy}
 use Rattle.odata_text.specs.declared.byte_test.ByteTest.{ByteTest}
 use Rattle.odata_text.specs.declared.byte_test.ByteTest.TheVariants.{Digit, Hyphen, Colon, Sign, TimeMark, OffsetMark}
@@ -52,11 +52,11 @@ two a b first second =
 abbrev pub clock_pattern : List ByteTest
 clock_pattern = Digit ∷ Digit ∷ Colon ∷ Digit ∷ Digit ∷ []
 
-pub fits-clock : (xs : List ℕ) → IsClockSpelling xs → Fits clock_pattern xs
+pub fits-clock : (xs : List ℕ) → IsClockSpelling xs → PassesTests clock_pattern xs
 fits-clock xs (h, m, small_h, small_m, same) =
-    subst (Fits clock_pattern) (sym same) (tens h small_h, (units h, (refl, (tens m small_m, (units m, tt)))))
+    subst (PassesTests clock_pattern) (sym same) (tens h small_h, (units h, (refl, (tens m small_m, (units m, tt)))))
 
-pub clock-fits : (xs : List ℕ) → Fits clock_pattern xs → IsClockSpelling xs
+pub clock-fits : (xs : List ℕ) → PassesTests clock_pattern xs → IsClockSpelling xs
 clock-fits xs fits =
     let test = fits-at clock_pattern xs fits in
     let hour = two (get_or xs 0 0) (get_or xs 1 0) (test 0 Digit (omega arith)) (test 1 Digit (omega arith)) in
@@ -77,17 +77,17 @@ clock-fits xs fits =
 abbrev pub date_pattern : List ByteTest
 date_pattern = Digit ∷ Digit ∷ Digit ∷ Digit ∷ Hyphen ∷ Digit ∷ Digit ∷ Hyphen ∷ Digit ∷ Digit ∷ []
 
-pub fits-date : (xs : List ℕ) → IsDateSpelling xs → Fits date_pattern xs
+pub fits-date : (xs : List ℕ) → IsDateSpelling xs → PassesTests date_pattern xs
 fits-date xs (y, m, d, small_y, small_m, small_d, same) =
     let century : y / 100 < 100 = omega arith in
     let year : y % 100 < 100 = omega arith in
-    subst (Fits date_pattern) (sym same)
+    subst (PassesTests date_pattern) (sym same)
     (tens (y / 100) century, (units (y / 100), (tens (y % 100) year, (units (y % 100), (refl, (tens m small_m, (units m, (refl, (tens d small_d, (units d, tt))))))))))
 
 year-parts : (c n : ℕ) → c < 100 → n < 100 → ((100 * c + n) / 100 ≡ c) × ((100 * c + n) % 100 ≡ n)
 year-parts c n small_c small_n = (omega arith, omega arith)
 
-pub date-fits : (xs : List ℕ) → Fits date_pattern xs → IsDateSpelling xs
+pub date-fits : (xs : List ℕ) → PassesTests date_pattern xs → IsDateSpelling xs
 date-fits xs fits =
     let test = fits-at date_pattern xs fits in
     let century = two (get_or xs 0 0) (get_or xs 1 0) (test 0 Digit (omega arith)) (test 1 Digit (omega arith)) in
@@ -118,7 +118,7 @@ date-fits xs fits =
 
 -- `Thh:mm`, and a sign and `hh:mm`.
 
-pub fits-marked : (xs : List ℕ) → IsMarkedClock xs → Fits (TimeMark ∷ clock_pattern) xs
+pub fits-marked : (xs : List ℕ) → IsMarkedClock xs → PassesTests (TimeMark ∷ clock_pattern) xs
 fits-marked [] marked = absurd marked
 fits-marked (letter ∷ clock) marked = (mark letter marked.0, fits-clock clock marked.1)
   where
@@ -126,14 +126,14 @@ fits-marked (letter ∷ clock) marked = (mark letter marked.0, fits-clock clock 
     mark b (inl big) = ap (passes TimeMark) big
     mark b (inr small) = ap (passes TimeMark) small
 
-pub marked-fits : (xs : List ℕ) → Fits (TimeMark ∷ clock_pattern) xs → IsMarkedClock xs
+pub marked-fits : (xs : List ℕ) → PassesTests (TimeMark ∷ clock_pattern) xs → IsMarkedClock xs
 marked-fits [] fits = absurd fits
 marked-fits (letter ∷ clock) fits = (mark letter fits.0, clock-fits clock fits.1)
   where
     mark : (b : ℕ) → passes TimeMark b ≡ true → (b ≡ 84) ⊎ (b ≡ 116)
     mark b e = grind (arith, nat_tests)
 
-pub fits-ahead : (xs : List ℕ) → Fits (Sign ∷ clock_pattern) xs → (sign : ℕ) × (clock : List ℕ) × ((sign ≡ 43) ⊎ (sign ≡ 45)) × IsClockSpelling clock × (xs ≡ sign ∷ clock)
+pub fits-ahead : (xs : List ℕ) → PassesTests (Sign ∷ clock_pattern) xs → (sign : ℕ) × (clock : List ℕ) × ((sign ≡ 43) ⊎ (sign ≡ 45)) × IsClockSpelling clock × (xs ≡ sign ∷ clock)
 fits-ahead [] fits = absurd fits
 fits-ahead (sign ∷ clock) fits = (sign, clock, is_sign sign fits.0, clock-fits clock fits.1, refl)
   where
@@ -147,9 +147,9 @@ seconds_pattern = Colon ∷ Digit ∷ Digit ∷ []
 
 -- `:ss`, perhaps with a fraction
 abbrev pub IsSecond : List ℕ → Type 0
-IsSecond xs = FollowedBy (Fits seconds_pattern) (Perhaps IsFraction) xs
+IsSecond xs = FollowedBy (PassesTests seconds_pattern) (Perhaps IsFraction) xs
 
-fits-seconds : (n : ℕ) → n < 100 → Fits seconds_pattern (58 ∷ two_digits n)
+fits-seconds : (n : ℕ) → n < 100 → PassesTests seconds_pattern (58 ∷ two_digits n)
 fits-seconds n small = (refl, (tens n small, (units n, tt)))
 
 pub second-from_seconds : (xs : List ℕ) → IsSecondsSpelling xs → Perhaps IsSecond xs
@@ -158,7 +158,7 @@ second-from_seconds xs (inr (n, small, inl whole)) = inr (record { front = 58 �
 second-from_seconds xs (inr (n, small, inr (places, numeral, whole))) =
     inr (record { front = 58 ∷ two_digits n; back = 46 ∷ places; whole = whole; is_front = fits-seconds n small; is_back = inr (refl, numeral) })
 
-second-number : (xs : List ℕ) → Fits seconds_pattern xs → (n : ℕ) × (n < 100) × (xs ≡ 58 ∷ two_digits n)
+second-number : (xs : List ℕ) → PassesTests seconds_pattern xs → (n : ℕ) × (n < 100) × (xs ≡ 58 ∷ two_digits n)
 second-number xs fits =
     let test = fits-at seconds_pattern xs fits in
     let second = two (get_or xs 1 0) (get_or xs 2 0) (test 1 Digit (omega arith)) (test 2 Digit (omega arith)) in (
@@ -217,9 +217,9 @@ seconds-byte xs (inr (n, small, inr (places, numeral, whole))) i inside =
 
 -- a mark, or a sign and `hh:mm`
 abbrev pub IsOffset : List ℕ → Type 0
-IsOffset xs = Fits (OffsetMark ∷ []) xs ⊎ Fits (Sign ∷ clock_pattern) xs
+IsOffset xs = PassesTests (OffsetMark ∷ []) xs ⊎ PassesTests (Sign ∷ clock_pattern) xs
 
-offset-from_mark : (xs : List ℕ) → Fits (OffsetMark ∷ []) xs → IsOffsetSpelling xs
+offset-from_mark : (xs : List ℕ) → PassesTests (OffsetMark ∷ []) xs → IsOffsetSpelling xs
 offset-from_mark [] fits = absurd fits
 offset-from_mark (mark ∷ []) fits =
     ⊎_elim (λ big. inl (ap (λ (b : ℕ). b ∷ []) big)) (λ small. inr (inl (ap (λ (b : ℕ). b ∷ []) small))) (is_mark mark fits.0)
@@ -233,10 +233,10 @@ offset-spelled xs (inl mark) = offset-from_mark xs mark
 offset-spelled xs (inr ahead) = inr (inr (fits-ahead xs ahead))
 
 pub offset-fits : (xs : List ℕ) → IsOffsetSpelling xs → IsOffset xs
-offset-fits xs (inl big) = inl (subst (Fits (OffsetMark ∷ [])) (sym big) (refl, tt))
-offset-fits xs (inr (inl small)) = inl (subst (Fits (OffsetMark ∷ [])) (sym small) (refl, tt))
+offset-fits xs (inl big) = inl (subst (PassesTests (OffsetMark ∷ [])) (sym big) (refl, tt))
+offset-fits xs (inr (inl small)) = inl (subst (PassesTests (OffsetMark ∷ [])) (sym small) (refl, tt))
 offset-fits xs (inr (inr (sign, clock, is_sign, is_clock, whole))) =
-    inr (subst (Fits (Sign ∷ clock_pattern)) (sym whole) (⊎_elim (λ plus. ap (passes Sign) plus) (λ minus. ap (passes Sign) minus) is_sign, fits-clock clock is_clock))
+    inr (subst (PassesTests (Sign ∷ clock_pattern)) (sym whole) (⊎_elim (λ plus. ap (passes Sign) plus) (λ minus. ap (passes Sign) minus) is_sign, fits-clock clock is_clock))
 
 pub offset-reach : (n : ℕ) (rest : List ℕ) → IsReach IsOffset n rest → IsReach IsOffsetSpelling n rest
 offset-reach n rest reach = reach-as IsOffset IsOffsetSpelling n rest offset-spelled offset-fits reach
@@ -320,11 +320,11 @@ parts-from_moment xs moment = record {
 
 -- What the code measures: parts one behind another.
 
-pub seconds-by_parts : (rest left : List ℕ) (a b : ℕ) → left ≡ drop a rest → IsReach (Fits seconds_pattern) a rest → 0 < a → IsReach IsFraction b left → IsReach IsSecondsSpelling (a + b) rest
+pub seconds-by_parts : (rest left : List ℕ) (a b : ℕ) → left ≡ drop a rest → IsReach (PassesTests seconds_pattern) a rest → 0 < a → IsReach IsFraction b left → IsReach IsSecondsSpelling (a + b) rest
 seconds-by_parts rest left a b behind second some reach =
     let fraction : IsReach IsFraction b (drop a rest) = subst (IsReach IsFraction b) behind reach in
     seconds-reach (a + b) rest
-    (followed-both (Fits seconds_pattern) (Perhaps IsFraction) rest a b (second.found some) (perhaps-found IsFraction b (drop a rest) fraction) second.within
+    (followed-both (PassesTests seconds_pattern) (Perhaps IsFraction) rest a b (second.found some) (perhaps-found IsFraction b (drop a rest) fraction) second.within
     (fits-exact seconds_pattern (Perhaps IsFraction) a rest second some) (perhaps-reach IsFraction b (drop a rest) fraction))
 
 pub zoned-by_parts : (rest left : List ℕ) (a b : ℕ) → left ≡ drop a rest → IsReach IsSecondsSpelling a rest → IsReach IsOffsetSpelling b left → 0 < b → IsReach IsZoned (a + b) rest
@@ -332,11 +332,11 @@ zoned-by_parts rest left a b behind seconds reach some =
     let offset : IsReach IsOffsetSpelling b (drop a rest) = subst (IsReach IsOffsetSpelling b) behind reach in
     followed-both IsSecondsSpelling IsOffsetSpelling rest a b (seconds-found a rest seconds) (offset.found some) seconds.within (seconds-exact a rest seconds) offset
 
-pub marked-reach : (n : ℕ) (rest : List ℕ) → IsReach (Fits (TimeMark ∷ clock_pattern)) n rest → IsReach IsMarkedClock n rest
-marked-reach n rest reach = reach-as (Fits (TimeMark ∷ clock_pattern)) IsMarkedClock n rest marked-fits fits-marked reach
+pub marked-reach : (n : ℕ) (rest : List ℕ) → IsReach (PassesTests (TimeMark ∷ clock_pattern)) n rest → IsReach IsMarkedClock n rest
+marked-reach n rest reach = reach-as (PassesTests (TimeMark ∷ clock_pattern)) IsMarkedClock n rest marked-fits fits-marked reach
 
 -- a spelling that fits a pattern is as long wherever it stands
-exact-by_fits : (P B : List ℕ → Type 0) (tests : List ByteTest) (n : ℕ) (rest : List ℕ) → ((xs : List ℕ) → P xs → Fits tests xs) → IsReach P n rest → 0 < n → IsExact P B n rest
+exact-by_fits : (P B : List ℕ → Type 0) (tests : List ByteTest) (n : ℕ) (rest : List ℕ) → ((xs : List ℕ) → P xs → PassesTests tests xs) → IsReach P n rest → 0 < n → IsExact P B n rest
 exact-by_fits P B tests n rest fits reach some =
     let within = reach.within in
     let size = fits-length tests (take n rest) (fits (take n rest) (reach.found some)) in
@@ -352,16 +352,16 @@ date_timed = record { no_first = date-none; no_second = timed-none; exact = λ n
 pub moment-reach : (n : ℕ) (rest : List ℕ) → IsReach (FollowedBy IsDateSpelling IsTimed) n rest → IsReach IsMomentSpelling n rest
 moment-reach n rest reach = reach-as (FollowedBy IsDateSpelling IsTimed) IsMomentSpelling n rest moment-from_parts parts-from_moment reach
 
-clock-reach : (n : ℕ) (rest : List ℕ) → IsReach (Fits clock_pattern) n rest → IsReach IsClockSpelling n rest
-clock-reach n rest reach = reach-as (Fits clock_pattern) IsClockSpelling n rest clock-fits fits-clock reach
+clock-reach : (n : ℕ) (rest : List ℕ) → IsReach (PassesTests clock_pattern) n rest → IsReach IsClockSpelling n rest
+clock-reach n rest reach = reach-as (PassesTests clock_pattern) IsClockSpelling n rest clock-fits fits-clock reach
 
 clock-none : IsClockSpelling [] → ⊥
 clock-none clock = fits-nonempty Digit (Digit ∷ Colon ∷ Digit ∷ Digit ∷ []) (fits-clock [] clock)
 
-pub time_of_day-none : (rest : List ℕ) (a : ℕ) → IsReach (Fits clock_pattern) a rest → a ≡ 0 → IsReach IsTimeOfDaySpelling 0 rest
+pub time_of_day-none : (rest : List ℕ) (a : ℕ) → IsReach (PassesTests clock_pattern) a rest → a ≡ 0 → IsReach IsTimeOfDaySpelling 0 rest
 time_of_day-none rest a reach none = followed-no_first IsClockSpelling IsSecondsSpelling rest a clock-none (clock-reach a rest reach) none
 
-pub time_of_day-by_parts : (rest left : List ℕ) (a b : ℕ) → left ≡ drop a rest → IsReach (Fits clock_pattern) a rest → 0 < a → IsReach IsSecondsSpelling b left → IsReach IsTimeOfDaySpelling (a + b) rest
+pub time_of_day-by_parts : (rest left : List ℕ) (a b : ℕ) → left ≡ drop a rest → IsReach (PassesTests clock_pattern) a rest → 0 < a → IsReach IsSecondsSpelling b left → IsReach IsTimeOfDaySpelling (a + b) rest
 time_of_day-by_parts rest left a b behind reach some measured =
     let clock = clock-reach a rest reach in
     let seconds : IsReach IsSecondsSpelling b (drop a rest) = subst (IsReach IsSecondsSpelling b) behind measured in

@@ -19,11 +19,11 @@ passes OffsetMark b = (b == 90) || (b == 122)
 passes ExponentMark b = (b == 101) || (b == 69)
 
 -- the bytes fit the pattern one by one
-abbrev pub Fits : List ByteTest → List ℕ → Type 0
-Fits [] [] = Unit {0}
-Fits [] (b ∷ bytes) = ⊥
-Fits (test ∷ tests) [] = ⊥
-Fits (test ∷ tests) (b ∷ bytes) = (passes test b ≡ true) × Fits tests bytes
+abbrev pub PassesTests : List ByteTest → List ℕ → Type 0
+PassesTests [] [] = Unit {0}
+PassesTests [] (b ∷ bytes) = ⊥
+PassesTests (test ∷ tests) [] = ⊥
+PassesTests (test ∷ tests) (b ∷ bytes) = (passes test b ≡ true) × PassesTests tests bytes
 
 -- `T` (84) or `t` (116), and `hh:mm`
 abbrev pub IsMarkedClock : List ℕ → Type 0

@@ -2,7 +2,7 @@ use Rattle.std.proofs.Common.{rules, lit<, ◌∷◌}
 use Rattle.std.specs.Prelude.{string_bytes}
 use Rattle.std.proofs.lemmas.Str.{encode_ascii}
 use Rattle.std.proofs.lemmas.Str.Pattern.{split_parts}
-use Rattle.edm_values.specs.StringLiteral.{quote, doubled}
+use Rattle.edm_values.specs.StringLiteral.{quote, with_doubled_quotes}
 use Rattle.edm_values.proofs.literals.Quotes.{one_quoted, last_quoted}
 use Rattle.edm_values.proofs.string_literal.spelling_of.Goals as goal
 
@@ -10,13 +10,13 @@ pub loop-piece-preserved : goal.loop-piece-preserved
 loop-piece-preserved c =
     let cut = rw c.in-Some.is at (split_parts 39 c.loop-piece.rest.now c.split_once.result c.split_once.ensures.cases (lit< tt)) in (
       search rules,
-      one_quoted (quote ∷ doubled c.args.text.now) (string_bytes c.loop-piece.spelling) c.in-Some.piece.now c.in-Some.behind.now c.loop-piece.rest.now
+      one_quoted (quote ∷ with_doubled_quotes c.args.text.now) (string_bytes c.loop-piece.spelling) c.in-Some.piece.now c.in-Some.behind.now c.loop-piece.rest.now
           (string_bytes c.push_str.new.self) (string_bytes c.push_str-in-Some.new.self) cut.1 cut.0 c.loop-piece.invariant.1 c.in_ok-push_str.ensures.bytes c.in_ok-push_str-2.ensures.bytes,
     )
 
 pub returns : goal.returns
 returns c =
     let plain = rw c.in_default.is at (split_parts 39 c.loop-piece.rest.now c.split_once.result c.split_once.ensures.cases (lit< tt)) in
-    last_quoted (quote ∷ doubled c.args.text.now) (string_bytes c.loop-piece.spelling) c.loop-piece.rest.now
+    last_quoted (quote ∷ with_doubled_quotes c.args.text.now) (string_bytes c.loop-piece.spelling) c.loop-piece.rest.now
     (string_bytes c.push_str-2.new.self) (string_bytes c.push.new.self) plain c.loop-piece.invariant.1 c.in_ok-push_str-3.ensures.bytes
     (rw (encode_ascii 39 (lit< tt)) at c.in_ok-push.ensures.bytes)

@@ -2,7 +2,7 @@ use Rattle.std.proofs.Common.{[], ◌∷◌}
 use Rattle.std.proofs.lemmas.List.{take_rest}
 use Rattle.edm_values.specs.IntLiteral.{IsIntSpelling}
 use Rattle.odata_text.specs.LeftOut.{IsExponent}
-use Rattle.odata_text.specs.private.Patterns.{Fits}
+use Rattle.odata_text.specs.private.Patterns.{PassesTests}
 use Rattle.odata_text.specs.declared.byte_test.ByteTest.TheVariants.{ExponentMark}
 use Rattle.odata_text.proofs.spellings.Decimals.{ExponentPair, exponent-from_pair, exponent-pair, mark_power}
 use Rattle.odata_text.proofs.spellings.Sequences.{pair-reach, reach-as}
@@ -11,5 +11,5 @@ use Rattle.odata_text.proofs.decimal.exponent_length.Goals as goal
 pub returns : goal.returns
 returns c =
     reach-as ExponentPair IsExponent c.both_length.result c.args.rest.now exponent-from_pair exponent-pair
-    (pair-reach (Fits (ExponentMark ∷ [])) IsIntSpelling mark_power c.args.rest.now _ _ _ _ (take_rest c.args.rest.now c.pattern_length-mark.result)
+    (pair-reach (PassesTests (ExponentMark ∷ [])) IsIntSpelling mark_power c.args.rest.now _ _ _ _ (take_rest c.args.rest.now c.pattern_length-mark.result)
     c.pattern_length-mark.ensures c.int_length-power.ensures c.both_length.ensures)

@@ -2,7 +2,7 @@ use Rattle.std.proofs.Common.{[], ◌∷◌}
 use Rattle.std.specs.Str.Parse.{IsNumeral}
 use Rattle.std.proofs.lemmas.List.{take_rest}
 use Rattle.odata_text.specs.LeftOut.{IsFraction}
-use Rattle.odata_text.specs.private.Patterns.{Fits}
+use Rattle.odata_text.specs.private.Patterns.{PassesTests}
 use Rattle.odata_text.specs.declared.byte_test.ByteTest.TheVariants.{Dot}
 use Rattle.odata_text.proofs.spellings.Decimals.{FractionPair, dot_digits, fraction-from_pair, fraction-pair}
 use Rattle.odata_text.proofs.spellings.Reaches.{numeral-run}
@@ -12,5 +12,5 @@ use Rattle.odata_text.proofs.decimal.fraction_length.Goals as goal
 pub returns : goal.returns
 returns c =
     reach-as FractionPair IsFraction c.both_length.result c.args.rest.now fraction-from_pair fraction-pair
-    (pair-reach (Fits (Dot ∷ [])) (IsNumeral 10) dot_digits c.args.rest.now _ _ _ _ (take_rest c.args.rest.now c.pattern_length-dot.result)
+    (pair-reach (PassesTests (Dot ∷ [])) (IsNumeral 10) dot_digits c.args.rest.now _ _ _ _ (take_rest c.args.rest.now c.pattern_length-dot.result)
     c.pattern_length-dot.ensures (numeral-run _ _ c.digit_run-digits.ensures.value) c.both_length.ensures)

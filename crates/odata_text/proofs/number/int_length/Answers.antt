@@ -2,7 +2,7 @@ use Rattle.std.proofs.Common.{[], ◌∷◌}
 use Rattle.std.specs.Str.Parse.{IsNumeral}
 use Rattle.std.proofs.lemmas.List.{take_rest}
 use Rattle.edm_values.specs.IntLiteral.{IsIntSpelling}
-use Rattle.odata_text.specs.private.Patterns.{Fits}
+use Rattle.odata_text.specs.private.Patterns.{PassesTests}
 use Rattle.odata_text.specs.declared.byte_test.ByteTest.TheVariants.{Sign}
 use Rattle.odata_text.proofs.spellings.Fronts.{reach-either}
 use Rattle.odata_text.proofs.spellings.Reaches.{IntParts, SignedPair, int-from_parts, numeral-run, parts-from_int, sign_digits}
@@ -12,7 +12,7 @@ use Rattle.odata_text.proofs.number.int_length.Goals as goal
 pub returns : goal.returns
 returns c =
     let signed' =
-    pair-reach (Fits (Sign ∷ [])) (IsNumeral 10) sign_digits c.args.rest.now _ _ _ _ (take_rest c.args.rest.now c.pattern_length-sign.result)
+    pair-reach (PassesTests (Sign ∷ [])) (IsNumeral 10) sign_digits c.args.rest.now _ _ _ _ (take_rest c.args.rest.now c.pattern_length-sign.result)
     c.pattern_length-sign.ensures (numeral-run _ _ c.digit_run-behind.ensures.value) c.both_length-signed.ensures in
     reach-as IntParts IsIntSpelling c.longer.result c.args.rest.now int-from_parts parts-from_int
     (reach-either (IsNumeral 10) SignedPair c.args.rest.now _ _ _ (numeral-run _ _ c.digit_run-plain.ensures.value) signed' c.longer.ensures)

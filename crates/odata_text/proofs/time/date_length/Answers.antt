@@ -1,8 +1,8 @@
 use Rattle.edm_values.specs.DateLiteral.{IsDateSpelling}
-use Rattle.odata_text.specs.private.Patterns.{Fits}
+use Rattle.odata_text.specs.private.Patterns.{PassesTests}
 use Rattle.odata_text.proofs.spellings.Sequences.{reach-as}
 use Rattle.odata_text.proofs.spellings.Times.{date-fits, date_pattern, fits-date}
 use Rattle.odata_text.proofs.time.date_length.Goals as goal
 
 pub returns : goal.returns
-returns c = reach-as (Fits date_pattern) IsDateSpelling c.pattern_length.result c.args.rest.now date-fits fits-date c.pattern_length.ensures
+returns c = reach-as (PassesTests date_pattern) IsDateSpelling c.pattern_length.result c.args.rest.now date-fits fits-date c.pattern_length.ensures

@@ -1,5 +1,5 @@
 use Rattle.std.proofs.Common.{[], ◌∷◌}
-use Rattle.odata_text.specs.private.Patterns.{Fits}
+use Rattle.odata_text.specs.private.Patterns.{PassesTests}
 use Rattle.odata_text.specs.declared.byte_test.ByteTest.TheVariants.{OffsetMark, Sign}
 use Rattle.odata_text.proofs.spellings.Fronts.{reach-either}
 use Rattle.odata_text.proofs.spellings.Times.{clock_pattern, offset-reach}
@@ -8,4 +8,4 @@ use Rattle.odata_text.proofs.time.offset_length.Goals as goal
 pub returns : goal.returns
 returns c =
     offset-reach c.longer.result c.args.rest.now
-    (reach-either (Fits (OffsetMark ∷ [])) (Fits (Sign ∷ clock_pattern)) c.args.rest.now _ _ _ c.pattern_length-mark.ensures c.pattern_length-clock.ensures c.longer.ensures)
+    (reach-either (PassesTests (OffsetMark ∷ [])) (PassesTests (Sign ∷ clock_pattern)) c.args.rest.now _ _ _ c.pattern_length-mark.ensures c.pattern_length-clock.ensures c.longer.ensures)

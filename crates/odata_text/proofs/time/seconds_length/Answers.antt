@@ -1,7 +1,7 @@
 use Rattle.std.proofs.Common.{◌<◌, [], ◌∷◌, arith}
 use Rattle.std.proofs.lemmas.List.{take_rest}
 use Rattle.odata_text.specs.LeftOut.{IsFraction}
-use Rattle.odata_text.specs.private.Patterns.{Fits}
+use Rattle.odata_text.specs.private.Patterns.{PassesTests}
 use Rattle.odata_text.specs.declared.byte_test.ByteTest.TheVariants.{Colon, Digit}
 use Rattle.odata_text.proofs.spellings.Patterns.{fits-nonempty}
 use Rattle.odata_text.proofs.spellings.Sequences.{Perhaps, followed-no_first}
@@ -11,7 +11,7 @@ use Rattle.odata_text.proofs.time.seconds_length.Goals as goal
 pub returns-in-0 : goal.returns-in-0
 returns-in-0 c =
     seconds-reach 0 c.args.rest.now
-    (followed-no_first (Fits seconds_pattern) (Perhaps IsFraction) c.args.rest.now c.pattern_length.result (fits-nonempty Colon (Digit ∷ Digit ∷ [])) c.pattern_length.ensures c.in-0.is)
+    (followed-no_first (PassesTests seconds_pattern) (Perhaps IsFraction) c.args.rest.now c.pattern_length.result (fits-nonempty Colon (Digit ∷ Digit ∷ [])) c.pattern_length.ensures c.in-0.is)
 
 pub returns-in_default : goal.returns-in_default
 returns-in_default c =
