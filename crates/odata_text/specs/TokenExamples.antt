@@ -2,7 +2,7 @@
 use Rattle.std.specs.Prelude.{ℕ, List, [], ◌∷◌, codes, slice_range}
 use Rattle.odata_text.specs.TokenModel.{TokenModel}
 use Rattle.odata_text.specs.declared.token.TokenKind.{TokenKind}
-use Rattle.odata_text.specs.declared.token.TokenKind.TheVariants.{Word, Int, Moment, Str, EnumLit}
+use Rattle.odata_text.specs.declared.token.TokenKind.TheVariants.{Word, Int, Moment, Guid, Str, EnumLit}
 
 -- the token of a text from one place to another
 abbrev pub token_in : List ℕ → TokenKind → ℕ → ℕ → TokenModel
@@ -30,6 +30,13 @@ moment_filter = codes "Changed gt 2020-01-01T00:00Z"
 
 abbrev pub moment_tokens : List TokenModel
 moment_tokens = token_in moment_filter Word 0 7 ∷ token_in moment_filter Word 8 10 ∷ token_in moment_filter Moment 11 28 ∷ []
+
+-- a Guid, which begins with what could be a number
+abbrev pub guid_filter : List ℕ
+guid_filter = codes "ID eq 1234567e-1234-1234-1234-123456789012"
+
+abbrev pub guid_tokens : List TokenModel
+guid_tokens = token_in guid_filter Word 0 2 ∷ token_in guid_filter Word 3 5 ∷ token_in guid_filter Guid 6 42 ∷ []
 
 -- a dotted word and a text in quotes
 abbrev pub enumeration_filter : List ℕ

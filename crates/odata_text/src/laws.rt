@@ -4,7 +4,8 @@ ghost use Rattle.std.specs.Prelude.{◌≡◌, ◌≤◌, ℕ, List, length};
 ghost use Rattle.odata_text.specs.TokenModel.{TokenModel};
 ghost use Rattle.odata_text.specs.Printing.{ArePrintable, Print, print_tokens, print_text};
 ghost use Rattle.odata_text.specs.TokenExamples.{enumeration_filter, enumeration_tokens, fraction_filter};
-ghost use Rattle.odata_text.specs.TokenExamples.{moment_filter, moment_tokens, plain_filter, plain_tokens, run_on_filter};
+ghost use Rattle.odata_text.specs.TokenExamples.{guid_filter, guid_tokens, moment_filter, moment_tokens};
+ghost use Rattle.odata_text.specs.TokenExamples.{plain_filter, plain_tokens, run_on_filter};
 ghost use Rattle.odata_text.specs.Tokens.{IsTextFault, IsTokenList, text_limit, token_limit};
 ghost use Rattle.odata_text.specs.declared.fault.TextFault.{TextFault};
 
@@ -26,6 +27,11 @@ pub fn plain_reading()
 /// `Changed gt 2020-01-01T00:00Z` ends in a moment.
 pub fn moment_reading()
     ensures { IsTokenList moment_filter moment_tokens }
+{}
+
+/// `ID eq 1234567e-1234-1234-1234-123456789012` ends in a Guid.
+pub fn guid_reading()
+    ensures { IsTokenList guid_filter guid_tokens }
 {}
 
 /// `a.b'x'` is one token, an enumeration literal.

@@ -28,8 +28,8 @@ mod word;
 pub use fault::TextFault;
 pub use identifier::is_identifier;
 pub use laws::{
-    enumeration_reading, fraction_reading, moment_reading, one_reading, plain_reading,
-    printed_reading, run_on_reading,
+    enumeration_reading, fraction_reading, guid_reading, moment_reading, one_reading,
+    plain_reading, printed_reading, run_on_reading,
 };
 pub use query::filter_of_query;
 pub use query_fault::QueryFault;

@@ -1,19 +1,24 @@
 -- Texts whose tokens or first fault are known.
-use Rattle.std.proofs.Common.{◌≡◌, ℕ, true, List, [], ◌∷◌, codes, pos, inl, inr, arith, refl, sym}
+use Rattle.std.proofs.Common.{◌≡◌, ℕ, nat_lt, Bool, true, List, [], ◌∷◌, codes, pos, inl, inr, arith, refl, sym}
 use Rattle.std.specs.Prelude.{All}
+use Rattle.std.specs.Char.{digit_value}
+use Rattle.std.specs.List.{list_all}
+use Rattle.std.specs.Str.Parse.{AllDigits}
+use Rattle.std.proofs.lemmas.Bool.{and_parts, ltb-true}
 use Rattle.std.proofs.lemmas.List.Elements.{All-cons, All-nil}
+use Rattle.edm_values.specs.GuidLiteral.{hex_bytes}
 use Rattle.edm_values.specs.IntLiteral.{IsIntSpelling}
 use Rattle.odata_text.specs.ByteClass.{class_of}
 use Rattle.odata_text.specs.Printing.{ArePrintable, Print}
 use Rattle.odata_text.specs.Spelling.{IsFormed, Spells}
-use Rattle.odata_text.specs.TokenExamples.{enumeration_filter, enumeration_tokens, fraction_filter, moment_filter, moment_tokens, plain_filter, plain_tokens, run_on_filter}
+use Rattle.odata_text.specs.TokenExamples.{enumeration_filter, enumeration_tokens, fraction_filter, guid_filter, guid_tokens, moment_filter, moment_tokens, plain_filter, plain_tokens, run_on_filter}
 use Rattle.odata_text.specs.Tokens.{IsFaultBehind, IsGap, IsTokenList}
 use Rattle.odata_text.specs.declared.byte_class.ByteClass.TheVariants.{Space}
 use Rattle.odata_text.specs.declared.fault.TextFault.TheVariants.{LeftOutLiteral, RunOn}
 use Rattle.odata_text.specs.declared.form.Form.TheVariants.{Token, LeftOut}
 use Rattle.odata_text.specs.declared.form.LeftOutKind.TheVariants.{Number}
 use Rattle.odata_text.specs.declared.token.TokenKind.{TokenKind}
-use Rattle.odata_text.specs.declared.token.TokenKind.TheVariants.{Word, Int, Moment, Str, EnumLit}
+use Rattle.odata_text.specs.declared.token.TokenKind.TheVariants.{Word, Int, Moment, Guid, Str, EnumLit}
 use Rattle.odata_text.proofs.characters.IdentifierBytes.{ascii-identifier, is_ascii_name, run-ascii}
 use Rattle.odata_text.proofs.readings.Places.{run_on}
 use Rattle.odata_text.proofs.readings.Prints.{printed-list}
@@ -131,6 +136,24 @@ pub moment_list : IsTokenList moment_filter moment_tokens
 moment_list =
     printed-list (with_blank Word (codes "Changed") ∷ with_blank Word (codes "gt") ∷ without_blank Moment (codes "2020-01-01T00:00Z") ∷ [])
     (word (codes "Changed") refl, (blank, (refl, (word (codes "gt") refl, (blank, (refl, (moment, (none, (tt, tt))))))))) (omega arith) (omega arith)
+
+abbrev is_hex : ℕ → Bool
+is_hex c = nat_lt (digit_value c) 16
+
+all-digits : (ds : List ℕ) → list_all is_hex ds ≡ true → AllDigits 16 ds
+all-digits [] all = tt
+all-digits (d ∷ ds) all = let parts = and_parts (is_hex d) (list_all is_hex ds) all in (ltb-true (digit_value d) 16 parts.0, all-digits ds parts.1)
+
+abbrev guid_digits : List ℕ
+guid_digits = codes "1234567e123412341234123456789012"
+
+guid : Spells Guid (codes "1234567e-1234-1234-1234-123456789012")
+guid = (hex_bytes guid_digits, record { digits = guid_digits; all_digits = all-digits guid_digits refl; count = refl; spelled = refl; value = refl })
+
+pub guid_list : IsTokenList guid_filter guid_tokens
+guid_list =
+    printed-list (with_blank Word (codes "ID") ∷ with_blank Word (codes "eq") ∷ without_blank Guid (codes "1234567e-1234-1234-1234-123456789012") ∷ [])
+    (word (codes "ID") refl, (blank, (refl, (word (codes "eq") refl, (blank, (refl, (guid, (none, (tt, tt))))))))) (omega arith) (omega arith)
 
 enumeration : Spells EnumLit (codes "a.b'x'")
 enumeration = record {
