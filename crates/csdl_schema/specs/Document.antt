@@ -8,9 +8,13 @@ use Rattle.csdl_schema.specs.Declarations.{declared_schema}
 use Rattle.csdl_schema.specs.JsonText.{IsJsonOf, IsNoJson}
 use Rattle.csdl_schema.specs.Faults.{Fault, not_json, not_object, version, bad_type, bad_property, unknown_base, base_cycle, property_twice, bad_enum_member, too_large, document_faults}
 
--- a document of at most a mebibyte, JSON, without faults, and the schema that it declares
+-- the most bytes of a document
+abbrev pub byte_limit : ℕ
+byte_limit = 1048576
+
+-- a document of at most so many bytes, JSON, without faults, and the schema that it declares
 pub record StandsFor (document : List ℕ) (schema : SchemaModel) : Type 0 where
-  pub size : length document ≤ 1048576
+  pub size : length document ≤ byte_limit
   pub json : Data
   pub is_json : IsJsonOf document json
   pub faultless : document_faults json ≡ []
@@ -19,9 +23,9 @@ pub record StandsFor (document : List ℕ) (schema : SchemaModel) : Type 0 where
 -- the size goes first, then whether the document is JSON, then the faults of the value
 abbrev pub IsFirstDocumentFault : List ℕ → Fault → Type 0
 IsFirstDocumentFault document fault =
-    ((1048576 < length document) × (fault ≡ too_large))
-    ⊎ ((length document ≤ 1048576) × IsNoJson document × (fault ≡ not_json))
-    ⊎ ((length document ≤ 1048576) × (json : Data) × IsJsonOf document json × (later : List Fault)
+    ((byte_limit < length document) × (fault ≡ too_large))
+    ⊎ ((length document ≤ byte_limit) × IsNoJson document × (fault ≡ not_json))
+    ⊎ ((length document ≤ byte_limit) × (json : Data) × IsJsonOf document json × (later : List Fault)
     × (document_faults json ≡ fault ∷ later))
 
 -- what a refusal says; want of memory says nothing

@@ -83,11 +83,18 @@ abbrev pub type_faults : TypeDeclaration → List Fault
 type_faults t =
     unless (is_type t) (bad_type (full_name t)) ++ flat_map (property_faults (full_name t)) (declared_in t.body)
 
+-- the most properties of a type, and the most types of a document
+abbrev pub property_limit : ℕ
+property_limit = 1024
+
+abbrev pub type_limit : ℕ
+type_limit = 4096
+
 -- no type that could be a base is read yet; then the number of properties
 abbrev pub base_faults : TypeDeclaration → List Fault
 base_faults t =
     unless (is_none (get (codes "$BaseType") t.body)) (unknown_base (full_name t))
-    ++ unless (not (nat_lt 1024 (length (declared_in t.body)))) too_large
+    ++ unless (not (nat_lt property_limit (length (declared_in t.body)))) too_large
 
 -- ---- documents
 
@@ -96,7 +103,7 @@ abbrev pub object_faults : Data → List Fault
 object_faults document =
     unless (is_version (text_at (codes "$Version") document)) version
     ++ (flat_map (namespace_faults (declared_in document)) (declared_in document)
-    ++ (unless (not (nat_lt 4096 (type_count document))) too_large
+    ++ (unless (not (nat_lt type_limit (type_count document))) too_large
     ++ (flat_map type_faults (types_in_order document)
     ++ flat_map base_faults (types_in_order document))))
 

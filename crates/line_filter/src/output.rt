@@ -49,7 +49,7 @@ fn make_room<W: Write>(out: &mut W, held: &mut Vec<u8>, count: usize) -> Result<
     Ok(())
 }
 
-/// WritesBut the bytes back behind those that are held, or writes them where memory to hold them is refused.
+/// Holds the bytes back behind those that are held, or writes them where memory to hold them is refused.
 pub fn hold<W: Write>(out: &mut W, held: &mut Vec<u8>, bytes: &[u8]) -> Result<(), NotWritten>
     ensures ok { OnOk result
         (WritesBut (W.contents out.old) (W.contents out.new) held.new.items (held.old.items ++ bytes.now)) }

@@ -1,3 +1,4 @@
+pub use Rattle.edm_values.specs.Civil
 pub use Rattle.edm_values.specs.IntLiteral
 pub use Rattle.edm_values.specs.MomentParts
 pub use Rattle.edm_values.specs.PlainVal
@@ -16,6 +17,7 @@ pub use Rattle.serde_json.specs.Read as JsonRead
 pub use Rattle.serde_json.specs.View as JsonView
 pub use Rattle.csdl_schema.specs.Document
 pub use Rattle.csdl_schema.specs.Faults
+pub use Rattle.csdl_schema.specs.JsonText
 pub use Rattle.csdl_schema.specs.SchemaModel
 pub use Rattle.edm_entities.specs.Fits
 pub use Rattle.edm_entities.specs.RowFaults

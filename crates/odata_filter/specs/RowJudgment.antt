@@ -1,4 +1,5 @@
--- What a filter says of a row, a line of JSON (OData JSON Format 4.01, sections 4.5 and 7; URL Conventions 4.01, section 5.1.1).
+-- What a filter says of a row, a line of JSON (OData JSON Format 4.01, sections 4.5 and 7; OData URL Conventions 4.01,
+-- section 5.1.1).
 use Rattle.std.specs.Prelude.{◌≡◌, ◌≢◌, ℕ, List, [], true, Some}
 use Rattle.serde_json.specs.Data.{Data}
 use Rattle.edm_values.specs.MomentParts.{MomentParts}
@@ -16,17 +17,24 @@ use Rattle.odata_eval.specs.Outcome.{Outcome, gives}
 use Rattle.odata_eval.specs.VerdictView.{fault_outcome}
 use Rattle.odata_typing.specs.Filter.{Filter, tree_of_filter}
 
+-- what a filter comes to on a value of its type
+abbrev pub FilterMeans : Filter → MomentParts → Val → Outcome → Type 0
+FilterMeans filter now value =
+    Means (slots_of filter.schema) (type_name_at filter.schema filter.filtered) now value [] (tree_of_filter filter)
+
 -- the JSON fits a value, and on that value the filter has this outcome and no other
 pub record HasOutcome (filter : Filter) (now : MomentParts) (json : Data) (outcome : Outcome) : Type 0 where
   pub value : Val
   pub fits : Fits (slots_of filter.schema) (type_name_at filter.schema filter.filtered) json value
-  pub related : Means (slots_of filter.schema) (type_name_at filter.schema filter.filtered) now value [] (tree_of_filter filter) outcome
-  pub only : (other : Outcome) → Means (slots_of filter.schema) (type_name_at filter.schema filter.filtered) now value [] (tree_of_filter filter) other → other ≡ outcome
+  pub related : FilterMeans filter now value outcome
+  pub only : (other : Outcome) → FilterMeans filter now value other → other ≡ outcome
 
--- a row is kept where its outcome is true, left out at any other value, and at fault where it fits nothing or has no value
+-- a row is kept where its outcome is true, left out at any other value, and at fault where it fits nothing or has no
+-- value
 abbrev pub JudgesValue : Filter → MomentParts → Data → Judgment BadRow → Type 0
 JudgesValue filter now json Judgment.Kept = HasOutcome filter now json (gives (boolean true))
-JudgesValue filter now json Judgment.LeftOut = (value : Val) × ((value ≢ boolean true) × HasOutcome filter now json (gives value))
+JudgesValue filter now json Judgment.LeftOut =
+    (value : Val) × ((value ≢ boolean true) × HasOutcome filter now json (gives value))
 JudgesValue filter now json (Judgment.Fault BadRow.NotJson) = ⊥
 JudgesValue filter now json (Judgment.Fault (BadRow.NoEntity fault)) =
     IsRowFault (slots_of filter.schema) (type_name_at filter.schema filter.filtered) json fault
@@ -44,8 +52,10 @@ abbrev pub JudgesRow : Filter → MomentParts → List ℕ → Judgment BadRow �
 JudgesRow filter now line Judgment.Kept = JudgesJson filter now line Judgment.Kept
 JudgesRow filter now line Judgment.LeftOut = JudgesJson filter now line Judgment.LeftOut
 JudgesRow filter now line (Judgment.Fault BadRow.NotJson) = IsNoJson line
-JudgesRow filter now line (Judgment.Fault (BadRow.NoEntity fault)) = JudgesJson filter now line (Judgment.Fault (BadRow.NoEntity fault))
-JudgesRow filter now line (Judgment.Fault (BadRow.NoValue fault)) = JudgesJson filter now line (Judgment.Fault (BadRow.NoValue fault))
+JudgesRow filter now line (Judgment.Fault (BadRow.NoEntity fault)) =
+    JudgesJson filter now line (Judgment.Fault (BadRow.NoEntity fault))
+JudgesRow filter now line (Judgment.Fault (BadRow.NoValue fault)) =
+    JudgesJson filter now line (Judgment.Fault (BadRow.NoValue fault))
 
 -- the lines of the bytes as rows, each judged by the filter
 abbrev pub rows_of : Filter → MomentParts → List ℕ → Items (List ℕ) BadRow

@@ -3,7 +3,7 @@ use Rattle.std.specs.Prelude.{◌≡◌, ℕ, pos, ◌⊎◌, List, Option, Some
 use Rattle.std.specs.Io.KnownBytes.{Keeps}
 use Rattle.edm_values.specs.Civil.{IsYmd, IsHms}
 use Rattle.edm_values.specs.MomentParts.{MomentParts}
-use Rattle.odata_text.specs.Query as query
+use Rattle.odata_text.specs.Query.{IsFilterOf, IsQueryFault}
 use Rattle.odata_text.specs.declared.query_fault.QueryFault.{QueryFault}
 use Rattle.odata_filter.specs.FilterPlan.{IsFilterPlan}
 use Rattle.line_filter.specs.Growth.{Writes}
@@ -21,7 +21,10 @@ use Rattle.odata_typing.specs.HasTyping.{HasTyping, HasNoTyping}
 
 -- the moment that is handed in where none is given: 0001-01-01T00:00:00Z
 abbrev pub IsFirstMoment : MomentParts → Type 0
-IsFirstMoment now = IsYmd (pos 1) (pos 1) (pos 1) now.civil.date × IsHms (pos 0) (pos 0) (pos 0) (pos 0) now.civil.time × (now.offset_minutes ≡ pos 0)
+IsFirstMoment now =
+    IsYmd (pos 1) (pos 1) (pos 1) now.civil.date
+    × IsHms (pos 0) (pos 0) (pos 0) (pos 0) now.civil.time
+    × (now.offset_minutes ≡ pos 0)
 
 -- The schema's bytes stand for this schema, and the type that the plan names is the entity type at this index in it.
 pub record NamesType (plan : Plan) (document : List ℕ) (schema : SchemaModel) (index : ℕ) : Type 0 where
@@ -30,57 +33,69 @@ pub record NamesType (plan : Plan) (document : List ℕ) (schema : SchemaModel) 
   pub named : index_named schema plan.named.now ≡ Some index
   pub entity : IsEntityAt schema index
 
--- the text of the filter that the plan asks for: its own, or that of its query's filter option (OData URL Conventions 4.01, section 5.1)
+-- the text of the filter that the plan asks for: its own, or that of its query's filter option
+-- (OData URL Conventions 4.01, section 5.1)
 abbrev pub AsksFor : Plan → List ℕ → Type 0
-AsksFor plan text = IsSomeAnd plan.filter (λ given. given.now ≡ text) ⊎ IsSomeAnd plan.query (λ given. query.IsFilterOf given.now (Some text))
+AsksFor plan text =
+    IsSomeAnd plan.filter (λ given. given.now ≡ text)
+    ⊎ IsSomeAnd plan.query (λ given. IsFilterOf given.now (Some text))
 
 -- The plan's text is this filter of the type that the plan names (OData URL Conventions 4.01, section 5.1.1).
-pub record IsFilterOf (plan : Plan) (document : List ℕ) (filter : Filter) : Type 0 where
+pub record IsPlanFilter (plan : Plan) (document : List ℕ) (filter : Filter) : Type 0 where
   pub names : NamesType plan document filter.schema filter.filtered
   pub text : List ℕ
   pub asked : AsksFor plan text
-  pub typed : HasTyping (slots_of filter.schema) (type_name_at filter.schema filter.filtered) text (tree_of_filter filter)
+  pub typing :
+      HasTyping (slots_of filter.schema) (type_name_at filter.schema filter.filtered) text (tree_of_filter filter)
 
 -- the plan's text is a filter
-abbrev pub HasFilter : Plan → List ℕ → Type 0
-HasFilter plan document = (filter : Filter) × IsFilterOf plan document filter
+abbrev pub HasCheckedFilter : Plan → List ℕ → Type 0
+HasCheckedFilter plan document = (filter : Filter) × IsPlanFilter plan document filter
 
 -- the plan's query has a fault
 abbrev pub HasQueryFault : Plan → Type 0
-HasQueryFault plan = IsSomeAnd plan.query (λ given. (fault : QueryFault) × query.IsQueryFault given.now fault)
+HasQueryFault plan = IsSomeAnd plan.query (λ given. (fault : QueryFault) × IsQueryFault given.now fault)
 
 -- The plan names a type, and its text is no filter of that, or its query has a fault.
 pub record HasNoFilter (plan : Plan) (document : List ℕ) : Type 0 where
   pub schema : SchemaModel
   pub index : ℕ
   pub names : NamesType plan document schema index
-  pub none : ((text : List ℕ) × AsksFor plan text × HasNoTyping (slots_of schema) (type_name_at schema index) text) ⊎ HasQueryFault plan
+  pub none :
+      ((text : List ℕ) × AsksFor plan text × HasNoTyping (slots_of schema) (type_name_at schema index) text)
+      ⊎ HasQueryFault plan
 
 -- The plan names a type, and its query has no filter option.
 pub record HasNoOption (plan : Plan) (document : List ℕ) : Type 0 where
   pub schema : SchemaModel
   pub index : ℕ
   pub names : NamesType plan document schema index
-  pub none : IsSomeAnd plan.query (λ given. query.IsFilterOf given.now None)
+  pub none : IsSomeAnd plan.query (λ given. IsFilterOf given.now None)
 
 -- the schema's bytes have a fault, or the schema has no entity type of that name (CSDL JSON 4.01)
 abbrev pub HasNoType : Plan → List ℕ → Type 0
 HasNoType plan document =
     ((fault : Fault) × IsFirstDocumentFault document fault)
-    ⊎ ((schema : SchemaModel) × StandsFor document schema × ((index : ℕ) → index_named schema plan.named.now ≡ Some index → ¬ IsEntityAt schema index))
+    ⊎ ((schema : SchemaModel) × StandsFor document schema
+    × ((index : ℕ) → index_named schema plan.named.now ≡ Some index → ¬ IsEntityAt schema index))
 
--- What a run reads and writes: what its rows had to give, unknown where their reader does not tell, and none where their file
--- cannot be opened; and what standard output held before and after, where it tells that.
+-- What a run reads and writes: what its rows had to give, unknown where their reader does not tell, and none where
+-- their file cannot be opened; and what standard output held before and after, where it tells that.
 pub record Streams : Type 0 where
   pub rows : Option (Option (List ℕ))
   pub old : Option (List ℕ)
   pub new : Option (List ℕ)
 
+-- these three
+abbrev pub streams : Option (Option (List ℕ)) → Option (List ℕ) → Option (List ℕ) → Streams
+streams rows old new = record { rows = rows; old = old; new = new }
+
 -- nothing was written
 abbrev pub WroteNothing : Streams → Type 0
 WroteNothing streams = Keeps streams.old streams.new
 
--- There are rows, and where their bytes are known and what standard output holds, P holds of the bytes and of the text that was written.
+-- There are rows, and where their bytes are known and what standard output holds, P holds of the bytes and of the text
+-- that was written.
 abbrev pub OverRows : Streams → (List ℕ → List ℕ → Type 0) → Type 0
 OverRows streams P = IsSomeAnd streams.rows (λ known. IfSome known (λ bytes. Writes streams.old streams.new (P bytes)))
 
@@ -91,7 +106,7 @@ OfRows = Items (List ℕ) BadRow → List ℕ → Type 0
 -- The plan's text is a filter, and P holds of the rows by that filter and of the text that was written.
 pub record ByFilter (P : OfRows) (plan : Plan) (document : List ℕ) (streams : Streams) : Type 0 where
   pub filter : Filter
-  pub is_filter : IsFilterOf plan document filter
+  pub is_filter : IsPlanFilter plan document filter
   pub now : MomentParts
   pub is_first : IsFirstMoment now
   pub written : OverRows streams (λ bytes. P (rows_of filter now bytes))
@@ -102,38 +117,39 @@ FiltersAll rows text = (tally : Tally) × Filters rows text tally
 
 -- some row is the first at fault, and the text is that of the kept ones before it
 abbrev pub StopsAtFault : OfRows
-StopsAtFault rows text = (number : ℕ) × (finding : Finding BadRow) × (¬ IsFaultless finding) × StopsAt rows text number finding
+StopsAtFault rows text =
+    (number : ℕ) × (finding : Finding BadRow) × (¬ IsFaultless finding) × StopsAt rows text number finding
 
 -- how a run ends
 pub data Status : Type 0 where
-  done : Status
-  refused : Status
-  misused : Status
+  complete : Status
+  without_filter : Status
+  without_plan : Status
   without_type : Status
   at_fault : Status
-  unread : Status
+  without_device : Status
   without_memory : Status
 
 -- the status that the program ends with
 abbrev pub status_number : Status → ℕ
-status_number done = 0
-status_number refused = 1
-status_number misused = 2
+status_number complete = 0
+status_number without_filter = 1
+status_number without_plan = 2
 status_number without_type = 3
 status_number at_fault = 4
-status_number unread = 5
+status_number without_device = 5
 status_number without_memory = 6
 
--- What each says: all rows were filtered; the text is no filter; the plan is none to filter rows or its query has no filter; there is no
--- such entity type; a row is at fault; there is a filter, and of its rows nothing is said; nothing is said. Nothing was written in the
--- second to fourth.
+-- What each says: all rows were filtered; the text is no filter; the plan is none to filter rows or its query has no
+-- filter; there is no such entity type; a row is at fault; there is a filter, and of its rows nothing is said; nothing is
+-- said. Nothing was written in the second to fourth.
 abbrev pub StatusSays : Status → Plan → List ℕ → Streams → Type 0
-StatusSays done plan document streams = ByFilter FiltersAll plan document streams
-StatusSays refused plan document streams = HasNoFilter plan document × WroteNothing streams
-StatusSays misused plan document streams = ((¬ IsFilterPlan plan) ⊎ HasNoOption plan document) × WroteNothing streams
+StatusSays complete plan document streams = ByFilter FiltersAll plan document streams
+StatusSays without_filter plan document streams = HasNoFilter plan document × WroteNothing streams
+StatusSays without_plan plan document streams = ((¬ IsFilterPlan plan) ⊎ HasNoOption plan document) × WroteNothing streams
 StatusSays without_type plan document streams = IsFilterPlan plan × (HasNoType plan document × WroteNothing streams)
 StatusSays at_fault plan document streams = ByFilter StopsAtFault plan document streams
-StatusSays unread plan document streams = HasFilter plan document
+StatusSays without_device plan document streams = HasCheckedFilter plan document
 StatusSays without_memory plan document streams = Unit {0}
 
 -- nothing was written, or a beginning of the text of the kept rows among some first ones of which none is at fault

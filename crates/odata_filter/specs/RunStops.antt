@@ -6,16 +6,16 @@ use Rattle.odata_filter.specs.declared.bad_row.BadRow.{BadRow}
 use Rattle.odata_filter.specs.declared.run_fault.RunFault.{RunFault}
 
 -- the stop that it tells; none where the bytes are no collection, which no run over lines tells
-abbrev pub stop_of : RunFault → Option (Stop BadRow)
-stop_of (RunFault.Json line) = Some (Stop.Fault line BadRow.NotJson)
-stop_of (RunFault.Row line fault) = Some (Stop.Fault line (BadRow.NoEntity fault))
-stop_of (RunFault.Arithmetic line fault) = Some (Stop.Fault line (BadRow.NoValue fault))
-stop_of (RunFault.LineTooLong line) = Some (Stop.TooLong line)
-stop_of RunFault.NotACollection = None
-stop_of (RunFault.Read line) = Some (Stop.Read line)
-stop_of RunFault.Write = Some Stop.Write
-stop_of (RunFault.Memory line) = Some (Stop.Memory line)
+abbrev pub run_stop : RunFault → Option (Stop BadRow)
+run_stop (RunFault.Json line) = Some (Stop.Fault line BadRow.NotJson)
+run_stop (RunFault.Row line fault) = Some (Stop.Fault line (BadRow.NoEntity fault))
+run_stop (RunFault.Arithmetic line fault) = Some (Stop.Fault line (BadRow.NoValue fault))
+run_stop (RunFault.LineTooLong line) = Some (Stop.TooLong line)
+run_stop RunFault.NotACollection = None
+run_stop (RunFault.Read line) = Some (Stop.Read line)
+run_stop RunFault.Write = Some Stop.Write
+run_stop (RunFault.Memory line) = Some (Stop.Memory line)
 
 -- it tells a stop, and that says this of the rows and of the text that was written
 abbrev pub StopsBy : Items (List ℕ) BadRow → List ℕ → RunFault → Type 0
-StopsBy rows text fault = IsSomeAnd (stop_of fault) (Stops rows text)
+StopsBy rows text fault = IsSomeAnd (run_stop fault) (Stops rows text)

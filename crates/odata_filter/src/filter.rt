@@ -14,9 +14,9 @@ use std::io::{Read, Write};
 
 /// Reads rows, one JSON object a line, and writes those whose outcome is true, unchanged and each followed by LF.
 ///
-/// The input is read to its end before the first line is judged. A blank line is passed over. The first faulty line ends the
-/// run: `LineTooLong`, `Json`, `Row` or `Arithmetic`, with its number from 1. Where a read fails, or memory is refused, the
-/// lines that were complete are judged first. A failed write, or a last flush that fails, is `Write`.
+/// The input is read to its end before the first line is judged. A blank line is passed over. The first faulty line ends
+/// the run: `LineTooLong`, `Json`, `Row` or `Arithmetic`, with its number from 1. Where a read fails, or memory is
+/// refused, the lines that were complete are judged first. A failed write, or a last flush that fails, is `Write`.
 pub fn filter_lines<R: Read + Drop, W: Write>(
     alloc: Global,
     checked: &Checked<'_>,
@@ -25,9 +25,11 @@ pub fn filter_lines<R: Read + Drop, W: Write>(
     out: &mut W,
 ) -> Result<Tally, RunFault>
     ensures filters { IfOk result (λ tally. IfSome (R.remaining rows) (λ bytes.
-        Writes (W.contents out.old) (W.contents out.new) (λ text. Filters (rows_of checked.now now.now bytes) text tally))) }
+        Writes (W.contents out.old) (W.contents out.new)
+        (λ text. Filters (rows_of checked.now now.now bytes) text tally))) }
     ensures stops { IfErr result (λ fault. IfSome (R.remaining rows) (λ bytes.
-        Writes (W.contents out.old) (W.contents out.new) (λ text. StopsBy (rows_of checked.now now.now bytes) text fault))) }
+        Writes (W.contents out.old) (W.contents out.new)
+        (λ text. StopsBy (rows_of checked.now now.now bytes) text fault))) }
 {
     let mut judge = RowJudge {
         alloc,

@@ -2,7 +2,7 @@
 #![tactic(auto)]
 
 mod bad_row;
-pub mod command;
+mod command;
 mod filter;
 mod row_judge;
 mod run_fault;

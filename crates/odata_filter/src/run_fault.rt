@@ -1,5 +1,5 @@
 ghost use Rattle.std.specs.Prelude.{◌≡◌, Some};
-ghost use Rattle.odata_filter.specs.RunStops.{stop_of};
+ghost use Rattle.odata_filter.specs.RunStops.{run_stop};
 
 use crate::bad_row::BadRow;
 use edm_entities::RowFault;
@@ -38,7 +38,7 @@ pub enum RunFault {
 
 /// The fault of a run over rows that stopped so.
 pub(crate) fn run_fault(stop: Stop<BadRow>) -> RunFault
-    ensures { stop_of result ≡ Some stop }
+    ensures { run_stop result ≡ Some stop }
 {
     match stop {
         Stop::Fault { line, fault } => match fault {

@@ -20,31 +20,9 @@ and_level = 2
 abbrev pub eq_level : Level
 eq_level = 3
 
-abbrev pub rel_level : Level
-rel_level = 4
-
-abbrev pub add_level : Level
-add_level = 5
-
-abbrev pub mul_level : Level
-mul_level = 6
-
-abbrev pub unary_level : Level
-unary_level = 7
-
-abbrev pub primary_level : Level
-primary_level = 8
-
 -- an operand without operators
 abbrev pub base_level : Level
 base_level = 9
-
--- a path, and one behind which a step may stand
-abbrev pub path_level : Level
-path_level = 10
-
-abbrev pub open_path_level : Level
-open_path_level = 11
 
 -- the level of an operator's form
 abbrev pub operator_level : BinaryOperator → Level

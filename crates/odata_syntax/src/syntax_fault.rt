@@ -5,11 +5,11 @@ use thiserror::Error;
 /// Why tokens are no expression. It is told with its span, as `Unexpected 7..7`.
 #[derive(Clone, Copy, Debug, PartialEq, Eq, Error)]
 pub enum SyntaxFault {
-    /// The first token with which the tokens so far begin no expression, or the empty span at the text's end.
-    #[error("Unexpected {}..{}", .span.start, .span.stop)]
+    /// A token that cannot stand here, or the empty span behind the text where one more is wanted.
+    #[error("Unexpected {span}")]
     Unexpected { span: Span },
     /// A `(` that the grammar allows and that would be the 65th open one.
-    #[error("TooDeep {}..{}", .span.start, .span.stop)]
+    #[error("TooDeep {span}")]
     TooDeep { span: Span },
     /// No memory was left for the tree.
     #[error("memory")]

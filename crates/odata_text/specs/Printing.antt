@@ -20,7 +20,8 @@ print_text prints = flat_map (λ p. p.text ++ p.gap) prints
 abbrev pub is_separator : ℕ → Bool
 is_separator b = (b == 32) || ((b == 9) || ((b == 40) || ((b == 41) || ((b == 44) || ((b == 47) || (b == 58))))))
 
--- the byte may stand directly behind a token of the kind: any behind a mark that is no `-`, a separator but `:` (58) behind an Int (`12:34` is a time), else a separator
+-- the byte may stand directly behind a token of the kind: any behind a mark that is no `-`, a separator but `:` (58)
+-- behind an Int (`12:34` is a time), else a separator
 abbrev pub may_follow : TokenKind → ℕ → Bool
 may_follow Open b = true
 may_follow Close b = true
@@ -38,7 +39,8 @@ MayFollow kind (b ∷ more) = may_follow kind b ≡ true
 abbrev pub ArePrintable : List Print → Type 0
 ArePrintable [] = ⊤
 ArePrintable (p ∷ prints) =
-    Spells p.kind p.text × (All (λ b. class_of b ≡ Space) p.gap × (MayFollow p.kind (p.gap ++ print_text prints) × ArePrintable prints))
+    Spells p.kind p.text
+    × (All (λ b. class_of b ≡ Space) p.gap × (MayFollow p.kind (p.gap ++ print_text prints) × ArePrintable prints))
 
 -- the tokens at their places, from a place on
 abbrev pub print_tokens : ℕ → List Print → List TokenModel

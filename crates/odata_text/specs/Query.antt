@@ -124,11 +124,13 @@ abbrev pub IsOptionFault : List ℕ → ℕ → ℕ → ℕ → QueryFault → T
 IsOptionFault option number start filters fault =
     IsPartFault (name_of option) number start fault
     ⊎ ((IsDecodable (name_of option) × IsPartFault (value_of option) number (start + length (name_of option) + 1) fault)
-    ⊎ (IsDecodable (name_of option) × IsDecodable (value_of option) × IsNameFault (decoded_name option) number filters fault))
+    ⊎ (IsDecodable (name_of option) × IsDecodable (value_of option)
+    × IsNameFault (decoded_name option) number filters fault))
 
 -- the fault of an option, with none among those before it
 pub record IsQueryFault (query : List ℕ) (fault : QueryFault) : Type 0 where
   pub number : ℕ
   pub within : number < length (options_of query)
   pub before : AreFaultless (take number (options_of query))
-  pub at : IsOptionFault (slice_index_or (options_of query) number []) number (option_start (options_of query) number) (count_by is_filter (take number (options_of query))) fault
+  pub at : IsOptionFault (slice_index_or (options_of query) number []) number
+      (option_start (options_of query) number) (count_by is_filter (take number (options_of query))) fault

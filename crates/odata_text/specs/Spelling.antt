@@ -50,7 +50,8 @@ IsNamed name bytes = str_eq_ignore_ascii_case bytes name ≡ true
 -- the name of a type that is left out
 abbrev pub IsLeftOutName : List ℕ → Type 0
 IsLeftOutName bytes =
-    IsNamed (codes "duration") bytes ⊎ (IsNamed (codes "binary") bytes ⊎ (IsNamed (codes "geography") bytes ⊎ IsNamed (codes "geometry") bytes))
+    IsNamed (codes "duration") bytes ⊎ (IsNamed (codes "binary") bytes
+    ⊎ (IsNamed (codes "geography") bytes ⊎ IsNamed (codes "geometry") bytes))
 
 -- a number with a fraction or an exponent, a time of day, or such a name and a text in quotes
 abbrev pub SpellsLeftOut : LeftOutKind → List ℕ → Type 0

@@ -29,7 +29,8 @@ abbrev pub moment_filter : List ℕ
 moment_filter = codes "Changed gt 2020-01-01T00:00Z"
 
 abbrev pub moment_tokens : List TokenModel
-moment_tokens = token_in moment_filter Word 0 7 ∷ token_in moment_filter Word 8 10 ∷ token_in moment_filter Moment 11 28 ∷ []
+moment_tokens =
+    token_in moment_filter Word 0 7 ∷ token_in moment_filter Word 8 10 ∷ token_in moment_filter Moment 11 28 ∷ []
 
 -- a Guid, which begins with what could be a number
 abbrev pub guid_filter : List ℕ

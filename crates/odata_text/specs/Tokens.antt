@@ -1,4 +1,5 @@
--- The tokens of a filter's text and its first fault (OData URL Conventions 4.01, section 5.1.1; OData ABNF 4.01, section 6).
+-- The tokens of a filter's text and its first fault (OData URL Conventions 4.01, section 5.1.1; OData ABNF 4.01,
+-- section 6).
 use Rattle.std.specs.Prelude.{◌≡◌, ℕ, ◌+◌, ◌-◌, ◌<◌, ◌≤◌, ◌⊎◌, Bool, true, false, IsTrue, List, [], ◌∷◌, length, drop, take, slice_index, slice_range, encode_utf8}
 use Rattle.std.specs.Char.{IsScalar, len_utf8}
 use Rattle.odata_text.specs.ByteClass.{class_of}

@@ -53,6 +53,7 @@ pub fn run_on_reading()
 
 /// Tokens that are printed one after another are the tokens of what was printed.
 pub fn printed_reading()
-    ensures { (prints : List Print) → ArePrintable prints → length (print_text prints) ≤ text_limit → length prints ≤ token_limit
+    ensures { (prints : List Print) → ArePrintable prints
+        → length (print_text prints) ≤ text_limit → length prints ≤ token_limit
         → IsTokenList (print_text prints) (print_tokens 0 prints) }
 {}

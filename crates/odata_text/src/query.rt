@@ -100,7 +100,8 @@ fn with_found(
 ///
 /// The options stand between `&`; the filter is the one named `filter` or `$filter` in any ASCII case. Custom
 /// options are passed over, but they too are decoded; a `+` is a `+`, as RFC 3986 has it. A refusal other than `Memory`
-/// is the first fault from the left: of each option, the escapes and the UTF-8 of its name, then those of its value, then what
+/// is the first fault from the left: of each option, the escapes and the UTF-8 of its name, then those of its value,
+/// then what
 /// the decoded name is.
 pub fn filter_of_query(alloc: Global, query: &[u8]) -> Result<Option<String>, QueryFault>
     ensures filter { IfOk result (λ filter. IsFilterOf query.now (option_map string_bytes filter)) }

@@ -125,7 +125,8 @@ fn scan<'t>(alloc: Global, text: &'t str) -> Result<Vec<Token<'t>>, TextFault>
 
 /// The tokens of a filter's text from left to right, each the longest piece at its place.
 ///
-/// Spans are byte places in `text`, and white space between tokens, spaces and tabs, belongs to none (OData ABNF 4.01, section 6).
+/// Spans are byte places in `text`, and white space between tokens, spaces and tabs, belongs to none (OData ABNF 4.01,
+/// section 6).
 /// A refusal other than `Memory` is the first fault from the left: `TooLong` where `text` has over 16,384 bytes comes
 /// before all others, and where a 4,097th token is faultless it names that token.
 pub fn tokens<'t>(alloc: Global, text: &'t str) -> Result<Vec<Token<'t>>, TextFault>

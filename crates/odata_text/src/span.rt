@@ -1,6 +1,6 @@
 use std::fmt::{self, Display, Formatter, Write};
 
-/// A place in the decoded text, in bytes: from `start` up to `stop`.
+/// A range of bytes of the decoded text: from `start` up to `stop`.
 ///
 /// It is shown as `START..STOP`.
 #[derive(Clone, Copy, Debug, PartialEq, Eq)]

@@ -17,9 +17,8 @@ use std::alloc::Global;
 
 /// The text as a filter of the entities of a type, which the schema holds.
 ///
-/// A refusal other than `Memory` names the first fault of the tokens; else the first token with which the tokens begin
-/// no expression; else, of the nodes that have no type while all their children have one, the one that starts first;
-/// else `NotBoolean` with the whole text.
+/// The text is judged in four steps, and a refusal other than `Memory` is that of the first step that fails: its tokens, its
+/// tree, the types of its nodes (the leftmost node of those to blame), and last that the whole is true, false or null.
 pub fn check<'s>(
     alloc: Global,
     schema: &'s Schema,

@@ -10,6 +10,4 @@ mod mini;
 #[cfg(test)]
 mod outcomes;
 #[cfg(test)]
-mod refused;
-#[cfg(test)]
 mod typings;

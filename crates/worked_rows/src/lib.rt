@@ -10,6 +10,8 @@ mod queries;
 #[cfg(test)]
 mod readers;
 #[cfg(test)]
+mod refused;
+#[cfg(test)]
 mod runs;
 #[cfg(test)]
 mod told;

@@ -14,10 +14,10 @@ use Rattle.line_filter.specs.declared.judge.Judgment.{Judgment}
 use Rattle.line_filter.specs.declared.stop.Stop.{Stop}
 use Rattle.line_filter.specs.declared.tally.Tally.{Tally}
 use Rattle.odata_filter.specs.RowJudgment.{rows_of}
-use Rattle.odata_filter.specs.RunStops.{stop_of, StopsBy}
+use Rattle.odata_filter.specs.RunStops.{run_stop, StopsBy}
 use Rattle.odata_filter.specs.declared.bad_row.BadRow.{BadRow}
 use Rattle.odata_filter.specs.private.Failures.{AnswerSays, status_of, status_of_query, status_of_refusal, StopsOver}
-use Rattle.odata_filter.specs.Run.{IsFirstMoment, NamesType, AsksFor, IsFilterOf, HasNoFilter, Streams, OverRows, OfRows, ByFilter, FiltersAll, StopsAtFault, Status, done, refused, misused, without_type, at_fault, unread, without_memory, StatusSays, Begins}
+use Rattle.odata_filter.specs.Run.{IsFirstMoment, NamesType, AsksFor, IsPlanFilter, HasNoFilter, Streams, streams, OverRows, OfRows, ByFilter, FiltersAll, StopsAtFault, Status, complete, without_filter, without_plan, without_type, at_fault, without_device, without_memory, StatusSays, Begins}
 use Rattle.csdl_schema.specs.SchemaModel.{SchemaModel, slots_of, type_name_at}
 use Rattle.odata_filter.specs.declared.command.command_line.Plan.{Plan}
 use Rattle.odata_filter.specs.declared.command.failure.Failure.{Failure}
@@ -28,20 +28,17 @@ use Rattle.odata_typing.specs.declared.refusal.Refusal.TheVariants as refusal
 use Rattle.odata_typing.specs.Filter.{Filter, tree_of_filter}
 use Rattle.odata_typing.specs.HasTyping.{HasTyping, HasNoTyping, UnlessMemory}
 
-abbrev streams : Option (Option (List ℕ)) → Option (List ℕ) → Option (List ℕ) → Streams
-streams rows old new = record { rows = rows; old = old; new = new }
-
 -- ---- the plan's text is a filter, or is none
 
 pub is_filter_of : (plan : Plan) (document : List ℕ) (schema : SchemaModel) (index : ℕ) (text : List ℕ) (filter : Filter)
     → NamesType plan document schema index → AsksFor plan text
     → filter.schema ≡ schema → filter.filtered ≡ index
-    → HasTyping (slots_of filter.schema) (type_name_at filter.schema filter.filtered) text (tree_of_filter filter) → IsFilterOf plan document filter
+    → HasTyping (slots_of filter.schema) (type_name_at filter.schema filter.filtered) text (tree_of_filter filter) → IsPlanFilter plan document filter
 is_filter_of plan document schema index text filter names asked same at typed = record {
   names = subst (λ s. NamesType plan document s filter.filtered) (sym same) (subst (NamesType plan document schema) (sym at) names);
   text = text;
   asked = asked;
-  typed = typed;
+  typing = typed;
 }
 
 refused_as : (plan : Plan) (document : List ℕ) (rows : Option (Option (List ℕ))) (out : Option (List ℕ)) (fault : Refusal) (P : Type 0)
@@ -100,7 +97,7 @@ over : (s : Streams) (P Q : List ℕ → List ℕ → Type 0)
 over s P Q f held = over_from s.rows s.old s.new P Q f held
 
 by_filter : (P : Items (List ℕ) BadRow → List ℕ → Type 0) (Q : OfRows) (plan : Plan) (document : List ℕ) (s : Streams) (filter : Filter) (now : MomentParts)
-    → IsFilterOf plan document filter → IsFirstMoment now
+    → IsPlanFilter plan document filter → IsFirstMoment now
     → ((bytes text : List ℕ) → P (rows_of filter now bytes) text → Q (rows_of filter now bytes) text)
     → OverRows s (λ bytes. P (rows_of filter now bytes)) → ByFilter Q plan document s
 by_filter P Q plan document s filter now is_filter is_first f held = record {
@@ -112,7 +109,7 @@ by_filter P Q plan document s filter now is_filter is_first f held = record {
 }
 
 failed : (plan : Plan) (document : List ℕ) (s : Streams) (filter : Filter) (now : MomentParts) (failure : Failure)
-    → IsFilterOf plan document filter → IsFirstMoment now → StopsOver (rows_of filter now) failure s → StatusSays (status_of failure) plan document s
+    → IsPlanFilter plan document filter → IsFirstMoment now → StopsOver (rows_of filter now) failure s → StatusSays (status_of failure) plan document s
 failed plan document s filter now (NotYet option) is_filter is_first held = absurd held
 failed plan document s filter now OneOf is_filter is_first held = absurd held
 failed plan document s filter now (Query fault) is_filter is_first held = absurd held
@@ -140,7 +137,7 @@ failed plan document s filter now (Rows Write) is_filter is_first held = (filter
 failed plan document s filter now (Rows (Memory line)) is_filter is_first held = tt
 
 pub says_by : (plan : Plan) (document : List ℕ) (s : Streams) (filter : Filter) (now : MomentParts) (answer : Result Tally Failure)
-    → IsFilterOf plan document filter → IsFirstMoment now
+    → IsPlanFilter plan document filter → IsFirstMoment now
     → IfOk answer (λ tally. OverRows s (λ bytes text. Filters (rows_of filter now bytes) text tally))
     → IfErr answer (λ failure. StopsOver (rows_of filter now) failure s) → AnswerSays answer plan document s
 says_by plan document s filter now (Ok tally) is_filter is_first held stopped =
@@ -175,7 +172,7 @@ module _ {X F : Type 0} (items : Items X F) (text : List ℕ) where
   within_stops (Some stop) stops = within_stop stop stops
 
 pub begins_by : (plan : Plan) (document : List ℕ) (s : Streams) (filter : Filter) (now : MomentParts) (answer : Result Tally Failure)
-    → IsFilterOf plan document filter → IsFirstMoment now
+    → IsPlanFilter plan document filter → IsFirstMoment now
     → IfOk answer (λ tally. OverRows s (λ bytes text. Filters (rows_of filter now bytes) text tally))
     → IfErr answer (λ failure. StopsOver (rows_of filter now) failure s) → Begins plan document s
 begins_by plan document s filter now (Ok tally) is_filter is_first held stopped =
@@ -183,7 +180,7 @@ begins_by plan document s filter now (Ok tally) is_filter is_first held stopped 
     (λ bytes text. within_all (rows_of filter now bytes) text tally) held)
 begins_by plan document s filter now (Err (Rows fault)) is_filter is_first held stopped =
     inr (by_filter (λ rows text. StopsBy rows text fault) StopsWithin plan document s filter now is_filter is_first
-    (λ bytes text. within_stops (rows_of filter now bytes) text (stop_of fault)) stopped)
+    (λ bytes text. within_stops (rows_of filter now bytes) text (run_stop fault)) stopped)
 begins_by plan document s filter now (Err (RowsFile name)) is_filter is_first held stopped = inl stopped
 begins_by plan document s filter now (Err (NotYet option)) is_filter is_first held stopped = absurd stopped
 begins_by plan document s filter now (Err OneOf) is_filter is_first held stopped = absurd stopped
@@ -213,12 +210,12 @@ by_filter_kept P plan document rows a b c by kept = record {
 
 pub StatusSays-kept : (status : Status) (plan : Plan) (document : List ℕ) (rows : Option (Option (List ℕ))) (a b c : Option (List ℕ))
     → StatusSays status plan document (streams rows a b) → Keeps b c → StatusSays status plan document (streams rows a c)
-StatusSays-kept done plan document rows a b c ends kept = by_filter_kept FiltersAll plan document rows a b c ends kept
-StatusSays-kept refused plan document rows a b c ends kept = (ends.0, Keeps-trans a b c ends.1 kept)
-StatusSays-kept misused plan document rows a b c ends kept = (ends.0, Keeps-trans a b c ends.1 kept)
+StatusSays-kept complete plan document rows a b c ends kept = by_filter_kept FiltersAll plan document rows a b c ends kept
+StatusSays-kept without_filter plan document rows a b c ends kept = (ends.0, Keeps-trans a b c ends.1 kept)
+StatusSays-kept without_plan plan document rows a b c ends kept = (ends.0, Keeps-trans a b c ends.1 kept)
 StatusSays-kept without_type plan document rows a b c ends kept = (ends.0, (ends.1.0, Keeps-trans a b c ends.1.1 kept))
 StatusSays-kept at_fault plan document rows a b c ends kept = by_filter_kept StopsAtFault plan document rows a b c ends kept
-StatusSays-kept unread plan document rows a b c ends kept = ends
+StatusSays-kept without_device plan document rows a b c ends kept = ends
 StatusSays-kept without_memory plan document rows a b c ends kept = tt
 
 pub Begins-kept : (plan : Plan) (document : List ℕ) (rows : Option (Option (List ℕ))) (a b c : Option (List ℕ))

@@ -5,7 +5,7 @@ use Rattle.odata_filter.specs.declared.bad_row.BadRow.{BadRow}
 use Rattle.odata_text.specs.declared.query_fault.QueryFault.{QueryFault}
 use Rattle.odata_text.specs.declared.query_fault.QueryFault.TheVariants as query
 use Rattle.odata_filter.specs.RunStops.{StopsBy}
-use Rattle.odata_filter.specs.Run.{Streams, WroteNothing, OverRows, Status, StatusSays, done, refused, misused, without_type, at_fault, unread, without_memory}
+use Rattle.odata_filter.specs.Run.{Streams, WroteNothing, OverRows, Status, StatusSays, complete, without_filter, without_plan, without_type, at_fault, without_device, without_memory}
 use Rattle.csdl_schema.specs.declared.fault.SchemaFault.{SchemaFault}
 use Rattle.csdl_schema.specs.declared.fault.SchemaFault.TheVariants as schema
 use Rattle.odata_filter.specs.declared.command.command_line.Plan.{Plan}
@@ -25,30 +25,30 @@ status_of_schema fault = without_type
 -- want of memory, or a query with a fault
 abbrev pub status_of_query : QueryFault → Status
 status_of_query query.Memory = without_memory
-status_of_query fault = refused
+status_of_query fault = without_filter
 
 -- want of memory, or no filter
 abbrev pub status_of_refusal : Refusal → Status
 status_of_refusal refusal.Memory = without_memory
-status_of_refusal other = refused
+status_of_refusal other = without_filter
 
 -- want of memory, a device that failed, or a row at fault
 abbrev pub status_of_rows : RunFault → Status
 status_of_rows (rows.Memory line) = without_memory
-status_of_rows (rows.Read line) = unread
-status_of_rows rows.Write = unread
+status_of_rows (rows.Read line) = without_device
+status_of_rows rows.Write = without_device
 status_of_rows fault = at_fault
 
 -- how a run ends by a failure
 abbrev pub status_of : Failure → Status
-status_of (NotYet option) = misused
-status_of OneOf = misused
+status_of (NotYet option) = without_plan
+status_of OneOf = without_plan
 status_of (Schema fault) = status_of_schema fault
 status_of (UnknownType name) = without_type
 status_of (Query fault) = status_of_query fault
-status_of NoOption = misused
+status_of NoOption = without_plan
 status_of (Refused refusal) = status_of_refusal refusal
-status_of (RowsFile name) = unread
+status_of (RowsFile name) = without_device
 status_of (Rows fault) = status_of_rows fault
 
 -- what a failure over the rows says of them and of what was written
@@ -59,5 +59,5 @@ StopsOver rows other streams = ⊥
 
 -- what an answer says of the plan, of the rows and of what was written
 abbrev pub AnswerSays : Result Tally Failure → Plan → List ℕ → Streams → Type 0
-AnswerSays (Ok tally) = StatusSays done
+AnswerSays (Ok tally) = StatusSays complete
 AnswerSays (Err failure) = StatusSays (status_of failure)

@@ -2,7 +2,7 @@ ghost use Rattle.std.specs.Prelude.{◌≡◌, ◌<◌, false, ℕ, List, Some, 
 ghost use Rattle.odata_filter.specs.FilterPlan.{IsFilterPlan};
 ghost use Rattle.line_filter.specs.Kept.{Filters};
 ghost use Rattle.odata_filter.specs.RowJudgment.{rows_of};
-ghost use Rattle.odata_filter.specs.Run.{Answers, AsksFor, Begins, IsFirstMoment, NamesType, OverRows, misused, without_type};
+ghost use Rattle.odata_filter.specs.Run.{Answers, AsksFor, Begins, IsFirstMoment, NamesType, OverRows, streams, without_plan, without_type};
 ghost use Rattle.odata_filter.specs.private.Failures.{AnswerSays, StopsOver, status_of};
 ghost use Rattle.csdl_schema.specs.SchemaModel.{IsEntityAt, index_named};
 
@@ -20,7 +20,8 @@ use std::io::{Read, Write};
 
 /// What a plan asks for that is not there yet.
 fn not_yet(plan: &Plan<'_>) -> Option<&'static str>
-    ensures { MatchOption result (IsNone plan.entry.now.now × (plan.entry.now.verb ≡ Verb.Filter) × (plan.entry.now.collection ≡ false))
+    ensures { MatchOption result
+        (IsNone plan.entry.now.now × (plan.entry.now.verb ≡ Verb.Filter) × (plan.entry.now.collection ≡ false))
         (λ option. ¬ IsFilterPlan plan.entry.now) }
 {
     match plan.verb {
@@ -42,7 +43,7 @@ fn not_yet(plan: &Plan<'_>) -> Option<&'static str>
 fn is_planned<'p>(plan: &Plan<'p>) -> Result<(), Failure<'p>>
     ensures planned { OnOk result (IsFilterPlan plan.entry.now) }
     ensures other { OnErr result (¬ IsFilterPlan plan.entry.now) }
-    ensures status { IfErr result (λ failure. status_of failure ≡ misused) }
+    ensures status { IfErr result (λ failure. status_of failure ≡ without_plan) }
 {
     if let Some(option) = not_yet(plan) {
         return Err(Failure::NotYet(option));
@@ -58,7 +59,8 @@ fn entity_type<'p>(schema: &Schema, named: &'p str) -> Result<TypeId, Failure<'p
     ensures held { IfOk result (λ id. id < length schema.now.types) }
     ensures found { IfOk result (λ id. index_named schema.now named.entry.now ≡ Some id) }
     ensures entity { IfOk result (IsEntityAt schema.now) }
-    ensures none { OnErr result ((id : ℕ) → index_named schema.now named.entry.now ≡ Some id → ¬ IsEntityAt schema.now id) }
+    ensures none { OnErr result
+        ((id : ℕ) → index_named schema.now named.entry.now ≡ Some id → ¬ IsEntityAt schema.now id) }
     ensures status { IfErr result (λ failure. status_of failure ≡ without_type) }
 {
     match schema.type_named(named) {
@@ -92,10 +94,12 @@ fn rows_by_filter<'p, R: Read + Drop, W: Write>(
     rows: Option<R>,
     out: &mut W,
 ) -> Result<Tally, Failure<'p>>
-    ensures done { IfOk result (λ tally. OverRows (record { rows = option_map (λ r. R.remaining r) rows; old = W.contents out.old; new = W.contents out.new })
+    ensures done { IfOk result (λ tally. OverRows
+        (streams (option_map (λ r. R.remaining r) rows) (W.contents out.old) (W.contents out.new))
         (λ bytes text. Filters (rows_of checked.now now.now bytes) text tally)) }
     ensures failed { IfErr result (λ failure.
-        StopsOver (rows_of checked.now now.now) failure (record { rows = option_map (λ r. R.remaining r) rows; old = W.contents out.old; new = W.contents out.new })) }
+        StopsOver (rows_of checked.now now.now) failure
+        (streams (option_map (λ r. R.remaining r) rows) (W.contents out.old) (W.contents out.new))) }
 {
     match rows {
         Some(rows) => match filter_lines(alloc, checked, now, rows, out) {
@@ -119,9 +123,11 @@ fn rows_by_text<'p, R: Read + Drop, W: Write>(
     requires held { id < length schema.now.types }
     requires asked { AsksFor plan.now text.now }
     ensures says { (document : List ℕ) → NamesType plan.entry.now document schema.now id
-        → AnswerSays result plan.entry.now document (record { rows = option_map (λ r. R.remaining r) rows; old = W.contents out.old; new = W.contents out.new }) }
+        → AnswerSays result plan.entry.now document
+        (streams (option_map (λ r. R.remaining r) rows) (W.contents out.old) (W.contents out.new)) }
     ensures begins { (document : List ℕ) → NamesType plan.entry.now document schema.now id
-        → Begins plan.entry.now document (record { rows = option_map (λ r. R.remaining r) rows; old = W.contents out.old; new = W.contents out.new }) }
+        → Begins plan.entry.now document
+        (streams (option_map (λ r. R.remaining r) rows) (W.contents out.old) (W.contents out.new)) }
 {
     match check(alloc, schema, id, text) {
         Ok(checked) => rows_by_filter(alloc, &checked, &first_moment(), plan, rows, out),
@@ -141,9 +147,11 @@ fn rows_by_plan<'p, R: Read + Drop, W: Write>(
     requires held { id < length schema.now.types }
     requires planned { IsFilterPlan plan.now }
     ensures says { (document : List ℕ) → NamesType plan.entry.now document schema.now id
-        → AnswerSays result plan.entry.now document (record { rows = option_map (λ r. R.remaining r) rows; old = W.contents out.old; new = W.contents out.new }) }
+        → AnswerSays result plan.entry.now document
+        (streams (option_map (λ r. R.remaining r) rows) (W.contents out.old) (W.contents out.new)) }
     ensures begins { (document : List ℕ) → NamesType plan.entry.now document schema.now id
-        → Begins plan.entry.now document (record { rows = option_map (λ r. R.remaining r) rows; old = W.contents out.old; new = W.contents out.new }) }
+        → Begins plan.entry.now document
+        (streams (option_map (λ r. R.remaining r) rows) (W.contents out.old) (W.contents out.new)) }
 {
     match (plan.filter, plan.query) {
         (Some(text), _) => rows_by_text(alloc, schema, id, text, plan, rows, out),
@@ -164,8 +172,10 @@ fn carry_out<'p, R: Read + Drop, W: Write>(
     rows: Option<R>,
     out: &mut W,
 ) -> Result<Tally, Failure<'p>>
-    ensures says { AnswerSays result plan.entry.now document.now (record { rows = option_map (λ r. R.remaining r) rows; old = W.contents out.old; new = W.contents out.new }) }
-    ensures begins { Begins plan.entry.now document.now (record { rows = option_map (λ r. R.remaining r) rows; old = W.contents out.old; new = W.contents out.new }) }
+    ensures says { AnswerSays result plan.entry.now document.now
+        (streams (option_map (λ r. R.remaining r) rows) (W.contents out.old) (W.contents out.new)) }
+    ensures begins { Begins plan.entry.now document.now
+        (streams (option_map (λ r. R.remaining r) rows) (W.contents out.old) (W.contents out.new)) }
 {
     if let Err(failure) = is_planned(plan) {
         return Err(failure);
@@ -182,8 +192,8 @@ fn carry_out<'p, R: Read + Drop, W: Write>(
 
 /// Carries out a plan over the bytes of its schema file and answers the status that the program ends with.
 ///
-/// `rows` is `None` where the rows file cannot be opened, which is told last. `out` and `err` stand for standard output and
-/// error: kept rows go to `out`, and the line of a failure to `err`, behind a flush of `out`.
+/// `rows` is `None` where the rows file cannot be opened, which is told last. `out` and `err` stand for standard output
+/// and error: kept rows go to `out`, and the line of a failure to `err`, behind a flush of `out`.
 pub fn run<R: Read + Drop, W: Write, E: Write>(
     alloc: Global,
     plan: &Plan<'_>,
@@ -193,7 +203,8 @@ pub fn run<R: Read + Drop, W: Write, E: Write>(
     err: &mut E,
 ) -> u8
     ensures known { result < 7 }
-    ensures answers { Answers result plan.entry.now document.now (record { rows = option_map (λ r. R.remaining r) rows; old = W.contents out.old; new = W.contents out.new }) }
+    ensures answers { Answers result plan.entry.now document.now
+        (streams (option_map (λ r. R.remaining r) rows) (W.contents out.old) (W.contents out.new)) }
 {
     match carry_out(alloc, plan, document, rows, out) {
         Ok(_) => 0,

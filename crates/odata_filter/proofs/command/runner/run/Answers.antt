@@ -1,11 +1,11 @@
 use Rattle.std.proofs.Common.{refl, option_map}
 use Rattle.odata_filter.specs.private.Failures.{status_of}
-use Rattle.odata_filter.specs.Run.{done}
+use Rattle.odata_filter.specs.Run.{complete}
 use Rattle.odata_filter.proofs.RunLemmas.RunEndings.{StatusSays-kept, Begins-kept}
 use Rattle.odata_filter.proofs.command.runner.run.Goals as goal
 
 pub returns-in-Ok-clause-answers : goal.returns-in-Ok-clause-answers
-returns-in-Ok-clause-answers g c = record { status = done; is_answer = refl; says = c.in-Ok.ensures.says; begins = c.in-Ok.ensures.begins }
+returns-in-Ok-clause-answers g c = record { status = complete; is_answer = refl; says = c.in-Ok.ensures.says; begins = c.in-Ok.ensures.begins }
 
 pub returns-in-Err-clause-answers : goal.returns-in-Err-clause-answers
 returns-in-Err-clause-answers g c = record {
