@@ -11,50 +11,50 @@ use Rattle.csdl_schema.specs.SchemaModel.{Slots, SchemaModel, PropertyModel, Pro
 use Rattle.edm_entities.specs.Fits.{Fits}
 
 -- what a value stands for once its type is known: a record's names are those of its type's properties
-abbrev pub Seen : Type 0
-Seen = Slots → ExprType → Val
+abbrev pub ValAtType : Type 0
+ValAtType = Slots → ExprType → Val
 
 -- a property that is not looked at is absent, whatever its slot holds
-abbrev pub held_of : Slots → PropertyType → Seen → FieldVal
-held_of slots (declared type) seen = present (seen slots type)
-held_of slots opaque seen = absent
-held_of slots navigation seen = absent
+abbrev pub field_of : Slots → PropertyType → ValAtType → FieldVal
+field_of slots (declared type) seen = present (seen slots type)
+field_of slots opaque seen = absent
+field_of slots navigation seen = absent
 
 -- what slots hold for properties, by the properties' names
-abbrev pub held_by_name : Slots → List PropertyModel → List Seen → List ℕ → FieldVal
-held_by_name slots [] held name = absent
-held_by_name slots (p ∷ ps) [] name = absent
-held_by_name slots (p ∷ ps) (seen ∷ more) name =
-    if pointwise nat_eq p.name name then held_of slots p.type_of seen else held_by_name slots ps more name
+abbrev pub field_by_name : Slots → List PropertyModel → List ValAtType → List ℕ → FieldVal
+field_by_name slots [] held name = absent
+field_by_name slots (p ∷ ps) [] name = absent
+field_by_name slots (p ∷ ps) (seen ∷ more) name =
+    if pointwise nat_eq p.name name then field_of slots p.type_of seen else field_by_name slots ps more name
 
-abbrev pub record_of : Slots → ExprType → List Seen → Val
-record_of slots (single (structured name)) held = fields (held_by_name slots (slots name) held)
+abbrev pub record_of : Slots → ExprType → List ValAtType → Val
+record_of slots (single (structured name)) held = fields (field_by_name slots (slots name) held)
 record_of slots type held = null
 
-abbrev pub items_of : Slots → SingleType → List Seen → Vals
+abbrev pub items_of : Slots → SingleType → List ValAtType → Vals
 items_of slots type [] = no_items
 items_of slots type (seen ∷ more) = item (seen slots (single type)) (items_of slots type more)
 
-abbrev pub list_of : Slots → ExprType → List Seen → Val
+abbrev pub list_of : Slots → ExprType → List ValAtType → Val
 list_of slots (collection type) held = items (items_of slots type held)
 list_of slots type held = null
 
 -- one level, with each value inside already seen
-abbrev pub seen_step : Value-F Seen → Seen
-seen_step Value-F.Null slots type = null
-seen_step (Value-F.Bool b) slots type = boolean b
-seen_step (Value-F.Int n) slots type = whole n
-seen_step (Value-F.Text s) slots type = text (string_bytes s)
-seen_step (Value-F.Date d) slots type = date d
-seen_step (Value-F.Moment m) slots type = moment m
-seen_step (Value-F.Guid g) slots type = guid g
-seen_step (Value-F.Enum n) slots type = member n
-seen_step (Value-F.Record v) slots type = record_of slots type v.items
-seen_step (Value-F.List v) slots type = list_of slots type v.items
+abbrev pub val_step : Value-F ValAtType → ValAtType
+val_step Value-F.Null slots type = null
+val_step (Value-F.Bool b) slots type = boolean b
+val_step (Value-F.Int n) slots type = whole n
+val_step (Value-F.Text s) slots type = text (string_bytes s)
+val_step (Value-F.Date d) slots type = date d
+val_step (Value-F.Moment m) slots type = moment m
+val_step (Value-F.Guid g) slots type = guid g
+val_step (Value-F.Enum n) slots type = member n
+val_step (Value-F.Record v) slots type = record_of slots type v.items
+val_step (Value-F.List v) slots type = list_of slots type v.items
 
 -- what a value of that type stands for
-abbrev pub val_of : Value → Seen
-val_of = fold-Value Seen seen_step
+abbrev pub val_of : Value → ValAtType
+val_of = fold-Value ValAtType val_step
 
 -- an entity as contracts see it: the schema, the index of its type in that, and the values by slot
 pub record Row : Type 0 where

@@ -4,7 +4,7 @@ ghost use Rattle.serde_json.specs.View.{view, members_view};
 ghost use Rattle.csdl_schema.specs.PropertyView.{type_of_kind};
 ghost use Rattle.csdl_schema.specs.SchemaModel.{Slots, IsInNameOrder, properties_at, slots_of, type_name_at};
 ghost use Rattle.edm_entities.specs.Fits.{FitsProperty};
-ghost use Rattle.edm_entities.specs.Row.{held_of, val_of};
+ghost use Rattle.edm_entities.specs.Row.{field_of, val_of};
 ghost use Rattle.edm_entities.specs.RowFaults.{IsPropertyFault, IsRowFault, IsMemory};
 ghost use Rattle.edm_entities.specs.private.Walk.{OnFlaw, FitSlots, IsSlotFault};
 
@@ -62,7 +62,7 @@ fn read_slot(
     requires { slot < length (properties_at schema.now type_id) }
     ensures fits { (slots : Slots) → IfOk result (λ value. IfSome (slice_get (properties_at schema.now type_id) slot)
         (λ p. FitsProperty p.type_of (option_map (λ json. view json.now) found.entry)
-        (held_of slots p.type_of (val_of value)))) }
+        (field_of slots p.type_of (val_of value)))) }
     ensures fault { IfErr result (λ fault. IfSome (slice_get (properties_at schema.now type_id) slot)
         (λ p. IsSlotFault p.type_of (option_map (λ json. view json.now) found.entry) p.name fault)) }
 {
@@ -82,7 +82,7 @@ fn read_property(
 ) -> Result<Value, ReadFlaw>
     ensures fits { (slots : Slots) → let type = type_of_kind property.now.kind property.now.many
         in IfOk result (λ v. FitsProperty type (option_map (λ json. view json.now) found.entry)
-        (held_of slots type (val_of v))) }
+        (field_of slots type (val_of v))) }
     ensures flaw { let type = type_of_kind property.now.kind property.now.many
         in IfErr result (λ f. OnFlaw f (IsPropertyFault type (option_map (λ json. view json.now) found.entry) [])) }
 {

@@ -5,14 +5,14 @@ use Rattle.odata_eval.specs.Outcome.{Outcome, gives}
 use Rattle.odata_eval.specs.Environment.{Environment, variable_value}
 
 -- what a record has under a name is the outcome, if it has something
-abbrev pub HeldGives : FieldVal → Outcome → Type 0
-HeldGives (present v) o = o ≡ gives v
-HeldGives absent o = ⊥
+abbrev pub FieldGives : FieldVal → Outcome → Type 0
+FieldGives (present v) o = o ≡ gives v
+FieldGives absent o = ⊥
 
 -- a step to a property: from null it is null, from a record its value of that name
 abbrev pub StepGives : Val → List ℕ → Outcome → Type 0
 StepGives null name o = o ≡ gives null
-StepGives (fields held) name o = HeldGives (held name) o
+StepGives (fields held) name o = FieldGives (held name) o
 StepGives _ name o = ⊥
 
 -- the variable's value where there is a variable, else a step from the entity

@@ -15,9 +15,9 @@ use Rattle.odata_typing.specs.Typed.{Typed}
 
 -- the text has tokens, and these are the tree
 pub record HasTree (text : List ℕ) (tree : Tree) : Type 0 where
-  pub pieces : List TokenModel
-  pub tokens : IsTokenList text pieces
-  pub parse : IsParse pieces tree
+  pub models : List TokenModel
+  pub tokens : IsTokenList text models
+  pub parse : IsParse models tree
 
 -- the text is a filter of the type root: its tree has type Boolean or Null
 pub record HasTyping (slots : Slots) (root : List ℕ) (text : List ℕ) (tree : Tree) : Type 0 where
@@ -31,9 +31,9 @@ HasNoTyping slots root text = (tree : Tree) → ¬ HasTyping slots root text tre
 
 -- the text has tokens, and these have the fault
 pub record HasSyntaxFault (text : List ℕ) (fault : SyntaxFault) : Type 0 where
-  pub pieces : List TokenModel
-  pub tokens : IsTokenList text pieces
-  pub fault_of : IsSyntaxFault pieces (length text) fault
+  pub models : List TokenModel
+  pub tokens : IsTokenList text models
+  pub fault_of : IsSyntaxFault models (length text) fault
 
 -- the text has a tree, and this has the fault
 pub record HasTypeFault (slots : Slots) (root : List ℕ) (text : List ℕ) (fault : TypeFault) : Type 0 where

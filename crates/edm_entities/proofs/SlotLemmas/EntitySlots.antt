@@ -12,7 +12,7 @@ use Rattle.csdl_schema.specs.ExprType.{ExprType, single, structured}
 use Rattle.csdl_schema.specs.SchemaModel.{Slots, PropertyModel, declared, slots_of, type_name_at, properties_at, IsInNameOrder}
 use Rattle.edm_entities.specs.Fits.{Fits, FitsProperty, FitsRecord}
 use Rattle.edm_entities.specs.HasType.{HasPropertyType}
-use Rattle.edm_entities.specs.Row.{Row, IsEntity, val_of, value_of, held_of, held_by_name}
+use Rattle.edm_entities.specs.Row.{Row, IsEntity, val_of, value_of, field_of, field_by_name}
 use Rattle.edm_entities.specs.SlotValue.{IsSlotValue}
 use Rattle.edm_entities.proofs.FitLemmas.FitsHasType.{held_has_type}
 use Rattle.edm_entities.proofs.SlotLemmas.ReadEntities.{val_of-Record}
@@ -28,7 +28,7 @@ each_at P (y ∷ ys) (suc n) x all at = each_at P ys n x all.1 at
 record IsFound (slots : Slots) (properties : List PropertyModel) (values : List Value) (n : ℕ) (p : PropertyModel) : Type 0 where
   value : Value
   at_slot : slice_get values n ≡ Some value
-  by_name : held_by_name slots properties (map val_of values) p.name ≡ held_of slots p.type_of (val_of value)
+  by_name : field_by_name slots properties (map val_of values) p.name ≡ field_of slots p.type_of (val_of value)
 
 below_at : (name : List ℕ) (ps : List PropertyModel) (n : ℕ) (p : PropertyModel)
     → AllByRecursion (λ other. slice_cmp nat_cmp name other ≡ Less) (map (λ q. q.name) ps) → slice_get ps n ≡ Some p → slice_cmp nat_cmp name p.name ≡ Less
@@ -43,7 +43,7 @@ found slots [] values n p ordered long at = absurd (cc)
 found slots (q ∷ ps) [] n p ordered long at = absurd (omega arith)
 found slots (q ∷ ps) (v ∷ values) zero p ordered long at =
     let same : q ≡ p = cc in
-    record { value = v; at_slot = refl; by_name = subst (λ (r : PropertyModel). held_by_name slots (q ∷ ps) (map val_of (v ∷ values)) r.name ≡ held_of slots r.type_of (val_of v)) same (here slots q ps (val_of v) (map val_of values)) }
+    record { value = v; at_slot = refl; by_name = subst (λ (r : PropertyModel). field_by_name slots (q ∷ ps) (map val_of (v ∷ values)) r.name ≡ field_of slots r.type_of (val_of v)) same (here slots q ps (val_of v) (map val_of values)) }
 found slots (q ∷ ps) (v ∷ values) (suc n) p ordered long at =
     let rest = found slots ps values n p ordered.1 (omega (arith, long)) at in
     record { value = rest.value; at_slot = rest.at_slot; by_name = behind slots q ps (val_of v) (map val_of values) p.name (other_name q.name p.name (below_at q.name ps n p ordered.0 at)) ∙ rest.by_name }
@@ -56,13 +56,13 @@ slot_value row entity slot p type at is_declared =
     let properties : List PropertyModel = properties_at row.schema row.type_id in
     let values : List Value = entity.holds_slots.slots.items in
     let name : List ℕ = type_name_at row.schema row.type_id in
-    let f : (List ℕ → FieldVal) = held_by_name slots properties (map val_of values) in
+    let f : (List ℕ → FieldVal) = field_by_name slots properties (map val_of values) in
     let record_is : value_of row ≡ fields f =
     ap (λ (v : Value). val_of v slots (single (structured name))) entity.holds_slots.value_is ∙ val_of-Record slots (single (structured name)) entity.holds_slots.slots in
     let fits : FitsRecord properties entity.conforms.0 f = subst (Fits slots name entity.conforms.0) record_is entity.conforms.1 in
     let here_found = found slots properties values slot p entity.in_order entity.holds_slots.as_many at in
     let under : f p.name ≡ present (val_of here_found.value slots type) =
-    here_found.by_name ∙ ap (λ t. held_of slots t (val_of here_found.value)) is_declared in
+    here_found.by_name ∙ ap (λ t. field_of slots t (val_of here_found.value)) is_declared in
     let fits_here : FitsProperty p.type_of (get p.name entity.conforms.0) (f p.name) =
     each_at (λ q. FitsProperty q.type_of (get q.name entity.conforms.0) (f q.name)) properties slot p fits.each_fits at in
     let typed : HasPropertyType slots p.type_of (f p.name) = held_has_type slots p.type_of (get p.name entity.conforms.0) (f p.name) fits_here in

@@ -7,7 +7,7 @@ use Rattle.edm_values.specs.Val.{FieldVal}
 use Rattle.edm_values.specs.declared.value.Value.{Value}
 use Rattle.csdl_schema.specs.SchemaModel.{Slots, PropertyModel, PropertyType}
 use Rattle.edm_entities.specs.Fits.{FitsProperty}
-use Rattle.edm_entities.specs.Row.{held_of, val_of}
+use Rattle.edm_entities.specs.Row.{field_of, val_of}
 use Rattle.edm_entities.specs.RowFaults.{Flaw, missing, wrong_kind, null_not_allowed, out_of_range, IsPropertyFault, IsFirstFaultAt, IsRowFault, IsMemory}
 use Rattle.edm_entities.specs.private.Walk.{FitsSlot, FitSlots, IsSlotFault}
 use Rattle.edm_entities.specs.declared.fault.RowFault.{RowFault}
@@ -28,7 +28,7 @@ some_fit : (slots : Slots) (json : Data) (properties : List PropertyModel) (valu
     → AllByRecursion (λ p. (held : FieldVal) × FitsProperty p.type_of (get p.name json) held) properties
 some_fit slots json [] values fits = tt
 some_fit slots json (p ∷ ps) [] fits = absurd fits
-some_fit slots json (p ∷ ps) (v ∷ values) fits = ((held_of slots p.type_of (val_of v), fits.0), some_fit slots json ps values fits.1)
+some_fit slots json (p ∷ ps) (v ∷ values) fits = ((field_of slots p.type_of (val_of v), fits.0), some_fit slots json ps values fits.1)
 
 -- a list at one of its indices
 record IsCutAt (properties : List PropertyModel) (n : ℕ) (p : PropertyModel) : Type 0 where

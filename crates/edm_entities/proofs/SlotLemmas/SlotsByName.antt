@@ -10,17 +10,17 @@ use Rattle.edm_values.specs.Val.{absent}
 use Rattle.edm_values.specs.declared.value.Value.{Value}
 use Rattle.csdl_schema.specs.SchemaModel.{Slots, PropertyModel, IsInNameOrder}
 use Rattle.edm_entities.specs.Fits.{FitsProperty, FitsRecord}
-use Rattle.edm_entities.specs.Row.{Seen, held_of, held_by_name, val_of}
+use Rattle.edm_entities.specs.Row.{ValAtType, field_of, field_by_name, val_of}
 use Rattle.edm_entities.specs.private.Walk.{FitSlots}
 
 -- a property is found under its own name
-pub here : (slots : Slots) (p : PropertyModel) (ps : List PropertyModel) (seen : Seen) (more : List Seen)
-    → held_by_name slots (p ∷ ps) (seen ∷ more) p.name ≡ held_of slots p.type_of seen
+pub here : (slots : Slots) (p : PropertyModel) (ps : List PropertyModel) (seen : ValAtType) (more : List ValAtType)
+    → field_by_name slots (p ∷ ps) (seen ∷ more) p.name ≡ field_of slots p.type_of seen
 here slots p ps seen more = rw (nat_list_eq_equiv.refl p.name)
 
 -- and behind a property of another name
-pub behind : (slots : Slots) (p : PropertyModel) (ps : List PropertyModel) (seen : Seen) (more : List Seen) (name : List ℕ) → pointwise nat_eq p.name name ≡ false
-    → held_by_name slots (p ∷ ps) (seen ∷ more) name ≡ held_by_name slots ps more name
+pub behind : (slots : Slots) (p : PropertyModel) (ps : List PropertyModel) (seen : ValAtType) (more : List ValAtType) (name : List ℕ) → pointwise nat_eq p.name name ≡ false
+    → field_by_name slots (p ∷ ps) (seen ∷ more) name ≡ field_by_name slots ps more name
 behind slots p ps seen more name other = rw other
 
 -- a name that another is below is another name
@@ -28,10 +28,10 @@ pub other_name : (a b : List ℕ) → slice_cmp nat_cmp a b ≡ Less → pointwi
 other_name a b below = texts_ties a b ∙ ap is_eq below
 
 -- what fits the slots behind fits with one more slot before them, of a lesser name
-shifted : (slots : Slots) (json : Data) (p : PropertyModel) (ps : List PropertyModel) (seen : Seen) (more : List Seen) (qs : List PropertyModel)
+shifted : (slots : Slots) (json : Data) (p : PropertyModel) (ps : List PropertyModel) (seen : ValAtType) (more : List ValAtType) (qs : List PropertyModel)
     → AllByRecursion (λ name. slice_cmp nat_cmp p.name name ≡ Less) (map (λ q. q.name) qs)
-    → AllByRecursion (λ q. FitsProperty q.type_of (get q.name json) (held_by_name slots ps more q.name)) qs
-    → AllByRecursion (λ q. FitsProperty q.type_of (get q.name json) (held_by_name slots (p ∷ ps) (seen ∷ more) q.name)) qs
+    → AllByRecursion (λ q. FitsProperty q.type_of (get q.name json) (field_by_name slots ps more q.name)) qs
+    → AllByRecursion (λ q. FitsProperty q.type_of (get q.name json) (field_by_name slots (p ∷ ps) (seen ∷ more) q.name)) qs
 shifted slots json p ps seen more [] below each = tt
 shifted slots json p ps seen more (q ∷ qs) below each = (
   subst (FitsProperty q.type_of (get q.name json)) (sym (behind slots p ps seen more q.name (other_name p.name q.name below.0))) each.0,
@@ -40,7 +40,7 @@ shifted slots json p ps seen more (q ∷ qs) below each = (
 
 each_fits : (slots : Slots) (json : Data) (properties : List PropertyModel) (values : List Value) → IsInNameOrder properties
     → FitSlots slots json properties values
-    → AllByRecursion (λ p. FitsProperty p.type_of (get p.name json) (held_by_name slots properties (map val_of values) p.name)) properties
+    → AllByRecursion (λ p. FitsProperty p.type_of (get p.name json) (field_by_name slots properties (map val_of values) p.name)) properties
 unfolding IsStrictlySortedBy
 each_fits slots json [] values ordered fits = tt
 each_fits slots json (p ∷ ps) [] ordered fits = absurd fits
@@ -49,18 +49,18 @@ each_fits slots json (p ∷ ps) (v ∷ values) ordered fits = (
   shifted slots json p ps (val_of v) (map val_of values) ps ordered.0 (each_fits slots json ps values ordered.1 fits.1),
 )
 
-others_absent : (slots : Slots) (properties : List PropertyModel) (seens : List Seen) (name : List ℕ) → AllByRecursion (λ p. p.name ≢ name) properties
-    → held_by_name slots properties seens name ≡ absent
+others_absent : (slots : Slots) (properties : List PropertyModel) (seens : List ValAtType) (name : List ℕ) → AllByRecursion (λ p. p.name ≢ name) properties
+    → field_by_name slots properties seens name ≡ absent
 others_absent slots [] seens name others = refl
 others_absent slots (p ∷ ps) [] name others = refl
 others_absent slots (p ∷ ps) (seen ∷ more) name others = by (pointwise nat_eq p.name name) refl (others_absent slots ps more name others.1)
   where
-    by : (b : Bool) → b ≡ pointwise nat_eq p.name name → held_by_name slots ps more name ≡ absent → held_by_name slots (p ∷ ps) (seen ∷ more) name ≡ absent
+    by : (b : Bool) → b ≡ pointwise nat_eq p.name name → field_by_name slots ps more name ≡ absent → field_by_name slots (p ∷ ps) (seen ∷ more) name ≡ absent
     by true e rest = absurd (others.0 (same_text p.name name e))
     by false e rest = behind slots p ps seen more name (sym e) ∙ rest
 
 pub record_fits : (slots : Slots) (json : Data) (properties : List PropertyModel) (values : List Value) → IsInNameOrder properties → IsSome (as_object json)
-    → FitSlots slots json properties values → FitsRecord properties json (held_by_name slots properties (map val_of values))
+    → FitSlots slots json properties values → FitsRecord properties json (field_by_name slots properties (map val_of values))
 record_fits slots json properties values ordered is_object fits =
     record {
       is_object = is_object;

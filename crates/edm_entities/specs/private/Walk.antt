@@ -5,7 +5,7 @@ use Rattle.serde_json.specs.Find.{get}
 use Rattle.edm_values.specs.declared.value.Value.{Value}
 use Rattle.csdl_schema.specs.SchemaModel.{Slots, PropertyModel, PropertyType}
 use Rattle.edm_entities.specs.Fits.{FitsProperty}
-use Rattle.edm_entities.specs.Row.{held_of, val_of}
+use Rattle.edm_entities.specs.Row.{field_of, val_of}
 use Rattle.edm_entities.specs.RowFaults.{Flaw, missing, wrong_kind, null_not_allowed, out_of_range, IsPropertyFault}
 use Rattle.edm_entities.specs.declared.flaw.ReadFlaw.{ReadFlaw}
 use Rattle.edm_entities.specs.declared.flaw.ReadFlaw.TheVariants.{Missing, WrongKind, NullNotAllowed, OutOfRange, Memory}
@@ -31,7 +31,7 @@ IsFlawAt flaw name _ = ⊥
 
 -- a slot's value is what fits the member of the property's name
 abbrev pub FitsSlot : Slots → Data → PropertyModel → Value → Type 0
-FitsSlot slots json p value = FitsProperty p.type_of (get p.name json) (held_of slots p.type_of (val_of value))
+FitsSlot slots json p value = FitsProperty p.type_of (get p.name json) (field_of slots p.type_of (val_of value))
 
 -- these slots hold values that fit, one each
 abbrev pub FitSlots : Slots → Data → List PropertyModel → List Value → Type 0

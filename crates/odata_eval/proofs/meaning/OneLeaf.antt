@@ -10,7 +10,7 @@ use Rattle.odata_syntax.specs.declared.node.LiteralKind.TheVariants.{Bool as Boo
 use Rattle.odata_eval.specs.AndGives.{BothGive, AndGives}
 use Rattle.odata_eval.specs.EqualGives.{IsWhether, EqualGives}
 use Rattle.odata_typing.specs.LiteralValue.{LiteralValue, BooleanValue}
-use Rattle.odata_eval.specs.NameGives.{FoundGives, StepGives, HeldGives}
+use Rattle.odata_eval.specs.NameGives.{FoundGives, StepGives, FieldGives}
 use Rattle.odata_eval.specs.OperatorGives.{OperatorGives}
 use Rattle.odata_eval.specs.Outcome.{Outcome, gives}
 use Rattle.odata_eval.proofs.meaning.OneStep.{AtMostOne, OneValue, same_one, GivesSome-one, After-one}
@@ -58,13 +58,13 @@ pub OperatorGives-one : (operator : BinaryOperator) (v : Val) (Right : Outcome �
 OperatorGives-one BinaryOperator.And v Right one a b p q = AndGives-one v Right one a b p q
 OperatorGives-one BinaryOperator.Eq v Right one a b p q = After-one Right (EqualGives v) one (EqualGives-one v) a b p q
 
-pub HeldGives-one : (h : FieldVal) → AtMostOne (HeldGives h)
-HeldGives-one (present v) a b p q = same_one (gives v) a b p q
-HeldGives-one absent a b p q = absurd p
+pub FieldGives-one : (h : FieldVal) → AtMostOne (FieldGives h)
+FieldGives-one (present v) a b p q = same_one (gives v) a b p q
+FieldGives-one absent a b p q = absurd p
 
 pub StepGives-one : (v : Val) (name : List ℕ) → AtMostOne (StepGives v name)
 StepGives-one null name a b p q = same_one (gives null) a b p q
-StepGives-one (fields held) name a b p q = HeldGives-one (held name) a b p q
+StepGives-one (fields held) name a b p q = FieldGives-one (held name) a b p q
 StepGives-one _ name a b p q = absurd p
 
 pub FoundGives-one : (found : Option Val) (entity : Val) (name : List ℕ) → AtMostOne (FoundGives found entity name)

@@ -21,7 +21,7 @@ use Rattle.odata_eval.specs.Environment.{Environment, variable_value, scope_of, 
 use Rattle.odata_eval.specs.EqualGives.{EqualGives}
 use Rattle.odata_eval.specs.LiteralGives.{LiteralGives}
 use Rattle.odata_eval.specs.Means.{Means}
-use Rattle.odata_eval.specs.NameGives.{FoundGives, StepGives, HeldGives}
+use Rattle.odata_eval.specs.NameGives.{FoundGives, StepGives, FieldGives}
 use Rattle.odata_eval.specs.Outcome.{Outcome, gives}
 use Rattle.odata_typing.specs.ExprTypes.{boolean_type, string_type, AreComparable}
 use Rattle.odata_typing.specs.LiteralValue.{LiteralTyped, IntTyped}
@@ -65,7 +65,7 @@ variable_fits slots (bound ∷ more) asked fitting =
       | false ↦ variable_fits slots more asked fitting.1
     ]
 
-held_ends : (slots : Slots) (type : ExprType) (held : FieldVal) → HasPropertyType slots (declared type) held → Ends slots type (HeldGives held)
+held_ends : (slots : Slots) (type : ExprType) (held : FieldVal) → HasPropertyType slots (declared type) held → Ends slots type (FieldGives held)
 held_ends slots type (present v) has = (v, (refl, has))
 held_ends slots type absent has = absurd has
 

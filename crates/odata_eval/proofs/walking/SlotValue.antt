@@ -15,8 +15,8 @@ use Rattle.edm_values.specs.declared.value.Value.{Value, Record, Null, Bool, Int
 use Rattle.csdl_schema.specs.ExprType.{ExprType, single, primitive, structured}
 use Rattle.csdl_schema.specs.SchemaModel.{Slots, PropertyModel, declared, slot_named, slots_of, type_name_at}
 use Rattle.edm_entities.specs.Fits.{Fits, FitsProperty, FitsPrimitive}
-use Rattle.edm_entities.specs.Row.{Row, val_of, value_of, held_of, held_by_name, record_of, IsEntity}
-use Rattle.odata_eval.specs.NameGives.{StepGives, HeldGives}
+use Rattle.edm_entities.specs.Row.{Row, val_of, value_of, field_of, field_by_name, record_of, IsEntity}
+use Rattle.odata_eval.specs.NameGives.{StepGives, FieldGives}
 use Rattle.odata_eval.specs.Outcome.{gives}
 use Rattle.odata_eval.specs.private.WalkAnswer.{HoldsAt}
 use Rattle.odata_typing.specs.Typed.{PropertyTyped, property_named}
@@ -36,7 +36,7 @@ module _ (slots : Slots) (asked : List ℕ) (type : ExprType) (v : Value) where
       → slice_get (w ∷ ws) (cond (not is_it) (1 + n) 0) ≡ Some v
       → IsSomeAnd (cond is_it (Some p) found) (λ q. q.type_of ≡ declared type)
       → (slice_get ws n ≡ Some v → IsSomeAnd found (λ q. q.type_of ≡ declared type) → behind ≡ present (val_of v slots type))
-      → cond is_it (held_of slots p.type_of (val_of w)) behind ≡ present (val_of v slots type)
+      → cond is_it (field_of slots p.type_of (val_of w)) behind ≡ present (val_of v slots type)
   at_front true p w ws n found behind at typed further =
       let same : w ≡ v = cc in
       rw (typed, same) refl
@@ -44,14 +44,14 @@ module _ (slots : Slots) (asked : List ℕ) (type : ExprType) (v : Value) where
 
   pub held_at : (properties : List PropertyModel) (values : List Value)
       → slice_get values (position_or_len (λ p. pointwise nat_eq asked p.name) properties) ≡ Some v → PropertyTyped properties asked type
-      → held_by_name slots properties (map val_of values) asked ≡ present (val_of v slots type)
+      → field_by_name slots properties (map val_of values) asked ≡ present (val_of v slots type)
   held_at [] values at typed = absurd typed
   held_at (p ∷ more) [] at typed = absurd (cc)
   held_at (p ∷ more) (w ∷ ws) at typed =
-      subst (λ (is_it : Truth). cond is_it (held_of slots p.type_of (val_of w)) (held_by_name slots more (map val_of ws) asked) ≡ present (val_of v slots type))
+      subst (λ (is_it : Truth). cond is_it (field_of slots p.type_of (val_of w)) (field_by_name slots more (map val_of ws) asked) ≡ present (val_of v slots type))
       (same_sides asked p.name)
       (at_front (pointwise nat_eq asked p.name) p w ws (position_or_len (λ q. pointwise nat_eq asked q.name) more) (property_named more asked)
-      (held_by_name slots more (map val_of ws) asked) at typed (held_at more ws))
+      (field_by_name slots more (map val_of ws) asked) at typed (held_at more ws))
 
 -- values of these kinds fit
 abbrev IsPlainKind : Val → Type 0
@@ -107,7 +107,7 @@ slot_value row slot v asked type entity holds named typed =
     let slots : Slots = slots_of row.schema in
     let type_name : List ℕ = type_name_at row.schema row.type_id in
     let values : List Value = holds.0.items in
-    let held : List ℕ → FieldVal = held_by_name slots (slots type_name) (map val_of values) in
+    let held : List ℕ → FieldVal = field_by_name slots (slots type_name) (map val_of values) in
     let seen : value_of row ≡ fields held =
     ap (λ (h : Value). val_of h slots (single (structured type_name))) holds.1.0 ∙ val_of-Record slots (single (structured type_name)) holds.0 in
     let fits : Fits slots type_name entity.conforms.0 (fields held) = subst (Fits slots type_name entity.conforms.0) seen entity.conforms.1 in
@@ -119,5 +119,5 @@ slot_value row slot v asked type entity holds named typed =
     let plain : plain_val v ≡ Some (val_of v slots type) =
     plain_property slots type (get asked entity.conforms.0) v (subst (FitsProperty (declared type) (get asked entity.conforms.0)) here fits_here) in
     let gives_it : StepGives (fields held) asked (gives (val_of v slots type)) =
-    subst (λ (h : FieldVal). HeldGives h (gives (val_of v slots type))) (sym here) refl in
+    subst (λ (h : FieldVal). FieldGives h (gives (val_of v slots type))) (sym here) refl in
     (val_of v slots type, (plain, subst (λ (e : Val). StepGives e asked (gives (val_of v slots type))) (sym seen) gives_it))

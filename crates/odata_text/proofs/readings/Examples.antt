@@ -21,7 +21,7 @@ use Rattle.odata_text.specs.declared.token.TokenKind.{TokenKind}
 use Rattle.odata_text.specs.declared.token.TokenKind.TheVariants.{Word, Int, Moment, Guid, Str, EnumLit}
 use Rattle.odata_text.proofs.characters.IdentifierBytes.{ascii-identifier, is_ascii_name, run-ascii}
 use Rattle.odata_text.proofs.readings.Places.{run_on}
-use Rattle.odata_text.proofs.readings.Prints.{printed-list}
+use Rattle.odata_text.proofs.readings.Prints.{prints-list}
 use Rattle.odata_text.proofs.spellings.Words.{word-one}
 use Rattle.odata_text.proofs.machine.Longest.{longest-dead}
 
@@ -99,7 +99,7 @@ plain_printable = (
 )
 
 pub plain_list : IsTokenList plain_filter plain_tokens
-plain_list = printed-list plain_prints plain_printable (omega arith) (omega arith)
+plain_list = prints-list plain_prints plain_printable (omega arith) (omega arith)
 
 -- no white space in front
 start_gap : (text : List ℕ) → IsGap text 0 0
@@ -134,7 +134,7 @@ moment = record {
 
 pub moment_list : IsTokenList moment_filter moment_tokens
 moment_list =
-    printed-list (with_blank Word (codes "Changed") ∷ with_blank Word (codes "gt") ∷ without_blank Moment (codes "2020-01-01T00:00Z") ∷ [])
+    prints-list (with_blank Word (codes "Changed") ∷ with_blank Word (codes "gt") ∷ without_blank Moment (codes "2020-01-01T00:00Z") ∷ [])
     (word (codes "Changed") refl, (blank, (refl, (word (codes "gt") refl, (blank, (refl, (moment, (none, (tt, tt))))))))) (omega arith) (omega arith)
 
 abbrev is_hex : ℕ → Bool
@@ -152,7 +152,7 @@ guid = (hex_bytes guid_digits, record { digits = guid_digits; all_digits = all-d
 
 pub guid_list : IsTokenList guid_filter guid_tokens
 guid_list =
-    printed-list (with_blank Word (codes "ID") ∷ with_blank Word (codes "eq") ∷ without_blank Guid (codes "1234567e-1234-1234-1234-123456789012") ∷ [])
+    prints-list (with_blank Word (codes "ID") ∷ with_blank Word (codes "eq") ∷ without_blank Guid (codes "1234567e-1234-1234-1234-123456789012") ∷ [])
     (word (codes "ID") refl, (blank, (refl, (word (codes "eq") refl, (blank, (refl, (guid, (none, (tt, tt))))))))) (omega arith) (omega arith)
 
 enumeration : Spells EnumLit (codes "a.b'x'")
@@ -174,7 +174,7 @@ enumeration = record {
 }
 
 pub enumeration_list : IsTokenList enumeration_filter enumeration_tokens
-enumeration_list = printed-list (without_blank EnumLit enumeration_filter ∷ []) (enumeration, (none, (tt, tt))) (omega arith) (omega arith)
+enumeration_list = prints-list (without_blank EnumLit enumeration_filter ∷ []) (enumeration, (none, (tt, tt))) (omega arith) (omega arith)
 
 fraction : IsFormed (LeftOut Number) fraction_filter
 fraction = record { front = codes "1"; back = codes ".5"; whole = refl; is_front = one; is_back = inl (refl, (omega arith, (omega arith, tt))) }

@@ -126,8 +126,8 @@ length-print_tokens : (at : ℕ) (prints : List Print) → length (print_tokens 
 length-print_tokens at [] = refl
 length-print_tokens at (p ∷ prints) = ap suc (length-print_tokens (at + length p.text + length p.gap) prints)
 
-pub printed-list : (prints : List Print) → ArePrintable prints → length (print_text prints) ≤ text_limit → length prints ≤ token_limit → IsTokenList (print_text prints) (print_tokens 0 prints)
-printed-list prints printable short few =
+pub prints-list : (prints : List Print) → ArePrintable prints → length (print_text prints) ≤ text_limit → length prints ≤ token_limit → IsTokenList (print_text prints) (print_tokens 0 prints)
+prints-list prints printable short few =
     let all = read [] prints 0 printable (record { order = omega arith; within = omega arith; white = λ i low high. absurd (omega arith) }) in
     let count = length-print_tokens 0 prints in
     record { short = short; few = omega arith; tokens = all.tokens; ends = all.ends }

@@ -18,6 +18,6 @@ nodes_of_tokens level ts tree (derives_binary {operator = op} {ls = ls} {rs = rs
 
 pub few_nodes : (text : List ℕ) (tree : Tree) → HasTree text tree → length (pre_order tree) ≤ token_limit
 few_nodes text tree has_tree =
-    let nodes : length (pre_order tree) ≤ length has_tree.pieces = nodes_of_tokens _ has_tree.pieces tree has_tree.parse.derived in
-    let few : length has_tree.pieces ≤ token_limit = has_tree.tokens.few in
+    let nodes : length (pre_order tree) ≤ length has_tree.models = nodes_of_tokens _ has_tree.models tree has_tree.parse.derived in
+    let few : length has_tree.models ≤ token_limit = has_tree.tokens.few in
     omega arith

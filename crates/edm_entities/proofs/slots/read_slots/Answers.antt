@@ -5,7 +5,7 @@ use Rattle.serde_json.specs.View.{view, members_view}
 use Rattle.csdl_schema.specs.SchemaModel.{slots_of, type_name_at, properties_at}
 use Rattle.edm_entities.specs.Fits.{FitsProperty}
 use Rattle.edm_entities.specs.private.Members.{entries_from}
-use Rattle.edm_entities.specs.Row.{held_of, val_of}
+use Rattle.edm_entities.specs.Row.{field_of, val_of}
 use Rattle.edm_entities.specs.private.Walk.{IsSlotFault}
 use Rattle.edm_entities.proofs.SlotLemmas.MemberWalk.{all_ahead, found_ahead, still_ahead}
 use Rattle.edm_entities.proofs.SlotLemmas.SlotWalk.{fit_push, row_fault, at_slot}
@@ -41,7 +41,7 @@ loop-slot-preserved c =
     record {
       fit = rw (pushed, add-one) (fit_push slots (object all) (properties_at c.args.schema.now c.args.type_id)
           c.loop-slot.slot c.loop-slot.values.items c.in-Ok-read_slot.value within c.loop-slot.invariant.fit
-          (at_slot (λ type member name. FitsProperty type member (held_of slots type (val_of c.in-Ok-read_slot.value))) (object all)
+          (at_slot (λ type member name. FitsProperty type member (field_of slots type (val_of c.in-Ok-read_slot.value))) (object all)
           (properties_at c.args.schema.now c.args.type_id) c.loop-slot.slot c.slot_name.result.now (option_map (λ json. view json.now) c.find-found.result)
           c.slot_name.ensures (c.find-found.ensures.found ∙ found) (c.in-Ok-read_slot.ensures.fits slots)));
       ordered = c.find-found.ensures.ordered;
