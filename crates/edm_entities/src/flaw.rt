@@ -2,14 +2,20 @@ ghost use Rattle.edm_entities.specs.private.Walk.{IsFlawAt};
 
 use super::fault::RowFault;
 use std::alloc::Global;
+use thiserror::Error;
 
 /// What is wrong with a property, before the way to it is told.
-#[derive(Clone, Copy)]
+#[derive(Clone, Copy, Debug, Error)]
 pub(crate) enum ReadFlaw {
+    #[error("Missing")]
     Missing,
+    #[error("WrongKind")]
     WrongKind,
+    #[error("NullNotAllowed")]
     NullNotAllowed,
+    #[error("OutOfRange")]
     OutOfRange,
+    #[error("memory")]
     Memory,
 }
 

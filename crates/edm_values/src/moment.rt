@@ -7,6 +7,14 @@ use std::marker::Model;
 
 const NANOS_PER_MINUTE: i128 = 60_000_000_000;
 
+/// The years of a moment have four digits, and year 0 is none of them.
+const FIRST_YEAR: i16 = 1;
+
+const LAST_YEAR: i16 = 9999;
+
+/// An offset is less than 24 hours.
+const MAX_OFFSET_MINUTES: i16 = 1439;
+
 /// A date and time of day with its offset from UTC, the value of an `Edm.DateTimeOffset`.
 #[derive(Clone, Copy, Debug)]
 pub struct Moment {
@@ -33,7 +41,9 @@ impl Moment {
             ≡ record { civil = civil; offset_minutes = offset_minutes }) }
     {
         let year = civil.year();
-        if (1..=9999).contains(&year) && (-1439..=1439).contains(&offset_minutes) {
+        if (FIRST_YEAR..=LAST_YEAR).contains(&year)
+            && (-MAX_OFFSET_MINUTES..=MAX_OFFSET_MINUTES).contains(&offset_minutes)
+        {
             return Some(Moment {
                 civil,
                 offset_minutes,

@@ -11,6 +11,9 @@ use crate::digits::{push_two, read_two};
 use jiff::civil::{Date, DateTime, Time};
 use std::alloc::{AllocError, Global};
 
+/// A fraction of a second has at most so many digits, down to the nanosecond.
+const FRACTION_DIGITS: u32 = 9;
+
 /// The value of a Moment literal: a date, `T`, `hh:mm`, perhaps `:ss` and a fraction of at most
 /// nine digits, then `Z` or an offset `+hh:mm` or `-hh:mm`. The two letters may be in either case.
 /// `None` where the text is spelled otherwise, and where a part of it is out of its range.
@@ -77,11 +80,11 @@ fn read_fraction(digits: &[u8]) -> Option<u32>
     ensures value { IfSome result (λ n. (n < 10 ^ 9) × FractionValue digits.now n) }
     ensures only { (n : ℕ) → FractionValue digits.now n → result ≡ Some n }
 {
-    if digits.is_empty() || 9 < digits.len() {
+    if digits.is_empty() || digits.len() > FRACTION_DIGITS as usize {
         return None;
     }
     let number = read_digits(digits)?;
-    Some(number * 10_u32.pow(9 - digits.len() as u32))
+    Some(number * 10_u32.pow(FRACTION_DIGITS - digits.len() as u32))
 }
 
 fn read_digits(digits: &[u8]) -> Option<u32>
@@ -194,7 +197,7 @@ fn push_fraction_digits(text: &mut String, nanoseconds: u32) -> Result<(), Alloc
     ensures { OnOk result (string_bytes text.new
         ≡ string_bytes text.old ++ significant_digits 9 nanoseconds) }
 {
-    let mut digits_left = 9;
+    let mut digits_left = FRACTION_DIGITS;
     let mut rest = nanoseconds;
     while rest != 0 {
         digits_left -= 1;

@@ -36,16 +36,16 @@ below_at name [] n p below at = cc
 below_at name (q ∷ ps) zero p below at = let same : q ≡ p = cc in subst (λ (r : PropertyModel). slice_cmp nat_cmp name r.name ≡ Less) same below.0
 below_at name (q ∷ ps) (suc n) p below at = below_at name ps n p below.1 at
 
-found : (slots : Slots) (properties : List PropertyModel) (values : List Value) (n : ℕ) (p : PropertyModel) → IsInNameOrder properties
+slot_found : (slots : Slots) (properties : List PropertyModel) (values : List Value) (n : ℕ) (p : PropertyModel) → IsInNameOrder properties
     → length values ≡ length properties → slice_get properties n ≡ Some p → IsFound slots properties values n p
 unfolding IsStrictlySortedBy
-found slots [] values n p ordered long at = absurd (cc)
-found slots (q ∷ ps) [] n p ordered long at = absurd (omega arith)
-found slots (q ∷ ps) (v ∷ values) zero p ordered long at =
+slot_found slots [] values n p ordered long at = absurd (cc)
+slot_found slots (q ∷ ps) [] n p ordered long at = absurd (omega arith)
+slot_found slots (q ∷ ps) (v ∷ values) zero p ordered long at =
     let same : q ≡ p = cc in
     record { value = v; at_slot = refl; by_name = subst (λ (r : PropertyModel). field_by_name slots (q ∷ ps) (map val_of (v ∷ values)) r.name ≡ field_of slots r.type_of (val_of v)) same (here slots q ps (val_of v) (map val_of values)) }
-found slots (q ∷ ps) (v ∷ values) (suc n) p ordered long at =
-    let rest = found slots ps values n p ordered.1 (omega (arith, long)) at in
+slot_found slots (q ∷ ps) (v ∷ values) (suc n) p ordered long at =
+    let rest = slot_found slots ps values n p ordered.1 (omega (arith, long)) at in
     record { value = rest.value; at_slot = rest.at_slot; by_name = behind slots q ps (val_of v) (map val_of values) p.name (other_name q.name p.name (below_at q.name ps n p ordered.0 at)) ∙ rest.by_name }
 
 pub slot_value : (row : Row) (entity : IsEntity row) (slot : ℕ) (p : PropertyModel) (type : ExprType)
@@ -60,7 +60,7 @@ slot_value row entity slot p type at is_declared =
     let record_is : value_of row ≡ fields f =
     ap (λ (v : Value). val_of v slots (single (structured name))) entity.holds_slots.value_is ∙ val_of-Record slots (single (structured name)) entity.holds_slots.slots in
     let fits : FitsRecord properties entity.conforms.0 f = subst (Fits slots name entity.conforms.0) record_is entity.conforms.1 in
-    let here_found = found slots properties values slot p entity.in_order entity.holds_slots.as_many at in
+    let here_found = slot_found slots properties values slot p entity.in_order entity.holds_slots.as_many at in
     let under : f p.name ≡ present (val_of here_found.value slots type) =
     here_found.by_name ∙ ap (λ t. field_of slots t (val_of here_found.value)) is_declared in
     let fits_here : FitsProperty p.type_of (get p.name entity.conforms.0) (f p.name) =

@@ -14,27 +14,27 @@ use Rattle.serde_json.specs.declared.value.Value.{Value}
 use Rattle.csdl_schema.specs.SchemaModel.{PropertyModel, IsInNameOrder}
 use Rattle.edm_entities.specs.private.Members.{entries_from, AreInOrder, IsUpTo}
 
-turned : (a b : List ℕ) (o : Ordering) → slice_cmp nat_cmp a b ≡ o → slice_cmp nat_cmp b a ≡ ordering_reverse o
-turned a b o e = nat_list_cmp_total.antisymm b a ∙ ap ordering_reverse e
+order_turned : (a b : List ℕ) (o : Ordering) → slice_cmp nat_cmp a b ≡ o → slice_cmp nat_cmp b a ≡ ordering_reverse o
+order_turned a b o e = nat_list_cmp_total.antisymm b a ∙ ap ordering_reverse e
 
 -- what is below a name is below whatever is not before the name
 above : (key name other : List ℕ) → slice_cmp nat_cmp key name ≡ Less → IsUpTo name other → slice_cmp nat_cmp other key ≡ Greater
 above key name other below up_to = by (slice_cmp nat_cmp name other) refl
   where
     by : (o : Ordering) → slice_cmp nat_cmp name other ≡ o → slice_cmp nat_cmp other key ≡ Greater
-    by Less e = turned key other Less (nat_list_cmp_total.trans key name other below e)
-    by Equal e = sym (nat_list_cmp_total.congr name other key e) ∙ turned key name Less below
+    by Less e = order_turned key other Less (nat_list_cmp_total.trans key name other below e)
+    by Equal e = sym (nat_list_cmp_total.congr name other key e) ∙ order_turned key name Less below
     by Greater e = absurd (up_to e)
 
 -- a member below the name is not asked for again
-pub passed : (key : String Global) (json : Value) (entries : List (String Global × Value)) (name other : List ℕ) → slice_cmp nat_cmp (string_bytes key) name ≡ Less
+pub member_passed : (key : String Global) (json : Value) (entries : List (String Global × Value)) (name other : List ℕ) → slice_cmp nat_cmp (string_bytes key) name ≡ Less
     → IsUpTo name other → get_member other (members_view entries) ≡ get_member other (members_view ((key, json) ∷ entries))
-passed key json entries name other below up_to = rw (above (string_bytes key) name other below up_to)
+member_passed key json entries name other below up_to = rw (above (string_bytes key) name other below up_to)
 
 -- the member of that name
 pub here : (key : String Global) (json : Value) (entries : List (String Global × Value)) (name : List ℕ) → slice_cmp nat_cmp (string_bytes key) name ≡ Equal
     → Some (view json) ≡ get_member name (members_view ((key, json) ∷ entries))
-here key json entries name same = rw (turned (string_bytes key) name Equal same)
+here key json entries name same = rw (order_turned (string_bytes key) name Equal same)
 
 none_above : (name : List ℕ) (entries : List (String Global × Value)) → AllByRecursion (λ k. slice_cmp nat_cmp name (string_bytes k) ≡ Less) (keys_of entries)
     → None ≡ get_member name (members_view entries)
@@ -51,7 +51,7 @@ pub none_here : (key : String Global) (json : Value) (entries : List (String Glo
     → slice_cmp nat_cmp (string_bytes key) name ≡ Greater → None ≡ get_member name (members_view ((key, json) ∷ entries))
 unfolding IsStrictlySortedBy
 none_here key json entries name ordered higher =
-    let below : slice_cmp nat_cmp name (string_bytes key) ≡ Less = turned (string_bytes key) name Greater higher in
+    let below : slice_cmp nat_cmp name (string_bytes key) ≡ Less = order_turned (string_bytes key) name Greater higher in
     none_above name ((key, json) ∷ entries) (below, all_above name (string_bytes key) (keys_of entries) below ordered.0)
 
 pub ordered_behind : (key : String Global) (json : Value) (entries : List (String Global × Value)) → AreInOrder ((key, json) ∷ entries) → AreInOrder entries
@@ -93,10 +93,10 @@ still_ahead all left left' (p ∷ ps) zero name ordered at kept ahead =
 still_ahead all left left' (p ∷ ps) (suc n) name ordered at kept ahead = still_ahead all left left' ps n name ordered.1 at kept ahead
 
 -- what a call of `next` leaves, with what it gave in front, is what was there
-pub taken : (entries others : List (String Global × Value)) (first : Option (Bor (String Global) × Bor Value)) → TakesFirst deref_pair entries first others
+pub first_taken : (entries others : List (String Global × Value)) (first : Option (Bor (String Global) × Bor Value)) → TakesFirst deref_pair entries first others
     → entries_from first others ≡ entries
-taken entries others None takes = sym takes.0
-taken entries others (Some first) takes = sym takes
+first_taken entries others None takes = sym takes.0
+first_taken entries others (Some first) takes = sym takes
 
 pub up_to_itself : (name : List ℕ) → IsUpTo name name
 up_to_itself name after = let tied : slice_cmp nat_cmp name name ≡ Equal = tied_itself nat_list_cmp_total name in cc

@@ -28,14 +28,14 @@ pub other_name : (a b : List ℕ) → slice_cmp nat_cmp a b ≡ Less → pointwi
 other_name a b below = texts_ties a b ∙ ap is_eq below
 
 -- what fits the slots behind fits with one more slot before them, of a lesser name
-shifted : (slots : Slots) (json : Data) (p : PropertyModel) (ps : List PropertyModel) (seen : ValAtType) (more : List ValAtType) (qs : List PropertyModel)
+fits_shifted : (slots : Slots) (json : Data) (p : PropertyModel) (ps : List PropertyModel) (seen : ValAtType) (more : List ValAtType) (qs : List PropertyModel)
     → AllByRecursion (λ name. slice_cmp nat_cmp p.name name ≡ Less) (map (λ q. q.name) qs)
     → AllByRecursion (λ q. FitsProperty q.type_of (get q.name json) (field_by_name slots ps more q.name)) qs
     → AllByRecursion (λ q. FitsProperty q.type_of (get q.name json) (field_by_name slots (p ∷ ps) (seen ∷ more) q.name)) qs
-shifted slots json p ps seen more [] below each = tt
-shifted slots json p ps seen more (q ∷ qs) below each = (
+fits_shifted slots json p ps seen more [] below each = tt
+fits_shifted slots json p ps seen more (q ∷ qs) below each = (
   subst (FitsProperty q.type_of (get q.name json)) (sym (behind slots p ps seen more q.name (other_name p.name q.name below.0))) each.0,
-  shifted slots json p ps seen more qs below.1 each.1,
+  fits_shifted slots json p ps seen more qs below.1 each.1,
 )
 
 each_fits : (slots : Slots) (json : Data) (properties : List PropertyModel) (values : List Value) → IsInNameOrder properties
@@ -46,7 +46,7 @@ each_fits slots json [] values ordered fits = tt
 each_fits slots json (p ∷ ps) [] ordered fits = absurd fits
 each_fits slots json (p ∷ ps) (v ∷ values) ordered fits = (
   subst (FitsProperty p.type_of (get p.name json)) (sym (here slots p ps (val_of v) (map val_of values))) fits.0,
-  shifted slots json p ps (val_of v) (map val_of values) ps ordered.0 (each_fits slots json ps values ordered.1 fits.1),
+  fits_shifted slots json p ps (val_of v) (map val_of values) ps ordered.0 (each_fits slots json ps values ordered.1 fits.1),
 )
 
 others_absent : (slots : Slots) (properties : List PropertyModel) (seens : List ValAtType) (name : List ℕ) → AllByRecursion (λ p. p.name ≢ name) properties

@@ -36,8 +36,8 @@ significant_digits-zero zero = refl
 significant_digits-zero (suc k) = refl
 
 -- digits behind a number push it up
-distributed : (a b p v : ℕ) → (a * 10 + b) * p + v ≡ a * (p * 10) + ((0 * 10 + b) * p + v)
-distributed a b p v =
+digit_pushes_up : (a b p v : ℕ) → (a * 10 + b) * p + v ≡ a * (p * 10) + ((0 * 10 + b) * p + v)
+digit_pushes_up a b p v =
     let e : (a * 10 + b) * p ≡ p * (a * 10) + p * b = mul_comm (a * 10 + b) p ∙ mul-add p (a * 10) b in
     let f : p * (a * 10) ≡ a * (p * 10) = sym (mul_assoc p a 10) ∙ ap (λ (k : ℕ). k * 10) (mul_comm p a) ∙ mul_assoc a p 10 in
     let g : (0 * 10 + b) * p ≡ p * b = mul_comm (0 * 10 + b) p ∙ ap (λ (k : ℕ). p * k) (let z : 0 * 10 + b ≡ b = omega arith in z) in
@@ -47,7 +47,7 @@ pub value_after : (n : ℕ) (cs : List ℕ) → digits_value_after 10 n cs ≡ n
 value_after n [] = omega arith
 value_after n (c ∷ cs) =
     value_after (n * 10 + digit_value c) cs
-    ∙ distributed n (digit_value c) (10 ^ length cs) (digits_value 10 cs)
+    ∙ digit_pushes_up n (digit_value c) (10 ^ length cs) (digits_value 10 cs)
     ∙ sym (ap (λ (k : ℕ). n * k + digits_value_after 10 (0 * 10 + digit_value c) cs) (pow-suc 10 (length cs))
     ∙ ap (λ (k : ℕ). n * (10 ^ length cs * 10) + k) (value_after (0 * 10 + digit_value c) cs))
 

@@ -18,9 +18,9 @@ signed_clock text sign hours minutes len first colon digits =
     text_from_reads text (sign ∷ clock_text hours minutes) len (first, (digits.0, (digits.1, (colon, (digits.2, (digits.3, tt))))))
 
 -- the code's negation of fewer minutes than a day has
-pub negated : (n : ℤ) (minutes : ℕ) → minutes < 1440 → n ≡ pos minutes
+pub minutes_negated : (n : ℤ) (minutes : ℕ) → minutes < 1440 → n ≡ pos minutes
     → to_z w16 (of_z w16 (pos 0 -ℤ to_z w16 (of_z w16 n))) ≡ neg_ℤ (pos minutes)
-negated n minutes small same = omega (arith, ints)
+minutes_negated n minutes small same = omega (arith, ints)
 
 -- an offset is less than a day
 pub OffsetValue-within : (text : List ℕ) (minutes : ℤ) → OffsetValue text minutes → IsOffset minutes

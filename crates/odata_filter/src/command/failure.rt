@@ -1,4 +1,4 @@
-ghost use Rattle.std.specs.Prelude.{◌≡◌, ◌<◌};
+ghost use Rattle.std.specs.Prelude.{◌≡◌, ◌<◌, [], if◌then◌else◌};
 ghost use Rattle.odata_filter.specs.private.Failures.{status_of};
 ghost use Rattle.odata_filter.specs.Run.{status_number};
 
@@ -6,20 +6,37 @@ use crate::run_fault::RunFault;
 use csdl_schema::SchemaFault;
 use odata_text::QueryFault;
 use odata_typing::Refusal;
-use std::fmt;
+use thiserror::Error;
 
-/// Why a run ended before the end of its rows. Its `Display` is the one line that is told.
-#[derive(Debug, Drop)]
+/// Why a run ended before the end of its rows. It is shown as the one line that is told: want of memory is `memory`,
+/// wherever it comes from.
+#[derive(Debug, Drop, Error)]
 pub enum Failure<'p> {
+    #[error("usage {0} is still to come")]
     NotYet(&'static str),
+    #[error("usage give one of filter and query")]
     OneOf,
+    #[error("{}{}", unless(matches!(.0, SchemaFault::Memory), "schema "), .0)]
     Schema(SchemaFault),
+    #[error("schema UnknownType {0}")]
     UnknownType(&'p str),
+    #[error("{}{}", unless(matches!(.0, QueryFault::Memory), "refused query "), .0)]
     Query(QueryFault),
+    #[error("usage no filter option")]
     NoOption,
+    #[error("{}{}", unless(matches!(.0, Refusal::Memory), "refused "), .0)]
     Refused(Refusal),
+    #[error("read {0}")]
     RowsFile(&'p str),
+    #[error("{0}")]
     Rows(RunFault),
+}
+
+/// What stands before a fault, or nothing before want of memory.
+fn unless(of_memory: bool, layer: &'static str) -> &'static str
+    ensures { result.now ≡ (if of_memory then [] else layer.now) }
+{
+    if of_memory { "" } else { layer }
 }
 
 impl Failure<'_> {
@@ -38,25 +55,6 @@ impl Failure<'_> {
             | Failure::Rows(RunFault::Read { .. })
             | Failure::Rows(RunFault::Write) => 5,
             Failure::Rows(_) => 4,
-        }
-    }
-}
-
-impl fmt::Display for Failure<'_> {
-    fn fmt<W: fmt::Write>(&self, f: &mut fmt::Formatter<W>) -> fmt::Result {
-        match self {
-            Failure::Schema(SchemaFault::Memory)
-            | Failure::Query(QueryFault::Memory)
-            | Failure::Refused(Refusal::Memory) => write!(f, "memory"),
-            Failure::NotYet(option) => write!(f, "usage {option} is still to come"),
-            Failure::OneOf => write!(f, "usage give one of filter and query"),
-            Failure::Schema(fault) => write!(f, "schema {fault}"),
-            Failure::UnknownType(name) => write!(f, "schema UnknownType {name}"),
-            Failure::Query(fault) => write!(f, "refused query {fault}"),
-            Failure::NoOption => write!(f, "usage no filter option"),
-            Failure::Refused(refusal) => write!(f, "refused {refusal}"),
-            Failure::RowsFile(name) => write!(f, "read {name}"),
-            Failure::Rows(fault) => write!(f, "{fault}"),
         }
     }
 }

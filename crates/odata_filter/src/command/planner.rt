@@ -67,7 +67,7 @@ fn filter_command<'a>(alloc: Global) -> Result<Command<'a>, AllocError>
         "Rows, one JSON object a line; else standard input",
     );
     Command::new(alloc, "filter")
-        .about("Writes the rows whose outcome is true")
+        .about("Writes the rows whose outcome is true, as they come")
         .after_help(AFTER_HELP)
         .arg(schema)?
         .arg(named)?

@@ -1,5 +1,5 @@
 use Rattle.std.proofs.Common.{◌+◌, ◌*◌, inl, inr, arith}
-use Rattle.edm_values.proofs.moments.Offsets.{signed_clock, negated, ahead_kept}
+use Rattle.edm_values.proofs.moments.Offsets.{signed_clock, minutes_negated, ahead_kept}
 use Rattle.edm_values.proofs.moment_literal.read_offset.Goals as goal
 
 pub returns-in_ok-read_minutes_ahead-in-43-clause-value : goal.returns-in_ok-read_minutes_ahead-in-43-clause-value
@@ -26,6 +26,6 @@ returns-in_ok-read_minutes_ahead-in-45-clause-value c =
       v.3,
       inr (
         signed_clock c.args.text.now 45 v.0 v.1 (omega arith) (omega arith) (omega arith) v.4,
-        negated c.in_ok-read_minutes_ahead-in-45.field-0 (60 * v.0 + v.1) (omega (arith, v.2, v.3)) v.5,
+        minutes_negated c.in_ok-read_minutes_ahead-in-45.field-0 (60 * v.0 + v.1) (omega (arith, v.2, v.3)) v.5,
       ),
     )

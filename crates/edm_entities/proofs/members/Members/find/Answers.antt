@@ -4,7 +4,7 @@ use Rattle.serde_json.specs.Find.{get_member}
 use Rattle.serde_json.specs.View.{members_view}
 use Rattle.serde_json.specs.declared.value.Value.{Value}
 use Rattle.edm_entities.specs.private.Members.{entries_from, AreInOrder}
-use Rattle.edm_entities.proofs.SlotLemmas.MemberWalk.{taken, ordered_behind, passed, here, none_here, up_to_itself}
+use Rattle.edm_entities.proofs.SlotLemmas.MemberWalk.{first_taken, ordered_behind, member_passed, here, none_here, up_to_itself}
 use Rattle.edm_entities.proofs.members.Members.find.Goals as goal
 
 -- the members that are left begin with the one that is looked at
@@ -22,11 +22,11 @@ found_in name same = ap (λ es. get_member name (members_view es)) same
 pub loop-self-preserved : goal.loop-self-preserved
 loop-self-preserved c =
     let here_is = front c.loop-self.self.first c.loop-self.self.others c.in-Some.key c.in-Some.json c.in-Some.is in
-    let left = taken c.loop-self.self.others c.next-self.new.self c.next-self.result c.next-self.ensures.steps in
+    let left = first_taken c.loop-self.self.others c.next-self.new.self c.next-self.result c.next-self.ensures.steps in
     let below = by_text c.as_str.result.now (string_bytes c.in-Some.key.now) c.args.name.now c.as_str.ensures.value c.cmp.ensures c.in-Less.is in
     record {
       ordered = subst AreInOrder (sym left) (ordered_behind c.in-Some.key.now c.in-Some.json.now c.loop-self.self.others (subst AreInOrder here_is c.loop-self.invariant.ordered));
-      kept = λ other up_to. found_in other left ∙ (passed c.in-Some.key.now c.in-Some.json.now c.loop-self.self.others c.args.name.now other below up_to
+      kept = λ other up_to. found_in other left ∙ (member_passed c.in-Some.key.now c.in-Some.json.now c.loop-self.self.others c.args.name.now other below up_to
           ∙ (found_in other (sym here_is) ∙ c.loop-self.invariant.kept other up_to));
     }
 
