@@ -4,3 +4,4 @@ pub mod OneReading
 pub mod Places
 pub mod Prints
 pub mod Scans
+pub mod SpelledTokens

@@ -8,6 +8,7 @@ pub use Rattle.unicode.specs.GeneralCategory
 pub mod ByteClass
 pub mod Identifier
 pub mod LeftOut
+pub mod LiteralSpelling
 pub mod Printing
 pub mod Query
 pub mod QueryExamples
@@ -15,5 +16,6 @@ pub mod Sequence
 pub mod Spelling
 pub mod TokenExamples
 pub mod TokenModel
+pub mod TokenSequence
 pub mod Tokens
 pub mod private

@@ -13,6 +13,7 @@ mod laws;
 mod longest;
 mod number;
 mod pattern;
+mod printing_laws;
 mod query;
 mod query_fault;
 mod query_laws;
@@ -30,6 +31,10 @@ pub use identifier::is_identifier;
 pub use laws::{
     enumeration_reading, fraction_reading, guid_reading, moment_reading, one_reading,
     plain_reading, printed_reading, run_on_reading,
+};
+pub use printing_laws::{
+    literals_have_one_spelling, one_list_of_any_length, printed_list_of_any_length,
+    tokens_are_spelled, words_in_lower_case,
 };
 pub use query::filter_of_query;
 pub use query_fault::QueryFault;

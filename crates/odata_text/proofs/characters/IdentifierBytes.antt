@@ -37,7 +37,7 @@ unfolding ucd_category continues_identifier begins_identifier
 continues-ascii c below =
     same_from_beq _ _ (Stepped-below general_category general_category_stepped (λ x g. beq (((x == 95) || is_leading g) || is_following g) (is_name_byte x)) 128 refl c below)
 
-begins-ascii : (c : ℕ) → c < 128 → begins_identifier c ≡ is_first_byte c
+pub begins-ascii : (c : ℕ) → c < 128 → begins_identifier c ≡ is_first_byte c
 unfolding ucd_category begins_identifier
 begins-ascii c below =
     same_from_beq _ _ (Stepped-below general_category general_category_stepped (λ x g. beq ((x == 95) || is_leading g) (is_first_byte x)) 128 refl c below)

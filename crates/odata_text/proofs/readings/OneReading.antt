@@ -7,6 +7,7 @@ use Rattle.std.proofs.lemmas.List.{get_or-drop, get_or-take, length-drop, length
 use Rattle.std.proofs.lemmas.Str.{chars-append, chars-nil, chars_past_char, IsUtf8-encode}
 use Rattle.odata_text.specs.ByteClass.{class_of}
 use Rattle.odata_text.specs.TokenModel.{TokenModel}
+use Rattle.odata_text.specs.TokenSequence.{AreTokensOf}
 use Rattle.odata_text.specs.Identifier.{identifier_run}
 use Rattle.odata_text.specs.Spelling.{IsFormed}
 use Rattle.odata_text.specs.Tokens.{AreTokensFrom, IsBadCharacter, IsFaultAt, IsFaultBehind, IsGap, IsLongest, IsLongestToken, IsRunOn, IsTextFault, IsTokenAt, IsTokenList, NoneSpelled, end_of, is_undelimited, token_limit}
@@ -300,3 +301,20 @@ one_fault text f g first second =
             cc
       ]
     ]
+
+-- Texts of any length.
+
+same_tokens : (text : List ℕ) (from : ℕ) (ps qs : List TokenModel) → AreTokensFrom text from ps → IsGap text (end_of from ps) (length text) → AreTokensFrom text from qs → IsGap text (end_of from qs) (length text) → ps ≡ qs
+same_tokens text from [] [] one ends two other_ends = refl
+same_tokens text from [] (q ∷ qs) one ends two other_ends = absurd (not_at_end text from q.start two.0 ends (IsSolid-piece text q two.1.0.longest))
+same_tokens text from (p ∷ ps) [] one ends two other_ends = absurd (not_at_end text from p.start one.0 other_ends (IsSolid-piece text p one.1.0.longest))
+same_tokens text from (p ∷ ps) (q ∷ qs) one ends two other_ends =
+    let start : p.start ≡ q.start = same_place text from p.start q.start one.0 two.0 (IsSolid-piece text p one.1.0.longest) (IsSolid-piece text q two.1.0.longest) in
+    let first : p ≡ q = same_piece text p q q.start start refl one.1.0.longest two.1.0.longest in
+    let stop : q.stop ≡ p.stop = sym (ap (λ (piece : TokenModel). piece.stop) first) in
+    let rest = same_tokens text p.stop ps qs one.1.1 ends (subst (λ (place : ℕ). AreTokensFrom text place qs) stop two.1.1)
+    (subst (λ (place : ℕ). IsGap text (end_of place qs) (length text)) stop other_ends) in
+    λ i. first i ∷ rest i
+
+pub one_list_of : (text : List ℕ) (ps qs : List TokenModel) → AreTokensOf text ps → AreTokensOf text qs → ps ≡ qs
+one_list_of text ps qs one two = same_tokens text 0 ps qs one.tokens one.ends two.tokens two.ends

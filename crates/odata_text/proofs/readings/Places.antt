@@ -10,12 +10,13 @@ use Rattle.std.proofs.lemmas.Str.Ascii.{IsAscii-cons, IsAscii-nil}
 use Rattle.odata_text.specs.Identifier.{IsIdentifier, identifier_run}
 use Rattle.odata_text.specs.Sequence.{FollowedBy}
 use Rattle.odata_text.specs.Spelling.{IsByte, IsWordSpelling, Spells, dotted_parts}
-use Rattle.odata_text.specs.Tokens.{IsGap, IsLongest, IsRunOn, is_undelimited}
+use Rattle.odata_text.specs.Tokens.{IsGap, IsLeftOutLiteral, IsLongest, IsRunOn, is_undelimited}
 use Rattle.odata_text.specs.declared.byte_class.ByteClass.TheVariants.{Space, Other}
 use Rattle.odata_text.specs.declared.token.TokenKind.{TokenKind}
 use Rattle.odata_text.specs.declared.token.TokenKind.TheVariants.{Word, Dollar}
 use Rattle.odata_text.specs.declared.form.Form.{Form}
-use Rattle.odata_text.specs.declared.form.Form.TheVariants.{Token}
+use Rattle.odata_text.specs.declared.form.Form.TheVariants.{Token, LeftOut}
+use Rattle.odata_text.specs.declared.form.LeftOutKind.{LeftOutKind}
 use Rattle.odata_text.proofs.characters.ByteClasses.{class_of-non_ascii}
 use Rattle.odata_text.proofs.spellings.Words.{boundary-shift}
 use Rattle.odata_text.proofs.machine.Longest.{formed-some, past-word}
@@ -63,6 +64,13 @@ past-utf8 kind rest n some within far spelled =
 -- what the code found of a rest it found of the text
 pub longest-token : (text rest : List ℕ) (start n : ℕ) (form : Form) (kind : TokenKind) → rest ≡ drop start text → form ≡ Token kind → IsLongest form n rest → IsLongest (Token kind) n (drop start text)
 longest-token text rest start n form kind behind is longest = subst (λ (f : Form). IsLongest f n (drop start text)) is (subst (IsLongest form n) behind longest)
+
+pub left_out-literal : (text rest : List ℕ) (start n : ℕ) (form : Form) (kind : LeftOutKind) → rest ≡ drop start text → form ≡ LeftOut kind → IsLongest form n rest
+    → IsLeftOutLiteral text (record { start = start; stop = start + n })
+left_out-literal text rest start n form kind behind is longest =
+    let size : n ≡ start + n - start = omega arith in
+    let here : IsLongest (LeftOut kind) n (drop start text) = subst (λ (f : Form). IsLongest f n (drop start text)) is (subst (IsLongest form n) behind longest) in
+    record { kind = kind; order = omega arith; longest = subst (λ (k : ℕ). IsLongest (LeftOut kind) k (drop start text)) size here }
 
 pub boundary-behind : (text : List ℕ) (start n : ℕ) (kind : TokenKind) → IsUtf8 text → IsCharBoundary text start → IsLongest (Token kind) n (drop start text) → IsCharBoundary text (start + n)
 boundary-behind text start n kind utf8 boundary longest =

@@ -13,6 +13,7 @@ use Rattle.std.proofs.lemmas.Str.{chars-append, chars-IsAscii, chars-nil, IsUtf8
 use Rattle.std.proofs.lemmas.Str.Ascii.{IsAscii-cons, IsAscii-nil}
 use Rattle.odata_text.specs.ByteClass.{class_of}
 use Rattle.odata_text.specs.Identifier.{continues_identifier, identifier_run}
+use Rattle.odata_text.specs.TokenSequence.{AreTokensOf}
 use Rattle.odata_text.specs.Printing.{ArePrintable, MayFollow, Print, is_separator, may_follow, print_tokens, print_text}
 use Rattle.odata_text.specs.Spelling.{Spells}
 use Rattle.odata_text.specs.Tokens.{AreTokensFrom, IsGap, IsLongest, IsTokenAt, IsTokenList, RunsOn, end_of, is_undelimited, text_limit, token_limit}
@@ -98,11 +99,11 @@ white_gap before gap rest white =
           ap class_of byte ∙ white (i - length before) 0 place;
     }
 
-read : (before : List ℕ) (prints : List Print) (from : ℕ) → ArePrintable prints → IsGap (before ++ print_text prints) from (length before) → AreRead (before ++ print_text prints) from (length before) prints
-read before [] from printable gap =
+prints_read : (before : List ℕ) (prints : List Print) (from : ℕ) → ArePrintable prints → IsGap (before ++ print_text prints) from (length before) → AreRead (before ++ print_text prints) from (length before) prints
+prints_read before [] from printable gap =
     let all : length (before ++ []) ≡ length before = ap length (append-nil before) in
     record { tokens = tt; ends = subst (IsGap (before ++ []) from) (sym all) gap }
-read before (p ∷ prints) from printable gap =
+prints_read before (p ∷ prints) from printable gap =
     let rest = print_text prints in
     let shape : before ++ ((p.text ++ p.gap) ++ rest) ≡ before ++ (p.text ++ (p.gap ++ rest)) = ap (λ (xs : List ℕ). before ++ xs) (append_assoc p.text p.gap rest) in
     let token = token_at before p.text (p.gap ++ rest) p.kind printable.0 printable.1.1.0 in
@@ -111,7 +112,7 @@ read before (p ∷ prints) from printable gap =
     let next : (before ++ p.text) ++ (p.gap ++ rest) ≡ ((before ++ p.text) ++ p.gap) ++ rest = sym (append_assoc (before ++ p.text) p.gap rest) in
     let stop : length before + length p.text ≡ length (before ++ p.text) = sym (length-append before p.text) in
     let place : length before + length p.text + length p.gap ≡ length ((before ++ p.text) ++ p.gap) = sym (length-append (before ++ p.text) p.gap ∙ ap (λ (n : ℕ). n + length p.gap) (length-append before p.text)) in
-    let more = read ((before ++ p.text) ++ p.gap) prints (length (before ++ p.text)) printable.1.1.1 (subst (λ (xs : List ℕ). IsGap xs (length (before ++ p.text)) (length ((before ++ p.text) ++ p.gap))) next white) in
+    let more = prints_read ((before ++ p.text) ++ p.gap) prints (length (before ++ p.text)) printable.1.1.1 (subst (λ (xs : List ℕ). IsGap xs (length (before ++ p.text)) (length ((before ++ p.text) ++ p.gap))) next white) in
     let whole : before ++ ((p.text ++ p.gap) ++ rest) ≡ ((before ++ p.text) ++ p.gap) ++ rest = shape ∙ front ∙ next in
     let more_here : AreRead (before ++ ((p.text ++ p.gap) ++ rest)) (length before + length p.text) (length before + length p.text + length p.gap) prints =
     subst (λ (xs : List ℕ). AreRead xs (length before + length p.text) (length before + length p.text + length p.gap) prints) (sym whole)
@@ -126,8 +127,13 @@ length-print_tokens : (at : ℕ) (prints : List Print) → length (print_tokens 
 length-print_tokens at [] = refl
 length-print_tokens at (p ∷ prints) = ap suc (length-print_tokens (at + length p.text + length p.gap) prints)
 
+pub prints-tokens : (prints : List Print) → ArePrintable prints → AreTokensOf (print_text prints) (print_tokens 0 prints)
+prints-tokens prints printable =
+    let all = prints_read [] prints 0 printable (record { order = omega arith; within = omega arith; white = λ i low high. absurd (omega arith) }) in
+    record { tokens = all.tokens; ends = all.ends }
+
 pub prints-list : (prints : List Print) → ArePrintable prints → length (print_text prints) ≤ text_limit → length prints ≤ token_limit → IsTokenList (print_text prints) (print_tokens 0 prints)
 prints-list prints printable short few =
-    let all = read [] prints 0 printable (record { order = omega arith; within = omega arith; white = λ i low high. absurd (omega arith) }) in
+    let all = prints-tokens prints printable in
     let count = length-print_tokens 0 prints in
     record { short = short; few = omega arith; tokens = all.tokens; ends = all.ends }

@@ -88,7 +88,7 @@ scanned-all text pieces place short over scanned =
     record { short = short; few = scanned.few; tokens = scanned.tokens; ends = subst (IsGap text (end_of 0 pieces)) at_end scanned.gap }
 
 -- a fault at the place
-pub scanned-fault : (text : List ℕ) (pieces : List TokenModel) (place : ℕ) (fault : TextFault) → length text ≤ text_limit → IsScanned text pieces place → ((before : ℕ) → IsFaultAt text place before fault) → IsFaultBehind text fault
+pub scanned-fault : (text : List ℕ) (pieces : List TokenModel) (place : ℕ) (fault : TextFault) → length text ≤ text_limit → IsScanned text pieces place → IsFaultAt text place (length pieces) fault → IsFaultBehind text fault
 scanned-fault text pieces place fault short scanned at_place = record {
   short = short;
   before = pieces;
@@ -96,18 +96,12 @@ scanned-fault text pieces place fault short scanned at_place = record {
   tokens = scanned.tokens;
   place = place;
   gap = scanned.gap;
-  fault_at = at_place (length pieces);
+  fault_at = at_place;
 }
 
 -- a token too many
-pub scanned-too_many : (text : List ℕ) (pieces : List TokenModel) (place : ℕ) (token : Token) → length text ≤ text_limit → IsScanned text pieces place
-    → token.span.start ≡ place → IsTokenAt text (token_model token) → length pieces ≡ token_limit → IsFaultBehind text (TooLong token.span)
-scanned-too_many text pieces place token short scanned here is_token full = record {
-  short = short;
-  before = pieces;
-  few = scanned.few;
-  tokens = scanned.tokens;
-  place = place;
-  gap = scanned.gap;
-  fault_at = (here, record { count = full; last = token_model token; token = is_token; start = refl; stop = refl });
-}
+pub scanned-too_many : (text : List ℕ) (tokens : List Token) (place : ℕ) (token : Token) → length text ≤ text_limit → IsScanned text (token_models tokens) place
+    → token.span.start ≡ place → IsTokenAt text (token_model token) → length tokens ≡ token_limit → IsFaultBehind text (TooLong token.span)
+scanned-too_many text tokens place token short scanned here is_token full =
+    scanned-fault text (token_models tokens) place (TooLong token.span) short scanned
+    (here, record { count = length-map tokens token_model ∙ full; last = token_model token; token = is_token; start = refl; stop = refl })

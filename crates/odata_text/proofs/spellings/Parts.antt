@@ -25,7 +25,7 @@ no_quote-dotted_parts part (next ∷ more) identifier all =
     each-append (λ b. b ≡ 39 → ⊥) (dotted_parts part (next ∷ more)) part (46 ∷ dotted_parts next more) refl (no_quote-identifier part identifier)
     (no_quote-dot (dotted_parts next more) (no_quote-dotted_parts next more all.0 all.1))
 
-no_quote-word : (xs : List ℕ) → IsDottedWord xs → (i : ℕ) → i < length xs → get_or xs i 0 ≡ 39 → ⊥
+pub no_quote-word : (xs : List ℕ) → IsDottedWord xs → (i : ℕ) → i < length xs → get_or xs i 0 ≡ 39 → ⊥
 no_quote-word xs dotted =
     subst (λ (ys : List ℕ). (i : ℕ) → i < length ys → get_or ys i 0 ≡ 39 → ⊥) (sym dotted.word.whole)
     (no_quote-dotted_parts dotted.word.part dotted.word.more dotted.word.identifier dotted.word.identifiers)

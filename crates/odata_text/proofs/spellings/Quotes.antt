@@ -61,18 +61,18 @@ closed-from_spelling : (xs : List ℕ) → IsStringSpelling xs → quoted_of xs 
 closed-from_spelling xs spelled = ap quoted_of spelled.1 ∙ open-with_doubled_quotes spelled.0 (39 ∷ [])
 
 -- what closes an open text is a value with its quotes doubled, and a quote
-closing : (xs : List ℕ) → fold quoted_after Open xs ≡ Closed → (value : List ℕ) × (xs ≡ with_doubled_quotes value ++ 39 ∷ [])
-closing [] closed = cc
-closing (b ∷ []) closed =
+closing_quote : (xs : List ℕ) → fold quoted_after Open xs ≡ Closed → (value : List ℕ) × (xs ≡ with_doubled_quotes value ++ 39 ∷ [])
+closing_quote [] closed = cc
+closing_quote (b ∷ []) closed =
     elim (eqb_tells b 39) [
       | inl same ↦ ([], ap (λ (c : ℕ). c ∷ []) same.1)
       | inr other ↦ let stuck : Open ≡ Closed = behind [] (open-other b other.0) closed in cc
     ]
-closing (b ∷ c ∷ rest) closed =
+closing_quote (b ∷ c ∷ rest) closed =
     elim (eqb_tells b 39) [
       | inl same ↦ elim (eqb_tells c 39) [
         | inl twice ↦
-            let found = closing rest (behind rest (closed-quote c twice.0) (behind (c ∷ rest) (open-quote b same.0) closed)) in
+            let found = closing_quote rest (behind rest (closed-quote c twice.0) (behind (c ∷ rest) (open-quote b same.0) closed)) in
             let first : b ≡ 39 = same.1 in
             let second : c ≡ 39 = twice.1 in
             let tail = found.1 in
@@ -80,7 +80,7 @@ closing (b ∷ c ∷ rest) closed =
         | inr over ↦ absurd (never_closes rest (behind rest (closed-other c over.0) (behind (c ∷ rest) (open-quote b same.0) closed)))
       ]
       | inr other ↦
-          let found = closing (c ∷ rest) (behind (c ∷ rest) (open-other b other.0) closed) in
+          let found = closing_quote (c ∷ rest) (behind (c ∷ rest) (open-other b other.0) closed) in
           (b ∷ found.0, ap (λ (ys : List ℕ). b ∷ ys) found.1 ∙ ap (λ (ys : List ℕ). ys ++ 39 ∷ []) (sym (with_doubled_quotes-other b found.0 other.0)))
     ]
 
@@ -89,7 +89,7 @@ spelling-from_closed [] closed = cc
 spelling-from_closed (b ∷ bs) closed =
     elim (eqb_tells b 39) [
       | inl same ↦
-          let found = closing bs (behind bs (before-quote b same.0) closed) in
+          let found = closing_quote bs (behind bs (before-quote b same.0) closed) in
           let first : b ≡ 39 = same.1 in
           let tail = found.1 in
           (found.0, cc)

@@ -1,9 +1,9 @@
-use Rattle.std.proofs.Common.{◌≡◌, ◌<◌, arith, length, is_ok, ◌∙◌, ap}
+use Rattle.std.proofs.Common.{◌≡◌, ◌<◌, arith, length, is_ok, sym, ◌∙◌, ap}
 use Rattle.std.proofs.ResultArms.{chosen}
 use Rattle.std.proofs.lemmas.Result.{err_from_is_err_and}
 use Rattle.odata_text.specs.TokenModel.{token_model, token_models}
 use Rattle.odata_text.specs.Tokens.{token_limit}
-use Rattle.odata_text.proofs.readings.Scans.{IsInside-token, scanned-none, scanned-push, scanned-fault}
+use Rattle.odata_text.proofs.readings.Scans.{IsInside-token, scanned-none, scanned-push, scanned-fault, scanned-too_many}
 use Rattle.odata_text.proofs.scan.scan.Goals as goal
 
 pub loop-place-init : goal.loop-place-init
@@ -14,7 +14,13 @@ loop-place-init c =
 pub returns-in_err-token-clause-fault : goal.returns-in_err-token-clause-fault
 returns-in_err-token-clause-fault c =
     let refused = err_from_is_err_and c.from_residual.result c.from_residual.ensures.1 in
-    rw (refused.1, refused.2) (λ known. scanned-fault c.args.text.now (token_models c.loop-place.tokens.items) c.loop-place.place c.in_err-token.field-0.0 c.requires c.loop-place.invariant c.in_err-token.ensures.fault)
+    rw (refused.1, refused.2) (λ known. scanned-fault c.args.text.now (token_models c.loop-place.tokens.items) c.loop-place.place c.in_err-token.field-0.0 c.requires c.loop-place.invariant (c.in_err-token.ensures.fault (length (token_models c.loop-place.tokens.items))))
+
+pub returns-then-len-eq-TOKEN_LIMIT-clause-fault : goal.returns-then-len-eq-TOKEN_LIMIT-clause-fault
+returns-then-len-eq-TOKEN_LIMIT-clause-fault c =
+    let token = c.in_ok-token.ensures in
+    let full = sym (c.len.ensures ∙ c.loop-place.tokens.ok.0) ∙ c.if-len-eq-TOKEN_LIMIT.true in
+    λ known. scanned-too_many c.args.text.now c.loop-place.tokens.items c.loop-place.place c.in_ok-token.token c.requires c.loop-place.invariant token.start token.token full
 
 pub loop-place-preserved : goal.loop-place-preserved
 loop-place-preserved c =

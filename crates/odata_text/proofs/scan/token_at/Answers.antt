@@ -1,7 +1,11 @@
 use Rattle.std.proofs.Common.{arith, refl, sym, ◌∙◌, ap}
 use Rattle.odata_text.specs.Identifier.{identifier_run}
-use Rattle.odata_text.proofs.readings.Places.{boundary-behind, longest-token, run_on}
+use Rattle.odata_text.proofs.readings.Places.{boundary-behind, left_out-literal, longest-token, run_on}
 use Rattle.odata_text.proofs.scan.token_at.Goals as goal
+
+pub returns-in-LeftOut-clause-fault : goal.returns-in-LeftOut-clause-fault
+returns-in-LeftOut-clause-fault c =
+    λ before. (refl, left_out-literal c.args.text.now c.range_from.result.now c.args.start c.in-Some.length c.in-Some.form c.in-LeftOut.field-0 c.range_from.ensures.value c.in-LeftOut.is c.in-Some.ensures)
 
 pub range_from-requires-then-is_undelimited : goal.range_from-requires-then-is_undelimited
 range_from-requires-then-is_undelimited c =

@@ -1,0 +1,3 @@
+pub mod LowerCase
+pub mod Pieces
+pub mod Spellings
