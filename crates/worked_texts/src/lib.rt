@@ -4,6 +4,8 @@
 #[cfg(test)]
 mod dates;
 #[cfg(test)]
+mod enumerations;
+#[cfg(test)]
 mod guids;
 #[cfg(test)]
 mod identifiers;

@@ -1,0 +1,4 @@
+pub mod Joining
+pub mod Members
+pub mod Ranges
+pub mod Trimming

@@ -1,0 +1,198 @@
+//! Texts and their values in enumerations.
+use edm_enumerations::Enumeration;
+use edm_values::Prim;
+use std::alloc::Global;
+use std::test::Fail;
+
+/// An enumeration without members.
+fn without_members(alloc: Global, underlying: Prim, is_flags: bool) -> Option<Enumeration> {
+    if underlying.is_number() {
+        Some(Enumeration::new(alloc, underlying, is_flags))
+    } else {
+        None
+    }
+}
+
+fn add_member(made: &mut Enumeration, name: String, number: i64) -> Result<(), Fail> {
+    if !made.underlying().holds_number(number) {
+        return Err(Fail::from("a number outside of the type"));
+    }
+    made.add_member(name, number)?;
+    Ok(())
+}
+
+/// An enumeration with these members.
+fn enumeration(
+    alloc: Global,
+    underlying: Prim,
+    is_flags: bool,
+    members: &[(&str, i64)],
+) -> Result<Enumeration, Fail> {
+    let mut made = without_members(alloc, underlying, is_flags).ok_or("no number type")?;
+    for (name, number) in members {
+        add_member(&mut made, String::from_str(alloc, name)?, *number)?;
+    }
+    Ok(made)
+}
+
+/// Pieces between commas, with spaces and nothing else round them.
+#[test]
+fn values_of_flags(rt: HostRuntime) -> Result<(), Fail> {
+    let color = enumeration(
+        rt.alloc(),
+        Prim::Int32,
+        true,
+        &[
+            ("Red", 1),
+            ("Green", 2),
+            ("Blue", 4),
+            ("All", 7),
+            ("Sky", 4),
+        ],
+    )?;
+    for (text, value) in [
+        ("Red", Some(1)),
+        ("Red, Blue", Some(5)),
+        ("Red,Blue", Some(5)),
+        ("  Red  ,  Blue  ", Some(5)),
+        ("Blue,Sky,Blue", Some(4)),
+        ("All,Red", Some(7)),
+        ("8", Some(8)),
+        ("+08, Red", Some(9)),
+        ("-1,Red", Some(-1)),
+        ("-2,Red", Some(-1)),
+        ("-8,Blue", Some(-4)),
+        ("0", Some(0)),
+        ("-2147483648,2147483647", Some(-1)),
+        ("2147483648", None),
+        ("-2147483649,Red", None),
+        ("", None),
+        (" ", None),
+        (",", None),
+        ("Red,", None),
+        (",Red", None),
+        ("Red,,Blue", None),
+        ("Red, ,Blue", None),
+        ("red", None),
+        ("Re d", None),
+        ("Red Blue", None),
+        ("Purple", None),
+        ("Red,Purple", None),
+        ("Purple,Red", None),
+        ("\tRed", None),
+        ("Red,\tBlue", None),
+        ("Red\n", None),
+        ("\u{a0}Red", None),
+        ("Red\u{2003}", None),
+        ("1.0", None),
+        ("0x1", None),
+        ("- 1", None),
+        ("'Red'", None),
+    ] {
+        assert_eq!(rt; color.value_of(text), value, "at {text}");
+    }
+    Ok(())
+}
+
+/// One piece where there are no flags.
+#[test]
+fn values_without_flags(rt: HostRuntime) -> Result<(), Fail> {
+    let size = enumeration(
+        rt.alloc(),
+        Prim::Int16,
+        false,
+        &[("Small", 1), ("Größe", 2)],
+    )?;
+    for (text, value) in [
+        ("Small", Some(1)),
+        (" Small ", Some(1)),
+        ("Größe", Some(2)),
+        ("3", Some(3)),
+        ("Small,Small", None),
+        ("Small,", None),
+        ("1,2", None),
+        ("", None),
+        ("32768", None),
+        ("-32768", Some(-32768)),
+    ] {
+        assert_eq!(rt; size.value_of(text), value, "at {text}");
+    }
+    Ok(())
+}
+
+/// A number at each bound of its type, and one past it.
+#[test]
+fn bounds(rt: HostRuntime) -> Result<(), Fail> {
+    for (underlying, least, below, greatest, above) in [
+        (Prim::Byte, "0", "-1", "255", "256"),
+        (Prim::SByte, "-128", "-129", "127", "128"),
+        (Prim::Int16, "-32768", "-32769", "32767", "32768"),
+        (
+            Prim::Int32,
+            "-2147483648",
+            "-2147483649",
+            "2147483647",
+            "2147483648",
+        ),
+        (
+            Prim::Int64,
+            "-9223372036854775808",
+            "-9223372036854775809",
+            "9223372036854775807",
+            "9223372036854775808",
+        ),
+    ] {
+        let none = without_members(rt.alloc(), underlying, false).ok_or("no number type")?;
+        for (text, is_value) in [
+            (least, true),
+            (below, false),
+            (greatest, true),
+            (above, false),
+        ] {
+            assert_eq!(rt;
+                none.value_of(text).is_some(),
+                is_value,
+                "at {underlying:?} {text}"
+            );
+        }
+    }
+    Ok(())
+}
+
+/// The first of two members of one name stays, and a name goes before a number that is spelled alike.
+#[test]
+fn members_by_name(rt: HostRuntime) -> Result<(), Fail> {
+    let odd = enumeration(
+        rt.alloc(),
+        Prim::Byte,
+        true,
+        &[("A", 1), ("A", 2), ("5", 7)],
+    )?;
+    assert_eq!(rt; odd.underlying(), Prim::Byte);
+    assert!(rt; odd.is_flags());
+    assert_eq!(rt; odd.number_of("A"), Some(1));
+    assert_eq!(rt; odd.number_of("B"), None);
+    assert_eq!(rt; odd.value_of("5"), Some(7));
+    assert_eq!(rt; odd.value_of("05"), Some(5));
+    Ok(())
+}
+
+fn with_many_members(alloc: Global, count: i64) -> Result<Enumeration, Fail> {
+    let mut made = without_members(alloc, Prim::Int64, true).ok_or("no number type")?;
+    for number in 0..count {
+        add_member(&mut made, format!(in alloc; "M{number}")?, number)?;
+    }
+    Ok(made)
+}
+
+/// Members are found by name and not one after another.
+#[test]
+fn many_members(rt: HostRuntime) -> Result<(), Fail> {
+    let many = with_many_members(rt.alloc(), 40_000)?;
+    for number in 0..40_000 {
+        let name = format!(in rt.alloc(); "M{number}")?;
+        assert_eq!(rt; many.value_of(name.as_str()), Some(number));
+    }
+    assert_eq!(rt; many.value_of("M40000"), None);
+    Ok(())
+}
