@@ -1,4 +1,6 @@
+mod BufferLaws
 mod ItemLaws
 mod LineLaws
+mod ReaderLaws
 mod RunLaws
 mod WriteLaws

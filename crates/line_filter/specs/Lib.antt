@@ -1,5 +1,8 @@
 pub mod Lines
 pub mod Kept
 pub mod LineItems
+pub mod LineSource
+pub mod Once
+pub mod Failures
 pub mod Growth
 pub mod private

@@ -24,6 +24,10 @@ text_of_lines lines = flat_map text_of_line lines
 abbrev pub longest_line : ℕ
 longest_line = 1048576
 
+-- the most bytes that are held of lines that come in pieces: a line that is not too long yet, and 65,536 more
+abbrev pub most_held : ℕ
+most_held = 1114112
+
 -- a space, a tab or a CR
 abbrev pub is_space : ℕ → Bool
 is_space b = b == 32 || b == 9 || b == 13

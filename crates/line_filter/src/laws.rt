@@ -1,6 +1,12 @@
-//! A law of readers and writers, as the contract of a function that does nothing.
-ghost use Rattle.std.specs.Prelude.{◌≡◌, Some};
+//! Laws of readers, writers and judged lines, as the contracts of functions that do nothing.
+ghost use Rattle.std.specs.Prelude.{◌≡◌, ℕ, List, Some};
+ghost use Rattle.line_filter.specs.declared.finding.Finding.{Finding as FindingModel};
+ghost use Rattle.line_filter.specs.declared.tally.Tally.{Tally as TallyModel};
+ghost use Rattle.line_filter.specs.Kept.{Filters, StopsAt};
+ghost use Rattle.line_filter.specs.LineItems.{IsFoundOf, lines};
+ghost use Rattle.line_filter.specs.Once.{IsFaulty, JudgesOnce, kind_found};
 
+use super::judge::Judge;
 use std::io::{Read, Write};
 
 /// A slice of bytes tells, as a reader, what remains of it: all its bytes. A vector of bytes tells, as a writer, what
@@ -9,4 +15,20 @@ use std::io::{Read, Write};
 pub fn slices_tell_their_bytes(bytes: &[u8], out: &Vec<u8>)
     ensures reader { ⟦<&'static [u8] as Read>⟧.remaining bytes.entry ≡ Some bytes.now }
     ensures writer { ⟦<Vec<u8> as Write>⟧.contents out.now ≡ Some out.now.items }
+{}
+
+/// Where the judge says judgments of one kind of each line, one kind is found of a line, one line of an input is the
+/// first at fault, and none where all pass. One text is kept, of all lines or of those before the first at fault.
+pub fn lines_stop_once<J: Judge>(judge: &J)
+    requires { JudgesOnce (J.says judge.now) }
+    ensures found { (line : List ℕ) (f g : FindingModel J.Fault)
+        → IsFoundOf (J.says judge.now) line f → IsFoundOf (J.says judge.now) line g → kind_found f ≡ kind_found g }
+    ensures stopped { (bytes text other : List ℕ) (m n : ℕ) (f g : FindingModel J.Fault) → IsFaulty f → IsFaulty g
+        → (a : StopsAt (lines (J.says judge.now) bytes) text m f)
+        → (b : StopsAt (lines (J.says judge.now) bytes) other n g) → (m ≡ n) × (text ≡ other) × (a.bad ≡ b.bad) }
+    ensures filtered { (bytes text other : List ℕ) (tally : TallyModel) (n : ℕ) (f : FindingModel J.Fault)
+        → Filters (lines (J.says judge.now) bytes) text tally → IsFaulty f
+        → StopsAt (lines (J.says judge.now) bytes) other n f → ⊥ }
+    ensures kept { (bytes text other : List ℕ) (m n : TallyModel) → Filters (lines (J.says judge.now) bytes) text m
+        → Filters (lines (J.says judge.now) bytes) other n → text ≡ other }
 {}

@@ -3,21 +3,25 @@
 //! What judges a line is a [`Judge`], whose faults are of its own type. The first line at fault ends the run.
 #![tactic(auto)]
 
+mod buffer;
+mod device;
 mod filter;
 mod finding;
-mod input;
 mod judge;
 mod laws;
+mod line_reader;
 mod output;
 mod split;
 mod step;
 mod stop;
+mod stream;
 mod tally;
 mod walk;
 
 pub use filter::{filter_bytes, filter_reader};
 pub use finding::{Finding, LONGEST_LINE};
 pub use judge::{Judge, Judgment};
-pub use laws::slices_tell_their_bytes;
+pub use laws::{lines_stop_once, slices_tell_their_bytes};
+pub use line_reader::{LineFault, LineReader};
 pub use stop::Stop;
 pub use tally::Tally;

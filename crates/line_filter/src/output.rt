@@ -3,9 +3,11 @@ ghost use Rattle.std.specs.Io.KnownBytes.{Appends};
 ghost use Rattle.line_filter.specs.private.HeldBack.{WritesFront, WritesBut};
 
 use std::io::Write;
+use thiserror::Error;
 
 /// A write failed, or took none of what it was given.
-#[derive(Debug, Drop)]
+#[derive(Debug, Drop, Error)]
+#[error("write")]
 pub struct NotWritten;
 
 /// How many bytes are held back before they are written together.

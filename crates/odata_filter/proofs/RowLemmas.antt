@@ -1,1 +1,3 @@
+pub mod OneFault
+pub mod OneJudgment
 pub mod RowJudges

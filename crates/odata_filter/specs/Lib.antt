@@ -30,8 +30,10 @@ pub use Rattle.line_filter.specs.Growth
 pub use Rattle.line_filter.specs.Kept
 pub use Rattle.line_filter.specs.LineItems
 pub use Rattle.line_filter.specs.Lines
+pub use Rattle.line_filter.specs.LineSource
 pub mod RowJudgment
 pub mod RunStops
+pub mod RowsOnce
 pub mod FilterPlan
 pub mod CommandLine
 pub mod WorkedLines

@@ -14,9 +14,10 @@ use std::io::{Read, Write};
 
 /// Reads rows, one JSON object a line, and writes those whose outcome is true, unchanged and each followed by LF.
 ///
-/// The input is read to its end before the first line is judged. A blank line is passed over. The first faulty line ends
-/// the run: `LineTooLong`, `Json`, `Row` or `Arithmetic`, with its number from 1. Where a read fails, or memory is
-/// refused, the lines that were complete are judged first. A failed write, or a last flush that fails, is `Write`.
+/// Lines are judged as they come, and what is kept of them is written before more is read. A blank line is passed over.
+/// The first faulty line ends the run: `LineTooLong`, `Json`, `Row` or `Arithmetic`, with its number from 1. Where a read
+/// fails, or memory is refused, the lines that were complete are judged first. A failed write, or a last flush that fails,
+/// is `Write`.
 pub fn filter_lines<R: Read + Drop, W: Write>(
     alloc: Global,
     checked: &Checked<'_>,

@@ -4,6 +4,7 @@
 mod bad_row;
 mod command;
 mod filter;
+mod laws;
 mod row_judge;
 mod run_fault;
 
@@ -13,5 +14,6 @@ pub use command::laws::worked_lines;
 pub use command::planner::plan;
 pub use command::runner::run;
 pub use filter::{filter_lines, filter_slice};
-pub use line_filter::{Tally, slices_tell_their_bytes};
+pub use laws::rows_stop_once;
+pub use line_filter::{LineFault, LineReader, Tally, slices_tell_their_bytes};
 pub use run_fault::RunFault;

@@ -2,9 +2,15 @@
 #![tactic(auto)]
 
 #[cfg(test)]
+mod devices;
+#[cfg(test)]
 mod example;
 #[cfg(test)]
 mod limits;
+#[cfg(test)]
+mod line_readers;
+#[cfg(test)]
+mod pieces;
 #[cfg(test)]
 mod queries;
 #[cfg(test)]

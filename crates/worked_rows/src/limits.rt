@@ -1,12 +1,14 @@
 //! The limits of texts, tokens and lines, and what lies next to them.
-use crate::told::{FIRST, run_of};
+use crate::told::{FIRST, run_of, run_of_reader};
 use std::alloc::{AllocError, Global};
+use std::io;
+use std::io::Read;
 use std::test::Fail;
 
 const A: &str = "{\"ID\":1,\"Name\":\"a\",\"Active\":true}\n";
 
 /// A piece so many times.
-fn repeated(alloc: Global, piece: &str, times: usize) -> Result<String, AllocError> {
+pub(crate) fn repeated(alloc: Global, piece: &str, times: usize) -> Result<String, AllocError> {
     let mut text = String::new(alloc);
     for _ in 0..times {
         text.push_str(piece)?;
@@ -58,5 +60,7 @@ fn a_line_has_at_most_1048576_bytes(rt: HostRuntime) -> Result<(), Fail> {
     over.push_str(" \n")?;
     over.push_str(A)?;
     assert!(rt; run_of(rt.alloc(), FIRST, over.as_bytes()).is(A, "row 2 LineTooLong\n", 4));
+    let endless = A.as_bytes().chain(io::repeat(b' '));
+    assert!(rt; run_of_reader(rt.alloc(), endless).is(A, "row 2 LineTooLong\n", 4));
     Ok(())
 }

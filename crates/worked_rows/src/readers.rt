@@ -1,30 +1,11 @@
 //! Readers that fail.
-use crate::told::{FIRST, SCHEMA, Told, plan_of};
-use odata_filter::run;
+use crate::devices::{Cut, PIECES};
+use crate::told::{Told, run_of_reader};
 use std::alloc::Global;
 use std::io;
 use std::io::Read;
 
 const A: &str = "{\"ID\":1,\"Name\":\"a\",\"Active\":true}\n";
-
-/// Gives its text in pieces of at most so many bytes, and then an error.
-#[derive(Drop)]
-struct FailingReader<'a> {
-    text: &'a [u8],
-    piece: usize,
-}
-
-impl Read for FailingReader<'_> {
-    fn read(&mut self, buffer: &mut [u8]) -> io::Result<usize> {
-        let count = self.text.len().min(self.piece).min(buffer.len());
-        if count == 0 {
-            return Err(io::Error::from(io::ErrorKind::Interrupted));
-        }
-        buffer[..count].copy_from_slice(&self.text[..count]);
-        self.text = &self.text[count..];
-        Ok(count)
-    }
-}
 
 /// Fails at its first read, and is at its end from then on. Between two readers it is one failure in the middle.
 #[derive(Drop)]
@@ -42,21 +23,11 @@ impl Read for FailsOnce {
     }
 }
 
-/// A run over rows that come in pieces, and then fail to come.
+/// A run over rows that come in pieces of at most so many bytes, and then fail to come.
 fn run_of_failing(alloc: Global, text: &[u8], piece: usize) -> Told {
-    let rows = FailingReader { text, piece };
-    let mut out = Vec::new(alloc);
-    let mut err = Vec::new(alloc);
-    let plan = plan_of("Mini.Item", FIRST);
-    let status = run(
-        alloc,
-        &plan,
-        SCHEMA.as_bytes(),
-        Some(rows),
-        &mut out,
-        &mut err,
-    );
-    Told { out, err, status }
+    let failure = FailsOnce { has_failed: false };
+    let reader = text.chain(failure);
+    run_of_reader(alloc, Cut { reader, piece })
 }
 
 /// Two whole lines and a beginning of a third come, and then the reader fails.
@@ -64,7 +35,7 @@ fn run_of_failing(alloc: Global, text: &[u8], piece: usize) -> Told {
 fn complete_lines_are_judged_before_a_failed_read(rt: HostRuntime) {
     let text =
         b"{\"ID\":1,\"Name\":\"a\",\"Active\":true}\n{\"ID\":1,\"Name\":\"b\",\"Active\":true}\n{\"ID\":1,";
-    for piece in [1, 7, 1000] {
+    for piece in PIECES {
         assert!(rt; run_of_failing(rt.alloc(), text, piece).is(A, "read rows 3\n", 5));
     }
 }
@@ -95,18 +66,8 @@ fn run_of_interrupted<'a>(alloc: Global, first: &[u8], behind: &'a [u8]) -> (Tol
     let mut left = behind;
     let failure = FailsOnce { has_failed: false };
     let rows = first.chain(failure).chain(&mut left);
-    let mut out = Vec::new(alloc);
-    let mut err = Vec::new(alloc);
-    let plan = plan_of("Mini.Item", FIRST);
-    let status = run(
-        alloc,
-        &plan,
-        SCHEMA.as_bytes(),
-        Some(rows),
-        &mut out,
-        &mut err,
-    );
-    (Told { out, err, status }, left)
+    let told = run_of_reader(alloc, rows);
+    (told, left)
 }
 
 /// A failed read is not tried again: what the reader would give behind it is not read.

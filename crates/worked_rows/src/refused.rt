@@ -63,6 +63,22 @@ fn json_of(alloc: Global, text: &str) -> Result<serde_json::Value, serde_json::E
     }
 }
 
+fn entity_of<'s>(
+    alloc: Global,
+    schema: &'s Schema,
+    id: TypeId,
+    row: &serde_json::Value,
+) -> Result<Entity<'s>, RowFault>
+    requires { id < length schema.now.types }
+    ensures schema { IfOk result (λ e. e.schema ≡ schema.entry.now) }
+    ensures type_id { IfOk result (λ e. e.type_id ≡ id) }
+{
+    match Entity::from_json(alloc, schema, id, row) {
+        Ok(entity) => Ok(entity),
+        Err(_) => Entity::from_json(alloc, schema, id, row),
+    }
+}
+
 #[test]
 fn schemas(rt: HostRuntime) -> Result<(), Fail> {
     let is_refused = match Schema::read(rt.alloc(), SCHEMA.as_bytes()) {
@@ -187,10 +203,7 @@ fn verdicts(rt: HostRuntime) -> Result<(), Fail> {
     let checked = filter_of(rt.alloc(), &schema, id)?;
     let moment = Moment::new(civil::date(1, 1, 1).at(0, 0, 0, 0), 0).ok_or("a moment")?;
     let row = json_of(rt.alloc(), KEPT)?;
-    let entity = match Entity::from_json(rt.alloc(), &schema, id, &row) {
-        Ok(entity) => entity,
-        Err(_) => Entity::from_json(rt.alloc(), &schema, id, &row)?,
-    };
+    let entity = entity_of(rt.alloc(), &schema, id, &row)?;
     let verdict = evaluate(rt.alloc(), &checked, &entity, &moment)?;
     assert!(rt; verdict == Verdict::True);
     println!(rt; "evaluate ample")?;
@@ -244,8 +257,7 @@ fn lines(rt: HostRuntime) -> Result<(), Fail> {
     Ok(())
 }
 
-/// The rows run on behind the faulty line, so that the buffer of what is read grows once that line is complete: where that is
-/// refused, the line's fault is answered all the same.
+/// The rows run on behind the faulty line, longer than the buffer of what is read: the line is judged before that grows.
 #[test]
 fn faulty_lines(rt: HostRuntime) -> Result<(), Fail> {
     let schema = schema_of(rt.alloc())?;

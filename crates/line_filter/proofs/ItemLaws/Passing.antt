@@ -1,5 +1,5 @@
 -- Items that pass, one after the other.
-use Rattle.std.proofs.Common.{◌≡◌, ℕ, zero, suc, ◌+◌, Bool, cond, List, [], ◌∷◌, ◌++◌, refl, sym, ap, ◌∙◌, subst, append-nil, arith, Result, Ok, Err}
+use Rattle.std.proofs.Common.{◌≡◌, ℕ, zero, suc, ◌+◌, ◌≤◌, Bool, cond, List, [], ◌∷◌, ◌++◌, refl, sym, ap, ◌∙◌, subst, append-nil, arith, Result, Ok, Err}
 use Rattle.std.specs.Prelude.{map, filter, flat_map, count_by, All, IfOk}
 use Rattle.std.proofs.lemmas.List.{map-append}
 use Rattle.std.proofs.lemmas.List.Elements.{All-append, filter-append}
@@ -101,3 +101,15 @@ module _ {X F : Type 0} (sieve : Sieve X F) where
     kept_counted = ap (λ k. k + n.kept) before.kept_counted ∙ ap (λ k. count_by kept_item before.all + k) after.kept_counted
         ∙ sym (sum_by-append (λ s. cond (kept_item s) 1 0) before.all after.all);
   }
+
+-- an item counts as one row at most
+pub step_counts : {F E : Type 0} (number : ℕ) (found : Result (Finding F) E) (one : Tally) → step_of number found ≡ Step.Passed one → (one.rows ≤ 1) × (one.kept ≤ 1)
+step_counts number (Ok Finding.TooLong) one step = absurd cc
+step_counts number (Ok Finding.PassedOver) one step =
+    let same : record { rows = 0; kept = 0 } ≡ one = cc in subst (λ (t : Tally). (t.rows ≤ 1) × (t.kept ≤ 1)) same (omega arith, omega arith)
+step_counts number (Ok (Finding.Judged Judgment.Kept)) one step =
+    let same : record { rows = 1; kept = 1 } ≡ one = cc in subst (λ (t : Tally). (t.rows ≤ 1) × (t.kept ≤ 1)) same (omega arith, omega arith)
+step_counts number (Ok (Finding.Judged Judgment.LeftOut)) one step =
+    let same : record { rows = 1; kept = 0 } ≡ one = cc in subst (λ (t : Tally). (t.rows ≤ 1) × (t.kept ≤ 1)) same (omega arith, omega arith)
+step_counts number (Ok (Finding.Judged (Judgment.Fault fault))) one step = absurd cc
+step_counts number (Err e) one step = absurd cc

@@ -1,7 +1,7 @@
 -- Where a run over items stops.
-use Rattle.std.proofs.Common.{◌≡◌, ℕ, ◌+◌, List, [], ◌∷◌, ◌++◌, length, refl, ap, ◌∙◌, subst, append_assoc, Result, Ok, Err}
+use Rattle.std.proofs.Common.{◌≡◌, ℕ, ◌+◌, List, [], ◌∷◌, ◌++◌, length, refl, subst, append_assoc, Result, Ok, Err}
 use Rattle.std.specs.Prelude.{IfOk}
-use Rattle.line_filter.specs.Kept.{Sieve, Items, Passes, StopsAt, StopsBefore, StopsWithin, Stops}
+use Rattle.line_filter.specs.Kept.{Items, Passes, StopsAt, StopsBefore, StopsWithin, Stops}
 use Rattle.line_filter.specs.private.Walk.{step_of, text_where_kept, IsOfItem}
 use Rattle.line_filter.specs.declared.judge.Judgment.{Judgment}
 use Rattle.line_filter.specs.declared.finding.Finding.{Finding}
@@ -129,52 +129,3 @@ module _ {X F : Type 0} (items : Items X F) where
   Stops-within text rest (Stop.Read line) stop = StopsBefore-within text rest line stop
   Stops-within text rest Stop.Write stop = StopsWithin-within text rest stop
   Stops-within text rest (Stop.Memory line) stop = StopsBefore-within text rest line stop
-
--- ---- items behind those that were looked at change nothing
-
-module _ {X F : Type 0} (sieve : Sieve X F) (few more many : List X) (Few Many : List X → Type 0) (whole : many ≡ few ++ more) (came : (before : List X) → Few before → Many before) where
-  abbrev these : Items X F
-  these = record { all = few; sieve = sieve; CameWhole = Few }
-
-  abbrev those : Items X F
-  those = record { all = many; sieve = sieve; CameWhole = Many }
-
-  StopsAt-more : (text : List ℕ) (number : ℕ) (finding : Finding F) → StopsAt these text number finding → StopsAt those text number finding
-  StopsAt-more text number finding stop = record {
-    before = stop.before;
-    bad = stop.bad;
-    after = stop.after ++ more;
-    tally = stop.tally;
-    whole = whole ∙ ap (λ l. l ++ more) stop.whole ∙ append_assoc stop.before (stop.bad ∷ stop.after) more;
-    counted = stop.counted;
-    passes = stop.passes;
-    found = stop.found;
-  }
-
-  StopsBefore-more : (text : List ℕ) (number : ℕ) → StopsBefore these text number → StopsBefore those text number
-  StopsBefore-more text number stop = record {
-    before = stop.before;
-    after = stop.after ++ more;
-    tally = stop.tally;
-    whole = whole ∙ ap (λ l. l ++ more) stop.whole ∙ append_assoc stop.before stop.after more;
-    came_whole = came stop.before stop.came_whole;
-    counted = stop.counted;
-    passes = stop.passes;
-  }
-
-  pub StopsWithin-more : (text : List ℕ) → StopsWithin these text → StopsWithin those text
-  StopsWithin-more text stop = record {
-    before = stop.before;
-    after = stop.after ++ more;
-    tally = stop.tally;
-    unwritten = stop.unwritten;
-    whole = whole ∙ ap (λ l. l ++ more) stop.whole ∙ append_assoc stop.before stop.after more;
-    passes = stop.passes;
-  }
-
-  pub Stops-more : (text : List ℕ) (stop : Stop F) → Stops these text stop → Stops those text stop
-  Stops-more text (Stop.Fault line fault) stop = StopsAt-more text line _ stop
-  Stops-more text (Stop.TooLong line) stop = StopsAt-more text line _ stop
-  Stops-more text (Stop.Read line) stop = StopsBefore-more text line stop
-  Stops-more text Stop.Write stop = StopsWithin-more text stop
-  Stops-more text (Stop.Memory line) stop = StopsBefore-more text line stop

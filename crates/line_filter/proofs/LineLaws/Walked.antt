@@ -1,5 +1,5 @@
 -- The walk over the lines, one after the other.
-use Rattle.std.proofs.Common.{◌≡◌, ℕ, ◌+◌, ◌<◌, List, [], ◌∷◌, ◌++◌, length, refl, sym, ap, ◌∙◌, subst, append_assoc, append-nil, length-append, Result, Ok}
+use Rattle.std.proofs.Common.{◌≡◌, ℕ, ◌+◌, List, [], ◌∷◌, ◌++◌, length, refl, sym, ap, ◌∙◌, subst, append_assoc, append-nil, length-append, Result, Ok}
 use Rattle.std.specs.Prelude.{Option, IfOk}
 use Rattle.std.proofs.lemmas.Grind.{flat_map-append}
 use Rattle.std.proofs.KnownBytes.{Appends-nil, Appends-trans}
@@ -18,18 +18,18 @@ use Rattle.line_filter.proofs.ItemLaws.Passing.{Passes-none, Passes-kept, Passes
 use Rattle.line_filter.proofs.ItemLaws.Stopping.{Stops-one, text_where_stopped}
 use Rattle.line_filter.proofs.WriteLaws.HeldBack.{WritesBut-more, held_both}
 
--- The walk has come so far: these lines passed, each with its LF if anything stands behind them, and this text of them is kept, but for what is held back of its end.
-pub record HasPassed {F : Type 0} (judge : LineJudge F) (bytes rest : List ℕ) (old new : Option (List ℕ)) (held : List ℕ) (passed : ℕ) (tally : Tally) : Type 0 where
+-- The walk has come so far: these lines passed, each with its LF if the walk goes on, and this text of them is kept, but for what is held back of its end.
+pub record HasPassed {F : Type 0} (judge : LineJudge F) (bytes rest : List ℕ) (goes_on : Type 0) (old new : Option (List ℕ)) (held : List ℕ) (passed : ℕ) (tally : Tally) : Type 0 where
   pub before : List (List ℕ)
   pub text : List ℕ
   pub whole : lines_of bytes ≡ before ++ lines_of rest
-  pub complete : 0 < length rest → bytes ≡ text_of_lines before ++ rest
+  pub complete : goes_on → bytes ≡ text_of_lines before ++ rest
   pub counted : passed ≡ length before
   pub passes : Passes (line_sieve judge) before text tally
   pub holds : WritesBut old new held text
 
-pub HasPassed-none : {F : Type 0} (judge : LineJudge F) (bytes : List ℕ) (a : Option (List ℕ)) (held : List ℕ) → held ≡ [] → HasPassed judge bytes bytes a a held 0 (record { rows = 0; kept = 0 })
-HasPassed-none judge bytes a held none = record {
+pub HasPassed-none : {F : Type 0} (judge : LineJudge F) (bytes : List ℕ) (goes_on : Type 0) (a : Option (List ℕ)) (held : List ℕ) → held ≡ [] → HasPassed judge bytes bytes goes_on a a held 0 (record { rows = 0; kept = 0 })
+HasPassed-none judge bytes goes_on a held none = record {
   before = [];
   text = [];
   whole = refl;
@@ -45,8 +45,8 @@ text_of_lines-more before line after =
     let one : text_of_lines (line ∷ []) ++ after ≡ line ++ 10 ∷ after = ap (λ l. l ++ after) (append-nil (line ++ 10 ∷ [])) ∙ append_assoc line (10 ∷ []) after in
     sym (ap (λ l. l ++ after) (flat_map-append text_of_line before (line ∷ [])) ∙ append_assoc (text_of_lines before) (text_of_lines (line ∷ [])) after ∙ ap (λ l. text_of_lines before ++ l) one)
 
-module _ {F E : Type 0} (judge : LineJudge F) (bytes line rest after : List ℕ) (a b c : Option (List ℕ)) (h₁ h₂ : List ℕ) (passed : ℕ) (tally : Tally) (found : Result (Finding F) E)
-    (first : lines_of rest ≡ line ∷ lines_of after) (finds : IfOk found (IsFoundOf judge line)) (so_far : HasPassed judge bytes rest a b h₁ passed tally) where
+module _ {F E : Type 0} (judge : LineJudge F) (bytes line rest after : List ℕ) (goes_on : Type 0) (a b c : Option (List ℕ)) (h₁ h₂ : List ℕ) (passed : ℕ) (tally : Tally) (found : Result (Finding F) E)
+    (first : lines_of rest ≡ line ∷ lines_of after) (finds : IfOk found (IsFoundOf judge line)) (so_far : HasPassed judge bytes rest goes_on a b h₁ passed tally) where
   whole : lines_of bytes ≡ so_far.before ++ line ∷ lines_of after
   whole = so_far.whole ∙ ap (λ l. so_far.before ++ l) first
 
@@ -54,9 +54,9 @@ module _ {F E : Type 0} (judge : LineJudge F) (bytes line rest after : List ℕ)
   whole_more = whole ∙ sym (append_assoc so_far.before (line ∷ []) (lines_of after))
 
   -- the line behind those that passed passes too
-  pub HasPassed-more : (one : Tally) → (0 < length after → rest ≡ line ++ 10 ∷ after) → 0 < length rest → WritesBut b c h₂ (h₁ ++ text_where_kept found (line ++ 10 ∷ []))
-      → step_of (passed + 1) found ≡ Step.Passed one → HasPassed judge bytes after a c h₂ (passed + 1) (sum_of tally one)
-  HasPassed-more one behind some more step =
+  pub HasPassed-more : (one : Tally) (goes_further : Type 0) → (goes_further → rest ≡ line ++ 10 ∷ after) → goes_on → WritesBut b c h₂ (h₁ ++ text_where_kept found (line ++ 10 ∷ []))
+      → step_of (passed + 1) found ≡ Step.Passed one → HasPassed judge bytes after goes_further a c h₂ (passed + 1) (sum_of tally one)
+  HasPassed-more one goes_further behind some more step =
       let text = text_where_kept found (line ++ 10 ∷ []) in
       let passes_one = Passes-one (line_sieve judge) line (passed + 1) found one finds step in
       record {
@@ -87,7 +87,7 @@ module _ {F E : Type 0} (judge : LineJudge F) (bytes line rest after : List ℕ)
       (first_text ++ second_text, Appends-trans a b c first_text second_text wrote more, stop)
 
   -- the run stops at it
-  pub HasPassed-stopped : (stop : Stop F) → 0 < length rest → WritesBut b c h₂ (h₁ ++ text_where_kept found (line ++ 10 ∷ [])) → step_of (passed + 1) found ≡ Step.Stopped stop
+  pub HasPassed-stopped : (stop : Stop F) → goes_on → WritesBut b c h₂ (h₁ ++ text_where_kept found (line ++ 10 ∷ [])) → step_of (passed + 1) found ≡ Step.Stopped stop
       → (text : List ℕ) × WritesBut a c h₂ text × Stops (lines judge bytes) text stop
   HasPassed-stopped stop some more step =
       let text = text_where_kept found (line ++ 10 ∷ []) in

@@ -2,14 +2,14 @@
 use Rattle.std.specs.Prelude.{◌≡◌, ℕ, ◌+◌, List, [], length, MatchOption, MatchResult, Result, Ok, Err}
 use Rattle.line_filter.specs.declared.judge.Judgment.{Judgment}
 use Rattle.line_filter.specs.declared.finding.Finding.{Finding}
-use Rattle.line_filter.specs.declared.input.Ending.{Ending}
+use Rattle.line_filter.specs.declared.line_reader.LineFault.{LineFault}
 use Rattle.line_filter.specs.declared.step.Step.{Step}
 use Rattle.line_filter.specs.declared.walk.Progress.{Progress}
 use Rattle.line_filter.specs.declared.stop.Stop.{Stop}
 use Rattle.line_filter.specs.declared.tally.Tally.{Tally}
 use Rattle.line_filter.specs.Kept.{Filters, Stops}
 use Rattle.line_filter.specs.LineItems.{LineJudge, lines}
-use Rattle.line_filter.specs.Lines.{lines_of, text_of_lines}
+use Rattle.line_filter.specs.Lines.{lines_of}
 
 -- the tallies of items and of those behind them, together
 abbrev pub sum_of : Tally → Tally → Tally
@@ -23,6 +23,12 @@ step_of number (Ok (Finding.Judged Judgment.Kept)) = Step.Passed (record { rows 
 step_of number (Ok (Finding.Judged Judgment.LeftOut)) = Step.Passed (record { rows = 1; kept = 0 })
 step_of number (Ok (Finding.Judged (Judgment.Fault fault))) = Step.Stopped (Stop.Fault number fault)
 step_of number (Err _) = Step.Stopped (Stop.Memory number)
+
+-- what a run answers where the line of this number does not come
+abbrev pub fault_stop : {F : Type 0} → LineFault → ℕ → Stop F
+fault_stop LineFault.TooLong number = Stop.TooLong number
+fault_stop LineFault.Read number = Stop.Read number
+fault_stop LineFault.Memory number = Stop.Memory number
 
 -- the text of an item of which this is found: nothing where it is not kept
 abbrev pub text_where_kept : {F E : Type 0} → Result (Finding F) E → List ℕ → List ℕ
@@ -41,17 +47,7 @@ Goes judge bytes text progress = MatchOption progress.stop
     (Filters (lines judge bytes) text progress.tally × (progress.lines ≡ length (lines_of bytes)))
     (λ stop. Stops (lines judge bytes) text stop)
 
--- what a run answers where no line that was judged is at fault
-abbrev pub Closes : {F : Type 0} → Progress F → Ending → Result Tally (Stop F) → Type 0
-Closes progress Ending.AtEnd answer =
-    MatchResult answer (λ tally. tally ≡ progress.tally) (λ stop. stop ≡ Stop.Write)
-Closes progress Ending.ReadFailed answer = answer ≡ Err (Stop.Read (progress.lines + 1))
-Closes progress Ending.NoMemory answer = answer ≡ Err (Stop.Memory (progress.lines + 1))
-
--- what a run answers: the stop at a line goes before that of the reader
-abbrev pub Ends : {F : Type 0} → Progress F → Ending → Result Tally (Stop F) → Type 0
-Ends progress ending answer = MatchOption progress.stop (Closes progress ending answer) (λ stop. answer ≡ Err stop)
-
--- an LF stands behind each line of these bytes, the last among them
-abbrev pub IsOfWholeLines : List ℕ → Type 0
-IsOfWholeLines bytes = bytes ≡ text_of_lines (lines_of bytes)
+-- what a run answers: the stop at a line, or else the tally, unless the last flush fails
+abbrev pub Ends : {F : Type 0} → Progress F → Result Tally (Stop F) → Type 0
+Ends progress answer = MatchOption progress.stop
+    (MatchResult answer (λ tally. tally ≡ progress.tally) (λ stop. stop ≡ Stop.Write)) (λ stop. answer ≡ Err stop)

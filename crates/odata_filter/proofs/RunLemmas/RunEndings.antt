@@ -108,33 +108,33 @@ by_filter P Q plan document s filter now is_filter is_first f held = record {
   written = over s (λ bytes. P (rows_of filter now bytes)) (λ bytes. Q (rows_of filter now bytes)) f held;
 }
 
-failed : (plan : Plan) (document : List ℕ) (s : Streams) (filter : Filter) (now : MomentParts) (failure : Failure)
+run_failed : (plan : Plan) (document : List ℕ) (s : Streams) (filter : Filter) (now : MomentParts) (failure : Failure)
     → IsPlanFilter plan document filter → IsFirstMoment now → StopsOver (rows_of filter now) failure s → StatusSays (status_of failure) plan document s
-failed plan document s filter now (NotYet option) is_filter is_first held = absurd held
-failed plan document s filter now OneOf is_filter is_first held = absurd held
-failed plan document s filter now (Query fault) is_filter is_first held = absurd held
-failed plan document s filter now NoOption is_filter is_first held = absurd held
-failed plan document s filter now (Schema fault) is_filter is_first held = absurd held
-failed plan document s filter now (UnknownType name) is_filter is_first held = absurd held
-failed plan document s filter now (Refused fault) is_filter is_first held = absurd held
-failed plan document s filter now (RowsFile name) is_filter is_first held = (filter, is_filter)
-failed plan document s filter now (Rows (Json line)) is_filter is_first held =
+run_failed plan document s filter now (NotYet option) is_filter is_first held = absurd held
+run_failed plan document s filter now OneOf is_filter is_first held = absurd held
+run_failed plan document s filter now (Query fault) is_filter is_first held = absurd held
+run_failed plan document s filter now NoOption is_filter is_first held = absurd held
+run_failed plan document s filter now (Schema fault) is_filter is_first held = absurd held
+run_failed plan document s filter now (UnknownType name) is_filter is_first held = absurd held
+run_failed plan document s filter now (Refused fault) is_filter is_first held = absurd held
+run_failed plan document s filter now (RowsFile name) is_filter is_first held = (filter, is_filter)
+run_failed plan document s filter now (Rows (Json line)) is_filter is_first held =
     by_filter (λ rows text. StopsBy rows text (Json line)) StopsAtFault plan document s filter now is_filter is_first
     (λ bytes text stops. (line, Finding.Judged (Judgment.Fault BadRow.NotJson), (λ sound. sound), stops)) held
-failed plan document s filter now (Rows (Row line fault)) is_filter is_first held =
+run_failed plan document s filter now (Rows (Row line fault)) is_filter is_first held =
     by_filter (λ rows text. StopsBy rows text (Row line fault)) StopsAtFault plan document s filter now is_filter is_first
     (λ bytes text stops. (line, Finding.Judged (Judgment.Fault (BadRow.NoEntity fault)), (λ sound. sound), stops)) held
-failed plan document s filter now (Rows (Arithmetic line fault)) is_filter is_first held =
+run_failed plan document s filter now (Rows (Arithmetic line fault)) is_filter is_first held =
     by_filter (λ rows text. StopsBy rows text (Arithmetic line fault)) StopsAtFault plan document s filter now is_filter is_first
     (λ bytes text stops. (line, Finding.Judged (Judgment.Fault (BadRow.NoValue fault)), (λ sound. sound), stops)) held
-failed plan document s filter now (Rows (LineTooLong line)) is_filter is_first held =
+run_failed plan document s filter now (Rows (LineTooLong line)) is_filter is_first held =
     by_filter (λ rows text. StopsBy rows text (LineTooLong line)) StopsAtFault plan document s filter now is_filter is_first
     (λ bytes text stops. (line, Finding.TooLong, (λ sound. sound), stops)) held
-failed plan document s filter now (Rows NotACollection) is_filter is_first held =
+run_failed plan document s filter now (Rows NotACollection) is_filter is_first held =
     by_filter (λ rows text. StopsBy rows text NotACollection) StopsAtFault plan document s filter now is_filter is_first (λ bytes text stops. absurd stops) held
-failed plan document s filter now (Rows (Read line)) is_filter is_first held = (filter, is_filter)
-failed plan document s filter now (Rows Write) is_filter is_first held = (filter, is_filter)
-failed plan document s filter now (Rows (Memory line)) is_filter is_first held = tt
+run_failed plan document s filter now (Rows (Read line)) is_filter is_first held = (filter, is_filter)
+run_failed plan document s filter now (Rows Write) is_filter is_first held = (filter, is_filter)
+run_failed plan document s filter now (Rows (Memory line)) is_filter is_first held = tt
 
 pub says_by : (plan : Plan) (document : List ℕ) (s : Streams) (filter : Filter) (now : MomentParts) (answer : Result Tally Failure)
     → IsPlanFilter plan document filter → IsFirstMoment now
@@ -142,13 +142,13 @@ pub says_by : (plan : Plan) (document : List ℕ) (s : Streams) (filter : Filter
     → IfErr answer (λ failure. StopsOver (rows_of filter now) failure s) → AnswerSays answer plan document s
 says_by plan document s filter now (Ok tally) is_filter is_first held stopped =
     by_filter (λ rows text. Filters rows text tally) FiltersAll plan document s filter now is_filter is_first (λ bytes text filtered. (tally, filtered)) held
-says_by plan document s filter now (Err failure) is_filter is_first held stopped = failed plan document s filter now failure is_filter is_first stopped
+says_by plan document s filter now (Err failure) is_filter is_first held stopped = run_failed plan document s filter now failure is_filter is_first stopped
 
 -- ---- a beginning was written
 
 module _ {X F : Type 0} (items : Items X F) (text : List ℕ) where
-  passed : (before after : List X) (tally : Tally) → items.all ≡ before ++ after → Passes items.sieve before text tally → StopsWithin items text
-  passed before after tally whole passes = record {
+  front_passed : (before after : List X) (tally : Tally) → items.all ≡ before ++ after → Passes items.sieve before text tally → StopsWithin items text
+  front_passed before after tally whole passes = record {
     before = before;
     after = after;
     tally = tally;
@@ -158,14 +158,14 @@ module _ {X F : Type 0} (items : Items X F) (text : List ℕ) where
   }
 
   within_all : (tally : Tally) → Filters items text tally → StopsWithin items text
-  within_all tally filtered = passed items.all [] tally (sym (append-nil items.all)) filtered
+  within_all tally filtered = front_passed items.all [] tally (sym (append-nil items.all)) filtered
 
   within_stop : (stop : Stop F) → Stops items text stop → StopsWithin items text
-  within_stop (Stop.Fault line fault) stops = passed stops.before (stops.bad ∷ stops.after) stops.tally stops.whole stops.passes
-  within_stop (Stop.TooLong line) stops = passed stops.before (stops.bad ∷ stops.after) stops.tally stops.whole stops.passes
-  within_stop (Stop.Read line) stops = passed stops.before stops.after stops.tally stops.whole stops.passes
+  within_stop (Stop.Fault line fault) stops = front_passed stops.before (stops.bad ∷ stops.after) stops.tally stops.whole stops.passes
+  within_stop (Stop.TooLong line) stops = front_passed stops.before (stops.bad ∷ stops.after) stops.tally stops.whole stops.passes
+  within_stop (Stop.Read line) stops = front_passed stops.before stops.after stops.tally stops.whole stops.passes
   within_stop Stop.Write stops = stops
-  within_stop (Stop.Memory line) stops = passed stops.before stops.after stops.tally stops.whole stops.passes
+  within_stop (Stop.Memory line) stops = front_passed stops.before stops.after stops.tally stops.whole stops.passes
 
   within_stops : (told : Option (Stop F)) → IsSomeAnd told (Stops items text) → StopsWithin items text
   within_stops None stops = absurd stops

@@ -1,0 +1,123 @@
+-- What a reader of lines gives, by what it holds.
+use Rattle.std.proofs.Common.{◌≡◌, ℕ, ◌+◌, ◌-◌, ◌<◌, ◌≤◌, List, [], ◌∷◌, ◌++◌, length, take, drop, None, Some, IfSome, Option, inl, inr, ◌⊎◌, sym, ap, ◌∙◌, subst, arith, append-nil, length-drop, length-take-le}
+use Rattle.std.specs.Io.KnownBytes.{Keeps, IsAtEnd, prepend_known}
+use Rattle.std.proofs.KnownBytes.{Keeps-refl, Keeps-trans}
+use Rattle.memchr.specs.Find.{NoneBefore, Passes, is_byte}
+use Rattle.line_filter.specs.declared.line_reader.LineFault.{LineFault}
+use Rattle.line_filter.specs.declared.line_reader.Course.{Course}
+use Rattle.line_filter.specs.declared.line_reader.Next.{Next}
+use Rattle.line_filter.specs.Lines.{longest_line}
+use Rattle.line_filter.specs.LineSource.{LineSource, left_of, IsFirstLine, BeginsTooLong, WhereKnown, IsOver}
+use Rattle.line_filter.specs.private.Giving.{IsUnended, IsLongBy, IsGiven, IsFault, Gives, GivesAgain, bytes_to_come}
+use Rattle.line_filter.proofs.ReaderLaws.FirstLine.{first_by_feed, whole_by_feed, first_at_end}
+
+-- what holds whatever the reader still has
+known_both : (a : Option (List ℕ)) (ws rest : List ℕ) (P : List ℕ → List ℕ → Type 0) → ((more : List ℕ) → P (ws ++ more) (rest ++ more)) → WhereKnown (prepend_known ws a) (prepend_known rest a) P
+known_both None ws rest P all = tt
+known_both (Some more) ws rest P all = all more
+
+known_one : (a : Option (List ℕ)) (ws : List ℕ) (P : List ℕ → Type 0) → ((more : List ℕ) → P (ws ++ more)) → IfSome (prepend_known ws a) P
+known_one None ws P all = tt
+known_one (Some more) ws P all = all more
+
+-- what holds where the reader has nothing
+known_last : (a : Option (List ℕ)) (ws : List ℕ) (P : List ℕ → List ℕ → Type 0) → IsAtEnd a → P ws [] → WhereKnown (prepend_known ws a) (prepend_known [] a) P
+known_last None ws P end p = tt
+known_last (Some more) ws P end p = subst (λ l. P (ws ++ l) l) (sym end) (subst (λ l. P l []) (sym (append-nil ws)) p)
+
+module _ {R : Type 0} (remaining : R → Option (List ℕ)) (old new : LineSource R) (same : new.reader ≡ old.reader) where
+  -- the first LF stands behind so many bytes
+  pub given_by_feed : (n : ℕ) → new.unread ≡ old.unread → new.line ≡ take n old.waiting → new.waiting ≡ drop (n + 1) old.waiting → n ≤ longest_line
+      → NoneBefore (Passes (is_byte 10) old.waiting) 0 (length old.waiting) n → Passes (is_byte 10) old.waiting n → IsGiven remaining old new
+  given_by_feed n unread line waiting short found is =
+      let high = found.high in
+      let known = remaining old.reader in
+      let first = known_both known old.waiting (drop (n + 1) old.waiting) (λ bytes rest. IsFirstLine bytes (take n old.waiting) rest) (λ more. first_by_feed old.waiting more n found is) in
+      let whole = known_both known old.waiting (drop (n + 1) old.waiting) (λ bytes rest. bytes ≡ take n old.waiting ++ 10 ∷ rest) (λ more. whole_by_feed old.waiting more n high is) in
+      let long : length new.line ≡ n = ap length line ∙ length-take-le n old.waiting (omega arith) in
+      let left : length new.waiting ≡ length old.waiting - (n + 1) = ap length waiting ∙ length-drop (n + 1) old.waiting in
+      record {
+        first = rw (same, line, waiting) first;
+        short = omega arith;
+        whole = inr (rw (same, line, waiting) whole);
+        fewer = omega arith;
+      }
+
+  -- the reader is at its end
+  pub given_at_end : new.unread ≡ old.unread → new.line ≡ old.waiting → new.waiting ≡ [] → new.course ≡ Course.AtEnd → 0 < length old.waiting → IsUnended old.waiting → IsAtEnd (remaining old.reader)
+      → IsGiven remaining old new
+  given_at_end unread line waiting course some unended end =
+      let first = known_last (remaining old.reader) old.waiting (λ bytes rest. IsFirstLine bytes old.waiting rest) end (first_at_end old.waiting some unended.0) in
+      let none : length new.waiting ≡ 0 = ap length waiting in
+      let long : length new.line ≡ length old.waiting = ap length line in
+      let bounded = unended.1 in
+      record {
+        first = rw (same, line, waiting) first;
+        short = omega arith;
+        whole = inl (course, waiting);
+        fewer = omega arith;
+      }
+
+  left_kept : new.waiting ≡ old.waiting → Keeps (left_of remaining old) (left_of remaining new)
+  left_kept waiting = rw (same, waiting) (Keeps-refl (left_of remaining old))
+
+  -- a fault that is told, or told again
+  pub fault_told : (fault : LineFault) → new.waiting ≡ old.waiting → new.course ≡ Course.Failed fault → (fault ≡ LineFault.TooLong → IsLongBy old.waiting) → IsFault remaining old new fault
+  fault_told fault waiting course long = record {
+    long = λ is. known_one (remaining old.reader) old.waiting BeginsTooLong (long is);
+    failed = course;
+    left = left_kept waiting;
+  }
+
+-- ---- reads between what was left at first and what is given
+
+to_come_trans : {R : Type 0} (a b c : LineSource R) → bytes_to_come b ≡ bytes_to_come a → bytes_to_come c < bytes_to_come b → bytes_to_come c < bytes_to_come a
+to_come_trans a b c same fewer = omega (arith, same, fewer)
+
+known_after : (a b c : Option (List ℕ)) (P : List ℕ → List ℕ → Type 0) → Keeps a b → WhereKnown b c P → WhereKnown a c P
+known_after None b c P kept where_known = tt
+known_after (Some x) None c P kept where_known = absurd kept
+known_after (Some x) (Some y) None P kept where_known = absurd where_known
+known_after (Some x) (Some y) (Some z) P kept where_known = subst (λ l. P l z) kept where_known
+
+known_one_after : (a b : Option (List ℕ)) (P : List ℕ → Type 0) → Keeps a b → IfSome b P → IfSome a P
+known_one_after None b P kept p = tt
+known_one_after (Some x) None P kept p = absurd kept
+known_one_after (Some x) (Some y) P kept p = subst P kept p
+
+end_after : (a b : Option (List ℕ)) → Keeps a b → IsAtEnd b → IsAtEnd a
+end_after None b kept end = tt
+end_after (Some x) None kept end = absurd kept
+end_after (Some x) (Some y) kept end = sym kept ∙ end
+
+module _ {R : Type 0} (remaining : R → Option (List ℕ)) (a b c : LineSource R) (kept : Keeps (left_of remaining a) (left_of remaining b)) (same : bytes_to_come b ≡ bytes_to_come a) where
+  whole_after : IsOver c ⊎ WhereKnown (left_of remaining b) (left_of remaining c) (λ bytes rest. bytes ≡ c.line ++ 10 ∷ rest)
+      → IsOver c ⊎ WhereKnown (left_of remaining a) (left_of remaining c) (λ bytes rest. bytes ≡ c.line ++ 10 ∷ rest)
+  whole_after (inl end) = inl end
+  whole_after (inr whole) = inr (known_after (left_of remaining a) (left_of remaining b) (left_of remaining c) (λ bytes rest. bytes ≡ c.line ++ 10 ∷ rest) kept whole)
+
+  -- what was read first changes nothing of what is given
+  pub Gives-after : (next : Next) → Gives remaining b c next → Gives remaining a c next
+  Gives-after Next.Line given = record {
+    first = known_after (left_of remaining a) (left_of remaining b) (left_of remaining c) (λ bytes rest. IsFirstLine bytes c.line rest) kept given.first;
+    short = given.short;
+    whole = whole_after given.whole;
+    fewer = to_come_trans a b c same given.fewer;
+  }
+  Gives-after Next.End end = record {
+    none_left = end_after (left_of remaining a) (left_of remaining b) kept end.none_left;
+    over = end.over;
+    left = Keeps-trans (left_of remaining a) (left_of remaining b) (left_of remaining c) kept end.left;
+  }
+  Gives-after (Next.Fault fault) failed = record {
+    long = λ is. known_one_after (left_of remaining a) (left_of remaining b) BeginsTooLong kept (failed.long is);
+    failed = failed.failed;
+    left = Keeps-trans (left_of remaining a) (left_of remaining b) (left_of remaining c) kept failed.left;
+  }
+
+-- nothing is told again of what is still open
+pub GivesAgain-open : {R : Type 0} (source : LineSource R) (next : Next) → source.course ≡ Course.Open → GivesAgain source next
+GivesAgain-open source next open_now = record {
+  over = λ over. let end = over.0 in absurd cc;
+  failed = λ fault failed. absurd cc;
+}

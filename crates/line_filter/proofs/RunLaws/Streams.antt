@@ -1,0 +1,191 @@
+-- The walk over the lines of a reader, where what it had is known.
+use Rattle.std.proofs.Common.{◌≡◌, ℕ, ◌+◌, List, [], ◌∷◌, ◌++◌, length, Option, None, Some, Result, Ok, inl, inr, ◌⊎◌, refl, sym, ap, ◌∙◌, subst, append_assoc, append-nil}
+use Rattle.std.specs.Prelude.{IfOk, IfSome}
+use Rattle.std.specs.Io.KnownBytes.{IsAtEnd, Appends}
+use Rattle.std.proofs.KnownBytes.{Appends-trans}
+use Rattle.line_filter.specs.Growth.{Writes}
+use Rattle.line_filter.specs.Kept.{Filters, StopsWithin, Stops}
+use Rattle.line_filter.specs.LineItems.{LineJudge, IsFoundOf, lines}
+use Rattle.line_filter.specs.Lines.{lines_of}
+use Rattle.line_filter.specs.LineSource.{IsFirstLine, BeginsTooLong, WhereKnown}
+use Rattle.line_filter.specs.private.HeldBack.{WritesFront, WritesBut}
+use Rattle.line_filter.specs.private.Walk.{sum_of, step_of, text_where_kept, fault_stop, Goes}
+use Rattle.line_filter.specs.declared.judge.Judgment.{Judgment}
+use Rattle.line_filter.specs.declared.finding.Finding.{Finding}
+use Rattle.line_filter.specs.declared.line_reader.LineFault.{LineFault}
+use Rattle.line_filter.specs.declared.step.Step.{Step}
+use Rattle.line_filter.specs.declared.stop.Stop.{Stop}
+use Rattle.line_filter.specs.declared.tally.Tally.{Tally}
+use Rattle.line_filter.proofs.ItemLaws.Stopping.{Passes-within}
+use Rattle.line_filter.proofs.LineLaws.Walked.{HasPassed, HasPassed-none, HasPassed-more, HasPassed-failed, HasPassed-stopped}
+use Rattle.line_filter.specs.declared.walk.Progress.{Progress}
+use Rattle.line_filter.proofs.RunLaws.Answers.{Goes-failed}
+use Rattle.line_filter.proofs.WriteLaws.HeldBack.{WritesBut-written}
+
+-- what is held back was written in part, and of it a beginning is written
+WritesBut-less : (a b c : Option (List ℕ)) (h₁ h₂ text : List ℕ) → WritesBut a b h₁ text → WritesBut b c h₂ h₁ → WritesBut a c h₂ text
+WritesBut-less a b c h₁ h₂ text (first, wrote, e) (second, more, f) =
+    (first ++ second, Appends-trans a b c first second wrote more, e ∙ ap (λ l. first ++ l) f ∙ sym (append_assoc first second h₂))
+
+module _ {F : Type 0} (judge : LineJudge F) where
+  -- of what was left at first and what is left now, the walk has come so far
+  abbrev pub HasCome : Option (List ℕ) → Option (List ℕ) → Type 0 → Option (List ℕ) → Option (List ℕ) → List ℕ → ℕ → Tally → Type 0
+  HasCome a r goes_on u v held passed tally = WhereKnown a r (λ bytes rest. HasPassed judge bytes rest goes_on u v held passed tally)
+
+  pub HasCome-none : (a : Option (List ℕ)) (goes_on : Type 0) (u : Option (List ℕ)) (held : List ℕ) → held ≡ [] → HasCome a a goes_on u u held 0 (record { rows = 0; kept = 0 })
+  HasCome-none None goes_on u held none = tt
+  HasCome-none (Some bytes) goes_on u held none = HasPassed-none judge bytes goes_on u held none
+
+  HasPassed-written : (bytes rest : List ℕ) (goes_on : Type 0) (u v w : Option (List ℕ)) (h₁ h₂ : List ℕ) (passed : ℕ) (tally : Tally)
+      → HasPassed judge bytes rest goes_on u v h₁ passed tally → WritesBut v w h₂ h₁ → HasPassed judge bytes rest goes_on u w h₂ passed tally
+  HasPassed-written bytes rest goes_on u v w h₁ h₂ passed tally so_far wrote = record {
+    before = so_far.before;
+    text = so_far.text;
+    whole = so_far.whole;
+    complete = so_far.complete;
+    counted = so_far.counted;
+    passes = so_far.passes;
+    holds = WritesBut-less u v w h₁ h₂ so_far.text so_far.holds wrote;
+  }
+
+  -- what was held back is written
+  pub HasCome-written : (a r : Option (List ℕ)) (goes_on : Type 0) (u v w : Option (List ℕ)) (h₁ h₂ : List ℕ) (passed : ℕ) (tally : Tally)
+      → HasCome a r goes_on u v h₁ passed tally → WritesBut v w h₂ h₁ → HasCome a r goes_on u w h₂ passed tally
+  HasCome-written None r goes_on u v w h₁ h₂ passed tally so_far wrote = tt
+  HasCome-written (Some bytes) None goes_on u v w h₁ h₂ passed tally so_far wrote = absurd so_far
+  HasCome-written (Some bytes) (Some rest) goes_on u v w h₁ h₂ passed tally so_far wrote = HasPassed-written bytes rest goes_on u v w h₁ h₂ passed tally so_far wrote
+
+  -- or it could not be written
+  HasPassed-unwritten : (bytes rest : List ℕ) (goes_on : Type 0) (u v w : Option (List ℕ)) (held : List ℕ) (passed : ℕ) (tally : Tally)
+      → HasPassed judge bytes rest goes_on u v held passed tally → WritesFront v w held → Writes u w (StopsWithin (lines judge bytes))
+  HasPassed-unwritten bytes rest goes_on u v w held passed tally so_far (second, more, (unwritten, f)) =
+      let (first, wrote, e) = so_far.holds in
+      let text : so_far.text ≡ (first ++ second) ++ unwritten = e ∙ ap (λ l. first ++ l) f ∙ sym (append_assoc first second unwritten) in
+      let passes = subst (λ l. Filters (record (lines judge bytes) { all = so_far.before }) l tally) text so_far.passes in
+      (first ++ second, Appends-trans u v w first second wrote more, Passes-within (lines judge bytes) so_far.before (lines_of rest) (first ++ second) unwritten tally so_far.whole passes)
+
+  pub HasCome-unwritten : (a r : Option (List ℕ)) (goes_on : Type 0) (u v w : Option (List ℕ)) (held : List ℕ) (passed : ℕ) (tally : Tally)
+      → HasCome a r goes_on u v held passed tally → WritesFront v w held → IfSome a (λ bytes. Writes u w (StopsWithin (lines judge bytes)))
+  HasCome-unwritten None r goes_on u v w held passed tally so_far wrote = tt
+  HasCome-unwritten (Some bytes) None goes_on u v w held passed tally so_far wrote = absurd so_far
+  HasCome-unwritten (Some bytes) (Some rest) goes_on u v w held passed tally so_far wrote = HasPassed-unwritten bytes rest goes_on u v w held passed tally so_far wrote
+
+  -- nothing is left
+  HasPassed-end : (bytes rest : List ℕ) (goes_on : Type 0) (u v : Option (List ℕ)) (held : List ℕ) (passed : ℕ) (tally : Tally)
+      → HasPassed judge bytes rest goes_on u v held passed tally → rest ≡ []
+      → (text : List ℕ) × WritesBut u v held text × (Filters (lines judge bytes) text tally × (passed ≡ length (lines_of bytes)))
+  HasPassed-end bytes rest goes_on u v held passed tally so_far none =
+      let all : lines_of bytes ≡ so_far.before = so_far.whole ∙ ap (λ l. so_far.before ++ lines_of l) none ∙ append-nil so_far.before in
+      let passes = subst (λ l. Filters (record (lines judge bytes) { all = l }) so_far.text tally) (sym all) so_far.passes in
+      (so_far.text, so_far.holds, (passes, so_far.counted ∙ ap length (sym all)))
+
+  pub HasCome-end : (a r : Option (List ℕ)) (goes_on : Type 0) (u v : Option (List ℕ)) (held : List ℕ) (passed : ℕ) (tally : Tally)
+      → HasCome a r goes_on u v held passed tally → IsAtEnd r
+      → IfSome a (λ bytes. (text : List ℕ) × WritesBut u v held text × (Filters (lines judge bytes) text tally × (passed ≡ length (lines_of bytes))))
+  HasCome-end None r goes_on u v held passed tally so_far none = tt
+  HasCome-end (Some bytes) None goes_on u v held passed tally so_far none = absurd so_far
+  HasCome-end (Some bytes) (Some rest) goes_on u v held passed tally so_far none = HasPassed-end bytes rest goes_on u v held passed tally so_far none
+
+  -- the next line does not come
+  HasPassed-fault : (bytes rest : List ℕ) (goes_on : Type 0) (u v : Option (List ℕ)) (held : List ℕ) (passed : ℕ) (tally : Tally) (fault : LineFault)
+      → HasPassed judge bytes rest goes_on u v held passed tally → goes_on → (fault ≡ LineFault.TooLong → BeginsTooLong rest)
+      → (text : List ℕ) × WritesBut u v held text × Stops (lines judge bytes) text (fault_stop fault (passed + 1))
+  HasPassed-fault bytes rest goes_on u v held passed tally LineFault.TooLong so_far more long =
+      let (line, after, first, far) = long refl in (
+        so_far.text,
+        so_far.holds,
+        record {
+          before = so_far.before;
+          bad = line;
+          after = after;
+          tally = tally;
+          whole = so_far.whole ∙ ap (λ l. so_far.before ++ l) first;
+          counted = ap (λ k. k + 1) so_far.counted;
+          passes = so_far.passes;
+          found = far;
+        },
+      )
+  HasPassed-fault bytes rest goes_on u v held passed tally LineFault.Read so_far more long = (
+    so_far.text,
+    so_far.holds,
+    record {
+      before = so_far.before;
+      after = lines_of rest;
+      tally = tally;
+      whole = so_far.whole;
+      came_whole = (rest, so_far.complete more);
+      counted = ap (λ k. k + 1) so_far.counted;
+      passes = so_far.passes;
+    },
+  )
+  HasPassed-fault bytes rest goes_on u v held passed tally LineFault.Memory so_far more long = (
+    so_far.text,
+    so_far.holds,
+    record {
+      before = so_far.before;
+      after = lines_of rest;
+      tally = tally;
+      whole = so_far.whole;
+      came_whole = (rest, so_far.complete more);
+      counted = ap (λ k. k + 1) so_far.counted;
+      passes = so_far.passes;
+    },
+  )
+
+  pub HasCome-fault : (a r : Option (List ℕ)) (goes_on : Type 0) (u v : Option (List ℕ)) (held : List ℕ) (passed : ℕ) (tally : Tally) (fault : LineFault)
+      → HasCome a r goes_on u v held passed tally → goes_on → (fault ≡ LineFault.TooLong → IfSome r BeginsTooLong)
+      → IfSome a (λ bytes. (text : List ℕ) × WritesBut u v held text × Stops (lines judge bytes) text (fault_stop fault (passed + 1)))
+  HasCome-fault None r goes_on u v held passed tally fault so_far more long = tt
+  HasCome-fault (Some bytes) None goes_on u v held passed tally fault so_far more long = absurd so_far
+  HasCome-fault (Some bytes) (Some rest) goes_on u v held passed tally fault so_far more long = HasPassed-fault bytes rest goes_on u v held passed tally fault so_far more long
+
+-- ---- a line is given
+
+module _ {F E : Type 0} (judge : LineJudge F) (line : List ℕ) (goes_on : Type 0) (u v w : Option (List ℕ)) (h₁ h₂ : List ℕ) (passed : ℕ) (tally : Tally) (found : Result (Finding F) E)
+    (finds : IfOk found (IsFoundOf judge line)) (more : goes_on) where
+  -- of a list that has no more lines, or has an LF behind this one
+  behind : (Over : Type 0) (rest after : List ℕ) → Over ⊎ (rest ≡ line ++ 10 ∷ after) → (Over → ⊥) → rest ≡ line ++ 10 ∷ after
+  behind Over rest after (inl over) not_over = absurd (not_over over)
+  behind Over rest after (inr whole) not_over = whole
+
+  -- it passes
+  pub HasCome-more : (a r s : Option (List ℕ)) (Over : Type 0) (one : Tally) → HasCome judge a r goes_on u v h₁ passed tally → WhereKnown r s (λ rest after. IsFirstLine rest line after)
+      → Over ⊎ WhereKnown r s (λ rest after. rest ≡ line ++ 10 ∷ after) → WritesBut v w h₂ (h₁ ++ text_where_kept found (line ++ 10 ∷ [])) → step_of (passed + 1) found ≡ Step.Passed one
+      → HasCome judge a s (Over → ⊥) u w h₂ (passed + 1) (sum_of tally one)
+  HasCome-more None r s Over one so_far first whole wrote step = tt
+  HasCome-more (Some bytes) None s Over one so_far first whole wrote step = absurd so_far
+  HasCome-more (Some bytes) (Some rest) None Over one so_far first whole wrote step = absurd first
+  HasCome-more (Some bytes) (Some rest) (Some after) Over one so_far first whole wrote step =
+      HasPassed-more judge bytes line rest after goes_on u v w h₁ h₂ passed tally found first.first finds so_far one (Over → ⊥) (behind Over rest after whole) more wrote step
+
+  -- the run stops at it
+  pub HasCome-stopped : (a r s : Option (List ℕ)) (stop : Stop F) → HasCome judge a r goes_on u v h₁ passed tally → WhereKnown r s (λ rest after. IsFirstLine rest line after)
+      → WritesBut v w h₂ (h₁ ++ text_where_kept found (line ++ 10 ∷ [])) → step_of (passed + 1) found ≡ Step.Stopped stop
+      → IfSome a (λ bytes. (text : List ℕ) × WritesBut u w h₂ text × Stops (lines judge bytes) text stop)
+  HasCome-stopped None r s stop so_far first wrote step = tt
+  HasCome-stopped (Some bytes) None s stop so_far first wrote step = absurd so_far
+  HasCome-stopped (Some bytes) (Some rest) None stop so_far first wrote step = absurd first
+  HasCome-stopped (Some bytes) (Some rest) (Some after) stop so_far first wrote step =
+      HasPassed-stopped judge bytes line rest after goes_on u v w h₁ h₂ passed tally found first.first finds so_far stop more wrote step
+
+  -- it is kept, and not all of it could be written
+  pub HasCome-failed : (a r s : Option (List ℕ)) → HasCome judge a r goes_on u v h₁ passed tally → WhereKnown r s (λ rest after. IsFirstLine rest line after)
+      → found ≡ Ok (Finding.Judged Judgment.Kept) → WritesFront v w (h₁ ++ (line ++ 10 ∷ [])) → IfSome a (λ bytes. Writes u w (StopsWithin (lines judge bytes)))
+  HasCome-failed None r s so_far first is_kept wrote = tt
+  HasCome-failed (Some bytes) None s so_far first is_kept wrote = absurd so_far
+  HasCome-failed (Some bytes) (Some rest) None so_far first is_kept wrote = absurd first
+  HasCome-failed (Some bytes) (Some rest) (Some after) so_far first is_kept wrote =
+      HasPassed-failed judge bytes line rest after goes_on u v w h₁ h₂ passed tally found first.first finds so_far is_kept wrote
+
+-- ---- what is held back at the end could not be written
+
+module _ {F : Type 0} (judge : LineJudge F) where
+  pub left_unwritten : (a u v w : Option (List ℕ)) (held : List ℕ) (progress : Progress F) → IfSome a (λ bytes. (text : List ℕ) × WritesBut u v held text × Goes judge bytes text progress)
+      → WritesFront v w held → IfSome a (λ bytes. Writes u w (StopsWithin (lines judge bytes)))
+  left_unwritten None u v w held progress goes failed = tt
+  left_unwritten (Some bytes) u v w held progress (text, holds, goes) failed = Goes-failed judge bytes progress u v w held text holds goes failed
+
+  pub left_written : (a u v w : Option (List ℕ)) (held : List ℕ) (progress : Progress F) → IfSome a (λ bytes. (text : List ℕ) × WritesBut u v held text × Goes judge bytes text progress)
+      → Appends v w held → IfSome a (λ bytes. Writes u w (λ text. Goes judge bytes text progress))
+  left_written None u v w held progress goes wrote = tt
+  left_written (Some bytes) u v w held progress (text, holds, goes) wrote = (text, WritesBut-written u v w held text holds wrote, goes)

@@ -1,0 +1,18 @@
+-- The lines so far passed, there are no more of them than bytes, and no more rows or kept rows than lines. The judge
+-- still says the same.
+use Rattle.std.proofs.Common.{◌+◌, ◌≤◌}
+use Rattle.line_filter.specs.LineItems.{SaysTheSame}
+use Rattle.line_filter.specs.LineSource.{left_of, IsOver}
+use Rattle.line_filter.specs.private.Giving.{bytes_to_come}
+use Rattle.line_filter.proofs.RunLaws.Streams.{HasCome}
+use Rattle.line_filter.proofs.stream.judge_stream.Given as goal
+
+abbrev pub invariant-loop-stop : goal.invariant-loop-stop
+invariant-loop-stop g l = (l.lines + bytes_to_come l.reader ≤ bytes_to_come l.initial.reader)
+    × (l.tally.rows ≤ l.lines) × (l.tally.kept ≤ l.lines)
+    × SaysTheSame (g.J.Judge.says l.initial.judge) (g.J.Judge.says l.judge)
+    × HasCome (g.J.Judge.says l.initial.judge) (left_of g.R.Read.remaining l.initial.reader) (left_of g.R.Read.remaining l.reader) (IsOver l.reader → ⊥)
+    (g.W.Write.contents l.initial.out) (g.W.Write.contents l.out) l.held.items l.lines l.tally
+
+abbrev pub decreases-loop-stop : goal.decreases-loop-stop
+decreases-loop-stop g l = bytes_to_come l.reader

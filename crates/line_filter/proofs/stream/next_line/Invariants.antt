@@ -1,0 +1,17 @@
+-- What is left is left, only what was open was read, and what was held back is written or held back.
+use Rattle.std.proofs.Common.{◌≡◌, ◌⊎◌}
+use Rattle.std.specs.Io.KnownBytes.{Keeps}
+use Rattle.line_filter.specs.declared.line_reader.Course.{Course}
+use Rattle.line_filter.specs.LineSource.{left_of}
+use Rattle.line_filter.specs.private.Giving.{bytes_to_come, line_to_come}
+use Rattle.line_filter.specs.private.HeldBack.{WritesBut}
+use Rattle.line_filter.proofs.stream.next_line.Given as goal
+
+abbrev pub invariant-loop-next : goal.invariant-loop-next
+invariant-loop-next g l = Keeps (left_of g.R.Read.remaining l.initial.reader) (left_of g.R.Read.remaining l.reader)
+    × (bytes_to_come l.reader ≡ bytes_to_come l.initial.reader)
+    × ((l.reader ≡ l.initial.reader) ⊎ (l.initial.reader.course ≡ Course.Open))
+    × WritesBut (g.W.Write.contents l.initial.out) (g.W.Write.contents l.out) l.held.items l.initial.held.items
+
+abbrev pub decreases-loop-next : goal.decreases-loop-next
+decreases-loop-next g l = line_to_come l.reader

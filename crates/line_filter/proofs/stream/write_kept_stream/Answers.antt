@@ -1,0 +1,10 @@
+use Rattle.line_filter.specs.LineSource.{left_of}
+use Rattle.line_filter.proofs.RunLaws.Streams.{left_unwritten}
+use Rattle.line_filter.proofs.WriteLaws.HeldBack.{OnErr-from}
+use Rattle.line_filter.proofs.stream.write_kept_stream.Goals as goal
+
+pub returns-in_err-release-clause-err : goal.returns-in_err-release-clause-err
+returns-in_err-release-clause-err g c =
+    OnErr-from c.from_residual-in_err-release.result _
+    (left_unwritten (g.J.Judge.says c.args.judge.now) (left_of g.R.Read.remaining c.args.reader.now) (g.W.Write.contents c.args.out.now) (g.W.Write.contents c.judge_stream.new.out) (g.W.Write.contents c.release.new.out)
+    c.judge_stream.new.held.items c.in_ok-progress.progress c.in_ok-progress.ensures.ok c.in_err-release.ensures.err)

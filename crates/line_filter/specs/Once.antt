@@ -1,0 +1,26 @@
+-- What can be said of an item once only.
+use Rattle.std.specs.Prelude.{◌≡◌, ℕ, List}
+use Rattle.line_filter.specs.declared.judge.Judgment.{Judgment}
+use Rattle.line_filter.specs.declared.finding.Finding.{Finding}
+use Rattle.line_filter.specs.Kept.{IsFaultless}
+use Rattle.line_filter.specs.LineItems.{LineJudge}
+
+-- the judgment, whatever a fault tells
+abbrev pub kind_of : {F : Type 0} → Judgment F → Judgment (Unit {0})
+kind_of Judgment.Kept = Judgment.Kept
+kind_of Judgment.LeftOut = Judgment.LeftOut
+kind_of (Judgment.Fault fault) = Judgment.Fault tt
+
+-- what was found, whatever a fault tells
+abbrev pub kind_found : {F : Type 0} → Finding F → Finding (Unit {0})
+kind_found Finding.TooLong = Finding.TooLong
+kind_found Finding.PassedOver = Finding.PassedOver
+kind_found (Finding.Judged judgment) = Finding.Judged (kind_of judgment)
+
+-- what is found of an item at fault
+abbrev pub IsFaulty : {F : Type 0} → Finding F → Type 0
+IsFaulty finding = ¬ (IsFaultless finding)
+
+-- of each line the judge says judgments of one kind
+abbrev pub JudgesOnce : {F : Type 0} → LineJudge F → Type 0
+JudgesOnce judge = (line : List ℕ) (j k : _) → judge line j → judge line k → kind_of j ≡ kind_of k

@@ -1,0 +1,24 @@
+-- What the fields of a reader of lines stand for. Private clauses alone cite these.
+use Rattle.std.specs.Prelude.{◌≡◌, List, ℕ, Option}
+use Rattle.std.specs.Io.KnownBytes.{IsAtEnd}
+use Rattle.line_filter.specs.declared.line_reader.LineFault.{LineFault}
+use Rattle.line_filter.specs.declared.line_reader.Course.{Course}
+use Rattle.line_filter.specs.declared.line_reader.LineReader.TheInside.{Inside}
+use Rattle.line_filter.specs.LineSource.{LineSource}
+use Rattle.line_filter.specs.private.Giving.{IsUnended, IsLongBy}
+
+-- the buffer's bytes and line, and the fields
+abbrev pub source : {R : Type 0} → Inside R → LineSource R
+source l = record {
+  reader = l.reader;
+  waiting = l.buffer.waiting;
+  line = l.buffer.line;
+  held = l.buffer.held;
+  unread = l.unread;
+  course = l.course;
+}
+
+-- At the end the reader told its end, and what waits is no over-long line; after TooLong it begins one.
+pub record IsSource {R : Type 0} (remaining : R → Option (List ℕ)) (l : Inside R) : Type 0 where
+  pub at_end : l.course ≡ Course.AtEnd → IsAtEnd (remaining l.reader) × IsUnended l.buffer.waiting
+  pub too_long : l.course ≡ Course.Failed LineFault.TooLong → IsLongBy l.buffer.waiting

@@ -1,0 +1,234 @@
+ghost use Rattle.std.specs.Prelude.{◌≡◌, ◌≢◌, ◌-◌, ◌<◌, ◌≤◌, ◌^◌, [], length, Ok, Err, None, MatchOption, MatchResult, IfOk, IfErr, IfSome, IfNone};
+ghost use Rattle.std.specs.Borrow.{sem};
+ghost use Rattle.std.specs.Io.BufRead.{Rests};
+ghost use Rattle.std.specs.Io.KnownBytes.{Keeps, IsAtEnd};
+ghost use Rattle.line_filter.specs.Failures.{FailsOnce, FailsNever};
+ghost use Rattle.line_filter.specs.Lines.{longest_line, most_held};
+ghost use Rattle.line_filter.specs.LineSource.{left_of, BeginsTooLong, GivesLine, IsOver};
+ghost use Rattle.line_filter.specs.contracts.line_reader.LineReader.{the_row};
+ghost use Rattle.line_filter.specs.private.Giving.{Gives, GivesAgain, IsUnended, bytes_to_come, line_to_come};
+
+use super::buffer::{Buffer, ONE_READ};
+use super::device::{Reads, Untold};
+use super::finding::LONGEST_LINE;
+use std::alloc::Global;
+use std::io::Read;
+use std::marker::Model;
+use thiserror::Error;
+
+/// The most bytes that are read: behind them the next read counts as failed.
+const MOST_BYTES: usize = 0x7fff_ffff_ffff_ffff;
+
+/// Why there is no next line.
+#[derive(Clone, Copy, Debug, PartialEq, Eq, Error)]
+pub enum LineFault {
+    /// The line has more than 1,048,576 bytes before its LF.
+    #[error("the line is too long")]
+    TooLong,
+    /// A read failed, or 2^63 - 1 bytes were read.
+    #[error("a read failed")]
+    Read,
+    /// Memory was refused.
+    #[error("out of memory")]
+    Memory,
+}
+
+/// How far a reader of lines has come.
+#[derive(Clone, Copy, Debug, PartialEq, Eq)]
+pub enum Course {
+    Open,
+    AtEnd,
+    Failed(LineFault),
+}
+
+/// What comes next.
+#[derive(Clone, Copy, Debug, PartialEq, Eq)]
+pub enum Next {
+    Line,
+    End,
+    Fault(LineFault),
+}
+
+/// Gives the lines of a reader one by one, each lent from the one buffer that it keeps.
+///
+/// It asks the reader for at most 65,536 bytes at a time, and only when it holds no whole line.
+#[derive(Drop)]
+pub struct LineReader<R: Read> {
+    reader: R,
+    buffer: Buffer,
+    unread: usize,
+    course: Course,
+}
+
+impl<R: Read> Model for LineReader<R> {
+    ghost use Rattle.line_filter.specs.LineSource.{LineSource};
+
+    ghost Value = { LineSource R };
+
+    ghost use Rattle.line_filter.specs.private.Sources.{source, IsSource};
+
+    ghost view = { λ l. source l };
+
+    ghost invariant = { λ l. IsSource R.remaining l };
+}
+
+impl<R: Read> LineReader<R> {
+    /// It takes no memory before the first line is asked for.
+    pub fn new(alloc: Global, reader: R) -> LineReader<R>
+        ensures reader { result.reader ≡ reader }
+        ensures waiting { result.waiting ≡ [] }
+        ensures held { result.held ≡ 0 }
+        ensures unread { result.unread ≡ 2 ^ 63 - 1 }
+        ensures course { result.course ≡ Course.Open }
+        ensures left { left_of R.remaining result ≡ R.remaining reader }
+    {
+        LineReader {
+            reader,
+            buffer: Buffer::new(alloc),
+            unread: MOST_BYTES,
+            course: Course::Open,
+        }
+    }
+
+    /// The length of the buffer, in bytes.
+    pub fn held(&self) -> usize
+        ensures length { result ≡ self.now.held }
+        ensures bounded { result ≤ most_held }
+    {
+        self.buffer.held()
+    }
+
+    /// The line that was given last, without its LF; nothing before the first one.
+    pub(crate) fn line(&self) -> &[u8]
+        ensures { result.now ≡ self.now.line }
+    {
+        self.buffer.line()
+    }
+
+    /// Gives the line that is held whole, if there is one, or tells that the line is too long.
+    fn give_held(&mut self) -> Option<Next>
+        requires { self.old.course ≡ Course.Open }
+        ensures given { MatchOption result (IsUnended self.old.waiting × (self.new ≡ self.old))
+            (λ next. Gives R.remaining self.old self.new next × (next ≢ Next.End)) }
+        ensures reader { self.new.reader ≡ self.old.reader }
+    {
+        let length = match self.buffer.find_line_feed() {
+            Some(length) => length,
+            None => {
+                if self.buffer.waiting() <= LONGEST_LINE {
+                    return None;
+                }
+                self.course = Course::Failed(LineFault::TooLong);
+                return Some(Next::Fault(LineFault::TooLong));
+            }
+        };
+        if length > LONGEST_LINE {
+            self.course = Course::Failed(LineFault::TooLong);
+            return Some(Next::Fault(LineFault::TooLong));
+        }
+        self.buffer.give_line(length);
+        Some(Next::Line)
+    }
+
+    /// Gives what waits behind the last LF, once the reader has come to its end.
+    fn give_last(&mut self) -> Next
+        requires { self.old.course ≡ Course.AtEnd }
+        ensures given { Gives R.remaining self.old self.new result }
+        ensures again { GivesAgain self.old result }
+        ensures reader { self.new.reader ≡ self.old.reader }
+    {
+        if self.buffer.waiting() == 0 {
+            return Next::End;
+        }
+        self.buffer.give_rest();
+        Next::Line
+    }
+
+    /// Gives what comes next, unless it must be read first.
+    pub(crate) fn give(&mut self) -> Option<Next>
+        ensures given { MatchOption result
+            ((self.old.course ≡ Course.Open) × IsUnended self.old.waiting × (self.new ≡ self.old))
+            (λ next. Gives R.remaining self.old self.new next) }
+        ensures again { IfSome result (GivesAgain self.old) }
+        ensures reader { self.new.reader ≡ self.old.reader }
+    {
+        match self.course {
+            Course::Open => self.give_held(),
+            Course::AtEnd => Some(self.give_last()),
+            Course::Failed(fault) => Some(Next::Fault(fault)),
+        }
+    }
+
+    /// Reads once. What was kept so far must have been written by then: nothing of it is held back.
+    pub(crate) fn read_more<S: Reads<R>>(&mut self, held_back: &[u8])
+        requires none_held_back { held_back.now ≡ [] }
+        requires open { self.old.course ≡ Course.Open }
+        requires unended { IsUnended self.old.waiting }
+        ensures left { Keeps (left_of R.remaining self.old) (left_of R.remaining self.new) }
+        ensures to_come { bytes_to_come self.new ≡ bytes_to_come self.old }
+        ensures sooner { line_to_come self.new < line_to_come self.old }
+        ensures failed { self.new.course ≡ Course.Failed LineFault.Read → self.old.unread ≢ 0
+            → FailsOnce (S.failures self.old.reader) (S.failures self.new.reader) }
+        ensures well { self.new.course ≢ Course.Failed LineFault.Read
+            → FailsNever (S.failures self.old.reader) (S.failures self.new.reader) }
+    {
+        let _ = held_back;
+        if self.unread == 0 {
+            self.course = Course::Failed(LineFault::Read);
+            return;
+        }
+        self.buffer.move_to_front();
+        match self.buffer.grow() {
+            Ok(()) => {}
+            Err(_) => {
+                self.course = Course::Failed(LineFault::Memory);
+                return;
+            }
+        }
+        match self
+            .buffer
+            .fill::<R, S>(&mut self.reader, self.unread.min(ONE_READ))
+        {
+            Ok(0) => self.course = Course::AtEnd,
+            Ok(count) => self.unread -= count,
+            Err(_) => self.course = Course::Failed(LineFault::Read),
+        }
+    }
+
+    /// Goes to the next line, if there is one.
+    fn advance(&mut self) -> Next
+        ensures given { Gives R.remaining self.old self.new result }
+        ensures again { GivesAgain self.old result }
+    {
+        loop {
+            match self.give() {
+                Some(next) => return next,
+                None => self.read_more::<Untold>(&[]),
+            }
+        }
+    }
+
+    /// The next line without its LF, or `None` where no byte is left.
+    ///
+    /// `TooLong` comes once more than 1,048,576 bytes of a line are held, whatever would follow. After a fault every
+    /// call answers the same fault, and after the end every call answers `None`.
+    pub fn next_line(&mut self) -> Result<Option<&[u8]>, LineFault>
+        ensures* left { sem 𝓛 (Rests (the_row R.row R.Read) self.entry (λ new. MatchResult result
+            (λ next. MatchOption next (IsOver new × Keeps (left_of R.remaining self.old) (left_of R.remaining new))
+            (λ line. GivesLine (left_of R.remaining self.old) (left_of R.remaining new) line.now))
+            (λ fault. (new.course ≡ Course.Failed fault)
+            × Keeps (left_of R.remaining self.old) (left_of R.remaining new)))) }
+        ensures short { IfOk result (λ next. IfSome next (λ line. length line.now ≤ longest_line)) }
+        ensures none_left { IfOk result (λ next. IfNone next (IsAtEnd (left_of R.remaining self.old))) }
+        ensures too_long { IfErr result (λ fault. fault ≡ LineFault.TooLong
+            → IfSome (left_of R.remaining self.old) BeginsTooLong) }
+        ensures over { IsOver self.old → result ≡ Ok None }
+        ensures failed { (fault : LineFault) → self.old.course ≡ Course.Failed fault → result ≡ Err fault }
+    {
+        match self.advance() {
+            Next::Line => Ok(Some(self.line())),
+            Next::End => Ok(None),
+            Next::Fault(fault) => Err(fault),
+        }
+    }
+}

@@ -1,0 +1,43 @@
+-- What can be said of a row once only.
+use Rattle.std.specs.Prelude.{◌≡◌, ℕ, List, Option, Some, None, string_bytes}
+use Rattle.line_filter.specs.declared.judge.Judgment.{Judgment}
+use Rattle.edm_entities.specs.RowFaults.{Flaw, missing, wrong_kind, null_not_allowed, out_of_range, bad_text}
+use Rattle.edm_entities.specs.declared.fault.RowFault.{RowFault}
+use Rattle.odata_filter.specs.declared.bad_row.BadRow.{BadRow}
+use Rattle.odata_filter.specs.declared.run_fault.RunFault.{RunFault}
+
+-- the bytes of a fault's path and what is wrong there; a row that is no object has no path, and neither has want of
+-- memory, which is no fault of a row
+abbrev pub flaw_told : RowFault → Option (List ℕ × Flaw)
+flaw_told RowFault.NotObject = None
+flaw_told (RowFault.Missing path) = Some (string_bytes path, missing)
+flaw_told (RowFault.WrongKind path) = Some (string_bytes path, wrong_kind)
+flaw_told (RowFault.NullNotAllowed path) = Some (string_bytes path, null_not_allowed)
+flaw_told (RowFault.OutOfRange path) = Some (string_bytes path, out_of_range)
+flaw_told (RowFault.BadText path) = Some (string_bytes path, bad_text)
+flaw_told RowFault.Memory = None
+
+-- the same judgment: of two faults of an entity, the same fault at the same path
+abbrev pub AreSameJudgment : Judgment BadRow → Judgment BadRow → Type 0
+AreSameJudgment Judgment.Kept Judgment.Kept = Unit {0}
+AreSameJudgment Judgment.LeftOut Judgment.LeftOut = Unit {0}
+AreSameJudgment (Judgment.Fault BadRow.NotJson) (Judgment.Fault BadRow.NotJson) = Unit {0}
+AreSameJudgment (Judgment.Fault (BadRow.NoEntity f)) (Judgment.Fault (BadRow.NoEntity g)) = flaw_told f ≡ flaw_told g
+AreSameJudgment (Judgment.Fault (BadRow.NoValue f)) (Judgment.Fault (BadRow.NoValue g)) = f ≡ g
+AreSameJudgment _ _ = ⊥
+
+-- a fault of a row or of its line, and of no device
+abbrev pub IsOfRow : RunFault → Type 0
+IsOfRow (RunFault.Json line) = Unit {0}
+IsOfRow (RunFault.Row line fault) = Unit {0}
+IsOfRow (RunFault.Arithmetic line fault) = Unit {0}
+IsOfRow (RunFault.LineTooLong line) = Unit {0}
+IsOfRow _ = ⊥
+
+-- the same fault, in the same line
+abbrev pub AreSameFault : RunFault → RunFault → Type 0
+AreSameFault (RunFault.Json m) (RunFault.Json n) = m ≡ n
+AreSameFault (RunFault.Row m f) (RunFault.Row n g) = (m ≡ n) × (flaw_told f ≡ flaw_told g)
+AreSameFault (RunFault.Arithmetic m f) (RunFault.Arithmetic n g) = (m ≡ n) × (f ≡ g)
+AreSameFault (RunFault.LineTooLong m) (RunFault.LineTooLong n) = m ≡ n
+AreSameFault _ _ = ⊥

@@ -1,0 +1,43 @@
+//! Laws of rows, as contracts of functions that do nothing but cite others.
+ghost use Rattle.std.specs.Prelude.{◌≡◌, ℕ, List};
+ghost use Rattle.line_filter.specs.Kept.{Filters};
+ghost use Rattle.line_filter.specs.declared.judge.Judgment.{Judgment};
+ghost use Rattle.line_filter.specs.declared.tally.Tally.{Tally};
+ghost use Rattle.odata_filter.specs.declared.bad_row.BadRow.{BadRow};
+ghost use Rattle.odata_filter.specs.declared.run_fault.RunFault.{RunFault};
+ghost use Rattle.odata_filter.specs.RowJudgment.{JudgesRow, rows_of};
+ghost use Rattle.odata_filter.specs.RowsOnce.{AreSameFault, AreSameJudgment, IsOfRow};
+ghost use Rattle.odata_filter.specs.RunStops.{StopsBy};
+
+use crate::row_judge::RowJudge;
+use edm_entities::{one_fault_is_first, one_value_fits, what_has_a_fault_fits_nothing};
+use edm_values::Moment;
+use line_filter::lines_stop_once;
+use odata_typing::Checked;
+use std::alloc::Global;
+
+/// Of a line a filter has one judgment at most. Of `Json`, `Row`, `Arithmetic` and `LineTooLong` at most one holds of
+/// rows, at one line, and none where all of them pass. One text is kept, of all rows or of those before the first at
+/// fault.
+pub fn rows_stop_once(alloc: Global, checked: &Checked<'_>, now: &Moment)
+    ensures judged { (line : List ℕ) (j k : Judgment BadRow) → JudgesRow checked.now now.now line j
+        → JudgesRow checked.now now.now line k → AreSameJudgment j k }
+    ensures stopped { (bytes text other : List ℕ) (f g : RunFault) → IsOfRow f → IsOfRow g
+        → StopsBy (rows_of checked.now now.now bytes) text f → StopsBy (rows_of checked.now now.now bytes) other g
+        → AreSameFault f g × (text ≡ other) }
+    ensures filtered { (bytes text other : List ℕ) (tally : Tally) (f : RunFault)
+        → Filters (rows_of checked.now now.now bytes) text tally → IsOfRow f
+        → StopsBy (rows_of checked.now now.now bytes) other f → ⊥ }
+    ensures kept { (bytes text other : List ℕ) (m n : Tally) → Filters (rows_of checked.now now.now bytes) text m
+        → Filters (rows_of checked.now now.now bytes) other n → text ≡ other }
+{
+    one_value_fits();
+    what_has_a_fault_fits_nothing();
+    one_fault_is_first();
+    let judge = RowJudge {
+        alloc,
+        checked,
+        moment: now,
+    };
+    lines_stop_once(&judge);
+}

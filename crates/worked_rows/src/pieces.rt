@@ -1,0 +1,95 @@
+//! Runs over rows that come in pieces: what is told, what is read, and what has been written by then.
+use crate::devices::{Counting, Cut, PIECES, Watched};
+use crate::limits::repeated;
+use crate::told::{FIRST, SCHEMA, plan_of, run_of_reader};
+use odata_filter::run;
+use std::cell::Cell;
+use std::test::Fail;
+
+const A: &str = "{\"ID\":1,\"Name\":\"a\",\"Active\":true}\n";
+
+/// The answer does not depend on how the rows come.
+#[test]
+fn answers_however_rows_come(rt: HostRuntime) {
+    for (rows, out, line, status) in [
+        (
+            "{\"ID\":1,\"Name\":\"a\",\"Active\":true}\n{\"ID\":2147483648,\"Name\":\"a\",\"Active\":true}\n{\"ID\":1,\"Name\":\"a\",\"Active\":true}\n",
+            A,
+            "row 2 OutOfRange ID\n",
+            4,
+        ),
+        (
+            "\n \r\n{\"ID\":1,\"Name\":\"b\",\"Active\":true}\n{\"ID\":1,\"Name\":\"a\",\"Active\":true}",
+            A,
+            "",
+            0,
+        ),
+        ("{}", "", "row 1 Missing Active\n", 4),
+        ("{\"ID\":1", "", "row 1 Json\n", 4),
+        ("\n\n\n", "", "", 0),
+        ("", "", "", 0),
+    ] {
+        for piece in PIECES {
+            let reader = Cut {
+                reader: rows.as_bytes(),
+                piece,
+            };
+            assert!(rt;
+                run_of_reader(rt.alloc(), reader).is(out, line, status),
+                "{piece} bytes at a time of {rows}"
+            );
+        }
+    }
+}
+
+/// A faulty line is told before anything behind it is read.
+#[test]
+fn nothing_is_read_behind_a_faulty_line(rt: HostRuntime) {
+    let mut left = b"{}\n{\"ID\":1,\"Name\":\"a\",\"Active\":true}\n\n".as_slice();
+    let reader = Cut {
+        reader: &mut left,
+        piece: 1,
+    };
+    assert!(rt; run_of_reader(rt.alloc(), reader).is("", "row 1 Missing Active\n", 4));
+    assert!(rt; left == b"{\"ID\":1,\"Name\":\"a\",\"Active\":true}\n\n".as_slice());
+}
+
+/// What is kept of the lines that came is written before the next read, in one call, and flushed once at the end.
+#[test]
+fn kept_rows_are_written_before_the_next_read(rt: HostRuntime) -> Result<(), Fail> {
+    for (piece, count) in [(1, 20), (2, 20), (7, 200), (usize::MAX, 4000)] {
+        let rows = repeated(rt.alloc(), A, count)?;
+        let written = Cell::new(0);
+        let cut = Cut {
+            reader: rows.as_bytes(),
+            piece,
+        };
+        let mut reader = Watched::new(cut, &written);
+        let mut out = Counting {
+            bytes: &written,
+            writes: 0,
+            flushes: 0,
+        };
+        let mut err = Vec::new(rt.alloc());
+        let plan = plan_of("Mini.Item", FIRST);
+        let status = run(
+            rt.alloc(),
+            &plan,
+            SCHEMA.as_bytes(),
+            Some(&mut reader),
+            &mut out,
+            &mut err,
+        );
+        assert_eq!(rt; status, 0);
+        assert!(rt;
+            !reader.is_early && reader.most_asked <= 65_536,
+            "{piece} bytes at a time"
+        );
+        assert_eq!(rt; written.get(), rows.len());
+        assert!(rt;
+            out.writes <= reader.reads && out.flushes == 1,
+            "{piece} bytes at a time"
+        );
+    }
+    Ok(())
+}
