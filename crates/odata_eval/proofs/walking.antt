@@ -1,6 +1,7 @@
--- What the walk of a checked tree answers.
-pub mod CheckedTyped
+-- What the walk of a filter's list answers.
 pub mod OperatorSteps
+pub mod Parts
 pub mod SlotValue
+pub mod Spines
 pub mod TopNode
 pub mod WalkSteps

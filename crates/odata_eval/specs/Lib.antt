@@ -8,8 +8,11 @@ pub use Rattle.edm_values.specs.Val
 pub use Rattle.odata_syntax.specs.FirstRun
 pub use Rattle.odata_syntax.specs.Tree
 pub use Rattle.odata_typing.specs.Filter
-pub use Rattle.odata_typing.specs.IsChecked
+pub use Rattle.odata_typing.specs.FlatTree
+pub use Rattle.odata_typing.specs.Levels
 pub use Rattle.odata_typing.specs.LiteralValue
+pub use Rattle.odata_typing.specs.NameKinds
+pub use Rattle.odata_typing.specs.Stands
 pub use Rattle.odata_typing.specs.Typed
 pub mod AndGives
 pub mod ComesTo

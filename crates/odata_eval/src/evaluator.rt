@@ -2,14 +2,13 @@
 ghost use Rattle.std.specs.Prelude.{◌≡◌, ◌≢◌, Some, Option, Bool, Err, IfSome};
 ghost use Rattle.odata_eval.specs.MeansOn.{MeansOn, IsTheOutcome};
 ghost use Rattle.odata_eval.specs.VerdictView.{told_outcome, verdict_val};
-ghost use Rattle.odata_eval.specs.private.DatumView.{truth_val};
+ghost use Rattle.odata_eval.specs.private.OperandView.{truth_val};
 ghost use Rattle.odata_typing.specs.Filter.{tree_of_filter};
 
 use super::fault::EvalFault;
-use super::operators::truth_of;
 use super::verdict::Verdict;
-use super::walk::walk;
-use edm_entities::{Entity, what_fits_has_its_type};
+use super::walk::truth_at;
+use edm_entities::Entity;
 use edm_values::{Moment, texts_have_one_value};
 use odata_typing::Checked;
 use std::alloc::Global;
@@ -38,12 +37,13 @@ pub fn evaluate(
         (IsTheOutcome entity.now now.now (tree_of_filter checked.now)) }
     ensures no_memory { result ≢ Err EvalFault.Memory }
 {
-    // What is known of every entity is known once its value has been asked for, and laws once they are cited.
+    // What is known of every filter and entity is known once its nodes or its value have been asked for, and laws once
+    // they are cited.
     texts_have_one_value();
-    what_fits_has_its_type();
+    let _nodes = checked.nodes();
     let _value = entity.value();
-    match walk(checked.nodes(), entity, now) {
-        Ok(datum) => Ok(verdict_of(truth_of(&datum))),
+    match truth_at(&*checked, &*entity, now, 0) {
+        Ok(truth) => Ok(verdict_of(truth)),
         Err(fault) => Err(fault),
     }
 }

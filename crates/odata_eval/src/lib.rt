@@ -4,7 +4,9 @@
 mod evaluator;
 mod fault;
 mod laws;
+mod operand;
 mod operators;
+mod part;
 mod verdict;
 mod walk;
 

@@ -1,3 +1,3 @@
--- Nodes by their number.
-pub mod PreOrders
+-- What a tree's nodes are like.
+pub mod Calls
 pub mod Sizes

@@ -2,4 +2,3 @@
 pub mod Examples
 pub mod Literals
 pub mod OneType
-pub mod Right

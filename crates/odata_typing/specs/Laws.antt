@@ -1,14 +1,21 @@
 -- What follows from the definitions of typing alone, and examples that show that they mean something.
-use Rattle.std.specs.Prelude.{◌≡◌, ℕ, List, [], ◌∷◌, false, codes}
+use Rattle.std.specs.Prelude.{◌≡◌, ℕ, pos, List, [], ◌∷◌, false, codes}
 use Rattle.edm_values.specs.declared.primitive.PrimitiveType.{PrimitiveType}
-use Rattle.odata_syntax.specs.FirstRun.{first_run_tree}
+use Rattle.edm_values.specs.declared.value.Value.{Value}
+use Rattle.odata_syntax.specs.FirstRun.{active_and_id, first_run_tree}
 use Rattle.odata_syntax.specs.Tree.{Tree, node, literal, name, binary}
 use Rattle.odata_syntax.specs.declared.node.BinaryOperator.{BinaryOperator}
 use Rattle.odata_syntax.specs.declared.node.LiteralKind.{LiteralKind}
 use Rattle.csdl_schema.specs.ExprType.{ExprType, single, primitive}
-use Rattle.csdl_schema.specs.SchemaModel.{PropertyModel, Slots, declared}
+use Rattle.csdl_schema.specs.SchemaModel.{PropertyModel, SchemaModel, Slots, declared}
+use Rattle.odata_typing.specs.declared.checked_node.CheckedNode.{CheckedNode}
+use Rattle.odata_typing.specs.declared.checked_node.NodeKind.{NodeKind}
+use Rattle.odata_typing.specs.declared.edm_type.EdmType.{EdmType}
+use Rattle.odata_typing.specs.declared.edm_type.ValueType.{ValueType}
 use Rattle.odata_typing.specs.ExprTypes.{boolean_type}
 use Rattle.odata_typing.specs.FirstUntypable.{IsUntypable}
+use Rattle.odata_typing.specs.FlatTree.{FlatTree, tree_of_nodes}
+use Rattle.odata_typing.specs.Stands.{Stands}
 use Rattle.odata_typing.specs.Typed.{Scope, Typed, IsTyped, IsUntyped}
 
 -- a tree has at most one type
@@ -52,3 +59,39 @@ ItemFilterTyped = Typed item_slots [] [] first_run_tree boolean_type
 
 abbrev pub MixedFilterUntyped : Type 0
 MixedFilterUntyped = IsUntyped item_slots [] [] mixed_filter
+
+-- a list of nodes stands for one tree at most, which is the tree of the list
+abbrev pub OneTree : Type 0
+OneTree =
+    (schema : SchemaModel) (n : ℕ) (scope : Scope) (list : FlatTree) (stop : ℕ) (tree : Tree)
+    → Stands schema n scope list 0 stop tree
+    → tree_of_nodes list ≡ tree
+
+-- a node of Edm.Boolean or another primitive type
+abbrev pub listed : NodeKind → PrimitiveType → ℕ → ℕ → ℕ → CheckedNode
+listed kind p start stop end =
+    record {
+      kind = kind;
+      span = record { start = start; stop = stop };
+      edm_type = EdmType.Single (ValueType.Prim p);
+      stop = end;
+    }
+
+-- `Active and ID eq 1` as a list
+abbrev pub item_list : FlatTree
+item_list =
+    record {
+      nodes =
+          listed (NodeKind.Binary BinaryOperator.And) PrimitiveType.Bool 0 18 5
+          ∷ listed (NodeKind.Property 0) PrimitiveType.Bool 0 6 2
+          ∷ listed (NodeKind.Binary BinaryOperator.Eq) PrimitiveType.Bool 11 18 5
+          ∷ listed (NodeKind.Property 1) PrimitiveType.Int32 11 13 4
+          ∷ listed (NodeKind.Literal LiteralKind.Int 0) PrimitiveType.Int32 17 18 5
+          ∷ [];
+      values = Value.Int (pos 1) ∷ [];
+      texts = [] ∷ codes "Active" ∷ [] ∷ codes "ID" ∷ codes "1" ∷ [];
+    }
+
+-- the list of `Active and ID eq 1` is read as its tree
+abbrev pub ItemListStands : Type 0
+ItemListStands = tree_of_nodes item_list ≡ active_and_id

@@ -18,9 +18,12 @@ pub mod Considered
 pub mod FirstUntypable
 pub mod HasTyping
 pub mod TypeView
-pub mod IsChecked
 pub mod PreOrder
+pub mod FlatTree
+pub mod Levels
+pub mod Stands
 pub mod Filter
+pub mod NameKinds
 pub mod Calls
 pub mod Laws
 pub mod private

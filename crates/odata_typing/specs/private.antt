@@ -1,4 +1,4 @@
 -- Definitions that private clauses alone cite.
 pub mod Answer
-pub mod CheckedPreOrder
 pub mod EarlierFault
+pub mod Growth

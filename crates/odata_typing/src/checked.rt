@@ -1,18 +1,21 @@
-ghost use Rattle.std.specs.Prelude.{◌≡◌, ◌<◌, ◌≤◌, ◌↔◌, [], length, slice_get, IsTrue, IsSome, IfSome, IfOk, IfErr};
+ghost use Rattle.std.specs.Prelude.{◌≡◌, ◌<◌, ◌≤◌, ◌↔◌, ℕ, length, slice_get, IsTrue, IsSome, IfSome, IfNone, IfOk, IfErr};
 ghost use Rattle.std.specs.Option.{option_map};
 ghost use Rattle.odata_text.specs.Tokens.{token_limit};
 ghost use Rattle.odata_typing.specs.Calls.{TakesMemory, UsesNow};
 ghost use Rattle.odata_typing.specs.ExprTypes.{IsBooleanOrNull};
 ghost use Rattle.odata_typing.specs.Filter.{IsFilter, IsTypeAt, tree_of_filter};
-ghost use Rattle.odata_typing.specs.IsChecked.{IsChecked, tree_of_node, type_of_node};
+ghost use Rattle.odata_typing.specs.FlatTree.{tree_of_nodes};
+ghost use Rattle.odata_typing.specs.NameKinds.{IsSlotAt, level_at};
 ghost use Rattle.odata_typing.specs.PreOrder.{pre_order, span_of_tree};
 ghost use Rattle.odata_typing.specs.TypeView.{expr_type};
+ghost use Rattle.odata_typing.specs.private.Answer.{IsWhole};
 
-use super::checked_node::CheckedNode;
+use super::checked_node::{CheckedNode, NodeKind};
 use super::edm_type::EdmType;
-use super::pre_order::{node_at, node_count};
+use super::node_list::NodeList;
 use super::refusal::{TypeFault, TypeFaultCode};
 use csdl_schema::{Schema, TypeId};
+use edm_values::Value;
 use odata_text::Span;
 use std::marker::Model;
 
@@ -21,50 +24,51 @@ use std::marker::Model;
 pub struct Checked<'s> {
     schema: &'s Schema,
     filtered_type: TypeId,
-    top_node: Box<CheckedNode>,
+    list: NodeList,
 }
 
 impl<'s> Model for Checked<'s> {
     ghost use Rattle.odata_typing.specs.Filter.{Filter};
     ghost use Rattle.odata_typing.specs.contracts.checked_node.CheckedNode as checked_node;
+    ghost use Rattle.edm_values.specs.contracts.value.Value as value;
     ghost use Rattle.std.specs.Coded.{codes};
 
     ghost Value = { Filter };
 
-    ghost coded = { Prim.hlevel (codes, checked_node.the_row.coded) };
+    ghost coded = { Prim.hlevel (codes, checked_node.the_row.coded, value.the_row.coded) };
 
     ghost use Rattle.odata_typing.specs.Filter.{IsFilter};
 
-    ghost view = { λ c. record { schema = c.schema.now; filtered = c.filtered_type; top_node = c.top_node.value } };
+    ghost view = { λ c. record { schema = c.schema.now; filtered = c.filtered_type; list = c.list } };
 
     ghost invariant = { λ c. IsFilter
-        (record { schema = c.schema.now; filtered = c.filtered_type; top_node = c.top_node.value }) };
+        (record { schema = c.schema.now; filtered = c.filtered_type; list = c.list }) };
 }
 
 impl<'s> Checked<'s> {
-    /// The filter whose top node is right, or `NotBoolean` with the whole of a text of that length.
+    /// The filter of a list whose tree has that type, or `NotBoolean` with the whole of a text of that length.
     pub(crate) fn of(
         schema: &'s Schema,
         filtered_type: TypeId,
-        top_node: Box<CheckedNode>,
+        list: NodeList,
+        edm_type: EdmType,
         len: usize,
     ) -> Result<Checked<'s>, TypeFault>
         requires held { filtered_type < length schema.now.types }
-        requires right { IsChecked schema.now filtered_type [] top_node.value }
-        requires few { length (pre_order (tree_of_node top_node.value)) ≤ token_limit }
+        requires whole { IsWhole schema.now filtered_type list edm_type }
+        requires few { length (pre_order (tree_of_nodes list)) ≤ token_limit }
         ensures parts { IfOk result (λ c. c ≡
-            record { schema = schema.entry.now; filtered = filtered_type; top_node = top_node.value }) }
-        ensures truth { IfOk result (λ c. IsBooleanOrNull (expr_type schema.entry.now (type_of_node top_node.value))) }
-        ensures other { IfErr result (λ f. ¬
-            IsBooleanOrNull (expr_type schema.entry.now (type_of_node top_node.value))) }
+            record { schema = schema.entry.now; filtered = filtered_type; list = list }) }
+        ensures truth { IfOk result (λ c. IsBooleanOrNull (expr_type schema.entry.now edm_type)) }
+        ensures other { IfErr result (λ f. ¬ IsBooleanOrNull (expr_type schema.entry.now edm_type)) }
         ensures fault { IfErr result (λ f. f ≡
             record { code = TypeFaultCode.NotBoolean; span = record { start = 0; stop = len } }) }
     {
-        if top_node.edm_type().is_truth() {
+        if edm_type.is_truth() {
             Ok(Checked {
                 schema,
                 filtered_type,
-                top_node,
+                list,
             })
         } else {
             let span = Span {
@@ -93,19 +97,34 @@ impl<'s> Checked<'s> {
         self.filtered_type
     }
 
-    /// The top node of the tree, with types, values and slots.
-    pub fn nodes(&self) -> &CheckedNode
-        ensures same { result.now ≡ self.now.top_node }
+    /// The nodes of the tree in pre-order, each with its kind, its span, its type and where it stops.
+    pub fn nodes(&self) -> &[CheckedNode]
+        ensures same { result.now ≡ self.now.list.nodes }
         ensures right { IsFilter self.now }
     {
-        &self.top_node
+        self.list.nodes()
+    }
+
+    /// The values, to which the nodes of literals have the places.
+    pub fn values(&self) -> &[Value]
+        ensures { result.now ≡ self.now.list.values }
+    {
+        self.list.values()
+    }
+
+    /// The node of a number, counted from 0. `None` past the last node.
+    fn node_at(&self, number: usize) -> Option<&CheckedNode>
+        ensures same { option_map (λ found. found.now) result ≡ slice_get self.now.list.nodes number }
+        ensures right { IsFilter self.now }
+    {
+        self.nodes().get(number)
     }
 
     /// How many nodes the tree has.
     pub fn node_count(&self) -> usize
         ensures { result ≡ length (pre_order (tree_of_filter self.now)) }
     {
-        node_count(&self.top_node)
+        self.nodes().len()
     }
 
     /// The type of a node, numbered from 0 in pre-order. `None` past the last node.
@@ -113,9 +132,9 @@ impl<'s> Checked<'s> {
         ensures inside { IsSome result ↔ (node < length (pre_order (tree_of_filter self.now))) }
         ensures typed { IfSome result (λ t. IsTypeAt self.now node (expr_type self.now.schema t)) }
     {
-        match node_at(&self.top_node, node) {
-            Ok(found) => Some(*found.edm_type()),
-            Err(_) => None,
+        match self.node_at(node) {
+            Some(found) => Some(found.edm_type),
+            None => None,
         }
     }
 
@@ -123,9 +142,40 @@ impl<'s> Checked<'s> {
     pub fn span_of(&self, node: usize) -> Option<Span>
         ensures { result ≡ option_map span_of_tree (slice_get (pre_order (tree_of_filter self.now)) node) }
     {
-        match node_at(&self.top_node, node) {
-            Ok(found) => Some(*found.span()),
-            Err(_) => None,
+        match self.node_at(node) {
+            Some(found) => Some(found.span),
+            None => None,
+        }
+    }
+
+    /// The slot of a node that names a property, numbered from 0 in pre-order. `None` for every other node and past the
+    /// last one.
+    pub fn slot_of(&self, node: usize) -> Option<usize>
+        ensures found { IfSome result (IsSlotAt self.now node) }
+        ensures none { IfNone result ((slot : ℕ) → ¬ IsSlotAt self.now node slot) }
+    {
+        match self.node_at(node) {
+            Some(found) => match found.kind {
+                NodeKind::Property { slot } => Some(slot),
+                NodeKind::Literal { .. } | NodeKind::Variable { .. } | NodeKind::Binary { .. } =>
+                    None,
+            },
+            None => None,
+        }
+    }
+
+    /// The level of a node that names a range variable: how many variables were in scope where its lambda operator
+    /// bound it. `None` for every other node and past the last one.
+    pub fn level_of(&self, node: usize) -> Option<usize>
+        ensures { result ≡ level_at self.now node }
+    {
+        match self.node_at(node) {
+            Some(found) => match found.kind {
+                NodeKind::Variable { level } => Some(level),
+                NodeKind::Literal { .. } | NodeKind::Property { .. } | NodeKind::Binary { .. } =>
+                    None,
+            },
+            None => None,
         }
     }
 

@@ -1,71 +1,35 @@
-ghost use Rattle.std.specs.Prelude.{◌≡◌, IfOk, IfErr};
-ghost use Rattle.odata_typing.specs.IsChecked.{tree_of_node, type_of_node};
-ghost use Rattle.odata_typing.specs.PreOrder.{span_of_tree};
-
 use super::edm_type::EdmType;
-use super::untyped::Untyped;
-use edm_values::Value;
 use odata_syntax::{BinaryOperator, LiteralKind};
 use odata_text::Span;
-use std::alloc::Global;
 
-/// A node of a checked filter with its type. Beside what the evaluator needs (a literal's value, a property's slot) it
-/// keeps what the text has (a literal's spelling, a property's name).
-#[derive(Debug, Drop)]
-pub enum CheckedNode {
-    Lit {
-        span: Span,
-        edm_type: EdmType,
-        kind: LiteralKind,
-        text: String,
-        value: Value,
-    },
-    Property {
-        span: Span,
-        edm_type: EdmType,
-        name: String,
-        slot: usize,
-    },
-    Binary {
-        span: Span,
-        edm_type: EdmType,
-        operator: BinaryOperator,
-        left: Box<CheckedNode>,
-        right: Box<CheckedNode>,
-    },
+/// What a node is, with what its evaluation needs beside its children.
+#[derive(Clone, Copy, Debug, PartialEq, Eq)]
+pub enum NodeKind {
+    /// A literal, by the place of its value in the list of values.
+    Literal { kind: LiteralKind, value: usize },
+    /// A property of the filtered type, by its slot.
+    Property { slot: usize },
+    /// A range variable, by the number of variables in scope where its lambda operator bound it, so the outermost is 0.
+    /// No lambda operator has a type yet, so no filter has one.
+    Variable { level: usize },
+    /// An operator. Its operands stand behind it.
+    Binary { operator: BinaryOperator },
 }
 
-impl CheckedNode {
-    /// The type of its value.
-    pub fn edm_type(&self) -> &EdmType
-        ensures { result.now ≡ type_of_node self.now }
-    {
-        match self {
-            CheckedNode::Lit { edm_type, .. } => edm_type,
-            CheckedNode::Property { edm_type, .. } => edm_type,
-            CheckedNode::Binary { edm_type, .. } => edm_type,
-        }
-    }
-
+/// A node of a checked filter. Its first child is the next node of the list, and each other child stands where the one
+/// before it stops.
+#[derive(Clone, Copy, Debug, PartialEq, Eq)]
+pub struct CheckedNode {
+    pub kind: NodeKind,
     /// Where it stands in the text.
-    pub fn span(&self) -> &Span
-        ensures { result.now ≡ span_of_tree (tree_of_node self.now) }
-    {
-        match self {
-            CheckedNode::Lit { span, .. } => span,
-            CheckedNode::Property { span, .. } => span,
-            CheckedNode::Binary { span, .. } => span,
-        }
-    }
+    pub span: Span,
+    /// The type of its value.
+    pub edm_type: EdmType,
+    /// The number of the first node behind its last descendant.
+    pub stop: usize,
 }
 
-/// The node in memory of its own.
-pub(crate) fn box_node(alloc: Global, node: CheckedNode) -> Result<Box<CheckedNode>, Untyped>
-    ensures ok { IfOk result (λ b. b.value ≡ node) }
-    ensures memory { IfErr result (λ untyped. untyped ≡ Untyped.Memory) }
-{
-    match Box::new(alloc, node) {
-        Ok(node) => Ok(node),
-        Err(_) => Err(Untyped::Memory),
-    }
-}
+/// A node takes no more bytes than this.
+const NODE_LIMIT: usize = 64;
+
+const _: () = prove!(std::mem::size_of::<CheckedNode>() <= NODE_LIMIT);

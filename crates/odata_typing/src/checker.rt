@@ -8,6 +8,7 @@ ghost use Rattle.odata_typing.specs.HasTyping.{HasTree, HasTyping, HasNoTyping, 
 
 use super::checked::Checked;
 use super::node::checked_tree;
+use super::node_list::NodeList;
 use super::refusal::Refusal;
 use super::untyped::Untyped;
 use csdl_schema::{Schema, TypeId};
@@ -39,8 +40,9 @@ pub fn check<'s>(
         Ok(expr) => expr,
         Err(refusal) => return Err(refusal),
     };
-    match checked_tree(alloc, schema, filtered_type, expr.root()) {
-        Ok(top_node) => match Checked::of(schema, filtered_type, top_node, text.len()) {
+    let mut list = NodeList::new(alloc);
+    match checked_tree(alloc, schema, filtered_type, expr.root(), &mut list) {
+        Ok(edm_type) => match Checked::of(schema, filtered_type, list, edm_type, text.len()) {
             Ok(checked) => Ok(checked),
             Err(fault) => Err(Refusal::Typing(fault)),
         },

@@ -9,17 +9,18 @@ mod edm_type;
 mod laws;
 mod literal;
 mod node;
+mod node_list;
 mod operator;
-mod pre_order;
 mod property;
 mod refusal;
 mod untyped;
 
 pub use checked::Checked;
-pub use checked_node::CheckedNode;
+pub use checked_node::{CheckedNode, NodeKind};
 pub use checker::check;
 pub use edm_type::{EdmType, ValueType};
 pub use laws::{
-    a_filter_of_items_is_boolean, a_number_is_no_text, trees_have_one_type, typed_trees_are_clear,
+    a_filter_of_items_is_boolean, a_list_is_read_as_its_tree, a_list_stands_for_one_tree,
+    a_number_is_no_text, trees_have_one_type, typed_trees_are_clear,
 };
 pub use refusal::{Refusal, TypeFault, TypeFaultCode};

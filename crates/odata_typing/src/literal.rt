@@ -1,14 +1,14 @@
-ghost use Rattle.std.specs.Prelude.{◌≡◌, ℕ, Bool, IfOk, IfErr, IfSome, IfNone};
+ghost use Rattle.std.specs.Prelude.{◌≡◌, ◌≤◌, ℕ, Bool, length, IfOk, IfErr, IfSome, IfNone};
 ghost use Rattle.edm_values.specs.StringLiteral.{OnForm};
 ghost use Rattle.csdl_schema.specs.ExprType.{ExprType, single, primitive};
 ghost use Rattle.odata_syntax.specs.Tree.{node, literal};
 ghost use Rattle.csdl_schema.specs.SchemaModel.{SchemaModel};
-ghost use Rattle.odata_typing.specs.private.Answer.{IsAnswer};
-ghost use Rattle.odata_typing.specs.IsChecked.{IsCheckedLiteral};
+ghost use Rattle.odata_typing.specs.private.Answer.{IsAnswer, IsReading};
 ghost use Rattle.odata_typing.specs.LiteralValue.{BooleanValue, LiteralTyped};
 
-use super::checked_node::{CheckedNode, box_node};
+use super::checked_node::NodeKind;
 use super::edm_type::{EdmType, ValueType};
+use super::node_list::NodeList;
 use super::refusal::{TypeFault, TypeFaultCode};
 use super::untyped::Untyped;
 use edm_values::{LitFault, Prim, Value, read_int, read_string};
@@ -16,38 +16,56 @@ use odata_syntax::LiteralKind;
 use odata_text::Span;
 use std::alloc::Global;
 
-/// The literal with its value and its type.
+/// Puts the literal's node behind the others, with its value, and answers its type.
 pub(crate) fn checked_literal(
     alloc: Global,
     span: Span,
     kind: LiteralKind,
     spelling: &str,
-) -> Result<Box<CheckedNode>, Untyped>
-    ensures { (schema : SchemaModel) (n : ℕ) →
-        IsAnswer schema n (node span.start span.stop (literal kind spelling.now)) result }
+    list: &mut NodeList,
+) -> Result<EdmType, Untyped>
+    ensures answer { (schema : SchemaModel) (n : ℕ) →
+        IsAnswer schema n list.old (node span.start span.stop (literal kind spelling.now)) list.new result }
+    ensures grown { length list.old.nodes ≤ length list.new.nodes }
 {
     match read_literal(alloc, kind, spelling) {
-        Ok(Reading { prim, value }) => match String::from_str(alloc, spelling) {
-            Ok(text) => {
-                let edm_type = EdmType::Single(ValueType::Prim(prim));
-                box_node(
-                    alloc,
-                    CheckedNode::Lit {
-                        span,
-                        edm_type,
-                        kind,
-                        text,
-                        value,
-                    },
-                )
-            }
-            Err(_) => Err(Untyped::Memory),
-        },
+        Ok(reading) => push_literal(alloc, span, kind, spelling, reading, list),
         Err(LitFault::Form) => Err(Untyped::Fault(TypeFault {
             code: TypeFaultCode::LiteralRange,
             span,
         })),
         Err(LitFault::Memory) => Err(Untyped::Memory),
+    }
+}
+
+/// The node of a literal that has been read.
+fn push_literal(
+    alloc: Global,
+    span: Span,
+    kind: LiteralKind,
+    spelling: &str,
+    reading: Reading,
+    list: &mut NodeList,
+) -> Result<EdmType, Untyped>
+    ensures answer { (schema : SchemaModel) (n : ℕ)
+        → IsReading kind spelling.now reading.value (single (primitive reading.prim))
+        → IsAnswer schema n list.old (node span.start span.stop (literal kind spelling.now)) list.new result }
+    ensures grown { length list.old.nodes ≤ length list.new.nodes }
+{
+    let text = match String::from_str(alloc, spelling) {
+        Ok(text) => text,
+        Err(_) => return Err(Untyped::Memory),
+    };
+    let place = list.values().len();
+    match list.push_value(reading.value) {
+        Ok(()) => {}
+        Err(untyped) => return Err(untyped),
+    }
+    let edm_type = EdmType::Single(ValueType::Prim(reading.prim));
+    let kind = NodeKind::Literal { kind, value: place };
+    match list.push(kind, span, &edm_type, text) {
+        Ok(()) => Ok(edm_type),
+        Err(untyped) => Err(untyped),
     }
 }
 
@@ -60,7 +78,7 @@ struct Reading {
 
 /// What a literal of this kind and spelling stands for. `Form` where it has no value.
 fn read_literal(alloc: Global, kind: LiteralKind, spelling: &str) -> Result<Reading, LitFault>
-    ensures right { IfOk result (λ r. IsCheckedLiteral kind spelling.now r.value (single (primitive r.prim))) }
+    ensures right { IfOk result (λ r. IsReading kind spelling.now r.value (single (primitive r.prim))) }
     ensures fault { IfErr result (λ f. OnForm f ((type : ExprType) → ¬ LiteralTyped kind spelling.now type)) }
 {
     match kind {

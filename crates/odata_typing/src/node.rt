@@ -1,13 +1,16 @@
-ghost use Rattle.std.specs.Prelude.{◌≡◌, ℕ};
+ghost use Rattle.std.specs.Prelude.{◌≡◌, ◌<◌, ◌≤◌, ℕ, length, IfOk, IfErr};
 ghost use Rattle.odata_syntax.specs.Tree.{Tree, node, binary};
 ghost use Rattle.odata_syntax.specs.TreeView.{tree_of};
 ghost use Rattle.csdl_schema.specs.SchemaModel.{SchemaModel};
-ghost use Rattle.odata_typing.specs.private.Answer.{IsAnswer, IsCheckedTree, HasFault};
+ghost use Rattle.odata_typing.specs.FlatTree.{FlatTree};
+ghost use Rattle.odata_typing.specs.private.Answer.{IsAnswer, IsWalked};
 ghost use Rattle.odata_typing.specs.private.EarlierFault.{IsEarlier};
+ghost use Rattle.odata_typing.specs.private.Growth.{IsOpened};
 
-use super::checked_node::{CheckedNode, box_node};
-use super::edm_type::BOOLEAN;
+use super::checked_node::NodeKind;
+use super::edm_type::{BOOLEAN, EdmType};
 use super::literal::checked_literal;
+use super::node_list::NodeList;
 use super::operator::takes;
 use super::property::checked_name;
 use super::refusal::{TypeFault, TypeFaultCode};
@@ -17,23 +20,27 @@ use odata_syntax::{BinaryOperator, Node};
 use odata_text::Span;
 use std::alloc::Global;
 
-/// The tree with its types, values and slots, or its first untypable node.
+/// Puts the nodes of the tree behind those of the list, with types, values and slots, and answers the tree's type; or
+/// its first untypable node.
 pub(crate) fn checked_tree(
     alloc: Global,
     schema: &Schema,
     filtered_type: TypeId,
     node: &Node,
-) -> Result<Box<CheckedNode>, Untyped>
-    ensures { IsAnswer schema.now filtered_type (tree_of node.now) result }
+    list: &mut NodeList,
+) -> Result<EdmType, Untyped>
+    ensures answer { IsAnswer schema.now filtered_type list.old (tree_of node.now) list.new result }
+    ensures grown { length list.old.nodes ≤ length list.new.nodes }
 {
     match node {
-        Node::Lit { span, kind, text } => checked_literal(alloc, *span, *kind, text.as_str()),
+        Node::Lit { span, kind, text } => checked_literal(alloc, *span, *kind, text.as_str(), list),
         Node::Name { span, name } => checked_name(
             alloc,
             schema,
             filtered_type,
             *span,
             name.as_str(),
+            list,
         ),
         Node::Binary {
             span,
@@ -41,27 +48,56 @@ pub(crate) fn checked_tree(
             left,
             right,
         } => {
-            let left = checked_tree(alloc, schema, filtered_type, left);
-            let right = checked_tree(alloc, schema, filtered_type, right);
-            checked_binary(alloc, *span, *operator, left, right)
+            let place = match open_binary(alloc, *span, *operator, list) {
+                Ok(place) => place,
+                Err(untyped) => return Err(untyped),
+            };
+            let left = checked_tree(alloc, schema, filtered_type, left, list);
+            let right = checked_tree(alloc, schema, filtered_type, right, list);
+            close_binary(place, *span, *operator, left, right, list)
         }
     }
 }
 
-/// What the answers of the two operands make of the operator's node.
-fn checked_binary(
+/// Puts a node behind the others, to be closed at that place once its operands stand behind it.
+fn open_binary(
     alloc: Global,
     span: Span,
     operator: BinaryOperator,
-    left: Result<Box<CheckedNode>, Untyped>,
-    right: Result<Box<CheckedNode>, Untyped>,
-) -> Result<Box<CheckedNode>, Untyped>
-    ensures { (schema : SchemaModel) (n : ℕ) (l r : Tree) → IsAnswer schema n l left → IsAnswer schema n r right
-        → IsAnswer schema n (node span.start span.stop (binary operator l r)) result }
+    list: &mut NodeList,
+) -> Result<usize, Untyped>
+    ensures opened { IfOk result (λ place. IsOpened list.old place list.new) }
+    ensures grown { length list.old.nodes ≤ length list.new.nodes }
+    ensures memory { IfErr result (λ untyped. untyped ≡ Untyped.Memory) }
+{
+    let place = list.nodes().len();
+    let kind = NodeKind::Binary { operator };
+    match list.push(kind, span, &BOOLEAN, String::new(alloc)) {
+        Ok(()) => Ok(place),
+        Err(untyped) => Err(untyped),
+    }
+}
+
+/// The operator's node, from what was answered of its two operands.
+fn close_binary(
+    place: usize,
+    span: Span,
+    operator: BinaryOperator,
+    left: Result<EdmType, Untyped>,
+    right: Result<EdmType, Untyped>,
+    list: &mut NodeList,
+) -> Result<EdmType, Untyped>
+    requires { place < length list.old.nodes }
+    ensures answer { (schema : SchemaModel) (n : ℕ) (l r : Tree) (start opened between : FlatTree)
+        → IsOpened start place opened
+        → IsAnswer schema n opened l between left
+        → IsAnswer schema n between r list.old right
+        → IsAnswer schema n start (node span.start span.stop (binary operator l r)) list.new result }
+    ensures grown { length list.old.nodes ≤ length list.new.nodes }
 {
     match left {
         Ok(left) => match right {
-            Ok(right) => operator_node(alloc, span, operator, left, right),
+            Ok(right) => close_operator(place, span, operator, left, right, list),
             Err(behind) => Err(behind),
         },
         Err(before) => match right {
@@ -71,29 +107,26 @@ fn checked_binary(
     }
 }
 
-/// The operator between two operands that have types.
-fn operator_node(
-    alloc: Global,
+/// The operator between operands of these types.
+fn close_operator(
+    place: usize,
     span: Span,
     operator: BinaryOperator,
-    left: Box<CheckedNode>,
-    right: Box<CheckedNode>,
-) -> Result<Box<CheckedNode>, Untyped>
-    ensures { (schema : SchemaModel) (n : ℕ) (l r : Tree)
-        → IsCheckedTree schema n l left.value → IsCheckedTree schema n r right.value
-        → IsAnswer schema n (node span.start span.stop (binary operator l r)) result }
+    left: EdmType,
+    right: EdmType,
+    list: &mut NodeList,
+) -> Result<EdmType, Untyped>
+    requires { place < length list.old.nodes }
+    ensures answer { (schema : SchemaModel) (n : ℕ) (l r : Tree) (start opened between : FlatTree)
+        → IsOpened start place opened
+        → IsWalked schema n opened l between left
+        → IsWalked schema n between r list.old right
+        → IsAnswer schema n start (node span.start span.stop (binary operator l r)) list.new result }
+    ensures grown { length list.old.nodes ≤ length list.new.nodes }
 {
-    if takes(operator, left.edm_type(), right.edm_type()) {
-        box_node(
-            alloc,
-            CheckedNode::Binary {
-                span,
-                edm_type: BOOLEAN,
-                operator,
-                left,
-                right,
-            },
-        )
+    if takes(operator, &left, &right) {
+        list.close(place, NodeKind::Binary { operator }, span, BOOLEAN);
+        Ok(BOOLEAN)
     } else {
         Err(Untyped::Fault(TypeFault {
             code: TypeFaultCode::OperandTypes,

@@ -1,28 +1,33 @@
-ghost use Rattle.std.specs.Prelude.{◌≡◌, IfOk, IfErr};
+ghost use Rattle.std.specs.Prelude.{◌≡◌, ◌≤◌, ℕ, Some, length, IfOk, IfErr};
 ghost use Rattle.odata_syntax.specs.Tree.{node, name};
 ghost use Rattle.csdl_schema.specs.PropertyView.{property_type};
-ghost use Rattle.csdl_schema.specs.SchemaModel.{SchemaModel, declared};
+ghost use Rattle.csdl_schema.specs.SchemaModel.{SchemaModel, declared, properties_at, slot_named};
 ghost use Rattle.odata_typing.specs.private.Answer.{IsAnswer};
 ghost use Rattle.odata_typing.specs.FirstUntypable.{PropertyReason};
 ghost use Rattle.odata_typing.specs.TypeView.{expr_type};
+ghost use Rattle.odata_typing.specs.Typed.{PropertyTyped};
 
-use super::checked_node::{CheckedNode, box_node};
+use super::checked_node::NodeKind;
 use super::edm_type::{EdmType, ValueType};
+use super::node_list::NodeList;
 use super::refusal::{TypeFault, TypeFaultCode};
 use super::untyped::Untyped;
 use csdl_schema::{Property, PropertyKind, Schema, TypeId};
 use odata_text::Span;
 use std::alloc::Global;
 
-/// The property of that name of the filtered type.
+/// Puts the node of the property of that name of the filtered type behind the others, and answers its type.
 pub(crate) fn checked_name(
     alloc: Global,
     schema: &Schema,
     filtered_type: TypeId,
     span: Span,
     asked: &str,
-) -> Result<Box<CheckedNode>, Untyped>
-    ensures { IsAnswer schema.now filtered_type (node span.start span.stop (name asked.now)) result }
+    list: &mut NodeList,
+) -> Result<EdmType, Untyped>
+    ensures answer { IsAnswer schema.now filtered_type list.old
+        (node span.start span.stop (name asked.now)) list.new result }
+    ensures grown { length list.old.nodes ≤ length list.new.nodes }
 {
     let slot = match schema.slot(filtered_type, asked) {
         Some(slot) => slot,
@@ -34,19 +39,33 @@ pub(crate) fn checked_name(
         }
     };
     match property_edm_type(schema.property(filtered_type, slot)) {
-        Ok(edm_type) => match String::from_str(alloc, asked) {
-            Ok(name) => box_node(
-                alloc,
-                CheckedNode::Property {
-                    span,
-                    edm_type,
-                    name,
-                    slot,
-                },
-            ),
-            Err(_) => Err(Untyped::Memory),
-        },
+        Ok(edm_type) => push_property(alloc, span, asked, slot, edm_type, list),
         Err(code) => Err(Untyped::Fault(TypeFault { code, span })),
+    }
+}
+
+/// The node of a property that a filter may name.
+fn push_property(
+    alloc: Global,
+    span: Span,
+    asked: &str,
+    slot: usize,
+    edm_type: EdmType,
+    list: &mut NodeList,
+) -> Result<EdmType, Untyped>
+    ensures answer { (schema : SchemaModel) (n : ℕ)
+        → slot_named (properties_at schema n) asked.now ≡ Some slot
+        → PropertyTyped (properties_at schema n) asked.now (expr_type schema edm_type)
+        → IsAnswer schema n list.old (node span.start span.stop (name asked.now)) list.new result }
+    ensures grown { length list.old.nodes ≤ length list.new.nodes }
+{
+    let text = match String::from_str(alloc, asked) {
+        Ok(text) => text,
+        Err(_) => return Err(Untyped::Memory),
+    };
+    match list.push(NodeKind::Property { slot }, span, &edm_type, text) {
+        Ok(()) => Ok(edm_type),
+        Err(untyped) => Err(untyped),
     }
 }
 

@@ -81,13 +81,8 @@ fn filter_and_row(rt: HostRuntime) -> Result<(), Fail> {
     assert!(rt; checked.span_of(1) == Some(Span { start: 0, stop: 18 }));
     assert!(rt; !checked.takes_memory() && !checked.uses_now());
     assert!(rt; checked.filtered_type() == id && checked.schema().slots(id) == 3);
-    assert!(rt;
-        *checked.nodes().span()
-            == Span {
-                start: 0,
-                stop: FIRST.len()
-            }
-    );
+    assert!(rt; checked.nodes().len() == 9 && checked.values().len() == 2);
+    assert!(rt; checked.slot_of(2) == Some(0) && checked.level_of(2).is_none());
     let moment = Moment::new(civil::date(1, 1, 1).at(0, 0, 0, 0), 0).ok_or("a moment")?;
     let row = Value::from_str(rt.alloc(), A)?;
     let entity = Entity::from_json(rt.alloc(), &schema, id, &row)?;

@@ -8,6 +8,8 @@ mod happy_paths;
 #[cfg(test)]
 mod mini;
 #[cfg(test)]
+mod node_list;
+#[cfg(test)]
 mod outcomes;
 #[cfg(test)]
 mod typings;

@@ -1,21 +1,13 @@
 -- What the walk answers of a name.
-use Rattle.std.proofs.Common.{◌≡◌, refl, sym, ap, subst, ◌∙◌, inl, inr, ℕ, ◌<◌, ◌≤◌, List, [], length, Option, Some, None, Result, Ok, Err, IfSome, IfOk, IfErr, IsSomeAnd, MatchOption, slice_get, arith}
-use Rattle.std.specs.Global.{Box}
-use Rattle.std.specs.Prelude.{string_bytes}
+use Rattle.std.proofs.Common.{◌≡◌, refl, sym, ap, subst, ◌∙◌, inl, inr, ℕ, ◌<◌, ◌≤◌, List, [], length, Option, Some, None, IfSome, IsSomeAnd, MatchOption, slice_get, arith}
 use Rattle.std.proofs.lemmas.Option.{slice_get_cases}
 use Rattle.odata_syntax.specs.Tree.{Tree, node, name, start_of}
 use Rattle.odata_text.specs.declared.span.Span.{Span}
 use Rattle.csdl_schema.specs.ExprType.{ExprType}
-use Rattle.csdl_schema.specs.SchemaModel.{PropertyModel, PropertyType, SchemaModel, Slots, declared, slot_named, slots_of, type_name_at}
-use Rattle.odata_typing.specs.declared.checked_node.CheckedNode.{CheckedNode, Property}
-use Rattle.odata_typing.specs.declared.edm_type.EdmType.{EdmType}
+use Rattle.csdl_schema.specs.SchemaModel.{PropertyModel, PropertyType, Slots, declared, slot_named}
 use Rattle.odata_typing.specs.declared.refusal.TypeFaultCode.{TypeFaultCode}
-use Rattle.odata_typing.specs.declared.untyped.Untyped.{Untyped}
-use Rattle.odata_typing.specs.private.Answer.{IsAnswer, IsCheckedTree}
 use Rattle.odata_typing.specs.Considered.{IsItself}
 use Rattle.odata_typing.specs.FirstUntypable.{IsFirstUntypable, NameReason, PropertyReason}
-use Rattle.odata_typing.specs.IsChecked.{IsCheckedProperty}
-use Rattle.odata_typing.specs.TypeView.{expr_type}
 use Rattle.odata_typing.specs.Typed.{PropertyTyped, Scope}
 use Rattle.odata_typing.proofs.untypable.PropertySlots.{slot_below, property_at, property_none}
 
@@ -93,26 +85,3 @@ property_typed properties asked k type kind Other found property is_declared =
     let of_kind : (kind ≡ p.0.type_of) × Other p.0 = subst F p.1 property in
     let P : Option PropertyModel → Type 0 = λ (o : Option PropertyModel). IsSomeAnd o (λ p. p.type_of ≡ declared type) in
     subst P (sym same) (sym of_kind.0 ∙ is_declared)
-
--- a right node in memory of its own, or want of memory
-pub boxed_answer :
-    (schema : SchemaModel) (n : ℕ) (tree : Tree) (checked_node : CheckedNode) (r : Result (Box CheckedNode) Untyped)
-    → IfOk r (λ b. b.value ≡ checked_node)
-    → IfErr r (λ u. u ≡ Untyped.Memory)
-    → IsCheckedTree schema n tree checked_node
-    → IsAnswer schema n tree r
-boxed_answer schema n tree checked_node (Ok b) ok err checked = let P : CheckedNode → Type 0 = λ (c : CheckedNode). IsCheckedTree schema n tree c in subst P (sym ok) checked
-boxed_answer schema n tree checked_node (Err u) ok err checked = rw err tt
-
-pub property_right :
-    (schema : SchemaModel) (n : ℕ) (span : Span) (edm_type : EdmType) (asked : List ℕ) (slot : ℕ) (written : _)
-    → string_bytes written ≡ asked
-    → slot_named (slots_of schema (type_name_at schema n)) asked ≡ Some slot
-    → PropertyTyped (slots_of schema (type_name_at schema n)) asked (expr_type schema edm_type)
-    → IsCheckedTree schema n (node span.start span.stop (name asked)) (Property span edm_type written slot)
-property_right schema n span edm_type asked slot written same found typed =
-    let P : List ℕ → Type 0 = λ (b : List ℕ). IsCheckedProperty (slots_of schema (type_name_at schema n)) [] b slot (expr_type schema edm_type) in
-    record {
-      right = subst P (sym same) (record { free = refl; slot_of = found; typed = typed });
-      stands_for = ap (λ (b : List ℕ). node span.start span.stop (name b)) same;
-    }

@@ -1,53 +1,45 @@
 -- What the walk answers of an operator, from its answers of the operands.
-use Rattle.std.proofs.Common.{◌≡◌, refl, ℕ, [], subst}
+use Rattle.std.proofs.Common.{refl, ℕ, []}
 use Rattle.odata_syntax.specs.Tree.{Tree, node, binary}
 use Rattle.odata_syntax.specs.declared.node.BinaryOperator.{BinaryOperator}
 use Rattle.odata_text.specs.declared.span.Span.{Span}
 use Rattle.csdl_schema.specs.SchemaModel.{SchemaModel, slots_of, type_name_at}
-use Rattle.odata_typing.specs.declared.checked_node.CheckedNode.{CheckedNode}
 use Rattle.odata_typing.specs.declared.edm_type.EdmType.{EdmType}
 use Rattle.odata_typing.specs.declared.refusal.TypeFaultCode.{TypeFaultCode}
 use Rattle.odata_typing.specs.declared.untyped.Untyped.{Untyped}
-use Rattle.odata_typing.specs.private.Answer.{IsCheckedTree, HasFault}
+use Rattle.odata_typing.specs.private.Answer.{HasFault, IsWalked}
 use Rattle.odata_typing.specs.private.EarlierFault.{IsEarlier}
 use Rattle.odata_typing.specs.ExprTypes.{boolean_type}
 use Rattle.odata_typing.specs.FirstUntypable.{IsFirstUntypable}
-use Rattle.odata_typing.specs.IsChecked.{type_of_node}
-use Rattle.odata_typing.specs.Typed.{Typed, IsTyped, OperatorTyped}
+use Rattle.odata_typing.specs.FlatTree.{FlatTree}
+use Rattle.odata_typing.specs.Typed.{IsTyped, OperatorTyped}
 use Rattle.odata_typing.specs.TypeView.{expr_type}
-use Rattle.odata_typing.proofs.types.Right.{IsChecked-typed}
 use Rattle.odata_typing.proofs.untypable.Untypable.{first_of_left, first_of_right, first_of_both, first_itself}
 
--- the tree of a right node has the node's type
-pub checked_typed :
-    (schema : SchemaModel) (n : ℕ) (tree : Tree) (c : CheckedNode)
-    → IsCheckedTree schema n tree c
-    → Typed (slots_of schema) (type_name_at schema n) [] tree (expr_type schema (type_of_node c))
-checked_typed schema n tree c checked =
-    let P : Tree → Type 0 = λ (t : Tree). Typed (slots_of schema) (type_name_at schema n) [] t (expr_type schema (type_of_node c)) in
-    subst P checked.stands_for (IsChecked-typed schema n [] c checked.right)
-
-pub checked_is_typed :
-    (schema : SchemaModel) (n : ℕ) (tree : Tree) (c : CheckedNode) → IsCheckedTree schema n tree c → IsTyped (slots_of schema) (type_name_at schema n) [] tree
-checked_is_typed schema n tree c checked = (expr_type schema (type_of_node c), checked_typed schema n tree c checked)
+-- a tree whose nodes stand in the list has a type
+walked_typed :
+    (schema : SchemaModel) (n : ℕ) (old : FlatTree) (tree : Tree) (new : FlatTree) (type : EdmType)
+    → IsWalked schema n old tree new type
+    → IsTyped (slots_of schema) (type_name_at schema n) [] tree
+walked_typed schema n old tree new type walked = (expr_type schema type, walked.typed)
 
 pub HasFault-left :
-    (schema : SchemaModel) (n start stop : ℕ) (operator : BinaryOperator) (l r : Tree) (c : CheckedNode) (told : Untyped)
+    (schema : SchemaModel) (n start stop : ℕ) (operator : BinaryOperator) (l r : Tree) (old new : FlatTree) (type : EdmType) (told : Untyped)
     → HasFault schema n l told
-    → IsCheckedTree schema n r c
+    → IsWalked schema n old r new type
     → HasFault schema n (node start stop (binary operator l r)) told
-HasFault-left schema n start stop operator l r c (Untyped.Fault fault) found checked =
-    first_of_left (slots_of schema) (type_name_at schema n) [] start stop operator l r fault found (checked_is_typed schema n r c checked)
-HasFault-left schema n start stop operator l r c Untyped.Memory found checked = tt
+HasFault-left schema n start stop operator l r old new type (Untyped.Fault fault) found walked =
+    first_of_left (slots_of schema) (type_name_at schema n) [] start stop operator l r fault found (walked_typed schema n old r new type walked)
+HasFault-left schema n start stop operator l r old new type Untyped.Memory found walked = tt
 
 pub HasFault-right :
-    (schema : SchemaModel) (n start stop : ℕ) (operator : BinaryOperator) (l r : Tree) (c : CheckedNode) (told : Untyped)
-    → IsCheckedTree schema n l c
+    (schema : SchemaModel) (n start stop : ℕ) (operator : BinaryOperator) (l r : Tree) (old new : FlatTree) (type : EdmType) (told : Untyped)
+    → IsWalked schema n old l new type
     → HasFault schema n r told
     → HasFault schema n (node start stop (binary operator l r)) told
-HasFault-right schema n start stop operator l r c (Untyped.Fault fault) checked found =
-    first_of_right (slots_of schema) (type_name_at schema n) [] start stop operator l r fault (checked_is_typed schema n l c checked) found
-HasFault-right schema n start stop operator l r c Untyped.Memory checked found = tt
+HasFault-right schema n start stop operator l r old new type (Untyped.Fault fault) walked found =
+    first_of_right (slots_of schema) (type_name_at schema n) [] start stop operator l r fault (walked_typed schema n old l new type walked) found
+HasFault-right schema n start stop operator l r old new type Untyped.Memory walked found = tt
 
 pub HasFault-both :
     (schema : SchemaModel) (n start stop : ℕ) (operator : BinaryOperator) (l r : Tree) (first second told : Untyped)
@@ -63,14 +55,10 @@ HasFault-both schema n start stop operator l r Untyped.Memory second told x y ea
 
 -- the operator does not take its operands
 pub refused_itself :
-    (schema : SchemaModel) (n : ℕ) (span : Span) (operator : BinaryOperator) (l r : Tree) (a b : CheckedNode) (x y : EdmType)
-    → IsCheckedTree schema n l a
-    → IsCheckedTree schema n r b
-    → x ≡ type_of_node a
-    → y ≡ type_of_node b
-    → ¬ OperatorTyped operator (expr_type schema x) (expr_type schema y) boolean_type
+    (schema : SchemaModel) (n : ℕ) (span : Span) (operator : BinaryOperator) (l r : Tree) (opened between last : FlatTree) (left right : EdmType)
+    → IsWalked schema n opened l between left
+    → IsWalked schema n between r last right
+    → ¬ OperatorTyped operator (expr_type schema left) (expr_type schema right) boolean_type
     → IsFirstUntypable (slots_of schema) (type_name_at schema n) [] (node span.start span.stop (binary operator l r)) (record { code = TypeFaultCode.OperandTypes; span = span })
-refused_itself schema n span operator l r a b x y left right of_left of_right refused =
-    let left_typed : Typed (slots_of schema) (type_name_at schema n) [] l (expr_type schema x) = rw of_left (checked_typed schema n l a left) in
-    let right_typed : Typed (slots_of schema) (type_name_at schema n) [] r (expr_type schema y) = rw of_right (checked_typed schema n r b right) in
-    first_itself (slots_of schema) (type_name_at schema n) [] span.start span.stop operator l r (expr_type schema x) (expr_type schema y) (record { code = TypeFaultCode.OperandTypes; span = span }) left_typed right_typed refused refl refl refl
+refused_itself schema n span operator l r opened between last left right a b refused =
+    first_itself (slots_of schema) (type_name_at schema n) [] span.start span.stop operator l r (expr_type schema left) (expr_type schema right) (record { code = TypeFaultCode.OperandTypes; span = span }) a.typed b.typed refused refl refl refl

@@ -1,29 +1,56 @@
 -- For private clauses: what the walk over a tree answers.
-use Rattle.std.specs.Prelude.{◌≡◌, ◌≢◌, ◌⊎◌, ℕ, List, [], Result, MatchResult}
-use Rattle.std.specs.Global.{Box}
+use Rattle.std.specs.Prelude.{◌≡◌, ◌≢◌, ◌⊎◌, ℕ, List, [], Some, Result, MatchResult, length, slice_get}
+use Rattle.edm_values.specs.declared.value.Value.{Value}
 use Rattle.odata_syntax.specs.Tree.{Tree}
+use Rattle.odata_syntax.specs.declared.node.LiteralKind.{LiteralKind}
 use Rattle.odata_text.specs.declared.fault.TextFault.{TextFault}
 use Rattle.odata_syntax.specs.declared.syntax_fault.SyntaxFault.{SyntaxFault}
+use Rattle.csdl_schema.specs.ExprType.{ExprType}
 use Rattle.csdl_schema.specs.SchemaModel.{SchemaModel, slots_of, type_name_at}
 use Rattle.odata_typing.specs.declared.checked_node.CheckedNode.{CheckedNode}
+use Rattle.odata_typing.specs.declared.edm_type.EdmType.{EdmType}
 use Rattle.odata_typing.specs.declared.refusal.Refusal.{Refusal}
 use Rattle.odata_typing.specs.declared.untyped.Untyped.{Untyped}
 use Rattle.odata_typing.specs.FirstUntypable.{IsFirstUntypable}
+use Rattle.odata_typing.specs.FlatTree.{FlatTree, tree_of_nodes}
 use Rattle.odata_typing.specs.HasTyping.{HasTree}
-use Rattle.odata_typing.specs.IsChecked.{IsChecked, tree_of_node}
+use Rattle.odata_typing.specs.LiteralValue.{LiteralTyped}
+use Rattle.odata_typing.specs.Stands.{IsValueOf, Stands}
+use Rattle.odata_typing.specs.Typed.{Typed}
+use Rattle.odata_typing.specs.TypeView.{expr_type}
 
--- a right node that stands for the tree
-pub record IsCheckedTree (schema : SchemaModel) (n : ℕ) (tree : Tree) (checked_node : CheckedNode) : Type 0 where
-  pub right : IsChecked schema n [] checked_node
-  pub stands_for : tree_of_node checked_node ≡ tree
+-- a literal with its value and its type
+pub record IsReading (kind : LiteralKind) (spelling : List ℕ) (value : Value) (type : ExprType) : Type 0 where
+  pub value_of : IsValueOf kind spelling value
+  pub typed : LiteralTyped kind spelling type
+
+-- all that stood in the list stands there still
+pub record IsKept (old new : FlatTree) : Type 0 where
+  pub nodes : (k : ℕ) (found : CheckedNode) → slice_get old.nodes k ≡ Some found → slice_get new.nodes k ≡ Some found
+  pub values : (k : ℕ) (value : Value) → slice_get old.values k ≡ Some value → slice_get new.values k ≡ Some value
+  pub texts : (k : ℕ) (text : List ℕ) → slice_get old.texts k ≡ Some text → slice_get new.texts k ≡ Some text
+
+-- behind what stood in the list stand nodes for the tree, which has the type
+pub record IsWalked
+    (schema : SchemaModel) (n : ℕ) (old : FlatTree) (tree : Tree) (new : FlatTree) (type : EdmType) : Type 0 where
+  pub kept : IsKept old new
+  pub stands : Stands schema n [] new (length old.nodes) (length new.nodes) tree
+  pub typed : Typed (slots_of schema) (type_name_at schema n) [] tree (expr_type schema type)
+
+-- the whole list stands for its tree, which has the type
+pub record IsWhole (schema : SchemaModel) (n : ℕ) (list : FlatTree) (type : EdmType) : Type 0 where
+  pub stands : Stands schema n [] list 0 (length list.nodes) (tree_of_nodes list)
+  pub typed : Typed (slots_of schema) (type_name_at schema n) [] (tree_of_nodes list) (expr_type schema type)
 
 -- the tree's first untypable node; want of memory says nothing
 abbrev pub HasFault : SchemaModel → ℕ → Tree → Untyped → Type 0
 HasFault schema n tree (Untyped.Fault fault) = IsFirstUntypable (slots_of schema) (type_name_at schema n) [] tree fault
 HasFault schema n tree Untyped.Memory = Unit {0}
 
-abbrev pub IsAnswer : SchemaModel → ℕ → Tree → Result (Box CheckedNode) Untyped → Type 0
-IsAnswer schema n tree answer = MatchResult answer (λ b. IsCheckedTree schema n tree b.value) (HasFault schema n tree)
+-- what the walk over a tree makes of the old list
+abbrev pub IsAnswer : SchemaModel → ℕ → FlatTree → Tree → FlatTree → Result EdmType Untyped → Type 0
+IsAnswer schema n old tree new answer =
+    MatchResult answer (IsWalked schema n old tree new) (HasFault schema n tree)
 
 -- no tokens of the text are a tree
 abbrev pub HasNoTree : List ℕ → Type 0

@@ -1,19 +1,13 @@
-use Rattle.std.proofs.Common.{sym, ap, ◌∙◌, Some, slice_get}
+use Rattle.std.proofs.Common.{sym, ap}
 use Rattle.std.specs.Option.{option_map}
-use Rattle.odata_typing.specs.Filter.{Filter, tree_of_filter}
-use Rattle.odata_typing.specs.PreOrder.{pre_order, span_of_tree}
-use Rattle.odata_typing.proofs.pre_orders.PreOrders.{span_at, past_end}
+use Rattle.odata_typing.specs.PreOrder.{span_of_tree}
+use Rattle.odata_typing.proofs.flat.Numbered.{numbered, past_end, past_ordered, span_at}
 use Rattle.odata_typing.proofs.checked.Checked.span_of.Goals as goal
 
-pub returns-in-Ok : goal.returns-in-Ok
-returns-in-Ok c =
-    let at = rw c.deref.ensures at c.in-Ok.ensures.found in
-    ap Some c.span.ensures
-    ∙ sym (span_at c.self.inside.top_node.value c.in-Ok.found.now c.args.node at)
-    ∙ ap (λ (f : Filter). option_map span_of_tree (slice_get (pre_order (tree_of_filter f)) c.args.node)) c.self.view_is
+pub returns-in-Some : goal.returns-in-Some
+returns-in-Some c =
+    span_at c.args.self.now c.args.node c.in-Some.found.now (numbered c.args.self.now c.args.node c.in-Some.found.now c.node_at.ensures.right (sym c.in-Some.ensures.same))
 
-pub returns-in-Err : goal.returns-in-Err
-returns-in-Err c =
-    let past = rw c.deref.ensures at c.in-Err.ensures.past in
-    sym (ap (option_map span_of_tree) (past_end c.self.inside.top_node.value c.args.node c.in-Err.field-0 past))
-    ∙ ap (λ (f : Filter). option_map span_of_tree (slice_get (pre_order (tree_of_filter f)) c.args.node)) c.self.view_is
+pub returns-in-None : goal.returns-in-None
+returns-in-None c =
+    sym (ap (option_map span_of_tree) (past_ordered c.args.self.now c.args.node c.node_at.ensures.right (past_end c.args.self.now.list.nodes c.args.node c.in-None.ensures.same)))

@@ -1,6 +1,6 @@
 use Rattle.std.proofs.Common.{IsTrue, false}
 use Rattle.odata_typing.specs.Filter.{tree_of_filter}
-use Rattle.odata_typing.proofs.pre_orders.PreOrders.{no_memory}
+use Rattle.odata_typing.proofs.pre_orders.Calls.{no_memory}
 use Rattle.odata_typing.proofs.checked.Checked.takes_memory.Goals as goal
 
 untrue : IsTrue false → ⊥

@@ -1,6 +1,6 @@
 use Rattle.std.proofs.Common.{IsTrue, false}
 use Rattle.odata_typing.specs.Filter.{tree_of_filter}
-use Rattle.odata_typing.proofs.pre_orders.PreOrders.{no_now}
+use Rattle.odata_typing.proofs.pre_orders.Calls.{no_now}
 use Rattle.odata_typing.proofs.checked.Checked.uses_now.Goals as goal
 
 untrue : IsTrue false → ⊥

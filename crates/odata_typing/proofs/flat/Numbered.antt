@@ -1,0 +1,180 @@
+-- The node of a number, in the list and in the tree.
+use Rattle.std.proofs.Common.{◌≡◌, refl, sym, ap, ◌∙◌, subst, inl, inr, ℕ, ◌<◌, ◌≤◌, ◌+◌, List, [], Some, None, Option, IsSomeAnd, slice_get, length, arith}
+use Rattle.std.specs.Option.{option_map}
+use Rattle.std.proofs.lemmas.Option.{none-some, slice_get-map, slice_get_cases, slice_get_past, slice_get_within}
+use Rattle.odata_syntax.specs.Tree.{Tree, node, literal, name, binary}
+use Rattle.odata_text.specs.declared.span.Span.{Span}
+use Rattle.csdl_schema.specs.SchemaModel.{Slots, slots_of, type_name_at, slot_named}
+use Rattle.odata_typing.specs.declared.checked_node.CheckedNode.{CheckedNode}
+use Rattle.odata_typing.specs.declared.checked_node.NodeKind.{NodeKind}
+use Rattle.odata_typing.specs.Filter.{Filter, IsFilter, IsTypeAt, tree_of_filter}
+use Rattle.odata_typing.specs.FlatTree.{FlatTree}
+use Rattle.odata_typing.specs.Levels.{level_named}
+use Rattle.odata_typing.specs.NameKinds.{ScopedNode, scoped_nodes, NamesSlot, IsSlotAt, level_of_node, level_at}
+use Rattle.odata_typing.specs.PreOrder.{pre_order, span_of_tree}
+use Rattle.odata_typing.specs.Stands.{Stands, IsKindOf}
+use Rattle.odata_typing.specs.Typed.{Typed}
+use Rattle.odata_typing.specs.TypeView.{expr_type}
+use Rattle.odata_typing.proofs.flat.Places.{found_within, same_found}
+use Rattle.odata_typing.proofs.flat.Parts.{IsPart, part_stands, parts_count, parts_of}
+use Rattle.odata_typing.proofs.flat.Standing.{stands_size}
+
+-- the level that a kind has
+abbrev pub level_of_kind : NodeKind → Option ℕ
+level_of_kind (NodeKind.Variable level) = Some level
+level_of_kind _ = None
+
+names_slot :
+    (list : FlatTree) (slots : Slots) (root : List ℕ) (variables : List (List ℕ)) (start stop : ℕ) (shape : _) (slot : ℕ)
+    → IsKindOf list.values (slots root) variables shape (NodeKind.Property slot)
+    → NamesSlot slots root variables (node start stop shape) slot
+names_slot list slots root variables start stop (literal kind spelling) slot is = absurd is
+names_slot list slots root variables start stop (name asked) slot is = is
+names_slot list slots root variables start stop (binary operator left right) slot is = cc
+
+same_slot : (o : Option ℕ) (a b : ℕ) → o ≡ Some a → o ≡ Some b → NodeKind.Property a ≡ NodeKind.Property b
+same_slot o a b x y = cc
+
+none_some : (o : Option ℕ) (a : ℕ) → o ≡ Some a → o ≡ None → ⊥
+none_some o a x y = cc
+
+only_slot :
+    (list : FlatTree) (slots : Slots) (root : List ℕ) (variables : List (List ℕ)) (start stop : ℕ) (shape : _) (kind : NodeKind) (slot : ℕ)
+    → IsKindOf list.values (slots root) variables shape kind
+    → NamesSlot slots root variables (node start stop shape) slot
+    → kind ≡ NodeKind.Property slot
+only_slot list slots root variables start stop (literal k spelling) kind slot is names = absurd names
+only_slot list slots root variables start stop (binary operator left right) kind slot is names = absurd names
+only_slot list slots root variables start stop (name asked) (NodeKind.Property other) slot is names =
+    same_slot (slot_named (slots root) asked) other slot is.1 names.1
+only_slot list slots root variables start stop (name asked) (NodeKind.Variable level) slot is names =
+    absurd (none_some (level_named variables asked) level is names.0)
+only_slot list slots root variables start stop (name asked) _ slot is names = absurd is
+
+level_of_top :
+    (list : FlatTree) (slots : Slots) (root : List ℕ) (variables : List (List ℕ)) (start stop : ℕ) (shape : _) (kind : NodeKind)
+    → IsKindOf list.values (slots root) variables shape kind
+    → level_of_node variables (node start stop shape) ≡ level_of_kind kind
+level_of_top list slots root variables start stop (literal k spelling) (NodeKind.Literal l place) is = refl
+level_of_top list slots root variables start stop (literal k spelling) _ is = absurd is
+level_of_top list slots root variables start stop (name asked) (NodeKind.Variable level) is = is
+level_of_top list slots root variables start stop (name asked) (NodeKind.Property slot) is = is.0
+level_of_top list slots root variables start stop (name asked) _ is = absurd is
+level_of_top list slots root variables start stop (binary operator left right) kind is = rw is refl
+
+-- what a node of the list says of the tree that stands there
+pub record IsNodeOf (filter : Filter) (found : CheckedNode) (at : ScopedNode) : Type 0 where
+  pub span : found.span ≡ span_of_tree at.part
+  pub typed : Typed (slots_of filter.schema) (type_name_at filter.schema filter.filtered) [] at.part (expr_type filter.schema found.edm_type)
+  pub slots : (slot : ℕ) → found.kind ≡ NodeKind.Property slot → NamesSlot (slots_of filter.schema) (type_name_at filter.schema filter.filtered) at.variables at.part slot
+  pub only_slots : (slot : ℕ) → NamesSlot (slots_of filter.schema) (type_name_at filter.schema filter.filtered) at.variables at.part slot → found.kind ≡ NodeKind.Property slot
+  pub levels : level_of_node at.variables at.part ≡ level_of_kind found.kind
+
+span_same : (span : Span) (start stop : ℕ) → span.start ≡ start → span.stop ≡ stop → span ≡ record { start = start; stop = stop }
+span_same span start stop a b = rw (sym a, sym b) refl
+
+top_says :
+    (filter : Filter) (k j : ℕ) (tree : Tree)
+    → (stands : Stands filter.schema filter.filtered [] filter.list k j tree)
+    → (found : CheckedNode)
+    → slice_get filter.list.nodes k ≡ Some found
+    → IsNodeOf filter found (record { variables = []; part = tree })
+top_says filter k j (node start stop shape) stands found here =
+    let schema = filter.schema in
+    let root = type_name_at schema filter.filtered in
+    let top = stands.top in
+    let same : top.found ≡ found = same_found (slice_get filter.list.nodes k) top.found found top.stands_at here in
+    let P : CheckedNode → Type 0 = λ (f : CheckedNode). IsNodeOf filter f (record { variables = []; part = node start stop shape }) in
+    subst P same (record {
+      span = span_same top.found.span start stop top.starts top.stops;
+      typed = top.typed;
+      slots = λ slot is.
+          let K : NodeKind → Type 0 = λ (x : NodeKind). IsKindOf filter.list.values (slots_of schema root) [] shape x in
+          names_slot filter.list (slots_of schema) root [] start stop shape slot (subst K is top.kind);
+      only_slots = λ slot names. only_slot filter.list (slots_of schema) root [] start stop shape top.found.kind slot top.kind names;
+      levels = level_of_top filter.list (slots_of schema) root [] start stop shape top.found.kind top.kind;
+    })
+
+-- as many nodes in the list as in the tree
+pub count_of : (filter : Filter) → IsFilter filter → length filter.list.nodes ≡ length (pre_order (tree_of_filter filter))
+count_of filter is =
+    let e : length filter.list.nodes ≡ 0 + length (pre_order (tree_of_filter filter)) =
+    stands_size filter.schema filter.filtered [] filter.list 0 (length filter.list.nodes) (tree_of_filter filter) is.stands in
+    omega arith
+
+-- a node of the list, and the part of the tree that it is of
+pub record IsNumbered (filter : Filter) (k : ℕ) (found : CheckedNode) : Type 0 where
+  pub at : ScopedNode
+  pub scoped : slice_get (scoped_nodes [] (tree_of_filter filter)) k ≡ Some at
+  pub ordered : slice_get (pre_order (tree_of_filter filter)) k ≡ Some at.part
+  pub says : IsNodeOf filter found at
+
+scoped_same : (at : ScopedNode) → at.variables ≡ [] → record { variables = []; part = at.part } ≡ at
+scoped_same at none =
+    let of : List (List ℕ) → ScopedNode = λ (variables : List (List ℕ)). record { variables = variables; part = at.part } in ap of (sym none)
+
+pub numbered : (filter : Filter) (k : ℕ) (found : CheckedNode) → IsFilter filter → slice_get filter.list.nodes k ≡ Some found → IsNumbered filter k found
+numbered filter k found is here =
+    let tree = tree_of_filter filter in
+    let within : k < length filter.list.nodes = slice_get_within filter.list.nodes k found here in
+    let count : length filter.list.nodes ≡ length (pre_order tree) = count_of filter is in
+    let parts : length (scoped_nodes [] tree) ≡ length (pre_order tree) = parts_count [] tree in
+    let inside : k < length (scoped_nodes [] tree) = omega arith in
+    let s = found_within (scoped_nodes [] tree) k inside in
+    let P : ℕ → Type 0 = λ (x : ℕ). IsPart filter.schema filter.filtered [] filter.list x s.0 in
+    let zero_more : 0 + k ≡ k = omega arith in
+    let part = subst P zero_more (part_stands filter.schema filter.filtered [] filter.list 0 (length filter.list.nodes) tree k s.0 is.stands s.1) in
+    let Q : ScopedNode → Type 0 = λ (x : ScopedNode). IsNodeOf filter found x in
+    record {
+      at = s.0;
+      scoped = s.1;
+      ordered =
+          ap (λ (ts : List Tree). slice_get ts k) (sym (parts_of [] tree))
+          ∙ slice_get-map (λ (x : ScopedNode). x.part) (scoped_nodes [] tree) k
+          ∙ ap (option_map (λ (x : ScopedNode). x.part)) s.1;
+      says = subst Q (scoped_same s.0 part.variables) (top_says filter k part.j s.0.part part.stands found here);
+    }
+
+-- past the list's end is past the tree's
+pub past_ordered : (filter : Filter) (k : ℕ) → IsFilter filter → length filter.list.nodes ≤ k → slice_get (pre_order (tree_of_filter filter)) k ≡ None
+past_ordered filter k is past =
+    let count : length filter.list.nodes ≡ length (pre_order (tree_of_filter filter)) = count_of filter is in
+    slice_get_past (pre_order (tree_of_filter filter)) k (omega arith)
+
+pub past_scoped : (filter : Filter) (k : ℕ) → IsFilter filter → length filter.list.nodes ≤ k → slice_get (scoped_nodes [] (tree_of_filter filter)) k ≡ None
+past_scoped filter k is past =
+    let count : length filter.list.nodes ≡ length (pre_order (tree_of_filter filter)) = count_of filter is in
+    let parts : length (scoped_nodes [] (tree_of_filter filter)) ≡ length (pre_order (tree_of_filter filter)) = parts_count [] (tree_of_filter filter) in
+    slice_get_past (scoped_nodes [] (tree_of_filter filter)) k (omega arith)
+
+pub type_at : (filter : Filter) (k : ℕ) (found : CheckedNode) → IsNumbered filter k found → IsTypeAt filter k (expr_type filter.schema found.edm_type)
+type_at filter k found is = rw is.ordered is.says.typed
+
+pub span_at : (filter : Filter) (k : ℕ) (found : CheckedNode) → IsNumbered filter k found → Some found.span ≡ option_map span_of_tree (slice_get (pre_order (tree_of_filter filter)) k)
+span_at filter k found is = ap Some is.says.span ∙ sym (ap (option_map span_of_tree) is.ordered)
+
+pub slot_at : (filter : Filter) (k slot : ℕ) (found : CheckedNode) → IsNumbered filter k found → found.kind ≡ NodeKind.Property slot → IsSlotAt filter k slot
+slot_at filter k slot found is kind = rw is.scoped (is.says.slots slot kind)
+
+pub no_other_slot : (filter : Filter) (k slot : ℕ) (found : CheckedNode) → IsNumbered filter k found → IsSlotAt filter k slot → found.kind ≡ NodeKind.Property slot
+no_other_slot filter k slot found is names =
+    let P : Option ScopedNode → Type 0 =
+    λ (o : Option ScopedNode). IsSomeAnd o (λ at. NamesSlot (slots_of filter.schema) (type_name_at filter.schema filter.filtered) at.variables at.part slot) in
+    is.says.only_slots slot (subst P is.scoped names)
+
+pub level_found : (filter : Filter) (k : ℕ) (found : CheckedNode) → IsNumbered filter k found → level_at filter k ≡ level_of_kind found.kind
+level_found filter k found is = rw is.scoped is.says.levels
+
+pub no_slot_past : (filter : Filter) (k slot : ℕ) → IsFilter filter → length filter.list.nodes ≤ k → ¬ IsSlotAt filter k slot
+no_slot_past filter k slot is past names =
+    let P : Option ScopedNode → Type 0 =
+    λ (o : Option ScopedNode). IsSomeAnd o (λ at. NamesSlot (slots_of filter.schema) (type_name_at filter.schema filter.filtered) at.variables at.part slot) in
+    subst P (past_scoped filter k is past) names
+
+pub no_level_past : (filter : Filter) (k : ℕ) → IsFilter filter → length filter.list.nodes ≤ k → level_at filter k ≡ None
+no_level_past filter k is past = rw (past_scoped filter k is past) refl
+
+-- what is not found is past the end
+pub past_end : (nodes : List CheckedNode) (k : ℕ) → None ≡ slice_get nodes k → length nodes ≤ k
+past_end nodes k none =
+    elim (slice_get_cases nodes k).1 [ inl x ↦ absurd (none-some x.0 (none ∙ x.2)) | inr y ↦ y.0 ]

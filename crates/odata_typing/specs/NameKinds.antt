@@ -1,0 +1,44 @@
+-- What a name in a tree names: a range variable around it, else a property (OData URL Conventions 4.01, 5.1.1.13).
+use Rattle.std.specs.Prelude.{◌≡◌, ℕ, List, [], ◌∷◌, ◌++◌, Option, Some, None, slice_get, option_and_then, IsSomeAnd}
+use Rattle.odata_syntax.specs.Tree.{Tree, node, literal, name, binary}
+use Rattle.csdl_schema.specs.SchemaModel.{Slots, slots_of, type_name_at, slot_named}
+use Rattle.odata_typing.specs.Filter.{Filter, tree_of_filter}
+use Rattle.odata_typing.specs.Levels.{level_named}
+
+-- a node, and the names of the range variables in scope there, the innermost first
+pub record ScopedNode : Type 0 where
+  pub variables : List (List ℕ)
+  pub part : Tree
+
+-- the nodes of a tree in pre-order, each with the variables in scope there
+abbrev pub scoped_nodes : List (List ℕ) → Tree → List ScopedNode
+scoped_nodes variables (node start stop (literal kind spelling)) =
+    record { variables = variables; part = node start stop (literal kind spelling) } ∷ []
+scoped_nodes variables (node start stop (name asked)) =
+    record { variables = variables; part = node start stop (name asked) } ∷ []
+scoped_nodes variables (node start stop (binary operator left right)) =
+    record { variables = variables; part = node start stop (binary operator left right) }
+    ∷ (scoped_nodes variables left ++ scoped_nodes variables right)
+
+-- the node is a name that no variable in scope has, and the property of that name stands in the slot
+abbrev pub NamesSlot : Slots → List ℕ → List (List ℕ) → Tree → ℕ → Type 0
+NamesSlot slots root variables (node start stop (name asked)) slot =
+    (level_named variables asked ≡ None) × (slot_named (slots root) asked ≡ Some slot)
+NamesSlot slots root variables (node start stop shape) slot = ⊥
+
+-- the level of the variable that the node names
+abbrev pub level_of_node : List (List ℕ) → Tree → Option ℕ
+level_of_node variables (node start stop (name asked)) = level_named variables asked
+level_of_node variables (node start stop shape) = None
+
+-- the filter's k-th node names the property of the slot
+abbrev pub IsSlotAt : Filter → ℕ → ℕ → Type 0
+IsSlotAt filter k slot =
+    IsSomeAnd (slice_get (scoped_nodes [] (tree_of_filter filter)) k)
+    (λ at. NamesSlot (slots_of filter.schema) (type_name_at filter.schema filter.filtered) at.variables at.part slot)
+
+-- the level of the variable that the filter's k-th node names
+abbrev pub level_at : Filter → ℕ → Option ℕ
+level_at filter k =
+    option_and_then (λ at. level_of_node at.variables at.part)
+    (slice_get (scoped_nodes [] (tree_of_filter filter)) k)

@@ -1,0 +1,129 @@
+ghost use Rattle.std.specs.Prelude.{◌≡◌, ◌<◌, ◌+◌, [], length, string_bytes, OnOk, OnErr, IfErr};
+ghost use Rattle.odata_typing.specs.private.Growth.{with_node, with_value, node_put};
+
+use super::checked_node::{CheckedNode, NodeKind};
+use super::edm_type::EdmType;
+use super::untyped::Untyped;
+use edm_values::Value;
+use odata_text::Span;
+use std::alloc::Global;
+use std::marker::Model;
+
+/// Nodes in pre-order, with the values of their literals, and a text beside each node: a literal's spelling, a name,
+/// and nothing for an operator.
+#[derive(Drop)]
+pub(crate) struct NodeList {
+    nodes: Vec<CheckedNode>,
+    values: Vec<Value>,
+    texts: Vec<String>,
+}
+
+impl Model for NodeList {
+    ghost use Rattle.odata_typing.specs.FlatTree.{FlatTree};
+    ghost use Rattle.odata_typing.specs.contracts.checked_node.CheckedNode as checked_node;
+    ghost use Rattle.edm_values.specs.contracts.value.Value as value;
+    ghost use Rattle.std.specs.Coded.{codes};
+    ghost use Rattle.std.specs.Prelude.{◌≡◌, length, map, string_bytes};
+
+    ghost Value = { FlatTree };
+
+    ghost coded = { Prim.hlevel (codes, checked_node.the_row.coded, value.the_row.coded) };
+
+    ghost view = { λ l. record {
+      nodes = l.nodes.items;
+      values = l.values.items;
+      texts = map string_bytes l.texts.items;
+    } };
+
+    ghost invariant = { λ l. length l.nodes.items ≡ length l.texts.items };
+}
+
+impl NodeList {
+    /// A list without nodes.
+    pub(crate) fn new(alloc: Global) -> NodeList
+        ensures { result ≡ record { nodes = []; values = []; texts = [] } }
+    {
+        NodeList {
+            nodes: Vec::new(alloc),
+            values: Vec::new(alloc),
+            texts: Vec::new(alloc),
+        }
+    }
+
+    /// The nodes.
+    pub(crate) fn nodes(&self) -> &[CheckedNode]
+        ensures same { result.now ≡ self.now.nodes }
+        ensures beside { length self.now.texts ≡ length self.now.nodes }
+    {
+        self.nodes.as_slice()
+    }
+
+    /// The values of its literals.
+    pub(crate) fn values(&self) -> &[Value]
+        ensures { result.now ≡ self.now.values }
+    {
+        self.values.as_slice()
+    }
+
+    /// Puts a value behind the others.
+    pub(crate) fn push_value(&mut self, value: Value) -> Result<(), Untyped>
+        ensures ok { OnOk result (self.new ≡ with_value self.old value) }
+        ensures err { OnErr result (self.new ≡ self.old) }
+        ensures memory { IfErr result (λ untyped. untyped ≡ Untyped.Memory) }
+    {
+        match self.values.push(value) {
+            Ok(()) => Ok(()),
+            Err(_) => Err(Untyped::Memory),
+        }
+    }
+
+    /// Puts a node without children behind the others, and its text.
+    pub(crate) fn push(
+        &mut self,
+        kind: NodeKind,
+        span: Span,
+        edm_type: &EdmType,
+        text: String,
+    ) -> Result<(), Untyped>
+        ensures ok { OnOk result (self.new ≡ with_node self.old
+            (record { kind = kind; span = span; edm_type = edm_type.now; stop = length self.old.nodes + 1 })
+            (string_bytes text)) }
+        ensures beside { length self.old.texts ≡ length self.old.nodes }
+        ensures err { OnErr result (self.new ≡ self.old) }
+        ensures memory { IfErr result (λ untyped. untyped ≡ Untyped.Memory) }
+    {
+        let stop = self.nodes.len() + 1;
+        match self.texts.push(text) {
+            Ok(()) => {}
+            Err(_) => return Err(Untyped::Memory),
+        }
+        let node = CheckedNode {
+            kind,
+            span,
+            edm_type: *edm_type,
+            stop,
+        };
+        match self.nodes.push(node) {
+            Ok(()) => Ok(()),
+            Err(_) => {
+                self.texts.pop();
+                Err(Untyped::Memory)
+            }
+        }
+    }
+
+    /// Puts a node in the place of another, as the parent of all behind that.
+    pub(crate) fn close(&mut self, place: usize, kind: NodeKind, span: Span, edm_type: EdmType)
+        requires { place < length self.old.nodes }
+        ensures { self.new ≡ node_put self.old place
+            (record { kind = kind; span = span; edm_type = edm_type; stop = length self.old.nodes }) }
+    {
+        let stop = self.nodes.len();
+        self.nodes[place] = CheckedNode {
+            kind,
+            span,
+            edm_type,
+            stop,
+        };
+    }
+}
