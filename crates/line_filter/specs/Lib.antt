@@ -3,6 +3,5 @@ pub mod Kept
 pub mod LineItems
 pub mod LineSource
 pub mod Once
-pub mod Failures
 pub mod Growth
 pub mod private

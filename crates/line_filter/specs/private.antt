@@ -1,3 +1,4 @@
+pub mod Failures
 pub mod Giving
 pub mod HeldBack
 pub mod Sources

@@ -1,12 +1,14 @@
 ghost use Rattle.std.specs.Prelude.{ℕ, ◌<◌, ◌≤◌, length, Option, None, OnErr, OnOk};
 ghost use Rattle.std.specs.Io.{ReadsAtMost};
 ghost use Rattle.std.specs.Io.KnownBytes.{ReadConsumes};
-ghost use Rattle.line_filter.specs.Failures.{FailsOnce, FailsNever};
+ghost use Rattle.line_filter.specs.private.Failures.{FailsOnce, FailsNever};
 
 use std::io::Read;
+use thiserror::Error;
 
 /// A read failed.
-#[derive(Debug, Drop)]
+#[derive(Debug, Drop, Error)]
+#[error("read")]
 pub struct NotRead;
 
 /// How the failed reads of a reader are told, and how it is read. Whatever is said of failed reads is said by this.

@@ -1,9 +1,9 @@
-ghost use Rattle.std.specs.Prelude.{◌≢◌, ℕ, ◌-◌, ◌<◌, ◌^◌, IfOk, IfErr, IfSome};
+ghost use Rattle.std.specs.Prelude.{◌≢◌, ℕ, ◌-◌, ◌<◌, ◌^◌, IfOk, IfErr, IfSome, OnOk};
 ghost use Rattle.std.specs.Io.KnownBytes.{Keeps};
 ghost use Rattle.line_filter.specs.Growth.{Writes};
 ghost use Rattle.line_filter.specs.Kept.{Filters, Stops};
 ghost use Rattle.line_filter.specs.LineItems.{lines, SaysTheSame};
-ghost use Rattle.line_filter.specs.LineSource.{left_of};
+ghost use Rattle.line_filter.specs.LineSource.{left_of, IsOver};
 ghost use Rattle.line_filter.specs.private.Giving.{bytes_to_come};
 ghost use Rattle.line_filter.specs.private.Walk.{Ends};
 
@@ -50,6 +50,7 @@ fn filter_stream<R: Read, S: Reads<R>, J: Judge, W: Write>(
     ensures stops { IfErr result (λ stop. IfSome (left_of R.remaining reader.old) (λ bytes.
         Writes (W.contents out.old) (W.contents out.new)
         (λ text. Stops (lines (J.says judge.old) bytes) text stop))) }
+    ensures ended { OnOk result (IsOver reader.new) }
     ensures same { SaysTheSame (J.says judge.old) (J.says judge.new) }
 {
     match write_kept_stream::<R, S, J, W>(alloc, judge, reader, out) {

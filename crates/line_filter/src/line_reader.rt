@@ -2,11 +2,11 @@ ghost use Rattle.std.specs.Prelude.{◌≡◌, ◌≢◌, ◌-◌, ◌<◌, ◌�
 ghost use Rattle.std.specs.Borrow.{sem};
 ghost use Rattle.std.specs.Io.BufRead.{Rests};
 ghost use Rattle.std.specs.Io.KnownBytes.{Keeps, IsAtEnd};
-ghost use Rattle.line_filter.specs.Failures.{FailsOnce, FailsNever};
+ghost use Rattle.line_filter.specs.private.Failures.{FailsOnce, FailsNever};
 ghost use Rattle.line_filter.specs.Lines.{longest_line, most_held};
 ghost use Rattle.line_filter.specs.LineSource.{left_of, BeginsTooLong, GivesLine, IsOver};
 ghost use Rattle.line_filter.specs.contracts.line_reader.LineReader.{the_row};
-ghost use Rattle.line_filter.specs.private.Giving.{Gives, GivesAgain, IsUnended, bytes_to_come, line_to_come};
+ghost use Rattle.line_filter.specs.private.Giving.{Gives, GivesAgain, IsNoWholeLine, bytes_to_come, line_to_come};
 
 use super::buffer::{Buffer, ONE_READ};
 use super::device::{Reads, Untold};
@@ -108,7 +108,7 @@ impl<R: Read> LineReader<R> {
     /// Gives the line that is held whole, if there is one, or tells that the line is too long.
     fn give_held(&mut self) -> Option<Next>
         requires { self.old.course ≡ Course.Open }
-        ensures given { MatchOption result (IsUnended self.old.waiting × (self.new ≡ self.old))
+        ensures given { MatchOption result (IsNoWholeLine self.old.waiting × (self.new ≡ self.old))
             (λ next. Gives R.remaining self.old self.new next × (next ≢ Next.End)) }
         ensures reader { self.new.reader ≡ self.old.reader }
     {
@@ -147,7 +147,7 @@ impl<R: Read> LineReader<R> {
     /// Gives what comes next, unless it must be read first.
     pub(crate) fn give(&mut self) -> Option<Next>
         ensures given { MatchOption result
-            ((self.old.course ≡ Course.Open) × IsUnended self.old.waiting × (self.new ≡ self.old))
+            ((self.old.course ≡ Course.Open) × IsNoWholeLine self.old.waiting × (self.new ≡ self.old))
             (λ next. Gives R.remaining self.old self.new next) }
         ensures again { IfSome result (GivesAgain self.old) }
         ensures reader { self.new.reader ≡ self.old.reader }
@@ -163,7 +163,7 @@ impl<R: Read> LineReader<R> {
     pub(crate) fn read_more<S: Reads<R>>(&mut self, held_back: &[u8])
         requires none_held_back { held_back.now ≡ [] }
         requires open { self.old.course ≡ Course.Open }
-        requires unended { IsUnended self.old.waiting }
+        requires unended { IsNoWholeLine self.old.waiting }
         ensures left { Keeps (left_of R.remaining self.old) (left_of R.remaining self.new) }
         ensures to_come { bytes_to_come self.new ≡ bytes_to_come self.old }
         ensures sooner { line_to_come self.new < line_to_come self.old }

@@ -1,8 +1,8 @@
-ghost use Rattle.std.specs.Prelude.{◌≡◌, ℕ, ◌+◌, ◌-◌, ◌<◌, ◌^◌, List, [], IfOk, IfSome, OnOk, OnErr};
+ghost use Rattle.std.specs.Prelude.{◌≡◌, ℕ, ◌+◌, ◌-◌, ◌<◌, ◌^◌, List, [], IfOk, IfSome, IfNone, OnOk, OnErr};
 ghost use Rattle.line_filter.specs.Growth.{Writes};
 ghost use Rattle.line_filter.specs.Kept.{StopsWithin};
 ghost use Rattle.line_filter.specs.LineItems.{lines, SaysTheSame};
-ghost use Rattle.line_filter.specs.LineSource.{left_of};
+ghost use Rattle.line_filter.specs.LineSource.{left_of, IsOver};
 ghost use Rattle.line_filter.specs.private.Giving.{Gives, GivesAgain, bytes_to_come};
 ghost use Rattle.line_filter.specs.private.HeldBack.{WritesBut, WritesFront};
 ghost use Rattle.line_filter.specs.private.Walk.{Goes, fault_stop};
@@ -64,6 +64,7 @@ fn judge_stream<R: Read, S: Reads<R>, J: Judge, W: Write>(
     ensures ok { IfOk result (λ progress. IfSome (left_of R.remaining reader.old) (λ bytes. (text : List ℕ)
         × WritesBut (W.contents out.old) (W.contents out.new) held.new.items text
         × Goes (J.says judge.old) bytes text progress)) }
+    ensures ended { IfOk result (λ progress. IfNone progress.stop (IsOver reader.new)) }
     ensures err { OnErr result (IfSome (left_of R.remaining reader.old) (λ bytes.
         Writes (W.contents out.old) (W.contents out.new) (StopsWithin (lines (J.says judge.old) bytes)))) }
     ensures same { SaysTheSame (J.says judge.old) (J.says judge.new) }
@@ -108,6 +109,7 @@ pub fn write_kept_stream<R: Read, S: Reads<R>, J: Judge, W: Write>(
     requires { bytes_to_come reader.old < 2 ^ 64 - 1 }
     ensures ok { IfOk result (λ progress. IfSome (left_of R.remaining reader.old) (λ bytes.
         Writes (W.contents out.old) (W.contents out.new) (λ text. Goes (J.says judge.old) bytes text progress))) }
+    ensures ended { IfOk result (λ progress. IfNone progress.stop (IsOver reader.new)) }
     ensures err { OnErr result (IfSome (left_of R.remaining reader.old) (λ bytes.
         Writes (W.contents out.old) (W.contents out.new) (StopsWithin (lines (J.says judge.old) bytes)))) }
     ensures same { SaysTheSame (J.says judge.old) (J.says judge.new) }

@@ -3,7 +3,7 @@
 ghost use Rattle.std.specs.Prelude.{◌+◌, true, false};
 ghost use Rattle.edm_entities.specs.Row.{IsEntity};
 ghost use Rattle.odata_eval.specs.private.Place.{IsOperatorAt, PartStands, TruthStands};
-ghost use Rattle.odata_eval.specs.private.WalkAnswer.{Answers, operand_outcome, truth_outcome};
+ghost use Rattle.odata_eval.specs.private.WalkAnswer.{AnswersAtPlace, operand_outcome, truth_outcome};
 
 use super::fault::EvalFault;
 use super::operand::{Operand, datum_of, seen_of, seen_of_value, truth_of};
@@ -23,7 +23,7 @@ pub(crate) fn truth_at<'e>(
 ) -> Result<Option<bool>, EvalFault>
     requires entity { IsEntity entity.now }
     requires stands { TruthStands entity.now checked.now.list place }
-    ensures { Answers entity.now now.now checked.now.list place (truth_outcome result) }
+    ensures { AnswersAtPlace entity.now now.now checked.now.list place (truth_outcome result) }
 {
     let bottom = spine_bottom(checked, place, true);
     let mut answer = plain_truth_at(checked, entity, now, bottom);
@@ -46,7 +46,7 @@ fn plain_truth_at<'e>(
     requires entity { IsEntity entity.now }
     requires stands { TruthStands entity.now checked.now.list place }
     requires plain { ¬ IsOperatorAt checked.now.list true place }
-    ensures { Answers entity.now now.now checked.now.list place (truth_outcome result) }
+    ensures { AnswersAtPlace entity.now now.now checked.now.list place (truth_outcome result) }
 {
     texts_have_one_value();
     what_fits_has_its_type();
@@ -72,8 +72,8 @@ fn logical_at<'e>(
     requires entity { IsEntity entity.now }
     requires stands { PartStands entity.now checked.now.list place }
     requires operator { IsOperatorAt checked.now.list true place }
-    requires left { Answers entity.now now.now checked.now.list (place + 1) (truth_outcome left) }
-    ensures { Answers entity.now now.now checked.now.list place (truth_outcome result) }
+    requires left { AnswersAtPlace entity.now now.now checked.now.list (place + 1) (truth_outcome left) }
+    ensures { AnswersAtPlace entity.now now.now checked.now.list place (truth_outcome result) }
 {
     texts_have_one_value();
     what_fits_has_its_type();
@@ -101,7 +101,7 @@ fn operand_at<'e>(
 ) -> Result<Operand<'e>, EvalFault>
     requires entity { IsEntity entity.now }
     requires stands { PartStands entity.now checked.now.list place }
-    ensures { Answers entity.now now.now checked.now.list place (operand_outcome result) }
+    ensures { AnswersAtPlace entity.now now.now checked.now.list place (operand_outcome result) }
 {
     match part_at(checked, entity, place) {
         Part::Leaf(value) => Ok(Operand::Lent(value)),
@@ -124,7 +124,7 @@ fn eager_at<'e>(
     requires entity { IsEntity entity.now }
     requires stands { PartStands entity.now checked.now.list place }
     requires operator { IsOperatorAt checked.now.list false place }
-    ensures { Answers entity.now now.now checked.now.list place (operand_outcome result) }
+    ensures { AnswersAtPlace entity.now now.now checked.now.list place (operand_outcome result) }
 {
     let bottom = spine_bottom(checked, place, false);
     let mut answer = operand_at(checked, entity, now, bottom);
@@ -148,8 +148,8 @@ fn applied_at<'e>(
     requires entity { IsEntity entity.now }
     requires stands { PartStands entity.now checked.now.list place }
     requires operator { IsOperatorAt checked.now.list false place }
-    requires left { Answers entity.now now.now checked.now.list (place + 1) (operand_outcome left) }
-    ensures { Answers entity.now now.now checked.now.list place (operand_outcome result) }
+    requires left { AnswersAtPlace entity.now now.now checked.now.list (place + 1) (operand_outcome left) }
+    ensures { AnswersAtPlace entity.now now.now checked.now.list place (operand_outcome result) }
 {
     texts_have_one_value();
     what_fits_has_its_type();

@@ -146,7 +146,8 @@ status_number without_memory = 6
 abbrev pub StatusSays : Status → Plan → List ℕ → Streams → Type 0
 StatusSays complete plan document streams = ByFilter FiltersAll plan document streams
 StatusSays without_filter plan document streams = HasNoFilter plan document × WroteNothing streams
-StatusSays without_plan plan document streams = ((¬ IsFilterPlan plan) ⊎ HasNoOption plan document) × WroteNothing streams
+StatusSays without_plan plan document streams =
+    ((¬ IsFilterPlan plan) ⊎ HasNoOption plan document) × WroteNothing streams
 StatusSays without_type plan document streams = IsFilterPlan plan × (HasNoType plan document × WroteNothing streams)
 StatusSays at_fault plan document streams = ByFilter StopsAtFault plan document streams
 StatusSays without_device plan document streams = HasCheckedFilter plan document

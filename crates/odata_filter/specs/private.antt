@@ -1,4 +1,4 @@
 -- Definitions that private clauses alone cite.
-pub mod Failures
 pub mod PlanSteps
+pub mod RunFailures
 pub mod Verdicts

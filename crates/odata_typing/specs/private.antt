@@ -1,4 +1,4 @@
 -- Definitions that private clauses alone cite.
 pub mod Answer
 pub mod EarlierFault
-pub mod Growth
+pub mod ListGrowth

@@ -5,7 +5,7 @@ ghost use Rattle.csdl_schema.specs.SchemaModel.{SchemaModel};
 ghost use Rattle.odata_typing.specs.FlatTree.{FlatTree};
 ghost use Rattle.odata_typing.specs.private.Answer.{IsAnswer, IsWalked};
 ghost use Rattle.odata_typing.specs.private.EarlierFault.{IsEarlier};
-ghost use Rattle.odata_typing.specs.private.Growth.{IsOpened};
+ghost use Rattle.odata_typing.specs.private.ListGrowth.{IsOpened};
 
 use super::checked_node::NodeKind;
 use super::edm_type::{BOOLEAN, EdmType};

@@ -1,5 +1,5 @@
 ghost use Rattle.std.specs.Prelude.{◌≡◌, ◌<◌, ◌+◌, [], length, string_bytes, OnOk, OnErr, IfErr};
-ghost use Rattle.odata_typing.specs.private.Growth.{with_node, with_value, node_put};
+ghost use Rattle.odata_typing.specs.private.ListGrowth.{with_node, with_value, node_put};
 
 use super::checked_node::{CheckedNode, NodeKind};
 use super::edm_type::EdmType;

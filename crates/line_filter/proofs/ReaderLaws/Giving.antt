@@ -8,7 +8,7 @@ use Rattle.line_filter.specs.declared.line_reader.Course.{Course}
 use Rattle.line_filter.specs.declared.line_reader.Next.{Next}
 use Rattle.line_filter.specs.Lines.{longest_line}
 use Rattle.line_filter.specs.LineSource.{LineSource, left_of, IsFirstLine, BeginsTooLong, WhereKnown, IsOver}
-use Rattle.line_filter.specs.private.Giving.{IsUnended, IsLongBy, IsGiven, IsFault, Gives, GivesAgain, bytes_to_come}
+use Rattle.line_filter.specs.private.Giving.{IsNoWholeLine, IsLongBy, IsGiven, IsFault, Gives, GivesAgain, bytes_to_come}
 use Rattle.line_filter.proofs.ReaderLaws.FirstLine.{first_by_feed, whole_by_feed, first_at_end}
 
 -- what holds whatever the reader still has
@@ -44,7 +44,7 @@ module _ {R : Type 0} (remaining : R → Option (List ℕ)) (old new : LineSourc
       }
 
   -- the reader is at its end
-  pub given_at_end : new.unread ≡ old.unread → new.line ≡ old.waiting → new.waiting ≡ [] → new.course ≡ Course.AtEnd → 0 < length old.waiting → IsUnended old.waiting → IsAtEnd (remaining old.reader)
+  pub given_at_end : new.unread ≡ old.unread → new.line ≡ old.waiting → new.waiting ≡ [] → new.course ≡ Course.AtEnd → 0 < length old.waiting → IsNoWholeLine old.waiting → IsAtEnd (remaining old.reader)
       → IsGiven remaining old new
   given_at_end unread line waiting course some unended end =
       let first = known_last (remaining old.reader) old.waiting (λ bytes rest. IsFirstLine bytes old.waiting rest) end (first_at_end old.waiting some unended.0) in

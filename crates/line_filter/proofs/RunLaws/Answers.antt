@@ -1,6 +1,6 @@
 -- What a run answers, from what was read, judged and written.
 use Rattle.std.proofs.Common.{◌≡◌, ◌≢◌, ℕ, List, [], ◌++◌, length, Option, None, Some, Result, Ok, Err, sym, subst, append-nil}
-use Rattle.std.specs.Prelude.{IfOk, IfErr, IfSome, MatchOption, MatchResult}
+use Rattle.std.specs.Prelude.{IfOk, IfErr, IfSome, IfNone, OnOk, MatchOption, MatchResult}
 use Rattle.std.specs.Io.KnownBytes.{Keeps}
 use Rattle.std.proofs.KnownBytes.{Appends-kept}
 use Rattle.line_filter.specs.Growth.{Writes}
@@ -101,3 +101,15 @@ ends_unread progress (Err s) (Some stop) of_item ends =
 pub Ends-unread : {F : Type 0} (progress : Progress F) (answer : Result Tally (Stop F)) → IfSome progress.stop IsOfItem → Ends progress answer
     → IfErr answer (λ stop. (line : ℕ) → stop ≢ Stop.Read line)
 Ends-unread progress answer of_item ends = ends_unread progress answer progress.stop of_item ends
+
+-- ---- where the answer is a tally, no stop came before it
+
+ends_over : {F : Type 0} (P : Type 0) (tally : Tally) (answer : Result Tally (Stop F)) (stop : Option (Stop F)) → IfNone stop P
+    → MatchOption stop (MatchResult answer (λ t. t ≡ tally) (λ s. s ≡ Stop.Write)) (λ s. answer ≡ Err s) → OnOk answer P
+ends_over P tally (Err s) stop over ends = tt
+ends_over P tally (Ok t) None over ends = over
+ends_over P tally (Ok t) (Some s) over ends = absurd {A = P} (cc)
+
+pub Ends-over : {F : Type 0} (P : Type 0) (progress : Progress F) (answer : Result Tally (Stop F)) → IfNone progress.stop P → Ends progress answer
+    → OnOk answer P
+Ends-over P progress answer over ends = ends_over P progress.tally answer progress.stop over ends

@@ -8,8 +8,8 @@ use Rattle.line_filter.specs.Lines.{longest_line}
 use Rattle.line_filter.specs.LineSource.{LineSource, left_of, GivesLine, BeginsTooLong, IsOver, WhereKnown}
 
 -- no LF is among these bytes, and they are no over-long line yet
-abbrev pub IsUnended : List ℕ → Type 0
-IsUnended bytes = All (λ b. b ≢ 10) bytes × (length bytes ≤ longest_line)
+abbrev pub IsNoWholeLine : List ℕ → Type 0
+IsNoWholeLine bytes = All (λ b. b ≢ 10) bytes × (length bytes ≤ longest_line)
 
 -- these bytes begin an over-long line, whatever follows them
 abbrev pub IsLongBy : List ℕ → Type 0
@@ -44,7 +44,8 @@ pub record IsEnd {R : Type 0} (remaining : R → Option (List ℕ)) (old new : L
   pub left : Keeps (left_of remaining old) (left_of remaining new)
 
 -- The fault is told from now on, and what was left is left. TooLong tells that the first line is over-long.
-pub record IsFault {R : Type 0} (remaining : R → Option (List ℕ)) (old new : LineSource R) (fault : LineFault) : Type 0 where
+pub record IsFault
+    {R : Type 0} (remaining : R → Option (List ℕ)) (old new : LineSource R) (fault : LineFault) : Type 0 where
   pub long : fault ≡ LineFault.TooLong → IfSome (left_of remaining old) BeginsTooLong
   pub failed : new.course ≡ Course.Failed fault
   pub left : Keeps (left_of remaining old) (left_of remaining new)

@@ -5,7 +5,7 @@ use Rattle.line_filter.specs.declared.line_reader.LineFault.{LineFault}
 use Rattle.line_filter.specs.declared.line_reader.Course.{Course}
 use Rattle.line_filter.specs.declared.line_reader.LineReader.TheInside.{Inside}
 use Rattle.line_filter.specs.LineSource.{LineSource}
-use Rattle.line_filter.specs.private.Giving.{IsUnended, IsLongBy}
+use Rattle.line_filter.specs.private.Giving.{IsNoWholeLine, IsLongBy}
 
 -- the buffer's bytes and line, and the fields
 abbrev pub source : {R : Type 0} → Inside R → LineSource R
@@ -20,5 +20,5 @@ source l = record {
 
 -- At the end the reader told its end, and what waits is no over-long line; after TooLong it begins one.
 pub record IsSource {R : Type 0} (remaining : R → Option (List ℕ)) (l : Inside R) : Type 0 where
-  pub at_end : l.course ≡ Course.AtEnd → IsAtEnd (remaining l.reader) × IsUnended l.buffer.waiting
+  pub at_end : l.course ≡ Course.AtEnd → IsAtEnd (remaining l.reader) × IsNoWholeLine l.buffer.waiting
   pub too_long : l.course ≡ Course.Failed LineFault.TooLong → IsLongBy l.buffer.waiting

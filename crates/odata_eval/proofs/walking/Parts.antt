@@ -16,7 +16,7 @@ use Rattle.edm_entities.specs.Row.{Row, IsEntity}
 use Rattle.odata_eval.specs.MeansOn.{MeansOn}
 use Rattle.odata_eval.specs.Outcome.{gives}
 use Rattle.odata_eval.specs.private.Place.{PartStands, HasOperator}
-use Rattle.odata_eval.specs.private.WalkAnswer.{Answers, HoldsAt}
+use Rattle.odata_eval.specs.private.WalkAnswer.{AnswersAtPlace, HoldsAt}
 use Rattle.odata_typing.specs.declared.checked_node.CheckedNode.{CheckedNode}
 use Rattle.odata_typing.specs.declared.checked_node.NodeKind.{NodeKind}
 use Rattle.odata_typing.specs.FlatTree.{FlatTree}
@@ -100,7 +100,7 @@ module _ (row : Row) (list : FlatTree) (place : ℕ) where
           absurd (cc)
 
       -- a literal comes to the value that it names
-      pub literal_answers : (now : MomentParts) (v : Value) → slice_get list.values value ≡ Some v → Answers row now list place (option_map gives (plain_val v))
+      pub literal_answers : (now : MomentParts) (v : Value) → slice_get list.values value ≡ Some v → AnswersAtPlace row now list place (option_map gives (plain_val v))
       literal_answers now v at = record { of_tree = literal_means now v at }
 
     module _ (slot : ℕ) (is : found.kind ≡ NodeKind.Property slot) where
@@ -129,7 +129,7 @@ module _ (row : Row) (list : FlatTree) (place : ℕ) where
           absurd (cc)
 
       -- a property comes to the entity's value in its slot
-      pub property_answers : (now : MomentParts) (v : Value) → IsEntity row → HoldsAt row slot v → Answers row now list place (option_map gives (plain_val v))
+      pub property_answers : (now : MomentParts) (v : Value) → IsEntity row → HoldsAt row slot v → AnswersAtPlace row now list place (option_map gives (plain_val v))
       property_answers now v entity holds = record { of_tree = property_means now v entity holds }
 
   -- what stands where an operator is has two operands

@@ -8,7 +8,7 @@ use Rattle.edm_entities.specs.Row.{Row, value_of}
 use Rattle.odata_eval.specs.MeansOn.{MeansOn, IsTheOutcome}
 use Rattle.odata_eval.specs.Outcome.{Outcome}
 use Rattle.odata_eval.specs.private.Place.{TruthStands}
-use Rattle.odata_eval.specs.private.WalkAnswer.{Answers}
+use Rattle.odata_eval.specs.private.WalkAnswer.{AnswersAtPlace}
 use Rattle.odata_typing.specs.Filter.{Filter, IsFilter, tree_of_filter}
 use Rattle.odata_typing.specs.Stands.{Stands}
 use Rattle.odata_typing.specs.Typed.{Typed}
@@ -45,6 +45,6 @@ module _ (filter : Filter) (row : Row) (right : IsFilter filter) (one_schema : f
   }
 
   -- what the walk answers of it is the filter's one outcome
-  pub top_outcome : OneValue → (now : MomentParts) (told : Option Outcome) → Answers row now filter.list 0 told → IfSome told (IsTheOutcome row now (tree_of_filter filter))
+  pub top_outcome : OneValue → (now : MomentParts) (told : Option Outcome) → AnswersAtPlace row now filter.list 0 told → IfSome told (IsTheOutcome row now (tree_of_filter filter))
   top_outcome values now told answers =
       told_the_outcome values row now (tree_of_filter filter) told (answers.of_tree (length filter.list.nodes) (tree_of_filter filter) whole_stands)

@@ -23,7 +23,7 @@ use Rattle.odata_eval.specs.VerdictView.{fault_outcome}
 use Rattle.odata_eval.specs.private.OperandView.{AtBoth, truth_val}
 use Rattle.odata_eval.specs.private.OperatorClass.{IsDecided, OperatorTable, is_logical}
 use Rattle.odata_eval.specs.private.Place.{PartStands, TruthStands, HasOperator, IsRightOf}
-use Rattle.odata_eval.specs.private.WalkAnswer.{Answers}
+use Rattle.odata_eval.specs.private.WalkAnswer.{AnswersAtPlace}
 use Rattle.odata_typing.specs.ExprTypes.{IsBooleanOrNull}
 use Rattle.odata_typing.specs.FlatTree.{FlatTree}
 use Rattle.odata_typing.specs.Typed.{Typed}
@@ -101,7 +101,7 @@ module _ (laws : Laws) (row : Row) (now : MomentParts) (entity : IsEntity row) w
   plain_truth tree type None typed is_truth related = absurd related
 
   -- what a node of type Boolean or Null comes to is a truth value or null
-  pub truth_there : (list : FlatTree) (place : ℕ) (d : Option Val) → TruthStands row list place → Answers row now list place (option_map gives d)
+  pub truth_there : (list : FlatTree) (place : ℕ) (d : Option Val) → TruthStands row list place → AnswersAtPlace row now list place (option_map gives d)
       → (truth : Option Bool) × (d ≡ Some (truth_val truth))
   truth_there list place d stands answers =
       plain_truth stands.tree stands.type_of d stands.typed stands.truth (answers.of_tree stands.stop stands.tree stands.stands)
@@ -125,15 +125,15 @@ module _ (laws : Laws) (row : Row) (now : MomentParts) (entity : IsEntity row) w
   second_fault from to operator left right type None fault typed undecided of_left of_right = absurd of_left
 
   module _ (list : FlatTree) (place : ℕ) (operator : BinaryOperator) (here : HasOperator list place operator) where
-    pub left_faults : (fault : EvalFault) → Answers row now list (place + 1) (fault_outcome fault) → Answers row now list place (fault_outcome fault)
+    pub left_faults : (fault : EvalFault) → AnswersAtPlace row now list (place + 1) (fault_outcome fault) → AnswersAtPlace row now list place (fault_outcome fault)
     left_faults fault of_left = record {
       of_tree = by_operator row list place (λ stop tree. IsSomeAnd (fault_outcome fault) (MeansOn row now tree)) operator here
           (λ stop from to left right stands. first_fault row now from to operator left right fault
           (of_left.of_tree stands.children.middle left stands.children.left));
     }
 
-    pub left_decides : (truth : Option Bool) → IsDecided operator (Some (truth_val truth)) → Answers row now list (place + 1) (Some (gives (truth_val truth)))
-        → Answers row now list place (Some (gives (truth_val truth)))
+    pub left_decides : (truth : Option Bool) → IsDecided operator (Some (truth_val truth)) → AnswersAtPlace row now list (place + 1) (Some (gives (truth_val truth)))
+        → AnswersAtPlace row now list place (Some (gives (truth_val truth)))
     left_decides truth decided of_left = record {
       of_tree = by_operator row list place (λ stop tree. MeansOn row now tree (gives (truth_val truth))) operator here
           (λ stop from to left right stands. decided_left row now from to operator left right truth decided
@@ -141,8 +141,8 @@ module _ (laws : Laws) (row : Row) (now : MomentParts) (entity : IsEntity row) w
     }
 
     module _ (right_place : ℕ) (is_right : IsRightOf list place right_place) where
-      pub right_faults : (l : Option Val) (fault : EvalFault) → ¬ (IsDecided operator l) → Answers row now list (place + 1) (option_map gives l)
-          → Answers row now list right_place (fault_outcome fault) → Answers row now list place (fault_outcome fault)
+      pub right_faults : (l : Option Val) (fault : EvalFault) → ¬ (IsDecided operator l) → AnswersAtPlace row now list (place + 1) (option_map gives l)
+          → AnswersAtPlace row now list right_place (fault_outcome fault) → AnswersAtPlace row now list place (fault_outcome fault)
       right_faults l fault undecided of_left of_right = record {
         of_tree = by_operator row list place (λ stop tree. IsSomeAnd (fault_outcome fault) (MeansOn row now tree)) operator here
             (λ stop from to left right stands. second_fault from to operator left right _ l fault stands.top.typed undecided
@@ -151,8 +151,8 @@ module _ (laws : Laws) (row : Row) (now : MomentParts) (entity : IsEntity row) w
       }
 
       -- what the operator gives at the values of its operands is the outcome
-      pub both_answer : (l r v : Option Val) → Answers row now list (place + 1) (option_map gives l) → Answers row now list right_place (option_map gives r)
-          → IsSomeAnd v (λ w. AtBoth (OperatorTable operator) l r (gives w)) → Answers row now list place (option_map gives v)
+      pub both_answer : (l r v : Option Val) → AnswersAtPlace row now list (place + 1) (option_map gives l) → AnswersAtPlace row now list right_place (option_map gives r)
+          → IsSomeAnd v (λ w. AtBoth (OperatorTable operator) l r (gives w)) → AnswersAtPlace row now list place (option_map gives v)
       both_answer l r v of_left of_right table = record {
         of_tree = by_operator row list place (λ stop tree. IsSomeAnd (option_map gives v) (MeansOn row now tree)) operator here
             (λ stop from to left right stands. table_related laws.values (slots_of row.schema) (type_name_at row.schema row.type_id) now (value_of row) [] operator left right
@@ -162,8 +162,8 @@ module _ (laws : Laws) (row : Row) (now : MomentParts) (entity : IsEntity row) w
       }
 
       -- and it gives something there
-      pub both_defined : (l r : Option Val) → PartStands row list place → Answers row now list (place + 1) (option_map gives l)
-          → Answers row now list right_place (option_map gives r) → (o : Outcome) × AtBoth (OperatorTable operator) l r o
+      pub both_defined : (l r : Option Val) → PartStands row list place → AnswersAtPlace row now list (place + 1) (option_map gives l)
+          → AnswersAtPlace row now list right_place (option_map gives r) → (o : Outcome) × AtBoth (OperatorTable operator) l r o
       both_defined l r part of_left of_right = by_operator row list place (λ stop tree. (o : Outcome) × AtBoth (OperatorTable operator) l r o) operator here
           (λ stop from to left right stands.
           let ends = entity_ends (node from to (binary operator left right)) _ stands.top.typed in (

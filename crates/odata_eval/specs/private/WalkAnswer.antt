@@ -28,7 +28,7 @@ truth_outcome (Ok truth) = Some (gives (truth_val truth))
 truth_outcome (Err fault) = fault_outcome fault
 
 -- it is an outcome of what stands in the place
-pub record Answers (row : Row) (now : MomentParts) (list : FlatTree) (place : ℕ) (told : Option Outcome) : Type 0 where
+pub record AnswersAtPlace (row : Row) (now : MomentParts) (list : FlatTree) (place : ℕ) (told : Option Outcome) : Type 0 where
   pub of_tree :
       (stop : ℕ) (tree : Tree)
       → Stands row.schema row.type_id [] list place stop tree → IsSomeAnd told (MeansOn row now tree)
@@ -41,6 +41,6 @@ HoldsAt row slot value =
 -- what stands in the place: a value, a logical operator, or another one
 abbrev pub IsPart : Row → FlatTree → ℕ → Part → Type 0
 IsPart row list place (Part.Leaf value) =
-    (now : MomentParts) → Answers row now list place (option_map gives (plain_val value.now))
+    (now : MomentParts) → AnswersAtPlace row now list place (option_map gives (plain_val value.now))
 IsPart row list place Part.Logical = IsOperatorAt list true place
 IsPart row list place Part.Eager = IsOperatorAt list false place

@@ -16,7 +16,7 @@ use Rattle.line_filter.specs.declared.tally.Tally.{Tally}
 use Rattle.odata_filter.specs.RowJudgment.{rows_of}
 use Rattle.odata_filter.specs.RunStops.{run_stop, StopsBy}
 use Rattle.odata_filter.specs.declared.bad_row.BadRow.{BadRow}
-use Rattle.odata_filter.specs.private.Failures.{AnswerSays, status_of, status_of_query, status_of_refusal, StopsOver}
+use Rattle.odata_filter.specs.private.RunFailures.{AnswerSays, status_of, status_of_query, status_of_refusal, StopsOver}
 use Rattle.odata_filter.specs.Run.{IsFirstMoment, NamesType, AsksFor, IsPlanFilter, HasNoFilter, Streams, streams, OverRows, OfRows, ByFilter, FiltersAll, StopsAtFault, Status, complete, without_filter, without_plan, without_type, at_fault, without_device, without_memory, StatusSays, Begins}
 use Rattle.csdl_schema.specs.SchemaModel.{SchemaModel, slots_of, type_name_at}
 use Rattle.odata_filter.specs.declared.command.command_line.Plan.{Plan}

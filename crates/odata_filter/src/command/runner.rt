@@ -3,7 +3,7 @@ ghost use Rattle.odata_filter.specs.FilterPlan.{IsFilterPlan};
 ghost use Rattle.line_filter.specs.Kept.{Filters};
 ghost use Rattle.odata_filter.specs.RowJudgment.{rows_of};
 ghost use Rattle.odata_filter.specs.Run.{Answers, AsksFor, Begins, IsFirstMoment, NamesType, OverRows, streams, without_plan, without_type};
-ghost use Rattle.odata_filter.specs.private.Failures.{AnswerSays, StopsOver, status_of};
+ghost use Rattle.odata_filter.specs.private.RunFailures.{AnswerSays, StopsOver, status_of};
 ghost use Rattle.csdl_schema.specs.SchemaModel.{IsEntityAt, index_named};
 
 use super::command_line::{Plan, Verb};

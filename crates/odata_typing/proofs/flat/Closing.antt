@@ -18,7 +18,7 @@ use Rattle.odata_typing.specs.Stands.{Stands}
 use Rattle.odata_typing.specs.Typed.{OperatorTyped, PropertyTyped, Typed}
 use Rattle.odata_typing.specs.TypeView.{expr_type}
 use Rattle.odata_typing.specs.private.Answer.{IsKept, IsReading, IsWalked}
-use Rattle.odata_typing.specs.private.Growth.{IsOpened, with_node, with_value, node_put}
+use Rattle.odata_typing.specs.private.ListGrowth.{IsOpened, with_node, with_value, node_put}
 use Rattle.odata_typing.proofs.flat.Places.{get_front, get_last, get_put, get_beside}
 use Rattle.odata_typing.proofs.flat.Standing.{IsKeptBut, stands_kept, stands_nonempty}
 

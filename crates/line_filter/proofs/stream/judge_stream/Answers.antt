@@ -43,6 +43,11 @@ returns-in-End-clause-ok g c =
     let came = HasCome-written says a r (IsOver c.loop-stop.reader → ⊥) u v w c.loop-stop.held.items c.next_line.new.held.items c.loop-stop.lines c.loop-stop.tally i.4 c.in_ok-next_line.ensures.ok in
     HasCome-end says a r (IsOver c.loop-stop.reader → ⊥) u w c.next_line.new.held.items c.loop-stop.lines c.loop-stop.tally came given.none_left
 
+pub returns-in-End-clause-ended : goal.returns-in-End-clause-ended
+returns-in-End-clause-ended g c =
+    let given = subst (Gives g.R.Read.remaining c.loop-stop.reader c.next_line.new.reader) c.in-End.is c.in_ok-next_line.ensures.given in
+    given.over
+
 pub returns-in-Fault-clause-ok : goal.returns-in-Fault-clause-ok
 returns-in-Fault-clause-ok g c =
     let i = c.loop-stop.invariant in

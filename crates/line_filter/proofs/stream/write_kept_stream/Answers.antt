@@ -1,5 +1,5 @@
 use Rattle.line_filter.specs.LineSource.{left_of}
-use Rattle.line_filter.proofs.RunLaws.Streams.{left_unwritten}
+use Rattle.line_filter.proofs.RunLaws.Streams.{left_unwritten, left_written}
 use Rattle.line_filter.proofs.WriteLaws.HeldBack.{OnErr-from}
 use Rattle.line_filter.proofs.stream.write_kept_stream.Goals as goal
 
@@ -8,3 +8,8 @@ returns-in_err-release-clause-err g c =
     OnErr-from c.from_residual-in_err-release.result _
     (left_unwritten (g.J.Judge.says c.args.judge.now) (left_of g.R.Read.remaining c.args.reader.now) (g.W.Write.contents c.args.out.now) (g.W.Write.contents c.judge_stream.new.out) (g.W.Write.contents c.release.new.out)
     c.judge_stream.new.held.items c.in_ok-progress.progress c.in_ok-progress.ensures.ok c.in_err-release.ensures.err)
+
+pub returns-clause-ok : goal.returns-clause-ok
+returns-clause-ok g c =
+    left_written (g.J.Judge.says c.args.judge.now) (left_of g.R.Read.remaining c.args.reader.now) (g.W.Write.contents c.args.out.now) (g.W.Write.contents c.judge_stream.new.out) (g.W.Write.contents c.release.new.out)
+    c.judge_stream.new.held.items c.in_ok-progress.progress c.in_ok-progress.ensures.ok c.in_ok-release.ensures.ok

@@ -6,7 +6,7 @@ use Rattle.odata_eval.specs.Outcome.{gives}
 use Rattle.odata_eval.specs.private.OperandView.{plain_operand, plain_datum, truth_val}
 use Rattle.odata_eval.specs.private.OperatorClass.{IsDecided}
 use Rattle.odata_eval.specs.private.Place.{IsOperatorAt, PartStands}
-use Rattle.odata_eval.specs.private.WalkAnswer.{Answers, operand_outcome, truth_outcome}
+use Rattle.odata_eval.specs.private.WalkAnswer.{AnswersAtPlace, operand_outcome, truth_outcome}
 use Rattle.odata_eval.proofs.walking.Spines.{below_bottom, logical_truth, operator_there, part_down, right_further, right_part, right_truth, truth_down, truth_part}
 use Rattle.odata_eval.proofs.walking.Parts.{part_inside}
 use Rattle.odata_eval.proofs.walking.WalkSteps.{truth_there, left_faults, left_decides, right_faults, both_answer, both_defined, eager_undecided}
@@ -16,7 +16,7 @@ pub truth_at-returns : goal.truth_at-returns
 truth_at-returns t c =
     let l = c.loop-at in
     let e : l.at ≡ c.args.place = omega arith in
-    subst (λ (k : ℕ). Answers c.args.entity.now c.args.now.now c.args.checked.now.list k (truth_outcome l.answer)) e l.invariant.answers
+    subst (λ (k : ℕ). AnswersAtPlace c.args.entity.now c.args.now.now c.args.checked.now.list k (truth_outcome l.answer)) e l.invariant.answers
 
 pub plain_truth_at-truth_of-requires : goal.plain_truth_at-truth_of-requires
 plain_truth_at-truth_of-requires t c =
@@ -26,7 +26,7 @@ plain_truth_at-truth_of-requires t c =
 
 pub plain_truth_at-returns-in-Leaf : goal.plain_truth_at-returns-in-Leaf
 plain_truth_at-returns-in-Leaf t c =
-    subst (λ (d : Option Val). Answers c.args.entity.now c.args.now.now c.args.checked.now.list c.args.place (option_map gives d))
+    subst (λ (d : Option Val). AnswersAtPlace c.args.entity.now c.args.now.now c.args.checked.now.list c.args.place (option_map gives d))
     (sym c.seen_of_value.ensures ∙ c.truth_of.ensures) (c.in-Leaf.ensures c.args.now.now)
 
 pub plain_truth_at-unreachable-requires : goal.plain_truth_at-unreachable-requires
@@ -39,7 +39,7 @@ plain_truth_at-truth_of-requires-in-Ok t c =
 
 pub plain_truth_at-returns-in-Ok : goal.plain_truth_at-returns-in-Ok
 plain_truth_at-returns-in-Ok t c =
-    subst (λ (d : Option Val). Answers c.args.entity.now c.args.now.now c.args.checked.now.list c.args.place (option_map gives d))
+    subst (λ (d : Option Val). AnswersAtPlace c.args.entity.now c.args.now.now c.args.checked.now.list c.args.place (option_map gives d))
     (sym c.seen_of.ensures ∙ c.truth_of-in-Ok.ensures) c.in-Ok.ensures
 
 pub logical_at-returns-in-Err : goal.logical_at-returns-in-Err
@@ -65,7 +65,7 @@ pub eager_at-returns : goal.eager_at-returns
 eager_at-returns t c =
     let l = c.loop-at in
     let e : l.at ≡ c.args.place = omega arith in
-    subst (λ (k : ℕ). Answers c.args.entity.now c.args.now.now c.args.checked.now.list k (operand_outcome l.answer)) e l.invariant.answers
+    subst (λ (k : ℕ). AnswersAtPlace c.args.entity.now c.args.now.now c.args.checked.now.list k (operand_outcome l.answer)) e l.invariant.answers
 
 pub applied_at-returns-in-Err : goal.applied_at-returns-in-Err
 applied_at-returns-in-Err t c =
@@ -129,8 +129,8 @@ truth_at-logical_at-answer-requires t c =
     let stands : PartStands c.args.entity.now c.args.checked.now.list (l.at - 1) = truth_part c.args.entity.now c.args.checked.now.list (l.at - 1) (truth_down c.args.entity.now c.args.checked.now.list c.args.place (l.at - 1) (omega arith) c.requires.stands upper) in
     let operator : IsOperatorAt c.args.checked.now.list true (l.at - 1) = c.spine_bottom-bottom.ensures.spine (l.at - 1) (omega arith) (omega arith) in
     let e : l.at ≡ l.at - 1 + 1 = omega arith in
-    let left : Answers c.args.entity.now c.args.now.now c.args.checked.now.list (l.at - 1 + 1) (truth_outcome l.answer) =
-    subst (λ (k : ℕ). Answers c.args.entity.now c.args.now.now c.args.checked.now.list k (truth_outcome l.answer)) e l.invariant.answers in
+    let left : AnswersAtPlace c.args.entity.now c.args.now.now c.args.checked.now.list (l.at - 1 + 1) (truth_outcome l.answer) =
+    subst (λ (k : ℕ). AnswersAtPlace c.args.entity.now c.args.now.now c.args.checked.now.list k (truth_outcome l.answer)) e l.invariant.answers in
     search rules
 
 pub eager_at-applied_at-answer-requires : goal.eager_at-applied_at-answer-requires
@@ -144,8 +144,8 @@ eager_at-applied_at-answer-requires t c =
     let stands : PartStands c.args.entity.now c.args.checked.now.list (l.at - 1) = part_down c.args.entity.now c.args.checked.now.list false c.args.place (l.at - 1) (omega arith) c.requires.stands upper in
     let operator : IsOperatorAt c.args.checked.now.list false (l.at - 1) = c.spine_bottom-bottom.ensures.spine (l.at - 1) (omega arith) (omega arith) in
     let e : l.at ≡ l.at - 1 + 1 = omega arith in
-    let left : Answers c.args.entity.now c.args.now.now c.args.checked.now.list (l.at - 1 + 1) (operand_outcome l.answer) =
-    subst (λ (k : ℕ). Answers c.args.entity.now c.args.now.now c.args.checked.now.list k (operand_outcome l.answer)) e l.invariant.answers in
+    let left : AnswersAtPlace c.args.entity.now c.args.now.now c.args.checked.now.list (l.at - 1 + 1) (operand_outcome l.answer) =
+    subst (λ (k : ℕ). AnswersAtPlace c.args.entity.now c.args.now.now c.args.checked.now.list k (operand_outcome l.answer)) e l.invariant.answers in
     search rules
 
 pub logical_at-truth_at-requires : goal.logical_at-truth_at-requires

@@ -1,5 +1,5 @@
 use Rattle.std.proofs.Common.{◌≤◌, ◌+◌, ◌-◌, ◌*◌, length}
-use Rattle.odata_eval.specs.private.WalkAnswer.{Answers, operand_outcome, truth_outcome}
+use Rattle.odata_eval.specs.private.WalkAnswer.{AnswersAtPlace, operand_outcome, truth_outcome}
 use Rattle.odata_eval.proofs.walk.+evaluate.Given as goal
 
 -- what is left of the list counts first, and in one place the order of the calls
@@ -25,7 +25,7 @@ abbrev pub invariant-truth_at-loop-at : goal.invariant-truth_at-loop-at
 invariant-truth_at-loop-at l = record {
   above : l.place ≤ l.at;
   within : l.at ≤ l.bottom;
-  answers : Answers l.entity l.now l.checked.list l.at (truth_outcome l.answer);
+  answers : AnswersAtPlace l.entity l.now l.checked.list l.at (truth_outcome l.answer);
 }
 
 abbrev pub decreases-truth_at-loop-at : goal.decreases-truth_at-loop-at
@@ -35,7 +35,7 @@ abbrev pub invariant-eager_at-loop-at : goal.invariant-eager_at-loop-at
 invariant-eager_at-loop-at l = record {
   above : l.place ≤ l.at;
   within : l.at ≤ l.bottom;
-  answers : Answers l.entity l.now l.checked.list l.at (operand_outcome l.answer);
+  answers : AnswersAtPlace l.entity l.now l.checked.list l.at (operand_outcome l.answer);
 }
 
 abbrev pub decreases-eager_at-loop-at : goal.decreases-eager_at-loop-at

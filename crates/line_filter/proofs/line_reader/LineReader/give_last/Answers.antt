@@ -2,7 +2,7 @@ use Rattle.std.proofs.Common.{◌≡◌, ◌<◌, length, arith, ap, ◌∙◌, 
 use Rattle.std.specs.Io.KnownBytes.{IsAtEnd}
 use Rattle.line_filter.specs.LineSource.{LineSource}
 use Rattle.line_filter.specs.declared.line_reader.Course.{Course}
-use Rattle.line_filter.specs.private.Giving.{IsUnended}
+use Rattle.line_filter.specs.private.Giving.{IsNoWholeLine}
 use Rattle.line_filter.proofs.ReaderLaws.Giving.{given_at_end}
 use Rattle.line_filter.proofs.line_reader.LineReader.give_last.Goals as goal
 
@@ -15,4 +15,4 @@ returns-clause-given g c =
     let end = c.self.invariant.at_end course in
     let some : 0 < length c.args.self.now.waiting = omega (arith, c.waiting.ensures, c.if-waiting-eq0.false, ap length waits) in
     given_at_end g.R.Read.remaining c.args.self.now _ reader (ap (λ (s : LineSource g.row.R.Denot). s.unread) c.self.view_is)
-    (c.give_rest.ensures.line ∙ waits) c.give_rest.ensures.waiting course some (subst IsUnended waits end.1) (subst (λ r. IsAtEnd (g.R.Read.remaining r)) reader end.0)
+    (c.give_rest.ensures.line ∙ waits) c.give_rest.ensures.waiting course some (subst IsNoWholeLine waits end.1) (subst (λ r. IsAtEnd (g.R.Read.remaining r)) reader end.0)

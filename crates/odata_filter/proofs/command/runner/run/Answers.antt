@@ -1,5 +1,5 @@
 use Rattle.std.proofs.Common.{refl, option_map}
-use Rattle.odata_filter.specs.private.Failures.{status_of}
+use Rattle.odata_filter.specs.private.RunFailures.{status_of}
 use Rattle.odata_filter.specs.Run.{complete}
 use Rattle.odata_filter.proofs.RunLemmas.RunEndings.{StatusSays-kept, Begins-kept}
 use Rattle.odata_filter.proofs.command.runner.run.Goals as goal

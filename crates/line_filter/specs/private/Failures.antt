@@ -1,4 +1,4 @@
--- How often devices have failed, where they tell it.
+-- How often devices have failed, where they tell it. Private clauses alone cite these.
 use Rattle.std.specs.Prelude.{◌≡◌, ℕ, ◌+◌, Option, None, Some}
 
 -- one call more has failed
