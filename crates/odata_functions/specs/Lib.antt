@@ -1,0 +1,12 @@
+pub use Rattle.edm_values.specs.Civil
+pub use Rattle.edm_values.specs.Instant
+pub use Rattle.edm_values.specs.MomentParts
+pub use Rattle.edm_values.specs.NumberTypes
+pub use Rattle.edm_values.specs.Val
+pub mod Arithmetic
+pub mod Comparable
+pub mod Comparison
+pub mod Connectives
+pub mod DatumVal
+pub mod Division
+pub mod Promotion

@@ -1,0 +1,92 @@
+//! Arithmetic on whole numbers, None being null.
+ghost use Rattle.std.specs.Prelude.{ℤ, IfSome, SomeIff, FitsSigned};
+ghost use Rattle.std.specs.Int.{w64};
+ghost use Rattle.edm_values.specs.NumberTypes.{IsNumberOf};
+ghost use Rattle.odata_functions.specs.Promotion.{IsPromoted};
+
+use edm_values::Prim;
+use thiserror::Error;
+
+/// An arithmetic operator with two operands (section 5.1.1.2).
+#[derive(Clone, Copy, Debug, PartialEq, Eq)]
+pub enum ArithmeticOperator {
+    Add,
+    Sub,
+    Mul,
+    Div,
+    Mod,
+}
+
+/// Why arithmetic has no result.
+#[derive(Clone, Copy, Debug, PartialEq, Eq, Error)]
+pub enum ArithFault {
+    #[error("the result lies outside its type")]
+    Overflow,
+    #[error("division by zero")]
+    DivideByZero,
+}
+
+ghost use Rattle.odata_functions.specs.Arithmetic.{ArithmeticGives, ComesWithin, NegationGives, NumbersGive};
+
+/// What the operator makes of two operands of a type, in that type; null where one is null.
+pub fn arith(
+    operator: ArithmeticOperator,
+    kind: Prim,
+    left: Option<i64>,
+    right: Option<i64>,
+) -> Result<Option<i64>, ArithFault>
+    requires promoted { IsPromoted kind }
+    requires left { IfSome left (IsNumberOf kind) }
+    requires right { IfSome right (IsNumberOf kind) }
+    ensures { ArithmeticGives operator kind left right result }
+{
+    match (left, right) {
+        (Some(a), Some(b)) => of_numbers(operator, kind, a, b),
+        _ => Ok(None),
+    }
+}
+
+/// The negation of an operand of a type, in that type; null of null.
+pub fn negate(kind: Prim, operand: Option<i64>) -> Result<Option<i64>, ArithFault>
+    requires promoted { IsPromoted kind }
+    requires operand { IfSome operand (IsNumberOf kind) }
+    ensures { NegationGives kind operand result }
+{
+    match operand {
+        Some(n) => within(kind, n.checked_neg()),
+        None => Ok(None),
+    }
+}
+
+/// What the operator makes of two numbers, in a type.
+fn of_numbers(
+    operator: ArithmeticOperator,
+    kind: Prim,
+    a: i64,
+    b: i64,
+) -> Result<Option<i64>, ArithFault>
+    requires promoted { IsPromoted kind }
+    ensures { NumbersGive operator kind a b result }
+{
+    match operator {
+        ArithmeticOperator::Add => within(kind, a.checked_add(b)),
+        ArithmeticOperator::Sub => within(kind, a.checked_sub(b)),
+        ArithmeticOperator::Mul => within(kind, a.checked_mul(b)),
+        ArithmeticOperator::Div | ArithmeticOperator::Mod if b == 0 => Err(
+            ArithFault::DivideByZero,
+        ),
+        ArithmeticOperator::Div => within(kind, a.checked_div(b)),
+        ArithmeticOperator::Mod => within(kind, Some(a.wrapping_rem(b))),
+    }
+}
+
+/// The number, if it lies within the type. There is none where it is not even within `Edm.Int64`.
+fn within(kind: Prim, number: Option<i64>) -> Result<Option<i64>, ArithFault>
+    requires promoted { IsPromoted kind }
+    ensures { (n : ℤ) → SomeIff number (FitsSigned w64 n) n → ComesWithin kind n result }
+{
+    match number {
+        Some(n) if kind.holds_number(n) => Ok(Some(n)),
+        _ => Err(ArithFault::Overflow),
+    }
+}

@@ -1,0 +1,69 @@
+//! Comparison of two values.
+ghost use Rattle.std.specs.Prelude.{◌↔◌, IsTrue};
+ghost use Rattle.odata_functions.specs.DatumVal.{Reading, datum_val};
+
+use edm_values::Datum;
+
+/// A comparison operator (sections 5.1.1.1.1 to 5.1.1.1.6).
+#[derive(Clone, Copy, Debug, PartialEq, Eq)]
+pub enum ComparisonOperator {
+    Eq,
+    Ne,
+    Gt,
+    Ge,
+    Lt,
+    Le,
+}
+
+ghost use Rattle.odata_functions.specs.Comparable.{AreComparableBy};
+ghost use Rattle.odata_functions.specs.Comparison.{AreEqual, ComparesTrue, IsGreater};
+
+/// Whether the comparison is true.
+pub fn compare(operator: ComparisonOperator, left: &Datum<'_>, right: &Datum<'_>) -> bool
+    requires { (l : Reading) × (r : Reading)
+        × AreComparableBy operator (datum_val l left.now) (datum_val r right.now) }
+    ensures { (l r : Reading)
+        → IsTrue result ↔ ComparesTrue operator (datum_val l left.now) (datum_val r right.now) }
+{
+    match operator {
+        ComparisonOperator::Eq => are_equal(left, right),
+        ComparisonOperator::Ne => !are_equal(left, right),
+        ComparisonOperator::Gt => is_greater(left, right),
+        ComparisonOperator::Ge => is_greater(left, right) || are_equal(left, right),
+        ComparisonOperator::Lt => is_greater(right, left),
+        ComparisonOperator::Le => is_greater(right, left) || are_equal(left, right),
+    }
+}
+
+/// Whether they are equal. Null equals itself and nothing else.
+fn are_equal(left: &Datum<'_>, right: &Datum<'_>) -> bool
+    ensures { (l r : Reading) → IsTrue result ↔ AreEqual (datum_val l left.now) (datum_val r right.now) }
+{
+    match left {
+        Datum::Null => matches!(right, Datum::Null),
+        Datum::Bool(l) => matches!(right, Datum::Bool(r) if l == r),
+        Datum::Int(l) => matches!(right, Datum::Int(r) if l == r),
+        Datum::Text(l) => matches!(right, Datum::Text(r) if l.as_str() == r.as_str()),
+        Datum::Date(l) => matches!(right, Datum::Date(r) if l == r),
+        Datum::Moment(l) =>
+            matches!(right, Datum::Moment(r) if l.instant_nanos() == r.instant_nanos()),
+        Datum::Guid(l) => matches!(right, Datum::Guid(r) if l == r),
+        Datum::Enum(l) => matches!(right, Datum::Enum(r) if l == r),
+        Datum::Record(_) | Datum::List(_) => false,
+    }
+}
+
+/// Whether the left value is the greater one. Null is greater than nothing, and nothing than null.
+fn is_greater(left: &Datum<'_>, right: &Datum<'_>) -> bool
+    ensures { (l r : Reading) → IsTrue result ↔ IsGreater (datum_val l left.now) (datum_val r right.now) }
+{
+    match left {
+        Datum::Bool(l) => matches!(right, Datum::Bool(r) if *l && !*r),
+        Datum::Int(l) => matches!(right, Datum::Int(r) if l > r),
+        Datum::Text(l) => matches!(right, Datum::Text(r) if l.as_str() > r.as_str()),
+        Datum::Date(l) => matches!(right, Datum::Date(r) if l > r),
+        Datum::Moment(l) =>
+            matches!(right, Datum::Moment(r) if l.instant_nanos() > r.instant_nanos()),
+        Datum::Null | Datum::Guid(_) | Datum::Enum(_) | Datum::Record(_) | Datum::List(_) => false,
+    }
+}

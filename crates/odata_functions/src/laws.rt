@@ -1,0 +1,47 @@
+//! What holds of all values. Each law is the contract of a function that does nothing.
+ghost use Rattle.std.specs.Prelude.{◌≡◌, ◌≢◌, ◌↔◌, ℕ, ℤ, pos, List, Option, Some, Result, IsSome, IfSome};
+ghost use Rattle.std.specs.Ordering.{nat_cmp};
+ghost use Rattle.std.specs.Str.{IsUtf8, chars};
+ghost use Rattle.std.specs.Cmp.Lexicographic.{slice_cmp};
+ghost use Rattle.edm_values.specs.NumberTypes.{IsNumberType, IsNumberOf};
+ghost use Rattle.edm_values.specs.declared.primitive.PrimitiveType.{PrimitiveType};
+ghost use Rattle.odata_functions.specs.Arithmetic.{ArithmeticGives, NegationGives};
+ghost use Rattle.odata_functions.specs.Comparison.{text_cmp};
+ghost use Rattle.odata_functions.specs.Division.{IsDivision};
+ghost use Rattle.odata_functions.specs.Promotion.{promotion, negation_type, IsPromoted};
+ghost use Rattle.odata_functions.specs.declared.arithmetic.ArithFault.{ArithFault};
+ghost use Rattle.odata_functions.specs.declared.arithmetic.ArithmeticOperator.{ArithmeticOperator};
+
+/// Texts are in the order of their bytes in UTF-8, and equal where these are.
+pub fn texts_in_byte_order()
+    ensures order { (s t : List ℕ) → IsUtf8 s → IsUtf8 t → text_cmp s t ≡ slice_cmp nat_cmp s t }
+    ensures equal { (s t : List ℕ) → IsUtf8 s → IsUtf8 t → (chars s ≡ chars t) ↔ (s ≡ t) }
+{}
+
+/// Two numbers have one quotient and one remainder, unless the second is zero; then they have none.
+pub fn divisions_are_unique()
+    ensures there { (a b : ℤ) → b ≢ pos 0 → (q : ℤ) × (r : ℤ) × IsDivision a b q r }
+    ensures quotient { (a b q r p s : ℤ) → IsDivision a b q r → IsDivision a b p s → q ≡ p }
+    ensures remainder { (a b q r p s : ℤ) → IsDivision a b q r → IsDivision a b p s → r ≡ s }
+    ensures zero { (a q r : ℤ) → ¬ (IsDivision a (pos 0) q r) }
+{}
+
+/// An operator makes one thing of two operands, and a negation of one.
+pub fn arithmetic_has_one_answer()
+    ensures one { (operator : ArithmeticOperator) (kind : PrimitiveType) (left right : Option ℤ)
+        (x y : Result (Option ℤ) ArithFault) → ArithmeticGives operator kind left right x
+        → ArithmeticGives operator kind left right y → x ≡ y }
+    ensures negation { (kind : PrimitiveType) (operand : Option ℤ) (x y : Result (Option ℤ) ArithFault)
+        → NegationGives kind operand x → NegationGives kind operand y → x ≡ y }
+{}
+
+/// Operands lie within the type in which they are computed, which is one of three.
+pub fn operands_lie_within_promotion()
+    ensures left { (l t : PrimitiveType) (r : Option PrimitiveType) (n : ℤ) → IsNumberType l
+        → IfSome r IsNumberType → promotion (Some l) r ≡ Some t → IsNumberOf l n → IsNumberOf t n }
+    ensures right { (l : Option PrimitiveType) (r t : PrimitiveType) (n : ℤ) → IfSome l IsNumberType
+        → IsNumberType r → promotion l (Some r) ≡ Some t → IsNumberOf r n → IsNumberOf t n }
+    ensures negation { (o t : PrimitiveType) (n : ℤ) → IsNumberType o → negation_type (Some o) ≡ Some t
+        → IsNumberOf o n → IsNumberOf t n }
+    ensures three { (l r : Option PrimitiveType) (t : PrimitiveType) → promotion l r ≡ Some t → IsPromoted t }
+{}
