@@ -27,6 +27,7 @@ pub enum ArithFault {
 }
 
 ghost use Rattle.odata_functions.specs.Arithmetic.{ArithmeticGives, ComesWithin, NegationGives, NumbersGive};
+ghost use Rattle.odata_functions.specs.declared.arithmetic.ArithmeticOperator.TheVariants.{Div, Mod};
 
 /// What the operator makes of two operands of a type, in that type; null where one is null.
 pub fn arith(
@@ -72,12 +73,31 @@ fn of_numbers(
         ArithmeticOperator::Add => within(kind, a.checked_add(b)),
         ArithmeticOperator::Sub => within(kind, a.checked_sub(b)),
         ArithmeticOperator::Mul => within(kind, a.checked_mul(b)),
-        ArithmeticOperator::Div | ArithmeticOperator::Mod if b == 0 => Err(
-            ArithFault::DivideByZero,
-        ),
-        ArithmeticOperator::Div => within(kind, a.checked_div(b)),
-        ArithmeticOperator::Mod => within(kind, Some(a.wrapping_rem(b))),
+        ArithmeticOperator::Div => quotient(kind, a, b),
+        ArithmeticOperator::Mod => remainder(kind, a, b),
     }
+}
+
+/// The quotient, cut toward zero. That of the least number and -1 lies outside every type.
+fn quotient(kind: Prim, a: i64, b: i64) -> Result<Option<i64>, ArithFault>
+    requires promoted { IsPromoted kind }
+    ensures { NumbersGive Div kind a b result }
+{
+    if b == 0 {
+        return Err(ArithFault::DivideByZero);
+    }
+    within(kind, a.checked_div(b))
+}
+
+/// The remainder of that division: zero or of `a`'s sign. Beside -1 it is zero, whatever the quotient.
+fn remainder(kind: Prim, a: i64, b: i64) -> Result<Option<i64>, ArithFault>
+    requires promoted { IsPromoted kind }
+    ensures { NumbersGive Mod kind a b result }
+{
+    if b == 0 {
+        return Err(ArithFault::DivideByZero);
+    }
+    within(kind, Some(a.wrapping_rem(b)))
 }
 
 /// The number, if it lies within the type. There is none where it is not even within `Edm.Int64`.

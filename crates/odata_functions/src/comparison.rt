@@ -1,5 +1,7 @@
 //! Comparison of two values.
-ghost use Rattle.std.specs.Prelude.{◌↔◌, IsTrue};
+ghost use Rattle.std.specs.Prelude.{◌≡◌, ◌↔◌, IsTrue};
+ghost use Rattle.std.specs.Str.{chars};
+ghost use Rattle.std.specs.declared.cmp.Ordering.TheVariants.{Greater};
 ghost use Rattle.odata_functions.specs.DatumVal.{Reading, datum_val};
 
 use edm_values::Datum;
@@ -16,7 +18,7 @@ pub enum ComparisonOperator {
 }
 
 ghost use Rattle.odata_functions.specs.Comparable.{AreComparableBy};
-ghost use Rattle.odata_functions.specs.Comparison.{AreEqual, ComparesTrue, IsGreater};
+ghost use Rattle.odata_functions.specs.Comparison.{AreEqual, ComparesTrue, IsGreater, text_cmp};
 
 /// Whether the comparison is true.
 pub fn compare(operator: ComparisonOperator, left: &Datum<'_>, right: &Datum<'_>) -> bool
@@ -43,7 +45,7 @@ fn are_equal(left: &Datum<'_>, right: &Datum<'_>) -> bool
         Datum::Null => matches!(right, Datum::Null),
         Datum::Bool(l) => matches!(right, Datum::Bool(r) if l == r),
         Datum::Int(l) => matches!(right, Datum::Int(r) if l == r),
-        Datum::Text(l) => matches!(right, Datum::Text(r) if l.as_str() == r.as_str()),
+        Datum::Text(l) => matches!(right, Datum::Text(r) if is_same_text(l.as_str(), r.as_str())),
         Datum::Date(l) => matches!(right, Datum::Date(r) if l == r),
         Datum::Moment(l) =>
             matches!(right, Datum::Moment(r) if l.instant_nanos() == r.instant_nanos()),
@@ -60,10 +62,25 @@ fn is_greater(left: &Datum<'_>, right: &Datum<'_>) -> bool
     match left {
         Datum::Bool(l) => matches!(right, Datum::Bool(r) if *l && !*r),
         Datum::Int(l) => matches!(right, Datum::Int(r) if l > r),
-        Datum::Text(l) => matches!(right, Datum::Text(r) if l.as_str() > r.as_str()),
+        Datum::Text(l) =>
+            matches!(right, Datum::Text(r) if is_greater_text(l.as_str(), r.as_str())),
         Datum::Date(l) => matches!(right, Datum::Date(r) if l > r),
         Datum::Moment(l) =>
             matches!(right, Datum::Moment(r) if l.instant_nanos() > r.instant_nanos()),
         Datum::Null | Datum::Guid(_) | Datum::Enum(_) | Datum::Record(_) | Datum::List(_) => false,
     }
+}
+
+/// Whether the texts have the same characters.
+fn is_same_text(left: &str, right: &str) -> bool
+    ensures { IsTrue result ↔ (chars left.now ≡ chars right.now) }
+{
+    left == right
+}
+
+/// Whether the left text is the greater one, by the scalar values of its characters. The bytes are in that order.
+fn is_greater_text(left: &str, right: &str) -> bool
+    ensures { IsTrue result ↔ (text_cmp left.now right.now ≡ Greater) }
+{
+    left > right
 }

@@ -1,0 +1,5 @@
+pub mod Divisions
+pub mod Encodings
+pub mod Numbers
+pub mod TextOrder
+pub mod Widening
