@@ -1,3 +1,4 @@
+pub mod Decided
 pub mod Divisions
 pub mod Encodings
 pub mod Numbers

@@ -1,14 +1,20 @@
 -- Arithmetic has one answer.
-use Rattle.std.proofs.Common.{◌≡◌, ℤ, pos, refl, sym, ap, subst, ◌∙◌, Option, Some, None, Result, Ok, Err, SomeIff, FitsSigned, int_div}
-use Rattle.std.specs.Int.{w64, IsNonZero, CanDivide}
+use Rattle.std.proofs.Common.{◌≡◌, ◌≢◌, ◌⊎◌, inl, inr, ⊎_elim, zero, suc, ◌^◌, ℤ, pos, negsuc, neg_ℤ, ◌+ℤ◌, ◌-ℤ◌, ◌*ℤ◌, arith, refl, sym, ap, subst, ◌∙◌, Option, Some, None, Result, Ok, Err, SomeIff, FitsSigned, int_div, int_rem}
+use Rattle.std.proofs.lemmas.Bool.{cases_lt}
+use Rattle.std.specs.Int.{Width, w16, w32, w64, IsNonZero, CanDivide}
+use Rattle.std.specs.Int.Signed.{mag}
+use mir.Val.{hbits}
+use Rattle.edm_values.specs.NumberTypes.{IsNumberOf}
 use Rattle.edm_values.specs.declared.primitive.PrimitiveType.{PrimitiveType}
+use Rattle.edm_values.specs.declared.primitive.PrimitiveType.TheVariants as type
 use Rattle.odata_functions.specs.Arithmetic.{MakesNumber, IsDividing, ComesWithin, NumbersGive, ArithmeticGives, NegationGives}
 use Rattle.odata_functions.specs.Division.{IsDivision}
+use Rattle.odata_functions.specs.Promotion.{IsPromoted}
 use Rattle.odata_functions.specs.declared.arithmetic.ArithFault.{ArithFault}
 use Rattle.odata_functions.specs.declared.arithmetic.ArithFault.TheVariants.{Overflow, DivideByZero}
 use Rattle.odata_functions.specs.declared.arithmetic.ArithmeticOperator.{ArithmeticOperator}
 use Rattle.odata_functions.specs.declared.arithmetic.ArithmeticOperator.TheVariants.{Add, Sub, Mul, Div, Mod}
-use Rattle.odata_functions.proofs.Divisions.{none_by_zero, one_quotient, one_remainder}
+use Rattle.odata_functions.proofs.Divisions.{division, none_by_zero, one_quotient, one_remainder}
 
 one_number : (operator : ArithmeticOperator) (a b m n : ℤ) → MakesNumber operator a b m → MakesNumber operator a b n → m ≡ n
 one_number Add a b m n first second = first ∙ sym second
@@ -73,3 +79,56 @@ pub quotient_fits : (a b : ℤ) (o : Option ℤ) → IsNonZero w64 b → SomeIff
     → SomeIff o (FitsSigned w64 (int_div a b)) (int_div a b)
 quotient_fits a b None other is = λ fits. is (other, fits)
 quotient_fits a b (Some n) other is = (is.0.1, is.1)
+
+zero_or_not : (b : ℤ) → (b ≡ pos 0) ⊎ (b ≢ pos 0)
+zero_or_not (pos zero) = inl refl
+zero_or_not (pos (suc n)) = inr (λ e. cc)
+zero_or_not (negsuc n) = inr (λ e. cc)
+
+module _ (n : ℤ) where
+  fits_or_not : (w : Width) → FitsSigned w n ⊎ (¬ (FitsSigned w n))
+  fits_or_not w = ⊎_elim (λ h. inl (record { sfits = h })) (λ g. inr (λ f. absurd (omega (arith, f.sfits)))) (cases_lt (mag n) (2 ^ hbits w))
+
+  within_or_not : (kind : PrimitiveType) → IsPromoted kind → IsNumberOf kind n ⊎ (¬ (IsNumberOf kind n))
+  within_or_not type.Int16 is = fits_or_not w16
+  within_or_not type.Int32 is = fits_or_not w32
+  within_or_not type.Int64 is = fits_or_not w64
+  within_or_not type.Bool is = absurd is
+  within_or_not type.Byte is = absurd is
+  within_or_not type.SByte is = absurd is
+  within_or_not type.String is = absurd is
+  within_or_not type.Date is = absurd is
+  within_or_not type.DateTimeOffset is = absurd is
+  within_or_not type.Guid is = absurd is
+
+  comes_to : (kind : PrimitiveType) → IsPromoted kind → (x : Result (Option ℤ) ArithFault) × ComesWithin kind n x
+  comes_to kind is = ⊎_elim (λ h. (Ok (Some n), (refl, h))) (λ no. (Err Overflow, (refl, no))) (within_or_not kind is)
+
+pub negation_there : (kind : PrimitiveType) (operand : Option ℤ) → IsPromoted kind → (x : Result (Option ℤ) ArithFault) × NegationGives kind operand x
+negation_there kind None is = (Ok None, refl)
+negation_there kind (Some a) is = comes_to (neg_ℤ a) kind is
+
+module _ (kind : PrimitiveType) (is : IsPromoted kind) (a b : ℤ) where
+  from_number : (operator : ArithmeticOperator) (n : ℤ) → MakesNumber operator a b n → (x : Result (Option ℤ) ArithFault) × NumbersGive operator kind a b x
+  from_number operator n made =
+      let comes = comes_to n kind is in
+      (comes.0, number_gives operator kind a b n comes.0 made comes.1)
+
+  divided : (operator : ArithmeticOperator) → IsDividing operator
+      → (b ≢ pos 0 → (x : Result (Option ℤ) ArithFault) × NumbersGive operator kind a b x)
+      → (b ≡ pos 0) ⊎ (b ≢ pos 0) → (x : Result (Option ℤ) ArithFault) × NumbersGive operator kind a b x
+  divided operator divides given (inl is_zero) = (Err DivideByZero, (divides, is_zero))
+  divided operator divides given (inr other) = given other
+
+  numbers_there : (operator : ArithmeticOperator) → (x : Result (Option ℤ) ArithFault) × NumbersGive operator kind a b x
+  numbers_there Add = from_number Add (a +ℤ b) refl
+  numbers_there Sub = from_number Sub (a -ℤ b) refl
+  numbers_there Mul = from_number Mul (a *ℤ b) refl
+  numbers_there Div = divided Div tt (λ other. from_number Div (int_div a b) (int_rem a b, division a b other)) (zero_or_not b)
+  numbers_there Mod = divided Mod tt (λ other. from_number Mod (int_rem a b) (int_div a b, division a b other)) (zero_or_not b)
+
+pub arithmetic_there : (operator : ArithmeticOperator) (kind : PrimitiveType) (left right : Option ℤ) → IsPromoted kind
+    → (x : Result (Option ℤ) ArithFault) × ArithmeticGives operator kind left right x
+arithmetic_there operator kind None right is = (Ok None, refl)
+arithmetic_there operator kind (Some a) None is = (Ok None, refl)
+arithmetic_there operator kind (Some a) (Some b) is = numbers_there kind is a b operator

@@ -46,7 +46,7 @@ pub same_test : (s t : List ℕ) (b : Bool) → IsUtf8 s → IsUtf8 t → b ≡ 
 same_test s t true of_s of_t told = (λ is. ap chars (same_text s t told), λ same. refl)
 same_test s t false of_s of_t told = (λ is. cc, λ same. absurd (other_text s t told (same_characters s t of_s of_t same)))
 
-only_greater : (o : Ordering) → is_gt o ≡ true → o ≡ Greater
+pub only_greater : (o : Ordering) → is_gt o ≡ true → o ≡ Greater
 only_greater Less is = cc
 only_greater Equal is = cc
 only_greater Greater is = refl

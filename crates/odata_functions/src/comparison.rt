@@ -22,8 +22,7 @@ ghost use Rattle.odata_functions.specs.Comparison.{AreEqual, ComparesTrue, IsGre
 
 /// Whether the comparison is true.
 pub fn compare(operator: ComparisonOperator, left: &Datum<'_>, right: &Datum<'_>) -> bool
-    requires { (l : Reading) × (r : Reading)
-        × AreComparableBy operator (datum_val l left.now) (datum_val r right.now) }
+    requires { (l r : Reading) → AreComparableBy operator (datum_val l left.now) (datum_val r right.now) }
     ensures { (l r : Reading)
         → IsTrue result ↔ ComparesTrue operator (datum_val l left.now) (datum_val r right.now) }
 {

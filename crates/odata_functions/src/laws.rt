@@ -1,16 +1,21 @@
 //! What holds of all values. Each law is the contract of a function that does nothing.
-ghost use Rattle.std.specs.Prelude.{◌≡◌, ◌≢◌, ◌↔◌, ℕ, ℤ, pos, List, Option, Some, Result, IsSome, IfSome};
+ghost use Rattle.std.specs.Prelude.{◌≡◌, ◌≢◌, ◌↔◌, ℕ, ℤ, pos, Bool, IsTrue, List, Option, Some, Result, IfSome};
 ghost use Rattle.std.specs.Ordering.{nat_cmp};
 ghost use Rattle.std.specs.Str.{IsUtf8, chars};
 ghost use Rattle.std.specs.Cmp.Lexicographic.{slice_cmp};
 ghost use Rattle.edm_values.specs.NumberTypes.{IsNumberType, IsNumberOf};
 ghost use Rattle.edm_values.specs.declared.primitive.PrimitiveType.{PrimitiveType};
+ghost use Rattle.edm_values.specs.Val.{Val};
+ghost use Rattle.edm_values.specs.declared.datum.Datum.{Datum};
 ghost use Rattle.odata_functions.specs.Arithmetic.{ArithmeticGives, NegationGives};
-ghost use Rattle.odata_functions.specs.Comparison.{text_cmp};
+ghost use Rattle.odata_functions.specs.Comparable.{AreComparableBy};
+ghost use Rattle.odata_functions.specs.Comparison.{ComparesTrue, text_cmp};
+ghost use Rattle.odata_functions.specs.DatumVal.{Reading, datum_val};
 ghost use Rattle.odata_functions.specs.Division.{IsDivision};
 ghost use Rattle.odata_functions.specs.Promotion.{promotion, negation_type, IsPromoted};
 ghost use Rattle.odata_functions.specs.declared.arithmetic.ArithFault.{ArithFault};
 ghost use Rattle.odata_functions.specs.declared.arithmetic.ArithmeticOperator.{ArithmeticOperator};
+ghost use Rattle.odata_functions.specs.declared.comparison.ComparisonOperator.{ComparisonOperator};
 
 /// Texts are in the order of their bytes in UTF-8, and equal where these are.
 pub fn texts_in_byte_order()
@@ -26,8 +31,22 @@ pub fn divisions_are_unique()
     ensures zero { (a q r : ℤ) → ¬ (IsDivision a (pos 0) q r) }
 {}
 
+/// A comparison is true or it is not, of any two values; and two values are comparable however the values of records and
+/// lists are read.
+pub fn comparisons_are_decided()
+    ensures decided { (operator : ComparisonOperator) (v w : Val)
+        → (answer : Bool) × (IsTrue answer ↔ ComparesTrue operator v w) }
+    ensures any_reading { (operator : ComparisonOperator) (left right : Datum) (l r k s : Reading)
+        → AreComparableBy operator (datum_val l left) (datum_val r right)
+        → AreComparableBy operator (datum_val k left) (datum_val s right) }
+{}
+
 /// An operator makes one thing of two operands, and a negation of one.
 pub fn arithmetic_has_one_answer()
+    ensures there { (operator : ArithmeticOperator) (kind : PrimitiveType) (left right : Option ℤ) → IsPromoted kind
+        → (x : Result (Option ℤ) ArithFault) × ArithmeticGives operator kind left right x }
+    ensures negation_there { (kind : PrimitiveType) (operand : Option ℤ) → IsPromoted kind
+        → (x : Result (Option ℤ) ArithFault) × NegationGives kind operand x }
     ensures one { (operator : ArithmeticOperator) (kind : PrimitiveType) (left right : Option ℤ)
         (x y : Result (Option ℤ) ArithFault) → ArithmeticGives operator kind left right x
         → ArithmeticGives operator kind left right y → x ≡ y }

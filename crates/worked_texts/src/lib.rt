@@ -2,6 +2,12 @@
 #![tactic(auto)]
 
 #[cfg(test)]
+mod arithmetic;
+#[cfg(test)]
+mod comparisons;
+#[cfg(test)]
+mod connectives;
+#[cfg(test)]
 mod dates;
 #[cfg(test)]
 mod enumerations;

@@ -1,0 +1,30 @@
+//! The tables of `and`, `or` and `not`; None is null.
+use odata_functions::{and3, not3, or3};
+
+const TRUE: Option<bool> = Some(true);
+
+const FALSE: Option<bool> = Some(false);
+
+/// Two operands, then what `and` and what `or` make of them.
+const TABLE: [(Option<bool>, Option<bool>, Option<bool>, Option<bool>); 9] = [
+    (TRUE, TRUE, TRUE, TRUE),
+    (TRUE, FALSE, FALSE, TRUE),
+    (TRUE, None, None, TRUE),
+    (FALSE, TRUE, FALSE, TRUE),
+    (FALSE, FALSE, FALSE, FALSE),
+    (FALSE, None, FALSE, None),
+    (None, TRUE, None, TRUE),
+    (None, FALSE, FALSE, None),
+    (None, None, None, None),
+];
+
+#[test]
+fn tables(rt: HostRuntime) {
+    for (left, right, both, either) in TABLE {
+        assert_eq!(rt; and3(left, right), both, "at {left:?} and {right:?}");
+        assert_eq!(rt; or3(left, right), either, "at {left:?} or {right:?}");
+    }
+    for (operand, opposite) in [(TRUE, FALSE), (FALSE, TRUE), (None, None)] {
+        assert_eq!(rt; not3(operand), opposite, "at {operand:?}");
+    }
+}
