@@ -14,7 +14,7 @@ pub use comparability::comparable;
 pub use comparison::{ComparisonOperator, compare};
 pub use connectives::{and3, not3, or3};
 pub use laws::{
-    arithmetic_has_one_answer, divisions_are_unique, operands_lie_within_promotion,
-    texts_in_byte_order,
+    arithmetic_has_one_answer, comparisons_are_decided, divisions_are_unique,
+    operands_lie_within_promotion, texts_in_byte_order,
 };
 pub use promoting::{negation_type, promotion};
