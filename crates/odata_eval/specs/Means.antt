@@ -9,10 +9,11 @@ use Rattle.odata_eval.specs.LeftFirst.{After}
 use Rattle.odata_eval.specs.LiteralGives.{LiteralGives}
 use Rattle.odata_eval.specs.NameGives.{NameGives}
 use Rattle.odata_eval.specs.OperatorGives.{OperatorGives}
-use Rattle.odata_eval.specs.Outcome.{Outcome}
+use Rattle.odata_eval.specs.Outcome.{NoOutcome, Outcome}
 
 -- the outcomes of a tree under the types' properties, the filtered type's name, the moment that `now` stands for, the
--- entity and the variables around the tree; a tree for which no case applies has none
+-- entity and the variables around the tree; a tree for which no case applies has none,
+-- as one of a form that has no meaning yet
 abbrev mutual
   pub Means : Slots → List ℕ → MomentParts → Val → Environment → Tree → Outcome → Type 0
   Means slots root now entity environment (node start stop shape) = ShapeMeans slots root now entity environment shape
@@ -23,3 +24,4 @@ abbrev mutual
   ShapeMeans slots root now entity environment (binary operator left right) =
       After (Means slots root now entity environment left)
       (λ l. OperatorGives operator l (Means slots root now entity environment right))
+  ShapeMeans slots root now entity environment shape = NoOutcome

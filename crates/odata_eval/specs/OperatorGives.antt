@@ -5,9 +5,11 @@ use Rattle.odata_syntax.specs.declared.node.BinaryOperator.TheVariants.{And, Eq}
 use Rattle.odata_eval.specs.AndGives.{AndGives}
 use Rattle.odata_eval.specs.EqualGives.{EqualGives}
 use Rattle.odata_eval.specs.LeftFirst.{After}
-use Rattle.odata_eval.specs.Outcome.{Outcome}
+use Rattle.odata_eval.specs.Outcome.{Outcome, NoOutcome}
 
--- of its left value and the outcomes of its right side: `and` may do without the right side, `eq` takes both
+-- of its left value and the outcomes of its right side: `and` may do without the right side, `eq` takes both; the other
+-- operators have no meaning yet
 abbrev pub OperatorGives : BinaryOperator → Val → (Outcome → Type 0) → Outcome → Type 0
 OperatorGives And l Right = AndGives l Right
 OperatorGives Eq l Right = After Right (EqualGives l)
+OperatorGives operator l Right = NoOutcome

@@ -12,3 +12,7 @@ abbrev pub GivesSome : (Val → Type 0) → Outcome → Type 0
 GivesSome P (gives v) = P v
 GivesSome P overflow = ⊥
 GivesSome P divides_by_zero = ⊥
+
+-- no outcome at all
+abbrev pub NoOutcome : Outcome → Type 0
+NoOutcome o = ⊥

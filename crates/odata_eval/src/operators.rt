@@ -1,4 +1,4 @@
-//! What an operator makes of values that are there.
+//! What an operator makes of values that are there. Only `and` and `eq` have a meaning yet.
 ghost use Rattle.std.specs.Prelude.{◌≡◌, ◌↔◌, true, false, Some, Option, Bool, IsTrue, IsSomeAnd};
 ghost use Rattle.edm_values.specs.Val.{boolean};
 ghost use Rattle.odata_eval.specs.AndGives.{AndGives};
@@ -19,6 +19,17 @@ pub(crate) fn is_logical(operator: BinaryOperator) -> bool
     match operator {
         BinaryOperator::And => true,
         BinaryOperator::Eq => false,
+        BinaryOperator::Or
+        | BinaryOperator::Ne
+        | BinaryOperator::Gt
+        | BinaryOperator::Ge
+        | BinaryOperator::Lt
+        | BinaryOperator::Le
+        | BinaryOperator::Add
+        | BinaryOperator::Sub
+        | BinaryOperator::Mul
+        | BinaryOperator::Div
+        | BinaryOperator::Mod => false,
     }
 }
 
@@ -54,6 +65,17 @@ pub(crate) fn decides(operator: BinaryOperator, left: Option<bool>) -> bool
     match operator {
         BinaryOperator::And => matches!(left, Some(false)),
         BinaryOperator::Eq => false,
+        BinaryOperator::Or
+        | BinaryOperator::Ne
+        | BinaryOperator::Gt
+        | BinaryOperator::Ge
+        | BinaryOperator::Lt
+        | BinaryOperator::Le
+        | BinaryOperator::Add
+        | BinaryOperator::Sub
+        | BinaryOperator::Mul
+        | BinaryOperator::Div
+        | BinaryOperator::Mod => false,
     }
 }
 
@@ -69,6 +91,17 @@ pub(crate) fn joined(
     match operator {
         BinaryOperator::And => and3(left, right),
         BinaryOperator::Eq => unreachable!(),
+        BinaryOperator::Or
+        | BinaryOperator::Ne
+        | BinaryOperator::Gt
+        | BinaryOperator::Ge
+        | BinaryOperator::Lt
+        | BinaryOperator::Le
+        | BinaryOperator::Add
+        | BinaryOperator::Sub
+        | BinaryOperator::Mul
+        | BinaryOperator::Div
+        | BinaryOperator::Mod => unreachable!(),
     }
 }
 
@@ -82,5 +115,16 @@ pub(crate) fn applied<'e>(operator: BinaryOperator, left: &Seen<'_>, right: &See
     match operator {
         BinaryOperator::And => unreachable!(),
         BinaryOperator::Eq => Datum::Bool(equal(left, right)),
+        BinaryOperator::Or
+        | BinaryOperator::Ne
+        | BinaryOperator::Gt
+        | BinaryOperator::Ge
+        | BinaryOperator::Lt
+        | BinaryOperator::Le
+        | BinaryOperator::Add
+        | BinaryOperator::Sub
+        | BinaryOperator::Mul
+        | BinaryOperator::Div
+        | BinaryOperator::Mod => unreachable!(),
     }
 }

@@ -1,2 +1,4 @@
-pub mod machine
 pub mod laws
+pub mod machine
+pub mod normal_forms
+pub mod printing

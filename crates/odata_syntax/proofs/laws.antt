@@ -1,3 +1,5 @@
-pub mod Spans
 pub mod Faults
 pub mod FirstRuns
+pub mod Spans
+pub mod Nesting
+pub mod Deep

@@ -1,5 +1,10 @@
-pub mod Run
 pub mod Lexemes
+pub mod Run
+pub mod Reading
 pub mod Complete
+pub mod Stacks
 pub mod Sound
+pub mod Depth
+pub mod Tails
+pub mod Loop
 pub mod Fronts

@@ -1,4 +1,8 @@
+pub use Rattle.odata_text.specs.Spelling
 pub use Rattle.odata_text.specs.TokenModel
+pub use Rattle.odata_text.specs.LiteralSpelling
+pub use Rattle.odata_text.specs.TokenSequence
+pub use Rattle.odata_text.specs.Tokens
 pub mod Tree
 pub mod TreeView
 pub mod Lexeme
@@ -6,5 +10,9 @@ pub mod Grammar
 pub mod Front
 pub mod Parse
 pub mod Spans
+pub mod NormalForm
+pub mod CanonicalText
+pub mod Appended
+pub mod ReadBack
 pub mod FirstRun
 pub mod private

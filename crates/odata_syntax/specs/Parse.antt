@@ -5,6 +5,7 @@ use Rattle.odata_syntax.specs.declared.syntax_fault.SyntaxFault.{SyntaxFault}
 use Rattle.odata_text.specs.TokenModel.{TokenModel}
 use Rattle.odata_syntax.specs.Tree.{Tree}
 use Rattle.odata_syntax.specs.Grammar.{or_level, Derives}
+use Rattle.odata_text.specs.TokenSequence.{AreTextTokens}
 use Rattle.odata_syntax.specs.Front.{IsShallow, IsFront, IsWideFront}
 
 -- the tree of a whole expression, nowhere too deep
@@ -55,7 +56,9 @@ IsSyntaxFault ts len (SyntaxFault.Unexpected span) = IsFirstWrong ts span ⊎ Is
 IsSyntaxFault ts len (SyntaxFault.TooDeep span) = IsFirstDeep ts span
 IsSyntaxFault ts len SyntaxFault.Memory = ⊥
 
--- the tree of some tokens
+-- the tree of tokens that are spelled by their kinds, one behind another
 pub record IsExpression (tree : Tree) : Type 0 where
   pub tokens : List TokenModel
+  pub length : ℕ
+  pub of_text : AreTextTokens 0 length tokens
   pub parsed : IsParse tokens tree

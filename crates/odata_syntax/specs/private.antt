@@ -1,2 +1,4 @@
 pub mod Machine
 pub mod MachineView
+pub mod Prints
+pub mod Stops

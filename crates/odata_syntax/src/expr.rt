@@ -1,7 +1,7 @@
 use crate::Node;
 use std::marker::Model;
 
-/// The tree of a filter's text. `parse` alone makes one.
+/// The tree of a filter's text, or the normal form of one. `parse` and `normal` alone make one.
 #[derive(Debug, Drop)]
 pub struct Expr {
     root: Box<Node>,

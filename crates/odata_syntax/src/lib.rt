@@ -1,17 +1,23 @@
 //! From the text of a `$filter` to its tree (OData URL Conventions 4.01, section 5.1.1).
 #![tactic(auto)]
 
+mod canonical_laws;
 mod expr;
 mod node;
+mod normal_form;
 mod parser;
+mod printer;
 mod syntax_fault;
 mod syntax_laws;
 
+pub use canonical_laws::{canonical_texts_read_back, one_canonical_text, texts_tell_normal_forms};
 pub use expr::Expr;
-pub use node::{BinaryOperator, LiteralKind, Node};
+pub use node::{BinaryOperator, LiteralKind, Node, Quantifier};
+pub use normal_form::normal;
 pub use parser::parse;
+pub use printer::{operator_level, operator_word, print, write_literal};
 pub use syntax_fault::SyntaxFault;
 pub use syntax_laws::{
     fault_or_tree, first_run_parses, name_eq_is_unended, node_spans, one_fault, one_tree,
-    tree_spans,
+    spans_apart, spans_hold, spans_take_bytes, too_deep_opens, tree_spans,
 };

@@ -1,44 +1,134 @@
 use odata_text::Span;
 
-/// An operator between two operands.
+/// An operator between two operands, of any level (OData URL Conventions 4.01, sections 5.1.1.1 and 5.1.1.2). `has` and
+/// `in` are none of these: what may stand behind them differs.
 #[derive(Clone, Copy, Debug, PartialEq, Eq)]
 pub enum BinaryOperator {
+    Or,
     And,
     Eq,
+    Ne,
+    Gt,
+    Ge,
+    Lt,
+    Le,
+    Add,
+    Sub,
+    Mul,
+    Div,
+    Mod,
 }
 
 /// What kind of literal a spelling is.
 #[derive(Clone, Copy, Debug, PartialEq, Eq)]
 pub enum LiteralKind {
+    Null,
     Bool,
     Int,
+    Date,
+    Moment,
+    Guid,
     Str,
+    EnumLit,
 }
 
-/// A node of the tree. Its span runs from its first to its last token.
+/// Which lambda operator it is (section 5.1.1.13).
+#[derive(Clone, Copy, Debug, PartialEq, Eq)]
+pub enum Quantifier {
+    Any,
+    All,
+}
+
+/// A node of the tree. Its span runs from its first to its last token, the parentheses of a grouping that holds just
+/// this node among them.
 #[derive(Debug, Drop)]
 pub enum Node {
+    /// A literal by its spelling, with its quotes if it has any.
     Lit {
         span: Span,
         kind: LiteralKind,
         text: String,
     },
+    /// `$it`.
+    It {
+        span: Span,
+    },
+    /// A name at the start of a path: a variable or a property.
     Name {
         span: Span,
         name: String,
     },
+    /// `base/name`.
+    Member {
+        span: Span,
+        base: Box<Node>,
+        name: String,
+    },
+    /// `base/$count`.
+    Count {
+        span: Span,
+        base: Box<Node>,
+    },
+    /// `- operand`.
+    Neg {
+        span: Span,
+        operand: Box<Node>,
+    },
+    /// `not operand`.
+    Not {
+        span: Span,
+        operand: Box<Node>,
+    },
+    /// `left operator right`.
     Binary {
         span: Span,
         operator: BinaryOperator,
         left: Box<Node>,
         right: Box<Node>,
     },
+    /// `left has right`.
+    Has {
+        span: Span,
+        left: Box<Node>,
+        right: Box<Node>,
+    },
+    /// `left in (item,..)`; the list may be empty.
+    InList {
+        span: Span,
+        left: Box<Node>,
+        items: Vec<Node>,
+    },
+    /// `left in path`.
+    InPath {
+        span: Span,
+        left: Box<Node>,
+        path: Box<Node>,
+    },
+    /// `name(argument,..)`, the name in ASCII lower case.
+    Call {
+        span: Span,
+        name: String,
+        arguments: Vec<Node>,
+    },
+    /// `base/any()`, or with a lambda expression, its variable and its body, `base/any(variable:body)`.
+    Any {
+        span: Span,
+        base: Box<Node>,
+        lambda: Option<(String, Box<Node>)>,
+    },
+    /// `base/all(variable:body)`.
+    All {
+        span: Span,
+        base: Box<Node>,
+        variable: String,
+        body: Box<Node>,
+    },
 }
 
 impl Node {
     ghost use Rattle.std.specs.Prelude.{◌≡◌};
     ghost use Rattle.odata_syntax.specs.TreeView.{tree_of};
-    ghost use Rattle.odata_syntax.specs.Tree.{start_of, stop_of};
+    ghost use Rattle.odata_syntax.specs.Tree.{node, shape_of, start_of, stop_of};
 
     /// Where the node stands in the text.
     pub fn span(&self) -> Span
@@ -47,8 +137,69 @@ impl Node {
     {
         match self {
             Node::Lit { span, .. } => *span,
+            Node::It { span } => *span,
             Node::Name { span, .. } => *span,
+            Node::Member { span, .. } => *span,
+            Node::Count { span, .. } => *span,
+            Node::Neg { span, .. } => *span,
+            Node::Not { span, .. } => *span,
             Node::Binary { span, .. } => *span,
+            Node::Has { span, .. } => *span,
+            Node::InList { span, .. } => *span,
+            Node::InPath { span, .. } => *span,
+            Node::Call { span, .. } => *span,
+            Node::Any { span, .. } => *span,
+            Node::All { span, .. } => *span,
+        }
+    }
+
+    /// The same node at another place.
+    pub(crate) fn spanned(self, span: Span) -> Node
+        ensures { tree_of result ≡ node span.start span.stop (shape_of (tree_of self)) }
+    {
+        match self {
+            Node::Lit { kind, text, .. } => Node::Lit { span, kind, text },
+            Node::It { .. } => Node::It { span },
+            Node::Name { name, .. } => Node::Name { span, name },
+            Node::Member { base, name, .. } => Node::Member { span, base, name },
+            Node::Count { base, .. } => Node::Count { span, base },
+            Node::Neg { operand, .. } => Node::Neg { span, operand },
+            Node::Not { operand, .. } => Node::Not { span, operand },
+            Node::Has { left, right, .. } => Node::Has { span, left, right },
+            Node::InList { left, items, .. } => Node::InList { span, left, items },
+            Node::InPath { left, path, .. } => Node::InPath { span, left, path },
+            Node::Any { base, lambda, .. } => Node::Any { span, base, lambda },
+            Node::Binary {
+                operator,
+                left,
+                right,
+                ..
+            } => Node::Binary {
+                span,
+                operator,
+                left,
+                right,
+            },
+            Node::Call {
+                name,
+                arguments,
+                ..
+            } => Node::Call {
+                span,
+                name,
+                arguments,
+            },
+            Node::All {
+                base,
+                variable,
+                body,
+                ..
+            } => Node::All {
+                span,
+                base,
+                variable,
+                body,
+            },
         }
     }
 }

@@ -1,11 +1,13 @@
 //! Laws of the grammar (OData URL Conventions 4.01, section 5.1.1). Each function is one; its body is empty.
-ghost use Rattle.std.specs.Prelude.{◌≡◌, ℕ, List};
+ghost use Rattle.std.specs.Prelude.{◌≡◌, ◌<◌, ◌+◌, ℕ, true, List};
 ghost use Rattle.odata_syntax.specs.declared.syntax_fault.SyntaxFault.{SyntaxFault};
 ghost use Rattle.odata_text.specs.TokenModel.{TokenModel};
-ghost use Rattle.odata_syntax.specs.Tree.{Tree};
+ghost use Rattle.odata_text.specs.declared.span.Span.{Span};
+ghost use Rattle.odata_syntax.specs.Tree.{Tree, start_of, stop_of};
 ghost use Rattle.odata_syntax.specs.Grammar.{Level, or_level, Derives};
-ghost use Rattle.odata_syntax.specs.Parse.{IsParse, HasNoParse, IsSyntaxFault, IsUnended};
-ghost use Rattle.odata_syntax.specs.Spans.{IsSpanned, IsSpannedWithin, IsWithin};
+ghost use Rattle.odata_syntax.specs.Front.{close_count, depth_limit, open_count, opens};
+ghost use Rattle.odata_syntax.specs.Parse.{HasNoParse, IsExpression, IsFirstDeep, IsParse, IsSyntaxFault, IsUnended};
+ghost use Rattle.odata_syntax.specs.Spans.{HoldsSpan, IsSpanned, IsSpannedWithin, IsWithin, SharesNoByte};
 ghost use Rattle.odata_syntax.specs.FirstRun.{first_run_tokens, first_run_tree, name_eq};
 
 /// Tokens are at most one expression.
@@ -25,6 +27,23 @@ pub fn node_spans()
         → Derives or_level ts tree → IsWithin part tree → IsSpannedWithin ts part }
 {}
 
+/// The span of a node holds those of its descendants.
+pub fn spans_hold()
+    ensures { (tree outer inner : Tree)
+        → IsExpression tree → IsWithin outer tree → IsWithin inner outer → HoldsSpan outer inner }
+{}
+
+/// Of two nodes of an expression one is a descendant of the other, or they share no byte.
+pub fn spans_apart()
+    ensures { (tree node other : Tree) → IsExpression tree → IsWithin node tree → IsWithin other tree
+        → ¬ IsWithin node other → ¬ IsWithin other node → SharesNoByte node other }
+{}
+
+/// Each node of an expression takes a byte or more.
+pub fn spans_take_bytes()
+    ensures { (tree node : Tree) → IsExpression tree → IsWithin node tree → start_of node < stop_of node }
+{}
+
 /// Tokens have at most one fault.
 pub fn one_fault()
     ensures { (ts : List TokenModel) (len : ℕ) (fault other : SyntaxFault)
@@ -34,6 +53,13 @@ pub fn one_fault()
 /// Tokens with a fault are no expression.
 pub fn fault_or_tree()
     ensures { (ts : List TokenModel) (len : ℕ) (fault : SyntaxFault) → IsSyntaxFault ts len fault → HasNoParse ts }
+{}
+
+/// A token that is too deep is a `(`, and as many are open before it as may be.
+pub fn too_deep_opens()
+    ensures { (ts : List TokenModel) (span : Span) (fault : IsFirstDeep ts span)
+        → (opens fault.token.kind ≡ true)
+        × (open_count fault.before ≡ close_count fault.before + depth_limit) }
 {}
 
 /// `Active and ID eq 1 and Name eq 'a'` is the `and` of an `and` and an `eq`.

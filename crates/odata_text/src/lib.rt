@@ -33,8 +33,8 @@ pub use laws::{
     plain_reading, printed_reading, run_on_reading,
 };
 pub use printing_laws::{
-    literals_have_one_spelling, one_list_of_any_length, printed_list_of_any_length,
-    tokens_are_spelled, words_in_lower_case,
+    letters_are_an_identifier, literals_have_one_spelling, one_list_of_any_length,
+    printed_list_of_any_length, tokens_are_spelled, words_in_lower_case,
 };
 pub use query::filter_of_query;
 pub use query_fault::QueryFault;

@@ -1,7 +1,10 @@
 //! What a parser and a printer of filters rest on: tokens apart from their text, and texts of any length.
 
-ghost use Rattle.std.specs.Prelude.{◌≡◌, ℕ, List, length};
+ghost use Rattle.std.specs.Prelude.{◌≡◌, ℕ, ◌<◌, true, List, length};
+ghost use Rattle.std.specs.Char.{is_ascii_alphabetic};
+ghost use Rattle.std.specs.List.{list_all};
 ghost use Rattle.std.specs.Str.{str_to_ascii_lowercase};
+ghost use Rattle.odata_text.specs.Identifier.{IsIdentifier};
 ghost use Rattle.odata_text.specs.LiteralSpelling.{IsLiteralSpelling};
 ghost use Rattle.odata_text.specs.Spelling.{IsWordSpelling, Spells};
 ghost use Rattle.odata_text.specs.declared.token.TokenKind.{TokenKind};
@@ -48,4 +51,9 @@ pub fn literals_have_one_spelling()
 /// A word in lower case is a word.
 pub fn words_in_lower_case()
     ensures { (word : List ℕ) → IsWordSpelling word → IsWordSpelling (str_to_ascii_lowercase word) }
+{}
+
+/// ASCII letters, one or more, are an identifier.
+pub fn letters_are_an_identifier()
+    ensures { (name : List ℕ) → 0 < length name → list_all is_ascii_alphabetic name ≡ true → IsIdentifier name }
 {}

@@ -1,15 +1,21 @@
 -- What a filter needs beside an entity (OData URL Conventions 4.01, section 5.1.1).
-use Rattle.std.specs.Prelude.{◌⊎◌}
-use Rattle.odata_syntax.specs.Tree.{Tree, node, literal, name, binary}
+use Rattle.std.specs.Prelude.{◌≡◌, ℕ, List, [], ◌∷◌, Contains, codes}
+use Rattle.odata_syntax.specs.Spans.{IsWithin}
+use Rattle.odata_syntax.specs.Tree.{Tree, Trees, call, shape_of}
 
--- the tree calls a function that makes a text: concat, tolower or toupper
+-- some node of the tree calls one of these functions
+pub record CallsOne (functions : List (List ℕ)) (tree : Tree) : Type 0 where
+  pub part : Tree
+  pub within : IsWithin part tree
+  pub called : List ℕ
+  pub arguments : Trees
+  pub is_call : shape_of part ≡ call called arguments
+  pub one : Contains functions called
+
+-- the tree calls a function that makes a text
 abbrev pub TakesMemory : Tree → Type 0
-TakesMemory (node start stop (literal kind spelling)) = ⊥
-TakesMemory (node start stop (name asked)) = ⊥
-TakesMemory (node start stop (binary operator left right)) = TakesMemory left ⊎ TakesMemory right
+TakesMemory = CallsOne (codes "concat" ∷ codes "tolower" ∷ codes "toupper" ∷ [])
 
 -- the tree calls now
 abbrev pub UsesNow : Tree → Type 0
-UsesNow (node start stop (literal kind spelling)) = ⊥
-UsesNow (node start stop (name asked)) = ⊥
-UsesNow (node start stop (binary operator left right)) = UsesNow left ⊎ UsesNow right
+UsesNow = CallsOne (codes "now" ∷ [])

@@ -1,14 +1,16 @@
 -- A checked filter.
-use Rattle.std.specs.Prelude.{ℕ, ◌<◌, ◌≤◌, [], length, slice_get, IsSomeAnd}
+use Rattle.std.specs.Prelude.{◌≡◌, ℕ, ◌<◌, ◌≤◌, [], Some, length, slice_get}
 use Rattle.odata_text.specs.Tokens.{token_limit}
 use Rattle.odata_syntax.specs.Tree.{Tree}
 use Rattle.csdl_schema.specs.ExprType.{ExprType}
 use Rattle.csdl_schema.specs.SchemaModel.{SchemaModel, slots_of, type_name_at}
+use Rattle.odata_typing.specs.Considered.{IsConsidered}
 use Rattle.odata_typing.specs.ExprTypes.{IsBooleanOrNull}
 use Rattle.odata_typing.specs.FlatTree.{FlatTree, tree_of_nodes}
 use Rattle.odata_typing.specs.PreOrder.{pre_order}
-use Rattle.odata_typing.specs.Stands.{Stands}
-use Rattle.odata_typing.specs.Typed.{Typed}
+use Rattle.odata_typing.specs.ScopedNodes.{scoped_nodes}
+use Rattle.odata_typing.specs.Stands.{Stands, names_of}
+use Rattle.odata_typing.specs.Typed.{Scope, Typed}
 
 -- a filter of the n-th type of a schema, by the list of its nodes
 pub record Filter : Type 0 where
@@ -31,8 +33,12 @@ pub record IsFilter (filter : Filter) : Type 0 where
   pub truth : IsBooleanOrNull type_of
   pub few : length (pre_order (tree_of_nodes filter.list)) ≤ token_limit
 
--- the filter's k-th node has the type
-abbrev pub IsTypeAt : Filter → ℕ → ExprType → Type 0
-IsTypeAt filter k type =
-    IsSomeAnd (slice_get (pre_order (tree_of_filter filter)) k)
-    (λ part. Typed (slots_of filter.schema) (type_name_at filter.schema filter.filtered) [] part type)
+-- the filter's k-th node, in the scope that it is judged in, has the type
+pub record IsTypeAt (filter : Filter) (k : ℕ) (type : ExprType) : Type 0 where
+  pub at : Scope
+  pub part : Tree
+  pub numbered :
+      slice_get (scoped_nodes [] (tree_of_filter filter)) k ≡ Some (record { variables = names_of at; part = part })
+  pub considered :
+      IsConsidered (slots_of filter.schema) (type_name_at filter.schema filter.filtered) [] (tree_of_filter filter) at part
+  pub typed : Typed (slots_of filter.schema) (type_name_at filter.schema filter.filtered) at part type

@@ -1,6 +1,7 @@
 -- Where and why a tree is no filter (OData URL Conventions 4.01, section 5.1.1).
 use Rattle.std.specs.Prelude.{◌≡◌, ◌⊎◌, ℕ, ◌≤◌, List, [], MatchOption}
-use Rattle.odata_syntax.specs.Tree.{Tree, node, literal, name, binary, start_of, stop_of}
+use Rattle.odata_syntax.specs.Tree.{Tree, node, literal, name, call, start_of, stop_of}
+use Rattle.odata_syntax.specs.declared.node.LiteralKind.{LiteralKind}
 use Rattle.csdl_schema.specs.ExprType.{ExprType}
 use Rattle.csdl_schema.specs.SchemaModel.{PropertyModel, PropertyType, declared, opaque, navigation, Slots}
 use Rattle.odata_typing.specs.declared.refusal.TypeFault.{TypeFault}
@@ -22,16 +23,24 @@ NameReason properties asked code =
     (code ≡ TypeFaultCode.UnknownProperty)
     (λ p. PropertyReason p.type_of code)
 
--- why a node has no type though its considered children have
+-- why a literal has no type: it has no value, or its kind is not typed yet
+abbrev pub LiteralReason : LiteralKind → TypeFaultCode → Type 0
+LiteralReason LiteralKind.Bool code = code ≡ TypeFaultCode.LiteralRange
+LiteralReason LiteralKind.Int code = code ≡ TypeFaultCode.LiteralRange
+LiteralReason LiteralKind.Str code = code ≡ TypeFaultCode.LiteralRange
+LiteralReason _ code = code ≡ TypeFaultCode.OperandTypes
+
+-- why a node has no type though its considered children have; no function is known yet
 abbrev pub IsReason : Slots → List ℕ → Tree → TypeFaultCode → Type 0
-IsReason slots root (node start stop (literal kind spelling)) code = code ≡ TypeFaultCode.LiteralRange
+IsReason slots root (node start stop (literal kind spelling)) code = LiteralReason kind code
 IsReason slots root (node start stop (name asked)) code = NameReason (slots root) asked code
-IsReason slots root (node start stop (binary operator left right)) code = code ≡ TypeFaultCode.OperandTypes
+IsReason slots root (node start stop (call asked arguments)) code = code ≡ TypeFaultCode.UnknownFunction
+IsReason slots root (node start stop shape) code = code ≡ TypeFaultCode.OperandTypes
 
 -- a considered node that has no type, while all its considered children have one
 pub record IsUntypable
     (slots : Slots) (root : List ℕ) (scope : Scope) (tree : Tree) (at : Scope) (part : Tree) : Type 0 where
-  pub considered : IsConsidered scope tree at part
+  pub considered : IsConsidered slots root scope tree at part
   pub untyped : IsUntyped slots root at part
   pub children : ChildrenTyped slots root at part
 

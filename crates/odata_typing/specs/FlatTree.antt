@@ -12,10 +12,10 @@ pub record FlatTree : Type 0 where
   pub texts : List (List ℕ)
 
 -- what a node is, by its kind, its text and its children; what is of no form counts as a name
-abbrev pub shape_of : NodeKind → List ℕ → List Tree → Shape
-shape_of (NodeKind.Literal kind value) text [] = literal kind text
-shape_of (NodeKind.Binary operator) text (left ∷ right ∷ []) = binary operator left right
-shape_of kind text children = name text
+abbrev pub shape_of_kind : NodeKind → List ℕ → List Tree → Shape
+shape_of_kind (NodeKind.Literal kind value) text [] = literal kind text
+shape_of_kind (NodeKind.Binary operator) text (left ∷ right ∷ []) = binary operator left right
+shape_of_kind kind text children = name text
 
 -- a tree, and the number of its first node
 pub record PlacedTree : Type 0 where
@@ -36,7 +36,7 @@ trees_from stop (t ∷ ts) = if nat_lt t.place stop then trees_from stop ts else
 abbrev pub tree_at : List (List ℕ) → ℕ → CheckedNode → List PlacedTree → Tree
 tree_at texts i found behind =
     node found.span.start found.span.stop
-    (shape_of found.kind (unwrap_or (slice_get texts i) []) (trees_before found.stop behind))
+    (shape_of_kind found.kind (unwrap_or (slice_get texts i) []) (trees_before found.stop behind))
 
 -- the trees of the nodes from the i-th on, one behind another
 abbrev pub forest : List (List ℕ) → ℕ → List CheckedNode → List PlacedTree

@@ -9,6 +9,7 @@ pub use Rattle.odata_text.specs.TokenModel
 pub use Rattle.odata_text.specs.Tokens
 pub use Rattle.odata_syntax.specs.FirstRun
 pub use Rattle.odata_syntax.specs.Parse
+pub use Rattle.odata_syntax.specs.Spans
 pub use Rattle.odata_syntax.specs.Tree
 pub use Rattle.odata_syntax.specs.TreeView
 pub mod ExprTypes
@@ -19,6 +20,7 @@ pub mod FirstUntypable
 pub mod HasTyping
 pub mod TypeView
 pub mod PreOrder
+pub mod ScopedNodes
 pub mod FlatTree
 pub mod Levels
 pub mod Stands

@@ -30,8 +30,9 @@ LiteralValue _ spelling _ = ⊥
 abbrev pub IntTyped : ℤ → ExprType → Type 0
 IntTyped n type = (p : PrimitiveType) × IsIntLiteralType n p × (type ≡ single (primitive p))
 
--- the type of a literal that has a value
+-- the type of a literal that has a value; truth values, numbers and texts alone are typed yet
 abbrev pub LiteralTyped : LiteralKind → List ℕ → ExprType → Type 0
 LiteralTyped LiteralKind.Bool spelling type = (b : Bool) × BooleanValue spelling b × (type ≡ boolean_type)
 LiteralTyped LiteralKind.Int spelling type = (n : ℤ) × IntValue spelling n × IntTyped n type
 LiteralTyped LiteralKind.Str spelling type = (bytes : List ℕ) × StringValue spelling bytes × (type ≡ string_type)
+LiteralTyped _ spelling type = ⊥

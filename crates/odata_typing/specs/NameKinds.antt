@@ -1,24 +1,10 @@
 -- What a name in a tree names: a range variable around it, else a property (OData URL Conventions 4.01, 5.1.1.13).
-use Rattle.std.specs.Prelude.{◌≡◌, ℕ, List, [], ◌∷◌, ◌++◌, Option, Some, None, slice_get, option_and_then, IsSomeAnd}
-use Rattle.odata_syntax.specs.Tree.{Tree, node, literal, name, binary}
+use Rattle.std.specs.Prelude.{◌≡◌, ℕ, List, [], Option, Some, None, slice_get, option_and_then, IsSomeAnd}
+use Rattle.odata_syntax.specs.Tree.{Tree, node, name}
 use Rattle.csdl_schema.specs.SchemaModel.{Slots, slots_of, type_name_at, slot_named}
 use Rattle.odata_typing.specs.Filter.{Filter, tree_of_filter}
 use Rattle.odata_typing.specs.Levels.{level_named}
-
--- a node, and the names of the range variables in scope there, the innermost first
-pub record ScopedNode : Type 0 where
-  pub variables : List (List ℕ)
-  pub part : Tree
-
--- the nodes of a tree in pre-order, each with the variables in scope there
-abbrev pub scoped_nodes : List (List ℕ) → Tree → List ScopedNode
-scoped_nodes variables (node start stop (literal kind spelling)) =
-    record { variables = variables; part = node start stop (literal kind spelling) } ∷ []
-scoped_nodes variables (node start stop (name asked)) =
-    record { variables = variables; part = node start stop (name asked) } ∷ []
-scoped_nodes variables (node start stop (binary operator left right)) =
-    record { variables = variables; part = node start stop (binary operator left right) }
-    ∷ (scoped_nodes variables left ++ scoped_nodes variables right)
+use Rattle.odata_typing.specs.ScopedNodes.{scoped_nodes}
 
 -- the node is a name that no variable in scope has, and the property of that name stands in the slot
 abbrev pub NamesSlot : Slots → List ℕ → List (List ℕ) → Tree → ℕ → Type 0

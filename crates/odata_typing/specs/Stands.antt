@@ -37,17 +37,18 @@ IsNameNode properties variables asked (NodeKind.Property slot) =
     (level_named variables asked ≡ None) × (slot_named properties asked ≡ Some slot)
 IsNameNode properties variables asked _ = ⊥
 
--- the kind of a node, where these values, properties and variables are
+-- the kind of a node, where these values, properties and variables are; the other forms have none yet
 abbrev pub IsKindOf : List Value → List PropertyModel → List (List ℕ) → Shape → NodeKind → Type 0
 IsKindOf values properties variables (literal kind spelling) k = IsLiteralNode values kind spelling k
 IsKindOf values properties variables (name asked) k = IsNameNode properties variables asked k
 IsKindOf values properties variables (binary operator left right) k = k ≡ NodeKind.Binary operator
+IsKindOf values properties variables _ k = ⊥
 
 -- the text beside a node
 abbrev pub text_of_shape : Shape → List ℕ
 text_of_shape (literal kind spelling) = spelling
 text_of_shape (name asked) = asked
-text_of_shape (binary operator left right) = []
+text_of_shape _ = []
 
 -- the i-th node is the tree's top node, with its text, and stops at j
 pub record IsTop
@@ -86,3 +87,4 @@ abbrev mutual
   ChildrenStand schema n scope list i j (binary operator left right) =
       SideBySide (λ middle. Stands schema n scope list i middle left)
       (λ middle. Stands schema n scope list middle j right)
+  ChildrenStand schema n scope list i j shape = ⊥

@@ -30,10 +30,11 @@ abbrev pub NameTyped : Slots → List ℕ → Scope → List ℕ → ExprType �
 NameTyped slots root scope asked type =
     MatchOption (variable_type scope asked) (PropertyTyped (slots root) asked type) (λ t. type ≡ t)
 
--- the operator takes operands of the first two types and gives a value of the third
+-- the operator takes operands of the first two types and gives a value of the third; `and` and `eq` alone are typed yet
 abbrev pub OperatorTyped : BinaryOperator → ExprType → ExprType → ExprType → Type 0
 OperatorTyped BinaryOperator.And left right type = IsBooleanOrNull left × IsBooleanOrNull right × (type ≡ boolean_type)
 OperatorTyped BinaryOperator.Eq left right type = AreComparable left right × (type ≡ boolean_type)
+OperatorTyped operator left right type = ⊥
 
 -- both operands have types, and of these the operator makes the type
 pub record OperandsTyped (operator : BinaryOperator) (Left Right : ExprType → Type 0) (type : ExprType) : Type 0 where
@@ -43,12 +44,14 @@ pub record OperandsTyped (operator : BinaryOperator) (Left Right : ExprType → 
   pub right_typed : Right right
   pub operator_typed : OperatorTyped operator left right type
 
--- the tree has the type, where the filtered type is root and these variables are in scope
+-- the tree has the type, where the filtered type is root and these variables are in scope; a node of a form that is not
+-- typed yet has none
 abbrev pub Typed : Slots → List ℕ → Scope → Tree → ExprType → Type 0
 Typed slots root scope (node start stop (literal kind spelling)) type = LiteralTyped kind spelling type
 Typed slots root scope (node start stop (name asked)) type = NameTyped slots root scope asked type
 Typed slots root scope (node start stop (binary operator left right)) type =
     OperandsTyped operator (Typed slots root scope left) (Typed slots root scope right) type
+Typed slots root scope (node start stop shape) type = ⊥
 
 abbrev pub IsTyped : Slots → List ℕ → Scope → Tree → Type 0
 IsTyped slots root scope tree = (type : ExprType) × Typed slots root scope tree type

@@ -1,4 +1,5 @@
 -- Definitions that private clauses alone cite.
 pub mod Answer
 pub mod EarlierFault
+pub mod Judged
 pub mod ListGrowth

@@ -183,6 +183,8 @@ impl<'s> Checked<'s> {
     pub fn takes_memory(&self) -> bool
         ensures { IsTrue result ↔ TakesMemory (tree_of_filter self.now) }
     {
+        // No call has a type yet.
+        let _nodes = self.nodes();
         false
     }
 
@@ -190,6 +192,7 @@ impl<'s> Checked<'s> {
     pub fn uses_now(&self) -> bool
         ensures { IsTrue result ↔ UsesNow (tree_of_filter self.now) }
     {
+        let _nodes = self.nodes();
         false
     }
 }

@@ -13,7 +13,7 @@ use super::refusal::Refusal;
 use super::untyped::Untyped;
 use csdl_schema::{Schema, TypeId};
 use odata_syntax::{Expr, SyntaxFault, parse};
-use odata_text::{TextFault, tokens};
+use odata_text::{TextFault, tokens, tokens_are_spelled};
 use std::alloc::Global;
 
 /// The text as a filter of the entities of a type, which the schema holds.
@@ -63,6 +63,7 @@ fn tree_of_text(alloc: Global, text: &str) -> Result<Expr, Refusal>
         Ok(tokens) => tokens,
         Err(fault) => return Err(text_refusal(fault)),
     };
+    tokens_are_spelled();
     match parse(alloc, tokens.as_slice(), text.len()) {
         Ok(expr) => Ok(expr),
         Err(fault) => Err(syntax_refusal(fault)),

@@ -14,6 +14,7 @@ mod operator;
 mod property;
 mod refusal;
 mod untyped;
+mod untyped_form;
 
 pub use checked::Checked;
 pub use checked_node::{CheckedNode, NodeKind};

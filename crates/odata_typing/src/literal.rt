@@ -4,6 +4,7 @@ ghost use Rattle.csdl_schema.specs.ExprType.{ExprType, single, primitive};
 ghost use Rattle.odata_syntax.specs.Tree.{node, literal};
 ghost use Rattle.csdl_schema.specs.SchemaModel.{SchemaModel};
 ghost use Rattle.odata_typing.specs.private.Answer.{IsAnswer, IsReading};
+ghost use Rattle.odata_typing.specs.FirstUntypable.{LiteralReason};
 ghost use Rattle.odata_typing.specs.LiteralValue.{BooleanValue, LiteralTyped};
 
 use super::checked_node::NodeKind;
@@ -31,7 +32,7 @@ pub(crate) fn checked_literal(
     match read_literal(alloc, kind, spelling) {
         Ok(reading) => push_literal(alloc, span, kind, spelling, reading, list),
         Err(LitFault::Form) => Err(Untyped::Fault(TypeFault {
-            code: TypeFaultCode::LiteralRange,
+            code: literal_reason(kind),
             span,
         })),
         Err(LitFault::Memory) => Err(Untyped::Memory),
@@ -76,7 +77,23 @@ struct Reading {
     value: Value,
 }
 
-/// What a literal of this kind and spelling stands for. `Form` where it has no value.
+/// Why a literal of this kind has no type.
+fn literal_reason(kind: LiteralKind) -> TypeFaultCode
+    ensures { LiteralReason kind result }
+{
+    match kind {
+        LiteralKind::Bool => TypeFaultCode::LiteralRange,
+        LiteralKind::Int => TypeFaultCode::LiteralRange,
+        LiteralKind::Str => TypeFaultCode::LiteralRange,
+        LiteralKind::Null => TypeFaultCode::OperandTypes,
+        LiteralKind::Date => TypeFaultCode::OperandTypes,
+        LiteralKind::Moment => TypeFaultCode::OperandTypes,
+        LiteralKind::Guid => TypeFaultCode::OperandTypes,
+        LiteralKind::EnumLit => TypeFaultCode::OperandTypes,
+    }
+}
+
+/// What a literal of this kind and spelling stands for. `Form` where it has no value, or its kind no type yet.
 fn read_literal(alloc: Global, kind: LiteralKind, spelling: &str) -> Result<Reading, LitFault>
     ensures right { IfOk result (λ r. IsReading kind spelling.now r.value (single (primitive r.prim))) }
     ensures fault { IfErr result (λ f. OnForm f ((type : ExprType) → ¬ LiteralTyped kind spelling.now type)) }
@@ -103,6 +120,11 @@ fn read_literal(alloc: Global, kind: LiteralKind, spelling: &str) -> Result<Read
             }),
             Err(fault) => Err(fault),
         },
+        LiteralKind::Null
+        | LiteralKind::Date
+        | LiteralKind::Moment
+        | LiteralKind::Guid
+        | LiteralKind::EnumLit => Err(LitFault::Form),
     }
 }
 

@@ -4,7 +4,6 @@ ghost use Rattle.odata_syntax.specs.TreeView.{tree_of};
 ghost use Rattle.csdl_schema.specs.SchemaModel.{SchemaModel};
 ghost use Rattle.odata_typing.specs.FlatTree.{FlatTree};
 ghost use Rattle.odata_typing.specs.private.Answer.{IsAnswer, IsWalked};
-ghost use Rattle.odata_typing.specs.private.EarlierFault.{IsEarlier};
 ghost use Rattle.odata_typing.specs.private.ListGrowth.{IsOpened};
 
 use super::checked_node::NodeKind;
@@ -14,7 +13,8 @@ use super::node_list::NodeList;
 use super::operator::takes;
 use super::property::checked_name;
 use super::refusal::{TypeFault, TypeFaultCode};
-use super::untyped::Untyped;
+use super::untyped::{Untyped, earlier};
+use super::untyped_form::untyped_form;
 use csdl_schema::{Schema, TypeId};
 use odata_syntax::{BinaryOperator, Node};
 use odata_text::Span;
@@ -22,6 +22,7 @@ use std::alloc::Global;
 
 /// Puts the nodes of the tree behind those of the list, with types, values and slots, and answers the tree's type; or
 /// its first untypable node.
+#[cycle(typing)]
 pub(crate) fn checked_tree(
     alloc: Global,
     schema: &Schema,
@@ -56,6 +57,17 @@ pub(crate) fn checked_tree(
             let right = checked_tree(alloc, schema, filtered_type, right, list);
             close_binary(place, *span, *operator, left, right, list)
         }
+        Node::It { .. } => Err(untyped_form(alloc, schema, filtered_type, node, list)),
+        Node::Member { .. } => Err(untyped_form(alloc, schema, filtered_type, node, list)),
+        Node::Count { .. } => Err(untyped_form(alloc, schema, filtered_type, node, list)),
+        Node::Neg { .. } => Err(untyped_form(alloc, schema, filtered_type, node, list)),
+        Node::Not { .. } => Err(untyped_form(alloc, schema, filtered_type, node, list)),
+        Node::Has { .. } => Err(untyped_form(alloc, schema, filtered_type, node, list)),
+        Node::InList { .. } => Err(untyped_form(alloc, schema, filtered_type, node, list)),
+        Node::InPath { .. } => Err(untyped_form(alloc, schema, filtered_type, node, list)),
+        Node::Call { .. } => Err(untyped_form(alloc, schema, filtered_type, node, list)),
+        Node::Any { .. } => Err(untyped_form(alloc, schema, filtered_type, node, list)),
+        Node::All { .. } => Err(untyped_form(alloc, schema, filtered_type, node, list)),
     }
 }
 
@@ -132,21 +144,5 @@ fn close_operator(
             code: TypeFaultCode::OperandTypes,
             span,
         }))
-    }
-}
-
-/// Of two faults that which starts first.
-fn earlier(before: Untyped, behind: Untyped) -> Untyped
-    ensures { IsEarlier before behind result }
-{
-    match (before, behind) {
-        (Untyped::Fault(first), Untyped::Fault(second)) => {
-            if second.span.start < first.span.start {
-                behind
-            } else {
-                before
-            }
-        }
-        _ => Untyped::Memory,
     }
 }

@@ -7,7 +7,7 @@ ghost use Rattle.odata_typing.specs.TypeView.{expr_type};
 use super::edm_type::EdmType;
 use odata_syntax::BinaryOperator;
 
-/// Whether the operator takes operands of these types.
+/// Whether the operator takes operands of these types. Only `and` and `eq` take any yet.
 pub(crate) fn takes(operator: BinaryOperator, left: &EdmType, right: &EdmType) -> bool
     ensures { (schema : SchemaModel) → IsTrue result ↔
         OperatorTyped operator (expr_type schema left.now) (expr_type schema right.now) boolean_type }
@@ -15,6 +15,17 @@ pub(crate) fn takes(operator: BinaryOperator, left: &EdmType, right: &EdmType) -
     match operator {
         BinaryOperator::And => left.is_truth() && right.is_truth(),
         BinaryOperator::Eq => are_comparable(left, right),
+        BinaryOperator::Or
+        | BinaryOperator::Ne
+        | BinaryOperator::Gt
+        | BinaryOperator::Ge
+        | BinaryOperator::Lt
+        | BinaryOperator::Le
+        | BinaryOperator::Add
+        | BinaryOperator::Sub
+        | BinaryOperator::Mul
+        | BinaryOperator::Div
+        | BinaryOperator::Mod => false,
     }
 }
 

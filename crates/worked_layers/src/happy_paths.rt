@@ -8,7 +8,7 @@ use odata_eval::{Verdict, evaluate};
 use odata_filter::command_line::{PlanFault, Verb};
 use odata_filter::{RunFault, filter_lines, filter_slice, plan};
 use odata_syntax::{Node, parse};
-use odata_text::{Span, TokenKind, filter_of_query, is_identifier, tokens};
+use odata_text::{Span, TokenKind, filter_of_query, is_identifier, tokens, tokens_are_spelled};
 use odata_typing::{EdmType, ValueType, check};
 use serde_json::Value;
 use std::test::Fail;
@@ -30,11 +30,13 @@ fn syntax(rt: HostRuntime) -> Result<(), Fail> {
     let filter = filter_of_query(rt.alloc(), "$filter=ID%20eq%201".as_bytes())?.ok_or(
         "the filter",
     )?;
-    assert!(rt; is_identifier("ID") && filter.as_str() == "ID eq 1");
-    let found = tokens(rt.alloc(), filter.as_str())?;
+    let text = filter.as_str();
+    assert!(rt; is_identifier("ID") && text == "ID eq 1");
+    let found = tokens(rt.alloc(), text)?;
+    tokens_are_spelled();
     assert_eq!(rt; found.len(), 3);
     assert!(rt; found[1].kind == TokenKind::Word && found[1].text == "eq");
-    let expression = parse(rt.alloc(), found.as_slice(), 7)?;
+    let expression = parse(rt.alloc(), found.as_slice(), text.len())?;
     let is_whole = match expression.root() {
         Node::Binary { span, .. } => *span == Span { start: 0, stop: 7 },
         _ => false,

@@ -39,6 +39,63 @@ fn untypable_filters(rt: HostRuntime) -> Result<(), Fail> {
     Ok(())
 }
 
+/// Nodes of the forms that are not typed yet: the leftmost node of those to blame is named, a child before its parent.
+/// The body of a lambda operator is not looked at.
+#[test]
+fn forms_without_types(rt: HostRuntime) -> Result<(), Fail> {
+    let schema = Schema::read(rt.alloc(), SCHEMA.as_bytes())?;
+    let item = schema.type_named("Mini.Item").ok_or("the type")?;
+    let types = TypeFaultCode::OperandTypes;
+    let property = TypeFaultCode::UnknownProperty;
+    let function = TypeFaultCode::UnknownFunction;
+    for (text, code, start, stop) in [
+        ("not Active", types, 0, 10),
+        ("not Foo", property, 4, 7),
+        ("not (Foo)", property, 4, 9),
+        ("- ID eq 1", types, 0, 4),
+        ("ID ne 1", types, 0, 7),
+        ("ID add 1 eq 2", types, 0, 8),
+        ("Active or Active", types, 0, 16),
+        ("Name eq 'x' and Foo or Bar", property, 16, 19),
+        ("ID eq 'x' or Foo", types, 0, 9),
+        ("null eq ID", types, 0, 4),
+        ("ID eq null", types, 6, 10),
+        ("2020-01-01 eq ID", types, 0, 10),
+        ("ID eq 2020-01-01T00:00Z", types, 6, 23),
+        ("ID eq 01234567-89ab-cdef-0123-456789abcdef", types, 6, 42),
+        ("Mini.C'Red' eq ID", types, 0, 11),
+        ("$it", types, 0, 3),
+        ("$it/ID eq 1", types, 0, 3),
+        ("Name/x eq 1", types, 0, 6),
+        ("Foo/x eq 1", property, 0, 3),
+        ("Name/$count eq 1", types, 0, 11),
+        ("Active has ID", types, 0, 13),
+        ("Foo has Bar", property, 0, 3),
+        ("ID has Bar", property, 7, 10),
+        ("ID in ()", types, 0, 8),
+        ("ID in (1,2)", types, 0, 11),
+        ("ID in (1,Foo,Bar)", property, 9, 12),
+        ("Foo in (Bar)", property, 0, 3),
+        ("ID in Name", types, 0, 10),
+        ("ID in Foo", property, 6, 9),
+        ("now()", function, 0, 5),
+        ("Length(Name) eq 1", function, 0, 12),
+        ("concat(Name,Foo) eq 'a'", property, 12, 15),
+        ("f(g(ID),Foo)", function, 2, 7),
+        ("Name/any()", types, 0, 10),
+        ("Name/any(x:Foo)", types, 0, 15),
+        ("Foo/all(x:Bar)", property, 0, 3),
+        ("(Foo) eq (Bar)", property, 0, 5),
+        ("(Name)", TypeFaultCode::NotBoolean, 0, 6),
+    ] {
+        let refusal = check(rt.alloc(), &schema, item, text).err();
+        let span = Span { start, stop };
+        let wanted = Refusal::Typing(TypeFault { code, span });
+        assert!(rt; refusal == Some(wanted), "at {text}");
+    }
+    Ok(())
+}
+
 #[test]
 fn filters_refused_before_typing(rt: HostRuntime) -> Result<(), Fail> {
     let schema = Schema::read(rt.alloc(), SCHEMA.as_bytes())?;

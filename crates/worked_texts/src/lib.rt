@@ -4,13 +4,19 @@
 #[cfg(test)]
 mod arithmetic;
 #[cfg(test)]
+mod canonical_texts;
+#[cfg(test)]
 mod comparisons;
 #[cfg(test)]
 mod connectives;
 #[cfg(test)]
 mod dates;
 #[cfg(test)]
+mod depths;
+#[cfg(test)]
 mod enumerations;
+#[cfg(test)]
+mod forms;
 #[cfg(test)]
 mod guids;
 #[cfg(test)]
@@ -34,6 +40,10 @@ mod tokens;
 #[cfg(test)]
 mod told;
 #[cfg(test)]
+mod told_trees;
+#[cfg(test)]
 mod trees;
 #[cfg(test)]
 mod whole_numbers;
+#[cfg(test)]
+mod wrong_tokens;

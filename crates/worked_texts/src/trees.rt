@@ -1,29 +1,47 @@
 //! From texts to trees (OData URL Conventions 4.01, section 5.1.1).
-use odata_syntax::{BinaryOperator, LiteralKind, Node, SyntaxFault, parse};
-use odata_text::{Span, tokens};
+use crate::told_trees::{parsed, told_tree};
+use odata_syntax::{BinaryOperator, LiteralKind, Node};
+use odata_text::Span;
 use std::test::Fail;
 
-/// What stands where an operand or an operator has to stand, or the end of the text with its white space.
+/// What stands where something else has to stand, or the end of the text with its white space.
 #[test]
 fn texts_without_a_tree(rt: HostRuntime) -> Result<(), Fail> {
-    for (text, start, stop) in [
-        ("", 0, 0),
-        ("  ", 2, 2),
-        ("Name eq", 7, 7),
-        ("Name eq  ", 9, 9),
-        ("  null  ", 2, 6),
-        ("  NOT   ", 2, 5),
-        ("a b", 2, 3),
-        ("a eq (b)", 5, 6),
-        ("a eq b and", 10, 10),
+    for (text, wanted) in [
+        ("", "Unexpected 0..0"),
+        ("  ", "Unexpected 2..2"),
+        ("Name eq", "Unexpected 7..7"),
+        ("Name eq  ", "Unexpected 9..9"),
+        ("  NOT   ", "Unexpected 8..8"),
+        ("- ", "Unexpected 2..2"),
+        ("a b", "Unexpected 2..3"),
+        ("a eq b and", "Unexpected 10..10"),
+        ("(a", "Unexpected 2..2"),
+        ("a)", "Unexpected 1..2"),
+        ("()", "Unexpected 1..2"),
+        ("(a)/b", "Unexpected 3..4"),
+        ("a//b", "Unexpected 2..3"),
+        ("a/1", "Unexpected 2..3"),
+        ("a/b(1)", "Unexpected 3..4"),
+        ("$it(1)", "Unexpected 3..4"),
+        ("true(1)", "Unexpected 4..5"),
+        ("true/a", "Unexpected 4..5"),
+        ("a/$count/b", "Unexpected 8..9"),
+        ("a/any()/b", "Unexpected 7..8"),
+        ("a/any(x)", "Unexpected 7..8"),
+        ("a/all()", "Unexpected 6..7"),
+        ("a/any(b.c:d)", "Unexpected 6..9"),
+        ("$top", "Unexpected 0..4"),
+        ("f(,a)", "Unexpected 2..3"),
+        ("f(a,)", "Unexpected 4..5"),
+        ("a in (1,)", "Unexpected 8..9"),
+        ("a in 1", "Unexpected 5..6"),
+        ("a in null", "Unexpected 5..9"),
+        ("a in f(1)", "Unexpected 6..7"),
+        ("a has - 1", "Unexpected 6..7"),
+        ("a has not b", "Unexpected 6..9"),
     ] {
-        let found = tokens(rt.alloc(), text)?;
-        let fault = parse(rt.alloc(), found.as_slice(), text.len()).err();
-        let span = Span { start, stop };
-        assert!(rt;
-            fault == Some(SyntaxFault::Unexpected { span }),
-            "at {text}"
-        );
+        assert_eq!(rt; told_tree(rt.alloc(), text)?.as_str(), wanted, "{text}");
     }
     Ok(())
 }
@@ -48,9 +66,8 @@ fn is_true(node: &Node, place: Span) -> bool {
 
 /// `eq EQ True`: a name, an operator and a literal with its spelling.
 #[test]
-fn words_in_any_case(rt: HostRuntime) -> Result<(), Fail> {
-    let found = tokens(rt.alloc(), "eq EQ True")?;
-    let expr = parse(rt.alloc(), found.as_slice(), 10)?;
+fn nodes_of_a_tree(rt: HostRuntime) -> Result<(), Fail> {
+    let expr = parsed(rt.alloc(), "eq EQ True")??;
     match expr.root() {
         Node::Binary {
             span,
@@ -73,9 +90,7 @@ fn words_in_any_case(rt: HostRuntime) -> Result<(), Fail> {
 fn many_operands(rt: HostRuntime) -> Result<(), Fail> {
     let mut text = "true and ".repeat(rt.alloc(), 1820)?;
     text.push_str("true")?;
-    let found = tokens(rt.alloc(), text.as_str())?;
-    assert_eq!(rt; found.len(), 3641);
-    let expr = parse(rt.alloc(), found.as_slice(), text.len())?;
+    let expr = parsed(rt.alloc(), text.as_str())??;
     let whole = Span {
         start: 0,
         stop: 16384,

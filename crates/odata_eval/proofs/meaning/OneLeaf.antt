@@ -57,6 +57,7 @@ AndGives-one _ Right one a b p q = absurd p
 pub OperatorGives-one : (operator : BinaryOperator) (v : Val) (Right : Outcome → Type 0) → AtMostOne Right → AtMostOne (OperatorGives operator v Right)
 OperatorGives-one BinaryOperator.And v Right one a b p q = AndGives-one v Right one a b p q
 OperatorGives-one BinaryOperator.Eq v Right one a b p q = After-one Right (EqualGives v) one (EqualGives-one v) a b p q
+OperatorGives-one _ v Right one a b p q = absurd p
 
 pub FieldGives-one : (h : FieldVal) → AtMostOne (FieldGives h)
 FieldGives-one (present v) a b p q = same_one (gives v) a b p q

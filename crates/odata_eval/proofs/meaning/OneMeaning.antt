@@ -22,3 +22,4 @@ module _ (values : OneValue) (slots : Slots) (root : List ℕ) (now : MomentPart
     ShapeMeans-one (binary operator left right) =
         After-one (Means slots root now entity environment left) (λ l. OperatorGives operator l (Means slots root now entity environment right))
         (Means-one left) (λ l. OperatorGives-one operator l (Means slots root now entity environment right) (Means-one right))
+    ShapeMeans-one _ = λ a b p q. absurd p

@@ -47,6 +47,7 @@ literal_ends : (slots : Slots) (kind : LiteralKind) (spelling : List ℕ) (type 
 literal_ends slots LiteralKind.Bool spelling type typed = (boolean typed.0, (typed.1, typed_value slots boolean_type type (boolean typed.0) typed.2 tt))
 literal_ends slots LiteralKind.Int spelling type typed = (whole typed.0, (typed.1, int_ends slots type spelling typed.0 typed.1 typed.2))
 literal_ends slots LiteralKind.Str spelling type typed = (text typed.0, (typed.1, typed_value slots string_type type (text typed.0) typed.2 tt))
+literal_ends slots _ spelling type typed = absurd typed
 
 -- a name is found in the scope where it is in the environment, with a value of its type
 abbrev VariableFits : Slots → Option ExprType → Option Val → Type 0
@@ -122,6 +123,7 @@ module _ (slots : Slots) (root : List ℕ) (now : MomentParts) (entity : Val) (e
   operator_ends BinaryOperator.Eq left right left_type right_type type typed l r start stop =
       let equal = equal_ends slots left_type right_type l.0 r.0 typed.0 l.1.1 r.1.1 in
       (boolean equal.0, ((gives l.0, (l.1.0, (gives r.0, (r.1.0, equal.1)))), typed_value slots boolean_type type (boolean equal.0) typed.1 tt))
+  operator_ends _ left right left_type right_type type typed l r start stop = absurd typed
 
   pub tree_ends : (tree : Tree) (type : ExprType) → Typed slots root (scope_of environment) tree type
       → Ends slots type (Means slots root now entity environment tree)
@@ -132,3 +134,4 @@ module _ (slots : Slots) (root : List ℕ) (now : MomentParts) (entity : Val) (e
   tree_ends (node start stop (binary operator left right)) type typed =
       operator_ends operator left right typed.left typed.right type typed.operator_typed
       (tree_ends left typed.left typed.left_typed) (tree_ends right typed.right typed.right_typed) start stop
+  tree_ends (node start stop _) type typed = absurd typed

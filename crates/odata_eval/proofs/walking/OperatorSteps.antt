@@ -29,6 +29,7 @@ operator_within : (operator : BinaryOperator) (l : Val) (Right More : Outcome �
     → (o : Outcome) → OperatorGives operator l Right o → OperatorGives operator l More o
 operator_within And l Right More within o table = and_within l Right More within o table
 operator_within Eq l Right More within o table = (table.0, (within table.0 table.1.0, table.1.1))
+operator_within _ l Right More within o table = absurd table
 
 module _ (values : OneValue) (slots : Slots) (root : List ℕ) (now : MomentParts) (entity : Val) (environment : Environment) (operator : BinaryOperator) (left right : Tree) where
   -- the operator has an outcome at the values of its sides

@@ -72,6 +72,7 @@ module _ (row : Row) (list : FlatTree) (place : ℕ) where
     no_variable level is stop (node from to (binary operator left right)) stands =
         let other : NodeKind.Variable level ≡ NodeKind.Binary operator = kind_there (NodeKind.Variable level) is stop from to (binary operator left right) stands in
         cc
+    no_variable level is stop (node from to _) stands = stands.children
 
     pub variable_absurd : (level : ℕ) → found.kind ≡ NodeKind.Variable level → PartStands row list place → ⊥
     variable_absurd level is part = no_variable level is part.stop part.tree part.stands
@@ -84,6 +85,7 @@ module _ (row : Row) (list : FlatTree) (place : ℕ) where
       literal_inside stop (node from to (binary operator left right)) stands =
           let other : NodeKind.Literal kind value ≡ NodeKind.Binary operator = kind_there (NodeKind.Literal kind value) is stop from to (binary operator left right) stands in
           absurd (cc)
+      literal_inside stop (node from to _) stands = absurd stands.children
 
       pub literal_within : PartStands row list place → value < length list.values
       literal_within part = literal_inside part.stop part.tree part.stands
@@ -98,6 +100,7 @@ module _ (row : Row) (list : FlatTree) (place : ℕ) where
       literal_means now v at stop (node from to (binary operator left right)) stands =
           let other : NodeKind.Literal kind value ≡ NodeKind.Binary operator = kind_there (NodeKind.Literal kind value) is stop from to (binary operator left right) stands in
           absurd (cc)
+      literal_means now v at stop (node from to _) stands = absurd stands.children
 
       -- a literal comes to the value that it names
       pub literal_answers : (now : MomentParts) (v : Value) → slice_get list.values value ≡ Some v → AnswersAtPlace row now list place (option_map gives (plain_val v))
@@ -113,6 +116,7 @@ module _ (row : Row) (list : FlatTree) (place : ℕ) where
       property_inside stop (node from to (binary operator left right)) stands =
           let other : NodeKind.Property slot ≡ NodeKind.Binary operator = kind_there (NodeKind.Property slot) is stop from to (binary operator left right) stands in
           absurd (cc)
+      property_inside stop (node from to _) stands = absurd stands.children
 
       pub property_within : PartStands row list place → slot < length (slots_of row.schema (type_name_at row.schema row.type_id))
       property_within part = property_inside part.stop part.tree part.stands
@@ -127,6 +131,7 @@ module _ (row : Row) (list : FlatTree) (place : ℕ) where
       property_means now v entity holds stop (node from to (binary operator left right)) stands =
           let other : NodeKind.Property slot ≡ NodeKind.Binary operator = kind_there (NodeKind.Property slot) is stop from to (binary operator left right) stands in
           absurd (cc)
+      property_means now v entity holds stop (node from to _) stands = absurd stands.children
 
       -- a property comes to the entity's value in its slot
       pub property_answers : (now : MomentParts) (v : Value) → IsEntity row → HoldsAt row slot v → AnswersAtPlace row now list place (option_map gives (plain_val v))
@@ -149,3 +154,4 @@ module _ (row : Row) (list : FlatTree) (place : ℕ) where
       let same : other ≡ operator = cc in
       subst (λ (o : BinaryOperator). Stands row.schema row.type_id [] list place stop (node from to (binary o left right)) → P stop (node from to (binary o left right)))
       (sym same) (case stop from to left right) stands
+  by_operator P operator here case stop (node from to _) stands = absurd stands.children

@@ -4,7 +4,7 @@ use Rattle.std.specs.Prelude.{IsSomeAnd}
 use Rattle.std.proofs.lemmas.Bool.{cases_lt}
 use Rattle.odata_syntax.specs.Tree.{Tree, node, literal, name, binary}
 use Rattle.odata_syntax.specs.declared.node.BinaryOperator.{BinaryOperator}
-use Rattle.odata_syntax.specs.declared.node.BinaryOperator.TheVariants.{And, Eq}
+use Rattle.odata_syntax.specs.declared.node.BinaryOperator.TheVariants.{And}
 use Rattle.edm_entities.specs.Row.{Row}
 use Rattle.odata_eval.specs.private.OperatorClass.{is_logical}
 use Rattle.odata_eval.specs.private.Place.{PartStands, TruthStands, HasOperator, IsOperatorAt, IsOperatorOf, IsRightOf}
@@ -43,6 +43,7 @@ module _ (row : Row) (list : FlatTree) where
       let a : i + 1 < m = further (i + 1) m left stands.children.left in
       let b : m < j = further m j right stands.children.right in
       omega arith
+  further i j (node from to _) stands = absurd stands.children
 
   -- where a node says that it stops
   stops_there : (i j right : ℕ) (tree : Tree) → Stands row.schema row.type_id [] list i j tree
@@ -95,7 +96,7 @@ module _ (row : Row) (list : FlatTree) where
           truth = stands.top.typed.operator_typed.0;
         })
         part.stop part.tree part.stands
-    left_truth Eq class here part = absurd (cc)
+    left_truth _ class here part = absurd (cc)
 
     pub right_truth : (operator : BinaryOperator) (right_place : ℕ) → is_logical operator ≡ true → HasOperator list place operator
         → IsRightOf list place right_place → PartStands row list place → TruthStands row list right_place
@@ -109,7 +110,7 @@ module _ (row : Row) (list : FlatTree) where
           truth = stands.top.typed.operator_typed.1;
         })
         part.stop part.tree part.stands
-    right_truth Eq right_place class here is_right part = absurd (cc)
+    right_truth _ right_place class here is_right part = absurd (cc)
 
     -- and so is the operator itself
     pub logical_truth : (operator : BinaryOperator) → is_logical operator ≡ true → HasOperator list place operator
@@ -124,7 +125,7 @@ module _ (row : Row) (list : FlatTree) where
           truth = inl stands.top.typed.operator_typed.2;
         })
         part.stop part.tree part.stands
-    logical_truth Eq class here part = absurd (cc)
+    logical_truth _ class here part = absurd (cc)
 
   -- one step down a chain
   pub truth_step : (place : ℕ) → TruthStands row list place → IsOperatorAt list true place → TruthStands row list (place + 1)

@@ -69,12 +69,12 @@ decided_left : (row : Row) (now : MomentParts) (from to : ℕ) (operator : Binar
 decided_left row now from to And left right (Some false) decided of_left = (gives (boolean false), (of_left, refl))
 decided_left row now from to And left right (Some true) decided of_left = absurd decided
 decided_left row now from to And left right None decided of_left = absurd decided
-decided_left row now from to Eq left right truth decided of_left = absurd decided
+decided_left row now from to _ left right truth decided of_left = absurd decided
 
 -- an operator that takes both values is not decided by one
 pub eager_undecided : (operator : BinaryOperator) (l : Option Val) → is_logical operator ≡ false → ¬ (IsDecided operator l)
 eager_undecided And l class decided = absurd (cc)
-eager_undecided Eq l class decided = decided
+eager_undecided _ l class decided = decided
 
 module _ (laws : Laws) (row : Row) (now : MomentParts) (entity : IsEntity row) where
   -- a tree with a type has an outcome on an entity
@@ -123,6 +123,7 @@ module _ (laws : Laws) (row : Row) (now : MomentParts) (entity : IsEntity row) w
       (gives l, (of_left, (divides_by_zero, (of_right, refl))))
   second_fault from to operator left right type (Some l) EvalFault.Memory typed undecided of_left of_right = absurd of_right
   second_fault from to operator left right type None fault typed undecided of_left of_right = absurd of_left
+  second_fault from to _ left right type (Some l) fault typed undecided of_left of_right = absurd typed.operator_typed
 
   module _ (list : FlatTree) (place : ℕ) (operator : BinaryOperator) (here : HasOperator list place operator) where
     pub left_faults : (fault : EvalFault) → AnswersAtPlace row now list (place + 1) (fault_outcome fault) → AnswersAtPlace row now list place (fault_outcome fault)

@@ -1,20 +1,35 @@
 -- The machine on lists that the code's machine stands for. For private clauses.
-use Rattle.std.specs.Prelude.{◌≡◌, ℕ, List, ◌∷◌, ◌++◌, map, reverse, Option, None, Some}
-use Rattle.odata_text.specs.declared.span.Span.{Span}
+use Rattle.std.specs.Prelude.{◌≡◌, ℕ, List, map, reverse, string_bytes, Option, None}
 use Rattle.odata_syntax.specs.declared.syntax_fault.SyntaxFault.{SyntaxFault}
+use Rattle.odata_syntax.specs.declared.parser.state.Bracket.{Bracket}
 use Rattle.odata_syntax.specs.declared.parser.state.Frame.{Frame}
+use Rattle.odata_syntax.specs.declared.parser.state.Pending.{Pending}
 use Rattle.odata_syntax.specs.declared.parser.state.Stage.{Stage}
 use Rattle.odata_syntax.specs.declared.parser.state.State.{State}
-use Rattle.odata_text.specs.TokenModel.{TokenModel, token_model}
+use Rattle.odata_text.specs.TokenModel.{TokenModel}
 use Rattle.odata_syntax.specs.declared.node.Node.{Node}
-use Rattle.odata_text.specs.declared.token.Token.{Token}
 use Rattle.odata_syntax.specs.TreeView.{tree_of}
-use Rattle.odata_syntax.specs.private.Machine.{Waiting, behind, Expected, operand, operator_or_end, Machine, Reduction, step_at, run, step, start}
+use Rattle.odata_syntax.specs.private.Machine.{Operation, binary_behind, has_behind, in_behind, minus_from, not_from, Enclosure, group_from, items_behind, arguments_from, body_behind, Waiting, operation, enclosure, Expected, operand, closed, path, name_or_call, segment, member_or_lambda, variable, colon, Machine, Reduction, start}
 use Rattle.odata_syntax.specs.Tree.{Tree}
 use Rattle.odata_syntax.specs.Parse.{IsSpanOf}
 
+abbrev pub operation_of : Pending → Operation
+operation_of (Pending.Binary operator left) = binary_behind operator (tree_of left.value)
+operation_of (Pending.Has left) = has_behind (tree_of left.value)
+operation_of (Pending.In left) = in_behind (tree_of left.value)
+operation_of (Pending.Minus start) = minus_from start
+operation_of (Pending.Not start) = not_from start
+
+abbrev pub enclosure_of : Bracket → Enclosure
+enclosure_of (Bracket.Group start) = group_from start
+enclosure_of (Bracket.List left items) = items_behind (tree_of left.value) (map tree_of items.items)
+enclosure_of (Bracket.Call start name arguments) =
+    arguments_from start (string_bytes name) (map tree_of arguments.items)
+enclosure_of (Bracket.Body quantifier base name) = body_behind quantifier (tree_of base.value) (string_bytes name)
+
 abbrev pub waiting_of : Frame → Waiting
-waiting_of (Frame.Behind operator left) = behind operator (tree_of left.value)
+waiting_of (Frame.Pending w) = operation (operation_of w)
+waiting_of (Frame.Open b) = enclosure (enclosure_of b)
 
 -- the last frame is the innermost
 abbrev pub stack_of : List Frame → List Waiting
@@ -22,7 +37,14 @@ stack_of frames = reverse (map waiting_of frames)
 
 abbrev pub expected_of : Stage → Expected
 expected_of Stage.Operand = operand
-expected_of (Stage.OperatorOrEnd read) = operator_or_end (tree_of read.value)
+expected_of (Stage.Closed read) = closed (tree_of read.value)
+expected_of (Stage.Path read) = path (tree_of read.value)
+expected_of (Stage.NameOrCall span name) = name_or_call span.start span.stop (string_bytes name)
+expected_of (Stage.Segment base) = segment (tree_of base.value)
+expected_of (Stage.MemberOrLambda quantifier base stop name) =
+    member_or_lambda quantifier (tree_of base.value) stop (string_bytes name)
+expected_of (Stage.Variable quantifier base) = variable quantifier (tree_of base.value)
+expected_of (Stage.Colon quantifier base name) = colon quantifier (tree_of base.value) (string_bytes name)
 
 abbrev pub machine_of : State → Machine
 machine_of s = record { waiting = stack_of s.frames.items; expected = expected_of s.stage }
@@ -30,13 +52,6 @@ machine_of s = record { waiting = stack_of s.frames.items; expected = expected_o
 -- what waits, and the operand that has grown
 abbrev pub reduction_of : List Frame → Node → Reduction
 reduction_of frames grown = record { waiting = stack_of frames; tree = tree_of grown }
-
--- the machine behind a token where an operand is expected, and behind the operand that has been read
-abbrev pub operand_step : List Frame → Token → Option Machine
-operand_step frames token = step_at operand (stack_of frames) (token_model token)
-
-abbrev pub operator_step : List Frame → Node → Token → Option Machine
-operator_step frames read token = step_at (operator_or_end (tree_of read)) (stack_of frames) (token_model token)
 
 -- what a refusal of a step says: it has no next machine, and the span is the token's
 abbrev pub Refuses : Option Machine → TokenModel → SyntaxFault → Type 0
@@ -49,19 +64,3 @@ abbrev pub RefusesEnd : Option Tree → ℕ → SyntaxFault → Type 0
 RefusesEnd tree len (SyntaxFault.Unexpected span) = (span.start ≡ len) × (span.stop ≡ len) × (tree ≡ None)
 RefusesEnd tree len (SyntaxFault.TooDeep span) = ⊥
 RefusesEnd tree len SyntaxFault.Memory = Unit {0}
-
--- the machine takes the tokens before this one and not this one
-pub record IsStuck (ts : List TokenModel) (span : Span) : Type 0 where
-  pub before : List TokenModel
-  pub token : TokenModel
-  pub behind : List TokenModel
-  pub split : ts ≡ before ++ (token ∷ behind)
-  pub reached : Machine
-  pub takes : run before start ≡ Some reached
-  pub stuck : step reached token ≡ None
-  pub spanned : IsSpanOf token span
-
-abbrev pub RefusesOneOf : List TokenModel → SyntaxFault → Type 0
-RefusesOneOf ts (SyntaxFault.Unexpected span) = IsStuck ts span
-RefusesOneOf ts (SyntaxFault.TooDeep span) = ⊥
-RefusesOneOf ts SyntaxFault.Memory = Unit {0}

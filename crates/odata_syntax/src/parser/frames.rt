@@ -1,15 +1,40 @@
 ghost use Rattle.std.specs.Prelude.{◌≡◌, ◌∷◌, ◌≤◌, ◌<◌, vec_len, IfOk, IfSome, IfNone};
 ghost use Rattle.odata_syntax.specs.TreeView.{tree_of};
-ghost use Rattle.odata_syntax.specs.private.Machine.{waiting_level, join_waiting, IsHeld, reduce as machine_reduce};
-ghost use Rattle.odata_syntax.specs.private.MachineView.{waiting_of, stack_of, reduction_of};
+ghost use Rattle.odata_syntax.specs.private.Machine.{operation, operation_level, join_operation, IsHeld, wait_behind};
+ghost use Rattle.odata_syntax.specs.private.Machine.{reduce as machine_reduce, expected_level as machine_expected};
+ghost use Rattle.odata_syntax.specs.private.MachineView.{operation_of, stack_of, machine_of, reduction_of};
 
 use crate::Node;
+use crate::parser::level;
 use crate::parser::operator::level_of;
-use crate::parser::state::Frame;
+use crate::parser::state::{Frame, Pending, Stage, State};
 use odata_text::Span;
 use std::alloc::{AllocError, Global};
 
-/// The operand that `read` grows to before an operator of this level: each frame that holds it as tightly is closed.
+/// The level of the operand that is expected.
+pub fn expected_level(frames: &Vec<Frame>) -> u8
+    ensures { result ≡ machine_expected (stack_of frames.now.items) }
+{
+    match frames.last() {
+        Some(Frame::Pending(Pending::Binary { operator, .. })) => level_of(*operator) + 1,
+        Some(Frame::Pending(Pending::Has { .. })) => level::BASE,
+        Some(Frame::Pending(Pending::In { .. })) => level::PATH,
+        Some(Frame::Pending(Pending::Minus { .. } | Pending::Not { .. })) => level::UNARY,
+        Some(Frame::Open(_)) | None => level::OR,
+    }
+}
+
+/// One more operation waits.
+pub fn wait_for(mut frames: Vec<Frame>, pending: Pending) -> Result<State, AllocError>
+    ensures { IfOk result (λ state. machine_of state ≡ wait_behind (operation_of pending) (stack_of frames.items)) }
+{
+    frames.push(Frame::Pending(pending))?;
+    let stage = Stage::Operand;
+    Ok(State { frames, stage })
+}
+
+/// The operand that `read` grows to before an operator of this level: each operation that holds it as tightly is
+/// closed.
 pub fn reduce(
     alloc: Global,
     frames: &mut Vec<Frame>,
@@ -20,47 +45,51 @@ pub fn reduce(
         ≡ machine_reduce level (stack_of frames.old.items) (tree_of read.value)) }
 {
     let mut read = read;
-    while let Some(frame) = pop_closed(frames, level) {
-        read = join(alloc, frame, read)?;
+    while let Some(pending) = pop_closed(frames, level) {
+        read = join(alloc, pending, read)?;
     }
     Ok(read)
 }
 
-/// The innermost frame, if an operator of this level closes it.
-fn pop_closed(frames: &mut Vec<Frame>, level: u8) -> Option<Frame>
-    ensures popped { IfSome result (λ frame.
-        stack_of frames.old.items ≡ waiting_of frame ∷ stack_of frames.new.items) }
+/// The innermost operation, if an operator of this level closes it.
+fn pop_closed(frames: &mut Vec<Frame>, level: u8) -> Option<Pending>
+    ensures popped { IfSome result (λ pending.
+        stack_of frames.old.items ≡ operation (operation_of pending) ∷ stack_of frames.new.items) }
     ensures fewer { IfSome result (λ _. vec_len frames.new < vec_len frames.old) }
-    ensures closed { IfSome result (λ frame. level ≤ waiting_level (waiting_of frame)) }
+    ensures closed { IfSome result (λ pending. level ≤ operation_level (operation_of pending)) }
     ensures unchanged { IfNone result (stack_of frames.new.items ≡ stack_of frames.old.items) }
     ensures held { IfNone result (IsHeld level (stack_of frames.old.items)) }
 {
     match frames.last() {
-        Some(frame) if level <= frame_level(frame) => frames.pop(),
+        Some(Frame::Pending(pending)) if level <= pending_level(pending) => match frames.pop() {
+            Some(Frame::Pending(pending)) => Some(pending),
+            _ => unreachable!(),
+        },
         _ => None,
     }
 }
 
-/// How tightly a frame holds the operand behind it.
-fn frame_level(frame: &Frame) -> u8
-    ensures { result ≡ waiting_level (waiting_of frame.now) }
+/// How tightly an operation holds the operand before it.
+fn pending_level(pending: &Pending) -> u8
+    ensures { result ≡ operation_level (operation_of pending.now) }
 {
-    match frame {
-        Frame::Behind { operator, .. } => level_of(*operator),
+    match pending {
+        Pending::Binary { operator, .. } => level_of(*operator),
+        Pending::Has { .. } | Pending::In { .. } => level::PRIMARY,
+        Pending::Minus { .. } | Pending::Not { .. } => level::UNARY,
     }
 }
 
-/// The node of a frame and of the operand that it has waited for.
-fn join(alloc: Global, frame: Frame, right: Box<Node>) -> Result<Box<Node>, AllocError>
+/// The node of an operation and of the operand that it has waited for.
+fn join(alloc: Global, pending: Pending, right: Box<Node>) -> Result<Box<Node>, AllocError>
     ensures { IfOk result (λ whole.
-        tree_of whole.value ≡ join_waiting (waiting_of frame) (tree_of right.value)) }
+        tree_of whole.value ≡ join_operation (operation_of pending) (tree_of right.value)) }
 {
-    match frame {
-        Frame::Behind { operator, left } => {
-            let span = Span {
-                start: left.span().start,
-                stop: right.span().stop,
-            };
+    let stop = right.span().stop;
+    match pending {
+        Pending::Binary { operator, left } => {
+            let start = left.span().start;
+            let span = Span { start, stop };
             let node = Node::Binary {
                 span,
                 operator,
@@ -68,6 +97,27 @@ fn join(alloc: Global, frame: Frame, right: Box<Node>) -> Result<Box<Node>, Allo
                 right,
             };
             Ok(Box::new(alloc, node)?)
+        }
+        Pending::Has { left } => {
+            let start = left.span().start;
+            let span = Span { start, stop };
+            Ok(Box::new(alloc, Node::Has { span, left, right })?)
+        }
+        Pending::In { left } => {
+            let start = left.span().start;
+            let span = Span { start, stop };
+            let path = right;
+            Ok(Box::new(alloc, Node::InPath { span, left, path })?)
+        }
+        Pending::Minus { start } => {
+            let span = Span { start, stop };
+            let operand = right;
+            Ok(Box::new(alloc, Node::Neg { span, operand })?)
+        }
+        Pending::Not { start } => {
+            let span = Span { start, stop };
+            let operand = right;
+            Ok(Box::new(alloc, Node::Not { span, operand })?)
         }
     }
 }

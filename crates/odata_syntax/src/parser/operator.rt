@@ -1,61 +1,121 @@
 ghost use Rattle.std.specs.Prelude.{◌≡◌, Some, IfOk, IfErr};
 ghost use Rattle.odata_syntax.specs.Grammar.{operator_level};
+ghost use Rattle.odata_syntax.specs.TreeView.{tree_of};
 ghost use Rattle.odata_text.specs.TokenModel.{token_model};
-ghost use Rattle.odata_syntax.specs.private.Machine.{word_operator as machine_word, operator_of_kind};
-ghost use Rattle.odata_syntax.specs.private.MachineView.{machine_of, operator_step, Refuses};
+ghost use Rattle.odata_syntax.specs.private.Machine.{word_next as machine_word, next_of_kind, next_level};
+ghost use Rattle.odata_syntax.specs.private.Machine.{take_next as machine_take_next};
+ghost use Rattle.odata_syntax.specs.private.MachineView.{machine_of, stack_of, Refuses};
 
-use crate::parser::frames::reduce;
+use crate::parser::bracket::{close, separate};
+use crate::parser::frames::{reduce, wait_for};
 use crate::parser::level;
-use crate::parser::state::{Frame, Stage, State};
+use crate::parser::state::{Frame, Pending, State};
 use crate::parser::word::is_word;
 use crate::{BinaryOperator, Node, SyntaxFault};
 use odata_text::{Token, TokenKind};
 use std::alloc::Global;
 
+/// What a token says behind an operand.
+#[derive(Clone, Copy, Debug, PartialEq, Eq)]
+pub enum Next {
+    Operator(BinaryOperator),
+    Has,
+    In,
+    Close,
+    Comma,
+}
+
 /// Takes a token behind the operand `read`.
-pub fn take_operator(
+pub fn take_next(
     alloc: Global,
     mut frames: Vec<Frame>,
     read: Box<Node>,
     token: &Token<'_>,
 ) -> Result<State, SyntaxFault>
-    ensures taken { IfOk result (λ next. operator_step frames.items read.value token.now ≡ Some (machine_of next)) }
-    ensures refused { IfErr result (Refuses (operator_step frames.items read.value token.now) (token_model token.now)) }
+    ensures taken { IfOk result (λ state. machine_take_next (stack_of frames.items) (tree_of read.value)
+        token.now.span.stop (next_of_kind token.now.kind token.now.text.now) ≡ Some (machine_of state)) }
+    ensures refused { IfErr result (Refuses (machine_take_next (stack_of frames.items) (tree_of read.value)
+        token.now.span.stop (next_of_kind token.now.kind token.now.text.now)) (token_model token.now)) }
 {
-    match read_operator(token) {
-        Some(operator) => {
-            let left = reduce(alloc, &mut frames, level_of(operator), read)?;
-            frames.push(Frame::Behind { operator, left })?;
-            Ok(State {
-                frames,
-                stage: Stage::Operand,
-            })
-        }
-        None => Err(SyntaxFault::Unexpected { span: token.span }),
+    let Some(next) = read_next(token) else {
+        return Err(SyntaxFault::Unexpected { span: token.span });
+    };
+    let read = reduce(alloc, &mut frames, level_of_next(next), read)?;
+    match next {
+        Next::Operator(operator) => Ok(wait_for(
+            frames,
+            Pending::Binary {
+                operator,
+                left: read,
+            },
+        )?),
+        Next::Has => Ok(wait_for(frames, Pending::Has { left: read })?),
+        Next::In => Ok(wait_for(frames, Pending::In { left: read })?),
+        Next::Close => close(alloc, frames, read, token),
+        Next::Comma => separate(frames, read, token),
     }
 }
 
-/// The operator that a token is.
-fn read_operator(token: &Token<'_>) -> Option<BinaryOperator>
-    ensures { result ≡ operator_of_kind token.now.kind token.now.text.now }
+/// What a token says.
+fn read_next(token: &Token<'_>) -> Option<Next>
+    ensures { result ≡ next_of_kind token.now.kind token.now.text.now }
 {
     match token.kind {
-        TokenKind::Word => word_operator(token.text),
+        TokenKind::Word => word_next(token.text),
+        TokenKind::Close => Some(Next::Close),
+        TokenKind::Comma => Some(Next::Comma),
         _ => None,
     }
 }
 
-/// The operator that a word is.
-#[tactic(auto, unfolding(crate::specs::private::Machine::word_operator))]
-fn word_operator(text: &str) -> Option<BinaryOperator>
+/// What a word says.
+#[tactic(auto, unfolding(crate::specs::private::Machine::word_next))]
+fn word_next(text: &str) -> Option<Next>
     ensures { result ≡ machine_word text.now }
 {
-    if is_word(text, "and") {
-        Some(BinaryOperator::And)
+    if is_word(text, "or") {
+        Some(Next::Operator(BinaryOperator::Or))
+    } else if is_word(text, "and") {
+        Some(Next::Operator(BinaryOperator::And))
     } else if is_word(text, "eq") {
-        Some(BinaryOperator::Eq)
+        Some(Next::Operator(BinaryOperator::Eq))
+    } else if is_word(text, "ne") {
+        Some(Next::Operator(BinaryOperator::Ne))
+    } else if is_word(text, "gt") {
+        Some(Next::Operator(BinaryOperator::Gt))
+    } else if is_word(text, "ge") {
+        Some(Next::Operator(BinaryOperator::Ge))
+    } else if is_word(text, "lt") {
+        Some(Next::Operator(BinaryOperator::Lt))
+    } else if is_word(text, "le") {
+        Some(Next::Operator(BinaryOperator::Le))
+    } else if is_word(text, "add") {
+        Some(Next::Operator(BinaryOperator::Add))
+    } else if is_word(text, "sub") {
+        Some(Next::Operator(BinaryOperator::Sub))
+    } else if is_word(text, "mul") {
+        Some(Next::Operator(BinaryOperator::Mul))
+    } else if is_word(text, "div") {
+        Some(Next::Operator(BinaryOperator::Div))
+    } else if is_word(text, "mod") {
+        Some(Next::Operator(BinaryOperator::Mod))
+    } else if is_word(text, "has") {
+        Some(Next::Has)
+    } else if is_word(text, "in") {
+        Some(Next::In)
     } else {
         None
+    }
+}
+
+/// How tightly it binds.
+fn level_of_next(next: Next) -> u8
+    ensures { result ≡ next_level next }
+{
+    match next {
+        Next::Operator(operator) => level_of(operator),
+        Next::Has | Next::In => level::PRIMARY,
+        Next::Close | Next::Comma => level::OR,
     }
 }
 
@@ -64,7 +124,12 @@ pub fn level_of(operator: BinaryOperator) -> u8
     ensures { result ≡ operator_level operator }
 {
     match operator {
+        BinaryOperator::Or => level::OR,
         BinaryOperator::And => level::AND,
-        BinaryOperator::Eq => level::EQ,
+        BinaryOperator::Eq | BinaryOperator::Ne => level::EQ,
+        BinaryOperator::Gt | BinaryOperator::Ge | BinaryOperator::Lt | BinaryOperator::Le =>
+            level::RELATIONAL,
+        BinaryOperator::Add | BinaryOperator::Sub => level::ADDITIVE,
+        BinaryOperator::Mul | BinaryOperator::Div | BinaryOperator::Mod => level::MULTIPLICATIVE,
     }
 }

@@ -152,3 +152,20 @@ all-ascii (b ∷ bs) all =
 
 pub run-ascii : (rest : List ℕ) → list_all is_ascii rest ≡ true → identifier_run rest ≡ length (encode_utf8_all (take_while is_name_byte rest))
 run-ascii rest all = ap (λ (cs : List ℕ). length (encode_utf8_all cs)) (ap (take_while continues_identifier) (chars-IsAscii rest (all-ascii rest all)) ∙ take_while-ascii rest all)
+
+-- Letters alone.
+
+first-letter : (b : ℕ) → is_ascii_alphabetic b ≡ true → is_first_byte b ≡ true
+first-letter b letter = or_left (is_ascii_alphabetic b) (b == 95) letter
+
+letters-names : (bs : List ℕ) → list_all is_ascii_alphabetic bs ≡ true → list_all is_name_byte bs ≡ true
+letters-names [] letters = refl
+letters-names (b ∷ bs) letters =
+    let parts = and_parts (is_ascii_alphabetic b) (list_all is_ascii_alphabetic bs) letters in
+    and_from (is_name_byte b) (list_all is_name_byte bs) (name-from_first b (first-letter b parts.0)) (letters-names bs parts.1)
+
+pub letters-identifier : (bs : List ℕ) → 0 < length bs → list_all is_ascii_alphabetic bs ≡ true → IsIdentifier bs
+letters-identifier [] some letters = absurd (omega arith)
+letters-identifier (b ∷ bs) some letters =
+    let parts = and_parts (is_ascii_alphabetic b) (list_all is_ascii_alphabetic bs) letters in
+    ascii-identifier (b ∷ bs) (and_from (is_first_byte b) (list_all is_name_byte bs) (first-letter b parts.0) (letters-names bs parts.1))

@@ -5,7 +5,7 @@ use Rattle.odata_syntax.specs.Tree.{Tree, node, Shape, literal, name, binary}
 use Rattle.csdl_schema.specs.SchemaModel.{SchemaModel, slots_of, type_name_at}
 use Rattle.odata_typing.specs.declared.checked_node.CheckedNode.{CheckedNode}
 use Rattle.odata_typing.specs.declared.checked_node.NodeKind.{NodeKind}
-use Rattle.odata_typing.specs.FlatTree.{FlatTree, PlacedTree, forest, shape_of, tree_at, trees_before, trees_from, tree_of_nodes, first_tree}
+use Rattle.odata_typing.specs.FlatTree.{FlatTree, PlacedTree, forest, shape_of_kind, tree_at, trees_before, trees_from, tree_of_nodes, first_tree}
 use Rattle.odata_typing.specs.Stands.{Stands, IsTop, IsKindOf, names_of, text_of_shape}
 use Rattle.odata_typing.specs.Typed.{Scope}
 use Rattle.odata_typing.proofs.flat.Places.{drop_at}
@@ -36,19 +36,19 @@ one_passed j t ts below = rw (lt_true t.place j below) refl
 leaf_shape :
     (list : FlatTree) (properties : _) (variables : List (List ℕ)) (kind : _) (spelling : List ℕ) (k : NodeKind)
     → IsKindOf list.values properties variables (literal kind spelling) k
-    → shape_of k spelling [] ≡ literal kind spelling
+    → shape_of_kind k spelling [] ≡ literal kind spelling
 leaf_shape list properties variables kind spelling (NodeKind.Literal l place) is = ap (λ x. literal x spelling) is.0
 leaf_shape list properties variables kind spelling _ is = absurd is
 
 name_shape :
     (list : FlatTree) (properties : _) (variables : List (List ℕ)) (asked : List ℕ) (k : NodeKind)
     → IsKindOf list.values properties variables (name asked) k
-    → shape_of k asked [] ≡ name asked
+    → shape_of_kind k asked [] ≡ name asked
 name_shape list properties variables asked (NodeKind.Property slot) is = refl
 name_shape list properties variables asked (NodeKind.Variable level) is = refl
 name_shape list properties variables asked _ is = absurd is
 
-operator_shape : (operator : _) (left right : Tree) (k : NodeKind) → k ≡ NodeKind.Binary operator → shape_of k [] (left ∷ right ∷ []) ≡ binary operator left right
+operator_shape : (operator : _) (left right : Tree) (k : NodeKind) → k ≡ NodeKind.Binary operator → shape_of_kind k [] (left ∷ right ∷ []) ≡ binary operator left right
 operator_shape operator left right k is = rw is refl
 
 -- a node's tree, and what is left behind it
@@ -63,7 +63,7 @@ planted_same :
     → found.stop ≡ j
     → trees_before j behind ≡ children
     → trees_from j behind ≡ rest
-    → shape_of found.kind text children ≡ shape
+    → shape_of_kind found.kind text children ≡ shape
     → planted texts i found behind ≡ record { place = i; tree = node start stop shape } ∷ rest
 planted_same texts i j start stop found behind children rest shape text at starts stops last before from shaped =
     rw (at, starts, stops, last, before, from, shaped) refl
@@ -72,7 +72,7 @@ planted_same texts i j start stop found behind children rest shape text at start
 top_planted :
     (schema : SchemaModel) (n : ℕ) (scope : Scope) (list : FlatTree) (i j start stop : ℕ) (shape : Shape) (children : List Tree) (behind rest : List PlacedTree)
     → (top : IsTop schema n scope list i j start stop shape)
-    → shape_of top.found.kind (text_of_shape shape) children ≡ shape
+    → shape_of_kind top.found.kind (text_of_shape shape) children ≡ shape
     → forest list.texts (i + 1) (drop (i + 1) list.nodes) ≡ behind
     → trees_before j behind ≡ children
     → trees_from j behind ≡ rest
@@ -115,6 +115,7 @@ stands_forest schema n scope list i j (node start stop (binary operator left rig
     ∙ ap (λ (ts : List PlacedTree). l ∷ ts) (stands_forest schema n scope list m j right stands.children.right))
     (one_before j l (r ∷ behind) first ∙ ap (λ (ts : List Tree). left ∷ ts) (one_before j r behind b ∙ ap (λ (ts : List Tree). right ∷ ts) (none_before list.texts j (drop j list.nodes))))
     (one_passed j l (r ∷ behind) first ∙ one_passed j r behind b ∙ all_from list.texts j (drop j list.nodes))
+stands_forest schema n scope list i j (node start stop _) stands = absurd stands.children
 
 -- the whole list stands for one tree
 pub whole_tree :

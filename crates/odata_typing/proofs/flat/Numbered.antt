@@ -7,11 +7,13 @@ use Rattle.odata_text.specs.declared.span.Span.{Span}
 use Rattle.csdl_schema.specs.SchemaModel.{Slots, slots_of, type_name_at, slot_named}
 use Rattle.odata_typing.specs.declared.checked_node.CheckedNode.{CheckedNode}
 use Rattle.odata_typing.specs.declared.checked_node.NodeKind.{NodeKind}
+use Rattle.odata_typing.specs.Considered.{IsConsidered}
 use Rattle.odata_typing.specs.Filter.{Filter, IsFilter, IsTypeAt, tree_of_filter}
 use Rattle.odata_typing.specs.FlatTree.{FlatTree}
 use Rattle.odata_typing.specs.Levels.{level_named}
-use Rattle.odata_typing.specs.NameKinds.{ScopedNode, scoped_nodes, NamesSlot, IsSlotAt, level_of_node, level_at}
+use Rattle.odata_typing.specs.NameKinds.{NamesSlot, IsSlotAt, level_of_node, level_at}
 use Rattle.odata_typing.specs.PreOrder.{pre_order, span_of_tree}
+use Rattle.odata_typing.specs.ScopedNodes.{ScopedNode, scoped_nodes}
 use Rattle.odata_typing.specs.Stands.{Stands, IsKindOf}
 use Rattle.odata_typing.specs.Typed.{Typed}
 use Rattle.odata_typing.specs.TypeView.{expr_type}
@@ -31,6 +33,7 @@ names_slot :
 names_slot list slots root variables start stop (literal kind spelling) slot is = absurd is
 names_slot list slots root variables start stop (name asked) slot is = is
 names_slot list slots root variables start stop (binary operator left right) slot is = cc
+names_slot list slots root variables start stop _ slot is = absurd is
 
 same_slot : (o : Option ℕ) (a b : ℕ) → o ≡ Some a → o ≡ Some b → NodeKind.Property a ≡ NodeKind.Property b
 same_slot o a b x y = cc
@@ -50,6 +53,7 @@ only_slot list slots root variables start stop (name asked) (NodeKind.Property o
 only_slot list slots root variables start stop (name asked) (NodeKind.Variable level) slot is names =
     absurd (none_some (level_named variables asked) level is names.0)
 only_slot list slots root variables start stop (name asked) _ slot is names = absurd is
+only_slot list slots root variables start stop _ kind slot is names = absurd is
 
 level_of_top :
     (list : FlatTree) (slots : Slots) (root : List ℕ) (variables : List (List ℕ)) (start stop : ℕ) (shape : _) (kind : NodeKind)
@@ -61,6 +65,7 @@ level_of_top list slots root variables start stop (name asked) (NodeKind.Variabl
 level_of_top list slots root variables start stop (name asked) (NodeKind.Property slot) is = is.0
 level_of_top list slots root variables start stop (name asked) _ is = absurd is
 level_of_top list slots root variables start stop (binary operator left right) kind is = rw is refl
+level_of_top list slots root variables start stop _ kind is = absurd is
 
 -- what a node of the list says of the tree that stands there
 pub record IsNodeOf (filter : Filter) (found : CheckedNode) (at : ScopedNode) : Type 0 where
@@ -107,6 +112,8 @@ pub record IsNumbered (filter : Filter) (k : ℕ) (found : CheckedNode) : Type 0
   pub at : ScopedNode
   pub scoped : slice_get (scoped_nodes [] (tree_of_filter filter)) k ≡ Some at
   pub ordered : slice_get (pre_order (tree_of_filter filter)) k ≡ Some at.part
+  pub unbound : slice_get (scoped_nodes [] (tree_of_filter filter)) k ≡ Some (record { variables = []; part = at.part })
+  pub considered : IsConsidered (slots_of filter.schema) (type_name_at filter.schema filter.filtered) [] (tree_of_filter filter) [] at.part
   pub says : IsNodeOf filter found at
 
 scoped_same : (at : ScopedNode) → at.variables ≡ [] → record { variables = []; part = at.part } ≡ at
@@ -121,7 +128,7 @@ numbered filter k found is here =
     let parts : length (scoped_nodes [] tree) ≡ length (pre_order tree) = parts_count [] tree in
     let inside : k < length (scoped_nodes [] tree) = omega arith in
     let s = found_within (scoped_nodes [] tree) k inside in
-    let P : ℕ → Type 0 = λ (x : ℕ). IsPart filter.schema filter.filtered [] filter.list x s.0 in
+    let P : ℕ → Type 0 = λ (x : ℕ). IsPart filter.schema filter.filtered [] filter.list tree x s.0 in
     let zero_more : 0 + k ≡ k = omega arith in
     let part = subst P zero_more (part_stands filter.schema filter.filtered [] filter.list 0 (length filter.list.nodes) tree k s.0 is.stands s.1) in
     let Q : ScopedNode → Type 0 = λ (x : ScopedNode). IsNodeOf filter found x in
@@ -132,6 +139,8 @@ numbered filter k found is here =
           ap (λ (ts : List Tree). slice_get ts k) (sym (parts_of [] tree))
           ∙ slice_get-map (λ (x : ScopedNode). x.part) (scoped_nodes [] tree) k
           ∙ ap (option_map (λ (x : ScopedNode). x.part)) s.1;
+      unbound = s.1 ∙ ap Some (sym (scoped_same s.0 part.variables));
+      considered = part.considered;
       says = subst Q (scoped_same s.0 part.variables) (top_says filter k part.j s.0.part part.stands found here);
     }
 
@@ -148,7 +157,7 @@ past_scoped filter k is past =
     slice_get_past (scoped_nodes [] (tree_of_filter filter)) k (omega arith)
 
 pub type_at : (filter : Filter) (k : ℕ) (found : CheckedNode) → IsNumbered filter k found → IsTypeAt filter k (expr_type filter.schema found.edm_type)
-type_at filter k found is = rw is.ordered is.says.typed
+type_at filter k found is = record { at = []; part = is.at.part; numbered = is.unbound; considered = is.considered; typed = is.says.typed }
 
 pub span_at : (filter : Filter) (k : ℕ) (found : CheckedNode) → IsNumbered filter k found → Some found.span ≡ option_map span_of_tree (slice_get (pre_order (tree_of_filter filter)) k)
 span_at filter k found is = ap Some is.says.span ∙ sym (ap (option_map span_of_tree) is.ordered)

@@ -23,6 +23,7 @@ stands_size schema n scope list i j (node start stop (binary operator left right
     let a : m ≡ i + 1 + length (pre_order left) = stands_size schema n scope list (i + 1) m left stands.children.left in
     let b : j ≡ m + length (pre_order right) = stands_size schema n scope list m j right stands.children.right in
     omega (arith, length-append (pre_order left) (pre_order right))
+stands_size schema n scope list i j (node start stop _) stands = absurd stands.children
 
 pub stands_nonempty :
     (schema : SchemaModel) (n : ℕ) (scope : Scope) (list : FlatTree) (i j : ℕ) (tree : Tree)
@@ -35,6 +36,7 @@ stands_nonempty schema n scope list i j (node start stop (binary operator left r
     let a : i + 1 < m = stands_nonempty schema n scope list (i + 1) m left stands.children.left in
     let b : m < j = stands_nonempty schema n scope list m j right stands.children.right in
     omega arith
+stands_nonempty schema n scope list i j (node start stop _) stands = absurd stands.children
 
 -- all but the node at the place is kept
 pub record IsKeptBut (hole : ℕ) (old new : FlatTree) : Type 0 where
@@ -59,6 +61,7 @@ kind_kept old new properties variables (literal k spelling) (NodeKind.Literal l 
 kind_kept old new properties variables (literal k spelling) _ kept is = absurd is
 kind_kept old new properties variables (name asked) kind kept is = is
 kind_kept old new properties variables (binary operator left right) kind kept is = is
+kind_kept old new properties variables _ kind kept is = absurd is
 
 top_kept :
     (hole : ℕ) (old new : FlatTree) (schema : SchemaModel) (n : ℕ) (scope : Scope) (i j start stop : ℕ) (shape : Shape)
@@ -99,3 +102,4 @@ stands_kept hole old new schema n scope i j (node start stop (binary operator le
         right = stands_kept hole old new schema n scope m j right kept (omega arith) stands.children.right;
       };
     }
+stands_kept hole old new schema n scope i j (node start stop _) kept behind stands = absurd stands.children

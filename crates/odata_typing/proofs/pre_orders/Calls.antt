@@ -1,16 +1,50 @@
--- No tree calls a function yet.
-use Rattle.std.proofs.Common.{inl, inr}
-use Rattle.odata_syntax.specs.Tree.{Tree, node, literal, name, binary}
-use Rattle.odata_typing.specs.Calls.{TakesMemory, UsesNow}
+-- No tree that has a type calls a function: no call is typed yet.
+use Rattle.std.proofs.Common.{◌≡◌, ℕ, List}
+use Rattle.std.specs.List.{AllByRecursion}
+use Rattle.std.proofs.lemmas.List.Elements.{All-contains, All-from_recursion}
+use Rattle.odata_syntax.specs.Spans.{IsWithin, children_of, in_child, is_root}
+use Rattle.odata_syntax.specs.Tree.{Tree, Trees, binary, call, literal, name, node, shape_of}
+use Rattle.csdl_schema.specs.ExprType.{ExprType}
+use Rattle.csdl_schema.specs.SchemaModel.{Slots}
+use Rattle.odata_typing.specs.Calls.{CallsOne}
+use Rattle.odata_typing.specs.Typed.{Scope, Typed, IsTyped}
 
-pub no_memory : (tree : Tree) → ¬ TakesMemory tree
-no_memory (node start stop (literal kind spelling)) takes = takes
-no_memory (node start stop (name asked)) takes = takes
-no_memory (node start stop (binary operator left right)) (inl takes) = no_memory left takes
-no_memory (node start stop (binary operator left right)) (inr takes) = no_memory right takes
+typed_children :
+    (slots : Slots) (root : List ℕ) (scope : Scope) (tree : Tree) (type : ExprType)
+    → Typed slots root scope tree type
+    → AllByRecursion (IsTyped slots root scope) (children_of (shape_of tree))
+typed_children slots root scope (node start stop (literal kind spelling)) type typed = tt
+typed_children slots root scope (node start stop (name asked)) type typed = tt
+typed_children slots root scope (node start stop (binary operator left right)) type typed =
+    ((typed.left, typed.left_typed), ((typed.right, typed.right_typed), tt))
+typed_children slots root scope (node start stop _) type typed = absurd typed
 
-pub no_now : (tree : Tree) → ¬ UsesNow tree
-no_now (node start stop (literal kind spelling)) uses = uses
-no_now (node start stop (name asked)) uses = uses
-no_now (node start stop (binary operator left right)) (inl uses) = no_now left uses
-no_now (node start stop (binary operator left right)) (inr uses) = no_now right uses
+within_typed :
+    (slots : Slots) (root : List ℕ) (scope : Scope) (tree part : Tree)
+    → IsWithin part tree
+    → IsTyped slots root scope tree
+    → IsTyped slots root scope part
+within_typed slots root scope tree part is_root typed = typed
+within_typed slots root scope tree part (in_child {child = child} contains within) typed =
+    within_typed slots root scope child part within
+    (All-contains (IsTyped slots root scope) (children_of (shape_of tree)) child
+    (All-from_recursion (IsTyped slots root scope) (children_of (shape_of tree)) (typed_children slots root scope tree typed.0 typed.1))
+    contains)
+
+no_typed_call :
+    (slots : Slots) (root : List ℕ) (scope : Scope) (tree : Tree) (type : ExprType) (called : List ℕ) (arguments : Trees)
+    → Typed slots root scope tree type
+    → shape_of tree ≡ call called arguments
+    → ⊥
+no_typed_call slots root scope (node start stop (literal kind spelling)) type called arguments typed same = cc
+no_typed_call slots root scope (node start stop (name asked)) type called arguments typed same = cc
+no_typed_call slots root scope (node start stop (binary operator left right)) type called arguments typed same = cc
+no_typed_call slots root scope (node start stop _) type called arguments typed same = absurd typed
+
+pub no_calls :
+    (slots : Slots) (root : List ℕ) (scope : Scope) (tree : Tree) (type : ExprType) (functions : List (List ℕ))
+    → Typed slots root scope tree type
+    → ¬ CallsOne functions tree
+no_calls slots root scope tree type functions typed calls =
+    let of_part = within_typed slots root scope tree calls.part calls.within (type, typed) in
+    no_typed_call slots root scope calls.part of_part.0 calls.called calls.arguments of_part.1 calls.is_call

@@ -33,6 +33,7 @@ LiteralTyped-one LiteralKind.Int spelling a b x y =
     let P : ℤ → Type 0 = λ (n : ℤ). IntTyped n b in
     IntTyped-one x.0 a b x.2 (subst P (one_number spelling y.0 x.0 y.1.0 x.1.0) y.2)
 LiteralTyped-one LiteralKind.Str spelling a b x y = x.2 ∙ sym y.2
+LiteralTyped-one _ spelling a b x y = absurd x
 
 FoundTyped-one :
     (found : Option PropertyModel) (a b : ExprType) → IsSomeAnd found (λ p. p.type_of ≡ declared a) → IsSomeAnd found (λ p. p.type_of ≡ declared b) → a ≡ b
@@ -51,9 +52,11 @@ BoundTyped-one (Some t) properties asked a b x y = x ∙ sym y
 pub operator_makes : (operator : BinaryOperator) (l r type : ExprType) → OperatorTyped operator l r type → type ≡ boolean_type
 operator_makes BinaryOperator.And l r type x = x.2
 operator_makes BinaryOperator.Eq l r type x = x.1
+operator_makes _ l r type x = absurd x
 
 pub Typed-one : (slots : Slots) (root : List ℕ) (scope : Scope) (tree : Tree) (a b : ExprType) → Typed slots root scope tree a → Typed slots root scope tree b → a ≡ b
 Typed-one slots root scope (node start stop (literal kind spelling)) a b x y = LiteralTyped-one kind spelling a b x y
 Typed-one slots root scope (node start stop (name asked)) a b x y = BoundTyped-one (variable_type scope asked) (slots root) asked a b x y
 Typed-one slots root scope (node start stop (binary operator left right)) a b x y =
     operator_makes operator x.left x.right a x.operator_typed ∙ sym (operator_makes operator y.left y.right b y.operator_typed)
+Typed-one slots root scope (node start stop _) a b x y = absurd x

@@ -1,18 +1,15 @@
 -- What the walk answers of a name.
 use Rattle.std.proofs.Common.{◌≡◌, refl, sym, ap, subst, ◌∙◌, inl, inr, ℕ, ◌<◌, ◌≤◌, List, [], length, Option, Some, None, IfSome, IsSomeAnd, MatchOption, slice_get, arith}
 use Rattle.std.proofs.lemmas.Option.{slice_get_cases}
-use Rattle.odata_syntax.specs.Tree.{Tree, node, name, start_of}
+use Rattle.odata_syntax.specs.Tree.{node, name}
 use Rattle.odata_text.specs.declared.span.Span.{Span}
 use Rattle.csdl_schema.specs.ExprType.{ExprType}
 use Rattle.csdl_schema.specs.SchemaModel.{PropertyModel, PropertyType, Slots, declared, slot_named}
 use Rattle.odata_typing.specs.declared.refusal.TypeFaultCode.{TypeFaultCode}
-use Rattle.odata_typing.specs.Considered.{IsItself}
 use Rattle.odata_typing.specs.FirstUntypable.{IsFirstUntypable, NameReason, PropertyReason}
-use Rattle.odata_typing.specs.Typed.{PropertyTyped, Scope}
+use Rattle.odata_typing.specs.Typed.{PropertyTyped}
+use Rattle.odata_typing.proofs.untypable.Untypable.{first_itself}
 use Rattle.odata_typing.proofs.untypable.PropertySlots.{slot_below, property_at, property_none}
-
-same_start : (scope : Scope) (start stop : ℕ) (asked : List ℕ) (at : Scope) (other : Tree) → IsItself scope (node start stop (name asked)) at other → start ≤ start_of other
-same_start scope start stop asked at other here = let e : start_of other ≡ start = ap start_of here.1 in omega arith
 
 -- a name that has no type
 pub first_name :
@@ -20,15 +17,8 @@ pub first_name :
     → ((type : ExprType) → ¬ PropertyTyped (slots root) asked type)
     → NameReason (slots root) asked code
     → IsFirstUntypable slots root [] (node span.start span.stop (name asked)) (record { code = code; span = span })
-first_name slots root asked span code untyped reason = record {
-  at = [];
-  part = node span.start span.stop (name asked);
-  untypable = record { considered = (refl, refl); untyped = untyped; children = tt };
-  first = λ at other found. same_start [] span.start span.stop asked at other found.considered;
-  reason = reason;
-  starts = refl;
-  stops = refl;
-}
+first_name slots root asked span code untyped reason =
+    first_itself slots root [] span.start span.stop (name asked) (record { code = code; span = span }) tt untyped reason refl refl
 
 -- there is no property of the name
 pub first_unknown :

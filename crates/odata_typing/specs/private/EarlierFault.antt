@@ -1,5 +1,5 @@
 -- For private clauses: which of two faults is told.
-use Rattle.std.specs.Prelude.{◌≡◌, ◌<◌, ◌≤◌, ◌⊎◌}
+use Rattle.std.specs.Prelude.{◌≡◌, ◌<◌, ◌≤◌, ◌⊎◌, Option, Some, None, IsSomeAnd}
 use Rattle.odata_typing.specs.declared.refusal.TypeFault.{TypeFault}
 use Rattle.odata_typing.specs.declared.untyped.Untyped.{Untyped}
 
@@ -14,3 +14,9 @@ IsEarlier (Untyped.Fault first) (Untyped.Fault second) (Untyped.Fault told) = Is
 IsEarlier (Untyped.Fault first) (Untyped.Fault second) Untyped.Memory = ⊥
 IsEarlier (Untyped.Fault first) Untyped.Memory told = told ≡ Untyped.Memory
 IsEarlier Untyped.Memory second told = told ≡ Untyped.Memory
+
+-- the same, where there may be none
+abbrev pub IsEarlierOf : Option Untyped → Option Untyped → Option Untyped → Type 0
+IsEarlierOf None second told = told ≡ second
+IsEarlierOf (Some first) None told = told ≡ Some first
+IsEarlierOf (Some first) (Some second) told = IsSomeAnd told (IsEarlier first second)

@@ -1,9 +1,17 @@
-use Rattle.std.proofs.Common.{◌≡◌, Some, take}
+use Rattle.std.proofs.Common.{◌≡◌, ◌≤◌, Some, take}
 use Rattle.odata_text.specs.TokenModel.{token_models}
+use Rattle.odata_syntax.specs.Front.{IsShallow, open_count, close_count}
 use Rattle.odata_syntax.specs.private.Machine.{run, start}
 use Rattle.odata_syntax.specs.private.MachineView.{machine_of}
 use Rattle.odata_syntax.proofs.parser.take_all.Given as goal
 
--- the machine behind the tokens so far
+-- the machine behind the tokens so far, nowhere too deep, and the parentheses among them
 abbrev pub invariant-loop-token : goal.invariant-loop-token
-invariant-loop-token l = run (token_models (take l.token-index l.tokens)) start ≡ Some (machine_of l.state)
+invariant-loop-token l = record {
+  taken : run (token_models (take l.token-index l.tokens)) start ≡ Some (machine_of l.state);
+  shallow : IsShallow (token_models (take l.token-index l.tokens));
+  opened : l.opens ≡ open_count (token_models (take l.token-index l.tokens));
+  closed : l.closes ≡ close_count (token_models (take l.token-index l.tokens));
+  opens_within : l.opens ≤ l.token-index;
+  closes_within : l.closes ≤ l.token-index;
+}

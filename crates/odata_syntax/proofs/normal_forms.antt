@@ -1,0 +1,2 @@
+pub mod NormalDerived
+pub mod NormalTrees

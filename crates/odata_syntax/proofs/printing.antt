@@ -1,0 +1,11 @@
+pub mod Again
+pub mod Appended
+pub mod BareTexts
+pub mod Enumerations
+pub mod Forms
+pub mod Levels
+pub mod Lists
+pub mod Pieces
+pub mod Printable
+pub mod ReadBack
+pub mod Readable

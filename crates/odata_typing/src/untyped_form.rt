@@ -1,0 +1,141 @@
+//! Nodes of the forms that are not typed yet: `$it`, steps of paths, `-`, `not`, `has`, `in`, calls and lambda operators.
+ghost use Rattle.std.specs.Prelude.{◌≤◌, ℕ, List, [], ◌∷◌, length};
+ghost use Rattle.csdl_schema.specs.SchemaModel.{Slots};
+ghost use Rattle.odata_syntax.specs.Spans.{list_of_trees};
+ghost use Rattle.odata_syntax.specs.Tree.{shape_of};
+ghost use Rattle.odata_syntax.specs.TreeView.{tree_of, trees_of};
+ghost use Rattle.odata_typing.specs.Considered.{children_in_scope};
+ghost use Rattle.odata_typing.specs.FirstUntypable.{IsReason};
+ghost use Rattle.odata_typing.specs.private.Answer.{HasFault};
+ghost use Rattle.odata_typing.specs.private.Judged.{IsToldOf, IsUnruled};
+
+use super::node::checked_tree;
+use super::node_list::NodeList;
+use super::refusal::{TypeFault, TypeFaultCode};
+use super::untyped::{Untyped, earlier_of};
+use csdl_schema::{Schema, TypeId};
+use odata_syntax::Node;
+use std::alloc::Global;
+
+/// The first untypable node of a tree whose top is of such a form: that of its children, or the top itself.
+#[cycle(typing)]
+pub(crate) fn untyped_form(
+    alloc: Global,
+    schema: &Schema,
+    filtered_type: TypeId,
+    node: &Node,
+    list: &mut NodeList,
+) -> Untyped
+    requires { IsUnruled (shape_of (tree_of node.now)) }
+    ensures fault { HasFault schema.now filtered_type (tree_of node.now) result }
+    ensures grown { length list.old.nodes ≤ length list.new.nodes }
+{
+    match fault_below(alloc, schema, filtered_type, node, list) {
+        Some(untyped) => untyped,
+        None => Untyped::Fault(TypeFault {
+            code: reason_of(node),
+            span: node.span(),
+        }),
+    }
+}
+
+/// Why such a node has no type though its children have.
+fn reason_of(node: &Node) -> TypeFaultCode
+    requires { IsUnruled (shape_of (tree_of node.now)) }
+    ensures { (slots : Slots) (root : List ℕ) → IsReason slots root (tree_of node.now) result }
+{
+    match node {
+        Node::Call { .. } => TypeFaultCode::UnknownFunction,
+        Node::Lit { .. } | Node::Name { .. } | Node::Binary { .. } => unreachable!(),
+        Node::It { .. } => TypeFaultCode::OperandTypes,
+        Node::Member { .. } => TypeFaultCode::OperandTypes,
+        Node::Count { .. } => TypeFaultCode::OperandTypes,
+        Node::Neg { .. } => TypeFaultCode::OperandTypes,
+        Node::Not { .. } => TypeFaultCode::OperandTypes,
+        Node::Has { .. } => TypeFaultCode::OperandTypes,
+        Node::InList { .. } => TypeFaultCode::OperandTypes,
+        Node::InPath { .. } => TypeFaultCode::OperandTypes,
+        Node::Any { .. } => TypeFaultCode::OperandTypes,
+        Node::All { .. } => TypeFaultCode::OperandTypes,
+    }
+}
+
+/// The first untypable node of such a node's children that are judged. `None` where each has a type.
+#[cycle(typing)]
+fn fault_below(
+    alloc: Global,
+    schema: &Schema,
+    filtered_type: TypeId,
+    node: &Node,
+    list: &mut NodeList,
+) -> Option<Untyped>
+    requires { IsUnruled (shape_of (tree_of node.now)) }
+    ensures told { IsToldOf schema.now filtered_type (children_in_scope (shape_of (tree_of node.now))) result }
+    ensures grown { length list.old.nodes ≤ length list.new.nodes }
+{
+    match node {
+        Node::Lit { .. } | Node::Name { .. } | Node::Binary { .. } => unreachable!(),
+        Node::It { .. } => None,
+        Node::Member { base, .. } => fault_of(alloc, schema, filtered_type, base, list),
+        Node::Count { base, .. } => fault_of(alloc, schema, filtered_type, base, list),
+        Node::Neg { operand, .. } => fault_of(alloc, schema, filtered_type, operand, list),
+        Node::Not { operand, .. } => fault_of(alloc, schema, filtered_type, operand, list),
+        Node::Has { left, right, .. } => {
+            let of_left = fault_of(alloc, schema, filtered_type, left, list);
+            let of_right = fault_of(alloc, schema, filtered_type, right, list);
+            earlier_of(of_left, of_right)
+        }
+        Node::InList { left, items, .. } => {
+            let of_element = fault_of(alloc, schema, filtered_type, left, list);
+            let of_items = fault_of_all(alloc, schema, filtered_type, items, list);
+            earlier_of(of_element, of_items)
+        }
+        Node::InPath { left, path, .. } => {
+            let of_member = fault_of(alloc, schema, filtered_type, left, list);
+            let of_path = fault_of(alloc, schema, filtered_type, path, list);
+            earlier_of(of_member, of_path)
+        }
+        Node::Call { arguments, .. } => {
+            fault_of_all(alloc, schema, filtered_type, arguments, list)
+        }
+        Node::Any { base, .. } => fault_of(alloc, schema, filtered_type, base, list),
+        Node::All { base, .. } => fault_of(alloc, schema, filtered_type, base, list),
+    }
+}
+
+/// The first untypable node of a tree.
+#[cycle(typing)]
+fn fault_of(
+    alloc: Global,
+    schema: &Schema,
+    filtered_type: TypeId,
+    node: &Node,
+    list: &mut NodeList,
+) -> Option<Untyped>
+    ensures told { IsToldOf schema.now filtered_type (tree_of node.now ∷ []) result }
+    ensures grown { length list.old.nodes ≤ length list.new.nodes }
+{
+    match checked_tree(alloc, schema, filtered_type, node, list) {
+        Ok(_) => None,
+        Err(untyped) => Some(untyped),
+    }
+}
+
+/// The first untypable node of the items of a list or the arguments of a call.
+#[cycle(typing)]
+fn fault_of_all(
+    alloc: Global,
+    schema: &Schema,
+    filtered_type: TypeId,
+    nodes: &[Node],
+    list: &mut NodeList,
+) -> Option<Untyped>
+    ensures told { IsToldOf schema.now filtered_type (list_of_trees (trees_of nodes.now)) result }
+    ensures grown { length list.old.nodes ≤ length list.new.nodes }
+{
+    let mut told = None;
+    for node in nodes {
+        told = earlier_of(told, fault_of(alloc, schema, filtered_type, node, list));
+    }
+    told
+}

@@ -1,0 +1,75 @@
+//! The first token that no expression has there, and texts that end too early, at each place of each form (OData URL
+//! Conventions 4.01, section 5.1.1).
+use crate::told_trees::parsed;
+use odata_syntax::SyntaxFault;
+use odata_text::Span;
+use std::alloc::{AllocError, Global};
+use std::test::Fail;
+
+/// The tokens of a filter; at each place between them whether those before it are an expression (`+`) or begin one
+/// (`-`); and at each place a token that may not stand there.
+const PLACES: [(&str, &str, &str); 17] = [
+    ("null", "-+", ": ("),
+    ("a.b'c'", "-+", ") /"),
+    ("a eq b", "-+-+", ") b , )"),
+    ("a or b and c mul d", "-+-+-+-+", ") ) ) ) ) ) ) )"),
+    ("- a", "--+", ") , 'a'"),
+    ("not a", "--+", "$top ) 1"),
+    ("( a ) eq b", "---+-+", ") ) , / : a"),
+    ("a has b", "-+-+", ": : - :"),
+    ("a in ( )", "-+--+", ", , 1 , /"),
+    ("a in ( b , c )", "-+-----+", "/ 1 null , : ) 1 ("),
+    ("a in b / c", "-+-+-+", ": ) - ( 1 ("),
+    ("f ( )", "-+-+", ") : , ("),
+    ("f ( a , b )", "-+----+", ") : , : ) 1 /"),
+    ("$it / a / $count", "-+-+-+", "$top ( $it ( $top /"),
+    ("a / any ( )", "-+-+-+", "/ : ( : b.c /"),
+    ("a / any ( x : x )", "-+-+----+", ", : ) , b.c ) ) : ("),
+    ("a / all ( x : x )", "-+-+----+", ", : ) , ) , : , /"),
+];
+
+/// The place that is unexpected in a text.
+fn unexpected(alloc: Global, text: &str) -> Result<Option<Span>, Fail> {
+    match parsed(alloc, text)? {
+        Err(SyntaxFault::Unexpected { span }) => Ok(Some(span)),
+        _ => Ok(None),
+    }
+}
+
+/// A text and a token behind it.
+fn with_token(alloc: Global, front: &str, token: &str) -> Result<String, AllocError> {
+    format!(in alloc; "{front}{token}")
+}
+
+#[test]
+fn tokens_at_each_place(rt: HostRuntime) -> Result<(), Fail> {
+    for (text, ends, wrongs) in PLACES {
+        let mut front = String::new(rt.alloc());
+        let mut tokens = text.split_whitespace();
+        assert_eq!(rt; wrongs.split_whitespace().count(), ends.len(), "{text}");
+        for (end, wrong) in ends.chars().zip(wrongs.split_whitespace()) {
+            let start = front.len();
+            if end == '+' {
+                assert!(rt; parsed(rt.alloc(), front.as_str())?.is_ok(), "{front}");
+            } else {
+                let stop = start;
+                let wanted = Some(Span { start, stop });
+                assert!(rt;
+                    unexpected(rt.alloc(), front.as_str())? == wanted,
+                    "{front}"
+                );
+            }
+            let refused = with_token(rt.alloc(), front.as_str(), wrong)?;
+            let stop = refused.len();
+            let wanted = Some(Span { start, stop });
+            assert!(rt;
+                unexpected(rt.alloc(), refused.as_str())? == wanted,
+                "{refused}"
+            );
+            front = with_token(rt.alloc(), front.as_str(), tokens.next().unwrap_or(""))?;
+            front.push(' ')?;
+        }
+        assert!(rt; tokens.next().is_none(), "{text}");
+    }
+    Ok(())
+}
