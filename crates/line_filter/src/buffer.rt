@@ -160,7 +160,9 @@ impl Buffer {
         &mut self,
         reader: &mut R,
         most: usize,
+        held_back: &[u8],
     ) -> Result<usize, NotRead>
+        requires none_held_back { held_back.now ≡ [] }
         requires room { 0 < self.old.room }
         requires some { 0 < most }
         requires few { most ≤ 65536 }
@@ -174,7 +176,8 @@ impl Buffer {
         ensures well { OnOk result (FailsNever (S.failures reader.old) (S.failures reader.new)) }
     {
         let stop = self.bytes.len().min(self.filled + most);
-        let count = read_at::<R, S>(reader, self.bytes.as_mut_slice(), self.filled, stop)?;
+        let bytes = self.bytes.as_mut_slice();
+        let count = read_at::<R, S>(reader, bytes, self.filled, stop, held_back)?;
         self.filled += count;
         Ok(count)
     }
@@ -186,7 +189,9 @@ fn read_at<R: Read, S: Reads<R>>(
     bytes: &mut [u8],
     filled: usize,
     stop: usize,
+    held_back: &[u8],
 ) -> Result<usize, NotRead>
+    requires none_held_back { held_back.now ≡ [] }
     requires room { filled < stop }
     requires within { stop ≤ length bytes.old }
     requires few { stop ≤ filled + 65536 }
@@ -200,5 +205,5 @@ fn read_at<R: Read, S: Reads<R>>(
     ensures failed { OnErr result (FailsOnce (S.failures reader.old) (S.failures reader.new)) }
     ensures well { OnOk result (FailsNever (S.failures reader.old) (S.failures reader.new)) }
 {
-    S::read(reader, &mut bytes[filled..stop])
+    S::read(reader, &mut bytes[filled..stop], held_back)
 }

@@ -1,4 +1,4 @@
-ghost use Rattle.std.specs.Prelude.{ℕ, ◌<◌, ◌≤◌, length, Option, None, OnErr, OnOk};
+ghost use Rattle.std.specs.Prelude.{◌≡◌, ℕ, ◌<◌, ◌≤◌, [], length, Option, None, OnErr, OnOk};
 ghost use Rattle.std.specs.Io.{ReadsAtMost};
 ghost use Rattle.std.specs.Io.KnownBytes.{ReadConsumes};
 ghost use Rattle.line_filter.specs.private.Failures.{FailsOnce, FailsNever};
@@ -16,8 +16,9 @@ pub trait Reads<R: Read> {
     // How many reads have failed so far, where the reader tells it.
     ghost failures: { R → Option ℕ };
 
-    /// Calls `read` once, for some bytes, and for 65,536 at most.
-    fn read(reader: &mut R, bytes: &mut [u8]) -> Result<usize, NotRead>
+    /// Calls `read` once, for some bytes, and for 65,536 at most. Nothing of what is kept is held back by then.
+    fn read(reader: &mut R, bytes: &mut [u8], held_back: &[u8]) -> Result<usize, NotRead>
+        requires none_held_back { held_back.now ≡ [] }
         requires some { 0 < length bytes.old }
         requires few { length bytes.old ≤ 65536 }
         ensures bound { ReadsAtMost result bytes.new }
@@ -33,7 +34,8 @@ pub struct Untold;
 impl<R: Read> Reads<R> for Untold {
     ghost failures = { λ _. None };
 
-    fn read(reader: &mut R, bytes: &mut [u8]) -> Result<usize, NotRead> {
+    fn read(reader: &mut R, bytes: &mut [u8], held_back: &[u8]) -> Result<usize, NotRead> {
+        let _ = held_back;
         match reader.read(bytes) {
             Ok(count) => Ok(count),
             Err(_) => Err(NotRead),

@@ -172,7 +172,6 @@ impl<R: Read> LineReader<R> {
         ensures well { self.new.course ≢ Course.Failed LineFault.Read
             → FailsNever (S.failures self.old.reader) (S.failures self.new.reader) }
     {
-        let _ = held_back;
         if self.unread == 0 {
             self.course = Course::Failed(LineFault::Read);
             return;
@@ -185,10 +184,8 @@ impl<R: Read> LineReader<R> {
                 return;
             }
         }
-        match self
-            .buffer
-            .fill::<R, S>(&mut self.reader, self.unread.min(ONE_READ))
-        {
+        let most = self.unread.min(ONE_READ);
+        match self.buffer.fill::<R, S>(&mut self.reader, most, held_back) {
             Ok(0) => self.course = Course::AtEnd,
             Ok(count) => self.unread -= count,
             Err(_) => self.course = Course::Failed(LineFault::Read),
