@@ -72,7 +72,7 @@ fn is_first_row(items: &[Held]) -> bool {
 }
 
 #[test]
-fn filter_and_row(rt: HostRuntime) -> Result<(), Fail> {
+fn filter(rt: HostRuntime) -> Result<(), Fail> {
     let schema = Schema::read(rt.alloc(), SCHEMA.as_bytes())?;
     let id = schema.type_named("Mini.Item").ok_or("the type")?;
     assert!(rt; schema.holds(id));
@@ -82,19 +82,57 @@ fn filter_and_row(rt: HostRuntime) -> Result<(), Fail> {
     assert!(rt; checked.type_of(9).is_none());
     assert!(rt; checked.span_of(1) == Some(Span { start: 0, stop: 18 }));
     assert!(rt; !checked.takes_memory() && !checked.uses_now());
+    Ok(())
+}
+
+#[test]
+fn places_of_a_filter(rt: HostRuntime) -> Result<(), Fail> {
+    let schema = Schema::read(rt.alloc(), SCHEMA.as_bytes())?;
+    let id = schema.type_named("Mini.Item").ok_or("the type")?;
+    assert!(rt; schema.holds(id));
+    let checked = check(rt.alloc(), &schema, id, FIRST)?;
     assert!(rt; checked.filtered_type() == id && checked.schema().slots(id) == 3);
     assert!(rt; checked.nodes().len() == 9 && checked.values().len() == 2);
     assert!(rt; checked.slot_of(2) == Some(0) && checked.level_of(2).is_none());
-    let moment = Moment::new(civil::date(1, 1, 1).at(0, 0, 0, 0), 0).ok_or("a moment")?;
-    let row = Value::from_str(rt.alloc(), A)?;
-    let entity = Entity::from_json(rt.alloc(), &schema, id, &row)?;
+    Ok(())
+}
+
+#[test]
+fn row(rt: HostRuntime) -> Result<(), Fail> {
+    let schema = Schema::read(rt.alloc(), SCHEMA.as_bytes())?;
+    let id = schema.type_named("Mini.Item").ok_or("the type")?;
+    assert!(rt; schema.holds(id));
+    let json = Value::from_str(rt.alloc(), A)?;
+    let entity = Entity::from_json(rt.alloc(), &schema, id, &json)?;
     assert!(rt; entity.type_id() == id && entity.schema().slots(id) == 3);
     let is_row = match entity.value() {
         Held::Record(items) => is_first_row(items.as_slice()),
         _ => false,
     };
     assert!(rt; is_row);
+    Ok(())
+}
+
+#[test]
+fn filter_and_row(rt: HostRuntime) -> Result<(), Fail> {
+    let schema = Schema::read(rt.alloc(), SCHEMA.as_bytes())?;
+    let id = schema.type_named("Mini.Item").ok_or("the type")?;
+    assert!(rt; schema.holds(id));
+    let checked = check(rt.alloc(), &schema, id, FIRST)?;
+    let moment = Moment::new(civil::date(1, 1, 1).at(0, 0, 0, 0), 0).ok_or("a moment")?;
+    let json = Value::from_str(rt.alloc(), A)?;
+    let entity = Entity::from_json(rt.alloc(), &schema, id, &json)?;
     assert!(rt; evaluate(rt.alloc(), &checked, &entity, &moment)? == Verdict::True);
+    Ok(())
+}
+
+#[test]
+fn filter_and_rows(rt: HostRuntime) -> Result<(), Fail> {
+    let schema = Schema::read(rt.alloc(), SCHEMA.as_bytes())?;
+    let id = schema.type_named("Mini.Item").ok_or("the type")?;
+    assert!(rt; schema.holds(id));
+    let checked = check(rt.alloc(), &schema, id, FIRST)?;
+    let moment = Moment::new(civil::date(1, 1, 1).at(0, 0, 0, 0), 0).ok_or("a moment")?;
     let mut out = Vec::new(rt.alloc());
     let tally = filter_lines(rt.alloc(), &checked, &moment, A.as_bytes(), &mut out)?;
     assert!(rt; tally.rows == 1 && tally.kept == 1);
