@@ -1,2 +1,3 @@
 pub mod CommandLineWorked
+pub mod Entered
 pub mod PlanLemmas

@@ -7,6 +7,7 @@ pub use Rattle.edm_values.specs.Val
 pub use Rattle.odata_text.specs.TokenModel
 pub use Rattle.odata_text.specs.Query
 pub use Rattle.odata_text.specs.Tokens
+pub use Rattle.odata_syntax.specs.CanonicalText
 pub use Rattle.odata_syntax.specs.Parse
 pub use Rattle.odata_syntax.specs.Tree
 pub use Rattle.odata_syntax.specs.TreeView
@@ -34,7 +35,7 @@ pub use Rattle.line_filter.specs.LineSource
 pub mod RowJudgment
 pub mod RunStops
 pub mod RowsOnce
-pub mod FilterPlan
+pub mod Planned
 pub mod CommandLine
 pub mod WorkedLines
 pub mod Run

@@ -1,11 +1,11 @@
 -- What a run says by its status: of its plan, of its schema's bytes, and of what standard output got.
-use Rattle.std.specs.Prelude.{◌≡◌, ℕ, pos, ◌⊎◌, List, Option, Some, None, IfSome, IsSomeAnd}
+use Rattle.std.specs.Prelude.{◌≡◌, ℕ, pos, ◌⊎◌, List, [], ◌∷◌, ◌++◌, Option, Some, None, IfSome, IsSomeAnd, codes}
 use Rattle.std.specs.Io.KnownBytes.{Keeps}
 use Rattle.edm_values.specs.Civil.{IsYmd, IsHms}
 use Rattle.edm_values.specs.MomentParts.{MomentParts}
 use Rattle.odata_text.specs.Query.{IsFilterOf, IsQueryFault}
 use Rattle.odata_text.specs.declared.query_fault.QueryFault.{QueryFault}
-use Rattle.odata_filter.specs.FilterPlan.{IsFilterPlan}
+use Rattle.odata_filter.specs.Planned.{IsPlanned}
 use Rattle.line_filter.specs.Growth.{Writes}
 use Rattle.line_filter.specs.Kept.{Items, Filters, StopsAt, StopsWithin, IsFaultless}
 use Rattle.line_filter.specs.declared.finding.Finding.{Finding}
@@ -16,6 +16,9 @@ use Rattle.csdl_schema.specs.Document.{StandsFor, IsFirstDocumentFault}
 use Rattle.csdl_schema.specs.Faults.{Fault}
 use Rattle.csdl_schema.specs.SchemaModel.{SchemaModel, IsEntityAt, index_named, slots_of, type_name_at}
 use Rattle.odata_filter.specs.declared.command.command_line.Plan.{Plan}
+use Rattle.odata_filter.specs.declared.command.command_line.Verb.{Verb}
+use Rattle.odata_filter.specs.declared.command.command_line.Verb.TheVariants.{Check, Explain, Filter as ByRows}
+use Rattle.odata_syntax.specs.CanonicalText.{IsCanonicalText}
 use Rattle.odata_typing.specs.Filter.{Filter, tree_of_filter}
 use Rattle.odata_typing.specs.HasTyping.{HasTyping, HasNoTyping}
 
@@ -28,7 +31,7 @@ IsFirstMoment now =
 
 -- The schema's bytes stand for this schema, and the type that the plan names is the entity type at this index in it.
 pub record NamesType (plan : Plan) (document : List ℕ) (schema : SchemaModel) (index : ℕ) : Type 0 where
-  pub planned : IsFilterPlan plan
+  pub planned : IsPlanned plan
   pub stands : StandsFor document schema
   pub named : index_named schema plan.named.now ≡ Some index
   pub entity : IsEntityAt schema index
@@ -120,6 +123,18 @@ abbrev pub StopsAtFault : OfRows
 StopsAtFault rows text =
     (number : ℕ) × (finding : Finding BadRow) × (¬ IsFaultless finding) × StopsAt rows text number finding
 
+-- `accepted`, and the canonical text of the filter on a line of its own (10 is LF)
+pub record IsAccepted (filter : Filter) (text : List ℕ) : Type 0 where
+  pub canonical : List ℕ
+  pub is_canonical : IsCanonicalText (tree_of_filter filter) canonical
+  pub lines : text ≡ codes "accepted" ++ (10 ∷ (canonical ++ 10 ∷ []))
+
+-- The plan's text is a filter, and that was written of it.
+pub record TellsFilter (plan : Plan) (document : List ℕ) (streams : Streams) : Type 0 where
+  pub filter : Filter
+  pub is_filter : IsPlanFilter plan document filter
+  pub written : Writes streams.old streams.new (IsAccepted filter)
+
 -- how a run ends
 pub data Status : Type 0 where
   complete : Status
@@ -140,26 +155,55 @@ status_number at_fault = 4
 status_number without_device = 5
 status_number without_memory = 6
 
--- What each says: all rows were filtered; the text is no filter; the plan is none to filter rows or its query has no
--- filter; there is no such entity type; a row is at fault; there is a filter, and of its rows nothing is said; nothing is
--- said. Nothing was written in the second to fourth.
-abbrev pub StatusSays : Status → Plan → List ℕ → Streams → Type 0
-StatusSays complete plan document streams = ByFilter FiltersAll plan document streams
-StatusSays without_filter plan document streams = HasNoFilter plan document × WroteNothing streams
-StatusSays without_plan plan document streams =
-    ((¬ IsFilterPlan plan) ⊎ HasNoOption plan document) × WroteNothing streams
-StatusSays without_type plan document streams = IsFilterPlan plan × (HasNoType plan document × WroteNothing streams)
-StatusSays at_fault plan document streams = ByFilter StopsAtFault plan document streams
-StatusSays without_device plan document streams = HasCheckedFilter plan document
-StatusSays without_memory plan document streams = Unit {0}
+-- what a run by a verb says that is done: all rows were filtered, or the filter was told
+abbrev pub Completes : Verb → Plan → List ℕ → Streams → Type 0
+Completes ByRows plan document streams = ByFilter FiltersAll plan document streams
+Completes Check plan document streams = TellsFilter plan document streams
+Completes Explain plan document streams = ⊥
 
--- nothing was written, or a beginning of the text of the kept rows among some first ones of which none is at fault
+-- nothing was written where there is no filter; to `check` that is an answer, which it writes
+abbrev pub Refuses : Verb → Streams → Type 0
+Refuses Check streams = Unit {0}
+Refuses verb streams = WroteNothing streams
+
+-- a verb that reads rows stopped at one; another never does
+abbrev pub StopsAtRow : Verb → Plan → List ℕ → Streams → Type 0
+StopsAtRow ByRows plan document streams = ByFilter StopsAtFault plan document streams
+StopsAtRow verb plan document streams = ⊥
+
+-- there is a filter; or there is none, and standard output did not take that answer of `check`
+abbrev pub LacksDevice : Verb → Plan → List ℕ → Type 0
+LacksDevice Check plan document = HasCheckedFilter plan document ⊎ HasNoFilter plan document
+LacksDevice verb plan document = HasCheckedFilter plan document
+
+-- What each says: the run is done; the text is no filter; the plan is none or its query has no filter; there is no such
+-- entity type; a row is at fault; a device failed, and of rows nothing is said; nothing is said.
+abbrev pub StatusSays : Status → Verb → Plan → List ℕ → Streams → Type 0
+StatusSays complete verb plan document streams = Completes verb plan document streams
+StatusSays without_filter verb plan document streams = HasNoFilter plan document × Refuses verb streams
+StatusSays without_plan verb plan document streams =
+    ((¬ IsPlanned plan) ⊎ HasNoOption plan document) × WroteNothing streams
+StatusSays without_type verb plan document streams = IsPlanned plan × (HasNoType plan document × WroteNothing streams)
+StatusSays at_fault verb plan document streams = StopsAtRow verb plan document streams
+StatusSays without_device verb plan document streams = LacksDevice verb plan document
+StatusSays without_memory verb plan document streams = Unit {0}
+
+-- a beginning of the text of the kept rows among some first ones of which none is at fault; of what another verb wrote
+-- nothing is said
+abbrev pub BeginsBy : Verb → Plan → List ℕ → Streams → Type 0
+BeginsBy ByRows plan document streams = ByFilter StopsWithin plan document streams
+BeginsBy verb plan document streams = Unit {0}
+
+-- nothing was written, or a beginning of what the verb writes
+abbrev pub BeginsAs : Verb → Plan → List ℕ → Streams → Type 0
+BeginsAs verb plan document streams = WroteNothing streams ⊎ BeginsBy verb plan document streams
+
 abbrev pub Begins : Plan → List ℕ → Streams → Type 0
-Begins plan document streams = WroteNothing streams ⊎ ByFilter StopsWithin plan document streams
+Begins plan document streams = BeginsAs plan.verb plan document streams
 
 -- The answer is a status, what that says holds, and what was written by then is right.
 pub record Answers (answer : ℕ) (plan : Plan) (document : List ℕ) (streams : Streams) : Type 0 where
   pub status : Status
   pub is_answer : answer ≡ status_number status
-  pub says : StatusSays status plan document streams
+  pub says : StatusSays status plan.verb plan document streams
   pub begins : Begins plan document streams

@@ -37,3 +37,17 @@ version_of_filter = codes "odfilter" ∷ codes "filter" ∷ codes "--version" �
 -- `odfilter filter --help`
 abbrev pub help_of_filter : List Text
 help_of_filter = codes "odfilter" ∷ codes "filter" ∷ codes "--help" ∷ []
+
+-- `odfilter check` with a schema, a type and a filter, and with each option that it does not have
+abbrev pub whole_check : List Text
+whole_check =
+    codes "odfilter" ∷ codes "check" ∷ codes "--type" ∷ codes "N.T" ∷ codes "--schema=s" ∷ codes "--filter=true" ∷ []
+
+abbrev pub check_with_rows : List Text
+check_with_rows = whole_check ++ codes "--rows=r" ∷ []
+
+abbrev pub check_with_now : List Text
+check_with_now = whole_check ++ codes "--now=x" ∷ []
+
+abbrev pub check_with_collection : List Text
+check_with_collection = whole_check ++ codes "--collection" ∷ []

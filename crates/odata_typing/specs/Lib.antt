@@ -7,6 +7,7 @@ pub use Rattle.edm_values.specs.StringLiteral
 pub use Rattle.edm_values.specs.Val
 pub use Rattle.odata_text.specs.TokenModel
 pub use Rattle.odata_text.specs.Tokens
+pub use Rattle.odata_syntax.specs.CanonicalText
 pub use Rattle.odata_syntax.specs.FirstRun
 pub use Rattle.odata_syntax.specs.Parse
 pub use Rattle.odata_syntax.specs.Spans

@@ -3,3 +3,4 @@ pub mod Answer
 pub mod EarlierFault
 pub mod Judged
 pub mod ListGrowth
+pub mod Printed

@@ -1,6 +1,8 @@
-ghost use Rattle.std.specs.Prelude.{◌≡◌, ◌<◌, ◌≤◌, ◌↔◌, ℕ, length, slice_get, IsTrue, IsSome, IfSome, IfNone, IfOk, IfErr};
+ghost use Rattle.std.specs.Prelude.{◌≡◌, ◌<◌, ◌≤◌, ◌↔◌, ℕ, length, slice_get, string_bytes};
+ghost use Rattle.std.specs.Prelude.{IsTrue, IsSome, IfSome, IfNone, IfOk, IfErr};
 ghost use Rattle.std.specs.Option.{option_map};
 ghost use Rattle.odata_text.specs.Tokens.{token_limit};
+ghost use Rattle.odata_syntax.specs.CanonicalText.{IsCanonicalText};
 ghost use Rattle.odata_typing.specs.Calls.{TakesMemory, UsesNow};
 ghost use Rattle.odata_typing.specs.ExprTypes.{IsBooleanOrNull};
 ghost use Rattle.odata_typing.specs.Filter.{IsFilter, IsTypeAt, tree_of_filter};
@@ -17,6 +19,7 @@ use super::refusal::{TypeFault, TypeFaultCode};
 use csdl_schema::{Schema, TypeId};
 use edm_values::Value;
 use odata_text::Span;
+use std::alloc::{AllocError, Global};
 use std::marker::Model;
 
 /// A filter whose expression has type Boolean or Null for its type in its schema.
@@ -25,6 +28,7 @@ pub struct Checked<'s> {
     schema: &'s Schema,
     filtered_type: TypeId,
     list: NodeList,
+    canonical: String,
 }
 
 impl<'s> Model for Checked<'s> {
@@ -37,25 +41,30 @@ impl<'s> Model for Checked<'s> {
 
     ghost coded = { Prim.hlevel (codes, checked_node.the_row.coded, value.the_row.coded) };
 
-    ghost use Rattle.odata_typing.specs.Filter.{IsFilter};
+    ghost use Rattle.std.specs.Prelude.{string_bytes};
+    ghost use Rattle.odata_typing.specs.private.Printed.{IsPrinted};
 
     ghost view = { λ c. record { schema = c.schema.now; filtered = c.filtered_type; list = c.list } };
 
-    ghost invariant = { λ c. IsFilter
-        (record { schema = c.schema.now; filtered = c.filtered_type; list = c.list }) };
+    ghost invariant = { λ c. IsPrinted
+        (record { schema = c.schema.now; filtered = c.filtered_type; list = c.list })
+        (string_bytes c.canonical) };
 }
 
 impl<'s> Checked<'s> {
-    /// The filter of a list whose tree has that type, or `NotBoolean` with the whole of a text of that length.
+    /// The filter of a list with its canonical text, whose tree has that type, or `NotBoolean` with the whole of a text of
+    /// that length.
     pub(crate) fn of(
         schema: &'s Schema,
         filtered_type: TypeId,
         list: NodeList,
+        canonical: String,
         edm_type: EdmType,
         len: usize,
     ) -> Result<Checked<'s>, TypeFault>
         requires held { filtered_type < length schema.now.types }
         requires whole { IsWhole schema.now filtered_type list edm_type }
+        requires printed { IsCanonicalText (tree_of_nodes list) (string_bytes canonical) }
         requires few { length (pre_order (tree_of_nodes list)) ≤ token_limit }
         ensures parts { IfOk result (λ c. c ≡
             record { schema = schema.entry.now; filtered = filtered_type; list = list }) }
@@ -69,6 +78,7 @@ impl<'s> Checked<'s> {
                 schema,
                 filtered_type,
                 list,
+                canonical,
             })
         } else {
             let span = Span {
@@ -177,6 +187,13 @@ impl<'s> Checked<'s> {
             },
             None => None,
         }
+    }
+
+    /// The canonical text of the filter, as `print` gives it of its tree.
+    pub fn canonical(&self, alloc: Global) -> Result<String, AllocError>
+        ensures { IfOk result (λ text. IsCanonicalText (tree_of_filter self.now) (string_bytes text)) }
+    {
+        String::from_str(alloc, self.canonical.as_str())
     }
 
     /// Whether evaluating the filter makes texts.

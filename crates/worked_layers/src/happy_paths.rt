@@ -192,3 +192,25 @@ fn command_line(rt: HostRuntime) -> Result<(), Fail> {
     );
     Ok(())
 }
+
+#[test]
+fn command_line_of_check(rt: HostRuntime) -> Result<(), Fail> {
+    let words = [
+        "odfilter", "check", "--schema", "s", "--type", "N.T", "--filter", "true",
+    ];
+    let whole = plan(rt.alloc(), words.as_slice())?;
+    assert!(rt; whole.verb == Verb::Check && whole.schema == "s" && whole.named == "N.T");
+    assert!(rt; whole.filter == Some("true") && whole.query.is_none() && whole.rows.is_none());
+    let without = ["odfilter", "check", "--schema", "s", "--type", "N.T"];
+    assert!(rt; matches!(plan(rt.alloc(), without.as_slice()), Err(PlanFault::OneOf)));
+    let with_rows = [
+        "odfilter", "check", "--schema", "s", "--type", "N.T", "--filter", "true", "--rows", "r",
+    ];
+    assert!(rt;
+        matches!(
+            plan(rt.alloc(), with_rows.as_slice()),
+            Err(PlanFault::Clap(_))
+        )
+    );
+    Ok(())
+}

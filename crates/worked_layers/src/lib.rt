@@ -2,6 +2,8 @@
 #![tactic(auto)]
 
 #[cfg(test)]
+mod canonical_filters;
+#[cfg(test)]
 mod documents;
 #[cfg(test)]
 mod happy_paths;

@@ -32,8 +32,10 @@ fn refused_filters(rt: HostRuntime) {
         ("1\u{20ac}", "refused BadCharacter 1..4\n"),
         ("-", "refused Unexpected 1..1\n"),
         ("(Active", "refused Unexpected 7..7\n"),
+        ("$top", "refused Unexpected 0..4\n"),
         ("$it", "refused OperandTypes 0..3\n"),
         ("Name eq N.Color'Red'", "refused OperandTypes 8..20\n"),
+        ("Name eq tolower(Name)", "refused UnknownFunction 8..21\n"),
         ("Name eq duration'PT1S'", "refused LeftOutLiteral 8..22\n"),
         ("Price gt 1.5", "refused LeftOutLiteral 9..12\n"),
         ("2020-01-01 eq 1", "refused OperandTypes 0..10\n"),
@@ -73,6 +75,9 @@ fn accepted_filters(rt: HostRuntime) {
         ("Active AND Name EQ 'a'", true),
         ("ID eq 9223372036854775807", false),
         ("'a' eq Name", true),
+        ("((Active))", true),
+        ("(ID eq 1)and(Name eq 'b')", false),
+        ("Active eq (ID eq 1)", true),
     ] {
         let out = if is_kept { A } else { "" };
         assert!(rt;
@@ -214,8 +219,6 @@ fn is_misused(alloc: Global, plan: &Plan<'_>, line: &str) -> bool {
 #[test]
 fn what_is_still_to_come(rt: HostRuntime) {
     let mut plan = plan_of("Mini.Item", FIRST);
-    plan.verb = Verb::Check;
-    assert!(rt; is_misused(rt.alloc(), &plan, "usage check is still to come\n"));
     plan.verb = Verb::Explain;
     assert!(rt; is_misused(rt.alloc(), &plan, "usage explain is still to come\n"));
     plan.verb = Verb::Filter;
@@ -224,6 +227,41 @@ fn what_is_still_to_come(rt: HostRuntime) {
     plan.now = None;
     plan.collection = true;
     assert!(rt; is_misused(rt.alloc(), &plan, "usage collection is still to come\n"));
+}
+
+/// What `check` says of each filter, and its status. It reads no rows.
+#[test]
+fn checks(rt: HostRuntime) {
+    for (filter, line, status) in [
+        (FIRST, "accepted\nActive and ID eq 1 and Name eq 'a'\n", 0),
+        ("(Active)AND(TRUE)", "accepted\nActive and true\n", 0),
+        ("ID eq 'a'", "refused OperandTypes 0..9\n", 1),
+        ("not Active", "refused OperandTypes 0..10\n", 1),
+        ("Active and now()", "refused UnknownFunction 11..16\n", 1),
+        ("(Active", "refused Unexpected 7..7\n", 1),
+        ("Name eq 'a", "refused UnclosedString 8..10\n", 1),
+    ] {
+        let mut plan = plan_of("Mini.Item", filter);
+        plan.verb = Verb::Check;
+        plan.rows = None;
+        for rows in [None, Some(A.as_bytes())] {
+            let told = outcome_of(rt.alloc(), SCHEMA, &plan, rows);
+            assert!(rt; told.is(line, "", status), "of {filter}");
+        }
+    }
+    let mut plan = plan_of("Mini.Other", FIRST);
+    plan.verb = Verb::Check;
+    assert!(rt;
+        outcome_of(rt.alloc(), SCHEMA, &plan, None).is("", "schema UnknownType Mini.Other\n", 3)
+    );
+    plan.filter = None;
+    plan.query = Some("$filter=%zz");
+    plan.named = "Mini.Item";
+    assert!(rt;
+        outcome_of(rt.alloc(), SCHEMA, &plan, None).is("refused query BadEscape 8\n", "", 1)
+    );
+    plan.query = Some("a=1");
+    assert!(rt; outcome_of(rt.alloc(), SCHEMA, &plan, None).is("", "usage no filter option\n", 2));
 }
 
 #[test]

@@ -3,26 +3,27 @@ use Rattle.std.proofs.Common.{◌≡◌, [], ◌∷◌, Some, refl, codes}
 use Rattle.clap.specs.Words.{fault_of, first_of}
 use Rattle.clap.specs.declared.error.kind.ErrorKind.TheVariants as kind
 use Rattle.clap.proofs.OnLiterals.{clap_on_literals}
-use Rattle.odata_filter.specs.CommandLine.{GivesNotOne, IsTaken, filter_matches, odfilter_app}
+use Rattle.odata_filter.specs.CommandLine.{Enters, GivesNotOne, IsTaken, verb_matches, odfilter_app}
+use Rattle.odata_filter.specs.declared.command.command_line.Verb.{Verb}
 use Rattle.odata_filter.specs.WorkedLines as worked
 
 pub whole_taken : IsTaken worked.whole
 unfolding clap_on_literals
 whole_taken = refl
 
-pub whole_schema : first_of (codes "schema") (filter_matches worked.whole) ≡ Some (codes "s")
+pub whole_schema : first_of (codes "schema") (verb_matches worked.whole) ≡ Some (codes "s")
 unfolding clap_on_literals
 whole_schema = refl
 
-pub whole_type : first_of (codes "type") (filter_matches worked.whole) ≡ Some (codes "N.T")
+pub whole_type : first_of (codes "type") (verb_matches worked.whole) ≡ Some (codes "N.T")
 unfolding clap_on_literals
 whole_type = refl
 
-pub whole_filter : first_of (codes "filter") (filter_matches worked.whole) ≡ Some (codes "true")
+pub whole_filter : first_of (codes "filter") (verb_matches worked.whole) ≡ Some (codes "true")
 unfolding clap_on_literals
 whole_filter = refl
 
-pub whole_rows : first_of (codes "rows") (filter_matches worked.whole) ≡ Some (codes "r")
+pub whole_rows : first_of (codes "rows") (verb_matches worked.whole) ≡ Some (codes "r")
 unfolding clap_on_literals
 whole_rows = refl
 
@@ -30,7 +31,7 @@ pub query_taken : IsTaken worked.with_query
 unfolding clap_on_literals
 query_taken = refl
 
-pub query_found : first_of (codes "query") (filter_matches worked.with_query) ≡ Some (codes "x")
+pub query_found : first_of (codes "query") (verb_matches worked.with_query) ≡ Some (codes "x")
 unfolding clap_on_literals
 query_found = refl
 
@@ -61,3 +62,27 @@ no_version = refl
 pub help : fault_of odfilter_app worked.help_of_filter ≡ kind.DisplayHelp ∷ []
 unfolding clap_on_literals
 help = refl
+
+pub check_taken : IsTaken worked.whole_check
+unfolding clap_on_literals
+check_taken = refl
+
+pub check_enters : Enters worked.whole_check Verb.Check
+unfolding clap_on_literals
+check_enters = refl
+
+pub check_filter : first_of (codes "filter") (verb_matches worked.whole_check) ≡ Some (codes "true")
+unfolding clap_on_literals
+check_filter = refl
+
+pub check_rows : fault_of odfilter_app worked.check_with_rows ≡ kind.UnknownArgument ∷ []
+unfolding clap_on_literals
+check_rows = refl
+
+pub check_now : fault_of odfilter_app worked.check_with_now ≡ kind.UnknownArgument ∷ []
+unfolding clap_on_literals
+check_now = refl
+
+pub check_collection : fault_of odfilter_app worked.check_with_collection ≡ kind.UnknownArgument ∷ []
+unfolding clap_on_literals
+check_collection = refl

@@ -1,17 +1,19 @@
 -- What a command line asks for, from what `clap` found.
-use Rattle.std.proofs.Common.{◌≡◌, ◌∙◌, [], true, false, Option, None, Some, sym, subst, ap, ap₂, codes, option_map}
+use Rattle.std.proofs.Common.{◌≡◌, ◌∙◌, [], true, false, List, Option, None, Some, refl, sym, subst, ap, ap₂, codes, option_map}
 use Rattle.std.specs.Prelude.{◌||◌, is_some, unwrap_or}
 use Rattle.std.proofs.Math.Bool.{beq}
 use Rattle.std.specs.Borrow.{Bor}
-use Rattle.clap.specs.Words.{AddsArg, App, Rule, Text, first_of, first_value, rows_of, rule_of, with_rule}
+use Rattle.clap.specs.Words.{AddsArg, App, Row, Rule, Text, first_of, first_value, rows_of, rule_of, with_rule}
 use Rattle.clap.specs.Simple.{app_of_fields}
 use Rattle.clap.specs.declared.builder.arg.Arg.{Arg}
 use Rattle.clap.specs.declared.builder.command.Command.{Command}
 use Rattle.clap.specs.declared.builder.command.Command.TheViews.{out-Command}
 use Rattle.clap.specs.declared.parser.matches.Found.{Found}
 use Rattle.clap.proofs.WalkLemmas.{first_value-rows}
-use Rattle.odata_filter.specs.CommandLine.{LacksOneOf, text_rule}
-use Rattle.odata_filter.specs.FilterPlan.{IsOneOf}
+use Rattle.odata_filter.specs.CommandLine.{LacksOneOf, is_flag_set, option_value, text_rule}
+use Rattle.odata_filter.specs.Planned.{IsOneOf}
+use Rattle.odata_filter.specs.declared.command.command_line.Verb.{Verb}
+use Rattle.odata_filter.specs.declared.command.command_line.Verb.TheVariants.{Check, Explain, Filter}
 use Rattle.odata_filter.specs.private.PlanSteps.{IsApp}
 
 -- ---- a command grows
@@ -84,3 +86,25 @@ text_or_empty f id None t other same is empty =
     ap (λ s. s.now) is ∙ empty ∙ ap (λ o. unwrap_or o []) (text_found f id None same)
 text_or_empty f id (Some x) t other same is empty =
     ap (λ s. s.now) is ∙ ap (λ o. unwrap_or o []) (text_found f id (Some x) same)
+
+-- ---- the options that not every verb has
+
+pub rows_of_filter : (found : List Row) → option_value Filter (codes "rows") found ≡ first_of (codes "rows") found
+rows_of_filter found = refl
+
+pub rows_of_check : (found : List Row) → option_value Check (codes "rows") found ≡ None
+rows_of_check found = refl
+
+pub rows_of_explain : (found : List Row) → option_value Explain (codes "rows") found ≡ None
+rows_of_explain found = refl
+
+-- no verb has a moment or a collection so far
+pub no_moment : (verb : Verb) (found : List Row) → option_value verb (codes "now") found ≡ None
+no_moment Check found = refl
+no_moment Explain found = refl
+no_moment Filter found = refl
+
+pub no_collection : (verb : Verb) (found : List Row) → is_flag_set verb (codes "collection") found ≡ false
+no_collection Check found = refl
+no_collection Explain found = refl
+no_collection Filter found = refl

@@ -1,17 +1,19 @@
 -- The failures of a run. Private clauses alone cite these.
-use Rattle.std.specs.Prelude.{ℕ, List, Result, Ok, Err}
+use Rattle.std.specs.Prelude.{◌≡◌, ◌⊎◌, ℕ, List, Option, Result, Ok, Err}
+use Rattle.std.specs.Io.KnownBytes.{Keeps}
 use Rattle.line_filter.specs.Kept.{Items}
 use Rattle.odata_filter.specs.declared.bad_row.BadRow.{BadRow}
 use Rattle.odata_text.specs.declared.query_fault.QueryFault.{QueryFault}
 use Rattle.odata_text.specs.declared.query_fault.QueryFault.TheVariants as query
 use Rattle.odata_filter.specs.RunStops.{StopsBy}
-use Rattle.odata_filter.specs.Run.{Streams, WroteNothing, OverRows, Status, StatusSays, complete, without_filter, without_plan, without_type, at_fault, without_device, without_memory}
+use Rattle.odata_filter.specs.declared.command.command_line.Verb.{Verb}
+use Rattle.odata_filter.specs.declared.command.command_line.Verb.TheVariants.{Check}
+use Rattle.odata_filter.specs.Run.{HasNoFilter, HasNoOption, Streams, WroteNothing, OverRows, Status, StatusSays, status_number, complete, without_filter, without_plan, without_type, at_fault, without_device, without_memory}
 use Rattle.csdl_schema.specs.declared.fault.SchemaFault.{SchemaFault}
 use Rattle.csdl_schema.specs.declared.fault.SchemaFault.TheVariants as schema
 use Rattle.odata_filter.specs.declared.command.command_line.Plan.{Plan}
 use Rattle.odata_filter.specs.declared.command.failure.Failure.{Failure}
 use Rattle.odata_filter.specs.declared.command.failure.Failure.TheVariants.{NotYet, OneOf, Schema, UnknownType, Query, NoOption, Refused, RowsFile, Rows}
-use Rattle.line_filter.specs.declared.tally.Tally.{Tally}
 use Rattle.odata_filter.specs.declared.run_fault.RunFault.{RunFault}
 use Rattle.odata_filter.specs.declared.run_fault.RunFault.TheVariants as rows
 use Rattle.odata_typing.specs.declared.refusal.Refusal.{Refusal}
@@ -58,6 +60,31 @@ StopsOver rows (RowsFile name) streams = WroteNothing streams
 StopsOver rows other streams = ⊥
 
 -- what an answer says of the plan, of the rows and of what was written
-abbrev pub AnswerSays : Result Tally Failure → Plan → List ℕ → Streams → Type 0
-AnswerSays (Ok tally) = StatusSays complete
+abbrev pub AnswerSays : {X : Type 0} → Result X Failure → Verb → Plan → List ℕ → Streams → Type 0
+AnswerSays (Ok done) = StatusSays complete
 AnswerSays (Err failure) = StatusSays (status_of failure)
+
+-- why a plan has no filter
+abbrev pub LacksFilter : Status → Plan → List ℕ → Type 0
+LacksFilter without_filter plan document = HasNoFilter plan document
+LacksFilter without_plan plan document = HasNoOption plan document
+LacksFilter without_memory plan document = Unit {0}
+LacksFilter _ plan document = ⊥
+
+-- what a failure to write says: of a device or of memory
+abbrev pub IsUnwritten : Status → Type 0
+IsUnwritten without_device = Unit {0}
+IsUnwritten without_memory = Unit {0}
+IsUnwritten _ = ⊥
+
+-- a refusal is an answer of `check`
+pub record IsAnswerOfCheck (verb : Verb) (status : Status) : Type 0 where
+  pub is_check : verb ≡ Check
+  pub is_refusal : status ≡ without_filter
+
+-- A failure was told, and the program ends with this number: standard output took the answer of `check`, or did not;
+-- else it stays as it is.
+abbrev pub IsTold : ℕ → Status → Verb → Option (List ℕ) → Option (List ℕ) → Type 0
+IsTold number status verb old new =
+    (IsAnswerOfCheck verb status × ((number ≡ 1) ⊎ (number ≡ 5)))
+    ⊎ ((number ≡ status_number status) × Keeps old new)

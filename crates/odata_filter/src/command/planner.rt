@@ -1,7 +1,9 @@
-ghost use Rattle.std.specs.Prelude.{◌≡◌, IfOk, MatchResult, false, map};
+ghost use Rattle.std.specs.Prelude.{◌≡◌, IfOk, MatchResult, codes, false, map, option_map};
 ghost use Rattle.clap.specs.Words.{found_of, rows_of, rule_of};
-ghost use Rattle.odata_filter.specs.FilterPlan.{IsFilterPlan};
-ghost use Rattle.odata_filter.specs.CommandLine.{HasValues, IsPlanOf, IsRefusedBy, filter_app, odfilter_app, text_rule};
+ghost use Rattle.odata_filter.specs.Planned.{IsCarriedOut, IsPlanned};
+ghost use Rattle.odata_filter.specs.CommandLine.{HasValues, IsPlanOf, IsRefusedBy};
+ghost use Rattle.odata_filter.specs.CommandLine.{check_app, filter_app, odfilter_app, option_value, text_rule};
+ghost use Rattle.odata_filter.specs.CommandLine.{verb_app};
 ghost use Rattle.odata_filter.specs.private.PlanSteps.{IsApp, IsFaultOf, IsNotOneFault};
 
 use super::command_line::{Plan, PlanFault, Verb};
@@ -15,6 +17,7 @@ const VERSION: &str = "0.1.0";
 /// What stands at the end of each help.
 const AFTER_HELP: &str = "\
 Examples:
+  odfilter check --schema schema.json --type Mini.Item --filter \"Name eq 'a'\"
   odfilter filter --schema schema.json --type Mini.Item --filter \"Name eq 'a'\" --rows rows.json
   odfilter filter --schema schema.json --type Mini.Item --query '$filter=ID%20eq%201' <rows.json
 
@@ -39,9 +42,9 @@ fn text_option<'a>(alloc: Global, name: &'a str, value: &'a str, help: &'a str) 
         .action(ArgAction::Set)
 }
 
-/// The subcommand `filter`.
-fn filter_command<'a>(alloc: Global) -> Result<Command<'a>, AllocError>
-    ensures { IfOk result (IsApp filter_app) }
+/// The subcommand of a verb, with the options that every verb has.
+fn verb_command<'a>(alloc: Global, word: &'a str, about: &'a str) -> Result<Command<'a>, AllocError>
+    ensures { IfOk result (IsApp (verb_app word.entry.now)) }
 {
     let schema = text_option(alloc, "schema", "FILE", "CSDL JSON that declares the type").required(
         true,
@@ -60,20 +63,39 @@ fn filter_command<'a>(alloc: Global) -> Result<Command<'a>, AllocError>
         "TEXT",
         "A query string with one filter option, as it stands in a URL",
     );
+    Command::new(alloc, word)
+        .about(about)
+        .after_help(AFTER_HELP)
+        .arg(schema)?
+        .arg(named)?
+        .arg(filter)?
+        .arg(query)
+}
+
+/// The subcommand `check`.
+fn check_command<'a>(alloc: Global) -> Result<Command<'a>, AllocError>
+    ensures { IfOk result (IsApp check_app) }
+{
+    verb_command(
+        alloc,
+        "check",
+        "Says whether a filter fits a type, and its canonical text",
+    )
+}
+
+/// The subcommand `filter`, which may name its rows.
+fn filter_command<'a>(alloc: Global) -> Result<Command<'a>, AllocError>
+    ensures { IfOk result (IsApp filter_app) }
+{
     let rows = text_option(
         alloc,
         "rows",
         "FILE",
         "Rows, one JSON object a line; else standard input",
     );
-    Command::new(alloc, "filter")
-        .about("Writes the rows whose outcome is true, as they come")
-        .after_help(AFTER_HELP)
-        .arg(schema)?
-        .arg(named)?
-        .arg(filter)?
-        .arg(query)?
-        .arg(rows)
+    let about = "Writes the rows whose outcome is true, as they come";
+    let command = verb_command(alloc, "filter", about)?;
+    command.arg(rows)
 }
 
 /// The command line as `clap` reads it.
@@ -85,6 +107,7 @@ fn command<'a>(alloc: Global) -> Result<Command<'a>, AllocError>
         .after_help(AFTER_HELP)
         .version(VERSION)
         .subcommand_required(true)
+        .subcommand(check_command(alloc)?)?
         .subcommand(filter_command(alloc)?)
 }
 
@@ -97,9 +120,23 @@ fn fault_of(error: Error) -> PlanFault
     }
 }
 
-/// The plan of what stands behind `filter`.
-fn plan_of<'a>(matches: &ArgMatches<'a>) -> Result<Plan<'a>, PlanFault>
-    ensures { MatchResult result (HasValues (rows_of (found_of matches.now)))
+/// The rows file, which `filter` alone may name.
+fn rows_file<'a>(verb: Verb, matches: &ArgMatches<'a>) -> Option<&'a str>
+    ensures { option_map (λ s. s.now) result
+        ≡ option_value verb (codes "rows") (rows_of (found_of matches.now)) }
+{
+    match verb {
+        Verb::Filter => matches.get_str("rows"),
+        Verb::Check | Verb::Explain => None,
+    }
+}
+
+/// The plan of what stands behind a verb.
+fn plan_of<'a>(verb: Verb, matches: &ArgMatches<'a>) -> Result<Plan<'a>, PlanFault>
+    requires { IsCarriedOut verb }
+    ensures verb { IfOk result (λ plan. plan.verb ≡ verb) }
+    ensures planned { IfOk result IsPlanned }
+    ensures values { MatchResult result (HasValues (rows_of (found_of matches.now)))
         (IsNotOneFault (rows_of (found_of matches.now))) }
 {
     let filter = matches.get_str("filter");
@@ -108,12 +145,12 @@ fn plan_of<'a>(matches: &ArgMatches<'a>) -> Result<Plan<'a>, PlanFault>
         return Err(PlanFault::OneOf);
     }
     Ok(Plan {
-        verb: Verb::Filter,
+        verb,
         schema: matches.get_str("schema").unwrap_or(""),
         named: matches.get_str("type").unwrap_or(""),
         filter,
         query,
-        rows: matches.get_str("rows"),
+        rows: rows_file(verb, matches),
         now: None,
         collection: false,
     })
@@ -124,7 +161,7 @@ fn plan_of<'a>(matches: &ArgMatches<'a>) -> Result<Plan<'a>, PlanFault>
 /// `OneOf` comes where not exactly one of filter and query is given, `Clap` where `clap` refuses the words or is asked
 /// for help or the version.
 pub fn plan<'a>(alloc: Global, words: &'a [&'a str]) -> Result<Plan<'a>, PlanFault>
-    ensures filters { IfOk result IsFilterPlan }
+    ensures planned { IfOk result IsPlanned }
     ensures asked { MatchResult result (IsPlanOf (map (λ s. s.now) words.entry.now))
         (IsRefusedBy (map (λ s. s.now) words.entry.now)) }
 {
@@ -137,7 +174,10 @@ pub fn plan<'a>(alloc: Global, words: &'a [&'a str]) -> Result<Plan<'a>, PlanFau
         Err(error) => return Err(fault_of(error)),
     };
     match matches.subcommand_matches("filter") {
-        Some(inner) => plan_of(inner),
-        None => Err(PlanFault::OneOf),
+        Some(inner) => plan_of(Verb::Filter, inner),
+        None => match matches.subcommand_matches("check") {
+            Some(inner) => plan_of(Verb::Check, inner),
+            None => Err(PlanFault::OneOf),
+        },
     }
 }

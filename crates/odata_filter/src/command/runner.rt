@@ -1,33 +1,47 @@
-ghost use Rattle.std.specs.Prelude.{◌≡◌, ◌<◌, false, ℕ, List, Some, length, option_map, MatchOption, IfOk, IfErr, OnOk, OnErr, IsNone};
-ghost use Rattle.odata_filter.specs.FilterPlan.{IsFilterPlan};
+ghost use Rattle.std.specs.Prelude.{◌≡◌, ◌<◌, ◌↔◌, ◌⊎◌, false, ℕ, List, Some, length, option_map, string_bytes};
+ghost use Rattle.std.specs.Prelude.{MatchOption, IfOk, IfErr, IsTrue, OnOk, OnErr, IsNone};
+ghost use Rattle.line_filter.specs.Growth.{Writes};
+ghost use Rattle.odata_filter.specs.Planned.{IsCarriedOut, IsPlanned};
 ghost use Rattle.line_filter.specs.Kept.{Filters};
 ghost use Rattle.odata_filter.specs.RowJudgment.{rows_of};
-ghost use Rattle.odata_filter.specs.Run.{Answers, AsksFor, Begins, IsFirstMoment, NamesType, OverRows, streams, without_plan, without_type};
-ghost use Rattle.odata_filter.specs.private.RunFailures.{AnswerSays, StopsOver, status_of};
+ghost use Rattle.odata_filter.specs.Run.{Answers, AsksFor, Begins, BeginsAs, IsAccepted, IsFirstMoment, IsPlanFilter, NamesType};
+ghost use Rattle.odata_filter.specs.Run.{OverRows, streams, without_filter, without_plan, without_type};
+ghost use Rattle.odata_filter.specs.private.RunFailures.{AnswerSays, IsTold, IsUnwritten, LacksFilter, StopsOver};
+ghost use Rattle.odata_filter.specs.private.RunFailures.{status_of};
 ghost use Rattle.csdl_schema.specs.SchemaModel.{IsEntityAt, index_named};
 
 use super::command_line::{Plan, Verb};
 use super::failure::Failure;
 use crate::filter::filter_lines;
+use crate::run_fault::RunFault;
 use csdl_schema::{Schema, TypeId};
 use edm_values::Moment;
 use jiff::civil;
 use line_filter::Tally;
 use odata_text::filter_of_query;
-use odata_typing::{Checked, check};
-use std::alloc::Global;
+use odata_typing::{Checked, Refusal, check};
+use std::alloc::{AllocError, Global};
 use std::io::{Read, Write};
+
+/// Whether the verb is carried out.
+fn is_carried_out(verb: Verb) -> bool
+    ensures { IsTrue result ↔ IsCarriedOut verb }
+{
+    match verb {
+        Verb::Check => true,
+        Verb::Filter => true,
+        Verb::Explain => false,
+    }
+}
 
 /// What a plan asks for that is not there yet.
 fn not_yet(plan: &Plan<'_>) -> Option<&'static str>
     ensures { MatchOption result
-        (IsNone plan.entry.now.now × (plan.entry.now.verb ≡ Verb.Filter) × (plan.entry.now.collection ≡ false))
-        (λ option. ¬ IsFilterPlan plan.entry.now) }
+        (IsNone plan.entry.now.now × IsCarriedOut plan.entry.now.verb × (plan.entry.now.collection ≡ false))
+        (λ option. ¬ IsPlanned plan.entry.now) }
 {
-    match plan.verb {
-        Verb::Check => return Some("check"),
-        Verb::Explain => return Some("explain"),
-        Verb::Filter => {}
+    if !is_carried_out(plan.verb) {
+        return Some("explain");
     }
     if plan.now.is_some() {
         return Some("now");
@@ -41,8 +55,8 @@ fn not_yet(plan: &Plan<'_>) -> Option<&'static str>
 
 /// Whether the plan is one that can be carried out.
 fn is_planned<'p>(plan: &Plan<'p>) -> Result<(), Failure<'p>>
-    ensures planned { OnOk result (IsFilterPlan plan.entry.now) }
-    ensures other { OnErr result (¬ IsFilterPlan plan.entry.now) }
+    ensures planned { OnOk result (IsPlanned plan.entry.now) }
+    ensures other { OnErr result (¬ IsPlanned plan.entry.now) }
     ensures status { IfErr result (λ failure. status_of failure ≡ without_plan) }
 {
     if let Some(option) = not_yet(plan) {
@@ -110,58 +124,130 @@ fn rows_by_filter<'p, R: Read + Drop, W: Write>(
     }
 }
 
-/// The rows of the plan by the text of its filter.
-fn rows_by_text<'p, R: Read + Drop, W: Write>(
+/// The filter of a text that the plan asks for.
+fn checked_text<'s, 'p>(
     alloc: Global,
-    schema: &Schema,
+    schema: &'s Schema,
     id: TypeId,
     text: &str,
     plan: &Plan<'p>,
-    rows: Option<R>,
-    out: &mut W,
-) -> Result<Tally, Failure<'p>>
+) -> Result<Checked<'s>, Failure<'p>>
     requires held { id < length schema.now.types }
     requires asked { AsksFor plan.now text.now }
-    ensures says { (document : List ℕ) → NamesType plan.entry.now document schema.now id
-        → AnswerSays result plan.entry.now document
-        (streams (option_map (λ r. R.remaining r) rows) (W.contents out.old) (W.contents out.new)) }
-    ensures begins { (document : List ℕ) → NamesType plan.entry.now document schema.now id
-        → Begins plan.entry.now document
-        (streams (option_map (λ r. R.remaining r) rows) (W.contents out.old) (W.contents out.new)) }
+    ensures right { (document : List ℕ) → NamesType plan.entry.now document schema.entry.now id
+        → IfOk result (IsPlanFilter plan.entry.now document) }
+    ensures none { (document : List ℕ) → NamesType plan.entry.now document schema.entry.now id
+        → IfErr result (λ failure. LacksFilter (status_of failure) plan.entry.now document) }
 {
     match check(alloc, schema, id, text) {
-        Ok(checked) => rows_by_filter(alloc, &checked, &first_moment(), plan, rows, out),
+        Ok(checked) => Ok(checked),
         Err(refusal) => Err(Failure::Refused(refusal)),
     }
 }
 
-/// The rows of the plan by its filter, or by that of its query.
-fn rows_by_plan<'p, R: Read + Drop, W: Write>(
+/// The filter of the plan, or that of its query.
+fn checked_plan<'s, 'p>(
     alloc: Global,
-    schema: &Schema,
+    schema: &'s Schema,
     id: TypeId,
     plan: &Plan<'p>,
-    rows: Option<R>,
-    out: &mut W,
-) -> Result<Tally, Failure<'p>>
+) -> Result<Checked<'s>, Failure<'p>>
     requires held { id < length schema.now.types }
-    requires planned { IsFilterPlan plan.now }
-    ensures says { (document : List ℕ) → NamesType plan.entry.now document schema.now id
-        → AnswerSays result plan.entry.now document
-        (streams (option_map (λ r. R.remaining r) rows) (W.contents out.old) (W.contents out.new)) }
-    ensures begins { (document : List ℕ) → NamesType plan.entry.now document schema.now id
-        → Begins plan.entry.now document
-        (streams (option_map (λ r. R.remaining r) rows) (W.contents out.old) (W.contents out.new)) }
+    requires planned { IsPlanned plan.now }
+    ensures right { (document : List ℕ) → NamesType plan.entry.now document schema.entry.now id
+        → IfOk result (IsPlanFilter plan.entry.now document) }
+    ensures none { (document : List ℕ) → NamesType plan.entry.now document schema.entry.now id
+        → IfErr result (λ failure. LacksFilter (status_of failure) plan.entry.now document) }
 {
     match (plan.filter, plan.query) {
-        (Some(text), _) => rows_by_text(alloc, schema, id, text, plan, rows, out),
+        (Some(text), _) => checked_text(alloc, schema, id, text, plan),
         (None, Some(query)) => match filter_of_query(alloc, query.as_bytes()) {
-            Ok(Some(text)) => rows_by_text(alloc, schema, id, &text, plan, rows, out),
+            Ok(Some(text)) => checked_text(alloc, schema, id, &text, plan),
             Ok(None) => Err(Failure::NoOption),
             Err(fault) => Err(Failure::Query(fault)),
         },
         (None, None) => Err(Failure::OneOf),
     }
+}
+
+/// What `check` says of a filter.
+fn accepted_text(alloc: Global, checked: &Checked<'_>) -> Result<String, AllocError>
+    ensures { IfOk result (λ text. IsAccepted checked.now (string_bytes text)) }
+{
+    let canonical = checked.canonical(alloc)?;
+    let mut text = String::from_str(alloc, "accepted")?;
+    text.push('\n')?;
+    text.push_str(&canonical)?;
+    text.push('\n')?;
+    Ok(text)
+}
+
+/// Tells the filter.
+fn tell_filter<'p, W: Write>(
+    alloc: Global,
+    checked: &Checked<'_>,
+    out: &mut W,
+) -> Result<(), Failure<'p>>
+    ensures told { OnOk result (Writes (W.contents out.old) (W.contents out.new) (IsAccepted checked.now)) }
+    ensures unwritten { IfErr result (λ failure. IsUnwritten (status_of failure)) }
+{
+    let text = match accepted_text(alloc, checked) {
+        Ok(text) => text,
+        Err(_) => return Err(Failure::Refused(Refusal::Memory)),
+    };
+    if out.write_all(text.as_bytes()).is_err() {
+        return Err(Failure::Rows(RunFault::Write));
+    }
+    match out.flush() {
+        Ok(()) => Ok(()),
+        Err(_) => Err(Failure::Rows(RunFault::Write)),
+    }
+}
+
+/// The rows that the filter keeps.
+fn filter_rows<'p, R: Read + Drop, W: Write>(
+    alloc: Global,
+    checked: &Checked<'_>,
+    plan: &Plan<'p>,
+    rows: Option<R>,
+    out: &mut W,
+) -> Result<(), Failure<'p>>
+    ensures says { (document : List ℕ) → IsPlanFilter plan.entry.now document checked.now
+        → AnswerSays result Verb.Filter plan.entry.now document
+        (streams (option_map (λ r. R.remaining r) rows) (W.contents out.old) (W.contents out.new)) }
+    ensures begins { (document : List ℕ) → IsPlanFilter plan.entry.now document checked.now
+        → BeginsAs Verb.Filter plan.entry.now document
+        (streams (option_map (λ r. R.remaining r) rows) (W.contents out.old) (W.contents out.new)) }
+{
+    let now = first_moment();
+    match rows_by_filter(alloc, checked, &now, plan, rows, out) {
+        Ok(_) => Ok(()),
+        Err(failure) => Err(failure),
+    }
+}
+
+/// What the plan's verb makes of its filter. `check` looks at no rows.
+fn by_verb<'p, R: Read + Drop, W: Write>(
+    alloc: Global,
+    checked: &Checked<'_>,
+    plan: &Plan<'p>,
+    rows: Option<R>,
+    out: &mut W,
+) -> Result<(), Failure<'p>>
+    requires { IsCarriedOut plan.now.verb }
+    ensures says { (document : List ℕ) → IsPlanFilter plan.entry.now document checked.now
+        → AnswerSays result plan.entry.now.verb plan.entry.now document
+        (streams (option_map (λ r. R.remaining r) rows) (W.contents out.old) (W.contents out.new)) }
+    ensures begins { (document : List ℕ) → IsPlanFilter plan.entry.now document checked.now
+        → Begins plan.entry.now document
+        (streams (option_map (λ r. R.remaining r) rows) (W.contents out.old) (W.contents out.new)) }
+{
+    match plan.verb {
+        Verb::Check => return tell_filter(alloc, checked, out),
+        Verb::Filter => {}
+        Verb::Explain => unreachable!(),
+    }
+    filter_rows(alloc, checked, plan, rows, out)
 }
 
 /// The whole run, up to its first failure.
@@ -171,8 +257,8 @@ fn carry_out<'p, R: Read + Drop, W: Write>(
     document: &[u8],
     rows: Option<R>,
     out: &mut W,
-) -> Result<Tally, Failure<'p>>
-    ensures says { AnswerSays result plan.entry.now document.now
+) -> Result<(), Failure<'p>>
+    ensures says { AnswerSays result plan.entry.now.verb plan.entry.now document.now
         (streams (option_map (λ r. R.remaining r) rows) (W.contents out.old) (W.contents out.new)) }
     ensures begins { Begins plan.entry.now document.now
         (streams (option_map (λ r. R.remaining r) rows) (W.contents out.old) (W.contents out.new)) }
@@ -184,16 +270,47 @@ fn carry_out<'p, R: Read + Drop, W: Write>(
         Ok(schema) => schema,
         Err(fault) => return Err(Failure::Schema(fault)),
     };
-    match entity_type(&schema, plan.named) {
-        Ok(id) => rows_by_plan(alloc, &schema, id, plan, rows, out),
+    let id = match entity_type(&schema, plan.named) {
+        Ok(id) => id,
+        Err(failure) => return Err(failure),
+    };
+    match checked_plan(alloc, &schema, id, plan) {
+        Ok(checked) => by_verb(alloc, &checked, plan, rows, out),
         Err(failure) => Err(failure),
     }
+}
+
+/// Tells a refusal on standard output, as an answer. Where that does not take it, this is told in its place.
+fn tell_answer<W: Write, E: Write>(failure: &Failure<'_>, out: &mut W, err: &mut E) -> u8
+    ensures { (result ≡ 1) ⊎ (result ≡ 5) }
+{
+    if writeln!(out, "{failure}").is_ok() && out.flush().is_ok() {
+        return 1;
+    }
+    let _ = writeln!(err, "{}", RunFault::Write);
+    5
+}
+
+/// Tells a failure and answers the status: to `check` a refusal is an answer, for standard output; every other goes to
+/// standard error, behind a flush of standard output.
+fn tell<W: Write, E: Write>(verb: Verb, failure: &Failure<'_>, out: &mut W, err: &mut E) -> u8
+    ensures known { result < 7 }
+    ensures told { IsTold result (status_of failure.now) verb (W.contents out.old) (W.contents out.new) }
+{
+    let status = failure.status();
+    if verb == Verb::Check && status == 1 {
+        return tell_answer(failure, out, err);
+    }
+    let _ = out.flush();
+    let _ = writeln!(err, "{failure}");
+    status
 }
 
 /// Carries out a plan over the bytes of its schema file and answers the status that the program ends with.
 ///
 /// `rows` is `None` where the rows file cannot be opened, which is told last. `out` and `err` stand for standard output
-/// and error: kept rows go to `out`, and the line of a failure to `err`, behind a flush of `out`.
+/// and error: kept rows and what `check` says go to `out`, and the line of another failure to `err`, behind a flush of
+/// `out`.
 pub fn run<R: Read + Drop, W: Write, E: Write>(
     alloc: Global,
     plan: &Plan<'_>,
@@ -207,11 +324,7 @@ pub fn run<R: Read + Drop, W: Write, E: Write>(
         (streams (option_map (λ r. R.remaining r) rows) (W.contents out.old) (W.contents out.new)) }
 {
     match carry_out(alloc, plan, document, rows, out) {
-        Ok(_) => 0,
-        Err(failure) => {
-            let _ = out.flush();
-            let _ = writeln!(err, "{failure}");
-            failure.status()
-        }
+        Ok(()) => 0,
+        Err(failure) => tell(plan.verb, &failure, out, err),
     }
 }

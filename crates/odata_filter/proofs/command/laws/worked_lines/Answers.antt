@@ -42,3 +42,21 @@ returns-clause-no_version c = line.no_version
 
 pub returns-clause-help : goal.returns-clause-help
 returns-clause-help c = line.help
+
+pub returns-clause-check_taken : goal.returns-clause-check_taken
+returns-clause-check_taken c = line.check_taken
+
+pub returns-clause-check_enters : goal.returns-clause-check_enters
+returns-clause-check_enters c = line.check_enters
+
+pub returns-clause-check_filter : goal.returns-clause-check_filter
+returns-clause-check_filter c = line.check_filter
+
+pub returns-clause-check_has_no_rows : goal.returns-clause-check_has_no_rows
+returns-clause-check_has_no_rows c = line.check_rows
+
+pub returns-clause-check_has_no_now : goal.returns-clause-check_has_no_now
+returns-clause-check_has_no_now c = line.check_now
+
+pub returns-clause-check_has_no_collection : goal.returns-clause-check_has_no_collection
+returns-clause-check_has_no_collection c = line.check_collection

@@ -1,33 +1,39 @@
 use Rattle.std.proofs.Common.{◌∙◌, rules, refl, sym, ap₂, codes}
 use Rattle.std.proofs.Math.Bool.{beq}
-use Rattle.clap.specs.Words.{found_of}
-use Rattle.odata_filter.proofs.LineLemmas.PlanLemmas.{one_found, one_found-not, text_found, text_or_empty}
+use Rattle.clap.specs.Words.{found_of, rows_of}
+use Rattle.odata_filter.proofs.LineLemmas.PlanLemmas.{no_collection, no_moment, one_found, one_found-not, text_found, text_or_empty}
 use Rattle.odata_filter.proofs.command.planner.plan_of.Goals as goal
 
-pub returns-then-is_some : goal.returns-then-is_some
-returns-then-is_some c =
+pub returns-then-is_some-clause-values : goal.returns-then-is_some-clause-values
+returns-then-is_some-clause-values c =
     one_found-not (found_of c.args.matches.now) c.get_str-filter.result c.get_str-query.result
     c.get_str-filter.ensures c.get_str-query.ensures
     (sym (ap₂ beq c.is_some.ensures c.is_some-2.ensures) ∙ c.if-is_some.true)
 
-pub returns : goal.returns
-returns c =
+pub returns-clause-planned : goal.returns-clause-planned
+returns-clause-planned c = record {
+  carried_out = c.requires;
+  one_of = one_found c.get_str-filter.result c.get_str-query.result
+      (sym (ap₂ beq c.is_some.ensures c.is_some-2.ensures) ∙ c.if-is_some.false);
+  has_no_moment = search rules;
+  is_lines = refl;
+}
+
+pub returns-clause-values : goal.returns-clause-values
+returns-clause-values c =
     let found = found_of c.args.matches.now in
     let filter = c.get_str-filter.result in
     let query = c.get_str-query.result in
     record {
-      is_filter_plan = record {
-        filters = refl;
-        one_of = one_found filter query
-            (sym (ap₂ beq c.is_some.ensures c.is_some-2.ensures) ∙ c.if-is_some.false);
-        has_no_moment = search rules;
-        is_lines = refl;
-      };
+      exactly_one = one_found filter query
+          (sym (ap₂ beq c.is_some.ensures c.is_some-2.ensures) ∙ c.if-is_some.false);
       schema = text_or_empty found (codes "schema") c.get_str.result c.unwrap_or.result _
           c.get_str.ensures c.unwrap_or.ensures refl;
       named = text_or_empty found (codes "type") c.get_str-2.result c.unwrap_or-2.result _
           c.get_str-2.ensures c.unwrap_or-2.ensures refl;
       filter = text_found found (codes "filter") filter c.get_str-filter.ensures;
       query = text_found found (codes "query") query c.get_str-query.ensures;
-      rows = text_found found (codes "rows") c.get_str-3.result c.get_str-3.ensures;
+      rows = c.rows_file.ensures;
+      now = sym (no_moment c.args.verb (rows_of found));
+      collection = sym (no_collection c.args.verb (rows_of found));
     }
