@@ -7,10 +7,13 @@ use jiff::civil;
 use odata_eval::{Verdict, evaluate};
 use odata_filter::command_line::{PlanFault, Verb};
 use odata_filter::{RunFault, filter_lines, filter_slice, plan};
-use odata_syntax::{Node, parse};
-use odata_text::{Span, TokenKind, filter_of_query, is_identifier, tokens, tokens_are_spelled};
+use odata_syntax::{Expr, Node, SyntaxFault, parse};
+use odata_text::{
+    Span, TextFault, TokenKind, filter_of_query, is_identifier, tokens, tokens_are_spelled,
+};
 use odata_typing::{EdmType, ValueType, check};
 use serde_json::Value;
+use std::alloc::Global;
 use std::test::Fail;
 
 const A: &str = "{\"ID\":1,\"Name\":\"a\",\"Active\":true}\n";
@@ -26,22 +29,37 @@ fn values(rt: HostRuntime) -> Result<(), Fail> {
 }
 
 #[test]
-fn syntax(rt: HostRuntime) -> Result<(), Fail> {
+fn tokens_of_a_query(rt: HostRuntime) -> Result<(), Fail> {
     let filter = filter_of_query(rt.alloc(), "$filter=ID%20eq%201".as_bytes())?.ok_or(
         "the filter",
     )?;
     let text = filter.as_str();
     assert!(rt; is_identifier("ID") && text == "ID eq 1");
     let found = tokens(rt.alloc(), text)?;
-    tokens_are_spelled();
     assert_eq!(rt; found.len(), 3);
     assert!(rt; found[1].kind == TokenKind::Word && found[1].text == "eq");
-    let expression = parse(rt.alloc(), found.as_slice(), text.len())?;
-    let is_whole = match expression.root() {
-        Node::Binary { span, .. } => *span == Span { start: 0, stop: 7 },
-        _ => false,
-    };
-    assert!(rt; is_whole);
+    Ok(())
+}
+
+/// The tree of a text that has tokens, or the fault of its tokens.
+fn parsed(alloc: Global, text: &str) -> Result<Result<Expr, SyntaxFault>, TextFault> {
+    let found = tokens(alloc, text)?;
+    tokens_are_spelled();
+    Ok(parse(alloc, found.as_slice(), text.len()))
+}
+
+/// The span of a binary operator.
+fn operator_span(node: &Node) -> Option<Span> {
+    match node {
+        Node::Binary { span, .. } => Some(*span),
+        _ => None,
+    }
+}
+
+#[test]
+fn syntax(rt: HostRuntime) -> Result<(), Fail> {
+    let expression = parsed(rt.alloc(), "ID eq 1")??;
+    assert!(rt; operator_span(expression.root()) == Some(Span { start: 0, stop: 7 }));
     Ok(())
 }
 
@@ -187,28 +205,6 @@ fn command_line(rt: HostRuntime) -> Result<(), Fail> {
     assert!(rt;
         matches!(
             plan(rt.alloc(), unknown.as_slice()),
-            Err(PlanFault::Clap(_))
-        )
-    );
-    Ok(())
-}
-
-#[test]
-fn command_line_of_check(rt: HostRuntime) -> Result<(), Fail> {
-    let words = [
-        "odfilter", "check", "--schema", "s", "--type", "N.T", "--filter", "true",
-    ];
-    let whole = plan(rt.alloc(), words.as_slice())?;
-    assert!(rt; whole.verb == Verb::Check && whole.schema == "s" && whole.named == "N.T");
-    assert!(rt; whole.filter == Some("true") && whole.query.is_none() && whole.rows.is_none());
-    let without = ["odfilter", "check", "--schema", "s", "--type", "N.T"];
-    assert!(rt; matches!(plan(rt.alloc(), without.as_slice()), Err(PlanFault::OneOf)));
-    let with_rows = [
-        "odfilter", "check", "--schema", "s", "--type", "N.T", "--filter", "true", "--rows", "r",
-    ];
-    assert!(rt;
-        matches!(
-            plan(rt.alloc(), with_rows.as_slice()),
             Err(PlanFault::Clap(_))
         )
     );
