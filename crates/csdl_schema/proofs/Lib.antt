@@ -1,1 +1,12 @@
-pub mod SchemaLemmas
+pub mod Placing
+pub mod Properties
+pub mod Chains
+pub mod Inheritance
+pub mod Kept
+pub mod Joined
+pub mod LookUps
+pub mod SlotSteps
+pub mod Walks
+pub mod DeclaredSlots
+pub mod SchemaLaws
+pub mod SchemaWorked

@@ -1,37 +1,35 @@
 -- A property of the code, as the model says it.
-use Rattle.std.specs.Prelude.{◌≡◌, Bool, true, false}
-use Rattle.edm_values.specs.declared.primitive.PrimitiveType.{PrimitiveType}
+use Rattle.std.specs.Prelude.{◌≡◌, ℕ, List, Bool, Some}
 use Rattle.csdl_schema.specs.declared.property.Property.{Property}
 use Rattle.csdl_schema.specs.declared.property.PropertyKind.{PropertyKind}
 use Rattle.csdl_schema.specs.declared.property.PropertyKind.TheVariants.{Prim, Enum, Complex, Opaque, Navigation}
-use Rattle.csdl_schema.specs.ExprType.{single, collection, primitive}
-use Rattle.csdl_schema.specs.SchemaModel.{SchemaModel, PropertyModel, PropertyType, declared, opaque, navigation}
+use Rattle.csdl_schema.specs.ExprType.{primitive, enumeration, structured}
+use Rattle.csdl_schema.specs.Resolution.{type_of_single}
+use Rattle.csdl_schema.specs.SchemaModel.{SchemaModel, PropertyModel, PropertyType, opaque, navigation, type_name_at, HoldsType, HoldsEnumeration}
 
--- one value of a primitive type, or a collection of such
-abbrev pub primitive_property : Bool → PrimitiveType → PropertyType
-primitive_property false p = declared (single (primitive p))
-primitive_property true p = declared (collection (primitive p))
-
--- by kind and whether there are many; of an enumeration or complex type no property is read yet
-abbrev pub type_of_kind : PropertyKind → Bool → PropertyType
-type_of_kind (Prim p) many = primitive_property many p
-type_of_kind (Enum e) many = opaque
-type_of_kind (Complex t) many = opaque
-type_of_kind Opaque many = opaque
-type_of_kind Navigation many = navigation
+-- by kind and whether there are many; `name_at` has the qualified names of the types that a kind points to
+abbrev pub type_of_kind : (ℕ → List ℕ) → PropertyKind → Bool → PropertyType
+type_of_kind name_at (Prim p) many = type_of_single (Some (primitive p)) many
+type_of_kind name_at (Enum e) many = type_of_single (Some (enumeration (name_at e))) many
+type_of_kind name_at (Complex t) many = type_of_single (Some (structured (name_at t))) many
+type_of_kind name_at Opaque many = opaque
+type_of_kind name_at Navigation many = navigation
 
 -- the type that a schema gives a property
 abbrev pub property_type : SchemaModel → Property → PropertyType
-property_type schema p = type_of_kind p.kind p.many
+property_type schema p = type_of_kind (type_name_at schema) p.kind p.many
 
--- the kinds with which properties are read: of a primitive type, or opaque
-abbrev pub IsReadKind : PropertyKind → Type 0
-IsReadKind (Prim p) = Unit {0}
-IsReadKind Opaque = Unit {0}
-IsReadKind _ = ⊥
+-- what a kind points to is there: an enumeration, or a type with properties
+abbrev pub PointsWithin : SchemaModel → PropertyKind → Type 0
+PointsWithin schema (Prim p) = Unit {0}
+PointsWithin schema (Enum e) = HoldsEnumeration schema e
+PointsWithin schema (Complex t) = HoldsType schema t
+PointsWithin schema Opaque = Unit {0}
+PointsWithin schema Navigation = Unit {0}
 
--- what the type does not say of a property: its kind is one of those, and there are as many and as nullable as declared
-pub record IsReadAs (declaration : PropertyModel) (p : Property) : Type 0 where
-  pub kind : IsReadKind p.kind
+-- a property of the code is the declared one: of its type, which is there, as many and as nullable
+pub record IsReadAs (schema : SchemaModel) (declaration : PropertyModel) (p : Property) : Type 0 where
+  pub type_of : property_type schema p ≡ declaration.type_of
+  pub there : PointsWithin schema p.kind
   pub many : p.many ≡ declaration.many
   pub nullable : p.nullable ≡ declaration.nullable

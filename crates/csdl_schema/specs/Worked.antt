@@ -3,7 +3,7 @@ use Rattle.std.specs.Prelude.{◌++◌, ℕ, [], ◌∷◌, List, false, true, N
 use Rattle.edm_values.specs.declared.primitive.PrimitiveType.{PrimitiveType}
 use Rattle.edm_values.specs.declared.primitive.PrimitiveType.TheVariants as prim
 use Rattle.csdl_schema.specs.ExprType.{single, primitive}
-use Rattle.csdl_schema.specs.SchemaModel.{PropertyModel, SchemaModel, declared}
+use Rattle.csdl_schema.specs.SchemaModel.{PropertyModel, SchemaModel, declared, structured_type}
 
 abbrev pub mini_text : List ℕ
 mini_text =
@@ -17,12 +17,10 @@ simple name p = record { name = name; type_of = declared (single (primitive p));
 abbrev pub mini_schema : SchemaModel
 mini_schema = record {
   types = record {
-    namespace = codes "Mini";
-    alias = None;
-    name = codes "Item";
-    is_entity = true;
-    properties =
+    name = codes "Mini.Item";
+    alias_name = None;
+    body = structured_type true None (
         simple (codes "Active") prim.Bool ∷ simple (codes "ID") prim.Int32
-        ∷ simple (codes "Name") prim.String ∷ [];
+        ∷ simple (codes "Name") prim.String ∷ []);
   } ∷ [];
 }

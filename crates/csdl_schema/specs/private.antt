@@ -1,4 +1,5 @@
 -- Definitions that private clauses alone cite.
-pub mod DocumentView
+pub mod Placed
+pub mod PlacedView
 pub mod SchemaView
-pub mod TypeView
+pub mod SlotWalk

@@ -43,3 +43,17 @@ impl Model for EnumId {
 
     ghost inverse = { λ n. record { index = n } };
 }
+
+impl EnumId {
+    pub(crate) fn from_index(index: usize) -> EnumId
+        ensures { result ≡ index }
+    {
+        EnumId { index }
+    }
+
+    pub(crate) fn index(self) -> usize
+        ensures { result ≡ self }
+    {
+        self.index
+    }
+}

@@ -1,11 +1,16 @@
-//! Laws of documents, stated on functions that do nothing.
-ghost use Rattle.std.specs.Prelude.{◌≡◌, ℕ, List, codes};
-ghost use Rattle.serde_json.specs.Data.{Data};
-ghost use Rattle.csdl_schema.specs.SchemaModel.{SchemaModel, slots_of};
-ghost use Rattle.csdl_schema.specs.Declarations.{TypeDeclaration, AreByName, declared_slots, types_declared, types_in_order};
-ghost use Rattle.csdl_schema.specs.Faults.{Fault, not_object};
+//! Laws of documents, stated on functions that do nothing, or that only cite other laws.
+ghost use Rattle.std.specs.Prelude.{◌≡◌, ◌≢◌, ◌≤◌, ℕ, List, [], length, position, slice_get, Some, codes};
+ghost use Rattle.std.specs.List.{AllByRecursion};
+ghost use Rattle.csdl_declarations.specs.DeclaredType.{DeclaredType, declared_types};
+ghost use Rattle.csdl_declarations.specs.Fault.{Fault, not_object};
+ghost use Rattle.csdl_schema.specs.BaseFaults.{base_limit, bases_of};
+ghost use Rattle.csdl_schema.specs.SchemaModel.{SchemaModel, is_named, slots_of, HasDistinctNames, IsInNameOrder};
 ghost use Rattle.csdl_schema.specs.Document.{StandsFor, IsFirstDocumentFault};
+ghost use Rattle.csdl_schema.specs.Resolution.{goes_by};
+ghost use Rattle.csdl_schema.specs.TypeMembers.{IsBaseChain, chain_members, own_members};
 ghost use Rattle.csdl_schema.specs.Worked as worked;
+
+use csdl_declarations::declared_in_order;
 
 /// A document stands for at most one schema, has at most one first fault, and never both.
 pub fn one_answer()
@@ -17,17 +22,43 @@ pub fn one_answer()
         → StandsFor document a → IsFirstDocumentFault document f → ⊥ }
 {}
 
-/// The types that a schema keeps are the declared ones by name, which are one list.
-pub fn types_by_name()
-    ensures are { (document : Data) → AreByName (types_declared document) (types_in_order document) }
-    ensures only { (types a b : List TypeDeclaration) → AreByName types a → AreByName types b → a ≡ b }
+/// A schema's types go by the names of the declared ones: the first of a name has the place of the first declared one.
+pub fn names_as_declared()
+    ensures { (document : List ℕ) (schema : SchemaModel) (stands : StandsFor document schema) (asked : List ℕ)
+        → position (λ t. is_named t asked) schema.types ≡ position (λ t. goes_by t asked) (declared_types stands.json) }
 {}
 
-/// A whole name has the slots of the first declared type of that name, in whatever order the schema keeps its types.
-pub fn slots_as_declared()
-    ensures { (document : List ℕ) (schema : SchemaModel) (stands : StandsFor document schema) (asked : List ℕ)
-        → slots_of schema asked ≡ declared_slots (types_declared stands.json) asked }
+/// The bases of each declared type are a chain that ends within 64 types, and no other list is its chain.
+pub fn bases_end()
+    ensures ends { (document : List ℕ) (schema : SchemaModel) (stands : StandsFor document schema)
+        (n : ℕ) (t : DeclaredType) → slice_get (declared_types stands.json) n ≡ Some t
+        → IsBaseChain (declared_types stands.json) t (bases_of (declared_types stands.json) t) }
+    ensures short { (document : List ℕ) (schema : SchemaModel) (stands : StandsFor document schema)
+        (n : ℕ) (t : DeclaredType) → slice_get (declared_types stands.json) n ≡ Some t
+        → length (bases_of (declared_types stands.json) t) ≤ base_limit }
+    ensures only { (types : List DeclaredType) (t : DeclaredType) (us vs : List DeclaredType)
+        → IsBaseChain types t us → IsBaseChain types t vs → us ≡ vs }
 {}
+
+/// The slots of a declared type's name are the members of its chain, each once, and those that the types of the chain
+/// have themselves are in the byte order of names. A name that no declared type has, has no slots.
+pub fn slots_as_declared()
+    ensures members { (document : List ℕ) (schema : SchemaModel) (stands : StandsFor document schema)
+        (n : ℕ) (t : DeclaredType) (bases : List DeclaredType)
+        → slice_get (declared_types stands.json) n ≡ Some t → IsBaseChain (declared_types stands.json) t bases
+        → (slots_of schema).properties t.name ≡ chain_members (declared_types stands.json) t bases }
+    ensures once { (document : List ℕ) (schema : SchemaModel) (stands : StandsFor document schema)
+        (n : ℕ) (t : DeclaredType) → slice_get (declared_types stands.json) n ≡ Some t
+        → HasDistinctNames ((slots_of schema).properties t.name) }
+    ensures ordered { (document : List ℕ) (schema : SchemaModel) (stands : StandsFor document schema)
+        (n : ℕ) (t : DeclaredType) → slice_get (declared_types stands.json) n ≡ Some t
+        → IsInNameOrder (own_members (declared_types stands.json) t) }
+    ensures none { (document : List ℕ) (schema : SchemaModel) (stands : StandsFor document schema)
+        (asked : List ℕ) → AllByRecursion (λ t. t.name ≢ asked) (declared_types stands.json)
+        → (slots_of schema).properties asked ≡ [] }
+{
+    declared_in_order();
+}
 
 /// A document of one entity type stands for its schema, and an array for none.
 pub fn worked_documents()

@@ -1,23 +1,26 @@
 //! Types declared in CSDL JSON 4.01: from a document to the schema that it stands for, and its look-ups.
 #![tactic(auto)]
 
-mod declaration;
-mod fault;
+mod chain;
+mod check_bases;
 mod ids;
 mod laws;
-mod member;
-mod names;
-mod namespaces;
+mod named_type;
+mod place_types;
+mod primitive_name;
 mod property;
+mod property_names;
 mod read;
-mod read_properties;
-mod read_types;
+mod read_bases;
 mod refusals;
+mod resolve;
 mod schema;
-mod structured_type;
+mod slots;
+mod type_at;
+mod type_index;
 
-pub use fault::SchemaFault;
+pub use csdl_declarations::{SchemaFault, declared_in_order, numbers_of_their_type, types_by_name};
 pub use ids::{EnumId, TypeId};
-pub use laws::{one_answer, slots_as_declared, types_by_name, worked_documents};
+pub use laws::{bases_end, names_as_declared, one_answer, slots_as_declared, worked_documents};
 pub use property::{Property, PropertyKind};
 pub use schema::Schema;

@@ -1,31 +1,33 @@
 //! Schemas from CSDL JSON 4.01 documents.
-ghost use Rattle.std.specs.Prelude.{◌≡◌, IfOk, IfErr, count_by};
+ghost use Rattle.std.specs.Prelude.{◌≡◌, IfOk, IfErr};
 ghost use Rattle.serde_json.specs.View.{view};
-ghost use Rattle.csdl_schema.specs.Declarations.{declared_schema, is_entity_type};
-ghost use Rattle.csdl_schema.specs.Faults.{document_faults};
-ghost use Rattle.csdl_schema.specs.Document.{StandsFor, IsSchemaFault};
-ghost use Rattle.csdl_schema.specs.private.DocumentView.{declarations_of, Reads};
+ghost use Rattle.csdl_declarations.specs.DeclaredType.{AreInOrder};
+ghost use Rattle.csdl_declarations.specs.DeclaredTypeView.{types_view};
+ghost use Rattle.csdl_declarations.specs.FaultView.{Reads};
+ghost use Rattle.csdl_schema.specs.BaseFaults.{all_base_faults};
+ghost use Rattle.csdl_schema.specs.Document.{StandsFor, IsSchemaFault, declared_schema, document_faults};
+ghost use Rattle.csdl_schema.specs.Resolution.{schema_of};
 
-use super::declaration::{Declaration, declared_types, is_entity_type};
-use super::fault::SchemaFault;
-use super::member::declared_members;
-use super::namespaces::{check_namespaces, is_version};
-use super::read_types::{check_bases, in_name_order, read_types};
+use super::check_bases::check_types;
+use super::place_types::place_types;
+use super::read_bases::find_bases;
+use super::resolve::place_kinds;
 use super::schema::Schema;
+use super::type_index::index_types;
+use csdl_declarations::{DeclaredType, SchemaFault, declared_types};
 use serde_json::Value;
 use std::alloc::Global;
 
 const MAX_BYTES: usize = 1_048_576;
 
-const MAX_TYPES: usize = 4096;
-
 impl Schema {
     /// The schema that a CSDL JSON document of at most 1,048,576 bytes declares.
     ///
     /// A refusal tells the first fault: `TooLarge` for the document's size, `NotJson`, `NotObject`, `Version`,
-    /// `BadType` of a namespace, `TooLarge` for more than 4,096 types, then, in the byte order of types' whole
-    /// names, `BadType` and `BadProperty`, and at last, in the same order, `UnknownBase` and `TooLarge` for more
-    /// than 1,024 properties.
+    /// `BadType` of a namespace, `TooLarge` for more than 4,096 types; then, in the byte order of types' whole
+    /// names, each type by itself, `BadType`, and its members, `BadProperty` and `BadEnumMember`; at last, in the
+    /// same order, `UnknownBase`, `BaseCycle`, `TooLarge` for more than 64 bases, `PropertyTwice`, and `TooLarge`
+    /// for more than 1,024 properties.
     pub fn read(alloc: Global, document: &[u8]) -> Result<Schema, SchemaFault>
         ensures accepted { IfOk result (StandsFor document.now) }
         ensures refused { IfErr result (IsSchemaFault document.now) }
@@ -49,33 +51,26 @@ impl Schema {
 fn read_document(alloc: Global, document: &Value) -> Result<Schema, SchemaFault>
     ensures { Reads result (document_faults (view document.now)) (λ s. s ≡ declared_schema (view document.now)) }
 {
-    if !document.is_object() {
-        return Err(SchemaFault::NotObject);
-    }
-    if !is_version(document) {
-        return Err(SchemaFault::Version);
-    }
-    let schemas = declared_members(alloc, document)?;
-    check_namespaces(alloc, &schemas)?;
-    let declarations = declared_types(alloc, &schemas)?;
-    if count_types(&declarations) > MAX_TYPES {
-        return Err(SchemaFault::TooLarge);
-    }
-    let ordered = in_name_order(alloc, &declarations)?;
-    let types = read_types(alloc, &ordered)?;
-    check_bases(alloc, &ordered)?;
-    Ok(Schema::new(alloc, types)?)
+    let declared = declared_types(alloc, document)?;
+    Ok(join(alloc, declared)?)
 }
 
-/// How many of the declarations say that they are entity types.
-fn count_types(declarations: &[Declaration<'_>]) -> usize
-    ensures { result ≡ count_by (λ t. is_entity_type t.body) (declarations_of declarations.now) }
+/// The schema of declared types, or the first fault in the bases of one.
+fn join(alloc: Global, declared: Vec<DeclaredType<'_>>) -> Result<Schema, SchemaFault>
+    requires { AreInOrder (types_view declared.items) }
+    ensures { Reads result (all_base_faults (types_view declared.entry.items))
+        (λ s. s ≡ schema_of (types_view declared.entry.items)) }
 {
-    let mut count = 0;
-    for declaration in declarations {
-        if is_entity_type(declaration.body) {
-            count += 1;
-        }
+    let index_by_name = index_types(alloc, &declared)?;
+    let kinds = place_kinds(alloc, &declared)?;
+    let bases = find_bases(alloc, &declared, &index_by_name)?;
+    let types = place_types(alloc, &kinds, &index_by_name, &bases, declared)?;
+    match check_types(alloc, &types, &bases) {
+        Ok(chains) => Ok(Schema {
+            types,
+            chains,
+            index_by_name,
+        }),
+        Err(fault) => Err(fault),
     }
-    count
 }

@@ -1,36 +1,36 @@
 //! Refusals with the names that they tell, or `Memory` where these cannot be kept.
-ghost use Rattle.csdl_schema.specs.Faults as fault;
-ghost use Rattle.csdl_schema.specs.private.DocumentView.{TellsFault};
+ghost use Rattle.csdl_declarations.specs.Fault as fault;
+ghost use Rattle.csdl_declarations.specs.FaultView.{TellsFault};
 
-use super::fault::SchemaFault;
+use csdl_declarations::SchemaFault;
 use std::alloc::Global;
-
-pub(crate) fn bad_type(alloc: Global, name: &str) -> SchemaFault
-    ensures { TellsFault result (fault.bad_type name.now) }
-{
-    match name.to_owned(alloc) {
-        Ok(name) => SchemaFault::BadType { name },
-        Err(_) => SchemaFault::Memory,
-    }
-}
-
-pub(crate) fn bad_property(alloc: Global, owner: &str, name: &str) -> SchemaFault
-    ensures { TellsFault result (fault.bad_property owner.now name.now) }
-{
-    match owner.to_owned(alloc) {
-        Ok(owner) => match name.to_owned(alloc) {
-            Ok(name) => SchemaFault::BadProperty { owner, name },
-            Err(_) => SchemaFault::Memory,
-        },
-        Err(_) => SchemaFault::Memory,
-    }
-}
 
 pub(crate) fn unknown_base(alloc: Global, owner: &str) -> SchemaFault
     ensures { TellsFault result (fault.unknown_base owner.now) }
 {
     match owner.to_owned(alloc) {
         Ok(owner) => SchemaFault::UnknownBase { owner },
+        Err(_) => SchemaFault::Memory,
+    }
+}
+
+pub(crate) fn base_cycle(alloc: Global, owner: &str) -> SchemaFault
+    ensures { TellsFault result (fault.base_cycle owner.now) }
+{
+    match owner.to_owned(alloc) {
+        Ok(owner) => SchemaFault::BaseCycle { owner },
+        Err(_) => SchemaFault::Memory,
+    }
+}
+
+pub(crate) fn property_twice(alloc: Global, owner: &str, name: &str) -> SchemaFault
+    ensures { TellsFault result (fault.property_twice owner.now name.now) }
+{
+    match owner.to_owned(alloc) {
+        Ok(owner) => match name.to_owned(alloc) {
+            Ok(name) => SchemaFault::PropertyTwice { owner, name },
+            Err(_) => SchemaFault::Memory,
+        },
         Err(_) => SchemaFault::Memory,
     }
 }

@@ -1,5 +1,11 @@
+-- Lemmas on slots, items, and the faults within them.
+pub mod Depth
 pub mod EntitySlots
-pub mod MemberWalk
+pub mod FaultsBelow
+pub mod FoundWalk
+pub mod ItemWalk
 pub mod ReadEntities
+pub mod RowTold
 pub mod SlotWalk
 pub mod SlotsByName
+pub mod ValueWalk

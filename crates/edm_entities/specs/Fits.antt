@@ -1,62 +1,63 @@
 -- Which values a JSON tree stands for (OData JSON Format 4.01, sections 4.5 and 7).
-use Rattle.std.specs.Prelude.{◌≡◌, ◌≢◌, ℕ, ℤ, List, Bool, Option, Some, IsSome, option_and_then}
+use Rattle.std.specs.Prelude.{◌≡◌, ◌≢◌, ℕ, List, Bool, true, false, Option, Some, None, IsSome}
 use Rattle.std.specs.List.{AllByRecursion}
-use Rattle.serde_json.specs.Data.{Data}
-use Rattle.serde_json.specs.Find.{get, as_bool, as_number, as_str, as_object, as_integer}
-use Rattle.edm_values.specs.Val.{Val, boolean, whole, text, fields, FieldVal, absent, present}
-use Rattle.edm_values.specs.declared.primitive.PrimitiveType.{PrimitiveType}
-use Rattle.edm_values.specs.declared.primitive.PrimitiveType.TheVariants.{Bool as EdmBoolean, Byte, SByte, Int16, Int32, Int64, String as EdmString}
-use Rattle.csdl_schema.specs.ExprType.{ExprType, single, primitive}
+use Rattle.serde_json.specs.Data.{Data, null as json_null, Items, no_items as no_json, item as json_item}
+use Rattle.serde_json.specs.Find.{get, as_object, as_array}
+use Rattle.edm_values.specs.Val.{Val, null, fields, items, FieldVal, absent, present, Vals, no_items, item}
+use Rattle.csdl_schema.specs.ExprType.{ExprType, null_type, single, collection, SingleType, primitive, enumeration, structured}
 use Rattle.csdl_schema.specs.SchemaModel.{Slots, PropertyModel, PropertyType, declared, opaque, navigation}
-use Rattle.edm_values.specs.NumberTypes.{IsNumberOf}
+use Rattle.edm_entities.specs.FitsPrimitive.{FitsPrimitive, FitsText, IsMemberText}
 
--- the whole number as which a JSON number is held; none for a fraction (1.0 and 1e0 too) and for JSON of another kind
-abbrev pub whole_number : Data → Option ℤ
-whole_number json = option_and_then as_integer (as_number json)
+-- whether null and absence stand for null, where a property of that type is as nullable: a single one is itself, of a
+-- collection the items are (CSDL JSON 4.01, section 7.2)
+abbrev pub takes_null : ExprType → Bool → Bool
+takes_null (single type) nullable = nullable
+takes_null (collection type) nullable = false
+takes_null null_type nullable = false
 
--- Boolean: true and false
-abbrev pub FitsBoolean : Data → Val → Type 0
-FitsBoolean json value = (b : Bool) × (as_bool json ≡ Some b) × (value ≡ boolean b)
+-- what was found for a value, which may be null if `takes`: nothing, or JSON null, stands for null; other JSON for what
+-- P says
+abbrev pub FitsFound : Option Data → Bool → Val → (Data → Type 0) → Type 0
+FitsFound None takes value P = (takes ≡ true) × (value ≡ null)
+FitsFound (Some json_null) takes value P = (takes ≡ true) × (value ≡ null)
+FitsFound (Some json) takes value P = P json
 
--- a number: a whole number within the type
-abbrev pub FitsNumber : PrimitiveType → Data → Val → Type 0
-FitsNumber type json value = (n : ℤ) × (whole_number json ≡ Some n) × IsNumberOf type n × (value ≡ whole n)
-
--- String: a text
-abbrev pub FitsText : Data → Val → Type 0
-FitsText json value = (s : List ℕ) × (as_str json ≡ Some s) × (value ≡ text s)
-
--- the rows of the primitive types; JSON null fits none of them
-abbrev pub FitsPrimitive : PrimitiveType → Data → Val → Type 0
-FitsPrimitive EdmBoolean json value = FitsBoolean json value
-FitsPrimitive Byte json value = FitsNumber Byte json value
-FitsPrimitive SByte json value = FitsNumber SByte json value
-FitsPrimitive Int16 json value = FitsNumber Int16 json value
-FitsPrimitive Int32 json value = FitsNumber Int32 json value
-FitsPrimitive Int64 json value = FitsNumber Int64 json value
-FitsPrimitive EdmString json value = FitsText json value
-FitsPrimitive _ json value = ⊥
-
--- the rows of all types; a type without a row has no JSON that fits
-abbrev pub FitsType : ExprType → Data → Val → Type 0
-FitsType (single (primitive type)) json value = FitsPrimitive type json value
-FitsType _ json value = ⊥
-
--- what an object has under a property's name, and what the record has there: a property that is not looked at is absent
--- from the record, whatever the object has
-abbrev pub FitsProperty : PropertyType → Option Data → FieldVal → Type 0
-FitsProperty (declared type) (Some json) (present value) = FitsType type json value
-FitsProperty opaque found absent = Unit {0}
-FitsProperty navigation found absent = Unit {0}
-FitsProperty _ found held = ⊥
-
--- a record gives each of these properties what fits the object's member of that name, and holds no other name
-pub record FitsRecord (properties : List PropertyModel) (json : Data) (f : List ℕ → FieldVal) : Type 0 where
+-- an object, and a record that has of each of these properties what P says, and holds no other name
+pub record FitsRecord (properties : List PropertyModel) (json : Data) (f : List ℕ → FieldVal) (P : PropertyModel → Type 0) : Type 0 where
   pub is_object : IsSome (as_object json)
-  pub each_fits : AllByRecursion (λ p. FitsProperty p.type_of (get p.name json) (f p.name)) properties
+  pub each_fits : AllByRecursion P properties
   pub others_absent : (name : List ℕ) → AllByRecursion (λ p. p.name ≢ name) properties → f name ≡ absent
+
+abbrev mutual
+  -- JSON where a type is wanted, the items of a collection being as nullable
+  pub FitsType : Slots → Bool → ExprType → Data → Val → Type 0
+  FitsType slots nullable (single (primitive type)) json value = FitsPrimitive type json value
+  FitsType slots nullable (single (enumeration name)) json value =
+      FitsText (IsMemberText (slots.enumerations name)) json value
+  FitsType slots nullable (single (structured name)) json (fields f) =
+      FitsRecord (slots.properties name) json f
+      (λ p. FitsProperty slots p.nullable p.type_of (get p.name json) (f p.name))
+  FitsType slots nullable (collection type) json (items values) =
+      (jsons : Items) × (as_array json ≡ Some jsons) × FitItems slots nullable type jsons values
+  FitsType slots nullable type json value = ⊥
+
+  -- what an object has under a property's name, and what the record has there: a property that is not looked at is
+  -- absent from the record, whatever the object has
+  pub FitsProperty : Slots → Bool → PropertyType → Option Data → FieldVal → Type 0
+  FitsProperty slots nullable (declared type) found (present value) =
+      FitsFound found (takes_null type nullable) value (λ json. FitsType slots nullable type json value)
+  FitsProperty slots nullable opaque found absent = Unit {0}
+  FitsProperty slots nullable navigation found absent = Unit {0}
+  FitsProperty slots nullable type found held = ⊥
+
+  -- each item by the type, in order
+  pub FitItems : Slots → Bool → SingleType → Items → Vals → Type 0
+  FitItems slots nullable type no_json no_items = Unit {0}
+  FitItems slots nullable type (json_item json jsons) (item value values) =
+      FitsFound (Some json) nullable value (λ found. FitsType slots nullable (single type) found value)
+      × FitItems slots nullable type jsons values
+  FitItems slots nullable type jsons values = ⊥
 
 -- a JSON object that is read as an entity of the type of that name, and its value
 abbrev pub Fits : Slots → List ℕ → Data → Val → Type 0
-Fits slots type_name json (fields f) = FitsRecord (slots type_name) json f
-Fits slots type_name json _ = ⊥
+Fits slots type_name json value = FitsType slots false (single (structured type_name)) json value

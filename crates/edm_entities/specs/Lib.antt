@@ -1,6 +1,14 @@
+pub use Rattle.csdl_schema.specs.EnumerationText
 pub use Rattle.csdl_schema.specs.ExprType
 pub use Rattle.csdl_schema.specs.PropertyView
 pub use Rattle.csdl_schema.specs.SchemaModel
+pub use Rattle.edm_enumerations.specs.EnumerationModel
+pub use Rattle.edm_enumerations.specs.EnumerationValue
+pub use Rattle.edm_values.specs.Civil
+pub use Rattle.edm_values.specs.DateLiteral
+pub use Rattle.edm_values.specs.GuidLiteral
+pub use Rattle.edm_values.specs.MomentLiteral
+pub use Rattle.edm_values.specs.MomentParts
 pub use Rattle.edm_values.specs.NumberTypes
 pub use Rattle.edm_values.specs.Val
 pub use Rattle.serde_json.specs.Data as JsonData
@@ -8,6 +16,7 @@ pub use Rattle.serde_json.specs.Find as JsonFind
 pub use Rattle.serde_json.specs.View as JsonView
 pub mod Example
 pub mod Fits
+pub mod FitsPrimitive
 pub mod HasType
 pub mod Row
 pub mod RowFaults

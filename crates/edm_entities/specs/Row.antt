@@ -7,7 +7,7 @@ use Rattle.edm_values.specs.Val.{Val, null, boolean, whole, text, date, moment, 
 use Rattle.edm_values.specs.declared.value.Value.{Value, Record, fold-Value}
 use Rattle.edm_values.specs.declared.value.Value.TheOpen.{Value-F}
 use Rattle.csdl_schema.specs.ExprType.{ExprType, single, collection, SingleType, structured}
-use Rattle.csdl_schema.specs.SchemaModel.{Slots, SchemaModel, PropertyModel, PropertyType, declared, opaque, navigation, slots_of, type_name_at, properties_at, IsInNameOrder}
+use Rattle.csdl_schema.specs.SchemaModel.{Slots, SchemaModel, PropertyModel, PropertyType, declared, opaque, navigation, slots_of, type_name_at, properties_at, HasDistinctNames}
 use Rattle.edm_entities.specs.Fits.{Fits}
 
 -- what a value stands for once its type is known: a record's names are those of its type's properties
@@ -27,17 +27,19 @@ field_by_name slots (p ∷ ps) [] name = absent
 field_by_name slots (p ∷ ps) (seen ∷ more) name =
     if pointwise nat_eq p.name name then field_of slots p.type_of seen else field_by_name slots ps more name
 
+-- at a type without properties, a record of nothing
 abbrev pub record_of : Slots → ExprType → List ValAtType → Val
-record_of slots (single (structured name)) held = fields (field_by_name slots (slots name) held)
-record_of slots type held = null
+record_of slots (single (structured name)) held = fields (field_by_name slots (slots.properties name) held)
+record_of slots type held = fields (λ name. absent)
 
 abbrev pub items_of : Slots → SingleType → List ValAtType → Vals
 items_of slots type [] = no_items
 items_of slots type (seen ∷ more) = item (seen slots (single type)) (items_of slots type more)
 
+-- at a type without items, a list of nothing
 abbrev pub list_of : Slots → ExprType → List ValAtType → Val
 list_of slots (collection type) held = items (items_of slots type held)
-list_of slots type held = null
+list_of slots type held = items no_items
 
 -- one level, with each value inside already seen
 abbrev pub val_step : Value-F ValAtType → ValAtType
@@ -78,5 +80,5 @@ pub record HoldsSlots (row : Row) : Type 0 where
 -- what is true of every entity
 pub record IsEntity (row : Row) : Type 0 where
   pub holds_slots : HoldsSlots row
-  pub in_order : IsInNameOrder (properties_at row.schema row.type_id)
+  pub distinct : HasDistinctNames (properties_at row.schema row.type_id)
   pub conforms : Conforms row

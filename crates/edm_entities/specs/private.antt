@@ -1,3 +1,4 @@
 -- Definitions that private clauses alone cite.
+pub mod Faults
+pub mod Scalars
 pub mod Walk
-pub mod Members

@@ -1,8 +1,9 @@
-ghost use Rattle.std.specs.Prelude.{◌≡◌, ◌<◌, length, IfOk, IfErr};
+ghost use Rattle.std.specs.Prelude.{◌≡◌, IfOk, IfErr};
 ghost use Rattle.serde_json.specs.View.{view};
 
 use super::fault::RowFault;
-use super::slots::read_slots;
+use super::flaw::row_fault;
+use super::walk::read_slots;
 use csdl_schema::{Schema, TypeId};
 use edm_values::Value;
 use std::alloc::Global;
@@ -31,21 +32,21 @@ impl<'s> Model for Entity<'s> {
 }
 
 impl<'s> Entity<'s> {
-    ghost use Rattle.csdl_schema.specs.SchemaModel.{slots_of, type_name_at};
+    ghost use Rattle.csdl_schema.specs.SchemaModel.{HoldsType, slots_of, type_name_at};
     ghost use Rattle.edm_values.specs.Val.{Val};
     ghost use Rattle.edm_entities.specs.Fits.{Fits};
     ghost use Rattle.edm_entities.specs.Row.{value_of, IsEntity};
     ghost use Rattle.edm_entities.specs.RowFaults.{IsRowFault, IsMemory};
 
-    /// Reads a JSON object as an entity of that type. Members that the type does not declare say
-    /// nothing; the first fault in the order of the slots is answered.
+    /// Reads a JSON object as an entity of that type. Members that the type does not declare say nothing, nor do those
+    /// of opaque and navigation properties; the first fault in the order of the slots is answered, depth first.
     pub fn from_json(
         alloc: Global,
         schema: &'s Schema,
         type_id: TypeId,
         row: &serde_json::Value,
     ) -> Result<Entity<'s>, RowFault>
-        requires { type_id < length schema.now.types }
+        requires { HoldsType schema.now type_id }
         ensures of_type { IfOk result (λ e. (e.schema ≡ schema.now) × (e.type_id ≡ type_id)) }
         ensures fits { IfOk result (λ e.
             Fits (slots_of schema.now) (type_name_at schema.now type_id) (view row.now) (value_of e)) }
@@ -54,16 +55,13 @@ impl<'s> Entity<'s> {
         ensures first_fault { IfErr result (λ fault. ¬ (IsMemory fault)
             → IsRowFault (slots_of schema.now) (type_name_at schema.now type_id) (view row.now) fault) }
     {
-        let Some(object) = row.as_object() else {
-            return Err(RowFault::NotObject);
-        };
-        match read_slots(alloc, schema, type_id, object) {
+        match read_slots(alloc, schema, type_id, row) {
             Ok(values) => Ok(Entity {
                 schema,
                 type_id,
                 value: Value::Record(values),
             }),
-            Err(fault) => Err(fault),
+            Err(fault) => Err(row_fault(fault)),
         }
     }
 

@@ -6,17 +6,21 @@ ghost use Rattle.csdl_schema.specs.ExprType.{ExprType, single, structured};
 ghost use Rattle.csdl_schema.specs.SchemaModel.{Slots, PropertyModel, properties_at, declared};
 ghost use Rattle.edm_entities.specs.Example.{item_properties, item_row, inactive_row, item_field};
 ghost use Rattle.edm_entities.specs.Fits.{Fits};
+ghost use Rattle.edm_entities.specs.FitsPrimitive.{Flaw};
 ghost use Rattle.edm_entities.specs.HasType.{HasType};
 ghost use Rattle.edm_entities.specs.Row.{Row, IsEntity};
 ghost use Rattle.edm_entities.specs.SlotValue.{IsSlotValue};
-ghost use Rattle.edm_entities.specs.RowFaults.{Flaw, Path, IsFirstFault, IsRowFault};
+ghost use Rattle.edm_entities.specs.RowFaults.{Path, IsFirstFault, IsRowFault};
 ghost use Rattle.edm_entities.specs.declared.fault.RowFault.{RowFault};
 
 /// A JSON tree stands for one value at most.
 pub fn one_value_fits()
     ensures { (slots : Slots) (type_name : List ℕ) (json : Data) (v w : Val)
         → Fits slots type_name json v → Fits slots type_name json w → v ≡ w }
-{}
+{
+    edm_values::texts_have_one_value();
+    edm_enumerations::texts_have_one_value();
+}
 
 /// A value that fits has its type.
 pub fn what_fits_has_its_type()
@@ -40,16 +44,16 @@ pub fn a_slot_holds_its_property()
 
 /// An object has one first fault at most.
 pub fn one_fault_is_first()
-    ensures { (properties : List PropertyModel) (json : Data) (path path' : Path) (flaw flaw' : Flaw)
-        → IsFirstFault properties json path flaw → IsFirstFault properties json path' flaw'
+    ensures { (slots : Slots) (type_name : List ℕ) (json : Data) (path path' : Path) (flaw flaw' : Flaw)
+        → IsFirstFault slots type_name json path flaw → IsFirstFault slots type_name json path' flaw'
         → (path ≡ path') × (flaw ≡ flaw') }
 {}
 
 /// `{"Active":true,"ID":1,"Name":"a"}` stands for its three values; without `Active` it stands for
 /// none.
 pub fn example_rows()
-    ensures fits { (slots : Slots) (type_name : List ℕ) → slots type_name ≡ item_properties
+    ensures fits { (slots : Slots) (type_name : List ℕ) → slots.properties type_name ≡ item_properties
         → Fits slots type_name item_row (fields item_field) }
-    ensures fits_nothing { (slots : Slots) (type_name : List ℕ) → slots type_name ≡ item_properties
+    ensures fits_nothing { (slots : Slots) (type_name : List ℕ) → slots.properties type_name ≡ item_properties
         → (v : Val) → ¬ (Fits slots type_name inactive_row v) }
 {}

@@ -5,9 +5,10 @@ mod entity;
 mod fault;
 mod flaw;
 mod laws;
-mod members;
-mod primitive;
-mod slots;
+mod leaf;
+mod scalar;
+mod walk;
+mod wanted;
 
 pub use entity::Entity;
 pub use fault::RowFault;

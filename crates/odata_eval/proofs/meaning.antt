@@ -5,4 +5,5 @@ pub mod OneMeaning
 pub mod OneOutcome
 pub mod OneStep
 pub mod Progress
+pub mod PropertiesInFilter
 pub mod Truths

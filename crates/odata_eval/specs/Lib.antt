@@ -13,6 +13,7 @@ pub use Rattle.odata_typing.specs.Levels
 pub use Rattle.odata_typing.specs.LiteralValue
 pub use Rattle.odata_typing.specs.NameKinds
 pub use Rattle.odata_typing.specs.Stands
+pub use Rattle.odata_typing.specs.TypeInFilter
 pub use Rattle.odata_typing.specs.Typed
 pub mod AndGives
 pub mod ComesTo

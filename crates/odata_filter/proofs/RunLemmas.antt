@@ -1,1 +1,2 @@
+pub mod EntityTypes
 pub mod RunEndings

@@ -17,10 +17,11 @@ pub use Rattle.serde_json.specs.Find as JsonFind
 pub use Rattle.serde_json.specs.Read as JsonRead
 pub use Rattle.serde_json.specs.View as JsonView
 pub use Rattle.csdl_schema.specs.Document
-pub use Rattle.csdl_schema.specs.Faults
+pub use Rattle.csdl_declarations.specs.Fault
 pub use Rattle.csdl_schema.specs.JsonText
 pub use Rattle.csdl_schema.specs.SchemaModel
 pub use Rattle.edm_entities.specs.Fits
+pub use Rattle.edm_entities.specs.FitsPrimitive
 pub use Rattle.edm_entities.specs.RowFaults
 pub use Rattle.odata_eval.specs.Means
 pub use Rattle.odata_eval.specs.Outcome

@@ -1,7 +1,7 @@
 -- What can be said of a row once only.
 use Rattle.std.specs.Prelude.{◌≡◌, ℕ, List, Option, Some, None, string_bytes}
 use Rattle.line_filter.specs.declared.judge.Judgment.{Judgment}
-use Rattle.edm_entities.specs.RowFaults.{Flaw, missing, wrong_kind, null_not_allowed, out_of_range, bad_text}
+use Rattle.edm_entities.specs.FitsPrimitive.{Flaw, missing, wrong_kind, null_not_allowed, out_of_range, bad_text}
 use Rattle.edm_entities.specs.declared.fault.RowFault.{RowFault}
 use Rattle.odata_filter.specs.declared.bad_row.BadRow.{BadRow}
 use Rattle.odata_filter.specs.declared.run_fault.RunFault.{RunFault}

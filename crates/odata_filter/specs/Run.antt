@@ -13,7 +13,7 @@ use Rattle.line_filter.specs.declared.tally.Tally.{Tally}
 use Rattle.odata_filter.specs.RowJudgment.{rows_of}
 use Rattle.odata_filter.specs.declared.bad_row.BadRow.{BadRow}
 use Rattle.csdl_schema.specs.Document.{StandsFor, IsFirstDocumentFault}
-use Rattle.csdl_schema.specs.Faults.{Fault}
+use Rattle.csdl_declarations.specs.Fault.{Fault}
 use Rattle.csdl_schema.specs.SchemaModel.{SchemaModel, IsEntityAt, index_named, slots_of, type_name_at}
 use Rattle.odata_filter.specs.declared.command.command_line.Plan.{Plan}
 use Rattle.odata_filter.specs.declared.command.command_line.Verb.{Verb}

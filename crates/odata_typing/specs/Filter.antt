@@ -1,9 +1,9 @@
 -- A checked filter.
-use Rattle.std.specs.Prelude.{◌≡◌, ℕ, ◌<◌, ◌≤◌, [], Some, length, slice_get}
+use Rattle.std.specs.Prelude.{◌≡◌, ℕ, ◌≤◌, [], Some, length, slice_get}
 use Rattle.odata_text.specs.Tokens.{token_limit}
 use Rattle.odata_syntax.specs.Tree.{Tree}
 use Rattle.csdl_schema.specs.ExprType.{ExprType}
-use Rattle.csdl_schema.specs.SchemaModel.{SchemaModel, slots_of, type_name_at}
+use Rattle.csdl_schema.specs.SchemaModel.{SchemaModel, HoldsType, slots_of, type_name_at}
 use Rattle.odata_typing.specs.Considered.{IsConsidered}
 use Rattle.odata_typing.specs.ExprTypes.{IsBooleanOrNull}
 use Rattle.odata_typing.specs.FlatTree.{FlatTree, tree_of_nodes}
@@ -24,7 +24,7 @@ tree_of_filter filter = tree_of_nodes filter.list
 -- the schema has the type; the whole list stands for its tree, which has type Boolean or Null; a tree has no more nodes
 -- than tokens
 pub record IsFilter (filter : Filter) : Type 0 where
-  pub held : filter.filtered < length filter.schema.types
+  pub held : HoldsType filter.schema filter.filtered
   pub stands :
       Stands filter.schema filter.filtered [] filter.list 0 (length filter.list.nodes) (tree_of_nodes filter.list)
   pub type_of : ExprType

@@ -8,6 +8,7 @@ use Rattle.odata_typing.specs.declared.refusal.TypeFault.{TypeFault}
 use Rattle.odata_typing.specs.declared.refusal.TypeFaultCode.{TypeFaultCode}
 use Rattle.odata_typing.specs.Considered.{IsConsidered, ChildrenTyped}
 use Rattle.odata_typing.specs.ExprTypes.{IsBooleanOrNull}
+use Rattle.odata_typing.specs.TypeInFilter.{type_in_filter}
 use Rattle.odata_typing.specs.Typed.{Scope, Typed, IsUntyped, property_named}
 
 -- why a property has no type
@@ -21,7 +22,7 @@ abbrev pub NameReason : List PropertyModel → List ℕ → TypeFaultCode → Ty
 NameReason properties asked code =
     MatchOption (property_named properties asked)
     (code ≡ TypeFaultCode.UnknownProperty)
-    (λ p. PropertyReason p.type_of code)
+    (λ p. PropertyReason (type_in_filter p) code)
 
 -- why a literal has no type: it has no value, or its kind is not typed yet
 abbrev pub LiteralReason : LiteralKind → TypeFaultCode → Type 0
@@ -33,7 +34,7 @@ LiteralReason _ code = code ≡ TypeFaultCode.OperandTypes
 -- why a node has no type though its considered children have; no function is known yet
 abbrev pub IsReason : Slots → List ℕ → Tree → TypeFaultCode → Type 0
 IsReason slots root (node start stop (literal kind spelling)) code = LiteralReason kind code
-IsReason slots root (node start stop (name asked)) code = NameReason (slots root) asked code
+IsReason slots root (node start stop (name asked)) code = NameReason (slots.properties root) asked code
 IsReason slots root (node start stop (call asked arguments)) code = code ≡ TypeFaultCode.UnknownFunction
 IsReason slots root (node start stop shape) code = code ≡ TypeFaultCode.OperandTypes
 

@@ -1,5 +1,5 @@
 -- What follows from the definitions of typing alone, and examples that show that they mean something.
-use Rattle.std.specs.Prelude.{◌≡◌, ℕ, pos, List, [], ◌∷◌, false, codes}
+use Rattle.std.specs.Prelude.{◌≡◌, ℕ, pos, List, [], ◌∷◌, None, false, codes}
 use Rattle.edm_values.specs.declared.primitive.PrimitiveType.{PrimitiveType}
 use Rattle.edm_values.specs.declared.value.Value.{Value}
 use Rattle.odata_syntax.specs.FirstRun.{active_and_id, first_run_tree}
@@ -38,13 +38,17 @@ abbrev pub plain_property : List ℕ → PrimitiveType → PropertyModel
 plain_property asked p =
     record { name = asked; type_of = declared (single (primitive p)); many = false; nullable = false }
 
--- every type has the three properties of an item
-abbrev pub item_slots : Slots
-item_slots _ =
+-- the three properties of an item
+abbrev pub item_properties : List PropertyModel
+item_properties =
     plain_property (codes "Active") PrimitiveType.Bool
     ∷ plain_property (codes "ID") PrimitiveType.Int32
     ∷ plain_property (codes "Name") PrimitiveType.String
     ∷ []
+
+-- every type has them
+abbrev pub item_slots : Slots
+item_slots = record { properties = λ _. item_properties; enumerations = λ _. None }
 
 -- `ID eq 'a'`
 abbrev pub mixed_filter : Tree

@@ -15,6 +15,7 @@ pub use Rattle.odata_syntax.specs.Tree
 pub use Rattle.odata_syntax.specs.TreeView
 pub mod ExprTypes
 pub mod LiteralValue
+pub mod TypeInFilter
 pub mod Typed
 pub mod Considered
 pub mod FirstUntypable

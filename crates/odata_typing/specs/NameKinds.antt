@@ -9,7 +9,7 @@ use Rattle.odata_typing.specs.ScopedNodes.{scoped_nodes}
 -- the node is a name that no variable in scope has, and the property of that name stands in the slot
 abbrev pub NamesSlot : Slots → List ℕ → List (List ℕ) → Tree → ℕ → Type 0
 NamesSlot slots root variables (node start stop (name asked)) slot =
-    (level_named variables asked ≡ None) × (slot_named (slots root) asked ≡ Some slot)
+    (level_named variables asked ≡ None) × (slot_named (slots.properties root) asked ≡ Some slot)
 NamesSlot slots root variables (node start stop shape) slot = ⊥
 
 -- the level of the variable that the node names

@@ -5,7 +5,7 @@ use Rattle.edm_values.specs.Val.{Val}
 use Rattle.edm_values.specs.declared.value.Value.{Value}
 use Rattle.odata_syntax.specs.Tree.{Tree, node, Shape, literal, name, binary}
 use Rattle.odata_syntax.specs.declared.node.LiteralKind.{LiteralKind}
-use Rattle.csdl_schema.specs.SchemaModel.{PropertyModel, SchemaModel, slots_of, type_name_at, slot_named}
+use Rattle.csdl_schema.specs.SchemaModel.{PropertyModel, SchemaModel, properties_at, slots_of, type_name_at, slot_named}
 use Rattle.odata_typing.specs.declared.checked_node.CheckedNode.{CheckedNode}
 use Rattle.odata_typing.specs.declared.checked_node.NodeKind.{NodeKind}
 use Rattle.odata_typing.specs.FlatTree.{FlatTree}
@@ -56,7 +56,7 @@ pub record IsTop
   pub found : CheckedNode
   pub stands_at : slice_get list.nodes i ≡ Some found
   pub text_at : slice_get list.texts i ≡ Some (text_of_shape shape)
-  pub kind : IsKindOf list.values (slots_of schema (type_name_at schema n)) (names_of scope) shape found.kind
+  pub kind : IsKindOf list.values (properties_at schema n) (names_of scope) shape found.kind
   pub starts : found.span.start ≡ start
   pub stops : found.span.stop ≡ stop
   pub last : found.stop ≡ j

@@ -1,15 +1,14 @@
 -- The types of the code, by name.
-use Rattle.std.specs.Prelude.{[]}
 use Rattle.csdl_schema.specs.ExprType.{SingleType, primitive, enumeration, structured}
 use Rattle.csdl_schema.specs.ExprType.{ExprType, null_type, single, collection}
 use Rattle.csdl_schema.specs.SchemaModel.{SchemaModel, type_name_at}
 use Rattle.odata_typing.specs.declared.edm_type.EdmType.{EdmType}
 use Rattle.odata_typing.specs.declared.edm_type.ValueType.{ValueType}
 
--- no enumeration is read yet, so none has a name
+-- of one value: enumerations and structured types by their qualified names
 abbrev pub single_type : SchemaModel → ValueType → SingleType
 single_type schema (ValueType.Prim p) = primitive p
-single_type schema (ValueType.Enum id) = enumeration []
+single_type schema (ValueType.Enum id) = enumeration (type_name_at schema id)
 single_type schema (ValueType.Structured id) = structured (type_name_at schema id)
 
 abbrev pub expr_type : SchemaModel → EdmType → ExprType

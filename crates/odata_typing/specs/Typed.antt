@@ -8,6 +8,7 @@ use Rattle.csdl_schema.specs.ExprType.{ExprType}
 use Rattle.csdl_schema.specs.SchemaModel.{PropertyModel, Slots, declared}
 use Rattle.odata_typing.specs.ExprTypes.{boolean_type, IsBooleanOrNull, AreComparable}
 use Rattle.odata_typing.specs.LiteralValue.{LiteralTyped}
+use Rattle.odata_typing.specs.TypeInFilter.{type_in_filter}
 
 -- the range variables that may be named, each with its type, the innermost first
 abbrev pub Scope : Type 0
@@ -21,14 +22,14 @@ variable_type scope asked = option_map (λ bound. bound.1) (find (λ bound. poin
 abbrev pub property_named : List PropertyModel → List ℕ → Option PropertyModel
 property_named properties asked = find (λ p. pointwise nat_eq asked p.name) properties
 
--- a property of that name has the type; an opaque one and a navigation property have none
+-- a property of that name has the type; one that filters leave out has none
 abbrev pub PropertyTyped : List PropertyModel → List ℕ → ExprType → Type 0
-PropertyTyped properties asked type = IsSomeAnd (property_named properties asked) (λ p. p.type_of ≡ declared type)
+PropertyTyped properties asked type = IsSomeAnd (property_named properties asked) (λ p. type_in_filter p ≡ declared type)
 
 -- a name is a variable in scope, or else a property of the filtered type
 abbrev pub NameTyped : Slots → List ℕ → Scope → List ℕ → ExprType → Type 0
 NameTyped slots root scope asked type =
-    MatchOption (variable_type scope asked) (PropertyTyped (slots root) asked type) (λ t. type ≡ t)
+    MatchOption (variable_type scope asked) (PropertyTyped (slots.properties root) asked type) (λ t. type ≡ t)
 
 -- the operator takes operands of the first two types and gives a value of the third; `and` and `eq` alone are typed yet
 abbrev pub OperatorTyped : BinaryOperator → ExprType → ExprType → ExprType → Type 0

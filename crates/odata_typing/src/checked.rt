@@ -3,6 +3,7 @@ ghost use Rattle.std.specs.Prelude.{IsTrue, IsSome, IfSome, IfNone, IfOk, IfErr}
 ghost use Rattle.std.specs.Option.{option_map};
 ghost use Rattle.odata_text.specs.Tokens.{token_limit};
 ghost use Rattle.odata_syntax.specs.CanonicalText.{IsCanonicalText};
+ghost use Rattle.csdl_schema.specs.SchemaModel.{HoldsType};
 ghost use Rattle.odata_typing.specs.Calls.{TakesMemory, UsesNow};
 ghost use Rattle.odata_typing.specs.ExprTypes.{IsBooleanOrNull};
 ghost use Rattle.odata_typing.specs.Filter.{IsFilter, IsTypeAt, tree_of_filter};
@@ -62,7 +63,7 @@ impl<'s> Checked<'s> {
         edm_type: EdmType,
         len: usize,
     ) -> Result<Checked<'s>, TypeFault>
-        requires held { filtered_type < length schema.now.types }
+        requires held { HoldsType schema.now filtered_type }
         requires whole { IsWhole schema.now filtered_type list edm_type }
         requires printed { IsCanonicalText (tree_of_nodes list) (string_bytes canonical) }
         requires few { length (pre_order (tree_of_nodes list)) ≤ token_limit }
@@ -102,7 +103,7 @@ impl<'s> Checked<'s> {
     /// The type of the entities that it filters.
     pub fn filtered_type(&self) -> TypeId
         ensures same { result ≡ self.now.filtered }
-        ensures held { result < length self.now.schema.types }
+        ensures held { HoldsType self.now.schema result }
     {
         self.filtered_type
     }

@@ -1,7 +1,7 @@
 ghost use Rattle.std.specs.Prelude.{◌≡◌, ◌<◌, ℕ, List, [], length, IfOk, IfErr};
 ghost use Rattle.odata_syntax.specs.Tree.{Tree};
 ghost use Rattle.odata_syntax.specs.TreeView.{tree_of};
-ghost use Rattle.csdl_schema.specs.SchemaModel.{Slots, slots_of, type_name_at};
+ghost use Rattle.csdl_schema.specs.SchemaModel.{Slots, HoldsType, slots_of, type_name_at};
 ghost use Rattle.odata_typing.specs.private.Answer.{HasNoTree, IsTextRefusal, IsSyntaxRefusal};
 ghost use Rattle.odata_typing.specs.Filter.{tree_of_filter};
 ghost use Rattle.odata_typing.specs.HasTyping.{HasTree, HasTyping, HasNoTyping, IsRefusal, UnlessMemory};
@@ -26,7 +26,7 @@ pub fn check<'s>(
     filtered_type: TypeId,
     text: &str,
 ) -> Result<Checked<'s>, Refusal>
-    requires { filtered_type < length schema.now.types }
+    requires { HoldsType schema.now filtered_type }
     ensures typing { IfOk result (λ c. HasTyping (slots_of c.schema) (type_name_at c.schema c.filtered)
         text.now (tree_of_filter c)) }
     ensures schema { IfOk result (λ c. c.schema ≡ schema.entry.now) }

@@ -4,6 +4,7 @@ ghost use Rattle.csdl_schema.specs.PropertyView.{property_type};
 ghost use Rattle.csdl_schema.specs.SchemaModel.{SchemaModel, declared, properties_at, slot_named};
 ghost use Rattle.odata_typing.specs.private.Answer.{IsAnswer};
 ghost use Rattle.odata_typing.specs.FirstUntypable.{PropertyReason};
+ghost use Rattle.odata_typing.specs.TypeInFilter.{kind_in_filter, primitive_in_filter};
 ghost use Rattle.odata_typing.specs.TypeView.{expr_type};
 ghost use Rattle.odata_typing.specs.Typed.{PropertyTyped};
 
@@ -13,6 +14,7 @@ use super::node_list::NodeList;
 use super::refusal::{TypeFault, TypeFaultCode};
 use super::untyped::Untyped;
 use csdl_schema::{Property, PropertyKind, Schema, TypeId};
+use edm_values::Prim;
 use odata_text::Span;
 use std::alloc::Global;
 
@@ -69,19 +71,42 @@ fn push_property(
     }
 }
 
-/// The type of a property, or why a filter may not name it.
+/// The type of a property, or why a filter may not name it: single ones alone that are never null have a type so far.
 fn property_edm_type(property: &Property) -> Result<EdmType, TypeFaultCode>
     ensures declared { IfOk result (λ t. (schema : SchemaModel) →
-        property_type schema property.now ≡ declared (expr_type schema t)) }
+        kind_in_filter (property_type schema property.now) property.now.nullable ≡ declared (expr_type schema t)) }
     ensures reason { IfErr result (λ code. (schema : SchemaModel) →
-        PropertyReason (property_type schema property.now) code) }
+        PropertyReason (kind_in_filter (property_type schema property.now) property.now.nullable) code) }
 {
     match property.kind {
-        PropertyKind::Prim(prim) if property.many => Ok(EdmType::Collection(ValueType::Prim(prim))),
-        PropertyKind::Prim(prim) => Ok(EdmType::Single(ValueType::Prim(prim))),
-        PropertyKind::Enum(_) | PropertyKind::Complex(_) | PropertyKind::Opaque => Err(
-            TypeFaultCode::TypeLeftOut,
-        ),
-        PropertyKind::Navigation => Err(TypeFaultCode::Navigation),
+        PropertyKind::Prim(prim) => {
+            if property.many || property.nullable {
+                Err(TypeFaultCode::TypeLeftOut)
+            } else {
+                primitive_edm_type(prim)
+            }
+        }
+        PropertyKind::Enum(_)
+        | PropertyKind::Complex(_)
+        | PropertyKind::Opaque
+        | PropertyKind::Navigation => Err(TypeFaultCode::TypeLeftOut),
+    }
+}
+
+/// The type of a single property that is never null: Boolean, Int32 and String are those that a filter may name so far.
+fn primitive_edm_type(prim: Prim) -> Result<EdmType, TypeFaultCode>
+    ensures declared { IfOk result (λ t. (schema : SchemaModel) →
+        primitive_in_filter prim ≡ declared (expr_type schema t)) }
+    ensures reason { IfErr result (PropertyReason (primitive_in_filter prim)) }
+{
+    match prim {
+        Prim::Bool | Prim::Int32 | Prim::String => Ok(EdmType::Single(ValueType::Prim(prim))),
+        Prim::Byte
+        | Prim::SByte
+        | Prim::Int16
+        | Prim::Int64
+        | Prim::Date
+        | Prim::DateTimeOffset
+        | Prim::Guid => Err(TypeFaultCode::TypeLeftOut),
     }
 }

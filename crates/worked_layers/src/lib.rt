@@ -4,8 +4,6 @@
 #[cfg(test)]
 mod canonical_filters;
 #[cfg(test)]
-mod documents;
-#[cfg(test)]
 mod happy_paths;
 #[cfg(test)]
 mod mini;

@@ -31,11 +31,40 @@ fn untypable_filters(rt: HostRuntime) -> Result<(), Fail> {
         ("Maker eq 1", TypeFaultCode::TypeLeftOut, 0, 5),
         ("1 eq 1 eq 1", TypeFaultCode::OperandTypes, 0, 11),
     ] {
+        assert!(rt; schema.holds(item));
         let refusal = check(rt.alloc(), &schema, item, text).err();
         let span = Span { start, stop };
         let wanted = Refusal::Typing(TypeFault { code, span });
         assert!(rt; refusal == Some(wanted), "at {text}");
     }
+    Ok(())
+}
+
+/// A type with a property of each kind that filters do not name yet, and two that they do.
+const KINDS: &str =
+    "{\"$Version\":\"4.01\",\"Mini\":{\"Color\":{\"$Kind\":\"EnumType\",\"Red\":1},\"Home\":{\"$Kind\":\"ComplexType\",\"City\":{}},\"Base\":{\"$Kind\":\"EntityType\",\"ID\":{\"$Type\":\"Edm.Int32\"},\"On\":{\"$Type\":\"Edm.Boolean\"}},\"Item\":{\"$Kind\":\"EntityType\",\"$BaseType\":\"Mini.Base\",\"Maybe\":{\"$Type\":\"Edm.Boolean\",\"$Nullable\":true},\"Many\":{\"$Collection\":true},\"Small\":{\"$Type\":\"Edm.Int16\"},\"Large\":{\"$Type\":\"Edm.Int64\"},\"Day\":{\"$Type\":\"Edm.Date\"},\"At\":{\"$Type\":\"Edm.DateTimeOffset\"},\"Code\":{\"$Type\":\"Edm.Guid\"},\"Color\":{\"$Type\":\"Mini.Color\"},\"Home\":{\"$Type\":\"Mini.Home\"},\"Homes\":{\"$Type\":\"Mini.Home\",\"$Collection\":true},\"Price\":{\"$Type\":\"Edm.Decimal\"},\"Maker\":{\"$Kind\":\"NavigationProperty\",\"$Type\":\"Mini.Item\"}}}}";
+
+/// Properties of other types than Boolean, Int32 and String are left out, and so are nullable ones and collections.
+#[test]
+fn properties_left_out(rt: HostRuntime) -> Result<(), Fail> {
+    let schema = Schema::read(rt.alloc(), KINDS.as_bytes())?;
+    let item = schema.type_named("Mini.Item").ok_or("the type")?;
+    for name in [
+        "Maybe", "Many", "Small", "Large", "Day", "At", "Code", "Color", "Home", "Homes", "Price",
+        "Maker",
+    ] {
+        let refusal = check(rt.alloc(), &schema, item, name).err();
+        let span = Span {
+            start: 0,
+            stop: name.len(),
+        };
+        let code = TypeFaultCode::TypeLeftOut;
+        let wanted = Refusal::Typing(TypeFault { code, span });
+        assert!(rt; refusal == Some(wanted), "at {name}");
+    }
+    assert!(rt; schema.holds(item));
+    let checked = check(rt.alloc(), &schema, item, "On and ID eq 1")?;
+    assert!(rt; checked.slot_of(1) == Some(1) && checked.slot_of(3) == Some(0));
     Ok(())
 }
 
@@ -88,6 +117,7 @@ fn forms_without_types(rt: HostRuntime) -> Result<(), Fail> {
         ("(Foo) eq (Bar)", property, 0, 5),
         ("(Name)", TypeFaultCode::NotBoolean, 0, 6),
     ] {
+        assert!(rt; schema.holds(item));
         let refusal = check(rt.alloc(), &schema, item, text).err();
         let span = Span { start, stop };
         let wanted = Refusal::Typing(TypeFault { code, span });

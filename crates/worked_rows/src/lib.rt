@@ -12,6 +12,8 @@ mod line_readers;
 #[cfg(test)]
 mod pieces;
 #[cfg(test)]
+mod products;
+#[cfg(test)]
 mod queries;
 #[cfg(test)]
 mod readers;

@@ -1,6 +1,7 @@
 //! Calls of which one allocation is refused; `bench/refused` says which. Each answers its memory fault, or the same as with
 //! ample memory, and prints which of the two. What a call stands on is asked for a second time where it was refused.
-ghost use Rattle.std.specs.Prelude.{◌≡◌, ◌<◌, length, IfOk};
+ghost use Rattle.std.specs.Prelude.{◌≡◌, IfOk};
+ghost use Rattle.csdl_schema.specs.SchemaModel.{HoldsType};
 
 use csdl_schema::{Schema, SchemaFault, TypeId};
 use edm_entities::{Entity, RowFault};
@@ -46,7 +47,7 @@ fn schema_of(alloc: Global) -> Result<Schema, SchemaFault> {
 }
 
 fn filter_of<'s>(alloc: Global, schema: &'s Schema, id: TypeId) -> Result<Checked<'s>, Refusal>
-    requires { id < length schema.now.types }
+    requires { HoldsType schema.now id }
     ensures schema { IfOk result (λ c. c.schema ≡ schema.entry.now) }
     ensures filtered { IfOk result (λ c. c.filtered ≡ id) }
 {
@@ -69,7 +70,7 @@ fn entity_of<'s>(
     id: TypeId,
     row: &serde_json::Value,
 ) -> Result<Entity<'s>, RowFault>
-    requires { id < length schema.now.types }
+    requires { HoldsType schema.now id }
     ensures schema { IfOk result (λ e. e.schema ≡ schema.entry.now) }
     ensures type_id { IfOk result (λ e. e.type_id ≡ id) }
 {

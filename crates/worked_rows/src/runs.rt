@@ -190,6 +190,18 @@ fn schemas_types_and_files(rt: HostRuntime) {
             "schema UnknownBase N.A\n",
         ),
         (
+            "{\"$Version\":\"4.01\",\"N\":{\"A\":{\"$Kind\":\"EntityType\",\"$BaseType\":\"N.A\"}}}",
+            "schema BaseCycle N.A\n",
+        ),
+        (
+            "{\"$Version\":\"4.01\",\"N\":{\"A\":{\"$Kind\":\"EntityType\",\"P\":{}},\"B\":{\"$Kind\":\"EntityType\",\"$BaseType\":\"N.A\",\"P\":{}}}}",
+            "schema PropertyTwice N.B P\n",
+        ),
+        (
+            "{\"$Version\":\"4.01\",\"N\":{\"E\":{\"$Kind\":\"EnumType\",\"$UnderlyingType\":\"Edm.Byte\",\"X\":256}}}",
+            "schema BadEnumMember N.E X\n",
+        ),
+        (
             "{\"$Version\":\"4.01\",\"N\":{\"$Alias\":\"N\"}}",
             "schema BadType N\n",
         ),

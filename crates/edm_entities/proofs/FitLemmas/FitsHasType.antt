@@ -1,15 +1,16 @@
 -- A value that fits has its type.
-use Rattle.std.proofs.Common.{ℕ, List, [], ◌∷◌, Option, Some, None, sym, subst}
+use Rattle.std.proofs.Common.{ℕ, List, [], ◌∷◌, Bool, false, Option, Some, None, sym, subst}
 use Rattle.std.specs.List.{AllByRecursion}
-use Rattle.serde_json.specs.Data.{Data}
+use Rattle.serde_json.specs.Data.{Data, null as json_null, boolean as json_boolean, number, string, array, object, Items, no_items as no_json, item as json_item}
 use Rattle.serde_json.specs.Find.{get}
-use Rattle.edm_values.specs.Val.{Val, fields, FieldVal, absent, present}
+use Rattle.edm_values.specs.Val.{Val, fields, items, FieldVal, absent, present, Vals, no_items, item}
 use Rattle.edm_values.specs.declared.primitive.PrimitiveType.{PrimitiveType}
 use Rattle.edm_values.specs.declared.primitive.PrimitiveType.TheVariants.{Bool as EdmBoolean, Byte, SByte, Int16, Int32, Int64, String as EdmString, Date as EdmDate, DateTimeOffset as EdmDateTimeOffset, Guid as EdmGuid}
-use Rattle.csdl_schema.specs.ExprType.{ExprType, null_type, single, collection, primitive, enumeration, structured}
+use Rattle.csdl_schema.specs.ExprType.{ExprType, null_type, single, collection, SingleType, primitive, enumeration, structured}
 use Rattle.csdl_schema.specs.SchemaModel.{Slots, PropertyModel, PropertyType, declared, opaque, navigation}
-use Rattle.edm_entities.specs.Fits.{FitsNumber, FitsPrimitive, FitsType, FitsProperty, Fits}
-use Rattle.edm_entities.specs.HasType.{HasType, HasPropertyType}
+use Rattle.edm_entities.specs.Fits.{FitsFound, FitsType, FitsProperty, FitItems, Fits}
+use Rattle.edm_entities.specs.FitsPrimitive.{FitsNumber, FitsPrimitive, FitsText, IsMemberText}
+use Rattle.edm_entities.specs.HasType.{HasType, HasPropertyType, AllHaveType}
 
 number_has_type : (slots : Slots) (type : PrimitiveType) (json : Data) (v : Val) → FitsNumber type json v → HasType slots (single (primitive type)) v
 number_has_type slots type json v fits = subst (HasType slots (single (primitive type))) (sym fits.3) fits.2
@@ -22,31 +23,54 @@ primitive_has_type slots Int16 json v fits = number_has_type slots Int16 json v 
 primitive_has_type slots Int32 json v fits = number_has_type slots Int32 json v fits
 primitive_has_type slots Int64 json v fits = number_has_type slots Int64 json v fits
 primitive_has_type slots EdmString json v fits = subst (HasType slots (single (primitive EdmString))) (sym fits.2) tt
-primitive_has_type slots EdmDate json v fits = absurd fits
-primitive_has_type slots EdmDateTimeOffset json v fits = absurd fits
-primitive_has_type slots EdmGuid json v fits = absurd fits
+primitive_has_type slots EdmDate json v fits = subst (HasType slots (single (primitive EdmDate))) (sym fits.2.2) tt
+primitive_has_type slots EdmDateTimeOffset json v fits = subst (HasType slots (single (primitive EdmDateTimeOffset))) (sym fits.2.2) tt
+primitive_has_type slots EdmGuid json v fits = subst (HasType slots (single (primitive EdmGuid))) (sym fits.2.2) tt
 
-value_has_type : (slots : Slots) (type : ExprType) (json : Data) (v : Val) → FitsType type json v → HasType slots type v
-value_has_type slots (single (primitive type)) json v fits = primitive_has_type slots type json v fits
-value_has_type slots (single (enumeration name)) json v fits = absurd fits
-value_has_type slots (single (structured name)) json v fits = absurd fits
-value_has_type slots (collection type) json v fits = absurd fits
-value_has_type slots null_type json v fits = absurd fits
+member_has_type : (slots : Slots) (name : List ℕ) (json : Data) (v : Val) → FitsText (IsMemberText (slots.enumerations name)) json v → HasType slots (single (enumeration name)) v
+member_has_type slots name json v fits = subst (HasType slots (single (enumeration name))) (sym fits.2.3) fits.2.2
 
-pub held_has_type : (slots : Slots) (type : PropertyType) (found : Option Data) (held : FieldVal) → FitsProperty type found held → HasPropertyType slots type held
-held_has_type slots (declared type) (Some json) (present v) fits = value_has_type slots type json v fits
-held_has_type slots (declared type) (Some json) absent fits = absurd fits
-held_has_type slots (declared type) None held fits = absurd fits
-held_has_type slots opaque found held fits = tt
-held_has_type slots navigation found held fits = tt
+-- what was found, null or other JSON
+found_has_type : (slots : Slots) (type : ExprType) (found : Option Data) (takes : Bool) (v : Val) (P : Data → Type 0)
+    → ((json : Data) → P json → HasType slots type v) → FitsFound found takes v P → HasType slots type v
+found_has_type slots type None takes v P further fits = subst (HasType slots type) (sym fits.1) tt
+found_has_type slots type (Some json_null) takes v P further fits = subst (HasType slots type) (sym fits.1) tt
+found_has_type slots type (Some (json_boolean b)) takes v P further fits = further (json_boolean b) fits
+found_has_type slots type (Some (number n)) takes v P further fits = further (number n) fits
+found_has_type slots type (Some (string s)) takes v P further fits = further (string s) fits
+found_has_type slots type (Some (array ds)) takes v P further fits = further (array ds) fits
+found_has_type slots type (Some (object ms)) takes v P further fits = further (object ms) fits
 
-each_has_type : (slots : Slots) (properties : List PropertyModel) (json : Data) (f : List ℕ → FieldVal)
-    → AllByRecursion (λ p. FitsProperty p.type_of (get p.name json) (f p.name)) properties
-    → AllByRecursion (λ p. HasPropertyType slots p.type_of (f p.name)) properties
-each_has_type slots [] json f each = tt
-each_has_type slots (p ∷ ps) json f each =
-    (held_has_type slots p.type_of (get p.name json) (f p.name) each.0, each_has_type slots ps json f each.1)
+each_by : (P Q : PropertyModel → Type 0) → ((p : PropertyModel) → P p → Q p) → (ps : List PropertyModel) → AllByRecursion P ps → AllByRecursion Q ps
+each_by P Q by [] each = tt
+each_by P Q by (p ∷ ps) each = (by p each.0, each_by P Q by ps each.1)
+
+mutual
+  value_has_type : (slots : Slots) (nullable : Bool) (type : ExprType) (json : Data) (v : Val) → FitsType slots nullable type json v → HasType slots type v
+  value_has_type slots nullable (single (primitive type)) json v fits = primitive_has_type slots type json v fits
+  value_has_type slots nullable (single (enumeration name)) json v fits = member_has_type slots name json v fits
+  value_has_type slots nullable (single (structured name)) json (fields f) fits =
+      each_by (λ p. FitsProperty slots p.nullable p.type_of (get p.name json) (f p.name)) (λ p. HasPropertyType slots p.type_of (f p.name))
+      (λ p here. held_has_type slots p.nullable p.type_of (get p.name json) (f p.name) here) (slots.properties name) fits.each_fits
+  value_has_type slots nullable (single (structured name)) json _ fits = absurd fits
+  value_has_type slots nullable (collection type) json (items values) fits = items_have_type slots nullable type fits.0 values fits.2
+  value_has_type slots nullable (collection type) json _ fits = absurd fits
+  value_has_type slots nullable null_type json v fits = absurd fits
+
+  pub held_has_type : (slots : Slots) (nullable : Bool) (type : PropertyType) (found : Option Data) (held : FieldVal) → FitsProperty slots nullable type found held → HasPropertyType slots type held
+  held_has_type slots nullable (declared type) found (present v) fits =
+      found_has_type slots type found _ v _ (λ json here. value_has_type slots nullable type json v here) fits
+  held_has_type slots nullable (declared type) found absent fits = absurd fits
+  held_has_type slots nullable opaque found held fits = tt
+  held_has_type slots nullable navigation found held fits = tt
+
+  items_have_type : (slots : Slots) (nullable : Bool) (type : SingleType) (jsons : Items) (values : Vals) → FitItems slots nullable type jsons values → AllHaveType slots type values
+  items_have_type slots nullable type jsons no_items fits = tt
+  items_have_type slots nullable type no_json (item v values) fits = absurd fits
+  items_have_type slots nullable type (json_item json jsons) (item v values) fits = (
+    found_has_type slots (single type) (Some json) nullable v _ (λ found here. value_has_type slots nullable (single type) found v here) fits.0,
+    items_have_type slots nullable type jsons values fits.1,
+  )
 
 pub fits_has_type : (slots : Slots) (type_name : List ℕ) (json : Data) (v : Val) → Fits slots type_name json v → HasType slots (single (structured type_name)) v
-fits_has_type slots type_name json (fields f) fits = each_has_type slots (slots type_name) json f fits.each_fits
-fits_has_type slots type_name json _ fits = absurd fits
+fits_has_type slots type_name json v fits = value_has_type slots false (single (structured type_name)) json v fits

@@ -1,52 +1,63 @@
--- Whole numbers of JSON beside the numbers of a type.
-use Rattle.std.proofs.Common.{◌≡◌, ℕ, pos, ◌≤◌, ◌^◌, Bool, true, false, Some, None, is_some, nat_lt, if◌then◌else◌, refl, arith, ◌⊎◌, Result, IfOk}
-use Rattle.std.specs.Option.{option_and_then}
-use Rattle.std.proofs.lemmas.Int.{ints}
-use Rattle.serde_json.specs.Data.{Data, number, unsigned, negative, float}
-use Rattle.serde_json.specs.Find.{as_number, as_i64, as_u64}
+-- The rows of the primitive types, by classes of types.
+use Rattle.std.proofs.Common.{◌≡◌, ℤ, Some, None, Result, refl, rules, IfOk, IfErr}
+use Rattle.serde_json.specs.Data.{Data}
+use Rattle.edm_values.specs.NumberTypes.{IsNumberType}
+use Rattle.edm_values.specs.Civil.{Date as CivilDate}
+use Rattle.edm_values.specs.MomentParts.{MomentParts}
+use Rattle.edm_values.specs.Val.{date, moment, member}
 use Rattle.edm_values.specs.declared.primitive.PrimitiveType.{PrimitiveType}
 use Rattle.edm_values.specs.declared.primitive.PrimitiveType.TheVariants.{Bool as EdmBoolean, Byte, SByte, Int16, Int32, Int64, String as EdmString, Date as EdmDate, DateTimeOffset as EdmDateTimeOffset, Guid as EdmGuid}
-use Rattle.edm_entities.specs.Fits.{FitsNumber, FitsPrimitive}
-use Rattle.edm_values.specs.NumberTypes.{IsNumberOf}
-use Rattle.edm_values.specs.declared.value.Value.{Value}
+use Rattle.edm_values.specs.declared.value.Value.{Value, Date, Moment, Enum, the_lemmas}
 use Rattle.csdl_schema.specs.ExprType.{ExprType}
 use Rattle.csdl_schema.specs.SchemaModel.{Slots}
+use Rattle.edm_entities.specs.FitsPrimitive.{FitsNumber, FitsPrimitive, IsNumberFlaw, IsPrimitiveFlaw, wrong_kind}
 use Rattle.edm_entities.specs.Row.{val_of}
 use Rattle.edm_entities.specs.declared.flaw.ReadFlaw.{ReadFlaw}
-use Rattle.edm_entities.specs.RowFaults.{IsNumberFlaw, out_of_range}
-
--- no number type goes past Int64
-too_large : (type : PrimitiveType) (n : ℕ) → 2 ^ 63 ≤ n → ¬ (IsNumberOf type (pos n))
-too_large Byte n h is = absurd (omega (arith, ints))
-too_large SByte n h is = absurd (omega (arith, ints))
-too_large Int16 n h is = absurd (omega (arith, ints))
-too_large Int32 n h is = absurd (omega (arith, ints))
-too_large Int64 n h is = absurd (omega (arith, ints))
-too_large _ n h is = is
-
-beyond : (type : PrimitiveType) (n : ℕ) (b : Bool) → b ≡ nat_lt n (2 ^ 63) → (if b then Some (pos n) else None) ≡ None → IsNumberFlaw type (number (unsigned n)) out_of_range
-beyond type n true e none = cc
-beyond type n false e none = (pos n, refl, too_large type n (grind (arith, e)))
-
--- a number that an Int64 does not hold, and that is whole, is outside each number type
-pub past_int64 : (type : PrimitiveType) (json : Data) → option_and_then as_i64 (as_number json) ≡ None
-    → is_some (option_and_then as_u64 (as_number json)) ≡ true → IsNumberFlaw type json out_of_range
-past_int64 type (number (unsigned n)) none some = beyond type n (nat_lt n (2 ^ 63)) refl none
-past_int64 type (number (negative n)) none some = cc
-past_int64 type (number (float x)) none some = cc
-past_int64 type _ none some = cc
+use Rattle.edm_entities.specs.private.Faults.{OnFlaw}
+use Rattle.edm_entities.specs.private.Scalars.{IsScalar}
+use Rattle.edm_entities.specs.declared.scalar.Scalar.TheVariants.{Other}
 
 -- the row of a number type is that of numbers
-pub number_row : (type : PrimitiveType) (slots : Slots) (expr : ExprType) (json : Data) (r : Result Value ReadFlaw)
-    → (type ≡ Byte) ⊎ ((type ≡ SByte) ⊎ ((type ≡ Int16) ⊎ ((type ≡ Int32) ⊎ (type ≡ Int64))))
+pub number_row : (type : PrimitiveType) (slots : Slots) (expr : ExprType) (json : Data) (r : Result Value ReadFlaw) → IsNumberType type
     → IfOk r (λ v. FitsNumber type json (val_of v slots expr)) → IfOk r (λ v. FitsPrimitive type json (val_of v slots expr))
 number_row Byte slots expr json r is fits = fits
 number_row SByte slots expr json r is fits = fits
 number_row Int16 slots expr json r is fits = fits
 number_row Int32 slots expr json r is fits = fits
 number_row Int64 slots expr json r is fits = fits
-number_row EdmBoolean slots expr json r is fits = absurd (grind arith)
-number_row EdmString slots expr json r is fits = absurd (grind arith)
-number_row EdmDate slots expr json r is fits = absurd (grind arith)
-number_row EdmDateTimeOffset slots expr json r is fits = absurd (grind arith)
-number_row EdmGuid slots expr json r is fits = absurd (grind arith)
+number_row _ slots expr json r is fits = absurd is
+
+pub number_flaw : (type : PrimitiveType) (json : Data) (r : Result Value ReadFlaw) → IsNumberType type
+    → IfErr r (λ f. OnFlaw f (IsNumberFlaw type json)) → IfErr r (λ f. OnFlaw f (IsPrimitiveFlaw type json))
+number_flaw Byte json r is flaw = flaw
+number_flaw SByte json r is flaw = flaw
+number_flaw Int16 json r is flaw = flaw
+number_flaw Int32 json r is flaw = flaw
+number_flaw Int64 json r is flaw = flaw
+number_flaw _ json r is flaw = absurd is
+
+-- what is no truth value, number or text is of no primitive type's kind
+pub other_flaw : (type : PrimitiveType) (json : Data) → IsScalar Other json → IsPrimitiveFlaw type json wrong_kind
+other_flaw EdmBoolean json is = is.0
+other_flaw Byte json is = rw is.1 refl
+other_flaw SByte json is = rw is.1 refl
+other_flaw Int16 json is = rw is.1 refl
+other_flaw Int32 json is = rw is.1 refl
+other_flaw Int64 json is = rw is.1 refl
+other_flaw EdmString json is = is.2
+other_flaw EdmDate json is = is.2
+other_flaw EdmDateTimeOffset json is = is.2
+other_flaw EdmGuid json is = is.2
+
+pub val_of-Date : (slots : Slots) (type : ExprType) (d : CivilDate) → val_of (Date d) slots type ≡ date d
+val_of-Date slots type d = search (rules, the_lemmas)
+
+pub val_of-Moment : (slots : Slots) (type : ExprType) (m : MomentParts) → val_of (Moment m) slots type ≡ moment m
+val_of-Moment slots type m = search (rules, the_lemmas)
+
+pub val_of-Enum : (slots : Slots) (type : ExprType) (n : ℤ) → val_of (Enum n) slots type ≡ member n
+val_of-Enum slots type n = search (rules, the_lemmas)
+
+-- nothing is not something
+pub none_some : {X : Type 0} {x : X} → None ≡ Some x → ⊥
+none_some is = cc

@@ -1,16 +1,17 @@
 -- A JSON tree has one first fault at most.
-use Rattle.std.proofs.Common.{◌≡◌, List, [], ◌∷◌, ◌++◌, Option, Some, None, refl, sym, ap, ◌∙◌, subst}
+use Rattle.std.proofs.Common.{◌≡◌, ℕ, ◌<◌, List, [], ◌∷◌, ◌++◌, Bool, false, Option, Some, None, ◌⊎◌, inl, inr, refl, sym, ap, ◌∙◌, subst}
+use Rattle.std.proofs.lemmas.Bool.{cases_order}
 use Rattle.std.specs.List.{AllByRecursion}
-use Rattle.serde_json.specs.Data.{Data, null, boolean, number, string, array, object}
-use Rattle.serde_json.specs.Find.{get}
-use Rattle.edm_values.specs.Val.{FieldVal}
+use Rattle.std.specs.Prelude.{decimal}
+use Rattle.serde_json.specs.Data.{Data, null as json_null, boolean as json_boolean, number, string, array, object, Items}
+use Rattle.serde_json.specs.Find.{get, get_item, as_object, as_array}
 use Rattle.edm_values.specs.declared.primitive.PrimitiveType.{PrimitiveType}
 use Rattle.edm_values.specs.declared.primitive.PrimitiveType.TheVariants.{Bool as EdmBoolean, Byte, SByte, Int16, Int32, Int64, String as EdmString, Date as EdmDate, DateTimeOffset as EdmDateTimeOffset, Guid as EdmGuid}
-use Rattle.csdl_schema.specs.ExprType.{ExprType, null_type, single, collection, primitive, enumeration, structured}
-use Rattle.csdl_schema.specs.SchemaModel.{PropertyModel, PropertyType, declared, opaque, navigation}
-use Rattle.edm_entities.specs.Fits.{FitsProperty}
-use Rattle.edm_entities.specs.RowFaults.{Flaw, wrong_kind, out_of_range, Path, OnWrongKind, IsNumberFlaw, IsPrimitiveFlaw, IsTypeFlaw, IsPropertyFault, IsFirstFault}
-use Rattle.edm_entities.proofs.FitLemmas.RowFaultRefuses.{property_clash}
+use Rattle.csdl_schema.specs.ExprType.{ExprType, null_type, single, collection, SingleType, primitive, enumeration, structured}
+use Rattle.csdl_schema.specs.SchemaModel.{Slots, PropertyModel, PropertyType, declared, opaque, navigation}
+use Rattle.edm_entities.specs.FitsPrimitive.{Flaw, wrong_kind, out_of_range, bad_text, TextMeaning, IsTextOf, IsMemberText, OnWrongKind, IsNumberFlaw, IsTextFlaw, IsPrimitiveFlaw}
+use Rattle.edm_entities.specs.RowFaults.{Path, IsFlawHere, IsFoundFault, HasFitting, HasFittingItem, IsFirstProperty, IsFirstItem, IsTypeFault, IsPropertyFault, IsFirstFault}
+use Rattle.edm_entities.proofs.FitLemmas.RowFaultRefuses.{kind_clash, held_clash, item_clash, type_clash}
 
 kind_alone : (P : Type 0) (flaw : Flaw) → OnWrongKind flaw P → flaw ≡ wrong_kind
 kind_alone P wrong_kind is = refl
@@ -28,6 +29,15 @@ same_number_flaw type json out_of_range out_of_range is_a is_b = refl
 same_number_flaw type json out_of_range _ is_a is_b = absurd is_b
 same_number_flaw type json _ b is_a is_b = absurd is_a
 
+same_text_flaw : (IsText : TextMeaning) (json : Data) (a b : Flaw) → IsTextFlaw IsText json a → IsTextFlaw IsText json b → a ≡ b
+same_text_flaw IsText json wrong_kind wrong_kind is_a is_b = refl
+same_text_flaw IsText json wrong_kind bad_text is_a is_b = cc
+same_text_flaw IsText json wrong_kind _ is_a is_b = absurd is_b
+same_text_flaw IsText json bad_text wrong_kind is_a is_b = cc
+same_text_flaw IsText json bad_text bad_text is_a is_b = refl
+same_text_flaw IsText json bad_text _ is_a is_b = absurd is_b
+same_text_flaw IsText json _ b is_a is_b = absurd is_a
+
 same_primitive_flaw : (type : PrimitiveType) (json : Data) (a b : Flaw) → IsPrimitiveFlaw type json a → IsPrimitiveFlaw type json b → a ≡ b
 same_primitive_flaw EdmBoolean json a b is_a is_b = same_kind _ a b is_a is_b
 same_primitive_flaw Byte json a b is_a is_b = same_number_flaw Byte json a b is_a is_b
@@ -35,66 +45,125 @@ same_primitive_flaw SByte json a b is_a is_b = same_number_flaw SByte json a b i
 same_primitive_flaw Int16 json a b is_a is_b = same_number_flaw Int16 json a b is_a is_b
 same_primitive_flaw Int32 json a b is_a is_b = same_number_flaw Int32 json a b is_a is_b
 same_primitive_flaw Int64 json a b is_a is_b = same_number_flaw Int64 json a b is_a is_b
-same_primitive_flaw EdmString json a b is_a is_b = same_kind _ a b is_a is_b
-same_primitive_flaw EdmDate json a b is_a is_b = same_kind _ a b is_a is_b
-same_primitive_flaw EdmDateTimeOffset json a b is_a is_b = same_kind _ a b is_a is_b
-same_primitive_flaw EdmGuid json a b is_a is_b = same_kind _ a b is_a is_b
+same_primitive_flaw EdmString json a b is_a is_b = same_text_flaw (IsTextOf EdmString) json a b is_a is_b
+same_primitive_flaw EdmDate json a b is_a is_b = same_text_flaw (IsTextOf EdmDate) json a b is_a is_b
+same_primitive_flaw EdmDateTimeOffset json a b is_a is_b = same_text_flaw (IsTextOf EdmDateTimeOffset) json a b is_a is_b
+same_primitive_flaw EdmGuid json a b is_a is_b = same_text_flaw (IsTextOf EdmGuid) json a b is_a is_b
 
-same_flaw : (type : ExprType) (json : Data) (a b : Flaw) → IsTypeFlaw [] type json a → IsTypeFlaw [] type json b → a ≡ b
-same_flaw (single (primitive type)) json a b is_a is_b = same_primitive_flaw type json a b is_a is_b
-same_flaw (single (enumeration name)) json a b is_a is_b = same_kind _ a b is_a is_b
-same_flaw (single (structured name)) json a b is_a is_b = same_kind _ a b is_a is_b
-same_flaw (collection type) json a b is_a is_b = same_kind _ a b is_a is_b
-same_flaw null_type json a b is_a is_b = same_kind _ a b is_a is_b
+same_here : (slots : Slots) (type : ExprType) (json : Data) (a b : Flaw) → IsFlawHere slots type json a → IsFlawHere slots type json b → a ≡ b
+same_here slots (single (primitive type)) json a b is_a is_b = same_primitive_flaw type json a b is_a is_b
+same_here slots (single (enumeration name)) json a b is_a is_b = same_text_flaw (IsMemberText (slots.enumerations name)) json a b is_a is_b
+same_here slots (single (structured name)) json a b is_a is_b = same_kind _ a b is_a is_b
+same_here slots (collection type) json a b is_a is_b = same_kind _ a b is_a is_b
+same_here slots null_type json a b is_a is_b = same_kind _ a b is_a is_b
 
 -- the same way to the same flaw
 pub record IsSame (r s : Path) (a b : Flaw) : Type 0 where
   pub path : r ≡ s
   pub flaw : a ≡ b
 
-same_fault_at : (r s : Path) (type : ExprType) (json : Data) (a b : Flaw) → IsTypeFlaw r type json a → IsTypeFlaw s type json b → IsSame r s a b
-same_fault_at [] [] type json a b is_a is_b = record { path = refl; flaw = same_flaw type json a b is_a is_b }
-same_fault_at [] (name ∷ s) type json a b is_a is_b = absurd is_b
-same_fault_at (name ∷ r) s type json a b is_a is_b = absurd is_a
+-- the same, of what is wrong at the end of that way
+abbrev pub Once : Slots → Path → Flaw → Flaw → Type 0
+Once slots r a b =
+    (s : Path) (nullable : Bool) (type : ExprType) (json : Data) → IsTypeFault slots nullable r type json a → IsTypeFault slots nullable s type json b → IsSame r s a b
 
-same_property_fault : (type : PropertyType) (found : Option Data) (r s : Path) (a b : Flaw) → IsPropertyFault type found r a → IsPropertyFault type found s b → IsSame r s a b
-same_property_fault (declared type) None r s a b is_a is_b = record { path = is_a.0 ∙ sym is_b.0; flaw = is_a.1 ∙ sym is_b.1 }
-same_property_fault (declared type) (Some null) r s a b is_a is_b = record { path = is_a.0 ∙ sym is_b.0; flaw = is_a.1 ∙ sym is_b.1 }
-same_property_fault (declared type) (Some (boolean x)) r s a b is_a is_b = same_fault_at r s type (boolean x) a b is_a is_b
-same_property_fault (declared type) (Some (number x)) r s a b is_a is_b = same_fault_at r s type (number x) a b is_a is_b
-same_property_fault (declared type) (Some (string x)) r s a b is_a is_b = same_fault_at r s type (string x) a b is_a is_b
-same_property_fault (declared type) (Some (array x)) r s a b is_a is_b = same_fault_at r s type (array x) a b is_a is_b
-same_property_fault (declared type) (Some (object x)) r s a b is_a is_b = same_fault_at r s type (object x) a b is_a is_b
-same_property_fault opaque found r s a b is_a is_b = absurd is_a
-same_property_fault navigation found r s a b is_a is_b = absurd is_a
+found_once : (found : Option Data) (takes : Bool) (r s : Path) (a b : Flaw) (P Q : Data → Type 0) → ((json : Data) → P json → Q json → IsSame r s a b)
+    → IsFoundFault found takes r a P → IsFoundFault found takes s b Q → IsSame r s a b
+found_once None takes r s a b P Q once is_a is_b = record { path = is_a.1 ∙ sym is_b.1; flaw = is_a.2 ∙ sym is_b.2 }
+found_once (Some json_null) takes r s a b P Q once is_a is_b = record { path = is_a.1 ∙ sym is_b.1; flaw = is_a.2 ∙ sym is_b.2 }
+found_once (Some (json_boolean x)) takes r s a b P Q once is_a is_b = once (json_boolean x) is_a is_b
+found_once (Some (number x)) takes r s a b P Q once is_a is_b = once (number x) is_a is_b
+found_once (Some (string x)) takes r s a b P Q once is_a is_b = once (string x) is_a is_b
+found_once (Some (array x)) takes r s a b P Q once is_a is_b = once (array x) is_a is_b
+found_once (Some (object x)) takes r s a b P Q once is_a is_b = once (object x) is_a is_b
 
-abbrev HasFitting : Data → PropertyModel → Type 0
-HasFitting json p = (held : FieldVal) × FitsProperty p.type_of (get p.name json) held
+module _ (slots : Slots) (r s : Path) (a b : Flaw) (once : Once slots r a b) where
+  held_once : (nullable : Bool) (type : PropertyType) (found : Option Data) → IsPropertyFault slots nullable type found r a → IsPropertyFault slots nullable type found s b → IsSame r s a b
+  held_once nullable (declared type) found is_a is_b = found_once found _ r s a b _ _ (λ json one other. once s nullable type json one other) is_a is_b
+  held_once nullable opaque found is_a is_b = absurd is_a
+  held_once nullable navigation found is_a is_b = absurd is_a
 
-abbrev HasFaultOf : Data → PropertyModel → Path → Flaw → Type 0
-HasFaultOf json p path flaw = IsPropertyFault p.type_of (get p.name json) path flaw
+  module _ (json : Data) where
+    abbrev At : Path → Flaw → PropertyModel → Type 0
+    At path flaw p = IsPropertyFault slots p.nullable p.type_of (get p.name json) path flaw
 
-clash : (json : Data) (p : PropertyModel) (path : Path) (flaw : Flaw) → HasFitting json p → ¬ (HasFaultOf json p path flaw)
-clash json p path flaw fits fault = property_clash p.type_of (get p.name json) fits.0 path flaw fits.1 fault
+    clash : (p : PropertyModel) (path : Path) (flaw : Flaw) → HasFitting slots json p → ¬ (At path flaw p)
+    clash p path flaw fits fault = held_clash slots p.nullable p.type_of (get p.name json) fits.0 path flaw (type_clash path slots flaw) fits.1 fault
 
-same_place : (json : Data) (before before' : List PropertyModel) (p p' : PropertyModel) (behind behind' : List PropertyModel) (r s : Path) (a b : Flaw)
-    → before ++ p ∷ behind ≡ before' ++ p' ∷ behind' → AllByRecursion (HasFitting json) before → AllByRecursion (HasFitting json) before'
-    → HasFaultOf json p r a → HasFaultOf json p' s b → IsSame (p.name ∷ r) (p'.name ∷ s) a b
-same_place json [] [] p p' behind behind' r s a b same fit fit' fault fault' =
-    let heads : p ≡ p' = cc in
-    let is : IsSame r s a b = same_property_fault p'.type_of (get p'.name json) r s a b (subst (λ (q : PropertyModel). HasFaultOf json q r a) heads fault) fault' in
-    record { path = ap (λ (q : PropertyModel). q.name ∷ r) heads ∙ ap (λ (t : Path). p'.name ∷ t) is.path; flaw = is.flaw }
-same_place json [] (q' ∷ before') p p' behind behind' r s a b same fit fit' fault fault' =
-    let heads : q' ≡ p = cc in absurd (clash json p r a (subst (HasFitting json) heads fit'.0) fault)
-same_place json (q ∷ before) [] p p' behind behind' r s a b same fit fit' fault fault' =
-    let heads : q ≡ p' = cc in absurd (clash json p' s b (subst (HasFitting json) heads fit.0) fault')
-same_place json (q ∷ before) (q' ∷ before') p p' behind behind' r s a b same fit fit' fault fault' =
-    let tails : before ++ p ∷ behind ≡ before' ++ p' ∷ behind' = cc in
-    same_place json before before' p p' behind behind' r s a b tails fit.1 fit'.1 fault fault'
+    same_place : (before before' : List PropertyModel) (p p' : PropertyModel) (behind behind' : List PropertyModel) → before ++ p ∷ behind ≡ before' ++ p' ∷ behind'
+        → AllByRecursion (HasFitting slots json) before → AllByRecursion (HasFitting slots json) before' → At r a p → At s b p' → IsSame (p.name ∷ r) (p'.name ∷ s) a b
+    same_place [] [] p p' behind behind' same fit fit' fault fault' =
+        let heads : p ≡ p' = cc in
+        let is : IsSame r s a b = held_once p'.nullable p'.type_of (get p'.name json) (subst (λ (q : PropertyModel). At r a q) heads fault) fault' in
+        record { path = ap (λ (q : PropertyModel). q.name ∷ r) heads ∙ ap (λ (t : Path). p'.name ∷ t) is.path; flaw = is.flaw }
+    same_place [] (q' ∷ before') p p' behind behind' same fit fit' fault fault' =
+        let heads : q' ≡ p = cc in absurd (clash p r a (subst (HasFitting slots json) heads fit'.0) fault)
+    same_place (q ∷ before) [] p p' behind behind' same fit fit' fault fault' =
+        let heads : q ≡ p' = cc in absurd (clash p' s b (subst (HasFitting slots json) heads fit.0) fault')
+    same_place (q ∷ before) (q' ∷ before') p p' behind behind' same fit fit' fault fault' =
+        let tails : before ++ p ∷ behind ≡ before' ++ p' ∷ behind' = cc in
+        same_place before before' p p' behind behind' tails fit.1 fit'.1 fault fault'
 
-pub one_first_fault : (properties : List PropertyModel) (json : Data) (path path' : Path) (flaw flaw' : Flaw)
-    → IsFirstFault properties json path flaw → IsFirstFault properties json path' flaw' → (path ≡ path') × (flaw ≡ flaw')
-one_first_fault properties json path path' flaw flaw' one other =
-    let is = same_place json one.before other.before one.faulty other.faulty one.behind other.behind one.rest other.rest flaw flaw'
-    (sym one.split ∙ other.split) one.before_fit other.before_fit one.fault other.fault in
-    (one.path_is ∙ (is.path ∙ sym other.path_is), is.flaw)
+    same_property : (properties : List PropertyModel) (step step' : List ℕ) → IsFirstProperty slots properties json step (At r a) → IsFirstProperty slots properties json step' (At s b)
+        → IsSame (step ∷ r) (step' ∷ s) a b
+    same_property properties step step' one other =
+        let is = same_place one.before other.before one.faulty other.faulty one.behind other.behind (sym one.split ∙ other.split) one.before_fit other.before_fit one.fault other.fault in
+        record { path = ap (λ (t : List ℕ). t ∷ r) one.step_is ∙ (is.path ∙ ap (λ (t : List ℕ). t ∷ s) (sym other.step_is)); flaw = is.flaw }
+
+  module _ (nullable : Bool) (type : SingleType) where
+    abbrev In : Path → Flaw → Data → Type 0
+    In path flaw json = IsFoundFault (Some json) nullable path flaw (λ found. IsTypeFault slots nullable path (single type) found flaw)
+
+    apart : (json : Data) (path : Path) (flaw : Flaw) → HasFittingItem slots nullable type json → ¬ (In path flaw json)
+    apart json path flaw fits fault = item_clash slots nullable type json path flaw (type_clash path slots flaw) fits fault
+
+    same_index : (jsons : Items) (m n : ℕ) (d e : Data) → get_item m jsons ≡ Some d → get_item n jsons ≡ Some e
+        → ((k : ℕ) (before : Data) → k < m → get_item k jsons ≡ Some before → HasFittingItem slots nullable type before)
+        → ((k : ℕ) (before : Data) → k < n → get_item k jsons ≡ Some before → HasFittingItem slots nullable type before)
+        → In r a d → In s b e → (m ≡ n) ⊎ ((m < n) ⊎ (n < m)) → IsSame (decimal m ∷ r) (decimal n ∷ s) a b
+    same_index jsons m n d e at_m at_n before_m before_n fault fault' (inr (inl less)) = absurd (apart d r a (before_n m d less at_m) fault)
+    same_index jsons m n d e at_m at_n before_m before_n fault fault' (inl same) =
+        let at : get_item n jsons ≡ Some d = subst (λ (k : ℕ). get_item k jsons ≡ Some d) same at_m in
+        let here : d ≡ e = (let there = at_n in cc) in
+        let is : IsSame r s a b = found_once (Some e) nullable r s a b _ _ (λ found one other. once s nullable (single type) found one other) (subst (In r a) here fault) fault' in
+        record { path = ap (λ (k : ℕ). decimal k ∷ r) same ∙ ap (λ (t : Path). decimal n ∷ t) is.path; flaw = is.flaw }
+    same_index jsons m n d e at_m at_n before_m before_n fault fault' (inr (inr more)) = absurd (apart e s b (before_m n e more at_n) fault')
+
+    same_item : (json : Data) (step step' : List ℕ) → IsFirstItem slots nullable type json step (In r a) → IsFirstItem slots nullable type json step' (In s b)
+        → IsSame (step ∷ r) (step' ∷ s) a b
+    same_item json step step' one other =
+        let arrays : other.jsons ≡ one.jsons = (let here = one.is_array in let there = other.is_array in cc) in
+        let at : get_item other.index one.jsons ≡ Some other.faulty = subst (λ (ds : Items). get_item other.index ds ≡ Some other.faulty) arrays other.at_index in
+        let before : ((k : ℕ) (d : Data) → k < other.index → get_item k one.jsons ≡ Some d → HasFittingItem slots nullable type d) =
+        subst (λ (ds : Items). (k : ℕ) (d : Data) → k < other.index → get_item k ds ≡ Some d → HasFittingItem slots nullable type d) arrays other.before_fit in
+        let is = same_index one.jsons one.index other.index one.faulty other.faulty one.at_index at one.before_fit before one.fault other.fault (cases_order one.index other.index) in
+        record { path = ap (λ (t : List ℕ). t ∷ r) one.step_is ∙ (is.path ∙ ap (λ (t : List ℕ). t ∷ s) (sym other.step_is)); flaw = is.flaw }
+
+-- a value that is itself at fault has no parts
+no_parts : (step : List ℕ) (path : Path) (slots : Slots) (nullable : Bool) (type : ExprType) (json : Data) (a b : Flaw)
+    → IsFlawHere slots type json a → ¬ (IsTypeFault slots nullable (step ∷ path) type json b)
+no_parts step path slots nullable (single (structured name)) json a b here below = kind_clash (as_object json) a below.is_object here
+no_parts step path slots nullable (collection type) json a b here below =
+    kind_clash (as_array json) a (let some : as_array json ≡ Some below.jsons = below.is_array in rw some refl) here
+no_parts step path slots nullable (single (primitive type)) json a b here below = below
+no_parts step path slots nullable (single (enumeration name)) json a b here below = below
+no_parts step path slots nullable null_type json a b here below = below
+
+same_fault : (r : Path) (slots : Slots) (a b : Flaw) → Once slots r a b
+same_fault [] slots a b [] nullable type json is_a is_b = record { path = refl; flaw = same_here slots type json a b is_a is_b }
+same_fault [] slots a b (step ∷ s) nullable type json is_a is_b = absurd (no_parts step s slots nullable type json a b is_a is_b)
+same_fault (step ∷ r) slots a b [] nullable type json is_a is_b = absurd (no_parts step r slots nullable type json b a is_b is_a)
+same_fault (step ∷ r) slots a b (step' ∷ s) nullable (single (structured name)) json is_a is_b =
+    same_property slots r s a b (same_fault r slots a b) json (slots.properties name) step step' is_a is_b
+same_fault (step ∷ r) slots a b (step' ∷ s) nullable (collection type) json is_a is_b =
+    same_item slots r s a b (same_fault r slots a b) nullable type json step step' is_a is_b
+same_fault (step ∷ r) slots a b (step' ∷ s) nullable (single (primitive type)) json is_a is_b = absurd is_a
+same_fault (step ∷ r) slots a b (step' ∷ s) nullable (single (enumeration name)) json is_a is_b = absurd is_a
+same_fault (step ∷ r) slots a b (step' ∷ s) nullable null_type json is_a is_b = absurd is_a
+
+pub one_first_fault : (slots : Slots) (type_name : List ℕ) (json : Data) (path path' : Path) (flaw flaw' : Flaw)
+    → IsFirstFault slots type_name json path flaw → IsFirstFault slots type_name json path' flaw' → (path ≡ path') × (flaw ≡ flaw')
+one_first_fault slots type_name json [] path' flaw flaw' one other = absurd one
+one_first_fault slots type_name json (step ∷ path) [] flaw flaw' one other = absurd other
+one_first_fault slots type_name json (step ∷ path) (step' ∷ path') flaw flaw' one other =
+    let is = same_fault (step ∷ path) slots flaw flaw' (step' ∷ path') false (single (structured type_name)) json one other in (is.path, is.flaw)

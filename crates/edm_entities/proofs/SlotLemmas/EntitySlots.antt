@@ -1,15 +1,11 @@
 -- What an entity holds at a slot: the value that its record has under the property's name, and of the property's type.
-use Rattle.std.proofs.Common.{◌≡◌, ℕ, zero, suc, List, [], ◌∷◌, map, length, Some, slice_get, refl, ap, ◌∙◌, subst, arith}
-use Rattle.std.specs.Cmp.Lexicographic.{slice_cmp}
-use Rattle.std.specs.Ordering.{nat_cmp}
+use Rattle.std.proofs.Common.{◌≡◌, ◌≢◌, ℕ, zero, suc, List, [], ◌∷◌, map, length, Some, slice_get, refl, ap, ◌∙◌, subst, arith}
 use Rattle.std.specs.List.{AllByRecursion}
-use Rattle.std.specs.List.Sorted.{IsStrictlySortedBy}
-use Rattle.std.proofs.Common.{Less}
 use Rattle.serde_json.specs.Find.{get}
 use Rattle.edm_values.specs.Val.{fields, FieldVal, present}
 use Rattle.edm_values.specs.declared.value.Value.{Value}
 use Rattle.csdl_schema.specs.ExprType.{ExprType, single, structured}
-use Rattle.csdl_schema.specs.SchemaModel.{Slots, PropertyModel, declared, slots_of, type_name_at, properties_at, IsInNameOrder}
+use Rattle.csdl_schema.specs.SchemaModel.{Slots, PropertyModel, declared, slots_of, type_name_at, properties_at, HasDistinctNames}
 use Rattle.edm_entities.specs.Fits.{Fits, FitsProperty, FitsRecord}
 use Rattle.edm_entities.specs.HasType.{HasPropertyType}
 use Rattle.edm_entities.specs.Row.{Row, IsEntity, val_of, value_of, field_of, field_by_name}
@@ -30,23 +26,19 @@ record IsFound (slots : Slots) (properties : List PropertyModel) (values : List 
   at_slot : slice_get values n ≡ Some value
   by_name : field_by_name slots properties (map val_of values) p.name ≡ field_of slots p.type_of (val_of value)
 
-below_at : (name : List ℕ) (ps : List PropertyModel) (n : ℕ) (p : PropertyModel)
-    → AllByRecursion (λ other. slice_cmp nat_cmp name other ≡ Less) (map (λ q. q.name) ps) → slice_get ps n ≡ Some p → slice_cmp nat_cmp name p.name ≡ Less
-below_at name [] n p below at = cc
-below_at name (q ∷ ps) zero p below at = let same : q ≡ p = cc in subst (λ (r : PropertyModel). slice_cmp nat_cmp name r.name ≡ Less) same below.0
-below_at name (q ∷ ps) (suc n) p below at = below_at name ps n p below.1 at
+others_at : (name : List ℕ) (ps : List PropertyModel) (n : ℕ) (p : PropertyModel) → AllByRecursion (λ q. q.name ≢ name) ps → slice_get ps n ≡ Some p → p.name ≢ name
+others_at name ps n p others at = each_at (λ q. q.name ≢ name) ps n p others at
 
-slot_found : (slots : Slots) (properties : List PropertyModel) (values : List Value) (n : ℕ) (p : PropertyModel) → IsInNameOrder properties
+slot_found : (slots : Slots) (properties : List PropertyModel) (values : List Value) (n : ℕ) (p : PropertyModel) → HasDistinctNames properties
     → length values ≡ length properties → slice_get properties n ≡ Some p → IsFound slots properties values n p
-unfolding IsStrictlySortedBy
-slot_found slots [] values n p ordered long at = absurd (cc)
-slot_found slots (q ∷ ps) [] n p ordered long at = absurd (omega arith)
-slot_found slots (q ∷ ps) (v ∷ values) zero p ordered long at =
+slot_found slots [] values n p distinct long at = absurd (cc)
+slot_found slots (q ∷ ps) [] n p distinct long at = absurd (omega arith)
+slot_found slots (q ∷ ps) (v ∷ values) zero p distinct long at =
     let same : q ≡ p = cc in
     record { value = v; at_slot = refl; by_name = subst (λ (r : PropertyModel). field_by_name slots (q ∷ ps) (map val_of (v ∷ values)) r.name ≡ field_of slots r.type_of (val_of v)) same (here slots q ps (val_of v) (map val_of values)) }
-slot_found slots (q ∷ ps) (v ∷ values) (suc n) p ordered long at =
-    let rest = slot_found slots ps values n p ordered.1 (omega (arith, long)) at in
-    record { value = rest.value; at_slot = rest.at_slot; by_name = behind slots q ps (val_of v) (map val_of values) p.name (other_name q.name p.name (below_at q.name ps n p ordered.0 at)) ∙ rest.by_name }
+slot_found slots (q ∷ ps) (v ∷ values) (suc n) p distinct long at =
+    let rest = slot_found slots ps values n p distinct.1 (omega (arith, long)) at in
+    record { value = rest.value; at_slot = rest.at_slot; by_name = behind slots q ps (val_of v) (map val_of values) p.name (other_name q.name p.name (others_at q.name ps n p distinct.0 at)) ∙ rest.by_name }
 
 pub slot_value : (row : Row) (entity : IsEntity row) (slot : ℕ) (p : PropertyModel) (type : ExprType)
     → slice_get (properties_at row.schema row.type_id) slot ≡ Some p → p.type_of ≡ declared type
@@ -59,13 +51,13 @@ slot_value row entity slot p type at is_declared =
     let f : (List ℕ → FieldVal) = field_by_name slots properties (map val_of values) in
     let record_is : value_of row ≡ fields f =
     ap (λ (v : Value). val_of v slots (single (structured name))) entity.holds_slots.value_is ∙ val_of-Record slots (single (structured name)) entity.holds_slots.slots in
-    let fits : FitsRecord properties entity.conforms.0 f = subst (Fits slots name entity.conforms.0) record_is entity.conforms.1 in
-    let here_found = slot_found slots properties values slot p entity.in_order entity.holds_slots.as_many at in
+    let fits : FitsRecord properties entity.conforms.0 f (λ p. FitsProperty slots p.nullable p.type_of (get p.name entity.conforms.0) (f p.name)) = subst (Fits slots name entity.conforms.0) record_is entity.conforms.1 in
+    let here_found = slot_found slots properties values slot p entity.distinct entity.holds_slots.as_many at in
     let under : f p.name ≡ present (val_of here_found.value slots type) =
     here_found.by_name ∙ ap (λ t. field_of slots t (val_of here_found.value)) is_declared in
-    let fits_here : FitsProperty p.type_of (get p.name entity.conforms.0) (f p.name) =
-    each_at (λ q. FitsProperty q.type_of (get q.name entity.conforms.0) (f q.name)) properties slot p fits.each_fits at in
-    let typed : HasPropertyType slots p.type_of (f p.name) = held_has_type slots p.type_of (get p.name entity.conforms.0) (f p.name) fits_here in
+    let fits_here : FitsProperty slots p.nullable p.type_of (get p.name entity.conforms.0) (f p.name) =
+    each_at (λ q. FitsProperty slots q.nullable q.type_of (get q.name entity.conforms.0) (f q.name)) properties slot p fits.each_fits at in
+    let typed : HasPropertyType slots p.type_of (f p.name) = held_has_type slots p.nullable p.type_of (get p.name entity.conforms.0) (f p.name) fits_here in
     record {
       value = here_found.value;
       at_slot = here_found.at_slot;

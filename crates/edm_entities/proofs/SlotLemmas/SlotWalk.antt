@@ -1,104 +1,107 @@
 -- The walk over the slots of a type: what it has read fits, and the fault at which it stops is the first.
-use Rattle.std.proofs.Common.{◌≡◌, ℕ, zero, suc, ◌<◌, List, [], ◌∷◌, ◌++◌, length, take, drop, Option, Some, None, option_map, map, slice_get, IfSome, IsSome, refl, ap, ◌∙◌, subst, arith}
+use Rattle.std.proofs.Common.{◌≡◌, ℕ, zero, suc, List, [], ◌∷◌, ◌++◌, Bool, take, drop, Option, Some, None, option_map, map, slice_get, IfSome, IsSome, refl, ap, sym, subst}
 use Rattle.std.specs.List.{AllByRecursion}
 use Rattle.serde_json.specs.Data.{Data}
 use Rattle.serde_json.specs.Find.{get, as_object}
-use Rattle.edm_values.specs.Val.{FieldVal}
 use Rattle.edm_values.specs.declared.value.Value.{Value}
-use Rattle.csdl_schema.specs.SchemaModel.{Slots, PropertyModel, PropertyType}
+use Rattle.csdl_schema.specs.ExprType.{single, structured}
+use Rattle.csdl_schema.specs.PropertyView.{IsReadAs, property_type}
+use Rattle.csdl_schema.specs.SchemaModel.{SchemaModel, Slots, PropertyModel, PropertyType, slots_of, type_name_at, properties_at}
+use Rattle.csdl_schema.specs.declared.property.Property.{Property}
 use Rattle.edm_entities.specs.Fits.{FitsProperty}
+use Rattle.edm_entities.specs.FitsPrimitive.{Flaw}
 use Rattle.edm_entities.specs.Row.{field_of, val_of}
-use Rattle.edm_entities.specs.RowFaults.{Flaw, missing, wrong_kind, null_not_allowed, out_of_range, IsPropertyFault, IsFirstFaultAt, IsRowFault, IsMemory}
-use Rattle.edm_entities.specs.private.Walk.{FitsSlot, FitSlots, IsSlotFault}
-use Rattle.edm_entities.specs.declared.fault.RowFault.{RowFault}
-use Rattle.edm_entities.specs.declared.fault.RowFault.TheVariants.{NotObject, Missing, WrongKind, NullNotAllowed, OutOfRange, BadText, Memory}
+use Rattle.edm_entities.specs.RowFaults.{Path, HasFitting, IsPropertyFault, IsTypeFault}
+use Rattle.edm_entities.specs.private.Faults.{IsFaultOf, IsBelow}
+use Rattle.edm_entities.specs.private.Walk.{HoldEach, FitsSlot, FitSlots}
+use Rattle.edm_entities.specs.declared.flaw.ReadFault.{ReadFault}
+use Rattle.edm_entities.proofs.SlotLemmas.FaultsBelow.{fault_below}
 
 -- one slot more
-pub fit_push : (slots : Slots) (json : Data) (properties : List PropertyModel) (n : ℕ) (values : List Value) (v : Value) → n < length properties
-    → FitSlots slots json (take n properties) values → IfSome (slice_get properties n) (λ p. FitsSlot slots json p v)
-    → FitSlots slots json (take (suc n) properties) (values ++ v ∷ [])
-fit_push slots json [] n values v lt fits here = absurd (omega arith)
-fit_push slots json (p ∷ ps) zero [] v lt fits here = (here, tt)
-fit_push slots json (p ∷ ps) zero (w ∷ values) v lt fits here = absurd fits
-fit_push slots json (p ∷ ps) (suc n) [] v lt fits here = absurd fits
-fit_push slots json (p ∷ ps) (suc n) (w ∷ values) v lt fits here = (fits.0, fit_push slots json ps n values v (omega arith) fits.1 here)
+pub hold_push : (Q : PropertyModel → Value → Type 0) (properties : List PropertyModel) (n : ℕ) (values : List Value) (v : Value) (p : PropertyModel) → slice_get properties n ≡ Some p
+    → HoldEach Q (take n properties) values → Q p v → HoldEach Q (take (suc n) properties) (values ++ v ∷ [])
+hold_push Q [] n values v p at holds here = absurd (cc)
+hold_push Q (q ∷ ps) zero [] v p at holds here = let same : p ≡ q = cc in (subst (λ (r : PropertyModel). Q r v) same here, tt)
+hold_push Q (q ∷ ps) zero (w ∷ values) v p at holds here = absurd holds
+hold_push Q (q ∷ ps) (suc n) [] v p at holds here = absurd holds
+hold_push Q (q ∷ ps) (suc n) (w ∷ values) v p at holds here = (holds.0, hold_push Q ps n values v p at holds.1 here)
 
 -- slots that hold values that fit have members that fit
 some_fit : (slots : Slots) (json : Data) (properties : List PropertyModel) (values : List Value) → FitSlots slots json properties values
-    → AllByRecursion (λ p. (held : FieldVal) × FitsProperty p.type_of (get p.name json) held) properties
+    → AllByRecursion (HasFitting slots json) properties
 some_fit slots json [] values fits = tt
 some_fit slots json (p ∷ ps) [] fits = absurd fits
 some_fit slots json (p ∷ ps) (v ∷ values) fits = ((field_of slots p.type_of (val_of v), fits.0), some_fit slots json ps values fits.1)
 
--- a list at one of its indices
-record IsCutAt (properties : List PropertyModel) (n : ℕ) (p : PropertyModel) : Type 0 where
-  split : properties ≡ take n properties ++ p ∷ drop (suc n) properties
-  here : slice_get properties n ≡ Some p
+cut_at : (properties : List PropertyModel) (n : ℕ) (p : PropertyModel) → slice_get properties n ≡ Some p → properties ≡ take n properties ++ p ∷ drop (suc n) properties
+cut_at [] n p at = absurd (cc)
+cut_at (q ∷ ps) zero p at = let same : q ≡ p = cc in ap (λ (r : PropertyModel). r ∷ ps) same
+cut_at (q ∷ ps) (suc n) p at = ap (λ (rest : List PropertyModel). q ∷ rest) (cut_at ps n p at)
 
-cut_at : (properties : List PropertyModel) (n : ℕ) → n < length properties → (p : PropertyModel) × IsCutAt properties n p
-cut_at [] n lt = absurd (omega arith)
-cut_at (p ∷ ps) zero lt = (p, record { split = refl; here = refl })
-cut_at (p ∷ ps) (suc n) lt = let rest = cut_at ps n (omega arith) in (rest.0, record { split = ap (λ qs. p ∷ qs) rest.1.split; here = rest.1.here })
+-- a slot as the code reads it
+record IsSlotRead (schema : SchemaModel) (id n : ℕ) (name : List ℕ) (property : Property) : Type 0 where
+  model : PropertyModel
+  at_slot : slice_get (properties_at schema id) n ≡ Some model
+  named : model.name ≡ name
+  type_of : property_type schema property ≡ model.type_of
+  nullable : property.nullable ≡ model.nullable
 
-first_fault : (slots : Slots) (json : Data) (properties : List PropertyModel) (n : ℕ) (values : List Value) (p : PropertyModel) (flaw : Flaw) (path : List ℕ)
-    → IsSome (as_object json) → FitSlots slots json (take n properties) values → IsCutAt properties n p
-    → IsPropertyFault p.type_of (get p.name json) [] flaw → path ≡ p.name → IsFirstFaultAt properties json path flaw
-first_fault slots json properties n values p flaw path is_object fits cut fault named = (
-  p.name ∷ [],
-  record {
-    is_object = is_object;
-    before = take n properties;
-    faulty = p;
-    behind = drop (suc n) properties;
-    split = cut.split;
-    before_fit = some_fit slots json (take n properties) values fits;
-    rest = [];
-    path_is = refl;
-    fault = fault;
-  },
-  named,
-)
-
-fault_here : (slots : Slots) (type_name : List ℕ) (json : Data) (n : ℕ) (values : List Value) (p : PropertyModel) (fault : RowFault)
-    → IsSome (as_object json) → FitSlots slots json (take n (slots type_name)) values → IsCutAt (slots type_name) n p → IsSlotFault p.type_of (get p.name json) p.name fault
-    → ¬ (IsMemory fault) → IsRowFault slots type_name json fault
-fault_here slots type_name json n values p NotObject is_object fits cut fault no_memory = absurd fault
-fault_here slots type_name json n values p (Missing path) is_object fits cut fault no_memory =
-    first_fault slots json (slots type_name) n values p missing _ is_object fits cut fault.0 fault.1
-fault_here slots type_name json n values p (WrongKind path) is_object fits cut fault no_memory =
-    first_fault slots json (slots type_name) n values p wrong_kind _ is_object fits cut fault.0 fault.1
-fault_here slots type_name json n values p (NullNotAllowed path) is_object fits cut fault no_memory =
-    first_fault slots json (slots type_name) n values p null_not_allowed _ is_object fits cut fault.0 fault.1
-fault_here slots type_name json n values p (OutOfRange path) is_object fits cut fault no_memory =
-    first_fault slots json (slots type_name) n values p out_of_range _ is_object fits cut fault.0 fault.1
-fault_here slots type_name json n values p (BadText path) is_object fits cut fault no_memory = absurd fault
-fault_here slots type_name json n values p Memory is_object fits cut fault no_memory = absurd (no_memory tt)
-
--- the fault at a slot, those before it holding values that fit, is the row's
-pub row_fault : (slots : Slots) (type_name : List ℕ) (json : Data) (n : ℕ) (values : List Value) (fault : RowFault) → n < length (slots type_name)
-    → IsSome (as_object json) → FitSlots slots json (take n (slots type_name)) values → IfSome (slice_get (slots type_name) n) (λ p. IsSlotFault p.type_of (get p.name json) p.name fault)
-    → ¬ (IsMemory fault) → IsRowFault slots type_name json fault
-row_fault slots type_name json n values fault lt is_object fits here no_memory =
-    let cut = cut_at (slots type_name) n lt in
-    fault_here slots type_name json n values cut.0 fault is_object fits cut.1
-    (subst (λ o. IfSome o (λ p. IsSlotFault p.type_of (get p.name json) p.name fault)) cut.1.here here) no_memory
+read_model : (schema : SchemaModel) (id n : ℕ) (name : List ℕ) (property : Property) (o : Option PropertyModel) → o ≡ slice_get (properties_at schema id) n
+    → option_map (λ p. p.name) o ≡ Some name → IfSome o (λ p. IsReadAs schema p property) → IsSlotRead schema id n name property
+read_model schema id n name property None is named read = absurd (cc)
+read_model schema id n name property (Some p) is named read =
+    record { model = p; at_slot = sym is; named = (let same : p.name ≡ name = cc in same); type_of = read.type_of; nullable = read.nullable }
 
 name_at : (properties : List PropertyModel) (n : ℕ) → option_map (λ p. p.name) (slice_get properties n) ≡ slice_get (map (λ p. p.name) properties) n
 name_at [] n = refl
 name_at (p ∷ ps) zero = refl
 name_at (p ∷ ps) (suc n) = name_at ps n
 
-by_name : (Q : PropertyType → Option Data → List ℕ → Type 0) (json : Data) (o : Option PropertyModel) (name : List ℕ) (found : Option Data)
-    → option_map (λ p. p.name) o ≡ Some name → found ≡ get name json → IfSome o (λ p. Q p.type_of found p.name)
-    → IfSome o (λ p. Q p.type_of (get p.name json) p.name)
-by_name Q json None name found named is holds = tt
-by_name Q json (Some p) name found named is holds =
-    let same : name ≡ p.name = cc in
-    let here : found ≡ get p.name json = is ∙ ap (λ n. get n json) same in
-    subst (λ m. Q p.type_of m p.name) here holds
+slot_read : (schema : SchemaModel) (id n : ℕ) (name : List ℕ) (property : Property) → slice_get (map (λ p. p.name) (properties_at schema id)) n ≡ Some name
+    → IfSome (slice_get (properties_at schema id) n) (λ p. IsReadAs schema p property) → IsSlotRead schema id n name property
+slot_read schema id n name property named read =
+    read_model schema id n name property (slice_get (properties_at schema id) n) refl (let is = name_at (properties_at schema id) n in cc) read
 
--- what holds of a slot by the member that was found holds of it by the object
-pub at_slot : (Q : PropertyType → Option Data → List ℕ → Type 0) (json : Data) (properties : List PropertyModel) (n : ℕ) (name : List ℕ) (found : Option Data)
-    → slice_get (map (λ p. p.name) properties) n ≡ Some name → found ≡ get name json → IfSome (slice_get properties n) (λ p. Q p.type_of found p.name)
-    → IfSome (slice_get properties n) (λ p. Q p.type_of (get p.name json) p.name)
-at_slot Q json properties n name found named is holds = by_name Q json (slice_get properties n) name found (name_at properties n ∙ named) is holds
+module _ (schema : SchemaModel) (id n : ℕ) (json : Data) (values : List Value) (name : List ℕ) (property : Property)
+    (named : slice_get (map (λ p. p.name) (properties_at schema id)) n ≡ Some name)
+    (read : IfSome (slice_get (properties_at schema id) n) (λ p. IsReadAs schema p property))
+    (fits : FitSlots (slots_of schema) json (take n (properties_at schema id)) values) where
+  slot : IsSlotRead schema id n name property
+  slot = slot_read schema id n name property named read
+
+  -- a value that fits its property takes its slot
+  pub slot_pushed : (v : Value) → FitsProperty (slots_of schema) property.nullable (property_type schema property) (get name json) (field_of (slots_of schema) (property_type schema property) (val_of v))
+      → FitSlots (slots_of schema) json (take (suc n) (properties_at schema id)) (values ++ v ∷ [])
+  slot_pushed v here =
+      let by_type : FitsProperty (slots_of schema) property.nullable slot.model.type_of (get name json) (field_of (slots_of schema) slot.model.type_of (val_of v)) =
+      subst (λ (t : PropertyType). FitsProperty (slots_of schema) property.nullable t (get name json) (field_of (slots_of schema) t (val_of v))) slot.type_of here in
+      let by_null = subst (λ (b : Bool). FitsProperty (slots_of schema) b slot.model.type_of (get name json) (field_of (slots_of schema) slot.model.type_of (val_of v))) slot.nullable by_type in
+      let by_name = subst (λ (s : List ℕ). FitsProperty (slots_of schema) slot.model.nullable slot.model.type_of (get s json) (field_of (slots_of schema) slot.model.type_of (val_of v))) (sym slot.named) by_null in
+      hold_push (FitsSlot (slots_of schema) (λ s. get s json)) (properties_at schema id) n values v slot.model slot.at_slot fits by_name
+
+  -- a fault of a property is the first of the object
+  slot_fault : (nullable : Bool) (path : Path) (flaw : Flaw) → IsSome (as_object json)
+      → IsPropertyFault (slots_of schema) property.nullable (property_type schema property) (get name json) path flaw
+      → IsTypeFault (slots_of schema) nullable (name ∷ path) (single (structured (type_name_at schema id))) json flaw
+  slot_fault nullable path flaw is_object fault =
+      let by_type = subst (λ (t : PropertyType). IsPropertyFault (slots_of schema) property.nullable t (get name json) path flaw) slot.type_of fault in
+      let by_null = subst (λ (b : Bool). IsPropertyFault (slots_of schema) b slot.model.type_of (get name json) path flaw) slot.nullable by_type in
+      let by_name = subst (λ (s : List ℕ). IsPropertyFault (slots_of schema) slot.model.nullable slot.model.type_of (get s json) path flaw) (sym slot.named) by_null in
+      record {
+        is_object = is_object;
+        before = take n (properties_at schema id);
+        faulty = slot.model;
+        behind = drop (suc n) (properties_at schema id);
+        split = cut_at (properties_at schema id) n slot.model slot.at_slot;
+        before_fit = some_fit (slots_of schema) json (take n (properties_at schema id)) values fits;
+        step_is = sym slot.named;
+        fault = by_name;
+      }
+
+  pub slots_fault : (nullable : Bool) (told result : ReadFault) → IsSome (as_object json) → IsBelow name told result
+      → IsFaultOf (IsPropertyFault (slots_of schema) property.nullable (property_type schema property) (get name json)) told
+      → IsFaultOf (λ path flaw. IsTypeFault (slots_of schema) nullable path (single (structured (type_name_at schema id))) json flaw) result
+  slots_fault nullable told result is_object below fault =
+      fault_below (IsPropertyFault (slots_of schema) property.nullable (property_type schema property) (get name json))
+      (λ path flaw. IsTypeFault (slots_of schema) nullable path (single (structured (type_name_at schema id))) json flaw) name told result below
+      (λ path flaw here. slot_fault nullable path flaw is_object here) fault

@@ -1,53 +1,46 @@
--- For private clauses: what the walk over the slots of a type has read so far.
-use Rattle.std.specs.Prelude.{◌≡◌, ℕ, List, [], ◌∷◌, Option, string_bytes}
-use Rattle.serde_json.specs.Data.{Data}
+-- For private clauses: what the walk over an object's slots and an array's items has read so far.
+use Rattle.std.specs.Prelude.{ℕ, List, [], ◌∷◌, Bool, Option, Some, None, map}
+use Rattle.serde_json.specs.Data.{Data, Items}
 use Rattle.serde_json.specs.Find.{get}
 use Rattle.edm_values.specs.declared.value.Value.{Value}
-use Rattle.csdl_schema.specs.SchemaModel.{Slots, PropertyModel, PropertyType}
-use Rattle.edm_entities.specs.Fits.{FitsProperty}
-use Rattle.edm_entities.specs.Row.{field_of, val_of}
-use Rattle.edm_entities.specs.RowFaults.{Flaw, missing, wrong_kind, null_not_allowed, out_of_range, IsPropertyFault}
-use Rattle.edm_entities.specs.declared.flaw.ReadFlaw.{ReadFlaw}
-use Rattle.edm_entities.specs.declared.flaw.ReadFlaw.TheVariants.{Missing, WrongKind, NullNotAllowed, OutOfRange, Memory}
-use Rattle.edm_entities.specs.declared.fault.RowFault.{RowFault}
-use Rattle.edm_entities.specs.declared.fault.RowFault.TheVariants as fault
+use Rattle.csdl_schema.specs.ExprType.{SingleType, primitive, enumeration, structured}
+use Rattle.csdl_schema.specs.SchemaModel.{SchemaModel, Slots, PropertyModel, type_name_at}
+use Rattle.csdl_schema.specs.declared.property.PropertyKind.{PropertyKind}
+use Rattle.csdl_schema.specs.declared.property.PropertyKind.TheVariants as kind
+use Rattle.edm_entities.specs.Fits.{FitsProperty, FitItems}
+use Rattle.edm_entities.specs.Row.{field_of, items_of, val_of}
+use Rattle.edm_entities.specs.declared.wanted.Wanted.{Wanted}
+use Rattle.edm_entities.specs.declared.wanted.Wanted.TheVariants.{Prim, Enum, Complex}
 
--- P of the flaw that the code tells; want of memory tells none
-abbrev pub OnFlaw : ReadFlaw → (Flaw → Type 0) → Type 0
-OnFlaw Missing P = P missing
-OnFlaw WrongKind P = P wrong_kind
-OnFlaw NullNotAllowed P = P null_not_allowed
-OnFlaw OutOfRange P = P out_of_range
-OnFlaw Memory P = Unit {0}
+-- what a property of that kind is read as; one that is not looked at as nothing
+abbrev pub wanted_as : PropertyKind → Option Wanted
+wanted_as (kind.Prim p) = Some (Prim p)
+wanted_as (kind.Enum e) = Some (Enum e)
+wanted_as (kind.Complex t) = Some (Complex t)
+wanted_as kind.Opaque = None
+wanted_as kind.Navigation = None
 
--- a fault is that flaw, at that path; want of memory comes from anywhere
-abbrev pub IsFlawAt : ReadFlaw → List ℕ → RowFault → Type 0
-IsFlawAt flaw name (fault.Missing path) = (flaw ≡ Missing) × (string_bytes path ≡ name)
-IsFlawAt flaw name (fault.WrongKind path) = (flaw ≡ WrongKind) × (string_bytes path ≡ name)
-IsFlawAt flaw name (fault.NullNotAllowed path) = (flaw ≡ NullNotAllowed) × (string_bytes path ≡ name)
-IsFlawAt flaw name (fault.OutOfRange path) = (flaw ≡ OutOfRange) × (string_bytes path ≡ name)
-IsFlawAt flaw name fault.Memory = Unit {0}
-IsFlawAt flaw name _ = ⊥
+-- the type that is wanted of one value
+abbrev pub single_of : SchemaModel → Wanted → SingleType
+single_of schema (Prim p) = primitive p
+single_of schema (Enum e) = enumeration (type_name_at schema e)
+single_of schema (Complex t) = structured (type_name_at schema t)
 
--- a slot's value is what fits the member of the property's name
-abbrev pub FitsSlot : Slots → Data → PropertyModel → Value → Type 0
-FitsSlot slots json p value = FitsProperty p.type_of (get p.name json) (field_of slots p.type_of (val_of value))
+-- slots hold values, one each, and of each the relation holds
+abbrev pub HoldEach : (PropertyModel → Value → Type 0) → List PropertyModel → List Value → Type 0
+HoldEach Q [] [] = Unit {0}
+HoldEach Q (p ∷ ps) (value ∷ values) = Q p value × HoldEach Q ps values
+HoldEach Q _ _ = ⊥
 
--- these slots hold values that fit, one each
+-- a slot's value is what fits what was found under the property's name
+abbrev pub FitsSlot : Slots → (List ℕ → Option Data) → PropertyModel → Value → Type 0
+FitsSlot slots found p value =
+    FitsProperty slots p.nullable p.type_of (found p.name) (field_of slots p.type_of (val_of value))
+
+-- these slots hold values that fit the members of an object
 abbrev pub FitSlots : Slots → Data → List PropertyModel → List Value → Type 0
-FitSlots slots json [] [] = Unit {0}
-FitSlots slots json (p ∷ ps) (value ∷ values) = FitsSlot slots json p value × FitSlots slots json ps values
-FitSlots slots json _ _ = ⊥
+FitSlots slots json properties values = HoldEach (FitsSlot slots (λ name. get name json)) properties values
 
--- the fault of a slot, by its property's type and name and the member of that name
-abbrev pub IsSlotFault : PropertyType → Option Data → List ℕ → RowFault → Type 0
-IsSlotFault type found name fault.NotObject = ⊥
-IsSlotFault type found name (fault.Missing path) = IsPropertyFault type found [] missing × (string_bytes path ≡ name)
-IsSlotFault type found name (fault.WrongKind path) =
-    IsPropertyFault type found [] wrong_kind × (string_bytes path ≡ name)
-IsSlotFault type found name (fault.NullNotAllowed path) =
-    IsPropertyFault type found [] null_not_allowed × (string_bytes path ≡ name)
-IsSlotFault type found name (fault.OutOfRange path) =
-    IsPropertyFault type found [] out_of_range × (string_bytes path ≡ name)
-IsSlotFault type found name (fault.BadText path) = ⊥
-IsSlotFault type found name fault.Memory = Unit {0}
+-- these values fit the items of an array
+abbrev pub FitList : Slots → Bool → SingleType → Items → List Value → Type 0
+FitList slots nullable type jsons values = FitItems slots nullable type jsons (items_of slots type (map val_of values))

@@ -26,6 +26,7 @@ use Rattle.odata_eval.specs.Outcome.{Outcome, gives}
 use Rattle.odata_typing.specs.ExprTypes.{boolean_type, string_type, AreComparable}
 use Rattle.odata_typing.specs.LiteralValue.{LiteralTyped, IntTyped}
 use Rattle.odata_typing.specs.Typed.{Typed, PropertyTyped, OperatorTyped, variable_type, property_named}
+use Rattle.odata_eval.proofs.meaning.PropertiesInFilter.{found_property}
 use Rattle.odata_eval.proofs.meaning.Truths.{truth_of, boolean_of_truth, text_of, whole_of, and_truths, equal_truths, equal_wholes, equal_texts}
 
 -- some value of the type is an outcome
@@ -70,30 +71,19 @@ held_ends : (slots : Slots) (type : ExprType) (held : FieldVal) → HasPropertyT
 held_ends slots type (present v) has = (v, (refl, has))
 held_ends slots type absent has = absurd has
 
--- what holds of each property holds of the first one of a name that has a type
-pub found_property : (Holds : PropertyType → List ℕ → Type 0) (asked : List ℕ) (type : ExprType) (properties : List PropertyModel)
-    → AllByRecursion (λ p. Holds p.type_of p.name) properties → PropertyTyped properties asked type → Holds (declared type) asked
-found_property Holds asked type [] all typed = absurd typed
-found_property Holds asked type (p ∷ more) all typed =
-    elim (pointwise nat_eq asked p.name) as (λ is_it. pointwise nat_eq asked p.name ≡ is_it
-    → IsSomeAnd (cond is_it (Some p) (property_named more asked)) (λ q. q.type_of ≡ declared type)
-    → Holds (declared type) asked) [
-      | true ↦ λ same is_typed. subst (λ (t : PropertyType). Holds t asked) is_typed
-          (subst (λ (n : List ℕ). Holds p.type_of n) (sym ((bytes_eq-Decides asked p.name).0 same)) all.0)
-      | false ↦ λ other is_typed. found_property Holds asked type more all.1 is_typed
-    ] refl typed
-
 step_ends : (slots : Slots) (root : List ℕ) (entity : Val) (asked : List ℕ) (type : ExprType)
-    → HasType slots (single (structured root)) entity → PropertyTyped (slots root) asked type → Ends slots type (StepGives entity asked)
+    → HasType slots (single (structured root)) entity → PropertyTyped (slots.properties root) asked type → Ends slots type (StepGives entity asked)
 step_ends slots root null asked type conforms typed = (null, (refl, tt))
 step_ends slots root (fields held) asked type conforms typed =
+    let found = found_property (λ p. HasPropertyType slots p.type_of (held p.name)) asked type (slots.properties root) conforms typed in
     held_ends slots type (held asked)
-    (found_property (λ t n. HasPropertyType slots t (held n)) asked type (slots root) conforms typed)
+    (subst (λ (t : PropertyType). HasPropertyType slots t (held asked)) found.plain.is_declared
+    (subst (λ (n : List ℕ). HasPropertyType slots found.property.type_of (held n)) found.named found.holds))
 step_ends slots root _ asked type conforms typed = absurd conforms
 
 found_ends : (slots : Slots) (root : List ℕ) (entity : Val) (asked : List ℕ) (type : ExprType) (in_scope : Option ExprType) (value : Option Val)
     → HasType slots (single (structured root)) entity → VariableFits slots in_scope value
-    → MatchOption in_scope (PropertyTyped (slots root) asked type) (λ t. type ≡ t) → Ends slots type (FoundGives value entity asked)
+    → MatchOption in_scope (PropertyTyped (slots.properties root) asked type) (λ t. type ≡ t) → Ends slots type (FoundGives value entity asked)
 found_ends slots root entity asked type (Some t) (Some v) conforms is_found typed = (v, (refl, typed_value slots t type v typed is_found))
 found_ends slots root entity asked type None None conforms is_found typed = step_ends slots root entity asked type conforms typed
 found_ends slots root entity asked type (Some t) None conforms is_found typed = absurd is_found

@@ -11,7 +11,7 @@ use Rattle.edm_values.specs.declared.value.Value.{Value}
 use Rattle.odata_syntax.specs.Tree.{Tree, node, Shape, literal, name, binary}
 use Rattle.odata_syntax.specs.declared.node.BinaryOperator.{BinaryOperator}
 use Rattle.odata_syntax.specs.declared.node.LiteralKind.{LiteralKind}
-use Rattle.csdl_schema.specs.SchemaModel.{PropertyModel, opaque, slots_of, type_name_at, slot_named}
+use Rattle.csdl_schema.specs.SchemaModel.{PropertyModel, opaque, properties_at, slot_named}
 use Rattle.edm_entities.specs.Row.{Row, IsEntity}
 use Rattle.odata_eval.specs.MeansOn.{MeansOn}
 use Rattle.odata_eval.specs.Outcome.{gives}
@@ -57,9 +57,9 @@ module _ (row : Row) (list : FlatTree) (place : ℕ) where
     -- its kind is that of the node there
     kind_there : (kind : NodeKind) → found.kind ≡ kind → (stop from to : ℕ) (shape : Shape)
         → Stands row.schema row.type_id [] list place stop (node from to shape)
-        → IsKindOf list.values (slots_of row.schema (type_name_at row.schema row.type_id)) [] shape kind
+        → IsKindOf list.values (properties_at row.schema row.type_id) [] shape kind
     kind_there kind is stop from to shape stands =
-        subst (λ (k : NodeKind). IsKindOf list.values (slots_of row.schema (type_name_at row.schema row.type_id)) [] shape k)
+        subst (λ (k : NodeKind). IsKindOf list.values (properties_at row.schema row.type_id) [] shape k)
         (ap (λ (n : CheckedNode). n.kind) (same_found (slice_get list.nodes place) stands.top.found found stands.top.stands_at here) ∙ is)
         stands.top.kind
 
@@ -108,17 +108,17 @@ module _ (row : Row) (list : FlatTree) (place : ℕ) where
 
     module _ (slot : ℕ) (is : found.kind ≡ NodeKind.Property slot) where
       property_inside : (stop : ℕ) (tree : Tree) → Stands row.schema row.type_id [] list place stop tree
-          → slot < length (slots_of row.schema (type_name_at row.schema row.type_id))
+          → slot < length (properties_at row.schema row.type_id)
       property_inside stop (node from to (literal k spelling)) stands = absurd (kind_there (NodeKind.Property slot) is stop from to (literal k spelling) stands)
       property_inside stop (node from to (name asked)) stands =
           let named = kind_there (NodeKind.Property slot) is stop from to (name asked) stands in
-          slot_within asked slot (slots_of row.schema (type_name_at row.schema row.type_id)) named.1
+          slot_within asked slot (properties_at row.schema row.type_id) named.1
       property_inside stop (node from to (binary operator left right)) stands =
           let other : NodeKind.Property slot ≡ NodeKind.Binary operator = kind_there (NodeKind.Property slot) is stop from to (binary operator left right) stands in
           absurd (cc)
       property_inside stop (node from to _) stands = absurd stands.children
 
-      pub property_within : PartStands row list place → slot < length (slots_of row.schema (type_name_at row.schema row.type_id))
+      pub property_within : PartStands row list place → slot < length (properties_at row.schema row.type_id)
       property_within part = property_inside part.stop part.tree part.stands
 
       property_means : (now : MomentParts) (v : Value) → IsEntity row → HoldsAt row slot v → (stop : ℕ) (tree : Tree)

@@ -1,5 +1,5 @@
 -- Of a line a filter has one judgment at most.
-use Rattle.std.proofs.Common.{◌≡◌, ◌≢◌, ℕ, List, [], Option, Some, None, inl, inr, ◌⊎◌, refl, sym, ap, ◌∙◌, subst}
+use Rattle.std.proofs.Common.{◌≡◌, ◌≢◌, ℕ, List, [], ◌∷◌, Option, Some, None, inl, inr, ◌⊎◌, refl, sym, ap, ◌∙◌, subst}
 use Rattle.std.specs.Prelude.{true, IsSome, string_bytes, IsUtf8}
 use Rattle.std.specs.List.{join_with_byte}
 use Rattle.serde_json.specs.Data.{Data}
@@ -8,9 +8,10 @@ use Rattle.serde_json.specs.Find.{as_object}
 use Rattle.edm_values.specs.MomentParts.{MomentParts}
 use Rattle.edm_values.specs.Val.{Val, boolean}
 use Rattle.csdl_schema.specs.JsonText.{IsJsonOf, IsNoJson}
-use Rattle.csdl_schema.specs.SchemaModel.{Slots, PropertyModel, slots_of, type_name_at}
+use Rattle.csdl_schema.specs.SchemaModel.{Slots, slots_of, type_name_at}
 use Rattle.edm_entities.specs.Fits.{Fits}
-use Rattle.edm_entities.specs.RowFaults.{Flaw, Path, IsFirstFault, IsRowFault, missing, wrong_kind, null_not_allowed, out_of_range, bad_text}
+use Rattle.edm_entities.specs.RowFaults.{Path, IsFirstFault, IsRowFault}
+use Rattle.edm_entities.specs.FitsPrimitive.{Flaw, missing, wrong_kind, null_not_allowed, out_of_range, bad_text}
 use Rattle.edm_entities.specs.declared.fault.RowFault.{RowFault}
 use Rattle.odata_eval.specs.Outcome.{Outcome, gives}
 use Rattle.odata_eval.specs.VerdictView.{fault_outcome}
@@ -29,14 +30,14 @@ abbrev pub FaultFitsNothing : Type 0
 FaultFitsNothing = (slots : Slots) (type_name : List ℕ) (json : Data) (fault : RowFault) → IsRowFault slots type_name json fault → (v : Val) → ¬ (Fits slots type_name json v)
 
 abbrev pub OneFirstFault : Type 0
-OneFirstFault = (properties : List PropertyModel) (json : Data) (path path' : Path) (flaw flaw' : Flaw)
-    → IsFirstFault properties json path flaw → IsFirstFault properties json path' flaw' → (path ≡ path') × (flaw ≡ flaw')
+OneFirstFault = (slots : Slots) (type_name : List ℕ) (json : Data) (path path' : Path) (flaw flaw' : Flaw)
+    → IsFirstFault slots type_name json path flaw → IsFirstFault slots type_name json path' flaw' → (path ≡ path') × (flaw ≡ flaw')
 
 -- ---- the fault of an entity
 
 -- no object, or a first flaw at a path
 row_fault_view : (slots : Slots) (type_name : List ℕ) (json : Data) (fault : RowFault) → IsRowFault slots type_name json fault
-    → ((as_object json ≡ None) × (flaw_told fault ≡ None)) ⊎ ((path : Path) × (flaw : Flaw) × IsFirstFault (slots type_name) json path flaw × (flaw_told fault ≡ Some (join_with_byte 47 path, flaw)))
+    → ((as_object json ≡ None) × (flaw_told fault ≡ None)) ⊎ ((path : Path) × (flaw : Flaw) × IsFirstFault slots type_name json path flaw × (flaw_told fault ≡ Some (join_with_byte 47 path, flaw)))
 row_fault_view slots type_name json RowFault.NotObject is = inl (is, refl)
 row_fault_view slots type_name json (RowFault.Missing p) (path, first, text) = inr (path, missing, first, ap (λ (l : List ℕ). Some (l, missing)) text)
 row_fault_view slots type_name json (RowFault.WrongKind p) (path, first, text) = inr (path, wrong_kind, first, ap (λ (l : List ℕ). Some (l, wrong_kind)) text)
@@ -49,16 +50,21 @@ not_none : {X : Type 0} (o : Option X) → o ≡ None → IsSome o → ⊥
 not_none None is some = absurd cc
 not_none (Some x) is some = absurd cc
 
+-- what has a fault at a path is an object
+faulty_object : (slots : Slots) (type_name : List ℕ) (json : Data) (path : Path) (flaw : Flaw) → IsFirstFault slots type_name json path flaw → IsSome (as_object json)
+faulty_object slots type_name json [] flaw first = absurd first
+faulty_object slots type_name json (step ∷ path) flaw first = first.is_object
+
 row_fault_once : OneFirstFault → (slots : Slots) (type_name : List ℕ) (json : Data) (f g : RowFault) → IsRowFault slots type_name json f → IsRowFault slots type_name json g → flaw_told f ≡ flaw_told g
 row_fault_once law slots type_name json f g p q = elim (row_fault_view slots type_name json f p) [
   | inl (none, told) ↦ elim (row_fault_view slots type_name json g q) [
     | inl (none', told') ↦ told ∙ sym told'
-    | inr (path, flaw, first, told') ↦ absurd (not_none (as_object json) none first.is_object)
+    | inr (path, flaw, first, told') ↦ absurd (not_none (as_object json) none (faulty_object slots type_name json path flaw first))
   ]
   | inr (path, flaw, first, told) ↦ elim (row_fault_view slots type_name json g q) [
-    | inl (none', told') ↦ absurd (not_none (as_object json) none' first.is_object)
+    | inl (none', told') ↦ absurd (not_none (as_object json) none' (faulty_object slots type_name json path flaw first))
     | inr (path', flaw', first', told') ↦
-        let (same_path, same_flaw) = law (slots type_name) json path path' flaw flaw' first first' in
+        let (same_path, same_flaw) = law slots type_name json path path' flaw flaw' first first' in
         told ∙ ap (λ (p : Path). Some (join_with_byte 47 p, flaw)) same_path ∙ ap (λ (w : Flaw). Some (join_with_byte 47 path', w)) same_flaw ∙ sym told'
   ]
 ]

@@ -9,8 +9,8 @@ use Rattle.odata_filter.specs.RunStops.{StopsBy}
 use Rattle.odata_filter.specs.declared.command.command_line.Verb.{Verb}
 use Rattle.odata_filter.specs.declared.command.command_line.Verb.TheVariants.{Check}
 use Rattle.odata_filter.specs.Run.{HasNoFilter, HasNoOption, Streams, WroteNothing, OverRows, Status, StatusSays, status_number, complete, without_filter, without_plan, without_type, at_fault, without_device, without_memory}
-use Rattle.csdl_schema.specs.declared.fault.SchemaFault.{SchemaFault}
-use Rattle.csdl_schema.specs.declared.fault.SchemaFault.TheVariants as schema
+use Rattle.csdl_declarations.specs.declared.fault.SchemaFault.{SchemaFault}
+use Rattle.csdl_declarations.specs.declared.fault.SchemaFault.TheVariants as schema
 use Rattle.odata_filter.specs.declared.command.command_line.Plan.{Plan}
 use Rattle.odata_filter.specs.declared.command.failure.Failure.{Failure}
 use Rattle.odata_filter.specs.declared.command.failure.Failure.TheVariants.{NotYet, OneOf, Schema, UnknownType, Query, NoOption, Refused, RowsFile, Rows}

@@ -8,7 +8,7 @@ ghost use Rattle.odata_filter.specs.Run.{Answers, AsksFor, Begins, BeginsAs, IsA
 ghost use Rattle.odata_filter.specs.Run.{OverRows, streams, without_filter, without_plan, without_type};
 ghost use Rattle.odata_filter.specs.private.RunFailures.{AnswerSays, IsTold, IsUnwritten, LacksFilter, StopsOver};
 ghost use Rattle.odata_filter.specs.private.RunFailures.{status_of};
-ghost use Rattle.csdl_schema.specs.SchemaModel.{IsEntityAt, index_named};
+ghost use Rattle.csdl_schema.specs.SchemaModel.{HoldsType, IsEntityAt, index_named};
 
 use super::command_line::{Plan, Verb};
 use super::failure::Failure;
@@ -70,7 +70,7 @@ fn is_planned<'p>(plan: &Plan<'p>) -> Result<(), Failure<'p>>
 
 /// The entity type that the plan names.
 fn entity_type<'p>(schema: &Schema, named: &'p str) -> Result<TypeId, Failure<'p>>
-    ensures held { IfOk result (λ id. id < length schema.now.types) }
+    ensures held { IfOk result (HoldsType schema.now) }
     ensures found { IfOk result (λ id. index_named schema.now named.entry.now ≡ Some id) }
     ensures entity { IfOk result (IsEntityAt schema.now) }
     ensures none { OnErr result
@@ -132,7 +132,7 @@ fn checked_text<'s, 'p>(
     text: &str,
     plan: &Plan<'p>,
 ) -> Result<Checked<'s>, Failure<'p>>
-    requires held { id < length schema.now.types }
+    requires held { HoldsType schema.now id }
     requires asked { AsksFor plan.now text.now }
     ensures right { (document : List ℕ) → NamesType plan.entry.now document schema.entry.now id
         → IfOk result (IsPlanFilter plan.entry.now document) }
@@ -152,7 +152,7 @@ fn checked_plan<'s, 'p>(
     id: TypeId,
     plan: &Plan<'p>,
 ) -> Result<Checked<'s>, Failure<'p>>
-    requires held { id < length schema.now.types }
+    requires held { HoldsType schema.now id }
     requires planned { IsPlanned plan.now }
     ensures right { (document : List ℕ) → NamesType plan.entry.now document schema.entry.now id
         → IfOk result (IsPlanFilter plan.entry.now document) }

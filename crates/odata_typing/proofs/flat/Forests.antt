@@ -2,7 +2,7 @@
 use Rattle.std.proofs.Common.{◌≡◌, refl, ap, ◌∙◌, ℕ, ◌<◌, ◌+◌, List, [], ◌∷◌, Some, true, false, nat_lt, slice_get, drop, arith}
 use Rattle.std.proofs.lemmas.Bool.Decides.{nat_tests}
 use Rattle.odata_syntax.specs.Tree.{Tree, node, Shape, literal, name, binary}
-use Rattle.csdl_schema.specs.SchemaModel.{SchemaModel, slots_of, type_name_at}
+use Rattle.csdl_schema.specs.SchemaModel.{SchemaModel, properties_at}
 use Rattle.odata_typing.specs.declared.checked_node.CheckedNode.{CheckedNode}
 use Rattle.odata_typing.specs.declared.checked_node.NodeKind.{NodeKind}
 use Rattle.odata_typing.specs.FlatTree.{FlatTree, PlacedTree, forest, shape_of_kind, tree_at, trees_before, trees_from, tree_of_nodes, first_tree}
@@ -90,14 +90,14 @@ pub stands_forest :
 stands_forest schema n scope list i j (node start stop (literal kind spelling)) stands =
     let behind : List PlacedTree = forest list.texts j (drop j list.nodes) in
     top_planted schema n scope list i j start stop (literal kind spelling) [] behind behind stands.top
-    (leaf_shape list (slots_of schema (type_name_at schema n)) (names_of scope) kind spelling stands.top.found.kind stands.top.kind)
+    (leaf_shape list (properties_at schema n) (names_of scope) kind spelling stands.top.found.kind stands.top.kind)
     (ap (λ (k : ℕ). forest list.texts k (drop k list.nodes)) stands.children)
     (none_before list.texts j (drop j list.nodes))
     (all_from list.texts j (drop j list.nodes))
 stands_forest schema n scope list i j (node start stop (name asked)) stands =
     let behind : List PlacedTree = forest list.texts j (drop j list.nodes) in
     top_planted schema n scope list i j start stop (name asked) [] behind behind stands.top
-    (name_shape list (slots_of schema (type_name_at schema n)) (names_of scope) asked stands.top.found.kind stands.top.kind)
+    (name_shape list (properties_at schema n) (names_of scope) asked stands.top.found.kind stands.top.kind)
     (ap (λ (k : ℕ). forest list.texts k (drop k list.nodes)) stands.children)
     (none_before list.texts j (drop j list.nodes))
     (all_from list.texts j (drop j list.nodes))

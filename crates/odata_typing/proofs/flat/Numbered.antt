@@ -28,7 +28,7 @@ level_of_kind _ = None
 
 names_slot :
     (list : FlatTree) (slots : Slots) (root : List ℕ) (variables : List (List ℕ)) (start stop : ℕ) (shape : _) (slot : ℕ)
-    → IsKindOf list.values (slots root) variables shape (NodeKind.Property slot)
+    → IsKindOf list.values (slots.properties root) variables shape (NodeKind.Property slot)
     → NamesSlot slots root variables (node start stop shape) slot
 names_slot list slots root variables start stop (literal kind spelling) slot is = absurd is
 names_slot list slots root variables start stop (name asked) slot is = is
@@ -43,13 +43,13 @@ none_some o a x y = cc
 
 only_slot :
     (list : FlatTree) (slots : Slots) (root : List ℕ) (variables : List (List ℕ)) (start stop : ℕ) (shape : _) (kind : NodeKind) (slot : ℕ)
-    → IsKindOf list.values (slots root) variables shape kind
+    → IsKindOf list.values (slots.properties root) variables shape kind
     → NamesSlot slots root variables (node start stop shape) slot
     → kind ≡ NodeKind.Property slot
 only_slot list slots root variables start stop (literal k spelling) kind slot is names = absurd names
 only_slot list slots root variables start stop (binary operator left right) kind slot is names = absurd names
 only_slot list slots root variables start stop (name asked) (NodeKind.Property other) slot is names =
-    same_slot (slot_named (slots root) asked) other slot is.1 names.1
+    same_slot (slot_named (slots.properties root) asked) other slot is.1 names.1
 only_slot list slots root variables start stop (name asked) (NodeKind.Variable level) slot is names =
     absurd (none_some (level_named variables asked) level is names.0)
 only_slot list slots root variables start stop (name asked) _ slot is names = absurd is
@@ -57,7 +57,7 @@ only_slot list slots root variables start stop _ kind slot is names = absurd is
 
 level_of_top :
     (list : FlatTree) (slots : Slots) (root : List ℕ) (variables : List (List ℕ)) (start stop : ℕ) (shape : _) (kind : NodeKind)
-    → IsKindOf list.values (slots root) variables shape kind
+    → IsKindOf list.values (slots.properties root) variables shape kind
     → level_of_node variables (node start stop shape) ≡ level_of_kind kind
 level_of_top list slots root variables start stop (literal k spelling) (NodeKind.Literal l place) is = refl
 level_of_top list slots root variables start stop (literal k spelling) _ is = absurd is
@@ -94,7 +94,7 @@ top_says filter k j (node start stop shape) stands found here =
       span = span_same top.found.span start stop top.starts top.stops;
       typed = top.typed;
       slots = λ slot is.
-          let K : NodeKind → Type 0 = λ (x : NodeKind). IsKindOf filter.list.values (slots_of schema root) [] shape x in
+          let K : NodeKind → Type 0 = λ (x : NodeKind). IsKindOf filter.list.values ((slots_of schema).properties root) [] shape x in
           names_slot filter.list (slots_of schema) root [] start stop shape slot (subst K is top.kind);
       only_slots = λ slot names. only_slot filter.list (slots_of schema) root [] start stop shape top.found.kind slot top.kind names;
       levels = level_of_top filter.list (slots_of schema) root [] start stop shape top.found.kind top.kind;

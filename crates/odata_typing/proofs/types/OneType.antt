@@ -10,6 +10,7 @@ use Rattle.csdl_schema.specs.ExprType.{ExprType, single, primitive}
 use Rattle.csdl_schema.specs.SchemaModel.{PropertyModel, Slots, declared}
 use Rattle.odata_typing.specs.ExprTypes.{boolean_type}
 use Rattle.odata_typing.specs.LiteralValue.{IntTyped, LiteralTyped}
+use Rattle.odata_typing.specs.TypeInFilter.{type_in_filter}
 use Rattle.odata_typing.specs.Typed.{Scope, Typed, OperatorTyped, PropertyTyped, variable_type, property_named}
 
 -- an Int literal stands for one number at most
@@ -36,7 +37,7 @@ LiteralTyped-one LiteralKind.Str spelling a b x y = x.2 ∙ sym y.2
 LiteralTyped-one _ spelling a b x y = absurd x
 
 FoundTyped-one :
-    (found : Option PropertyModel) (a b : ExprType) → IsSomeAnd found (λ p. p.type_of ≡ declared a) → IsSomeAnd found (λ p. p.type_of ≡ declared b) → a ≡ b
+    (found : Option PropertyModel) (a b : ExprType) → IsSomeAnd found (λ p. type_in_filter p ≡ declared a) → IsSomeAnd found (λ p. type_in_filter p ≡ declared b) → a ≡ b
 FoundTyped-one None a b x y = absurd x
 FoundTyped-one (Some p) a b x y = cc (x, y)
 
@@ -56,7 +57,7 @@ operator_makes _ l r type x = absurd x
 
 pub Typed-one : (slots : Slots) (root : List ℕ) (scope : Scope) (tree : Tree) (a b : ExprType) → Typed slots root scope tree a → Typed slots root scope tree b → a ≡ b
 Typed-one slots root scope (node start stop (literal kind spelling)) a b x y = LiteralTyped-one kind spelling a b x y
-Typed-one slots root scope (node start stop (name asked)) a b x y = BoundTyped-one (variable_type scope asked) (slots root) asked a b x y
+Typed-one slots root scope (node start stop (name asked)) a b x y = BoundTyped-one (variable_type scope asked) (slots.properties root) asked a b x y
 Typed-one slots root scope (node start stop (binary operator left right)) a b x y =
     operator_makes operator x.left x.right a x.operator_typed ∙ sym (operator_makes operator y.left y.right b y.operator_typed)
 Typed-one slots root scope (node start stop _) a b x y = absurd x

@@ -1,4 +1,4 @@
-use Rattle.csdl_schema.proofs.SchemaLemmas.SchemaLaws.{one_schema, one_fault, fault_or_schema}
+use Rattle.csdl_schema.proofs.SchemaLaws.{one_schema, one_fault, fault_or_schema}
 use Rattle.csdl_schema.proofs.laws.one_answer.Goals as goal
 
 pub returns-clause-schema : goal.returns-clause-schema

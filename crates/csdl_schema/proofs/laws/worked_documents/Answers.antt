@@ -1,4 +1,4 @@
-use Rattle.csdl_schema.proofs.SchemaLemmas.SchemaWorked.{mini_stands, array_refused}
+use Rattle.csdl_schema.proofs.SchemaWorked.{mini_stands, array_refused}
 use Rattle.csdl_schema.proofs.laws.worked_documents.Goals as goal
 
 pub returns-clause-mini : goal.returns-clause-mini

@@ -1,0 +1,21 @@
+//! What a CSDL JSON 4.01 document declares: its types, each by itself, or the first fault among them.
+#![tactic(auto)]
+
+mod declaration;
+mod declared_type;
+mod document;
+mod fault;
+mod laws;
+mod member;
+mod names;
+mod namespaces;
+mod read_enumeration;
+mod read_properties;
+mod read_types;
+mod refusals;
+mod type_kind;
+
+pub use declared_type::{DeclaredType, PropertyDeclaration, TypeBody};
+pub use document::declared_types;
+pub use fault::SchemaFault;
+pub use laws::{declared_in_order, numbers_of_their_type, types_by_name};

@@ -1,0 +1,128 @@
+//! Enumerations as they are declared (CSDL JSON 4.01, section 10).
+ghost use Rattle.std.specs.Prelude.{◌≡◌, codes, IfSome, map};
+ghost use Rattle.std.specs.List.{flat_map};
+ghost use Rattle.serde_json.specs.View.{view};
+ghost use Rattle.edm_values.specs.NumberTypes.{IsNumberType, IsNumberOf};
+ghost use Rattle.csdl_declarations.specs.EnumerationDeclaration.{declared_enumeration, declared_member, enumeration_faults, member_faults, member_number, number_of, number_type_named, underlying_at};
+ghost use Rattle.csdl_declarations.specs.FaultView.{Reads};
+ghost use Rattle.csdl_declarations.specs.private.DocumentView.{member_view, members_of, AreNamesInOrder};
+
+use super::fault::SchemaFault;
+use super::member::{Member, declared_members, is_true_at, is_truth_if_given};
+use super::refusals::{bad_enum_member, bad_type};
+use edm_enumerations::Enumeration;
+use edm_values::Prim;
+use odata_text::is_identifier;
+use serde_json::Value;
+use std::alloc::Global;
+
+fn number_type_named(name: &str) -> Option<Prim>
+    ensures value { result ≡ number_type_named name.now }
+    ensures number { IfSome result IsNumberType }
+{
+    if name == "Edm.Byte" {
+        Some(Prim::Byte)
+    } else if name == "Edm.SByte" {
+        Some(Prim::SByte)
+    } else if name == "Edm.Int16" {
+        Some(Prim::Int16)
+    } else if name == "Edm.Int32" {
+        Some(Prim::Int32)
+    } else if name == "Edm.Int64" {
+        Some(Prim::Int64)
+    } else {
+        None
+    }
+}
+
+/// The type of the numbers, if `$UnderlyingType` is left out or names a number type.
+fn underlying_at(value: &Value) -> Option<Prim>
+    ensures value { result ≡ underlying_at (view value.now) }
+    ensures number { IfSome result IsNumberType }
+{
+    match value.get("$UnderlyingType") {
+        Some(given) => match given.as_str() {
+            Some(name) => number_type_named(name),
+            None => None,
+        },
+        None => Some(Prim::Int32),
+    }
+}
+
+/// The whole number of the type that a value is, if it is one.
+fn number_of(underlying: Prim, value: &Value) -> Option<i64>
+    ensures value { result ≡ number_of underlying (view value.now) }
+    ensures within { IfSome result (IsNumberOf underlying) }
+{
+    match value.as_i64() {
+        Some(number) => {
+            if underlying.holds_number(number) {
+                Some(number)
+            } else {
+                None
+            }
+        }
+        None => None,
+    }
+}
+
+/// The number of a member, if it is one.
+fn member_number(underlying: Prim, member: Member<'_>) -> Option<i64>
+    ensures value { result ≡ member_number underlying (member_view member.entry) }
+    ensures within { IfSome result (IsNumberOf underlying) }
+{
+    if is_identifier(member.name) {
+        number_of(underlying, member.value)
+    } else {
+        None
+    }
+}
+
+/// The enumeration of these members, or `BadEnumMember` of the first that is none.
+fn read_members(
+    alloc: Global,
+    owner: &str,
+    underlying: Prim,
+    is_flags: bool,
+    members: &[Member<'_>],
+) -> Result<Enumeration, SchemaFault>
+    requires number { IsNumberType underlying }
+    requires ordered { AreNamesInOrder (members_of members.now) }
+    ensures { Reads result (flat_map (member_faults owner.now underlying) (members_of members.now))
+        (λ e. e ≡ record {
+          underlying = underlying;
+          is_flags = is_flags;
+          members = map (declared_member underlying) (members_of members.now);
+        }) }
+{
+    let mut enumeration = Enumeration::new(alloc, underlying, is_flags);
+    for member in members {
+        let Some(number) = member_number(underlying, *member) else {
+            return Err(bad_enum_member(alloc, owner, member.name));
+        };
+        enumeration.add_member(member.name.to_owned(alloc)?, number)?;
+    }
+    Ok(enumeration)
+}
+
+/// The enumeration that a declaration gives, or the first fault in its shape or among its members.
+pub(crate) fn read_enumeration(
+    alloc: Global,
+    owner: &str,
+    value: &Value,
+) -> Result<Enumeration, SchemaFault>
+    ensures { Reads result (enumeration_faults owner.now (view value.now))
+        (λ e. e ≡ declared_enumeration (view value.now)) }
+{
+    match underlying_at(value) {
+        Some(underlying) => {
+            if !is_truth_if_given(value, "$IsFlags") {
+                return Err(bad_type(alloc, owner));
+            }
+            let members = declared_members(alloc, value)?;
+            let is_flags = is_true_at(value, "$IsFlags");
+            read_members(alloc, owner, underlying, is_flags, &members)
+        }
+        None => Err(bad_type(alloc, owner)),
+    }
+}

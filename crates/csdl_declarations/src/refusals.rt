@@ -1,0 +1,39 @@
+//! Refusals with the names that they tell, or `Memory` where these cannot be kept.
+ghost use Rattle.csdl_declarations.specs.Fault as fault;
+ghost use Rattle.csdl_declarations.specs.FaultView.{TellsFault};
+
+use super::fault::SchemaFault;
+use std::alloc::Global;
+
+pub(crate) fn bad_type(alloc: Global, name: &str) -> SchemaFault
+    ensures { TellsFault result (fault.bad_type name.now) }
+{
+    match name.to_owned(alloc) {
+        Ok(name) => SchemaFault::BadType { name },
+        Err(_) => SchemaFault::Memory,
+    }
+}
+
+pub(crate) fn bad_property(alloc: Global, owner: &str, name: &str) -> SchemaFault
+    ensures { TellsFault result (fault.bad_property owner.now name.now) }
+{
+    match owner.to_owned(alloc) {
+        Ok(owner) => match name.to_owned(alloc) {
+            Ok(name) => SchemaFault::BadProperty { owner, name },
+            Err(_) => SchemaFault::Memory,
+        },
+        Err(_) => SchemaFault::Memory,
+    }
+}
+
+pub(crate) fn bad_enum_member(alloc: Global, owner: &str, name: &str) -> SchemaFault
+    ensures { TellsFault result (fault.bad_enum_member owner.now name.now) }
+{
+    match owner.to_owned(alloc) {
+        Ok(owner) => match name.to_owned(alloc) {
+            Ok(name) => SchemaFault::BadEnumMember { owner, name },
+            Err(_) => SchemaFault::Memory,
+        },
+        Err(_) => SchemaFault::Memory,
+    }
+}

@@ -1,5 +1,0 @@
-use Rattle.csdl_schema.proofs.SchemaLemmas.SchemaReading.{declared_in_order}
-use Rattle.csdl_schema.proofs.member.declared_among.Goals as goal
-
-pub returns-clause-ordered : goal.returns-clause-ordered
-returns-clause-ordered c = declared_in_order c.args.members.now.entries c.iter-key-items.ensures.ordered

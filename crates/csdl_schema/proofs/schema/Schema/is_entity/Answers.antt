@@ -1,0 +1,15 @@
+use Rattle.std.proofs.Common.{◌≡◌, ◌∙◌, sym, ap, subst, slice_get, IsTrue}
+use Rattle.csdl_schema.specs.SchemaModel.{is_kind_at, is_entity_type}
+use Rattle.csdl_schema.specs.private.Placed.{is_placed_entity, placed_passes}
+use Rattle.csdl_schema.specs.private.PlacedView.{placed_of}
+use Rattle.csdl_schema.proofs.LookUps.{entity_at}
+use Rattle.csdl_schema.proofs.schema.Schema.is_entity.Goals as goal
+
+pub returns : goal.returns
+returns c =
+    let same : c.is_entity_at.result ≡ is_kind_at is_entity_type c.args.self.now c.args.id =
+    c.is_entity_at.ensures
+    ∙ (λ j. placed_passes is_placed_entity (slice_get (placed_of (c.deref.ensures.value j)) (c.index.ensures j)))
+    ∙ entity_at (placed_of c.self.inside.types.items) c.args.id
+    ∙ ap (λ s. is_kind_at is_entity_type s c.args.id) c.self.view_is in
+    (λ h. subst IsTrue same h, λ h. subst IsTrue (sym same) h)

@@ -1,0 +1,131 @@
+//! The slots of types: those of the base first, then the own ones.
+ghost use Rattle.std.specs.Prelude.{◌≡◌, ◌<◌, ◌≤◌, length, option_map, slice_get, Some, string_bytes};
+ghost use Rattle.csdl_schema.specs.PropertyView.{PointsWithin};
+ghost use Rattle.csdl_schema.specs.SchemaModel.{name_in, properties_at, slot_named};
+ghost use Rattle.csdl_schema.specs.private.PlacedView.{placed_of, structured_view};
+ghost use Rattle.csdl_schema.specs.private.SchemaView.{chain_in, model_of, names_of, property_model, AreChained};
+ghost use Rattle.csdl_schema.specs.private.SlotWalk.{earlier, own_slot_in, structured_in};
+
+use super::chain::{Chain, base_at};
+use super::named_type::{NamedBody, NamedType, StructuredType};
+use super::property::Property;
+
+fn structured_at(types: &[NamedType], index: usize) -> Option<&StructuredType>
+    ensures { option_map (λ s. structured_view s.now) result ≡ structured_in (placed_of types.now) index }
+{
+    match types.get(index) {
+        Some(found) => match &found.body {
+            NamedBody::Structured(structured) => Some(structured),
+            NamedBody::Enumeration(_) => None,
+            NamedBody::Definition(_) => None,
+        },
+        None => None,
+    }
+}
+
+fn inherited_at(chains: &[Chain], index: usize) -> usize
+    ensures { result ≡ (chain_in chains.now index).inherited }
+{
+    match chains.get(index) {
+        Some(chain) => chain.inherited,
+        None => 0,
+    }
+}
+
+/// How many slots the type at an index has.
+pub(crate) fn count_slots(types: &[NamedType], chains: &[Chain], index: usize) -> usize
+    requires { AreChained (placed_of types.now) chains.now }
+    ensures { result ≡ length (properties_at (model_of (placed_of types.now)) index) }
+{
+    match structured_at(types, index) {
+        Some(structured) => inherited_at(chains, index) + structured.properties.len(),
+        None => 0,
+    }
+}
+
+/// The slot of a type's own property of that name.
+fn own_slot(types: &[NamedType], chains: &[Chain], index: usize, name: &str) -> Option<usize>
+    requires { AreChained (placed_of types.now) chains.now }
+    ensures { result ≡ own_slot_in (placed_of types.now) chains.now index name.now }
+{
+    match structured_at(types, index) {
+        Some(structured) => match structured.properties.get_index_of(name) {
+            Some(own) => Some(inherited_at(chains, index) + own),
+            None => None,
+        },
+        None => None,
+    }
+}
+
+fn earlier(slot: Option<usize>, other: Option<usize>) -> Option<usize>
+    ensures { result ≡ earlier slot other }
+{
+    match slot {
+        Some(slot) => Some(slot),
+        None => other,
+    }
+}
+
+/// The slot of the property of that name, along the chain of bases.
+pub(crate) fn find_slot(
+    types: &[NamedType],
+    chains: &[Chain],
+    index: usize,
+    name: &str,
+) -> Option<usize>
+    requires { AreChained (placed_of types.now) chains.now }
+    ensures { result ≡ slot_named (properties_at (model_of (placed_of types.now)) index) name.now }
+{
+    let mut found = None;
+    let mut next = Some(index);
+    while let Some(below) = next {
+        found = earlier(own_slot(types, chains, below, name), found);
+        next = base_at(types, below);
+    }
+    found
+}
+
+/// The index of the type in a chain of bases that has the property at a slot itself.
+fn owner_of(types: &[NamedType], chains: &[Chain], index: usize, slot: usize) -> usize
+    requires chained { AreChained (placed_of types.now) chains.now }
+    requires within { slot < length (properties_at (model_of (placed_of types.now)) index) }
+    ensures same { slice_get (properties_at (model_of (placed_of types.now)) result) slot
+        ≡ slice_get (properties_at (model_of (placed_of types.now)) index) slot }
+    ensures own { (chain_in chains.now result).inherited ≤ slot }
+    ensures within { slot < length (properties_at (model_of (placed_of types.now)) result) }
+{
+    let mut owner = index;
+    while slot < inherited_at(chains, owner) {
+        match base_at(types, owner) {
+            Some(base) => owner = base,
+            None => unreachable!(),
+        }
+    }
+    owner
+}
+
+/// The name and the property at a slot of a type.
+pub(crate) fn entry_at<'t>(
+    types: &'t [NamedType],
+    chains: &[Chain],
+    index: usize,
+    slot: usize,
+) -> (&'t String, &'t Property)
+    requires chained { AreChained (placed_of types.now) chains.now }
+    requires within { slot < length (properties_at (model_of (placed_of types.now)) index) }
+    ensures entry { slice_get (properties_at (model_of (placed_of types.now)) index) slot
+        ≡ Some (property_model (name_in (names_of (placed_of types.now))) (string_bytes result.0.now, result.1.now)) }
+    ensures points { PointsWithin (model_of (placed_of types.now)) result.1.now.kind }
+{
+    let owner = owner_of(types, chains, index, slot);
+    match structured_at(types, owner) {
+        Some(structured) => match structured
+            .properties
+            .get_index(slot - inherited_at(chains, owner))
+        {
+            Some(entry) => entry,
+            None => unreachable!(),
+        },
+        None => unreachable!(),
+    }
+}

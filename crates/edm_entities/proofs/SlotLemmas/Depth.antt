@@ -1,0 +1,42 @@
+-- What is within a JSON value nests less deep.
+use Rattle.std.proofs.Common.{◌≡◌, ℕ, zero, suc, ◌<◌, ◌≤◌, ◌+◌, ◌*◌, List, [], ◌∷◌, Option, Some, None, Ordering, Less, Equal, Greater, nat_cmp, subst, arith}
+use Rattle.std.specs.Ordering.{match_ordering}
+use Rattle.std.specs.Cmp.Lexicographic.{slice_cmp}
+use Rattle.std.specs.Prelude.{max}
+use Rattle.std.specs.List.{slice_get}
+use Rattle.serde_json.specs.Data.{Data, null, boolean, number, string, array, object, Members, no_members, member, depth, items_depth, members_depth}
+use Rattle.serde_json.specs.Find.{get, get_member}
+use Rattle.serde_json.specs.View.{view, items_view}
+use Rattle.serde_json.specs.declared.value.Value.{Value}
+
+member_within : (name : List ℕ) (ms : Members) (d : Data) → get_member name ms ≡ Some d → depth d ≤ members_depth ms
+member_within name no_members d found = absurd (cc)
+member_within name (member l e ms) d found = by (slice_cmp nat_cmp name l) found (λ further. member_within name ms d further)
+  where
+    by : (o : Ordering) → match_ordering o (get_member name ms) (Some e) (get_member name ms) ≡ Some d → (get_member name ms ≡ Some d → depth d ≤ members_depth ms)
+        → depth d ≤ max (depth e) (members_depth ms)
+    by Less at further = let within = further at in omega arith
+    by Equal at further = let same : e ≡ d = cc in subst (λ (f : Data). depth f ≤ max (depth e) (members_depth ms)) same (omega arith)
+    by Greater at further = let within = further at in omega arith
+
+pub get_within : (name : List ℕ) (json d : Data) → get name json ≡ Some d → depth d < depth json
+get_within name (object ms) d found = let within = member_within name ms d found in omega arith
+get_within name null d found = absurd (cc)
+get_within name (boolean b) d found = absurd (cc)
+get_within name (number n) d found = absurd (cc)
+get_within name (string s) d found = absurd (cc)
+get_within name (array ds) d found = absurd (cc)
+
+pub item_within : (values : List Value) (n : ℕ) (v : Value) → slice_get values n ≡ Some v → depth (view v) ≤ items_depth (items_view values)
+item_within [] n v at = absurd (cc)
+item_within (w ∷ values) zero v at = let same : w ≡ v = cc in subst (λ (x : Value). depth (view x) ≤ max (depth (view w)) (items_depth (items_view values))) same (omega arith)
+item_within (w ∷ values) (suc n) v at = let within = item_within values n v at in omega arith
+
+-- what is left for a walk over what was found
+abbrev pub found_measure : Option Data → ℕ
+found_measure None = 0
+found_measure (Some d) = 4 * depth d + 4
+
+pub found_less : (name : List ℕ) (json : Data) (found : Option Data) → found ≡ get name json → found_measure found < 4 * depth json + 1
+found_less name json None is = omega arith
+found_less name json (Some d) is = let within : depth d < depth json = get_within name json d (let turned = is in cc) in omega arith

@@ -1,0 +1,55 @@
+-- The fault of a row, from the fault of its value.
+use Rattle.std.proofs.Common.{◌≡◌, ℕ, List, [], ◌∷◌, false, Option, Some, None, String, Global, string_bytes, refl, subst}
+use Rattle.serde_json.specs.Data.{Data}
+use Rattle.serde_json.specs.Find.{as_object}
+use Rattle.csdl_schema.specs.ExprType.{single, structured}
+use Rattle.csdl_schema.specs.SchemaModel.{Slots}
+use Rattle.edm_entities.specs.FitsPrimitive.{Flaw, missing, wrong_kind, null_not_allowed, out_of_range, bad_text}
+use Rattle.edm_entities.specs.RowFaults.{Path, IsTypeFault, IsFirstFaultAt, IsRowFault, IsMemory}
+use Rattle.edm_entities.specs.private.Faults.{OnFlaw, IsPathText, IsFaultOf, IsToldAs}
+use Rattle.edm_entities.specs.declared.flaw.ReadFlaw.{ReadFlaw}
+use Rattle.edm_entities.specs.declared.flaw.ReadFlaw.TheVariants as code
+use Rattle.edm_entities.specs.declared.flaw.ReadFault.{ReadFault}
+use Rattle.edm_entities.specs.declared.fault.RowFault.{RowFault}
+use Rattle.edm_entities.specs.declared.fault.RowFault.TheVariants as fault
+
+module _ (slots : Slots) (name : List ℕ) (json : Data) where
+  abbrev At : Path → Flaw → Type 0
+  At path flaw = IsTypeFault slots false path (single (structured name)) json flaw
+
+  -- a flaw at a path that has a text
+  at_path : (flaw : Flaw) (told : String Global) (path : Path) → IsPathText path (Some told) → At path flaw → IsFirstFaultAt slots name json (string_bytes told) flaw
+  at_path flaw told [] text here = absurd text
+  at_path flaw told (step ∷ path) text here = (step ∷ path, here, text)
+
+  -- the row itself is no object
+  no_object : (flaw : Flaw) (path : Path) → IsPathText path None → At path flaw → as_object json ≡ None
+  no_object wrong_kind [] text here = here
+  no_object missing [] text here = absurd here
+  no_object null_not_allowed [] text here = absurd here
+  no_object out_of_range [] text here = absurd here
+  no_object bad_text [] text here = absurd here
+  no_object flaw (step ∷ path) text here = absurd text
+
+  found : (told : ReadFault) (flaw : ReadFlaw) (path : Option (String Global)) → told.flaw ≡ flaw → told.path ≡ path → IsFaultOf At told
+      → OnFlaw flaw (λ f. (way : Path) × IsPathText way path × At way f)
+  found told flaw path is way fault =
+      subst (λ (f : ReadFlaw). OnFlaw f (λ g. (w : Path) × IsPathText w path × At w g)) is
+      (subst (λ (p : Option (String Global)). OnFlaw told.flaw (λ g. (w : Path) × IsPathText w p × At w g)) way fault)
+
+  nowhere : (flaw : ReadFlaw) → ¬ (flaw ≡ code.Memory) → OnFlaw flaw (λ f. (way : Path) × IsPathText way None × At way f) → as_object json ≡ None
+  nowhere code.Missing memory here = no_object missing here.0 here.1 here.2
+  nowhere code.WrongKind memory here = no_object wrong_kind here.0 here.1 here.2
+  nowhere code.NullNotAllowed memory here = no_object null_not_allowed here.0 here.1 here.2
+  nowhere code.OutOfRange memory here = no_object out_of_range here.0 here.1 here.2
+  nowhere code.BadText memory here = no_object bad_text here.0 here.1 here.2
+  nowhere code.Memory memory here = absurd (memory refl)
+
+  pub row_told : (told : ReadFault) (result : RowFault) → IsToldAs told result → IsFaultOf At told → ¬ (IsMemory result) → IsRowFault slots name json result
+  row_told told fault.NotObject is here some = nowhere told.flaw is.1 (found told told.flaw None refl is.0 here)
+  row_told told (fault.Missing path) is here some = let at = found told code.Missing (Some path) is.0 is.1 here in at_path missing path at.0 at.1 at.2
+  row_told told (fault.WrongKind path) is here some = let at = found told code.WrongKind (Some path) is.0 is.1 here in at_path wrong_kind path at.0 at.1 at.2
+  row_told told (fault.NullNotAllowed path) is here some = let at = found told code.NullNotAllowed (Some path) is.0 is.1 here in at_path null_not_allowed path at.0 at.1 at.2
+  row_told told (fault.OutOfRange path) is here some = let at = found told code.OutOfRange (Some path) is.0 is.1 here in at_path out_of_range path at.0 at.1 at.2
+  row_told told (fault.BadText path) is here some = let at = found told code.BadText (Some path) is.0 is.1 here in at_path bad_text path at.0 at.1 at.2
+  row_told told fault.Memory is here some = absurd (some tt)

@@ -1,0 +1,51 @@
+-- For private clauses: faults and paths, as the walk tells them.
+use Rattle.std.specs.Prelude.{◌≡◌, ◌⊎◌, ℕ, List, [], ◌∷◌, Option, Some, None, String, string_bytes}
+use Rattle.std.specs.declared.alloc.Global.{Global}
+use Rattle.std.specs.List.{join_with_byte}
+use Rattle.edm_entities.specs.FitsPrimitive.{Flaw, missing, wrong_kind, null_not_allowed, out_of_range, bad_text}
+use Rattle.edm_entities.specs.RowFaults.{Path}
+use Rattle.edm_entities.specs.declared.flaw.ReadFlaw.{ReadFlaw}
+use Rattle.edm_entities.specs.declared.flaw.ReadFlaw.TheVariants.{Missing, WrongKind, NullNotAllowed, OutOfRange, BadText, Memory}
+use Rattle.edm_entities.specs.declared.flaw.ReadFault.{ReadFault}
+use Rattle.edm_entities.specs.declared.fault.RowFault.{RowFault}
+use Rattle.edm_entities.specs.declared.fault.RowFault.TheVariants as fault
+
+-- P of the flaw that the code tells; want of memory tells none
+abbrev pub OnFlaw : ReadFlaw → (Flaw → Type 0) → Type 0
+OnFlaw Missing P = P missing
+OnFlaw WrongKind P = P wrong_kind
+OnFlaw NullNotAllowed P = P null_not_allowed
+OnFlaw OutOfRange P = P out_of_range
+OnFlaw BadText P = P bad_text
+OnFlaw Memory P = Unit {0}
+
+-- the text of a path; none of the path without steps
+abbrev pub IsPathText : Path → Option (String Global) → Type 0
+IsPathText [] None = Unit {0}
+IsPathText (step ∷ path) (Some told) = string_bytes told ≡ join_with_byte 47 (step ∷ path)
+IsPathText path told = ⊥
+
+-- P of the path and the flaw that the code tells
+abbrev pub IsFaultOf : (Path → Flaw → Type 0) → ReadFault → Type 0
+IsFaultOf P told = OnFlaw told.flaw (λ flaw. (path : Path) × IsPathText path told.path × P path flaw)
+
+-- the text of a path with one step more before it
+abbrev pub IsPathBelow : List ℕ → Option (String Global) → String Global → Type 0
+IsPathBelow step told result = (path : Path) → IsPathText path told → IsPathText (step ∷ path) (Some result)
+
+-- the same fault, told from a step further up; want of memory comes from anywhere
+abbrev pub IsBelow : List ℕ → ReadFault → ReadFault → Type 0
+IsBelow step told result =
+    (result.flaw ≡ Memory)
+    ⊎ ((result.flaw ≡ told.flaw)
+    × ((path : Path) → IsPathText path told.path → IsPathText (step ∷ path) result.path))
+
+-- the fault of a row, from that of its value
+abbrev pub IsToldAs : ReadFault → RowFault → Type 0
+IsToldAs told fault.NotObject = (told.path ≡ None) × (¬ (told.flaw ≡ Memory))
+IsToldAs told (fault.Missing path) = (told.flaw ≡ Missing) × (told.path ≡ Some path)
+IsToldAs told (fault.WrongKind path) = (told.flaw ≡ WrongKind) × (told.path ≡ Some path)
+IsToldAs told (fault.NullNotAllowed path) = (told.flaw ≡ NullNotAllowed) × (told.path ≡ Some path)
+IsToldAs told (fault.OutOfRange path) = (told.flaw ≡ OutOfRange) × (told.path ≡ Some path)
+IsToldAs told (fault.BadText path) = (told.flaw ≡ BadText) × (told.path ≡ Some path)
+IsToldAs told fault.Memory = told.flaw ≡ Memory

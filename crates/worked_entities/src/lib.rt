@@ -1,0 +1,16 @@
+//! JSON rows as entities, as tables of rows and wanted answers: which rows fit, and the first fault of those that do
+//! not. There is nothing here but tests.
+#![tactic(auto)]
+
+#[cfg(test)]
+mod answer;
+#[cfg(test)]
+mod kinds;
+#[cfg(test)]
+mod products;
+#[cfg(test)]
+mod shapes;
+#[cfg(test)]
+mod shop;
+#[cfg(test)]
+mod sizes;

@@ -1,0 +1,150 @@
+//! Rows of one type with properties of every kind, and their values by slot.
+use crate::answer::answer;
+use crate::shop::{PRODUCT, SHOP};
+use csdl_schema::Schema;
+use edm_entities::Entity;
+use edm_values::Value;
+use serde_json::Value as Json;
+use std::alloc::{AllocError, Global};
+use std::test::Fail;
+
+/// What is written behind the product's members, of which the last of a name counts, and the answer.
+const CHANGED: [(&str, &str); 34] = [
+    ("", "entity"),
+    (",\"Color\":\"8\"", "entity"),
+    (",\"Home\":null", "entity"),
+    (
+        ",\"Rating\":null,\"Active\":null,\"Released\":null",
+        "entity",
+    ),
+    (
+        ",\"Price\":{\"a\":[1e300]},\"Other\":[],\"@odata.etag\":1",
+        "entity",
+    ),
+    (",\"Price\":null", "entity"),
+    (",\"Rating\":40000,\"Rating\":4", "entity"),
+    (",\"Changed\":\"2020-01-01\"", "BadText Changed"),
+    (",\"Color\":\"Red,,Blue\"", "BadText Color"),
+    (",\"Color\":1", "WrongKind Color"),
+    (",\"Home\":{\"City\":\"Oslo\"}", "Missing Home/Lines"),
+    (
+        ",\"Home\":{\"City\":null,\"Lines\":[]}",
+        "NullNotAllowed Home/City",
+    ),
+    (",\"Home\":[]", "WrongKind Home"),
+    (",\"Parts\":[null]", "NullNotAllowed Parts/0"),
+    (",\"Parts\":[{}]", "Missing Parts/0/Name"),
+    (",\"Parts\":{}", "WrongKind Parts"),
+    (",\"Parts\":null", "NullNotAllowed Parts"),
+    (",\"Parts\":[]", "entity"),
+    (
+        ",\"Parts\":[{\"Name\":\"x\",\"Qty\":1,\"Sub\":[]},{\"Name\":\"x\",\"Qty\":1,\"Sub\":[1]}]",
+        "WrongKind Parts/1/Sub/0",
+    ),
+    (
+        ",\"Parts\":[{\"Name\":\"x\",\"Qty\":1,\"Sub\":[{\"Name\":\"y\",\"Qty\":2,\"Sub\":[]},{\"Name\":\"y\",\"Qty\":2,\"Sub\":[]},{\"Name\":\"y\",\"Qty\":2147483648,\"Sub\":[]}]}]",
+        "OutOfRange Parts/0/Sub/2/Qty",
+    ),
+    (
+        ",\"Parts\":[{\"Name\":\"x\",\"Qty\":1,\"Sub\":[{\"Name\":\"y\",\"Qty\":2,\"Sub\":[{\"Name\":\"z\",\"Qty\":3,\"Sub\":[{\"Name\":\"z\",\"Qty\":3,\"Sub\":[{\"Name\":4}]}]}]}]}]",
+        "WrongKind Parts/0/Sub/0/Sub/0/Sub/0/Sub/0/Name",
+    ),
+    (",\"Rating\":1.5", "WrongKind Rating"),
+    (",\"Rating\":40000", "OutOfRange Rating"),
+    (",\"Rating\":4,\"Rating\":40000", "OutOfRange Rating"),
+    (",\"Stock\":9223372036854775808", "OutOfRange Stock"),
+    (",\"Name\":1,\"Tags\":null", "WrongKind Name"),
+    (",\"Tags\":null,\"Name\":1", "WrongKind Name"),
+    (",\"Tags\":null", "NullNotAllowed Tags"),
+    (",\"Tags\":[\"a\",null]", "NullNotAllowed Tags/1"),
+    (
+        ",\"Tags\":[\"a\",\"b\",\"c\",\"d\",\"e\",\"f\",\"g\",\"h\",\"i\",\"j\",0]",
+        "WrongKind Tags/10",
+    ),
+    (",\"ID\":null", "NullNotAllowed ID"),
+    (
+        ",\"Code\":\"{01234567-89ab-cdef-0123-456789abcdef}\"",
+        "BadText Code",
+    ),
+    (
+        ",\"Code\":\"01234567-89AB-CDEF-0123-456789ABCDEF\"",
+        "entity",
+    ),
+    (",\"Released\":\"2021-02-29\"", "BadText Released"),
+];
+
+#[test]
+fn changed_products(rt: HostRuntime) -> Result<(), Fail> {
+    let schema = Schema::read(rt.alloc(), SHOP.as_bytes())?;
+    let product = PRODUCT;
+    for (members, wanted) in CHANGED {
+        let row = format!(in rt.alloc(); "{product}{members}}}")?;
+        let told = answer(rt.alloc(), &schema, "Shop.Product", row.as_str())?;
+        assert_eq!(rt; told.as_str(), wanted, "at {members}");
+    }
+    Ok(())
+}
+
+#[test]
+fn rows_of_another_kind(rt: HostRuntime) -> Result<(), Fail> {
+    let schema = Schema::read(rt.alloc(), SHOP.as_bytes())?;
+    for (row, wanted) in [
+        ("{}", "Missing Changed"),
+        ("[]", "NotObject"),
+        ("null", "NotObject"),
+        ("1.5", "NotObject"),
+        ("\"a\"", "NotObject"),
+    ] {
+        let told = answer(rt.alloc(), &schema, "Shop.Product", row)?;
+        assert_eq!(rt; told.as_str(), wanted, "at {row}");
+    }
+    Ok(())
+}
+
+/// What a value is: numbers and truth values as they are, of others the kind.
+fn shown(alloc: Global, value: &Value) -> Result<String, AllocError> {
+    match value {
+        Value::Null => "null".to_owned(alloc),
+        Value::Bool(truth) => format!(in alloc; "{truth}"),
+        Value::Int(number) => format!(in alloc; "{number}"),
+        Value::Text(_) => "text".to_owned(alloc),
+        Value::Date(_) => "date".to_owned(alloc),
+        Value::Moment(_) => "moment".to_owned(alloc),
+        Value::Guid(_) => "guid".to_owned(alloc),
+        Value::Enum(number) => format!(in alloc; "member {number}"),
+        Value::Record(_) => "record".to_owned(alloc),
+        Value::List(_) => "list".to_owned(alloc),
+    }
+}
+
+/// The values in an entity's slots, one behind another.
+fn shown_slots(alloc: Global, value: &Value) -> Result<String, AllocError> {
+    let mut text = String::new(alloc);
+    if let Value::Record(slots) = value {
+        for slot in slots.as_slice() {
+            let word = shown(alloc, slot)?;
+            text.push_str(word.as_str())?;
+            text.push_str("; ")?;
+        }
+    }
+    Ok(text)
+}
+
+/// The opaque property is held as null.
+#[test]
+fn values_by_slot(rt: HostRuntime) -> Result<(), Fail> {
+    let schema = Schema::read(rt.alloc(), SHOP.as_bytes())?;
+    let id = schema.type_named("Shop.Product").ok_or("the type")?;
+    assert!(rt; schema.holds(id));
+    let product = PRODUCT;
+    let row = format!(in rt.alloc(); "{product}}}")?;
+    let json = Json::from_str(rt.alloc(), row.as_str())?;
+    let entity = Entity::from_json(rt.alloc(), &schema, id, &json)?;
+    assert!(rt; entity.type_id() == id && entity.schema().slots(id) == 13);
+    let slots = shown_slots(rt.alloc(), entity.value())?;
+    assert_eq!(rt;
+        slots.as_str(),
+        "true; moment; guid; member 5; record; 1; text; list; null; 3; date; 10; list; "
+    );
+    Ok(())
+}

@@ -1,0 +1,55 @@
+//! Aliases of namespaces (CSDL JSON 4.01, section 4).
+use crate::told::{answer, json};
+use csdl_schema::Schema;
+use std::test::Fail;
+
+#[test]
+fn aliases_of_their_own(rt: HostRuntime) -> Result<(), Fail> {
+    for (schemas, wanted) in [
+        ("'A':{'$Alias':'S'}", "accepted"),
+        ("'A':{'$Alias':''}", "accepted"),
+        ("'A':{'$Alias':'A'}", "BadType A"),
+        ("'A':{'$Alias':null}", "BadType A"),
+        ("'A':{'$Alias':5}", "BadType A"),
+        ("'A':{'$Alias':['S']}", "BadType A"),
+        ("'A':{'$Alias':'S'},'B':{'$Alias':'S'}", "BadType A"),
+        ("'B':{'$Alias':'S'},'A':{'$Alias':'S'}", "BadType A"),
+        (
+            "'B':{'$Alias':'S'},'A':{'$Alias':'R'},'C':{'$Alias':'S'}",
+            "BadType B",
+        ),
+        ("'A':{'$Alias':'B'},'B':{}", "BadType A"),
+        ("'A':{},'B':{'$Alias':'A'}", "BadType B"),
+        ("'A':{'$Alias':'B'},'B':1", "BadType A"),
+        ("'A':{'$Alias':'$Reference'},'$Reference':{}", "accepted"),
+        ("'A':{'$Alias':'S','T':5},'B':1", "BadType B"),
+    ] {
+        let document = format!(in rt.alloc(); "{{'$Version':'4.0',{schemas}}}")?;
+        let told = answer(rt.alloc(), document.as_str())?;
+        assert_eq!(rt; told.as_str(), wanted, "at {schemas}");
+    }
+    Ok(())
+}
+
+const TWO_SCHEMAS: &str =
+    "{'$Version':'4.0','A.B':{'$Alias':'S','T':{'$Kind':'EntityType','$BaseType':'R.U','P':{'$Type':'R.C'}}},'C':{'$Alias':'R','U':{'$Kind':'EntityType','Q':{}},'C':{'$Kind':'EnumType'}}}";
+
+/// A type goes by its namespace and by the alias of it; each schema may name the other's types by alias.
+#[test]
+fn names_by_alias(rt: HostRuntime) -> Result<(), Fail> {
+    let text = json(rt.alloc(), TWO_SCHEMAS)?;
+    let schema = Schema::read(rt.alloc(), text.as_bytes())?;
+    let found = schema.type_named("S.T").ok_or("by alias")?;
+    assert!(rt; schema.type_named("A.B.T") == Some(found));
+    assert!(rt; schema.type_name(found) == Some("A.B.T"));
+    assert_eq!(rt; schema.slots(found), 2);
+    assert_eq!(rt; schema.slot(found, "Q"), Some(0));
+    assert_eq!(rt; schema.slot(found, "P"), Some(1));
+    let color = schema.enum_named("R.C").ok_or("the enumeration")?;
+    assert!(rt; schema.enum_named("C.C") == Some(color) && schema.enum_name(color) == Some("C.C"));
+    for unknown in ["T", "B.T", "A.T", "S.U", "R.T", "s.T", ".T", "S.", ""] {
+        assert!(rt; schema.type_named(unknown).is_none(), "at {unknown}");
+    }
+    assert!(rt; schema.type_named("C.C").is_none() && schema.enum_named("S.T").is_none());
+    Ok(())
+}

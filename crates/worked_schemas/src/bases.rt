@@ -1,0 +1,177 @@
+//! Bases of types, and the properties along their chains (CSDL JSON 4.01, sections 6.1, 7 and 9.1).
+use crate::told::{answer_to, document_of, json};
+use csdl_schema::Schema;
+use std::alloc::{AllocError, Global};
+use std::test::Fail;
+
+#[test]
+fn small_chains(rt: HostRuntime) -> Result<(), Fail> {
+    for (members, wanted) in [
+        (
+            "'A':{'$Kind':'EntityType','$BaseType':'N.B'}",
+            "UnknownBase N.A",
+        ),
+        (
+            "'A':{'$Kind':'EntityType','$BaseType':'B'},'B':{'$Kind':'EntityType'}",
+            "UnknownBase N.A",
+        ),
+        (
+            "'A':{'$Kind':'EntityType','$BaseType':''}",
+            "UnknownBase N.A",
+        ),
+        (
+            "'A':{'$Kind':'EntityType','$BaseType':'Edm.Int32'}",
+            "UnknownBase N.A",
+        ),
+        (
+            "'A':{'$Kind':'EntityType','$BaseType':'N.B'},'B':{'$Kind':'ComplexType'}",
+            "UnknownBase N.A",
+        ),
+        (
+            "'A':{'$Kind':'ComplexType','$BaseType':'N.B'},'B':{'$Kind':'EntityType'}",
+            "UnknownBase N.A",
+        ),
+        (
+            "'A':{'$Kind':'EntityType','$BaseType':'N.B'},'B':{'$Kind':'EnumType'}",
+            "UnknownBase N.A",
+        ),
+        (
+            "'A':{'$Kind':'ComplexType','$BaseType':'N.B'},'B':{'$Kind':'TypeDefinition','$UnderlyingType':'N.C'},'C':{'$Kind':'ComplexType'}",
+            "UnknownBase N.A",
+        ),
+        (
+            "'A':{'$Kind':'EntityType','$BaseType':'N.B'},'B':{'$Kind':'EntityType'}",
+            "accepted",
+        ),
+        (
+            "'A':{'$Kind':'ComplexType','$BaseType':'N.B'},'B':{'$Kind':'ComplexType'}",
+            "accepted",
+        ),
+        (
+            "'$Alias':'S','A':{'$Kind':'ComplexType','$BaseType':'S.B'},'B':{'$Kind':'ComplexType'}",
+            "accepted",
+        ),
+        (
+            "'A':{'$Kind':'EntityType','$BaseType':'N.A'}",
+            "BaseCycle N.A",
+        ),
+        (
+            "'A':{'$Kind':'EntityType','$BaseType':'N.B'},'B':{'$Kind':'EntityType','$BaseType':'N.A'}",
+            "BaseCycle N.A",
+        ),
+        (
+            "'C':{'$Kind':'EntityType'},'A':{'$Kind':'EntityType','$BaseType':'N.B'},'B':{'$Kind':'EntityType','$BaseType':'N.B'}",
+            "BaseCycle N.A",
+        ),
+        (
+            "'A':{'$Kind':'EntityType'},'B':{'$Kind':'EntityType','$BaseType':'N.B'}",
+            "BaseCycle N.B",
+        ),
+        (
+            "'A':{'$Kind':'EntityType','P':{}},'B':{'$Kind':'EntityType','$BaseType':'N.A','P':{}}",
+            "PropertyTwice N.B P",
+        ),
+        (
+            "'B':{'$Kind':'EntityType','P':{}},'A':{'$Kind':'EntityType','$BaseType':'N.B','P':{}}",
+            "PropertyTwice N.A P",
+        ),
+        (
+            "'A':{'$Kind':'EntityType','P':{},'Q':{}},'B':{'$Kind':'EntityType','$BaseType':'N.A','Q':{},'P':{}}",
+            "PropertyTwice N.B P",
+        ),
+        (
+            "'A':{'$Kind':'EntityType','P':{}},'B':{'$Kind':'EntityType','$BaseType':'N.A'},'C':{'$Kind':'EntityType','$BaseType':'N.B','P':{}}",
+            "PropertyTwice N.C P",
+        ),
+        (
+            "'C':{'$Kind':'EntityType','P':{}},'B':{'$Kind':'EntityType','$BaseType':'N.C','P':{}},'A':{'$Kind':'EntityType','$BaseType':'N.B'}",
+            "PropertyTwice N.A P",
+        ),
+        (
+            "'A':{'$Kind':'EntityType','P':{}},'B':{'$Kind':'EntityType','$BaseType':'N.A','p':{}}",
+            "accepted",
+        ),
+    ] {
+        let told = answer_to(rt.alloc(), members)?;
+        assert_eq!(rt; told.as_str(), wanted, "at {members}");
+    }
+    Ok(())
+}
+
+/// So many complex types, `T100` and on: the first with `first` in it, each other with the one before it as its base.
+pub(crate) fn chain(alloc: Global, types: usize, first: &str) -> Result<String, AllocError> {
+    let mut text = format!(in alloc; "'T100':{{'$Kind':'ComplexType'{first}}}")?;
+    let mut below = 100_usize;
+    for number in 101..types.saturating_add(100) {
+        let next = format!(in alloc;
+            ",'T{number}':{{'$Kind':'ComplexType','$BaseType':'N.T{below}'}}"
+        )?;
+        text.push_str(next.as_str())?;
+        below = number;
+    }
+    Ok(text)
+}
+
+/// 64 bases are read, and 65 are too many; a chain of any length that does not end is a cycle.
+#[test]
+fn long_chains(rt: HostRuntime) -> Result<(), Fail> {
+    for (types, first, wanted) in [
+        (1, "", "accepted"),
+        (2, "", "accepted"),
+        (64, "", "accepted"),
+        (65, "", "accepted"),
+        (66, "", "TooLarge"),
+        (1, ",'$BaseType':'N.T100'", "BaseCycle N.T100"),
+        (2, ",'$BaseType':'N.T101'", "BaseCycle N.T100"),
+        (3, ",'$BaseType':'N.T102'", "BaseCycle N.T100"),
+        (65, ",'$BaseType':'N.T164'", "BaseCycle N.T100"),
+        (70, ",'$BaseType':'N.T169'", "BaseCycle N.T100"),
+    ] {
+        let members = chain(rt.alloc(), types, first)?;
+        let told = answer_to(rt.alloc(), members.as_str())?;
+        assert_eq!(rt; told.as_str(), wanted, "{types} types, with {first}");
+    }
+    Ok(())
+}
+
+/// A property that the uppermost of 64 bases has, and the type itself.
+#[test]
+fn owned_twice_far_apart(rt: HostRuntime) -> Result<(), Fail> {
+    let above = chain(rt.alloc(), 64, ",'P':{},'O':{}")?;
+    for (own, wanted) in [
+        ("'Q':{}", "accepted"),
+        ("'P':{}", "PropertyTwice N.Last P"),
+        ("'P':{},'Q':{},'O':{}", "PropertyTwice N.Last O"),
+    ] {
+        let members = format!(in rt.alloc();
+            "{above},'Last':{{'$Kind':'ComplexType','$BaseType':'N.T163',{own}}}"
+        )?;
+        let told = answer_to(rt.alloc(), members.as_str())?;
+        assert_eq!(rt; told.as_str(), wanted, "at {own}");
+    }
+    Ok(())
+}
+
+/// The base's slots first, then the own ones in byte order, along three types.
+#[test]
+fn inherited_slots(rt: HostRuntime) -> Result<(), Fail> {
+    let members =
+        "'A':{'$Kind':'EntityType','$BaseType':'N.B','a':{},'B':{}},'B':{'$Kind':'EntityType','$BaseType':'N.C'},'C':{'$Kind':'EntityType','Z':{},'Y':{'$Type':'Edm.Int32'}}";
+    let document = document_of(rt.alloc(), members)?;
+    let text = json(rt.alloc(), document.as_str())?;
+    let schema = Schema::read(rt.alloc(), text.as_bytes())?;
+    let owner = schema.type_named("N.A").ok_or("the type")?;
+    assert_eq!(rt; schema.slots(owner), 4);
+    for (slot, name) in [(0, "Y"), (1, "Z"), (2, "B"), (3, "a")] {
+        assert_eq!(rt; schema.slot(owner, name), Some(slot));
+        assert!(rt; slot < schema.slots(owner));
+        assert!(rt; schema.slot_name(owner, slot) == name, "at {slot}");
+    }
+    for name in ["b", "A", "y", ""] {
+        assert_eq!(rt; schema.slot(owner, name), None, "at {name}");
+    }
+    let above = schema.type_named("N.B").ok_or("its base")?;
+    assert_eq!(rt; schema.slots(above), 2);
+    assert_eq!(rt; schema.slot(above, "B"), None);
+    Ok(())
+}

@@ -1,0 +1,94 @@
+//! The limits of a document and of a type, and what lies next to them.
+use crate::told::{answer, answer_to};
+use std::alloc::{AllocError, Global};
+use std::test::Fail;
+
+/// So many types of one kind, and `others` behind them.
+fn many_types(alloc: Global, count: usize, kind: &str, others: &str) -> Result<String, AllocError> {
+    let mut text = String::new(alloc);
+    for number in 0..count {
+        let member = format!(in alloc; "'T{number}':{{'$Kind':'{kind}'}},")?;
+        text.push_str(member.as_str())?;
+    }
+    text.push_str(others)?;
+    Ok(text)
+}
+
+/// 4,096 types are read; the number of types goes before the faults of each, and kinds that are read over don't count.
+#[test]
+fn numbers_of_types(rt: HostRuntime) -> Result<(), Fail> {
+    for (count, kind, others, wanted) in [
+        (4_095, "ComplexType", "'Z':{'$Kind':'EnumType'}", "accepted"),
+        (4_096, "ComplexType", "'Z':{'$Kind':'EnumType'}", "TooLarge"),
+        (4_095, "EnumType", "'Z':{'$Kind':'EntityType'}", "accepted"),
+        (4_095, "EntityType", "'Z':{'$Kind':'Term'}", "accepted"),
+        (4_097, "Term", "'Z':{'$Kind':'EntityType'}", "accepted"),
+        (
+            4_096,
+            "TypeDefinition",
+            "'Z':{'$Kind':'EntityType'}",
+            "TooLarge",
+        ),
+        (
+            4_096,
+            "EntityType",
+            "'1':{'$Kind':'EntityType'}",
+            "TooLarge",
+        ),
+        (4_096, "EntityType", "'Z':5", "BadType N.Z"),
+    ] {
+        let members = many_types(rt.alloc(), count, kind, others)?;
+        let told = answer_to(rt.alloc(), members.as_str())?;
+        assert_eq!(rt; told.as_str(), wanted, "{count} of {kind}");
+    }
+    Ok(())
+}
+
+/// A type of so many properties of its own, and an heir with so many.
+fn many_properties(alloc: Global, base: usize, own: usize) -> Result<String, AllocError> {
+    let mut text = "'B':{'$Kind':'ComplexType'".to_owned(alloc)?;
+    for number in 0..base {
+        let property = format!(in alloc; ",'B{number}':{{}}")?;
+        text.push_str(property.as_str())?;
+    }
+    text.push_str("},'A':{'$Kind':'ComplexType','$BaseType':'N.B'")?;
+    for number in 0..own {
+        let property = format!(in alloc; ",'A{number}':{{}}")?;
+        text.push_str(property.as_str())?;
+    }
+    text.push_str("}")?;
+    Ok(text)
+}
+
+/// 1,024 properties are read, inherited ones counted.
+#[test]
+fn numbers_of_properties(rt: HostRuntime) -> Result<(), Fail> {
+    for (base, own, wanted) in [
+        (1_024, 0, "accepted"),
+        (0, 1_024, "accepted"),
+        (1_000, 24, "accepted"),
+        (1_025, 0, "TooLarge"),
+        (0, 1_025, "TooLarge"),
+        (1_000, 25, "TooLarge"),
+    ] {
+        let members = many_properties(rt.alloc(), base, own)?;
+        let told = answer_to(rt.alloc(), members.as_str())?;
+        assert_eq!(rt; told.as_str(), wanted, "{base} inherited, {own} own");
+    }
+    Ok(())
+}
+
+/// 1,048,576 bytes are read; the size goes before all else.
+#[test]
+fn sizes(rt: HostRuntime) -> Result<(), Fail> {
+    for (text, wanted) in [("{'$Version':'4.01'}", "accepted"), ("{", "NotJson")] {
+        let mut document = " ".repeat(rt.alloc(), 1_048_576_usize.saturating_sub(text.len()))?;
+        document.push_str(text)?;
+        let told = answer(rt.alloc(), document.as_str())?;
+        assert_eq!(rt; told.as_str(), wanted, "at {text}");
+        document.push_str(" ")?;
+        let told = answer(rt.alloc(), document.as_str())?;
+        assert_eq!(rt; told.as_str(), "TooLarge", "at {text}");
+    }
+    Ok(())
+}
