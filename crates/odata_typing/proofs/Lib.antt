@@ -1,3 +1,4 @@
+pub mod canonical
 pub mod types
 pub mod untypable
 pub mod pre_orders

@@ -13,6 +13,7 @@ ghost use Rattle.odata_typing.specs.PreOrder.{pre_order, span_of_tree};
 ghost use Rattle.odata_typing.specs.TypeView.{expr_type};
 ghost use Rattle.odata_typing.specs.private.Answer.{IsWhole};
 
+use super::canonical_text::text_of_list;
 use super::checked_node::{CheckedNode, NodeKind};
 use super::edm_type::EdmType;
 use super::node_list::NodeList;
@@ -29,7 +30,6 @@ pub struct Checked<'s> {
     schema: &'s Schema,
     filtered_type: TypeId,
     list: NodeList,
-    canonical: String,
 }
 
 impl<'s> Model for Checked<'s> {
@@ -42,30 +42,25 @@ impl<'s> Model for Checked<'s> {
 
     ghost coded = { Prim.hlevel (codes, checked_node.the_row.coded, value.the_row.coded) };
 
-    ghost use Rattle.std.specs.Prelude.{string_bytes};
-    ghost use Rattle.odata_typing.specs.private.Printed.{IsPrinted};
+    ghost use Rattle.odata_typing.specs.Filter.{IsFilter};
 
     ghost view = { λ c. record { schema = c.schema.now; filtered = c.filtered_type; list = c.list } };
 
-    ghost invariant = { λ c. IsPrinted
-        (record { schema = c.schema.now; filtered = c.filtered_type; list = c.list })
-        (string_bytes c.canonical) };
+    ghost invariant = { λ c. IsFilter
+        (record { schema = c.schema.now; filtered = c.filtered_type; list = c.list }) };
 }
 
 impl<'s> Checked<'s> {
-    /// The filter of a list with its canonical text, whose tree has that type, or `NotBoolean` with the whole of a text of
-    /// that length.
+    /// The filter of a list whose tree has that type, or `NotBoolean` with the whole of a text of that length.
     pub(crate) fn of(
         schema: &'s Schema,
         filtered_type: TypeId,
         list: NodeList,
-        canonical: String,
         edm_type: EdmType,
         len: usize,
     ) -> Result<Checked<'s>, TypeFault>
         requires held { HoldsType schema.now filtered_type }
         requires whole { IsWhole schema.now filtered_type list edm_type }
-        requires printed { IsCanonicalText (tree_of_nodes list) (string_bytes canonical) }
         requires few { length (pre_order (tree_of_nodes list)) ≤ token_limit }
         ensures parts { IfOk result (λ c. c ≡
             record { schema = schema.entry.now; filtered = filtered_type; list = list }) }
@@ -79,7 +74,6 @@ impl<'s> Checked<'s> {
                 schema,
                 filtered_type,
                 list,
-                canonical,
             })
         } else {
             let span = Span {
@@ -194,7 +188,9 @@ impl<'s> Checked<'s> {
     pub fn canonical(&self, alloc: Global) -> Result<String, AllocError>
         ensures { IfOk result (λ text. IsCanonicalText (tree_of_filter self.now) (string_bytes text)) }
     {
-        String::from_str(alloc, self.canonical.as_str())
+        // What is known of every filter is known once its nodes have been asked for.
+        let _nodes = self.nodes();
+        text_of_list(alloc, &self.list)
     }
 
     /// Whether evaluating the filter makes texts.

@@ -12,7 +12,7 @@ use super::node_list::NodeList;
 use super::refusal::Refusal;
 use super::untyped::Untyped;
 use csdl_schema::{Schema, TypeId};
-use odata_syntax::{Expr, SyntaxFault, parse, print};
+use odata_syntax::{Expr, SyntaxFault, parse};
 use odata_text::{TextFault, tokens, tokens_are_spelled};
 use std::alloc::Global;
 
@@ -40,20 +40,9 @@ pub fn check<'s>(
         Ok(expr) => expr,
         Err(refusal) => return Err(refusal),
     };
-    let canonical = match print(alloc, &expr) {
-        Ok(canonical) => canonical,
-        Err(_) => return Err(Refusal::Memory),
-    };
     let mut list = NodeList::new(alloc);
     match checked_tree(alloc, schema, filtered_type, expr.root(), &mut list) {
-        Ok(edm_type) => match Checked::of(
-            schema,
-            filtered_type,
-            list,
-            canonical,
-            edm_type,
-            text.len(),
-        ) {
+        Ok(edm_type) => match Checked::of(schema, filtered_type, list, edm_type, text.len()) {
             Ok(checked) => Ok(checked),
             Err(fault) => Err(Refusal::Typing(fault)),
         },

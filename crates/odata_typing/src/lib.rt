@@ -2,6 +2,7 @@
 //! section 5.1.1).
 #![tactic(auto)]
 
+mod canonical_text;
 mod checked;
 mod checked_node;
 mod checker;

@@ -1,4 +1,4 @@
-ghost use Rattle.std.specs.Prelude.{◌≡◌, ◌<◌, ◌+◌, [], length, string_bytes, OnOk, OnErr, IfErr};
+ghost use Rattle.std.specs.Prelude.{◌≡◌, ◌<◌, ◌+◌, [], Some, length, slice_get, string_bytes, OnOk, OnErr, IfErr};
 ghost use Rattle.odata_typing.specs.private.ListGrowth.{with_node, with_value, node_put};
 
 use super::checked_node::{CheckedNode, NodeKind};
@@ -56,6 +56,22 @@ impl NodeList {
         ensures beside { length self.now.texts ≡ length self.now.nodes }
     {
         self.nodes.as_slice()
+    }
+
+    /// The node at a place.
+    pub(crate) fn node(&self, place: usize) -> CheckedNode
+        requires { place < length self.now.nodes }
+        ensures { slice_get self.now.nodes place ≡ Some result }
+    {
+        self.nodes[place]
+    }
+
+    /// The text beside a node.
+    pub(crate) fn text(&self, place: usize) -> &str
+        requires { place < length self.now.nodes }
+        ensures { slice_get self.now.texts place ≡ Some result.now }
+    {
+        self.texts[place].as_str()
     }
 
     /// The values of its literals.

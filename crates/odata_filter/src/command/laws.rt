@@ -8,8 +8,8 @@ ghost use Rattle.odata_filter.specs.WorkedLines as worked;
 
 /// A whole line is taken with its four values, and one with a query in place of the filter with that. Lines with
 /// neither and with both are taken and give not one of them. Lines without a schema and with an unknown option are not
-/// taken. `check` takes a filter, and no rows, no moment and no collection. The program tells its version, its subcommand
-/// has none of its own, and help goes before what is missing.
+/// taken. `check` takes a filter, and no rows, no moment and no collection. The program tells its version, its
+/// subcommand has none of its own, and help goes before what is missing.
 pub fn worked_lines()
     ensures taken { IsTaken worked.whole }
     ensures schema { first_of (codes "schema") (verb_matches worked.whole) ≡ Some (codes "s") }

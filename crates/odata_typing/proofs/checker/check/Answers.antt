@@ -1,13 +1,10 @@
 use Rattle.std.proofs.Common.{◌≡◌, sym, subst}
-use Rattle.std.specs.Prelude.{string_bytes}
-use Rattle.odata_syntax.specs.CanonicalText.{IsCanonicalText}
-use Rattle.odata_syntax.specs.Tree.{Tree}
 use Rattle.odata_syntax.specs.TreeView.{tree_of}
 use Rattle.csdl_schema.specs.SchemaModel.{slots_of, type_name_at}
 use Rattle.odata_typing.specs.Filter.{Filter, tree_of_filter}
 use Rattle.odata_typing.specs.HasTyping.{HasTyping}
 use Rattle.odata_typing.specs.TypeView.{expr_type}
-use Rattle.odata_typing.proofs.untypable.Checks.{UnlessMemory-map, treeless, few_whole, is_whole, not_boolean, whole_typing, untypable_refuses, other_refuses, whole_is}
+use Rattle.odata_typing.proofs.untypable.Checks.{UnlessMemory-map, treeless, few_whole, is_whole, not_boolean, whole_typing, untypable_refuses, other_refuses}
 use Rattle.odata_typing.proofs.checker.check.Goals as goal
 
 pub returns-in-Err-clause-none : goal.returns-in-Err-clause-none
@@ -17,14 +14,6 @@ returns-in-Err-clause-none c =
 pub of-requires-clause-whole : goal.of-requires-clause-whole
 of-requires-clause-whole c =
     is_whole c.args.schema.now c.args.filtered_type c.new-list.result (tree_of c.root.result.now) c.checked_tree.new.list c.in-Ok-checked_tree.edm_type c.new-list.ensures c.in-Ok-checked_tree.ensures.answer
-
-pub of-requires-clause-printed : goal.of-requires-clause-printed
-of-requires-clause-printed c =
-    let same : tree_of c.root.result.now ≡ tree_of c.in-Ok.expr = cc in
-    let walked = rw same at c.in-Ok-checked_tree.ensures.answer in
-    let P : Tree → Type 0 = λ (t : Tree). IsCanonicalText t (string_bytes c.in-Ok-print.canonical) in
-    subst P (sym (whole_is c.args.schema.now c.args.filtered_type c.new-list.result (tree_of c.in-Ok.expr) c.checked_tree.new.list c.in-Ok-checked_tree.edm_type c.new-list.ensures walked))
-    c.in-Ok-print.ensures
 
 pub of-requires-clause-few : goal.of-requires-clause-few
 of-requires-clause-few c =
