@@ -1,13 +1,13 @@
 //! Laws of the grammar (OData URL Conventions 4.01, section 5.1.1). Each function is one; its body is empty.
-ghost use Rattle.std.specs.Prelude.{◌≡◌, ◌<◌, ◌+◌, ℕ, true, List};
+ghost use Rattle.std.specs.Prelude.{◌≡◌, ◌<◌, ◌+◌, ◌⊎◌, ℕ, true, List, Contains};
 ghost use Rattle.odata_syntax.specs.declared.syntax_fault.SyntaxFault.{SyntaxFault};
 ghost use Rattle.odata_text.specs.TokenModel.{TokenModel};
 ghost use Rattle.odata_text.specs.declared.span.Span.{Span};
-ghost use Rattle.odata_syntax.specs.Tree.{Tree, start_of, stop_of};
+ghost use Rattle.odata_syntax.specs.Tree.{Tree, shape_of, start_of, stop_of};
 ghost use Rattle.odata_syntax.specs.Grammar.{Level, or_level, Derives};
 ghost use Rattle.odata_syntax.specs.Front.{close_count, depth_limit, open_count, opens};
 ghost use Rattle.odata_syntax.specs.Parse.{HasNoParse, IsExpression, IsFirstDeep, IsParse, IsSyntaxFault, IsUnended};
-ghost use Rattle.odata_syntax.specs.Spans.{HoldsSpan, IsSpanned, IsSpannedWithin, IsWithin, SharesNoByte};
+ghost use Rattle.odata_syntax.specs.Spans.{HoldsSpan, IsSpanned, IsSpannedWithin, IsWithin, SharesNoByte, children_of};
 ghost use Rattle.odata_syntax.specs.FirstRun.{first_run_tokens, first_run_tree, name_eq};
 
 /// Tokens are at most one expression.
@@ -37,6 +37,13 @@ pub fn spans_hold()
 pub fn spans_apart()
     ensures { (tree node other : Tree) → IsExpression tree → IsWithin node tree → IsWithin other tree
         → ¬ IsWithin node other → ¬ IsWithin other node → SharesNoByte node other }
+{}
+
+/// Two children of a node are one tree, or they share no byte.
+pub fn children_apart()
+    ensures { (tree node child other : Tree) → IsExpression tree → IsWithin node tree
+        → Contains (children_of (shape_of node)) child → Contains (children_of (shape_of node)) other
+        → (child ≡ other) ⊎ SharesNoByte child other }
 {}
 
 /// Each node of an expression takes a byte or more.

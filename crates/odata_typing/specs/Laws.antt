@@ -3,7 +3,7 @@ use Rattle.std.specs.Prelude.{◌≡◌, ℕ, pos, List, [], ◌∷◌, None, fa
 use Rattle.edm_values.specs.declared.primitive.PrimitiveType.{PrimitiveType}
 use Rattle.edm_values.specs.declared.value.Value.{Value}
 use Rattle.odata_syntax.specs.FirstRun.{active_and_id, first_run_tree}
-use Rattle.odata_syntax.specs.Tree.{Tree, node, literal, name, binary}
+use Rattle.odata_syntax.specs.Tree.{Tree, start_of, node, literal, name, binary}
 use Rattle.odata_syntax.specs.declared.node.BinaryOperator.{BinaryOperator}
 use Rattle.odata_syntax.specs.declared.node.LiteralKind.{LiteralKind}
 use Rattle.csdl_schema.specs.ExprType.{ExprType, single, primitive}
@@ -13,7 +13,10 @@ use Rattle.odata_typing.specs.declared.checked_node.NodeKind.{NodeKind}
 use Rattle.odata_typing.specs.declared.edm_type.EdmType.{EdmType}
 use Rattle.odata_typing.specs.declared.edm_type.ValueType.{ValueType}
 use Rattle.odata_typing.specs.ExprTypes.{boolean_type}
+use Rattle.odata_syntax.specs.Parse.{IsExpression}
 use Rattle.odata_typing.specs.FirstUntypable.{IsUntypable}
+use Rattle.odata_typing.specs.HasTyping.{HasNoTyping, IsRefusal}
+use Rattle.odata_typing.specs.declared.refusal.Refusal.{Refusal}
 use Rattle.odata_typing.specs.FlatTree.{FlatTree, tree_of_nodes}
 use Rattle.odata_typing.specs.Stands.{Stands}
 use Rattle.odata_typing.specs.Typed.{Scope, Typed, IsTyped, IsUntyped}
@@ -32,6 +35,29 @@ TypedIsClear =
     (slots : Slots) (root : List ℕ) (scope : Scope) (tree : Tree) (at : Scope) (part : Tree)
     → IsTyped slots root scope tree
     → ¬ IsUntypable slots root scope tree at part
+
+-- of an expression at most one untypable node starts in a place
+abbrev pub OneUntypableStart : Type 0
+OneUntypableStart =
+    (slots : Slots) (root : List ℕ) (scope : Scope) (tree : Tree) (at at' : Scope) (part part' : Tree)
+    → IsExpression tree
+    → IsUntypable slots root scope tree at part
+    → IsUntypable slots root scope tree at' part'
+    → start_of part ≡ start_of part'
+    → (at ≡ at') × (part ≡ part')
+
+-- a text is refused for one reason at most, in one place
+abbrev pub OneRefusal : Type 0
+OneRefusal =
+    (slots : Slots) (root text : List ℕ) (a b : Refusal)
+    → IsRefusal slots root text a
+    → IsRefusal slots root text b
+    → a ≡ b
+
+-- a text that is refused is no filter
+abbrev pub RefusedIsUntyped : Type 0
+RefusedIsUntyped =
+    (slots : Slots) (root text : List ℕ) (refusal : Refusal) → IsRefusal slots root text refusal → HasNoTyping slots root text
 
 -- one value of a primitive type, never null
 abbrev pub plain_property : List ℕ → PrimitiveType → PropertyModel

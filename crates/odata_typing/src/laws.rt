@@ -1,4 +1,10 @@
-ghost use Rattle.odata_typing.specs.Laws.{OneTree, OneType, TypedIsClear, ItemFilterTyped, ItemListStands, MixedFilterUntyped};
+ghost use Rattle.odata_typing.specs.Laws.{ItemFilterTyped, ItemListStands, MixedFilterUntyped, OneRefusal, OneTree, OneType};
+ghost use Rattle.odata_typing.specs.Laws.{OneUntypableStart, RefusedIsUntyped, TypedIsClear};
+
+use odata_syntax::{
+    children_apart, fault_or_tree, one_fault, one_tree, spans_hold, spans_take_bytes,
+};
+use odata_text::{one_reading, tokens_are_spelled};
 
 /// A law: a tree has at most one type. The contract says it, and the body has nothing to do.
 pub fn trees_have_one_type()
@@ -9,6 +15,28 @@ pub fn trees_have_one_type()
 pub fn typed_trees_are_clear()
     ensures { TypedIsClear }
 {}
+
+/// A law: of an expression at most one untypable node starts in a place, so the first one is the only one there.
+pub fn untypable_nodes_start_apart()
+    ensures { OneUntypableStart }
+{
+    children_apart();
+    spans_hold();
+    spans_take_bytes();
+}
+
+/// A law: a text is refused for one reason at most, and then it is no filter.
+pub fn texts_have_one_refusal()
+    ensures one { OneRefusal }
+    ensures untyped { RefusedIsUntyped }
+{
+    one_reading();
+    tokens_are_spelled();
+    one_tree();
+    one_fault();
+    fault_or_tree();
+    untypable_nodes_start_apart();
+}
 
 /// A law: of an item with the properties Active, ID and Name, `Active and ID eq 1 and Name eq 'a'` has type Boolean.
 pub fn a_filter_of_items_is_boolean()

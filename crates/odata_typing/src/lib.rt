@@ -23,6 +23,7 @@ pub use checker::check;
 pub use edm_type::{EdmType, ValueType};
 pub use laws::{
     a_filter_of_items_is_boolean, a_list_is_read_as_its_tree, a_list_stands_for_one_tree,
-    a_number_is_no_text, trees_have_one_type, typed_trees_are_clear,
+    a_number_is_no_text, texts_have_one_refusal, trees_have_one_type, typed_trees_are_clear,
+    untypable_nodes_start_apart,
 };
 pub use refusal::{Refusal, TypeFault, TypeFaultCode};

@@ -1,6 +1,6 @@
 -- What the walk that writes canonical text writes of a node.
 use Rattle.std.proofs.lemmas.Bool.Decides.{nat_tests}
-use Rattle.std.proofs.Common.{◌≡◌, ◌∙◌, ℕ, ◌+◌, ◌*◌, ◌-◌, ◌<◌, ◌≤◌, List, [], ◌∷◌, ◌++◌, Option, Some, Result, Ok, Err, OnOk, append-nil, slice_get, false, true, refl, sym, subst, ap, arith, unwrap_or, option_map, length}
+use Rattle.std.proofs.Common.{◌≡◌, ◌∙◌, ℕ, ◌*◌, ◌-◌, ◌<◌, ◌≤◌, List, [], ◌∷◌, ◌++◌, Option, Some, Result, Ok, Err, OnOk, append-nil, slice_get, false, true, refl, sym, subst, ap, arith, unwrap_or, option_map, length}
 use Rattle.std.specs.Prelude.{nat_lt}
 use Rattle.edm_values.specs.declared.value.Value.{Value}
 use Rattle.odata_text.specs.LiteralSpelling.{IsLiteralSpelling}

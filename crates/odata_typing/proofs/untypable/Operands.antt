@@ -1,5 +1,5 @@
 -- What the walk answers of an operator or of a node that is not typed yet, from its answers of the children.
-use Rattle.std.proofs.Common.{refl, subst, ◌≡◌, ap, ℕ, List, [], ◌∷◌, ◌++◌, Option, Some, None, IsSomeAnd}
+use Rattle.std.proofs.Common.{refl, subst, ◌≡◌, ap, ℕ, List, [], ◌∷◌, ◌++◌, Option, Some, None}
 use Rattle.odata_syntax.specs.Tree.{Shape, Tree, node, binary, literal, name, shape_of, start_of, stop_of}
 use Rattle.odata_syntax.specs.Spans.{list_of_trees}
 use Rattle.odata_syntax.specs.TreeView.{tree_of, trees_of}

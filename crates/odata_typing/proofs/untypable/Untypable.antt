@@ -4,9 +4,7 @@ use Rattle.std.specs.List.{AllByRecursion}
 use Rattle.odata_syntax.specs.Tree.{Shape, Tree, node, literal, name, binary, shape_of, start_of}
 use Rattle.csdl_schema.specs.ExprType.{ExprType}
 use Rattle.csdl_schema.specs.SchemaModel.{Slots}
-use Rattle.odata_text.specs.declared.span.Span.{Span}
 use Rattle.odata_typing.specs.declared.refusal.TypeFault.{TypeFault}
-use Rattle.odata_typing.specs.declared.refusal.TypeFaultCode.{TypeFaultCode}
 use Rattle.odata_typing.specs.Considered.{IsAmong, IsConsidered, IsConsideredChild, IsItself, children_in_scope, considers_below, considers_itself}
 use Rattle.odata_typing.specs.FirstUntypable.{IsUntypable, IsFirstUntypable, IsReason}
 use Rattle.odata_typing.specs.Typed.{Scope, Typed, IsTyped, IsUntyped}
