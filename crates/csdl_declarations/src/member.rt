@@ -37,7 +37,7 @@ fn declared_among<'d>(
     ensures members { IfOk result (λ ms. members_of ms.items ≡ declared_among (members_view members.now.entries)) }
     ensures ordered { OnOk result (AreNamesInOrder (declared_among (members_view members.now.entries))) }
 {
-    let mut found = Vec::new(alloc);
+    let mut found = Vec::with_capacity(alloc, members.len())?;
     for (key, value) in members.iter() {
         let name = key.as_str();
         if !is_read_over(name) {

@@ -95,7 +95,7 @@ fn read_members(
           members = map (declared_member underlying) (members_of members.now);
         }) }
 {
-    let mut enumeration = Enumeration::new(alloc, underlying, is_flags);
+    let mut enumeration = Enumeration::with_capacity(alloc, underlying, is_flags, members.len())?;
     for member in members {
         let Some(number) = member_number(underlying, *member) else {
             return Err(bad_enum_member(alloc, owner, member.name));

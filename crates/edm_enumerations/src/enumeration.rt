@@ -1,4 +1,4 @@
-ghost use Rattle.std.specs.Prelude.{◌≡◌, ℤ, pos, [], OnOk, OnErr, IfSome, string_bytes};
+ghost use Rattle.std.specs.Prelude.{◌≡◌, ℤ, pos, [], IfOk, OnOk, OnErr, IfSome, string_bytes};
 ghost use Rattle.edm_values.specs.NumberTypes.{IsNumberType, IsNumberOf};
 ghost use Rattle.edm_enumerations.specs.EnumerationModel.{number_in, with_member};
 ghost use Rattle.edm_enumerations.specs.EnumerationValue.{EnumerationValue, JoinsTo, PieceNumber, pieces_of};
@@ -40,6 +40,25 @@ impl Enumeration {
             is_flags,
             numbers_by_name: IndexMap::new(alloc),
         }
+    }
+
+    /// An enumeration without members, with room for so many.
+    pub fn with_capacity(
+        alloc: Global,
+        underlying: Prim,
+        is_flags: bool,
+        members: usize,
+    ) -> Result<Enumeration, AllocError>
+        requires { IsNumberType underlying }
+        ensures { IfOk result
+            (λ e. e ≡ record { underlying = underlying; is_flags = is_flags; members = [] }) }
+    {
+        let numbers_by_name = IndexMap::with_capacity(alloc, members)?;
+        Ok(Enumeration {
+            underlying,
+            is_flags,
+            numbers_by_name,
+        })
     }
 
     /// Adds a member behind the others. Where there is one of that name, it stays and nothing is added.
