@@ -1,3 +1,4 @@
 pub mod Once
 pub mod Passing
 pub mod Stopping
+pub mod Walked

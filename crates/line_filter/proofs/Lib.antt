@@ -1,6 +1,7 @@
 mod BufferLaws
 mod ItemLaws
 mod LineLaws
+mod PlaceLaws
 mod ReaderLaws
 mod RunLaws
 mod WriteLaws

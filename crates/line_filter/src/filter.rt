@@ -4,12 +4,14 @@ ghost use Rattle.line_filter.specs.Growth.{Writes};
 ghost use Rattle.line_filter.specs.Kept.{Filters, Stops};
 ghost use Rattle.line_filter.specs.LineItems.{lines, SaysTheSame};
 ghost use Rattle.line_filter.specs.LineSource.{left_of, IsOver};
+ghost use Rattle.line_filter.specs.Places.{places};
 ghost use Rattle.line_filter.specs.private.Giving.{bytes_to_come};
 ghost use Rattle.line_filter.specs.private.Walk.{Ends};
 
 use super::device::{Reads, Untold};
-use super::judge::Judge;
+use super::judge::{Judge, JudgeItem};
 use super::line_reader::LineReader;
+use super::places::write_kept_places;
 use super::stop::Stop;
 use super::stream::write_kept_stream;
 use super::tally::Tally;
@@ -100,6 +102,29 @@ pub fn filter_bytes<J: Judge, W: Write>(
     ensures same { SaysTheSame (J.says judge.old) (J.says judge.new) }
 {
     match write_kept_lines(alloc, judge, bytes, out) {
+        Ok(progress) => finish(progress, out),
+        Err(_) => Err(Stop::Write),
+    }
+}
+
+/// Judges the items of a list one by one, and writes the places of those that are kept, counted from 0, in decimal and
+/// each followed by LF.
+///
+/// The first item at fault ends the run with `Fault`, whose number is the item's place plus one. A write that fails or
+/// takes no byte is `Write`, and so is a failed flush. Up to 65,536 bytes are held back before they are written.
+pub fn filter_places<J: JudgeItem, W: Write>(
+    alloc: Global,
+    judge: &J,
+    items: &[J::Item],
+    out: &mut W,
+) -> Result<Tally, Stop<J::Fault>>
+    ensures filters { IfOk result (λ tally. Writes (W.contents out.old) (W.contents out.new)
+        (λ text. Filters (places (J.says judge.now) items.now) text tally)) }
+    ensures stops { IfErr result (λ stop. Writes (W.contents out.old) (W.contents out.new)
+        (λ text. Stops (places (J.says judge.now) items.now) text stop)) }
+    ensures unread { IfErr result (λ stop. (line : ℕ) → stop ≢ Stop.Read line) }
+{
+    match write_kept_places(alloc, judge, items, out) {
         Ok(progress) => finish(progress, out),
         Err(_) => Err(Stop::Write),
     }

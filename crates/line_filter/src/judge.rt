@@ -1,9 +1,10 @@
 ghost use Rattle.std.specs.Prelude.{IfOk};
 ghost use Rattle.line_filter.specs.LineItems.{LineJudge, SaysTheSame};
+ghost use Rattle.line_filter.specs.Places.{ItemJudge};
 
 use std::alloc::AllocError;
 
-/// What a judge says of a line that is neither too long nor blank.
+/// What a judge says of an item: of a line that is neither too long nor blank, or of what stands in a list.
 #[derive(Debug, Drop)]
 pub enum Judgment<F> {
     Kept,
@@ -23,4 +24,20 @@ pub trait Judge {
     fn judge(&mut self, line: &[u8]) -> Result<Judgment<Self::Fault>, AllocError>
         ensures said { IfOk result (says self.old line.now) }
         ensures same { SaysTheSame (says self.old) (says self.new) };
+}
+
+/// Looks at the items of a list, one by one.
+pub trait JudgeItem {
+    /// What stands in the list.
+    type Item;
+
+    /// What can be wrong with an item.
+    type Fault: Drop;
+
+    // What may be said of an item. It depends on the item alone.
+    ghost says: { Self → ItemJudge Self.Item Self.Fault };
+
+    /// Judges one item. `Err` says that memory was refused, and ends the run.
+    fn judge_item(&self, item: &Self::Item) -> Result<Judgment<Self::Fault>, AllocError>
+        ensures { IfOk result (says self.now item.now) };
 }

@@ -1,10 +1,10 @@
 -- The walk over the lines of a reader, where what it had is known.
-use Rattle.std.proofs.Common.{◌≡◌, ℕ, ◌+◌, List, [], ◌∷◌, ◌++◌, length, Option, None, Some, Result, Ok, inl, inr, ◌⊎◌, refl, sym, ap, ◌∙◌, subst, append_assoc, append-nil}
+use Rattle.std.proofs.Common.{◌≡◌, ℕ, ◌+◌, List, [], ◌∷◌, ◌++◌, length, Option, None, Some, Result, Ok, inl, inr, ◌⊎◌, refl, sym, ap, ◌∙◌, subst, append_assoc}
 use Rattle.std.specs.Prelude.{IfOk, IfSome}
 use Rattle.std.specs.Io.KnownBytes.{IsAtEnd, Appends}
 use Rattle.std.proofs.KnownBytes.{Appends-trans}
 use Rattle.line_filter.specs.Growth.{Writes}
-use Rattle.line_filter.specs.Kept.{Filters, StopsWithin, Stops}
+use Rattle.line_filter.specs.Kept.{Items, Filters, StopsWithin, Stops}
 use Rattle.line_filter.specs.LineItems.{LineJudge, IsFoundOf, lines}
 use Rattle.line_filter.specs.Lines.{lines_of}
 use Rattle.line_filter.specs.LineSource.{IsFirstLine, BeginsTooLong, WhereKnown}
@@ -17,6 +17,7 @@ use Rattle.line_filter.specs.declared.step.Step.{Step}
 use Rattle.line_filter.specs.declared.stop.Stop.{Stop}
 use Rattle.line_filter.specs.declared.tally.Tally.{Tally}
 use Rattle.line_filter.proofs.ItemLaws.Stopping.{Passes-within}
+use Rattle.line_filter.proofs.ItemLaws.Walked.{HasWalked, HasWalked-end}
 use Rattle.line_filter.proofs.LineLaws.Walked.{HasPassed, HasPassed-none, HasPassed-more, HasPassed-failed, HasPassed-stopped}
 use Rattle.line_filter.specs.declared.walk.Progress.{Progress}
 use Rattle.line_filter.proofs.RunLaws.Answers.{Goes-failed}
@@ -26,6 +27,17 @@ use Rattle.line_filter.proofs.WriteLaws.HeldBack.{WritesBut-written}
 WritesBut-less : (a b c : Option (List ℕ)) (h₁ h₂ text : List ℕ) → WritesBut a b h₁ text → WritesBut b c h₂ h₁ → WritesBut a c h₂ text
 WritesBut-less a b c h₁ h₂ text (first, wrote, e) (second, more, f) =
     (first ++ second, Appends-trans a b c first second wrote more, e ∙ ap (λ l. first ++ l) f ∙ sym (append_assoc first second h₂))
+
+HasWalked-written : {X F : Type 0} (items : Items X F) (rest : List X) (u v w : Option (List ℕ)) (h₁ h₂ : List ℕ) (passed : ℕ) (tally : Tally)
+    → HasWalked items rest u v h₁ passed tally → WritesBut v w h₂ h₁ → HasWalked items rest u w h₂ passed tally
+HasWalked-written items rest u v w h₁ h₂ passed tally so_far wrote = record {
+  before = so_far.before;
+  text = so_far.text;
+  whole = so_far.whole;
+  counted = so_far.counted;
+  passes = so_far.passes;
+  holds = WritesBut-less u v w h₁ h₂ so_far.text so_far.holds wrote;
+}
 
 module _ {F : Type 0} (judge : LineJudge F) where
   -- of what was left at first and what is left now, the walk has come so far
@@ -38,14 +50,10 @@ module _ {F : Type 0} (judge : LineJudge F) where
 
   HasPassed-written : (bytes rest : List ℕ) (goes_on : Type 0) (u v w : Option (List ℕ)) (h₁ h₂ : List ℕ) (passed : ℕ) (tally : Tally)
       → HasPassed judge bytes rest goes_on u v h₁ passed tally → WritesBut v w h₂ h₁ → HasPassed judge bytes rest goes_on u w h₂ passed tally
+  unfolding HasWalked-written
   HasPassed-written bytes rest goes_on u v w h₁ h₂ passed tally so_far wrote = record {
-    before = so_far.before;
-    text = so_far.text;
-    whole = so_far.whole;
+    walked = HasWalked-written (lines judge bytes) (lines_of rest) u v w h₁ h₂ passed tally so_far.walked wrote;
     complete = so_far.complete;
-    counted = so_far.counted;
-    passes = so_far.passes;
-    holds = WritesBut-less u v w h₁ h₂ so_far.text so_far.holds wrote;
   }
 
   -- what was held back is written
@@ -59,10 +67,10 @@ module _ {F : Type 0} (judge : LineJudge F) where
   HasPassed-unwritten : (bytes rest : List ℕ) (goes_on : Type 0) (u v w : Option (List ℕ)) (held : List ℕ) (passed : ℕ) (tally : Tally)
       → HasPassed judge bytes rest goes_on u v held passed tally → WritesFront v w held → Writes u w (StopsWithin (lines judge bytes))
   HasPassed-unwritten bytes rest goes_on u v w held passed tally so_far (second, more, (unwritten, f)) =
-      let (first, wrote, e) = so_far.holds in
-      let text : so_far.text ≡ (first ++ second) ++ unwritten = e ∙ ap (λ l. first ++ l) f ∙ sym (append_assoc first second unwritten) in
-      let passes = subst (λ l. Filters (record (lines judge bytes) { all = so_far.before }) l tally) text so_far.passes in
-      (first ++ second, Appends-trans u v w first second wrote more, Passes-within (lines judge bytes) so_far.before (lines_of rest) (first ++ second) unwritten tally so_far.whole passes)
+      let (first, wrote, e) = so_far.walked.holds in
+      let text : so_far.walked.text ≡ (first ++ second) ++ unwritten = e ∙ ap (λ l. first ++ l) f ∙ sym (append_assoc first second unwritten) in
+      let passes = subst (λ l. Filters (record (lines judge bytes) { all = so_far.walked.before }) l tally) text so_far.walked.passes in
+      (first ++ second, Appends-trans u v w first second wrote more, Passes-within (lines judge bytes) so_far.walked.before (lines_of rest) (first ++ second) unwritten tally so_far.walked.whole passes)
 
   pub HasCome-unwritten : (a r : Option (List ℕ)) (goes_on : Type 0) (u v w : Option (List ℕ)) (held : List ℕ) (passed : ℕ) (tally : Tally)
       → HasCome a r goes_on u v held passed tally → WritesFront v w held → IfSome a (λ bytes. Writes u w (StopsWithin (lines judge bytes)))
@@ -75,9 +83,7 @@ module _ {F : Type 0} (judge : LineJudge F) where
       → HasPassed judge bytes rest goes_on u v held passed tally → rest ≡ []
       → (text : List ℕ) × WritesBut u v held text × (Filters (lines judge bytes) text tally × (passed ≡ length (lines_of bytes)))
   HasPassed-end bytes rest goes_on u v held passed tally so_far none =
-      let all : lines_of bytes ≡ so_far.before = so_far.whole ∙ ap (λ l. so_far.before ++ lines_of l) none ∙ append-nil so_far.before in
-      let passes = subst (λ l. Filters (record (lines judge bytes) { all = l }) so_far.text tally) (sym all) so_far.passes in
-      (so_far.text, so_far.holds, (passes, so_far.counted ∙ ap length (sym all)))
+      HasWalked-end (lines judge bytes) (lines_of rest) u v held passed tally so_far.walked (ap lines_of none)
 
   pub HasCome-end : (a r : Option (List ℕ)) (goes_on : Type 0) (u v : Option (List ℕ)) (held : List ℕ) (passed : ℕ) (tally : Tally)
       → HasCome a r goes_on u v held passed tally → IsAtEnd r
@@ -92,43 +98,43 @@ module _ {F : Type 0} (judge : LineJudge F) where
       → (text : List ℕ) × WritesBut u v held text × Stops (lines judge bytes) text (fault_stop fault (passed + 1))
   HasPassed-fault bytes rest goes_on u v held passed tally LineFault.TooLong so_far more long =
       let (line, after, first, far) = long refl in (
-        so_far.text,
-        so_far.holds,
+        so_far.walked.text,
+        so_far.walked.holds,
         record {
-          before = so_far.before;
+          before = so_far.walked.before;
           bad = line;
           after = after;
           tally = tally;
-          whole = so_far.whole ∙ ap (λ l. so_far.before ++ l) first;
-          counted = ap (λ k. k + 1) so_far.counted;
-          passes = so_far.passes;
+          whole = so_far.walked.whole ∙ ap (λ l. so_far.walked.before ++ l) first;
+          counted = ap (λ k. k + 1) so_far.walked.counted;
+          passes = so_far.walked.passes;
           found = far;
         },
       )
   HasPassed-fault bytes rest goes_on u v held passed tally LineFault.Read so_far more long = (
-    so_far.text,
-    so_far.holds,
+    so_far.walked.text,
+    so_far.walked.holds,
     record {
-      before = so_far.before;
+      before = so_far.walked.before;
       after = lines_of rest;
       tally = tally;
-      whole = so_far.whole;
+      whole = so_far.walked.whole;
       came_whole = (rest, so_far.complete more);
-      counted = ap (λ k. k + 1) so_far.counted;
-      passes = so_far.passes;
+      counted = ap (λ k. k + 1) so_far.walked.counted;
+      passes = so_far.walked.passes;
     },
   )
   HasPassed-fault bytes rest goes_on u v held passed tally LineFault.Memory so_far more long = (
-    so_far.text,
-    so_far.holds,
+    so_far.walked.text,
+    so_far.walked.holds,
     record {
-      before = so_far.before;
+      before = so_far.walked.before;
       after = lines_of rest;
       tally = tally;
-      whole = so_far.whole;
+      whole = so_far.walked.whole;
       came_whole = (rest, so_far.complete more);
-      counted = ap (λ k. k + 1) so_far.counted;
-      passes = so_far.passes;
+      counted = ap (λ k. k + 1) so_far.walked.counted;
+      passes = so_far.walked.passes;
     },
   )
 
@@ -183,7 +189,7 @@ module _ {F : Type 0} (judge : LineJudge F) where
   pub left_unwritten : (a u v w : Option (List ℕ)) (held : List ℕ) (progress : Progress F) → IfSome a (λ bytes. (text : List ℕ) × WritesBut u v held text × Goes judge bytes text progress)
       → WritesFront v w held → IfSome a (λ bytes. Writes u w (StopsWithin (lines judge bytes)))
   left_unwritten None u v w held progress goes failed = tt
-  left_unwritten (Some bytes) u v w held progress (text, holds, goes) failed = Goes-failed judge bytes progress u v w held text holds goes failed
+  left_unwritten (Some bytes) u v w held progress (text, holds, goes) failed = Goes-failed (lines judge bytes) progress u v w held text holds goes failed
 
   pub left_written : (a u v w : Option (List ℕ)) (held : List ℕ) (progress : Progress F) → IfSome a (λ bytes. (text : List ℕ) × WritesBut u v held text × Goes judge bytes text progress)
       → Appends v w held → IfSome a (λ bytes. Writes u w (λ text. Goes judge bytes text progress))

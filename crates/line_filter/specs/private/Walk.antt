@@ -7,9 +7,8 @@ use Rattle.line_filter.specs.declared.step.Step.{Step}
 use Rattle.line_filter.specs.declared.walk.Progress.{Progress}
 use Rattle.line_filter.specs.declared.stop.Stop.{Stop}
 use Rattle.line_filter.specs.declared.tally.Tally.{Tally}
-use Rattle.line_filter.specs.Kept.{Filters, Stops}
+use Rattle.line_filter.specs.Kept.{Items, Filters, Stops}
 use Rattle.line_filter.specs.LineItems.{LineJudge, lines}
-use Rattle.line_filter.specs.Lines.{lines_of}
 
 -- the tallies of items and of those behind them, together
 abbrev pub sum_of : Tally → Tally → Tally
@@ -41,11 +40,14 @@ IsOfItem (Stop.Read line) = ⊥
 IsOfItem Stop.Write = ⊥
 IsOfItem _ = Unit {0}
 
--- how far the lines went, and the text that they gave
+-- how far the items went, and the text that they gave
+abbrev pub GoesOver : {X F : Type 0} → Items X F → List ℕ → Progress F → Type 0
+GoesOver items text progress = MatchOption progress.stop
+    (Filters items text progress.tally × (progress.lines ≡ length items.all)) (λ stop. Stops items text stop)
+
+-- that, of lines
 abbrev pub Goes : {F : Type 0} → LineJudge F → List ℕ → List ℕ → Progress F → Type 0
-Goes judge bytes text progress = MatchOption progress.stop
-    (Filters (lines judge bytes) text progress.tally × (progress.lines ≡ length (lines_of bytes)))
-    (λ stop. Stops (lines judge bytes) text stop)
+Goes judge bytes = GoesOver (lines judge bytes)
 
 -- what a run answers: the stop at a line, or else the tally, unless the last flush fails
 abbrev pub Ends : {F : Type 0} → Progress F → Result Tally (Stop F) → Type 0

@@ -1,0 +1,88 @@
+ghost use Rattle.std.specs.Prelude.{◌≡◌, ℕ, List, [], decimal, IfOk, IfSome, OnErr};
+ghost use Rattle.line_filter.specs.Growth.{Writes};
+ghost use Rattle.line_filter.specs.Kept.{StopsWithin};
+ghost use Rattle.line_filter.specs.Places.{IsJudged, places};
+ghost use Rattle.line_filter.specs.private.HeldBack.{WritesBut};
+ghost use Rattle.line_filter.specs.private.Walk.{GoesOver, IsOfItem};
+
+use super::finding::Finding;
+use super::judge::JudgeItem;
+use super::output::{NotWritten, release};
+use super::step::{Step, settle};
+use super::tally::Tally;
+use super::walk::Progress;
+use itoa::Buffer;
+use std::alloc::{AllocError, Global};
+use std::io::Write;
+
+/// What is found of an item.
+fn find_item<J: JudgeItem>(judge: &J, item: &J::Item) -> Result<Finding<J::Fault>, AllocError>
+    ensures { IfOk result (IsJudged (J.says judge.now) item.now) }
+{
+    let judgment = judge.judge_item(item)?;
+    Ok(Finding::Judged(judgment))
+}
+
+/// Judges the items one by one up to the first fault. The end of the kept text may be held back.
+fn judge_items<J: JudgeItem, W: Write>(
+    judge: &J,
+    items: &[J::Item],
+    out: &mut W,
+    held: &mut Vec<u8>,
+) -> Result<Progress<J::Fault>, NotWritten>
+    requires { held.old.items ≡ [] }
+    ensures ok { IfOk result (λ progress. (text : List ℕ)
+        × WritesBut (W.contents out.old) (W.contents out.new) held.new.items text
+        × GoesOver (places (J.says judge.now) items.now) text progress) }
+    ensures of_item { IfOk result (λ progress. IfSome progress.stop IsOfItem) }
+    ensures err { OnErr result
+        (Writes (W.contents out.old) (W.contents out.new) (StopsWithin (places (J.says judge.now) items.now))) }
+{
+    let mut place = 0;
+    let mut tally = Tally { rows: 0, kept: 0 };
+    for item in items {
+        let found = find_item(judge, item);
+        let mut buffer = Buffer::new();
+        let text = buffer.format(place);
+        match settle(found, text.as_bytes(), place + 1, out, held)? {
+            Step::Passed(one) => {
+                place += 1;
+                tally.rows += one.rows;
+                tally.kept += one.kept;
+            }
+            Step::Stopped(stop) => {
+                let stop = Some(stop);
+                return Ok(Progress {
+                    lines: place,
+                    tally,
+                    stop,
+                });
+            }
+        }
+    }
+    let stop = None;
+    Ok(Progress {
+        lines: place,
+        tally,
+        stop,
+    })
+}
+
+/// Judges the items up to the first fault, and writes the places of the kept ones.
+pub fn write_kept_places<J: JudgeItem, W: Write>(
+    alloc: Global,
+    judge: &J,
+    items: &[J::Item],
+    out: &mut W,
+) -> Result<Progress<J::Fault>, NotWritten>
+    ensures ok { IfOk result (λ progress. Writes (W.contents out.old) (W.contents out.new)
+        (λ text. GoesOver (places (J.says judge.now) items.now) text progress)) }
+    ensures of_item { IfOk result (λ progress. IfSome progress.stop IsOfItem) }
+    ensures err { OnErr result
+        (Writes (W.contents out.old) (W.contents out.new) (StopsWithin (places (J.says judge.now) items.now))) }
+{
+    let mut held = Vec::new(alloc);
+    let progress = judge_items(judge, items, out, &mut held)?;
+    release(out, &mut held)?;
+    Ok(progress)
+}
