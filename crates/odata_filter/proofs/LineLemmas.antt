@@ -1,3 +1,4 @@
 pub mod CommandLineWorked
 pub mod Entered
+pub mod FlagLemmas
 pub mod PlanLemmas

@@ -1,3 +1,5 @@
+pub mod Collections
 pub mod OneFault
 pub mod OneJudgment
+pub mod Renamed
 pub mod RowJudges

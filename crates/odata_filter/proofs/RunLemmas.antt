@@ -1,2 +1,3 @@
 pub mod EntityTypes
 pub mod RunEndings
+pub mod RowEndings

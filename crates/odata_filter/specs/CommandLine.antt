@@ -6,7 +6,7 @@ use Rattle.std.specs.Option.{option_map_or}
 use Rattle.std.specs.Str.{bytes_eq}
 use Rattle.clap.specs.Words.{App, Row, Rule, Text, IsAmong, fault_of, first_of, kind_of, one_of}
 use Rattle.clap.specs.Words.{new_app, new_rule, subcommand_of, with_rule, with_subcommand}
-use Rattle.clap.specs.declared.builder.action.ArgAction.TheVariants.{Set}
+use Rattle.clap.specs.declared.builder.action.ArgAction.TheVariants.{Set, SetTrue}
 use Rattle.odata_filter.specs.Planned.{IsOneOf}
 use Rattle.odata_filter.specs.declared.command.command_line.Plan.{Plan}
 use Rattle.odata_filter.specs.declared.command.command_line.PlanFault.{PlanFault}
@@ -23,18 +23,23 @@ text_rule name required = record (new_rule name) {
   required = required;
 }
 
+-- a flag `--name`, which takes no text
+abbrev pub flag_rule : Text → Rule
+flag_rule name = record (new_rule name) { long = Some name; action = Some SetTrue }
+
 -- a subcommand with the options of every verb
 abbrev pub verb_app : Text → App
 verb_app word = with_rule (with_rule (with_rule (with_rule (new_app word)
     (text_rule (codes "schema") true)) (text_rule (codes "type") true))
     (text_rule (codes "filter") false)) (text_rule (codes "query") false)
 
--- the subcommands: `check`, and `filter`, which may name its rows
+-- the subcommands: `check`, and `filter`, which may name its rows and say that they are a collection
 abbrev pub check_app : App
 check_app = verb_app (codes "check")
 
 abbrev pub filter_app : App
-filter_app = with_rule (verb_app (codes "filter")) (text_rule (codes "rows") false)
+filter_app =
+    with_rule (with_rule (verb_app (codes "filter")) (text_rule (codes "rows") false)) (flag_rule (codes "collection"))
 
 -- the subcommand of a verb, a row a verb; that of explain is still to come
 abbrev pub app_of_verb : Verb → App

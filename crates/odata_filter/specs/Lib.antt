@@ -33,8 +33,10 @@ pub use Rattle.line_filter.specs.Kept
 pub use Rattle.line_filter.specs.LineItems
 pub use Rattle.line_filter.specs.Lines
 pub use Rattle.line_filter.specs.LineSource
+pub use Rattle.line_filter.specs.Places
 pub mod RowJudgment
 pub mod RunStops
+pub mod Collection
 pub mod RowsOnce
 pub mod Planned
 pub mod CommandLine

@@ -1,5 +1,5 @@
 -- The command lines that are carried out so far.
-use Rattle.std.specs.Prelude.{◌≡◌, ⊤, Option, Some, None, IsNone, false}
+use Rattle.std.specs.Prelude.{⊤, Option, Some, None, IsNone}
 use Rattle.odata_filter.specs.declared.command.command_line.Plan.{Plan}
 use Rattle.odata_filter.specs.declared.command.command_line.Verb.{Verb}
 use Rattle.odata_filter.specs.declared.command.command_line.Verb.TheVariants.{Check, Explain, Filter}
@@ -21,4 +21,3 @@ pub record IsPlanned (plan : Plan) : Type 0 where
   pub carried_out : IsCarriedOut plan.verb
   pub one_of : IsOneOf plan.filter plan.query
   pub has_no_moment : IsNone plan.now
-  pub is_lines : plan.collection ≡ false

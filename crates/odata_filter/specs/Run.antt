@@ -1,5 +1,5 @@
 -- What a run says by its status: of its plan, of its schema's bytes, and of what standard output got.
-use Rattle.std.specs.Prelude.{◌≡◌, ℕ, pos, ◌⊎◌, List, [], ◌∷◌, ◌++◌, Option, Some, None, IfSome, IsSomeAnd, codes}
+use Rattle.std.specs.Prelude.{◌≡◌, ℕ, pos, ◌⊎◌, Bool, false, true, List, [], ◌∷◌, ◌++◌, Option, Some, None, IfSome, IsSomeAnd, codes}
 use Rattle.std.specs.Io.KnownBytes.{Keeps}
 use Rattle.edm_values.specs.Civil.{IsYmd, IsHms}
 use Rattle.edm_values.specs.MomentParts.{MomentParts}
@@ -10,7 +10,10 @@ use Rattle.line_filter.specs.Growth.{Writes}
 use Rattle.line_filter.specs.Kept.{Items, Filters, StopsAt, StopsWithin, IsFaultless}
 use Rattle.line_filter.specs.declared.finding.Finding.{Finding}
 use Rattle.line_filter.specs.declared.tally.Tally.{Tally}
+use Rattle.line_filter.specs.Places.{Placed}
+use Rattle.serde_json.specs.Data.{Data}
 use Rattle.odata_filter.specs.RowJudgment.{rows_of}
+use Rattle.odata_filter.specs.Collection.{IsNoCollection, OfCollection}
 use Rattle.odata_filter.specs.declared.bad_row.BadRow.{BadRow}
 use Rattle.csdl_schema.specs.Document.{StandsFor, IsFirstDocumentFault}
 use Rattle.csdl_declarations.specs.Fault.{Fault}
@@ -102,9 +105,14 @@ WroteNothing streams = Keeps streams.old streams.new
 abbrev pub OverRows : Streams → (List ℕ → List ℕ → Type 0) → Type 0
 OverRows streams P = IsSomeAnd streams.rows (λ known. IfSome known (λ bytes. Writes streams.old streams.new (P bytes)))
 
--- what is said of rows and of a text
+-- what is said of rows, whatever they are, and of a text
 abbrev pub OfRows : Type 1
-OfRows = Items (List ℕ) BadRow → List ℕ → Type 0
+OfRows = (X : Type 0) → Items X BadRow → List ℕ → Type 0
+
+-- P holds of the rows that the bytes are: of their lines, or, where a collection is asked for, of the items of that
+abbrev pub HoldsOfRows : Bool → OfRows → Filter → MomentParts → List ℕ → List ℕ → Type 0
+HoldsOfRows false P filter now bytes text = P (List ℕ) (rows_of filter now bytes) text
+HoldsOfRows true P filter now bytes text = OfCollection filter now bytes (λ items. P (Placed Data) items text)
 
 -- The plan's text is a filter, and P holds of the rows by that filter and of the text that was written.
 pub record ByFilter (P : OfRows) (plan : Plan) (document : List ℕ) (streams : Streams) : Type 0 where
@@ -112,16 +120,27 @@ pub record ByFilter (P : OfRows) (plan : Plan) (document : List ℕ) (streams : 
   pub is_filter : IsPlanFilter plan document filter
   pub now : MomentParts
   pub is_first : IsFirstMoment now
-  pub written : OverRows streams (λ bytes. P (rows_of filter now bytes))
+  pub written : OverRows streams (HoldsOfRows plan.collection P filter now)
 
 -- no row is at fault, and the text is that of the kept ones
 abbrev pub FiltersAll : OfRows
-FiltersAll rows text = (tally : Tally) × Filters rows text tally
+FiltersAll X rows text = (tally : Tally) × Filters rows text tally
 
 -- some row is the first at fault, and the text is that of the kept ones before it
 abbrev pub StopsAtFault : OfRows
-StopsAtFault rows text =
+StopsAtFault X rows text =
     (number : ℕ) × (finding : Finding BadRow) × (¬ IsFaultless finding) × StopsAt rows text number finding
+
+-- the text is a beginning of that of the kept rows among some first ones of which none is at fault
+abbrev pub BeginsKept : OfRows
+BeginsKept X rows text = StopsWithin rows text
+
+-- The plan's text is a filter, it asks for a collection, what the rows had to give is none, and nothing was written.
+pub record ReadsNoCollection (plan : Plan) (document : List ℕ) (streams : Streams) : Type 0 where
+  pub has_filter : HasCheckedFilter plan document
+  pub asked : plan.collection ≡ true
+  pub is_none : IsSomeAnd streams.rows (λ known. IfSome known IsNoCollection)
+  pub nothing : WroteNothing streams
 
 -- `accepted`, and the canonical text of the filter on a line of its own (10 is LF)
 pub record IsAccepted (filter : Filter) (text : List ℕ) : Type 0 where
@@ -166,9 +185,10 @@ abbrev pub Refuses : Verb → Streams → Type 0
 Refuses Check streams = Unit {0}
 Refuses verb streams = WroteNothing streams
 
--- a verb that reads rows stopped at one; another never does
+-- a verb that reads rows stopped at one, or they were to be a collection and are none; another never does
 abbrev pub StopsAtRow : Verb → Plan → List ℕ → Streams → Type 0
-StopsAtRow ByRows plan document streams = ByFilter StopsAtFault plan document streams
+StopsAtRow ByRows plan document streams =
+    ByFilter StopsAtFault plan document streams ⊎ ReadsNoCollection plan document streams
 StopsAtRow verb plan document streams = ⊥
 
 -- there is a filter; or there is none, and standard output did not take that answer of `check`
@@ -191,7 +211,7 @@ StatusSays without_memory verb plan document streams = Unit {0}
 -- a beginning of the text of the kept rows among some first ones of which none is at fault; of what another verb wrote
 -- nothing is said
 abbrev pub BeginsBy : Verb → Plan → List ℕ → Streams → Type 0
-BeginsBy ByRows plan document streams = ByFilter StopsWithin plan document streams
+BeginsBy ByRows plan document streams = ByFilter BeginsKept plan document streams
 BeginsBy verb plan document streams = Unit {0}
 
 -- nothing was written, or a beginning of what the verb writes

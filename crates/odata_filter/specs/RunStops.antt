@@ -5,7 +5,7 @@ use Rattle.line_filter.specs.declared.stop.Stop.{Stop}
 use Rattle.odata_filter.specs.declared.bad_row.BadRow.{BadRow}
 use Rattle.odata_filter.specs.declared.run_fault.RunFault.{RunFault}
 
--- the stop that it tells; none where the bytes are no collection, which no run over lines tells
+-- the stop that it tells; none where a document is no collection
 abbrev pub run_stop : RunFault → Option (Stop BadRow)
 run_stop (RunFault.Json line) = Some (Stop.Fault line BadRow.NotJson)
 run_stop (RunFault.Row line fault) = Some (Stop.Fault line (BadRow.NoEntity fault))
@@ -17,5 +17,5 @@ run_stop RunFault.Write = Some Stop.Write
 run_stop (RunFault.Memory line) = Some (Stop.Memory line)
 
 -- it tells a stop, and that says this of the rows and of the text that was written
-abbrev pub StopsBy : Items (List ℕ) BadRow → List ℕ → RunFault → Type 0
+abbrev pub StopsBy : {X : Type 0} → Items X BadRow → List ℕ → RunFault → Type 0
 StopsBy rows text fault = IsSomeAnd (run_stop fault) (Stops rows text)

@@ -22,6 +22,10 @@ with_query = without_filter ++ codes "--query=x" ∷ []
 abbrev pub with_both : List Text
 with_both = whole ++ codes "--query=x" ∷ []
 
+-- with rows that are a collection
+abbrev pub with_collection : List Text
+with_collection = whole ++ codes "--collection" ∷ []
+
 -- with an option that the program does not have
 abbrev pub with_unknown_option : List Text
 with_unknown_option = whole ++ codes "--now=x" ∷ []

@@ -1,4 +1,5 @@
 -- Definitions that private clauses alone cite.
+pub mod DocumentFaults
 pub mod PlanSteps
 pub mod RunFailures
 pub mod Verdicts

@@ -3,4 +3,6 @@ pub mod command_line;
 mod failure;
 pub(crate) mod laws;
 pub(crate) mod planner;
+mod rows;
 pub(crate) mod runner;
+mod whole;

@@ -2,6 +2,7 @@
 #![tactic(auto)]
 
 mod bad_row;
+mod collection;
 mod command;
 mod filter;
 mod laws;
@@ -9,6 +10,7 @@ mod row_judge;
 mod run_fault;
 
 pub use bad_row::BadRow;
+pub use collection::filter_collection;
 pub use command::command_line;
 pub use command::laws::worked_lines;
 pub use command::planner::plan;

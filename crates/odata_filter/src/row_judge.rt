@@ -22,7 +22,7 @@ pub struct RowJudge<'c, 's> {
 
 impl RowJudge<'_, '_> {
     /// Judges a JSON value.
-    fn judge_value(&self, json: &Value) -> Result<Judgment<BadRow>, AllocError>
+    pub(crate) fn judge_value(&self, json: &Value) -> Result<Judgment<BadRow>, AllocError>
         ensures { IfOk result (JudgesValue self.now.checked.now self.now.moment.now (view json.now)) }
     {
         let (schema, type_id) = (self.checked.schema(), self.checked.filtered_type());

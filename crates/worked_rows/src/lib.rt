@@ -2,6 +2,8 @@
 #![tactic(auto)]
 
 #[cfg(test)]
+mod collections;
+#[cfg(test)]
 mod devices;
 #[cfg(test)]
 mod example;

@@ -8,7 +8,7 @@ use edm_entities::{Entity, RowFault};
 use edm_values::{Moment, Value};
 use jiff::civil;
 use odata_eval::{Verdict, evaluate};
-use odata_filter::{RunFault, Tally, filter_lines};
+use odata_filter::{RunFault, Tally, filter_collection, filter_lines};
 use odata_typing::{Checked, Refusal, TypeFaultCode, check};
 use std::alloc::{AllocError, Global};
 use std::io;
@@ -286,5 +286,46 @@ fn faulty_lines(rt: HostRuntime) -> Result<(), Fail> {
         _ => return Err("another answer")?,
     };
     println!(rt; "filter_lines_of_fault {}", told(is_refused))?;
+    Ok(())
+}
+
+/// The first and the third entity are kept.
+const COLLECTION: &str =
+    "{\"value\":[{\"Name\":\"a\",\"On\":true},{\"Name\":\"b\",\"On\":true},{\"Name\":\"a\",\"On\":true}]}";
+
+/// What is written of the entities before the one of this number.
+fn places_before(line: u64) -> &'static str {
+    match line {
+        0 | 1 => "",
+        2 | 3 => "0\n",
+        _ => "0\n2\n",
+    }
+}
+
+#[test]
+fn collections(rt: HostRuntime) -> Result<(), Fail> {
+    let schema = schema_of(rt.alloc())?;
+    let id = schema.type_named("N.T").ok_or("the type")?;
+    assert!(rt; schema.holds(id));
+    let checked = filter_of(rt.alloc(), &schema, id)?;
+    let moment = Moment::new(civil::date(1, 1, 1).at(0, 0, 0, 0), 0).ok_or("a moment")?;
+    let mut out = room(rt.alloc())?;
+    let document = COLLECTION.as_bytes();
+    let is_refused = match filter_collection(rt.alloc(), &checked, &moment, document, &mut out) {
+        Ok(tally) => {
+            assert!(rt; tally == Tally { rows: 3, kept: 2 });
+            assert!(rt; out.as_slice() == "0\n2\n".as_bytes());
+            false
+        }
+        Err(RunFault::Memory { line }) => {
+            assert!(rt;
+                out.as_slice() == places_before(line).as_bytes(),
+                "at {line}"
+            );
+            true
+        }
+        _ => return Err("another answer")?,
+    };
+    println!(rt; "filter_collection {}", told(is_refused))?;
     Ok(())
 }

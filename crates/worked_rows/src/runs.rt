@@ -236,9 +236,6 @@ fn what_is_still_to_come(rt: HostRuntime) {
     plan.verb = Verb::Filter;
     plan.now = Some("2020-01-01T00:00:00Z");
     assert!(rt; is_misused(rt.alloc(), &plan, "usage now is still to come\n"));
-    plan.now = None;
-    plan.collection = true;
-    assert!(rt; is_misused(rt.alloc(), &plan, "usage collection is still to come\n"));
 }
 
 /// What `check` says of each filter, and its status. It reads no rows.

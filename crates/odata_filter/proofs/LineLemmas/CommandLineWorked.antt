@@ -1,9 +1,9 @@
 -- Worked command lines.
-use Rattle.std.proofs.Common.{◌≡◌, [], ◌∷◌, Some, refl, codes}
+use Rattle.std.proofs.Common.{◌≡◌, [], ◌∷◌, false, true, Some, refl, codes}
 use Rattle.clap.specs.Words.{fault_of, first_of}
 use Rattle.clap.specs.declared.error.kind.ErrorKind.TheVariants as kind
 use Rattle.clap.proofs.OnLiterals.{clap_on_literals}
-use Rattle.odata_filter.specs.CommandLine.{Enters, GivesNotOne, IsTaken, verb_matches, odfilter_app}
+use Rattle.odata_filter.specs.CommandLine.{Enters, GivesNotOne, IsTaken, is_flag_set, verb_matches, odfilter_app}
 use Rattle.odata_filter.specs.declared.command.command_line.Verb.{Verb}
 use Rattle.odata_filter.specs.WorkedLines as worked
 
@@ -26,6 +26,18 @@ whole_filter = refl
 pub whole_rows : first_of (codes "rows") (verb_matches worked.whole) ≡ Some (codes "r")
 unfolding clap_on_literals
 whole_rows = refl
+
+pub whole_lines : is_flag_set Verb.Filter (codes "collection") (verb_matches worked.whole) ≡ false
+unfolding clap_on_literals
+whole_lines = refl
+
+pub collection_taken : IsTaken worked.with_collection
+unfolding clap_on_literals
+collection_taken = refl
+
+pub collection_set : is_flag_set Verb.Filter (codes "collection") (verb_matches worked.with_collection) ≡ true
+unfolding clap_on_literals
+collection_set = refl
 
 pub query_taken : IsTaken worked.with_query
 unfolding clap_on_literals

@@ -10,7 +10,7 @@ use Rattle.clap.specs.declared.builder.command.Command.{Command}
 use Rattle.clap.specs.declared.builder.command.Command.TheViews.{out-Command}
 use Rattle.clap.specs.declared.parser.matches.Found.{Found}
 use Rattle.clap.proofs.WalkLemmas.{first_value-rows}
-use Rattle.odata_filter.specs.CommandLine.{LacksOneOf, is_flag_set, option_value, text_rule}
+use Rattle.odata_filter.specs.CommandLine.{LacksOneOf, option_value, text_rule}
 use Rattle.odata_filter.specs.Planned.{IsOneOf}
 use Rattle.odata_filter.specs.declared.command.command_line.Verb.{Verb}
 use Rattle.odata_filter.specs.declared.command.command_line.Verb.TheVariants.{Check, Explain, Filter}
@@ -98,13 +98,8 @@ rows_of_check found = refl
 pub rows_of_explain : (found : List Row) → option_value Explain (codes "rows") found ≡ None
 rows_of_explain found = refl
 
--- no verb has a moment or a collection so far
+-- no verb has a moment so far
 pub no_moment : (verb : Verb) (found : List Row) → option_value verb (codes "now") found ≡ None
 no_moment Check found = refl
 no_moment Explain found = refl
 no_moment Filter found = refl
-
-pub no_collection : (verb : Verb) (found : List Row) → is_flag_set verb (codes "collection") found ≡ false
-no_collection Check found = refl
-no_collection Explain found = refl
-no_collection Filter found = refl

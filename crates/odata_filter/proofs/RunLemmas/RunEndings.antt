@@ -1,30 +1,19 @@
 -- What a run answers, by its first failure.
-use Rattle.std.proofs.Common.{◌≡◌, ◌∙◌, ◌⊎◌, ◌≢◌, ℕ, List, [], ◌∷◌, ◌++◌, Option, None, Some, Result, Ok, Err, inl, inr, refl, sym, subst, append-nil, arith}
+use Rattle.std.proofs.Common.{◌≡◌, ◌∙◌, ◌⊎◌, ◌≢◌, ℕ, List, Option, None, Some, Result, Ok, Err, inl, inr, refl, sym, subst, arith}
 use Rattle.std.specs.Borrow.{Bor}
-use Rattle.std.specs.Prelude.{IfOk, IfErr, OnOk, IsSomeAnd}
+use Rattle.std.specs.Prelude.{IfErr, OnOk, IsSomeAnd}
 use Rattle.std.specs.Io.KnownBytes.{Keeps}
 use Rattle.std.proofs.KnownBytes.{Keeps-trans, Appends-kept}
-use Rattle.edm_values.specs.MomentParts.{MomentParts}
 use Rattle.odata_text.specs.Query.{IsQueryFault}
 use Rattle.odata_text.specs.declared.query_fault.QueryFault.{QueryFault}
 use Rattle.odata_text.specs.declared.query_fault.QueryFault.TheVariants as query
-use Rattle.line_filter.specs.Kept.{Items, Filters, Passes, Stops, StopsWithin}
-use Rattle.line_filter.specs.declared.finding.Finding.{Finding}
-use Rattle.line_filter.specs.declared.judge.Judgment.{Judgment}
-use Rattle.line_filter.specs.declared.stop.Stop.{Stop}
-use Rattle.line_filter.specs.declared.tally.Tally.{Tally}
-use Rattle.odata_filter.specs.RowJudgment.{rows_of}
-use Rattle.odata_filter.specs.RunStops.{run_stop, StopsBy}
-use Rattle.odata_filter.specs.declared.bad_row.BadRow.{BadRow}
 use Rattle.line_filter.specs.Growth.{Writes}
 use Rattle.odata_filter.specs.declared.command.command_line.Verb.{Verb}
-use Rattle.odata_filter.specs.private.RunFailures.{AnswerSays, IsAnswerOfCheck, IsTold, IsUnwritten, LacksFilter, status_of, status_of_query, status_of_refusal, StopsOver}
-use Rattle.odata_filter.specs.Run.{Answers, BeginsAs, BeginsBy, Completes, IsAccepted, IsFirstMoment, NamesType, AsksFor, IsPlanFilter, HasNoFilter, Refuses, Streams, streams, TellsFilter, WroteNothing, OverRows, OfRows, ByFilter, FiltersAll, StopsAtFault, StopsAtRow, Status, complete, without_filter, without_plan, without_type, at_fault, without_device, without_memory, status_number, StatusSays, Begins}
+use Rattle.odata_filter.specs.private.RunFailures.{AnswerSays, IsAnswerOfCheck, IsTold, IsUnwritten, LacksFilter, status_of, status_of_query, status_of_refusal}
+use Rattle.odata_filter.specs.Run.{Answers, BeginsAs, BeginsBy, BeginsKept, HoldsOfRows, Completes, IsAccepted, NamesType, AsksFor, IsPlanFilter, HasNoFilter, Refuses, Streams, streams, TellsFilter, WroteNothing, OverRows, OfRows, ByFilter, FiltersAll, StopsAtFault, StopsAtRow, Status, complete, without_filter, without_plan, without_type, at_fault, without_device, without_memory, status_number, StatusSays, Begins}
 use Rattle.csdl_schema.specs.SchemaModel.{SchemaModel, slots_of, type_name_at}
 use Rattle.odata_filter.specs.declared.command.command_line.Plan.{Plan}
 use Rattle.odata_filter.specs.declared.command.failure.Failure.{Failure}
-use Rattle.odata_filter.specs.declared.command.failure.Failure.TheVariants.{NotYet, OneOf, Schema, UnknownType, Query, NoOption, Refused, RowsFile, Rows}
-use Rattle.odata_filter.specs.declared.run_fault.RunFault.TheVariants.{Json, Row, Arithmetic, LineTooLong, NotACollection, Read, Write, Memory}
 use Rattle.odata_typing.specs.declared.refusal.Refusal.{Refusal}
 use Rattle.odata_typing.specs.declared.refusal.Refusal.TheVariants as refusal
 use Rattle.odata_typing.specs.Filter.{Filter, tree_of_filter}
@@ -109,112 +98,6 @@ pub told_says : {X : Type 0} (plan : Plan) (document : List ℕ) (s : Streams) (
 told_says plan document s filter (Ok done) is_filter told unwritten = record { filter = filter; is_filter = is_filter; written = told }
 told_says plan document s filter (Err failure) is_filter told unwritten = unwritten_says (status_of failure) plan document s filter is_filter unwritten
 
--- ---- what was written
-
-over_from : (rows : Option (Option (List ℕ))) (old new : Option (List ℕ)) (P Q : List ℕ → List ℕ → Type 0)
-    → ((bytes text : List ℕ) → P bytes text → Q bytes text) → OverRows (streams rows old new) P → OverRows (streams rows old new) Q
-over_from None old new P Q f held = held
-over_from (Some None) old new P Q f held = tt
-over_from (Some (Some bytes)) old new P Q f (text, wrote, said) = (text, wrote, f bytes text said)
-
-over : (s : Streams) (P Q : List ℕ → List ℕ → Type 0)
-    → ((bytes text : List ℕ) → P bytes text → Q bytes text) → OverRows s P → OverRows s Q
-over s P Q f held = over_from s.rows s.old s.new P Q f held
-
-by_filter : (P : Items (List ℕ) BadRow → List ℕ → Type 0) (Q : OfRows) (plan : Plan) (document : List ℕ) (s : Streams) (filter : Filter) (now : MomentParts)
-    → IsPlanFilter plan document filter → IsFirstMoment now
-    → ((bytes text : List ℕ) → P (rows_of filter now bytes) text → Q (rows_of filter now bytes) text)
-    → OverRows s (λ bytes. P (rows_of filter now bytes)) → ByFilter Q plan document s
-by_filter P Q plan document s filter now is_filter is_first f held = record {
-  filter = filter;
-  is_filter = is_filter;
-  now = now;
-  is_first = is_first;
-  written = over s (λ bytes. P (rows_of filter now bytes)) (λ bytes. Q (rows_of filter now bytes)) f held;
-}
-
-run_failed : (plan : Plan) (document : List ℕ) (s : Streams) (filter : Filter) (now : MomentParts) (failure : Failure)
-    → IsPlanFilter plan document filter → IsFirstMoment now → StopsOver (rows_of filter now) failure s → StatusSays (status_of failure) Verb.Filter plan document s
-run_failed plan document s filter now (NotYet option) is_filter is_first held = absurd held
-run_failed plan document s filter now OneOf is_filter is_first held = absurd held
-run_failed plan document s filter now (Query fault) is_filter is_first held = absurd held
-run_failed plan document s filter now NoOption is_filter is_first held = absurd held
-run_failed plan document s filter now (Schema fault) is_filter is_first held = absurd held
-run_failed plan document s filter now (UnknownType name) is_filter is_first held = absurd held
-run_failed plan document s filter now (Refused fault) is_filter is_first held = absurd held
-run_failed plan document s filter now (RowsFile name) is_filter is_first held = (filter, is_filter)
-run_failed plan document s filter now (Rows (Json line)) is_filter is_first held =
-    by_filter (λ rows text. StopsBy rows text (Json line)) StopsAtFault plan document s filter now is_filter is_first
-    (λ bytes text stops. (line, Finding.Judged (Judgment.Fault BadRow.NotJson), (λ sound. sound), stops)) held
-run_failed plan document s filter now (Rows (Row line fault)) is_filter is_first held =
-    by_filter (λ rows text. StopsBy rows text (Row line fault)) StopsAtFault plan document s filter now is_filter is_first
-    (λ bytes text stops. (line, Finding.Judged (Judgment.Fault (BadRow.NoEntity fault)), (λ sound. sound), stops)) held
-run_failed plan document s filter now (Rows (Arithmetic line fault)) is_filter is_first held =
-    by_filter (λ rows text. StopsBy rows text (Arithmetic line fault)) StopsAtFault plan document s filter now is_filter is_first
-    (λ bytes text stops. (line, Finding.Judged (Judgment.Fault (BadRow.NoValue fault)), (λ sound. sound), stops)) held
-run_failed plan document s filter now (Rows (LineTooLong line)) is_filter is_first held =
-    by_filter (λ rows text. StopsBy rows text (LineTooLong line)) StopsAtFault plan document s filter now is_filter is_first
-    (λ bytes text stops. (line, Finding.TooLong, (λ sound. sound), stops)) held
-run_failed plan document s filter now (Rows NotACollection) is_filter is_first held =
-    by_filter (λ rows text. StopsBy rows text NotACollection) StopsAtFault plan document s filter now is_filter is_first (λ bytes text stops. absurd stops) held
-run_failed plan document s filter now (Rows (Read line)) is_filter is_first held = (filter, is_filter)
-run_failed plan document s filter now (Rows Write) is_filter is_first held = (filter, is_filter)
-run_failed plan document s filter now (Rows (Memory line)) is_filter is_first held = tt
-
-pub says_by : (plan : Plan) (document : List ℕ) (s : Streams) (filter : Filter) (now : MomentParts) (answer : Result Tally Failure)
-    → IsPlanFilter plan document filter → IsFirstMoment now
-    → IfOk answer (λ tally. OverRows s (λ bytes text. Filters (rows_of filter now bytes) text tally))
-    → IfErr answer (λ failure. StopsOver (rows_of filter now) failure s) → AnswerSays answer Verb.Filter plan document s
-says_by plan document s filter now (Ok tally) is_filter is_first held stopped =
-    by_filter (λ rows text. Filters rows text tally) FiltersAll plan document s filter now is_filter is_first (λ bytes text filtered. (tally, filtered)) held
-says_by plan document s filter now (Err failure) is_filter is_first held stopped = run_failed plan document s filter now failure is_filter is_first stopped
-
--- ---- a beginning was written
-
-module _ {X F : Type 0} (items : Items X F) (text : List ℕ) where
-  front_passed : (before after : List X) (tally : Tally) → items.all ≡ before ++ after → Passes items.sieve before text tally → StopsWithin items text
-  front_passed before after tally whole passes = record {
-    before = before;
-    after = after;
-    tally = tally;
-    unwritten = [];
-    whole = whole;
-    passes = subst (λ t. Passes items.sieve before t tally) (sym (append-nil text)) passes;
-  }
-
-  within_all : (tally : Tally) → Filters items text tally → StopsWithin items text
-  within_all tally filtered = front_passed items.all [] tally (sym (append-nil items.all)) filtered
-
-  within_stop : (stop : Stop F) → Stops items text stop → StopsWithin items text
-  within_stop (Stop.Fault line fault) stops = front_passed stops.before (stops.bad ∷ stops.after) stops.tally stops.whole stops.passes
-  within_stop (Stop.TooLong line) stops = front_passed stops.before (stops.bad ∷ stops.after) stops.tally stops.whole stops.passes
-  within_stop (Stop.Read line) stops = front_passed stops.before stops.after stops.tally stops.whole stops.passes
-  within_stop Stop.Write stops = stops
-  within_stop (Stop.Memory line) stops = front_passed stops.before stops.after stops.tally stops.whole stops.passes
-
-  within_stops : (told : Option (Stop F)) → IsSomeAnd told (Stops items text) → StopsWithin items text
-  within_stops None stops = absurd stops
-  within_stops (Some stop) stops = within_stop stop stops
-
-pub begins_by : (plan : Plan) (document : List ℕ) (s : Streams) (filter : Filter) (now : MomentParts) (answer : Result Tally Failure)
-    → IsPlanFilter plan document filter → IsFirstMoment now
-    → IfOk answer (λ tally. OverRows s (λ bytes text. Filters (rows_of filter now bytes) text tally))
-    → IfErr answer (λ failure. StopsOver (rows_of filter now) failure s) → WroteNothing s ⊎ BeginsBy Verb.Filter plan document s
-begins_by plan document s filter now (Ok tally) is_filter is_first held stopped =
-    inr (by_filter (λ rows text. Filters rows text tally) StopsWithin plan document s filter now is_filter is_first
-    (λ bytes text. within_all (rows_of filter now bytes) text tally) held)
-begins_by plan document s filter now (Err (Rows fault)) is_filter is_first held stopped =
-    inr (by_filter (λ rows text. StopsBy rows text fault) StopsWithin plan document s filter now is_filter is_first
-    (λ bytes text. within_stops (rows_of filter now bytes) text (run_stop fault)) stopped)
-begins_by plan document s filter now (Err (RowsFile name)) is_filter is_first held stopped = inl stopped
-begins_by plan document s filter now (Err (NotYet option)) is_filter is_first held stopped = absurd stopped
-begins_by plan document s filter now (Err OneOf) is_filter is_first held stopped = absurd stopped
-begins_by plan document s filter now (Err (Query fault)) is_filter is_first held stopped = absurd stopped
-begins_by plan document s filter now (Err NoOption) is_filter is_first held stopped = absurd stopped
-begins_by plan document s filter now (Err (Schema fault)) is_filter is_first held stopped = absurd stopped
-begins_by plan document s filter now (Err (UnknownType name)) is_filter is_first held stopped = absurd stopped
-begins_by plan document s filter now (Err (Refused fault)) is_filter is_first held stopped = absurd stopped
-
 -- ---- standard output was flushed
 
 over_kept : (rows : Option (Option (List ℕ))) (a b c : Option (List ℕ)) (P : List ℕ → List ℕ → Type 0)
@@ -230,7 +113,7 @@ by_filter_kept P plan document rows a b c by kept = record {
   is_filter = by.is_filter;
   now = by.now;
   is_first = by.is_first;
-  written = over_kept rows a b c (λ bytes. P (rows_of by.filter by.now bytes)) by.written kept;
+  written = over_kept rows a b c (HoldsOfRows plan.collection P by.filter by.now) by.written kept;
 }
 
 told_kept : (plan : Plan) (document : List ℕ) (rows : Option (Option (List ℕ))) (a b c : Option (List ℕ))
@@ -251,7 +134,13 @@ refuses_kept _ rows a b c wrote kept = Keeps-trans a b c wrote kept
 
 stops_kept : (verb : Verb) (plan : Plan) (document : List ℕ) (rows : Option (Option (List ℕ))) (a b c : Option (List ℕ))
     → StopsAtRow verb plan document (streams rows a b) → Keeps b c → StopsAtRow verb plan document (streams rows a c)
-stops_kept Verb.Filter plan document rows a b c stops kept = by_filter_kept StopsAtFault plan document rows a b c stops kept
+stops_kept Verb.Filter plan document rows a b c (inl stops) kept = inl (by_filter_kept StopsAtFault plan document rows a b c stops kept)
+stops_kept Verb.Filter plan document rows a b c (inr none) kept = inr (record {
+  has_filter = none.has_filter;
+  asked = none.asked;
+  is_none = none.is_none;
+  nothing = Keeps-trans a b c none.nothing kept;
+})
 stops_kept Verb.Check plan document rows a b c stops kept = absurd stops
 stops_kept Verb.Explain plan document rows a b c stops kept = absurd stops
 
@@ -269,7 +158,7 @@ begins_kept : (verb : Verb) (plan : Plan) (document : List ℕ) (rows : Option (
     → WroteNothing (streams rows a b) ⊎ BeginsBy verb plan document (streams rows a b) → Keeps b c
     → WroteNothing (streams rows a c) ⊎ BeginsBy verb plan document (streams rows a c)
 begins_kept verb plan document rows a b c (inl none) kept = inl (Keeps-trans a b c none kept)
-begins_kept Verb.Filter plan document rows a b c (inr by) kept = inr (by_filter_kept StopsWithin plan document rows a b c by kept)
+begins_kept Verb.Filter plan document rows a b c (inr by) kept = inr (by_filter_kept BeginsKept plan document rows a b c by kept)
 begins_kept Verb.Check plan document rows a b c (inr by) kept = inr tt
 begins_kept Verb.Explain plan document rows a b c (inr by) kept = inr tt
 

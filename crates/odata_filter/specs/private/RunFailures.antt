@@ -1,11 +1,8 @@
 -- The failures of a run. Private clauses alone cite these.
-use Rattle.std.specs.Prelude.{◌≡◌, ◌⊎◌, ℕ, List, Option, Result, Ok, Err}
+use Rattle.std.specs.Prelude.{◌≡◌, ◌⊎◌, ℕ, List, Option, Result, Ok, Err, IfSome, IsSomeAnd}
 use Rattle.std.specs.Io.KnownBytes.{Keeps}
-use Rattle.line_filter.specs.Kept.{Items}
-use Rattle.odata_filter.specs.declared.bad_row.BadRow.{BadRow}
 use Rattle.odata_text.specs.declared.query_fault.QueryFault.{QueryFault}
 use Rattle.odata_text.specs.declared.query_fault.QueryFault.TheVariants as query
-use Rattle.odata_filter.specs.RunStops.{StopsBy}
 use Rattle.odata_filter.specs.declared.command.command_line.Verb.{Verb}
 use Rattle.odata_filter.specs.declared.command.command_line.Verb.TheVariants.{Check}
 use Rattle.odata_filter.specs.Run.{HasNoFilter, HasNoOption, Streams, WroteNothing, OverRows, Status, StatusSays, status_number, complete, without_filter, without_plan, without_type, at_fault, without_device, without_memory}
@@ -53,11 +50,15 @@ status_of (Refused refusal) = status_of_refusal refusal
 status_of (RowsFile name) = without_device
 status_of (Rows fault) = status_of_rows fault
 
--- what a failure over the rows says of them and of what was written
-abbrev pub StopsOver : (List ℕ → Items (List ℕ) BadRow) → Failure → Streams → Type 0
-StopsOver rows (Rows fault) streams = OverRows streams (λ bytes text. StopsBy (rows bytes) text fault)
-StopsOver rows (RowsFile name) streams = WroteNothing streams
-StopsOver rows other streams = ⊥
+-- what a failure over the rows says of them and of what was written, by what a fault says of their bytes and of a text
+abbrev pub StopsOver : (List ℕ → List ℕ → RunFault → Type 0) → Failure → Streams → Type 0
+StopsOver said (Rows fault) streams = OverRows streams (λ bytes text. said bytes text fault)
+StopsOver said (RowsFile name) streams = WroteNothing streams
+StopsOver said other streams = ⊥
+
+-- what is known of bytes that were read whole
+abbrev pub IsWhole : Option (Option (List ℕ)) → List ℕ → Type 0
+IsWhole rows bytes = IsSomeAnd rows (λ known. IfSome known (λ all. bytes ≡ all))
 
 -- what an answer says of the plan, of the rows and of what was written
 abbrev pub AnswerSays : {X : Type 0} → Result X Failure → Verb → Plan → List ℕ → Streams → Type 0
@@ -71,7 +72,7 @@ LacksFilter without_plan plan document = HasNoOption plan document
 LacksFilter without_memory plan document = Unit {0}
 LacksFilter _ plan document = ⊥
 
--- what a failure to write says: of a device or of memory
+-- what a failure to read or to write says: of a device or of memory
 abbrev pub IsUnwritten : Status → Type 0
 IsUnwritten without_device = Unit {0}
 IsUnwritten without_memory = Unit {0}

@@ -1,12 +1,13 @@
 //! Laws of command lines, stated on functions that do nothing.
-ghost use Rattle.std.specs.Prelude.{◌≡◌, ◌∷◌, [], Some, codes};
+ghost use Rattle.std.specs.Prelude.{◌≡◌, ◌∷◌, [], false, true, Some, codes};
 ghost use Rattle.clap.specs.Words.{fault_of, first_of};
 ghost use Rattle.clap.specs.declared.error.kind.ErrorKind.TheVariants as kind;
-ghost use Rattle.odata_filter.specs.CommandLine.{Enters, GivesNotOne, IsTaken, verb_matches, odfilter_app};
+ghost use Rattle.odata_filter.specs.CommandLine.{Enters, GivesNotOne, IsTaken, is_flag_set, verb_matches, odfilter_app};
 ghost use Rattle.odata_filter.specs.declared.command.command_line.Verb.{Verb};
 ghost use Rattle.odata_filter.specs.WorkedLines as worked;
 
-/// A whole line is taken with its four values, and one with a query in place of the filter with that. Lines with
+/// A whole line is taken with its four values and no collection, one with `--collection` behind it with that, and one
+/// with a query in place of the filter with that. Lines with
 /// neither and with both are taken and give not one of them. Lines without a schema and with an unknown option are not
 /// taken. `check` takes a filter, and no rows, no moment and no collection. The program tells its version, its
 /// subcommand has none of its own, and help goes before what is missing.
@@ -16,6 +17,9 @@ pub fn worked_lines()
     ensures named { first_of (codes "type") (verb_matches worked.whole) ≡ Some (codes "N.T") }
     ensures filter { first_of (codes "filter") (verb_matches worked.whole) ≡ Some (codes "true") }
     ensures rows { first_of (codes "rows") (verb_matches worked.whole) ≡ Some (codes "r") }
+    ensures lines { is_flag_set Verb.Filter (codes "collection") (verb_matches worked.whole) ≡ false }
+    ensures collection_taken { IsTaken worked.with_collection }
+    ensures collection { is_flag_set Verb.Filter (codes "collection") (verb_matches worked.with_collection) ≡ true }
     ensures query_taken { IsTaken worked.with_query }
     ensures query { first_of (codes "query") (verb_matches worked.with_query) ≡ Some (codes "x") }
     ensures neither { GivesNotOne worked.without_filter }

@@ -2,7 +2,7 @@ ghost use Rattle.std.specs.Prelude.{◌≡◌, IfOk, MatchResult, codes, false, 
 ghost use Rattle.clap.specs.Words.{found_of, rows_of, rule_of};
 ghost use Rattle.odata_filter.specs.Planned.{IsCarriedOut, IsPlanned};
 ghost use Rattle.odata_filter.specs.CommandLine.{HasValues, IsPlanOf, IsRefusedBy};
-ghost use Rattle.odata_filter.specs.CommandLine.{check_app, filter_app, odfilter_app, option_value, text_rule};
+ghost use Rattle.odata_filter.specs.CommandLine.{check_app, filter_app, flag_rule, is_flag_set, odfilter_app, option_value, text_rule};
 ghost use Rattle.odata_filter.specs.CommandLine.{verb_app};
 ghost use Rattle.odata_filter.specs.private.PlanSteps.{IsApp, IsFaultOf, IsNotOneFault};
 
@@ -20,6 +20,7 @@ Examples:
   odfilter check --schema schema.json --type Mini.Item --filter \"Name eq 'a'\"
   odfilter filter --schema schema.json --type Mini.Item --filter \"Name eq 'a'\" --rows rows.json
   odfilter filter --schema schema.json --type Mini.Item --query '$filter=ID%20eq%201' <rows.json
+  odfilter filter --schema schema.json --type Mini.Item --filter \"Name eq 'a'\" --collection <answer.json
 
 Statuses:
   0  done; or help or the version was asked for
@@ -40,6 +41,17 @@ fn text_option<'a>(alloc: Global, name: &'a str, value: &'a str, help: &'a str) 
         .value_name(value)
         .help(help)
         .action(ArgAction::Set)
+}
+
+/// An option that takes no text.
+fn flag<'a>(alloc: Global, name: &'a str, help: &'a str) -> Arg<'a>
+    ensures rule { rule_of result ≡ flag_rule name.entry.now }
+    ensures local { result.global ≡ false }
+{
+    Arg::new(alloc, name)
+        .long(name)
+        .help(help)
+        .action(ArgAction::SetTrue)
 }
 
 /// The subcommand of a verb, with the options that every verb has.
@@ -83,7 +95,7 @@ fn check_command<'a>(alloc: Global) -> Result<Command<'a>, AllocError>
     )
 }
 
-/// The subcommand `filter`, which may name its rows.
+/// The subcommand `filter`, which may name its rows and say that they are a collection.
 fn filter_command<'a>(alloc: Global) -> Result<Command<'a>, AllocError>
     ensures { IfOk result (IsApp filter_app) }
 {
@@ -93,9 +105,14 @@ fn filter_command<'a>(alloc: Global) -> Result<Command<'a>, AllocError>
         "FILE",
         "Rows, one JSON object a line; else standard input",
     );
+    let collection = flag(
+        alloc,
+        "collection",
+        "The rows are the array `value` of one JSON object; the places of the kept ones are written",
+    );
     let about = "Writes the rows whose outcome is true, as they come";
     let command = verb_command(alloc, "filter", about)?;
-    command.arg(rows)
+    command.arg(rows)?.arg(collection)
 }
 
 /// The command line as `clap` reads it.
@@ -131,6 +148,16 @@ fn rows_file<'a>(verb: Verb, matches: &ArgMatches<'a>) -> Option<&'a str>
     }
 }
 
+/// Whether the rows are a collection, which `filter` alone may say.
+fn is_collection(verb: Verb, matches: &ArgMatches<'_>) -> bool
+    ensures { result ≡ is_flag_set verb (codes "collection") (rows_of (found_of matches.now)) }
+{
+    match verb {
+        Verb::Filter => matches.get_one::<bool>("collection").unwrap_or(false),
+        Verb::Check | Verb::Explain => false,
+    }
+}
+
 /// The plan of what stands behind a verb.
 fn plan_of<'a>(verb: Verb, matches: &ArgMatches<'a>) -> Result<Plan<'a>, PlanFault>
     requires { IsCarriedOut verb }
@@ -152,7 +179,7 @@ fn plan_of<'a>(verb: Verb, matches: &ArgMatches<'a>) -> Result<Plan<'a>, PlanFau
         query,
         rows: rows_file(verb, matches),
         now: None,
-        collection: false,
+        collection: is_collection(verb, matches),
     })
 }
 

@@ -1,23 +1,18 @@
-ghost use Rattle.std.specs.Prelude.{◌≡◌, ◌<◌, ◌↔◌, ◌⊎◌, false, ℕ, List, Some, length, option_map, string_bytes};
+ghost use Rattle.std.specs.Prelude.{◌≡◌, ◌<◌, ◌↔◌, ◌⊎◌, ℕ, List, Some, option_map, string_bytes};
 ghost use Rattle.std.specs.Prelude.{MatchOption, IfOk, IfErr, IsTrue, OnOk, OnErr, IsNone};
 ghost use Rattle.line_filter.specs.Growth.{Writes};
 ghost use Rattle.odata_filter.specs.Planned.{IsCarriedOut, IsPlanned};
-ghost use Rattle.line_filter.specs.Kept.{Filters};
-ghost use Rattle.odata_filter.specs.RowJudgment.{rows_of};
-ghost use Rattle.odata_filter.specs.Run.{Answers, AsksFor, Begins, BeginsAs, IsAccepted, IsFirstMoment, IsPlanFilter, NamesType};
-ghost use Rattle.odata_filter.specs.Run.{OverRows, streams, without_filter, without_plan, without_type};
-ghost use Rattle.odata_filter.specs.private.RunFailures.{AnswerSays, IsTold, IsUnwritten, LacksFilter, StopsOver};
+ghost use Rattle.odata_filter.specs.Run.{Answers, AsksFor, Begins, IsAccepted, IsPlanFilter, NamesType};
+ghost use Rattle.odata_filter.specs.Run.{streams, without_plan, without_type};
+ghost use Rattle.odata_filter.specs.private.RunFailures.{AnswerSays, IsTold, IsUnwritten, LacksFilter};
 ghost use Rattle.odata_filter.specs.private.RunFailures.{status_of};
 ghost use Rattle.csdl_schema.specs.SchemaModel.{HoldsType, IsEntityAt, index_named};
 
 use super::command_line::{Plan, Verb};
 use super::failure::Failure;
-use crate::filter::filter_lines;
+use super::rows::filter_rows;
 use crate::run_fault::RunFault;
 use csdl_schema::{Schema, TypeId};
-use edm_values::Moment;
-use jiff::civil;
-use line_filter::Tally;
 use odata_text::filter_of_query;
 use odata_typing::{Checked, Refusal, check};
 use std::alloc::{AllocError, Global};
@@ -37,17 +32,14 @@ fn is_carried_out(verb: Verb) -> bool
 /// What a plan asks for that is not there yet.
 fn not_yet(plan: &Plan<'_>) -> Option<&'static str>
     ensures { MatchOption result
-        (IsNone plan.entry.now.now × IsCarriedOut plan.entry.now.verb × (plan.entry.now.collection ≡ false))
+        (IsNone plan.entry.now.now × IsCarriedOut plan.entry.now.verb)
         (λ option. ¬ IsPlanned plan.entry.now) }
 {
     if !is_carried_out(plan.verb) {
         return Some("explain");
     }
     if plan.now.is_some() {
-        return Some("now");
-    }
-    if plan.collection {
-        Some("collection")
+        Some("now")
     } else {
         None
     }
@@ -86,41 +78,6 @@ fn entity_type<'p>(schema: &Schema, named: &'p str) -> Result<TypeId, Failure<'p
             }
         }
         None => Err(Failure::UnknownType(named)),
-    }
-}
-
-/// The moment that is handed in where none is given, the first one of year 1.
-fn first_moment() -> Moment
-    ensures { IsFirstMoment result }
-{
-    match Moment::new(civil::date(1, 1, 1).at(0, 0, 0, 0), 0) {
-        Some(moment) => moment,
-        None => unreachable!(),
-    }
-}
-
-/// The rows of the plan by its checked filter.
-fn rows_by_filter<'p, R: Read + Drop, W: Write>(
-    alloc: Global,
-    checked: &Checked<'_>,
-    now: &Moment,
-    plan: &Plan<'p>,
-    rows: Option<R>,
-    out: &mut W,
-) -> Result<Tally, Failure<'p>>
-    ensures done { IfOk result (λ tally. OverRows
-        (streams (option_map (λ r. R.remaining r) rows) (W.contents out.old) (W.contents out.new))
-        (λ bytes text. Filters (rows_of checked.now now.now bytes) text tally)) }
-    ensures failed { IfErr result (λ failure.
-        StopsOver (rows_of checked.now now.now) failure
-        (streams (option_map (λ r. R.remaining r) rows) (W.contents out.old) (W.contents out.new))) }
-{
-    match rows {
-        Some(rows) => match filter_lines(alloc, checked, now, rows, out) {
-            Ok(tally) => Ok(tally),
-            Err(fault) => Err(Failure::Rows(fault)),
-        },
-        None => Err(Failure::RowsFile(plan.rows.unwrap_or("rows"))),
     }
 }
 
@@ -201,28 +158,6 @@ fn tell_filter<'p, W: Write>(
     match out.flush() {
         Ok(()) => Ok(()),
         Err(_) => Err(Failure::Rows(RunFault::Write)),
-    }
-}
-
-/// The rows that the filter keeps.
-fn filter_rows<'p, R: Read + Drop, W: Write>(
-    alloc: Global,
-    checked: &Checked<'_>,
-    plan: &Plan<'p>,
-    rows: Option<R>,
-    out: &mut W,
-) -> Result<(), Failure<'p>>
-    ensures says { (document : List ℕ) → IsPlanFilter plan.entry.now document checked.now
-        → AnswerSays result Verb.Filter plan.entry.now document
-        (streams (option_map (λ r. R.remaining r) rows) (W.contents out.old) (W.contents out.new)) }
-    ensures begins { (document : List ℕ) → IsPlanFilter plan.entry.now document checked.now
-        → BeginsAs Verb.Filter plan.entry.now document
-        (streams (option_map (λ r. R.remaining r) rows) (W.contents out.old) (W.contents out.new)) }
-{
-    let now = first_moment();
-    match rows_by_filter(alloc, checked, &now, plan, rows, out) {
-        Ok(_) => Ok(()),
-        Err(failure) => Err(failure),
     }
 }
 

@@ -16,6 +16,15 @@ returns-clause-filter c = line.whole_filter
 pub returns-clause-rows : goal.returns-clause-rows
 returns-clause-rows c = line.whole_rows
 
+pub returns-clause-lines : goal.returns-clause-lines
+returns-clause-lines c = line.whole_lines
+
+pub returns-clause-collection_taken : goal.returns-clause-collection_taken
+returns-clause-collection_taken c = line.collection_taken
+
+pub returns-clause-collection : goal.returns-clause-collection
+returns-clause-collection c = line.collection_set
+
 pub returns-clause-query_taken : goal.returns-clause-query_taken
 returns-clause-query_taken c = line.query_taken
 

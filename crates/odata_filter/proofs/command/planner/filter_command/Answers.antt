@@ -1,11 +1,13 @@
 use Rattle.std.proofs.Common.{codes, false}
 use Rattle.std.proofs.lemmas.Result.{IfOk-weaker}
-use Rattle.odata_filter.specs.CommandLine.{text_rule}
+use Rattle.odata_filter.specs.CommandLine.{flag_rule, text_rule}
 use Rattle.odata_filter.proofs.LineLemmas.PlanLemmas.{app_arg}
 use Rattle.odata_filter.proofs.command.planner.filter_command.Goals as goal
 
 pub returns : goal.returns
 returns c =
-    IfOk-weaker c.arg.result _ _
-    (λ d added. app_arg c.in_ok-command.command d c.text_option-rows.result _ (text_rule (codes "rows") false)
-    c.text_option-rows.ensures.rule c.text_option-rows.ensures.local added c.in_ok-command.ensures) c.arg.ensures
+    let with_rows = app_arg c.in_ok-command.command c.in_ok-arg.field-0 c.text_option-rows.result _ (text_rule (codes "rows") false)
+    c.text_option-rows.ensures.rule c.text_option-rows.ensures.local c.in_ok-arg.ensures c.in_ok-command.ensures in
+    IfOk-weaker c.arg-2.result _ _
+    (λ d added. app_arg c.in_ok-arg.field-0 d c.flag-collection.result _ (flag_rule (codes "collection"))
+    c.flag-collection.ensures.rule c.flag-collection.ensures.local added with_rows) c.arg-2.ensures

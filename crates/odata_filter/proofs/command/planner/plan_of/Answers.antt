@@ -1,7 +1,7 @@
 use Rattle.std.proofs.Common.{◌∙◌, rules, refl, sym, ap₂, codes}
 use Rattle.std.proofs.Math.Bool.{beq}
 use Rattle.clap.specs.Words.{found_of, rows_of}
-use Rattle.odata_filter.proofs.LineLemmas.PlanLemmas.{no_collection, no_moment, one_found, one_found-not, text_found, text_or_empty}
+use Rattle.odata_filter.proofs.LineLemmas.PlanLemmas.{no_moment, one_found, one_found-not, text_found, text_or_empty}
 use Rattle.odata_filter.proofs.command.planner.plan_of.Goals as goal
 
 pub returns-then-is_some-clause-values : goal.returns-then-is_some-clause-values
@@ -16,7 +16,6 @@ returns-clause-planned c = record {
   one_of = one_found c.get_str-filter.result c.get_str-query.result
       (sym (ap₂ beq c.is_some.ensures c.is_some-2.ensures) ∙ c.if-is_some.false);
   has_no_moment = search rules;
-  is_lines = refl;
 }
 
 pub returns-clause-values : goal.returns-clause-values
@@ -35,5 +34,5 @@ returns-clause-values c =
       query = text_found found (codes "query") query c.get_str-query.ensures;
       rows = c.rows_file.ensures;
       now = sym (no_moment c.args.verb (rows_of found));
-      collection = sym (no_collection c.args.verb (rows_of found));
+      collection = c.is_collection.ensures;
     }

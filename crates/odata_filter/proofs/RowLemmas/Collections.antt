@@ -1,0 +1,76 @@
+-- What a run over the items of a document says of the collection that it is.
+use Rattle.std.proofs.Common.{◌≡◌, ◌≢◌, ◌∙◌, ℕ, List, [], Option, None, Some, inl, inr, refl, sym, ap, subst, map, option_map}
+use Rattle.std.specs.Prelude.{IsSomeAnd, Vec}
+use Rattle.std.specs.Borrow.{Bor}
+use Rattle.std.specs.declared.alloc.Global.{Global}
+use Rattle.std.proofs.KnownBytes.{Appends-nil}
+use Rattle.serde_json.specs.Data.{Data}
+use Rattle.serde_json.specs.View.{items_of, items_view, view}
+use Rattle.serde_json.specs.declared.value.Value.{Value}
+use Rattle.edm_values.specs.MomentParts.{MomentParts}
+use Rattle.csdl_schema.specs.JsonText.{IsJsonOf}
+use Rattle.line_filter.specs.Growth.{Writes}
+use Rattle.line_filter.specs.Kept.{Filters, Stops}
+use Rattle.line_filter.specs.Places.{ItemJudge, places}
+use Rattle.line_filter.specs.declared.stop.Stop.{Stop}
+use Rattle.line_filter.specs.declared.tally.Tally.{Tally}
+use Rattle.odata_typing.specs.Filter.{Filter}
+use Rattle.odata_filter.specs.Collection.{IsCollectionOf, OfCollection, StopsCollection, array_of}
+use Rattle.odata_filter.specs.RowJudgment.{JudgesValue}
+use Rattle.odata_filter.specs.RunStops.{StopsBy, run_stop}
+use Rattle.odata_filter.specs.declared.bad_row.BadRow.{BadRow}
+use Rattle.odata_filter.specs.private.DocumentFaults.{IsUnjudgedBy}
+use Rattle.odata_filter.specs.declared.run_fault.RunFault.{RunFault}
+use Rattle.odata_filter.proofs.RowLemmas.Renamed.{Filters-renamed, Stops-renamed}
+
+module _ (filter : Filter) (now : MomentParts) (document : List ℕ) (values : List Value) (is : IsCollectionOf document (map view values)) (text : List ℕ) where
+  abbrev pub judge : ItemJudge Value BadRow
+  judge item = JudgesValue filter now (view item)
+
+  pub collection_filtered : (tally : Tally) → Filters (places judge values) text tally → OfCollection filter now document (λ items. Filters items text tally)
+  collection_filtered tally filtered = (map view values, is, Filters-renamed (JudgesValue filter now) view values text tally filtered)
+
+  -- the stop that a fault tells is one of the items
+  stopped_by : (fault : RunFault) → ((line : ℕ) → run_stop fault ≢ Some (Stop.Read line)) → StopsBy (places judge values) text fault → StopsCollection filter now document text fault
+  stopped_by RunFault.NotACollection unread stops = absurd stops
+  stopped_by (RunFault.Json line) unread stops = absurd stops.found
+  stopped_by (RunFault.LineTooLong line) unread stops = absurd stops.found
+  stopped_by (RunFault.Read line) unread stops = absurd (unread line refl)
+  stopped_by (RunFault.Row line fault) unread stops = (map view values, is, Stops-renamed (JudgesValue filter now) view values text (Stop.Fault line (BadRow.NoEntity fault)) stops)
+  stopped_by (RunFault.Arithmetic line fault) unread stops = (map view values, is, Stops-renamed (JudgesValue filter now) view values text (Stop.Fault line (BadRow.NoValue fault)) stops)
+  stopped_by RunFault.Write unread stops = (map view values, is, Stops-renamed (JudgesValue filter now) view values text Stop.Write stops)
+  stopped_by (RunFault.Memory line) unread stops = inr (map view values, is, Stops-renamed (JudgesValue filter now) view values text (Stop.Memory line) stops)
+
+  pub collection_stopped : (fault : RunFault) (stop : Stop BadRow) → run_stop fault ≡ Some stop → ((line : ℕ) → stop ≢ Stop.Read line) → Stops (places judge values) text stop
+      → StopsCollection filter now document text fault
+  collection_stopped fault stop told unread stops =
+      let apart : (line : ℕ) → run_stop fault ≢ Some (Stop.Read line) = λ line same. let here : Some stop ≡ Some (Stop.Read line) = sym told ∙ same in unread line cc in
+      stopped_by fault apart (subst (λ s. IsSomeAnd s (Stops (places judge values) text)) (sym told) stops)
+
+-- none of the items was judged
+pub unjudged : (filter : Filter) (now : MomentParts) (document : List ℕ) (old : Option (List ℕ)) (fault : RunFault) → IsUnjudgedBy document fault
+    → Writes old old (λ text. StopsCollection filter now document text fault)
+unjudged filter now document old RunFault.NotACollection is = ([], Appends-nil old, (is, refl))
+unjudged filter now document old (RunFault.Memory line) is = ([], Appends-nil old, inl (is, refl))
+unjudged filter now document old (RunFault.Json line) is = absurd is
+unjudged filter now document old (RunFault.Row line fault) is = absurd is
+unjudged filter now document old (RunFault.Arithmetic line fault) is = absurd is
+unjudged filter now document old (RunFault.LineTooLong line) is = absurd is
+unjudged filter now document old (RunFault.Read line) is = absurd is
+unjudged filter now document old RunFault.Write is = absurd is
+
+-- the array was not found
+pub no_array : (filter : Filter) (now : MomentParts) (document : List ℕ) (old : Option (List ℕ)) (json : Data) (found : Option (Bor (Vec Value Global))) → IsJsonOf document json
+    → option_map (λ items. items_view items.now.items) found ≡ array_of json → found ≡ None
+    → Writes old old (λ text. StopsCollection filter now document text RunFault.NotACollection)
+no_array filter now document old json found is_json same none =
+    ([], Appends-nil old, (inr (json, is_json, sym same ∙ ap (option_map (λ items. items_view items.now.items)) none), refl))
+
+-- the array was found, and these are its values
+pub collection_of : (document : List ℕ) (json : Data) (found : Option (Bor (Vec Value Global))) (items : Bor (Vec Value Global)) (values : List Value) → IsJsonOf document json
+    → option_map (λ v. items_view v.now.items) found ≡ array_of json → found ≡ Some items → values ≡ items.now.items → IsCollectionOf document (map view values)
+collection_of document json found items values is_json same some are = record {
+  json = json;
+  is_json = is_json;
+  value = sym same ∙ ap (option_map (λ v. items_view v.now.items)) some ∙ ap (λ l. Some (items_of (map view l))) (sym are);
+}

@@ -1,0 +1,213 @@
+-- What a run over the rows of a plan answers.
+use Rattle.std.proofs.Common.{◌≡◌, ◌∙◌, ℕ, List, [], ◌∷◌, ◌++◌, Bool, true, false, Option, None, Some, Result, Ok, Err, inl, inr, refl, sym, ap, subst, append-nil}
+use Rattle.std.specs.Prelude.{IfOk, IfErr, IfSome, IsSomeAnd}
+use Rattle.std.specs.Io.KnownBytes.{Appends, Keeps}
+use Rattle.edm_values.specs.MomentParts.{MomentParts}
+use Rattle.line_filter.specs.Growth.{Writes}
+use Rattle.line_filter.specs.Kept.{Items, Filters, Passes, Stops, StopsWithin}
+use Rattle.line_filter.specs.Places.{Placed}
+use Rattle.line_filter.specs.declared.finding.Finding.{Finding}
+use Rattle.line_filter.specs.declared.judge.Judgment.{Judgment}
+use Rattle.line_filter.specs.declared.stop.Stop.{Stop}
+use Rattle.line_filter.specs.declared.tally.Tally.{Tally}
+use Rattle.serde_json.specs.Data.{Data}
+use Rattle.odata_typing.specs.Filter.{Filter}
+use Rattle.odata_filter.specs.Collection.{IsNoCollection, OfCollection, StopsCollection, entities_of}
+use Rattle.odata_filter.specs.RowJudgment.{rows_of}
+use Rattle.odata_filter.specs.RunStops.{run_stop, StopsBy}
+use Rattle.odata_filter.specs.Run.{BeginsAs, BeginsKept, ByFilter, FiltersAll, HoldsOfRows, IsFirstMoment, IsPlanFilter, OfRows, OverRows, Status, StatusSays, StopsAtFault, Streams, streams, without_device, without_memory}
+use Rattle.odata_filter.specs.private.RunFailures.{AnswerSays, IsUnwritten, IsWhole, StopsOver, status_of, status_of_rows}
+use Rattle.odata_filter.specs.declared.bad_row.BadRow.{BadRow}
+use Rattle.odata_filter.specs.declared.command.command_line.Plan.{Plan}
+use Rattle.odata_filter.specs.declared.command.command_line.Verb.{Verb}
+use Rattle.odata_filter.specs.declared.command.failure.Failure.{Failure}
+use Rattle.odata_filter.specs.declared.command.failure.Failure.TheVariants.{NotYet, OneOf, Schema, UnknownType, Query, NoOption, Refused, RowsFile, Rows}
+use Rattle.odata_filter.specs.declared.run_fault.RunFault.{RunFault}
+use Rattle.odata_filter.specs.declared.run_fault.RunFault.TheVariants.{Json, Row, Arithmetic, LineTooLong, NotACollection, Read, Write, Memory}
+
+-- ---- a beginning was written
+
+module _ {X F : Type 0} (items : Items X F) (text : List ℕ) where
+  front_passed : (before after : List X) (tally : Tally) → items.all ≡ before ++ after → Passes items.sieve before text tally → StopsWithin items text
+  front_passed before after tally whole passes = record {
+    before = before;
+    after = after;
+    tally = tally;
+    unwritten = [];
+    whole = whole;
+    passes = subst (λ t. Passes items.sieve before t tally) (sym (append-nil text)) passes;
+  }
+
+  within_all : (tally : Tally) → Filters items text tally → StopsWithin items text
+  within_all tally filtered = front_passed items.all [] tally (sym (append-nil items.all)) filtered
+
+  within_stop : (stop : Stop F) → Stops items text stop → StopsWithin items text
+  within_stop (Stop.Fault line fault) stops = front_passed stops.before (stops.bad ∷ stops.after) stops.tally stops.whole stops.passes
+  within_stop (Stop.TooLong line) stops = front_passed stops.before (stops.bad ∷ stops.after) stops.tally stops.whole stops.passes
+  within_stop (Stop.Read line) stops = front_passed stops.before stops.after stops.tally stops.whole stops.passes
+  within_stop Stop.Write stops = stops
+  within_stop (Stop.Memory line) stops = front_passed stops.before stops.after stops.tally stops.whole stops.passes
+
+  within_stops : (told : Option (Stop F)) → IsSomeAnd told (Stops items text) → StopsWithin items text
+  within_stops None stops = absurd stops
+  within_stops (Some stop) stops = within_stop stop stops
+
+-- ---- what was written
+
+over_from : (rows : Option (Option (List ℕ))) (old new : Option (List ℕ)) (P Q : List ℕ → List ℕ → Type 0)
+    → ((bytes text : List ℕ) → P bytes text → Q bytes text) → OverRows (streams rows old new) P → OverRows (streams rows old new) Q
+over_from None old new P Q f held = held
+over_from (Some None) old new P Q f held = tt
+over_from (Some (Some bytes)) old new P Q f (text, wrote, said) = (text, wrote, f bytes text said)
+
+-- of rows that were read whole
+over_whole : (rows : Option (Option (List ℕ))) (old new : Option (List ℕ)) (bytes : List ℕ) (P : List ℕ → List ℕ → Type 0)
+    → IsWhole rows bytes → Writes old new (P bytes) → OverRows (streams rows old new) P
+over_whole None old new bytes P whole wrote = absurd whole
+over_whole (Some None) old new bytes P whole wrote = tt
+over_whole (Some (Some all)) old new bytes P whole wrote = subst (λ (b : List ℕ). Writes old new (P b)) whole wrote
+
+whole_is : (rows : Option (Option (List ℕ))) (bytes : List ℕ) (P : List ℕ → Type 0) → IsWhole rows bytes → P bytes → IsSomeAnd rows (λ known. IfSome known P)
+whole_is None bytes P whole p = absurd whole
+whole_is (Some None) bytes P whole p = tt
+whole_is (Some (Some all)) bytes P whole p = subst P whole p
+
+wrote_none : (old new : Option (List ℕ)) (text : List ℕ) → Appends old new text → text ≡ [] → Keeps old new
+wrote_none None new text wrote none = tt
+wrote_none (Some x) None text wrote none = absurd wrote
+wrote_none (Some x) (Some y) text wrote none = wrote ∙ ap (λ l. x ++ l) none ∙ append-nil x
+
+-- rows of a collection were not read whole
+unread_status : (plan : Plan) (document : List ℕ) (filter : Filter) (s : Streams) (status : Status) → IsPlanFilter plan document filter → IsUnwritten status → StatusSays status Verb.Filter plan document s
+unread_status plan document filter s without_device is_filter unread = (filter, is_filter)
+unread_status plan document filter s without_memory is_filter unread = tt
+unread_status plan document filter s _ is_filter unread = absurd unread
+
+pub unread_says : (plan : Plan) (document : List ℕ) (filter : Filter) (s : Streams) (failure : Failure) → IsPlanFilter plan document filter → IsUnwritten (status_of failure)
+    → StatusSays (status_of failure) Verb.Filter plan document s
+unread_says plan document filter s failure is_filter unread = unread_status plan document filter s (status_of failure) is_filter unread
+
+module _ (plan : Plan) (document : List ℕ) (filter : Filter) (now : MomentParts) (is_filter : IsPlanFilter plan document filter) (is_first : IsFirstMoment now) where
+  by_filter : (P : List ℕ → List ℕ → Type 0) (Q : OfRows) (s : Streams)
+      → ((bytes text : List ℕ) → P bytes text → HoldsOfRows plan.collection Q filter now bytes text) → OverRows s P → ByFilter Q plan document s
+  by_filter P Q s f held = record {
+    filter = filter;
+    is_filter = is_filter;
+    now = now;
+    is_first = is_first;
+    written = over_from s.rows s.old s.new P (HoldsOfRows plan.collection Q filter now) f held;
+  }
+
+  -- ---- each row is a line
+
+  module _ (is_lines : plan.collection ≡ false) where
+    of_lines : (Q : OfRows) (bytes text : List ℕ) → Q (List ℕ) (rows_of filter now bytes) text → HoldsOfRows plan.collection Q filter now bytes text
+    of_lines Q bytes text q = subst (λ (b : Bool). HoldsOfRows b Q filter now bytes text) (sym is_lines) q
+
+    abbrev SaysOfLines : List ℕ → List ℕ → RunFault → Type 0
+    SaysOfLines bytes = StopsBy (rows_of filter now bytes)
+
+    -- a row is the first at fault
+    line_at_fault : (s : Streams) (fault : RunFault) (line : ℕ) (bad : BadRow) → run_stop fault ≡ Some (Stop.Fault line bad) → OverRows s (λ bytes text. SaysOfLines bytes text fault)
+        → ByFilter StopsAtFault plan document s
+    line_at_fault s fault line bad told held =
+        by_filter (λ bytes text. SaysOfLines bytes text fault) StopsAtFault s
+        (λ bytes text stops. of_lines StopsAtFault bytes text (line, Finding.Judged (Judgment.Fault bad), (λ sound. sound), subst (λ t. IsSomeAnd t (Stops (rows_of filter now bytes) text)) told stops)) held
+
+    line_failed : (s : Streams) (failure : Failure) → StopsOver SaysOfLines failure s → StatusSays (status_of failure) Verb.Filter plan document s
+    line_failed s (NotYet option) held = absurd held
+    line_failed s OneOf held = absurd held
+    line_failed s (Query fault) held = absurd held
+    line_failed s NoOption held = absurd held
+    line_failed s (Schema fault) held = absurd held
+    line_failed s (UnknownType name) held = absurd held
+    line_failed s (Refused fault) held = absurd held
+    line_failed s (RowsFile name) held = (filter, is_filter)
+    line_failed s (Rows (Json line)) held = inl (line_at_fault s (Json line) line BadRow.NotJson refl held)
+    line_failed s (Rows (Row line fault)) held = inl (line_at_fault s (Row line fault) line (BadRow.NoEntity fault) refl held)
+    line_failed s (Rows (Arithmetic line fault)) held = inl (line_at_fault s (Arithmetic line fault) line (BadRow.NoValue fault) refl held)
+    line_failed s (Rows (LineTooLong line)) held =
+        inl (by_filter (λ bytes text. SaysOfLines bytes text (LineTooLong line)) StopsAtFault s
+        (λ bytes text stops. of_lines StopsAtFault bytes text (line, Finding.TooLong, (λ sound. sound), stops)) held)
+    line_failed s (Rows NotACollection) held = inl (by_filter (λ bytes text. SaysOfLines bytes text NotACollection) StopsAtFault s (λ bytes text stops. absurd stops) held)
+    line_failed s (Rows (Read line)) held = (filter, is_filter)
+    line_failed s (Rows Write) held = (filter, is_filter)
+    line_failed s (Rows (Memory line)) held = tt
+
+    pub lines_say : (s : Streams) (answer : Result Tally Failure) → IfOk answer (λ tally. OverRows s (λ bytes text. Filters (rows_of filter now bytes) text tally))
+        → IfErr answer (λ failure. StopsOver SaysOfLines failure s) → AnswerSays answer Verb.Filter plan document s
+    lines_say s (Ok tally) held stopped =
+        by_filter (λ bytes text. Filters (rows_of filter now bytes) text tally) FiltersAll s (λ bytes text filtered. of_lines FiltersAll bytes text (tally, filtered)) held
+    lines_say s (Err failure) held stopped = line_failed s failure stopped
+
+    pub lines_begin : (s : Streams) (answer : Result Tally Failure) → IfOk answer (λ tally. OverRows s (λ bytes text. Filters (rows_of filter now bytes) text tally))
+        → IfErr answer (λ failure. StopsOver SaysOfLines failure s) → BeginsAs Verb.Filter plan document s
+    lines_begin s (Ok tally) held stopped =
+        inr (by_filter (λ bytes text. Filters (rows_of filter now bytes) text tally) BeginsKept s
+        (λ bytes text filtered. of_lines BeginsKept bytes text (within_all (rows_of filter now bytes) text tally filtered)) held)
+    lines_begin s (Err (Rows fault)) held stopped =
+        inr (by_filter (λ bytes text. SaysOfLines bytes text fault) BeginsKept s
+        (λ bytes text stops. of_lines BeginsKept bytes text (within_stops (rows_of filter now bytes) text (run_stop fault) stops)) stopped)
+    lines_begin s (Err (RowsFile name)) held stopped = inl stopped
+    lines_begin s (Err (NotYet option)) held stopped = absurd stopped
+    lines_begin s (Err OneOf) held stopped = absurd stopped
+    lines_begin s (Err (Query fault)) held stopped = absurd stopped
+    lines_begin s (Err NoOption) held stopped = absurd stopped
+    lines_begin s (Err (Schema fault)) held stopped = absurd stopped
+    lines_begin s (Err (UnknownType name)) held stopped = absurd stopped
+    lines_begin s (Err (Refused fault)) held stopped = absurd stopped
+
+  -- ---- the rows are a collection
+
+  module _ (is_collection : plan.collection ≡ true) (rows : Option (Option (List ℕ))) (old new : Option (List ℕ)) (bytes : List ℕ) (whole : IsWhole rows bytes) where
+    abbrev these : Streams
+    these = streams rows old new
+
+    of_places : (Q : OfRows) (all text : List ℕ) → OfCollection filter now all (λ items. Q (Placed Data) items text) → HoldsOfRows plan.collection Q filter now all text
+    of_places Q all text q = subst (λ (b : Bool). HoldsOfRows b Q filter now all text) (sym is_collection) q
+
+    by_places : (Q : OfRows) → Writes old new (λ text. OfCollection filter now bytes (λ items. Q (Placed Data) items text)) → ByFilter Q plan document these
+    by_places Q wrote =
+        by_filter (λ all text. OfCollection filter now all (λ items. Q (Placed Data) items text)) Q these (of_places Q)
+        (over_whole rows old new bytes (λ all text. OfCollection filter now all (λ items. Q (Placed Data) items text)) whole wrote)
+
+    -- an item is the first at fault
+    item_at_fault : (fault : RunFault) (line : ℕ) (bad : BadRow) → run_stop fault ≡ Some (Stop.Fault line bad) → Writes old new (λ text. OfCollection filter now bytes (λ items. StopsBy items text fault))
+        → ByFilter StopsAtFault plan document these
+    item_at_fault fault line bad told (text, wrote, (items, is, stops)) =
+        by_places StopsAtFault (text, wrote, (items, is, (line, Finding.Judged (Judgment.Fault bad), (λ sound. sound), subst (λ t. IsSomeAnd t (Stops (entities_of filter now items) text)) told stops)))
+
+    pub places_fail : (fault : RunFault) → Writes old new (λ text. StopsCollection filter now bytes text fault) → StatusSays (status_of_rows fault) Verb.Filter plan document these
+    places_fail (Json line) (text, wrote, stops) = absurd stops
+    places_fail (LineTooLong line) (text, wrote, stops) = absurd stops
+    places_fail (Read line) (text, wrote, stops) = absurd stops
+    places_fail (Row line fault) wrote = inl (item_at_fault (Row line fault) line (BadRow.NoEntity fault) refl wrote)
+    places_fail (Arithmetic line fault) wrote = inl (item_at_fault (Arithmetic line fault) line (BadRow.NoValue fault) refl wrote)
+    places_fail NotACollection (text, wrote, (none, empty)) = inr (record {
+      has_filter = (filter, is_filter);
+      asked = is_collection;
+      is_none = whole_is rows bytes IsNoCollection whole none;
+      nothing = wrote_none old new text wrote empty;
+    })
+    places_fail Write wrote = (filter, is_filter)
+    places_fail (Memory line) wrote = tt
+
+    pub places_done : (tally : Tally) → Writes old new (λ text. OfCollection filter now bytes (λ items. Filters items text tally)) → ByFilter FiltersAll plan document these
+    places_done tally (text, wrote, (items, is, filtered)) = by_places FiltersAll (text, wrote, (items, is, (tally, filtered)))
+
+    pub places_done-begin : (tally : Tally) → Writes old new (λ text. OfCollection filter now bytes (λ items. Filters items text tally)) → BeginsAs Verb.Filter plan document these
+    places_done-begin tally (text, wrote, (items, is, filtered)) = inr (by_places BeginsKept (text, wrote, (items, is, within_all (entities_of filter now items) text tally filtered)))
+
+    begun : (stop : Stop BadRow) → Writes old new (λ text. OfCollection filter now bytes (λ items. Stops items text stop)) → BeginsAs Verb.Filter plan document these
+    begun stop (text, wrote, (items, is, stops)) = inr (by_places BeginsKept (text, wrote, (items, is, within_stop (entities_of filter now items) text stop stops)))
+
+    pub places_fail-begin : (fault : RunFault) → Writes old new (λ text. StopsCollection filter now bytes text fault) → BeginsAs Verb.Filter plan document these
+    places_fail-begin (Json line) (text, wrote, stops) = absurd stops
+    places_fail-begin (LineTooLong line) (text, wrote, stops) = absurd stops
+    places_fail-begin (Read line) (text, wrote, stops) = absurd stops
+    places_fail-begin (Row line fault) wrote = begun (Stop.Fault line (BadRow.NoEntity fault)) wrote
+    places_fail-begin (Arithmetic line fault) wrote = begun (Stop.Fault line (BadRow.NoValue fault)) wrote
+    places_fail-begin NotACollection (text, wrote, (none, empty)) = inl (wrote_none old new text wrote empty)
+    places_fail-begin Write wrote = begun Stop.Write wrote
+    places_fail-begin (Memory line) (text, wrote, inl (zero, empty)) = inl (wrote_none old new text wrote empty)
+    places_fail-begin (Memory line) (text, wrote, inr of) = begun (Stop.Memory line) (text, wrote, of)

@@ -1,0 +1,91 @@
+ghost use Rattle.std.specs.Prelude.{◌≡◌, IfOk, IfErr, option_map};
+ghost use Rattle.serde_json.specs.View.{items_view, view};
+ghost use Rattle.line_filter.specs.Growth.{Writes};
+ghost use Rattle.line_filter.specs.Kept.{Filters};
+ghost use Rattle.odata_filter.specs.Collection.{OfCollection, StopsCollection, array_of};
+ghost use Rattle.odata_filter.specs.RowJudgment.{JudgesValue};
+ghost use Rattle.odata_filter.specs.private.DocumentFaults.{IsUnjudgedBy};
+ghost use Rattle.csdl_schema.specs.JsonText.{IsJsonOf};
+
+use crate::bad_row::BadRow;
+use crate::row_judge::RowJudge;
+use crate::run_fault::{RunFault, run_fault};
+use edm_values::Moment;
+use line_filter::{JudgeItem, Judgment, Tally, filter_places};
+use odata_typing::Checked;
+use serde_json::Value;
+use std::alloc::{AllocError, Global};
+use std::io::Write;
+
+impl JudgeItem for RowJudge<'_, '_> {
+    type Item = Value;
+
+    type Fault = BadRow;
+
+    ghost says = { λ judge item. JudgesValue judge.checked.now judge.moment.now (view item) };
+
+    fn judge_item(&self, item: &Value) -> Result<Judgment<BadRow>, AllocError> {
+        self.judge_value(item)
+    }
+}
+
+/// The array that is the member `value` of a JSON object.
+fn array_of(json: &Value) -> Option<&Vec<Value>>
+    ensures { option_map (λ items. items_view items.now.items) result ≡ array_of (view json.now) }
+{
+    json.get("value").and_then(Value::as_array)
+}
+
+/// The JSON of a document.
+fn read_document(alloc: Global, document: &[u8]) -> Result<Value, RunFault>
+    ensures json { IfOk result (λ json. IsJsonOf document.now (view json)) }
+    ensures fault { IfErr result (IsUnjudgedBy document.now) }
+{
+    match Value::from_slice(alloc, document) {
+        Ok(json) => Ok(json),
+        Err(error) => {
+            if error.is_memory() {
+                Err(RunFault::Memory { line: 0 })
+            } else {
+                Err(RunFault::NotACollection)
+            }
+        }
+    }
+}
+
+/// Reads a collection of entities, a JSON object whose member `value` is an array of them, and writes the place of each
+/// whose outcome is true, counted from 0, in decimal and followed by LF.
+///
+/// Its other members are read over. A document that is no JSON or no such object is `NotACollection`. The first faulty
+/// item ends the run: `Row` or `Arithmetic`, with its place plus one. A failed write, or a last flush that fails, is
+/// `Write`. Memory that is refused while the document is read is `Memory` with 0 for the line.
+pub fn filter_collection<W: Write>(
+    alloc: Global,
+    checked: &Checked<'_>,
+    now: &Moment,
+    document: &[u8],
+    out: &mut W,
+) -> Result<Tally, RunFault>
+    ensures filters { IfOk result (λ tally. Writes (W.contents out.old) (W.contents out.new)
+        (λ text. OfCollection checked.now now.now document.now (λ items. Filters items text tally))) }
+    ensures stops { IfErr result (λ fault. Writes (W.contents out.old) (W.contents out.new)
+        (λ text. StopsCollection checked.now now.now document.now text fault)) }
+{
+    let json = match read_document(alloc, document) {
+        Ok(json) => json,
+        Err(fault) => return Err(fault),
+    };
+    let items = match array_of(&json) {
+        Some(items) => items,
+        None => return Err(RunFault::NotACollection),
+    };
+    let judge = RowJudge {
+        alloc,
+        checked,
+        moment: now,
+    };
+    match filter_places(alloc, &judge, items, out) {
+        Ok(tally) => Ok(tally),
+        Err(stop) => Err(run_fault(stop)),
+    }
+}

@@ -1,0 +1,44 @@
+//! All that a reader has, in memory.
+ghost use Rattle.std.specs.Prelude.{◌≡◌, IfOk, IfSome};
+
+use std::alloc::Global;
+use std::io::Read;
+use thiserror::Error;
+
+/// Why a reader was not read whole.
+#[derive(Debug, Drop, Error)]
+pub enum NotWhole {
+    #[error("read")]
+    Read,
+    #[error("memory")]
+    Memory,
+}
+
+/// How many bytes are asked for at a time.
+const ONE_READ: usize = 65_536;
+
+/// Reads up to the end. An interrupted read has failed.
+pub fn read_whole<R: Read>(alloc: Global, reader: &mut R) -> Result<Vec<u8>, NotWhole>
+    ensures { IfOk result (λ bytes. IfSome (R.remaining reader.old) (λ all. bytes.items ≡ all)) }
+{
+    let mut buffer = Vec::new(alloc);
+    if buffer.resize(ONE_READ, 0).is_err() {
+        return Err(NotWhole::Memory);
+    }
+    let mut bytes = Vec::new(alloc);
+    loop {
+        let count = match reader.read(buffer.as_mut_slice()) {
+            Ok(count) => count,
+            Err(_) => return Err(NotWhole::Read),
+        };
+        if count == 0 {
+            return Ok(bytes);
+        }
+        if bytes
+            .extend_from_slice(&buffer.as_slice()[..count])
+            .is_err()
+        {
+            return Err(NotWhole::Memory);
+        }
+    }
+}
