@@ -1,5 +1,5 @@
 -- What a schema says, apart from how it is kept (CSDL JSON 4.01).
-use Rattle.std.specs.Prelude.{◌≡◌, ◌≢◌, ◌++◌, [], ◌∷◌, ◌||◌, ℕ, zero, suc, List, Bool, true, false, Option, Some, None, IsTrue, if◌then◌else◌, nat_eq, map, length, position, slice_get, option_and_then}
+use Rattle.std.specs.Prelude.{◌≡◌, ◌≢◌, ◌++◌, [], ◌∷◌, ◌||◌, ℕ, zero, suc, List, Bool, true, false, Option, Some, None, IsTrue, if◌then◌else◌, nat_eq, map, length, position, slice_get, option_map, option_and_then}
 use Rattle.std.specs.Ordering.{nat_cmp}
 use Rattle.std.specs.Cmp.Lexicographic.{pointwise, slice_cmp}
 use Rattle.std.specs.List.{AllByRecursion}
@@ -45,10 +45,12 @@ abbrev pub type_called : List TypeModel → List ℕ → Option TypeModel
 type_called [] asked = None
 type_called (t ∷ ts) asked = if pointwise nat_eq t.name asked then Some t else type_called ts asked
 
--- the properties of each type by its qualified name, none where there is no such type; and each enumeration by its own
+-- the properties of each type by its qualified name, none where there is no such type; each enumeration by its own; and
+-- the qualified name of the enumeration that goes by a name, which may be that by the alias of its namespace
 pub record Slots : Type 0 where
   pub properties : List ℕ → List PropertyModel
   pub enumerations : List ℕ → Option EnumerationModel
+  pub enumeration_names : List ℕ → Option (List ℕ)
 
 abbrev pub base_properties : (List ℕ → List PropertyModel) → Option (List ℕ) → List PropertyModel
 base_properties inherited None = []
@@ -81,9 +83,6 @@ enumeration_of_body (type_definition p) = None
 abbrev pub enumeration_in : List TypeModel → List ℕ → Option EnumerationModel
 enumeration_in types asked = option_and_then (λ t. enumeration_of_body t.body) (type_called types asked)
 
-abbrev pub slots_of : SchemaModel → Slots
-slots_of schema = record { properties = properties_in schema.types; enumerations = enumeration_in schema.types }
-
 -- ---- types by index
 
 -- the name at an index; the empty text past the end
@@ -95,10 +94,6 @@ name_in (name ∷ names) (suc n) = name_in names n
 -- the qualified name of the type at an index
 abbrev pub type_name_at : SchemaModel → ℕ → List ℕ
 type_name_at schema = name_in (map (λ t. t.name) schema.types)
-
--- the properties of the type at an index, in slot order; none where there is no entity or complex type
-abbrev pub properties_at : SchemaModel → ℕ → List PropertyModel
-properties_at schema n = (slots_of schema).properties (type_name_at schema n)
 
 abbrev pub is_text_of : Option (List ℕ) → List ℕ → Bool
 is_text_of None asked = false
@@ -165,6 +160,18 @@ index_named schema asked = index_of_kind is_structured schema asked
 -- the index of the enumeration of the asked name
 abbrev pub enumeration_named : SchemaModel → List ℕ → Option ℕ
 enumeration_named schema asked = index_of_kind is_enumeration schema asked
+
+-- what is known of a schema's types by their names alone
+abbrev pub slots_of : SchemaModel → Slots
+slots_of schema = record {
+  properties = properties_in schema.types;
+  enumerations = enumeration_in schema.types;
+  enumeration_names = λ asked. option_map (type_name_at schema) (enumeration_named schema asked);
+}
+
+-- the properties of the type at an index, in slot order; none where there is no entity or complex type
+abbrev pub properties_at : SchemaModel → ℕ → List PropertyModel
+properties_at schema n = (slots_of schema).properties (type_name_at schema n)
 
 abbrev pub name_if : (TypeBody → Bool) → TypeModel → Option (List ℕ)
 name_if test t = if test t.body then Some t.name else None

@@ -1,9 +1,12 @@
--- That a tree with a type has one outcome.
+-- What a tree comes to: at most one outcome, and one where it has a type.
 pub mod FirstRunLaws
+pub mod Kinds
+pub mod LawsBelow
+pub mod Numbers
 pub mod OneLeaf
 pub mod OneMeaning
 pub mod OneOutcome
 pub mod OneStep
 pub mod Progress
-pub mod PropertiesInFilter
-pub mod Truths
+pub mod SameForms
+pub mod SameGives

@@ -1,7 +1,13 @@
--- What the walk of a filter's list answers.
-pub mod OperatorSteps
+-- The walk of a filter's list: what stands in a place, and what is answered there.
+pub mod Leaves
+pub mod MemberSteps
+pub mod OneReading
 pub mod Parts
+pub mod Readings
+pub mod Shapes
 pub mod SlotValue
 pub mod Spines
 pub mod TopNode
+pub mod TruthSpines
 pub mod WalkSteps
+pub mod WalkValues

@@ -4,24 +4,27 @@ use Rattle.edm_values.specs.MomentParts.{MomentParts}
 use Rattle.edm_values.specs.Val.{Val}
 use Rattle.odata_syntax.specs.Tree.{Tree}
 use Rattle.csdl_schema.specs.ExprType.{ExprType, single, structured}
-use Rattle.csdl_schema.specs.SchemaModel.{Slots}
+use Rattle.csdl_schema.specs.SchemaModel.{Slots, slots_of, type_name_at}
 use Rattle.edm_entities.specs.HasType.{HasType}
+use Rattle.edm_entities.specs.Row.{Row, IsEntity, value_of}
 use Rattle.odata_eval.specs.Environment.{Environment, scope_of, IsFitting}
 use Rattle.odata_eval.specs.Means.{Means}
-use Rattle.odata_eval.specs.Outcome.{Outcome, GivesSome}
+use Rattle.odata_eval.specs.Outcome.{Outcome, gives, overflow, divides_by_zero}
 use Rattle.odata_typing.specs.Typed.{Typed}
 
--- the outcome is a value of the type; none of the operators so far has a fault
-abbrev pub GivesType : Slots → ExprType → Outcome → Type 0
-GivesType slots type = GivesSome (HasType slots type)
+-- the outcome is a value of the type, or a fault
+abbrev pub IsOutcomeOf : Slots → ExprType → Outcome → Type 0
+IsOutcomeOf slots type (gives v) = HasType slots type v
+IsOutcomeOf slots type overflow = Unit {0}
+IsOutcomeOf slots type divides_by_zero = Unit {0}
 
--- the tree has an outcome, a value of the type, and no other
+-- the tree has an outcome, which is of the type if it is a value, and no other
 pub record EndsOnce
     (slots : Slots) (root : List ℕ) (now : MomentParts) (entity : Val) (environment : Environment) (tree : Tree)
     (type : ExprType) : Type 0 where
   pub outcome : Outcome
   pub related : Means slots root now entity environment tree outcome
-  pub of_type : GivesType slots type outcome
+  pub of_type : IsOutcomeOf slots type outcome
   pub only : (other : Outcome) → Means slots root now entity environment tree other → other ≡ outcome
 
 -- so does every tree with a type, on every entity of the filtered type and with variables of every depth
@@ -32,3 +35,11 @@ TypedEndsOnce =
     → HasType slots (single (structured root)) entity → IsFitting slots environment
     → Typed slots root (scope_of environment) tree type
     → EndsOnce slots root now entity environment tree type
+
+-- the same on every entity
+abbrev pub EndsOnceOnEntities : Type 0
+EndsOnceOnEntities =
+    (row : Row) (now : MomentParts) (environment : Environment) (tree : Tree) (type : ExprType)
+    → IsEntity row → IsFitting (slots_of row.schema) environment
+    → Typed (slots_of row.schema) (type_name_at row.schema row.type_id) (scope_of environment) tree type
+    → EndsOnce (slots_of row.schema) (type_name_at row.schema row.type_id) now (value_of row) environment tree type

@@ -1,15 +1,27 @@
 -- What an operator comes to (OData URL Conventions 4.01, sections 5.1.1.1 and 5.1.1.2).
 use Rattle.edm_values.specs.Val.{Val}
 use Rattle.odata_syntax.specs.declared.node.BinaryOperator.{BinaryOperator}
-use Rattle.odata_syntax.specs.declared.node.BinaryOperator.TheVariants.{And, Eq}
-use Rattle.odata_eval.specs.AndGives.{AndGives}
-use Rattle.odata_eval.specs.EqualGives.{EqualGives}
+use Rattle.csdl_schema.specs.ExprType.{ExprType}
+use Rattle.odata_typing.specs.OperatorClass.{class_of}
+use Rattle.odata_typing.specs.declared.operator_class.OperatorClass.{OperatorClass}
+use Rattle.odata_typing.specs.declared.operator_class.OperatorClass.TheVariants.{Connective, Comparison, Arithmetic}
+use Rattle.odata_eval.specs.CalculationGives.{CalculationGives}
+use Rattle.odata_eval.specs.CompareGives.{CompareGives}
 use Rattle.odata_eval.specs.LeftFirst.{After}
-use Rattle.odata_eval.specs.Outcome.{Outcome, NoOutcome}
+use Rattle.odata_eval.specs.Outcome.{Outcome}
+use Rattle.odata_eval.specs.TruthGives.{ConnectiveGives}
 
--- of its left value and the outcomes of its right side: `and` may do without the right side, `eq` takes both; the other
--- operators have no meaning yet
-abbrev pub OperatorGives : BinaryOperator → Val → (Outcome → Type 0) → Outcome → Type 0
-OperatorGives And l Right = AndGives l Right
-OperatorGives Eq l Right = After Right (EqualGives l)
-OperatorGives operator l Right = NoOutcome
+-- a value that is computed in the type that the node has
+abbrev pub InType : (ExprType → Type 0) → (ExprType → Outcome → Type 0) → Outcome → Type 0
+InType NodeTyped Gives o = (type : ExprType) × NodeTyped type × Gives type o
+
+-- of its left value and the outcomes of its right side, the node having a type: a connective may do without the right
+-- side, all others take both values
+abbrev pub ClassGives : OperatorClass → (ExprType → Type 0) → Val → (Outcome → Type 0) → Outcome → Type 0
+ClassGives (Connective connective) NodeTyped l Right o = ConnectiveGives connective l Right o
+ClassGives (Comparison comparison) NodeTyped l Right o = After Right (CompareGives comparison l) o
+ClassGives (Arithmetic arithmetic) NodeTyped l Right o =
+    After Right (λ r. InType NodeTyped (λ type. CalculationGives arithmetic type l r)) o
+
+abbrev pub OperatorGives : BinaryOperator → (ExprType → Type 0) → Val → (Outcome → Type 0) → Outcome → Type 0
+OperatorGives operator = ClassGives (class_of operator)

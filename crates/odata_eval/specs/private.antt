@@ -1,5 +1,6 @@
 -- Definitions that private clauses alone cite.
-pub mod OperandView
-pub mod OperatorClass
+pub mod DatumView
+pub mod Operands
 pub mod Place
 pub mod WalkAnswer
+pub mod WalkClass

@@ -2,14 +2,16 @@
 ghost use Rattle.std.specs.Prelude.{◌≡◌, ◌≢◌, Some, Option, Bool, Err, IfSome};
 ghost use Rattle.odata_eval.specs.MeansOn.{MeansOn, IsTheOutcome};
 ghost use Rattle.odata_eval.specs.VerdictView.{told_outcome, verdict_val};
-ghost use Rattle.odata_eval.specs.private.OperandView.{truth_val};
+ghost use Rattle.odata_eval.specs.TruthGives.{truth_val};
+ghost use Rattle.odata_typing.specs.Calls.{TakesMemory};
 ghost use Rattle.odata_typing.specs.Filter.{tree_of_filter};
 
 use super::fault::EvalFault;
+use super::laws::typed_trees_end_once_on_entities;
 use super::verdict::Verdict;
 use super::walk::truth_at;
 use edm_entities::Entity;
-use edm_values::{Moment, texts_have_one_value};
+use edm_values::Moment;
 use odata_typing::Checked;
 use std::alloc::Global;
 
@@ -24,7 +26,8 @@ fn verdict_of(truth: Option<bool>) -> Verdict
     }
 }
 
-/// What the filter says of the entity. `now` is the moment that `now()` stands for.
+/// What the filter says of the entity. `now` is the moment that `now()` stands for. `Memory` is answered only where the
+/// filter makes texts.
 pub fn evaluate(
     _alloc: Global,
     checked: &Checked<'_>,
@@ -35,11 +38,11 @@ pub fn evaluate(
     requires one_type { checked.now.filtered ≡ entity.now.type_id }
     ensures outcome { IfSome (told_outcome result)
         (IsTheOutcome entity.now now.now (tree_of_filter checked.now)) }
-    ensures no_memory { result ≢ Err EvalFault.Memory }
+    ensures no_memory { ¬ TakesMemory (tree_of_filter checked.now) → result ≢ Err EvalFault.Memory }
 {
     // What is known of every filter and entity is known once its nodes or its value have been asked for, and laws once
     // they are cited.
-    texts_have_one_value();
+    typed_trees_end_once_on_entities();
     let _nodes = checked.nodes();
     let _value = entity.value();
     match truth_at(&*checked, &*entity, now, 0) {

@@ -2,18 +2,49 @@
 ghost use Rattle.std.specs.Prelude.{pos, true, false, codes};
 ghost use Rattle.edm_values.specs.Val.{Val, boolean};
 ghost use Rattle.odata_syntax.specs.FirstRun.{first_run_tree};
-ghost use Rattle.odata_eval.specs.EndsOnce.{TypedEndsOnce};
+ghost use Rattle.odata_eval.specs.EndsOnce.{EndsOnceOnEntities, TypedEndsOnce};
 ghost use Rattle.odata_eval.specs.ComesTo.{ComesTo, false_and_missing, item_value};
 ghost use Rattle.odata_eval.specs.Outcome.{gives};
+ghost use Rattle.odata_eval.specs.SameMeaning.{NormalFormsKeepOutcomes, CanonicalTextsKeepOutcomes};
 
-use edm_values::texts_have_one_value;
+use edm_entities::what_fits_has_its_type;
+use odata_functions::{
+    arithmetic_has_one_answer, comparisons_are_decided, operands_lie_within_promotion,
+};
+use odata_syntax::{canonical_texts_read_back, one_tree};
+use odata_text::one_list_of_any_length;
+use odata_typing::{literals_have_one_value, normal_forms_keep_types, trees_have_one_type};
 
-/// A law: an expression that has a type has exactly one outcome on every entity of the filtered type, a value of that
-/// type, whatever the range variables around it hold.
+/// A law: an expression that has a type has exactly one outcome on every value of the filtered type, whatever the range
+/// variables around it hold: a value of its type, or the fault of an arithmetic operator.
 pub fn typed_trees_end_once()
     ensures { TypedEndsOnce }
 {
-    texts_have_one_value();
+    literals_have_one_value();
+    trees_have_one_type();
+    arithmetic_has_one_answer();
+    comparisons_are_decided();
+    operands_lie_within_promotion();
+}
+
+/// A law: so it has on every entity of that type.
+pub fn typed_trees_end_once_on_entities()
+    ensures { EndsOnceOnEntities }
+{
+    typed_trees_end_once();
+    what_fits_has_its_type();
+}
+
+/// A law: a tree and its normal form have the same outcomes, and so has the tree of its canonical text, on every value and
+/// whatever the range variables around hold.
+pub fn canonical_texts_keep_outcomes()
+    ensures normal { NormalFormsKeepOutcomes }
+    ensures printed { CanonicalTextsKeepOutcomes }
+{
+    normal_forms_keep_types();
+    canonical_texts_read_back();
+    one_list_of_any_length();
+    one_tree();
 }
 
 /// What the definitions say of `Active and ID eq 1 and Name eq 'a'` on the items `{"ID":1,"Name":"a","Active":true}`,
@@ -25,5 +56,7 @@ pub fn first_run_comes_to()
     ensures inactive { ComesTo first_run_tree (item_value (pos 2) (codes "a") false) (gives (boolean false)) }
     ensures right_side_left_out { (value : Val) → ComesTo false_and_missing value (gives (boolean false)) }
 {
-    texts_have_one_value();
+    literals_have_one_value();
+    trees_have_one_type();
+    arithmetic_has_one_answer();
 }

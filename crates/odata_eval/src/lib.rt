@@ -1,10 +1,10 @@
 //! What a checked filter comes to on an entity (OData URL Conventions 4.01, section 5.1.1).
 #![tactic(auto)]
 
+mod datum;
 mod evaluator;
 mod fault;
 mod laws;
-mod operand;
 mod operators;
 mod part;
 mod verdict;
@@ -12,5 +12,8 @@ mod walk;
 
 pub use evaluator::evaluate;
 pub use fault::EvalFault;
-pub use laws::{first_run_comes_to, typed_trees_end_once};
+pub use laws::{
+    canonical_texts_keep_outcomes, first_run_comes_to, typed_trees_end_once,
+    typed_trees_end_once_on_entities,
+};
 pub use verdict::Verdict;

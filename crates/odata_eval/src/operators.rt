@@ -1,130 +1,121 @@
-//! What an operator makes of values that are there. Only `and` and `eq` have a meaning yet.
-ghost use Rattle.std.specs.Prelude.{◌≡◌, ◌↔◌, true, false, Some, Option, Bool, IsTrue, IsSomeAnd};
-ghost use Rattle.edm_values.specs.Val.{boolean};
-ghost use Rattle.odata_eval.specs.AndGives.{AndGives};
-ghost use Rattle.odata_eval.specs.EqualGives.{EqualGives};
-ghost use Rattle.odata_eval.specs.Outcome.{Outcome, gives};
-ghost use Rattle.odata_eval.specs.private.OperandView.{AtBoth, plain_datum, plain_seen, truth_val};
-ghost use Rattle.odata_eval.specs.private.OperatorClass.{IsDecided, OperatorTable, is_logical};
+//! What an operator makes of values that are there.
+ghost use Rattle.std.specs.Prelude.{◌≡◌, ◌↔◌, Some, IsTrue, IsSomeAnd};
+ghost use Rattle.edm_values.specs.declared.primitive.PrimitiveType.{PrimitiveType};
+ghost use Rattle.csdl_schema.specs.SchemaModel.{SchemaModel};
+ghost use Rattle.odata_functions.specs.DatumVal.{Reading, datum_val};
+ghost use Rattle.odata_typing.specs.OperatorClass.{class_of};
+ghost use Rattle.odata_typing.specs.TypeView.{expr_type};
+ghost use Rattle.odata_eval.specs.CalculationGives.{CalculationGives, NegatedGives, number_outcome};
+ghost use Rattle.odata_eval.specs.TruthGives.{joined, truth_val};
+ghost use Rattle.odata_eval.specs.private.DatumView.{datum_outcome};
+ghost use Rattle.odata_eval.specs.private.Operands.{AppliedGives, AreNumbers, IsOneNumber, MayApply};
+ghost use Rattle.odata_eval.specs.private.WalkClass.{IsDecided};
 
-use super::operand::Seen;
-use edm_values::Datum;
+use super::fault::EvalFault;
+use edm_values::{Datum, Prim};
+use odata_functions::{
+    ArithFault, ArithmeticOperator, and3, arith, compare, comparisons_are_decided, negate, or3,
+};
 use odata_syntax::BinaryOperator;
+use odata_typing::{Connective, EdmType, OperatorClass, ValueType, class_of};
 
-/// Whether both sides are truth values, of which the left one may decide alone. Every other operator takes the values
-/// of both.
-pub(crate) fn is_logical(operator: BinaryOperator) -> bool
-    ensures { result ≡ is_logical operator }
+/// Whether the left truth value alone decides.
+pub(crate) fn decides(connective: Connective, left: Option<bool>) -> bool
+    ensures { IsTrue result ↔ IsDecided connective (truth_val left) }
 {
-    match operator {
-        BinaryOperator::And => true,
-        BinaryOperator::Eq => false,
-        BinaryOperator::Or
-        | BinaryOperator::Ne
-        | BinaryOperator::Gt
-        | BinaryOperator::Ge
-        | BinaryOperator::Lt
-        | BinaryOperator::Le
-        | BinaryOperator::Add
-        | BinaryOperator::Sub
-        | BinaryOperator::Mul
-        | BinaryOperator::Div
-        | BinaryOperator::Mod => false,
+    match connective {
+        Connective::And => matches!(left, Some(false)),
+        Connective::Or => matches!(left, Some(true)),
     }
 }
 
-/// Equality. Null equals itself and nothing else.
-fn equal(left: &Seen<'_>, right: &Seen<'_>) -> bool
-    requires { (o : Outcome) × AtBoth EqualGives (plain_seen left.now) (plain_seen right.now) o }
-    ensures { AtBoth EqualGives (plain_seen left.now) (plain_seen right.now) (gives (boolean result)) }
+/// What a connective makes of two truth values.
+pub(crate) fn join(connective: Connective, left: Option<bool>, right: Option<bool>) -> Option<bool>
+    ensures { result ≡ joined connective left right }
+{
+    match connective {
+        Connective::And => and3(left, right),
+        Connective::Or => or3(left, right),
+    }
+}
+
+/// What any other operator makes of two values, where its node has that type.
+pub(crate) fn applied<'e>(
+    operator: BinaryOperator,
+    edm_type: EdmType,
+    left: &Datum<'_>,
+    right: &Datum<'_>,
+) -> Result<Datum<'e>, EvalFault>
+    requires { (schema : SchemaModel) (l r : Reading) → MayApply (class_of operator) (expr_type schema edm_type)
+        (datum_val l left.now) (datum_val r right.now) }
+    ensures { (schema : SchemaModel) (l r reading : Reading) → IsSomeAnd (datum_outcome reading result)
+        (AppliedGives (class_of operator) (expr_type schema edm_type)
+        (datum_val l left.now) (datum_val r right.now)) }
+{
+    match class_of(operator) {
+        OperatorClass::Connective(_) => unreachable!(),
+        OperatorClass::Comparison(comparison) => {
+            comparisons_are_decided();
+            Ok(Datum::Bool(compare(comparison, left, right)))
+        }
+        OperatorClass::Arithmetic(arithmetic) => calculated(arithmetic, edm_type, left, right),
+    }
+}
+
+/// What arithmetic makes of two numbers or nulls.
+fn calculated<'e>(
+    operator: ArithmeticOperator,
+    edm_type: EdmType,
+    left: &Datum<'_>,
+    right: &Datum<'_>,
+) -> Result<Datum<'e>, EvalFault>
+    requires { (schema : SchemaModel) (l r : Reading) → AreNumbers (expr_type schema edm_type)
+        (datum_val l left.now) (datum_val r right.now) }
+    ensures { (schema : SchemaModel) (l r reading : Reading) → IsSomeAnd (datum_outcome reading result)
+        (CalculationGives operator (expr_type schema edm_type) (datum_val l left.now) (datum_val r right.now)) }
 {
     match left {
-        Seen::Null => matches!(right, Seen::Null),
-        Seen::Bool(l) => matches!(right, Seen::Bool(r) if l == r),
-        Seen::Int(l) => matches!(right, Seen::Int(r) if l == r),
-        Seen::Text(l) => matches!(right, Seen::Text(r) if *l == *r),
+        Datum::Int(a) => match right {
+            Datum::Int(b) => told_number(arith(operator, prim_of(edm_type), Some(*a), Some(*b))),
+            _ => Ok(Datum::Null),
+        },
+        _ => Ok(Datum::Null),
+    }
+}
+
+/// The negation of a number or null.
+pub(crate) fn negated<'e>(edm_type: EdmType, operand: &Datum<'_>) -> Result<Datum<'e>, EvalFault>
+    requires { (schema : SchemaModel) (l : Reading)
+        → IsOneNumber (expr_type schema edm_type) (datum_val l operand.now) }
+    ensures { (schema : SchemaModel) (l reading : Reading) → IsSomeAnd (datum_outcome reading result)
+        (NegatedGives (expr_type schema edm_type) (datum_val l operand.now)) }
+{
+    match operand {
+        Datum::Int(n) => told_number(negate(prim_of(edm_type), Some(*n))),
+        Datum::Null => Ok(Datum::Null),
         _ => unreachable!(),
     }
 }
 
-/// Whether both are true: false beside false, null where that hangs on a null.
-fn and3(left: Option<bool>, right: Option<bool>) -> Option<bool>
-    ensures { AndGives (truth_val left) (λ o. o ≡ gives (truth_val right)) (gives (truth_val result)) }
+/// The primitive type of one value.
+fn prim_of(edm_type: EdmType) -> Prim
+    requires { (p : PrimitiveType) × (edm_type ≡ EdmType.Single (ValueType.Prim p)) }
+    ensures { edm_type ≡ EdmType.Single (ValueType.Prim result) }
 {
-    match (left, right) {
-        (Some(false), _) | (_, Some(false)) => Some(false),
-        (Some(true), Some(true)) => Some(true),
-        _ => None,
+    match edm_type {
+        EdmType::Single(ValueType::Prim(prim)) => prim,
+        _ => unreachable!(),
     }
 }
 
-/// Whether the left truth value alone decides.
-pub(crate) fn decides(operator: BinaryOperator, left: Option<bool>) -> bool
-    ensures { IsTrue result ↔ IsDecided operator (Some (truth_val left)) }
+/// What came of numbers, as a value or a fault.
+fn told_number<'e>(answer: Result<Option<i64>, ArithFault>) -> Result<Datum<'e>, EvalFault>
+    ensures { (reading : Reading) → datum_outcome reading result ≡ Some (number_outcome answer) }
 {
-    match operator {
-        BinaryOperator::And => matches!(left, Some(false)),
-        BinaryOperator::Eq => false,
-        BinaryOperator::Or
-        | BinaryOperator::Ne
-        | BinaryOperator::Gt
-        | BinaryOperator::Ge
-        | BinaryOperator::Lt
-        | BinaryOperator::Le
-        | BinaryOperator::Add
-        | BinaryOperator::Sub
-        | BinaryOperator::Mul
-        | BinaryOperator::Div
-        | BinaryOperator::Mod => false,
-    }
-}
-
-/// What a logical operator makes of two truth values.
-pub(crate) fn joined(
-    operator: BinaryOperator,
-    left: Option<bool>,
-    right: Option<bool>,
-) -> Option<bool>
-    requires { is_logical operator ≡ true }
-    ensures { OperatorTable operator (truth_val left) (truth_val right) (gives (truth_val result)) }
-{
-    match operator {
-        BinaryOperator::And => and3(left, right),
-        BinaryOperator::Eq => unreachable!(),
-        BinaryOperator::Or
-        | BinaryOperator::Ne
-        | BinaryOperator::Gt
-        | BinaryOperator::Ge
-        | BinaryOperator::Lt
-        | BinaryOperator::Le
-        | BinaryOperator::Add
-        | BinaryOperator::Sub
-        | BinaryOperator::Mul
-        | BinaryOperator::Div
-        | BinaryOperator::Mod => unreachable!(),
-    }
-}
-
-/// What any other operator makes of two values.
-pub(crate) fn applied<'e>(operator: BinaryOperator, left: &Seen<'_>, right: &Seen<'_>) -> Datum<'e>
-    requires other { is_logical operator ≡ false }
-    requires defined { (o : Outcome) × AtBoth (OperatorTable operator) (plain_seen left.now) (plain_seen right.now) o }
-    ensures { IsSomeAnd (plain_datum result)
-        (λ v. AtBoth (OperatorTable operator) (plain_seen left.now) (plain_seen right.now) (gives v)) }
-{
-    match operator {
-        BinaryOperator::And => unreachable!(),
-        BinaryOperator::Eq => Datum::Bool(equal(left, right)),
-        BinaryOperator::Or
-        | BinaryOperator::Ne
-        | BinaryOperator::Gt
-        | BinaryOperator::Ge
-        | BinaryOperator::Lt
-        | BinaryOperator::Le
-        | BinaryOperator::Add
-        | BinaryOperator::Sub
-        | BinaryOperator::Mul
-        | BinaryOperator::Div
-        | BinaryOperator::Mod => unreachable!(),
+    match answer {
+        Ok(Some(n)) => Ok(Datum::Int(n)),
+        Ok(None) => Ok(Datum::Null),
+        Err(ArithFault::Overflow) => Err(EvalFault::Overflow),
+        Err(ArithFault::DivideByZero) => Err(EvalFault::DivideByZero),
     }
 }

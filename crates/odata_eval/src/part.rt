@@ -1,26 +1,54 @@
 //! What stands in a place of a filter's list.
-ghost use Rattle.std.specs.Prelude.{◌≡◌, ◌<◌, ◌≤◌, ◌↔◌, ℕ, Bool, Some, IsTrue, length, slice_get};
+ghost use Rattle.std.specs.Prelude.{◌≡◌, ◌<◌, ◌≤◌, ◌↔◌, [], ℕ, Some, IsTrue, length, slice_get};
 ghost use Rattle.csdl_schema.specs.SchemaModel.{properties_at};
 ghost use Rattle.edm_entities.specs.Row.{IsEntity};
-ghost use Rattle.odata_eval.specs.private.OperatorClass.{is_logical};
-ghost use Rattle.odata_eval.specs.private.Place.{HasOperator, IsOperatorAt, IsRightOf, PartStands};
-ghost use Rattle.odata_eval.specs.private.WalkAnswer.{HoldsAt, IsPart};
+ghost use Rattle.edm_values.specs.MomentParts.{MomentParts};
 
-use super::operators::is_logical;
 use edm_entities::Entity;
 use edm_values::Value;
-use odata_syntax::BinaryOperator;
-use odata_typing::{Checked, CheckedNode, NodeKind};
+use odata_typing::{Checked, CheckedNode, NodeKind, OperatorClass, class_of};
+
+/// How the walk takes a node: as a value that is there, by the truth values of its operands, or by their values.
+#[derive(Clone, Copy, PartialEq, Eq)]
+pub(crate) enum WalkClass {
+    Leaf,
+    Logical,
+    Eager,
+}
 
 /// What a node is to the walk.
 #[derive(Clone, Copy)]
 pub(crate) enum Part<'e> {
-    /// A literal or a property, with its value.
+    /// A literal, `$it` or a property, with its value.
     Leaf(&'e Value),
-    /// An operator of truth values.
+    /// A node of truth values: a connective or `not`.
     Logical,
-    /// Any other operator.
+    /// Any other node with operands.
     Eager,
+}
+
+ghost use Rattle.odata_eval.specs.private.Place.{IsClassAt, IsRightOf, PartStands};
+ghost use Rattle.odata_eval.specs.private.WalkAnswer.{AnswersKept, HoldsAt, IsPart};
+ghost use Rattle.odata_eval.specs.private.WalkClass.{walk_of_kind};
+
+/// How the walk takes a node of this kind.
+fn walk_of_kind(kind: NodeKind) -> WalkClass
+    ensures { result ≡ walk_of_kind kind }
+{
+    match kind {
+        NodeKind::Literal { .. } => WalkClass::Leaf,
+        NodeKind::It => WalkClass::Leaf,
+        NodeKind::Property { .. } => WalkClass::Leaf,
+        NodeKind::Variable { .. } => WalkClass::Leaf,
+        NodeKind::Member { .. } => WalkClass::Eager,
+        NodeKind::Neg => WalkClass::Eager,
+        NodeKind::Not => WalkClass::Logical,
+        NodeKind::Binary { operator } => match class_of(operator) {
+            OperatorClass::Connective(_) => WalkClass::Logical,
+            OperatorClass::Comparison(_) => WalkClass::Eager,
+            OperatorClass::Arithmetic(_) => WalkClass::Eager,
+        },
+    }
 }
 
 /// The value in a slot of an entity.
@@ -35,7 +63,7 @@ fn value_at<'e>(entity: &'e Entity<'_>, slot: usize) -> &'e Value
 }
 
 /// The node in a place.
-fn node_at<'e>(checked: &'e Checked<'_>, place: usize) -> &'e CheckedNode
+pub(crate) fn node_at<'e>(checked: &'e Checked<'_>, place: usize) -> &'e CheckedNode
     requires { place < length checked.now.list.nodes }
     ensures { slice_get checked.now.list.nodes place ≡ Some result.now }
 {
@@ -57,66 +85,60 @@ pub(crate) fn part_at<'e>(
     place: usize,
 ) -> Part<'e>
     requires entity { IsEntity entity.now }
-    requires stands { PartStands entity.now checked.now.list place }
-    ensures { IsPart entity.now checked.now.list place result }
+    requires stands { PartStands entity.now [] checked.now.list place }
+    ensures { IsPart entity.now [] checked.now.list place result }
 {
-    match node_at(checked, place).kind {
-        NodeKind::Literal { value, .. } => Part::Leaf(literal_at(checked, value)),
-        NodeKind::Property { slot } => Part::Leaf(value_at(entity, slot)),
-        NodeKind::Variable { .. } => unreachable!(),
-        NodeKind::Binary { operator } => if is_logical(operator) {
-            Part::Logical
-        } else {
-            Part::Eager
-        },
+    let kind = node_at(checked, place).kind;
+    match walk_of_kind(kind) {
+        WalkClass::Leaf => Part::Leaf(leaf_at(checked, entity, place)),
+        WalkClass::Logical => Part::Logical,
+        WalkClass::Eager => Part::Eager,
     }
 }
 
-/// Whether an operator of truth values stands in a place, or any other, as asked.
-fn is_operator_at(checked: &Checked<'_>, place: usize, logical: bool) -> bool
-    ensures { IsTrue result ↔ IsOperatorAt checked.now.list logical place }
+/// The value of a node without operands.
+fn leaf_at<'e>(checked: &'e Checked<'_>, entity: &'e Entity<'_>, place: usize) -> &'e Value
+    requires entity { IsEntity entity.now }
+    requires stands { PartStands entity.now [] checked.now.list place }
+    requires leaf { IsClassAt checked.now.list WalkClass.Leaf place }
+    ensures { (now : MomentParts) → AnswersKept entity.now now [] checked.now.list place result.now }
+{
+    match node_at(checked, place).kind {
+        NodeKind::Literal { value, .. } => literal_at(checked, value),
+        NodeKind::It => entity.value(),
+        NodeKind::Property { slot } => value_at(entity, slot),
+        _ => unreachable!(),
+    }
+}
+
+/// Whether the walk takes the node in a place so. There is none past the end.
+fn is_class_at(checked: &Checked<'_>, place: usize, class: WalkClass) -> bool
+    ensures { IsTrue result ↔ IsClassAt checked.now.list class place }
 {
     match checked.nodes().get(place) {
-        Some(node) => match node.kind {
-            NodeKind::Binary { operator } => is_logical(operator) == logical,
-            NodeKind::Literal { .. } | NodeKind::Property { .. } | NodeKind::Variable { .. } =>
-                false,
-        },
+        Some(node) => walk_of_kind(node.kind) == class,
         None => false,
     }
 }
 
-/// The place of the first node from a place on that is no such operator. In pre-order these nodes are the left spine
-/// of a tree: each but the first is the left operand of the one before.
-pub(crate) fn spine_bottom(checked: &Checked<'_>, top: usize, logical: bool) -> usize
+/// The place of the first node from a place on that the walk does not take so. In pre-order these nodes are the left
+/// spine of a tree: each but the first is the first operand of the one before.
+pub(crate) fn spine_bottom(checked: &Checked<'_>, top: usize, class: WalkClass) -> usize
     ensures below { top ≤ result }
-    ensures spine { (k : ℕ) → k < result → top ≤ k → IsOperatorAt checked.now.list logical k }
-    ensures bottom { ¬ IsOperatorAt checked.now.list logical result }
+    ensures spine { (k : ℕ) → k < result → top ≤ k → IsClassAt checked.now.list class k }
+    ensures bottom { ¬ IsClassAt checked.now.list class result }
 {
     let count = checked.nodes().len();
     let mut place = top;
-    while place < count && is_operator_at(checked, place, logical) {
+    while place < count && is_class_at(checked, place, class) {
         place += 1;
     }
     place
 }
 
-/// The operator in a place.
-pub(crate) fn operator_at(checked: &Checked<'_>, place: usize, logical: bool) -> BinaryOperator
-    requires { IsOperatorAt checked.now.list logical place }
-    ensures operator { HasOperator checked.now.list place result }
-    ensures class { is_logical result ≡ logical }
-{
-    match node_at(checked, place).kind {
-        NodeKind::Binary { operator } => operator,
-        _ => unreachable!(),
-    }
-}
-
 /// The place of an operator's right operand, where its left one stops.
-pub(crate) fn right_of(checked: &Checked<'_>, entity: &Entity<'_>, place: usize) -> usize
-    requires stands { PartStands entity.now checked.now.list place }
-    requires operator { (logical : Bool) × IsOperatorAt checked.now.list logical place }
+pub(crate) fn right_of(checked: &Checked<'_>, place: usize) -> usize
+    requires { (right : ℕ) × IsRightOf checked.now.list place right }
     ensures { IsRightOf checked.now.list place result }
 {
     let nodes = checked.nodes();

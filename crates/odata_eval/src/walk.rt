@@ -1,17 +1,21 @@
-//! The walk of a filter's list: each function goes by the place of a node. A chain of operators from the left lies in
-//! the list as nodes one behind another, so the walk goes down it to its first operand and up again by counting.
-ghost use Rattle.std.specs.Prelude.{◌+◌, true, false};
+//! The walk of a filter's list: each function goes by the place of a node. A chain of nodes, each the first operand of
+//! the one before, lies in the list as nodes one behind another, so the walk goes down it to its first value and up again
+//! by counting, and long chains take no stack.
+ghost use Rattle.std.specs.Prelude.{◌+◌, [], Ok};
 ghost use Rattle.edm_entities.specs.Row.{IsEntity};
-ghost use Rattle.odata_eval.specs.private.Place.{IsOperatorAt, PartStands, TruthStands};
-ghost use Rattle.odata_eval.specs.private.WalkAnswer.{AnswersAtPlace, operand_outcome, truth_outcome};
+ghost use Rattle.odata_eval.specs.private.Place.{HasOperator, HasConnective, IsClassAt, PartStands, TruthStands};
+ghost use Rattle.odata_eval.specs.private.WalkAnswer.{AnswersDatum, AnswersTruth};
 
+use super::datum::{datum_of, datum_of_truth, step, truth_of};
 use super::fault::EvalFault;
-use super::operand::{Operand, datum_of, seen_of, seen_of_value, truth_of};
-use super::operators::{applied, decides, joined};
-use super::part::{Part, operator_at, part_at, right_of, spine_bottom};
-use edm_entities::{Entity, what_fits_has_its_type};
-use edm_values::{Moment, texts_have_one_value};
-use odata_typing::Checked;
+use super::laws::typed_trees_end_once_on_entities;
+use super::operators::{applied, decides, join, negated};
+use super::part::{Part, WalkClass, node_at, part_at, right_of, spine_bottom};
+use edm_entities::Entity;
+use edm_values::{Datum, Moment};
+use odata_functions::{comparisons_are_decided, not3, operands_lie_within_promotion};
+use odata_syntax::BinaryOperator;
+use odata_typing::{Checked, Connective, NodeKind, OperatorClass, class_of, trees_have_one_type};
 
 /// What a node of type Boolean or Null comes to on an entity of the filtered type.
 #[cycle(evaluate)]
@@ -22,10 +26,10 @@ pub(crate) fn truth_at<'e>(
     place: usize,
 ) -> Result<Option<bool>, EvalFault>
     requires entity { IsEntity entity.now }
-    requires stands { TruthStands entity.now checked.now.list place }
-    ensures { AnswersAtPlace entity.now now.now checked.now.list place (truth_outcome result) }
+    requires stands { TruthStands entity.now [] checked.now.list place }
+    ensures { AnswersTruth entity.now now.now [] checked.now.list place result }
 {
-    let bottom = spine_bottom(checked, place, true);
+    let bottom = spine_bottom(checked, place, WalkClass::Logical);
     let mut answer = plain_truth_at(checked, entity, now, bottom);
     let mut at = bottom;
     while place < at {
@@ -35,7 +39,7 @@ pub(crate) fn truth_at<'e>(
     answer
 }
 
-/// The same, of a node that is no logical operator.
+/// The same, of a node that is none of truth values.
 #[cycle(evaluate)]
 fn plain_truth_at<'e>(
     checked: &'e Checked<'_>,
@@ -44,122 +48,179 @@ fn plain_truth_at<'e>(
     place: usize,
 ) -> Result<Option<bool>, EvalFault>
     requires entity { IsEntity entity.now }
-    requires stands { TruthStands entity.now checked.now.list place }
-    requires plain { ¬ IsOperatorAt checked.now.list true place }
-    ensures { AnswersAtPlace entity.now now.now checked.now.list place (truth_outcome result) }
+    requires stands { TruthStands entity.now [] checked.now.list place }
+    requires plain { ¬ IsClassAt checked.now.list WalkClass.Logical place }
+    ensures { AnswersTruth entity.now now.now [] checked.now.list place result }
 {
-    texts_have_one_value();
-    what_fits_has_its_type();
+    typed_trees_end_once_on_entities();
     match part_at(checked, entity, place) {
-        Part::Leaf(value) => Ok(truth_of(&seen_of_value(value))),
+        Part::Leaf(value) => Ok(truth_of(&datum_of(value))),
         Part::Logical => unreachable!(),
         Part::Eager => match eager_at(checked, entity, now, place) {
-            Ok(operand) => Ok(truth_of(&seen_of(&operand))),
+            Ok(value) => Ok(truth_of(&value)),
             Err(fault) => Err(fault),
         },
     }
 }
 
-/// What a logical operator comes to, whose left side has been answered. The right side of a decided one is left out.
+/// What a node of truth values comes to, whose first operand has been answered.
 #[cycle(evaluate)]
 fn logical_at<'e>(
     checked: &'e Checked<'_>,
     entity: &'e Entity<'_>,
     now: &Moment,
     place: usize,
-    left: Result<Option<bool>, EvalFault>,
+    first: Result<Option<bool>, EvalFault>,
 ) -> Result<Option<bool>, EvalFault>
     requires entity { IsEntity entity.now }
-    requires stands { PartStands entity.now checked.now.list place }
-    requires operator { IsOperatorAt checked.now.list true place }
-    requires left { AnswersAtPlace entity.now now.now checked.now.list (place + 1) (truth_outcome left) }
-    ensures { AnswersAtPlace entity.now now.now checked.now.list place (truth_outcome result) }
+    requires stands { PartStands entity.now [] checked.now.list place }
+    requires logical { IsClassAt checked.now.list WalkClass.Logical place }
+    requires first { AnswersTruth entity.now now.now [] checked.now.list (place + 1) first }
+    ensures { AnswersTruth entity.now now.now [] checked.now.list place result }
 {
-    texts_have_one_value();
-    what_fits_has_its_type();
-    let left = match left {
-        Ok(left) => left,
+    let first = match first {
+        Ok(first) => first,
         Err(fault) => return Err(fault),
     };
-    let operator = operator_at(checked, place, true);
-    if decides(operator, left) {
+    match node_at(checked, place).kind {
+        NodeKind::Not => Ok(not3(first)),
+        NodeKind::Binary { operator } => match class_of(operator) {
+            OperatorClass::Connective(connective) => {
+                connected_at(checked, entity, now, place, connective, first)
+            }
+            _ => unreachable!(),
+        },
+        _ => unreachable!(),
+    }
+}
+
+/// What a connective comes to. The right side of a decided one is left out.
+#[cycle(evaluate)]
+fn connected_at<'e>(
+    checked: &'e Checked<'_>,
+    entity: &'e Entity<'_>,
+    now: &Moment,
+    place: usize,
+    connective: Connective,
+    left: Option<bool>,
+) -> Result<Option<bool>, EvalFault>
+    requires entity { IsEntity entity.now }
+    requires stands { PartStands entity.now [] checked.now.list place }
+    requires connective { HasConnective checked.now.list place connective }
+    requires left { AnswersTruth entity.now now.now [] checked.now.list (place + 1) (Ok left) }
+    ensures { AnswersTruth entity.now now.now [] checked.now.list place result }
+{
+    typed_trees_end_once_on_entities();
+    if decides(connective, left) {
         return Ok(left);
     }
-    match truth_at(checked, entity, now, right_of(checked, entity, place)) {
-        Ok(right) => Ok(joined(operator, left, right)),
+    match truth_at(checked, entity, now, right_of(checked, place)) {
+        Ok(right) => Ok(join(connective, left, right)),
         Err(fault) => Err(fault),
     }
 }
 
-/// The value of an operand: of a literal or a property where it is kept.
+/// What a node comes to: a value that is kept where it is, or one that is made.
 #[cycle(evaluate)]
 fn operand_at<'e>(
     checked: &'e Checked<'_>,
     entity: &'e Entity<'_>,
     now: &Moment,
     place: usize,
-) -> Result<Operand<'e>, EvalFault>
+) -> Result<Datum<'e>, EvalFault>
     requires entity { IsEntity entity.now }
-    requires stands { PartStands entity.now checked.now.list place }
-    ensures { AnswersAtPlace entity.now now.now checked.now.list place (operand_outcome result) }
+    requires stands { PartStands entity.now [] checked.now.list place }
+    ensures { AnswersDatum entity.now now.now [] checked.now.list place result }
 {
     match part_at(checked, entity, place) {
-        Part::Leaf(value) => Ok(Operand::Lent(value)),
+        Part::Leaf(value) => Ok(datum_of(value)),
         Part::Logical => match truth_at(checked, entity, now, place) {
-            Ok(truth) => Ok(Operand::Made(datum_of(truth))),
+            Ok(truth) => Ok(datum_of_truth(truth)),
             Err(fault) => Err(fault),
         },
         Part::Eager => eager_at(checked, entity, now, place),
     }
 }
 
-/// What an operator comes to that takes both values.
+/// What a node comes to that takes the values of all its operands.
 #[cycle(evaluate)]
 fn eager_at<'e>(
     checked: &'e Checked<'_>,
     entity: &'e Entity<'_>,
     now: &Moment,
     place: usize,
-) -> Result<Operand<'e>, EvalFault>
+) -> Result<Datum<'e>, EvalFault>
     requires entity { IsEntity entity.now }
-    requires stands { PartStands entity.now checked.now.list place }
-    requires operator { IsOperatorAt checked.now.list false place }
-    ensures { AnswersAtPlace entity.now now.now checked.now.list place (operand_outcome result) }
+    requires stands { PartStands entity.now [] checked.now.list place }
+    requires eager { IsClassAt checked.now.list WalkClass.Eager place }
+    ensures { AnswersDatum entity.now now.now [] checked.now.list place result }
 {
-    let bottom = spine_bottom(checked, place, false);
+    let bottom = spine_bottom(checked, place, WalkClass::Eager);
     let mut answer = operand_at(checked, entity, now, bottom);
     let mut at = bottom;
     while place < at {
         at -= 1;
-        answer = applied_at(checked, entity, now, at, answer);
+        answer = made_at(checked, entity, now, at, answer);
     }
     answer
 }
 
-/// The same, where the left operand has been answered.
+/// The same, where the first operand has been answered.
+#[cycle(evaluate)]
+fn made_at<'e>(
+    checked: &'e Checked<'_>,
+    entity: &'e Entity<'_>,
+    now: &Moment,
+    place: usize,
+    first: Result<Datum<'e>, EvalFault>,
+) -> Result<Datum<'e>, EvalFault>
+    requires entity { IsEntity entity.now }
+    requires stands { PartStands entity.now [] checked.now.list place }
+    requires eager { IsClassAt checked.now.list WalkClass.Eager place }
+    requires first { AnswersDatum entity.now now.now [] checked.now.list (place + 1) first }
+    ensures { AnswersDatum entity.now now.now [] checked.now.list place result }
+{
+    typed_trees_end_once_on_entities();
+    trees_have_one_type();
+    operands_lie_within_promotion();
+    let first = match first {
+        Ok(first) => first,
+        Err(before) => return Err(before),
+    };
+    let node = node_at(checked, place);
+    match node.kind {
+        NodeKind::Member { slot } => Ok(step(first, slot)),
+        NodeKind::Neg => negated(node.edm_type, &first),
+        NodeKind::Binary { operator } => {
+            applied_at(checked, entity, now, place, operator, first)
+        }
+        _ => unreachable!(),
+    }
+}
+
+/// What an operator comes to that takes the values of both sides.
 #[cycle(evaluate)]
 fn applied_at<'e>(
     checked: &'e Checked<'_>,
     entity: &'e Entity<'_>,
     now: &Moment,
     place: usize,
-    left: Result<Operand<'e>, EvalFault>,
-) -> Result<Operand<'e>, EvalFault>
+    operator: BinaryOperator,
+    left: Datum<'e>,
+) -> Result<Datum<'e>, EvalFault>
     requires entity { IsEntity entity.now }
-    requires stands { PartStands entity.now checked.now.list place }
-    requires operator { IsOperatorAt checked.now.list false place }
-    requires left { AnswersAtPlace entity.now now.now checked.now.list (place + 1) (operand_outcome left) }
-    ensures { AnswersAtPlace entity.now now.now checked.now.list place (operand_outcome result) }
+    requires stands { PartStands entity.now [] checked.now.list place }
+    requires eager { IsClassAt checked.now.list WalkClass.Eager place }
+    requires operator { HasOperator checked.now.list place operator }
+    requires left { AnswersDatum entity.now now.now [] checked.now.list (place + 1) (Ok left) }
+    ensures { AnswersDatum entity.now now.now [] checked.now.list place result }
 {
-    texts_have_one_value();
-    what_fits_has_its_type();
-    let left = match left {
-        Ok(left) => left,
-        Err(fault) => return Err(fault),
-    };
-    let operator = operator_at(checked, place, false);
-    match operand_at(checked, entity, now, right_of(checked, entity, place)) {
-        Ok(right) => Ok(Operand::Made(applied(operator, &seen_of(&left), &seen_of(&right)))),
-        Err(fault) => Err(fault),
+    typed_trees_end_once_on_entities();
+    trees_have_one_type();
+    operands_lie_within_promotion();
+    comparisons_are_decided();
+    match operand_at(checked, entity, now, right_of(checked, place)) {
+        Ok(right) => applied(operator, node_at(checked, place).edm_type, &left, &right),
+        Err(behind) => Err(behind),
     }
 }

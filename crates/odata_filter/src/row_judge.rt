@@ -1,4 +1,4 @@
-ghost use Rattle.std.specs.Prelude.{◌≡◌, IfOk};
+ghost use Rattle.std.specs.Prelude.{◌≡◌, ◌≢◌, IfOk};
 ghost use Rattle.serde_json.specs.View.{view};
 ghost use Rattle.odata_filter.specs.RowJudgment.{JudgesValue, JudgesRow};
 ghost use Rattle.odata_filter.specs.private.Verdicts.{judgment_of};
@@ -33,8 +33,7 @@ impl RowJudge<'_, '_> {
         };
         match evaluate(self.alloc, self.checked, &entity, self.moment) {
             Ok(verdict) => Ok(judgment_of(verdict)),
-            Err(EvalFault::Memory) => Err(AllocError),
-            Err(fault) => Ok(Judgment::Fault(BadRow::NoValue(fault))),
+            Err(fault) => judgment_of_fault(fault),
         }
     }
 }
@@ -46,6 +45,19 @@ fn judgment_of(verdict: Verdict) -> Judgment<BadRow>
     match verdict {
         Verdict::True => Judgment::Kept,
         Verdict::False | Verdict::Null => Judgment::LeftOut,
+    }
+}
+
+/// What a fault says of its row. Want of memory says nothing of it.
+fn judgment_of_fault(fault: EvalFault) -> Result<Judgment<BadRow>, AllocError>
+    ensures { IfOk result (λ said. (fault ≢ EvalFault.Memory)
+        × (said ≡ Judgment.Fault (BadRow.NoValue fault))) }
+{
+    match fault {
+        EvalFault::Memory => Err(AllocError),
+        EvalFault::Overflow | EvalFault::DivideByZero => {
+            Ok(Judgment::Fault(BadRow::NoValue(fault)))
+        }
     }
 }
 

@@ -1,4 +1,4 @@
--- The type in which numbers are computed (OData URL Conventions 4.01, section 5.1.1, "Numeric Promotion").
+-- The type in which numbers are computed (OData URL Conventions 4.01, section 5.1.1.18).
 use Rattle.std.specs.Prelude.{Bool, true, false, Option, Some, None, if◌then◌else◌, ◌||◌}
 use Rattle.edm_values.specs.declared.primitive.PrimitiveType.{PrimitiveType}
 use Rattle.edm_values.specs.declared.primitive.PrimitiveType.TheVariants.{Int16, Int32, Int64}

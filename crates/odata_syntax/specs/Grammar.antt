@@ -9,7 +9,7 @@ use Rattle.odata_text.specs.TokenModel.{TokenModel}
 use Rattle.odata_syntax.specs.Tree.{Shape, Tree, Trees, any_item, binary, call, count, has, in_list, in_path, it, lambda, literal, logical_not, member, more_trees, name, negation, no_trees, node, shape_of, start_of, stop_of}
 use Rattle.odata_syntax.specs.Lexeme.{IsA, IsLiteral, IsName, IsOperator, IsQuantifier, IsVariable, SpellsDollar, SpellsWord}
 
--- how tightly a form binds, the loosest first (URL Conventions 4.01, 5.1.1.16, operator precedence)
+-- how tightly a form binds, the loosest first (URL Conventions 4.01, 5.1.1.17, operator precedence)
 abbrev pub Level : Type 0
 Level = ℕ
 

@@ -2,4 +2,5 @@ pub mod canonical
 pub mod types
 pub mod untypable
 pub mod pre_orders
+pub mod printed
 pub mod flat

@@ -1,3 +1,6 @@
+pub mod Kinds
 pub mod Leaves
+pub mod Members
 pub mod Operators
 pub mod Pieces
+pub mod Signs

@@ -1,5 +1,5 @@
--- Types of expressions by their role (CSDL JSON 4.01, section 3.3; OData URL Conventions 4.01, section 5.1.1.1).
-use Rattle.std.specs.Prelude.{◌≡◌, ◌⊎◌}
+-- Types of expressions by their role (CSDL JSON 4.01, section 3.3; OData URL Conventions 4.01, section 5.1.1).
+use Rattle.std.specs.Prelude.{◌≡◌, ◌⊎◌, Option, Some, None}
 use Rattle.edm_values.specs.NumberTypes.{IsNumberType}
 use Rattle.edm_values.specs.declared.primitive.PrimitiveType.{PrimitiveType}
 use Rattle.csdl_schema.specs.ExprType.{SingleType, primitive, enumeration, structured}
@@ -11,24 +11,22 @@ boolean_type = single (primitive PrimitiveType.Bool)
 abbrev pub string_type : ExprType
 string_type = single (primitive PrimitiveType.String)
 
-abbrev pub IsNumberSingle : SingleType → Type 0
-IsNumberSingle (primitive p) = IsNumberType p
-IsNumberSingle (enumeration name) = ⊥
-IsNumberSingle (structured name) = ⊥
-
--- one whole number
-abbrev pub IsNumber : ExprType → Type 0
-IsNumber null_type = ⊥
-IsNumber (single s) = IsNumberSingle s
-IsNumber (collection s) = ⊥
-
--- what a filter may be, and an operand of `and`
+-- what a filter may be, and an operand of `and`, `or` and `not`
 abbrev pub IsBooleanOrNull : ExprType → Type 0
 IsBooleanOrNull type = (type ≡ boolean_type) ⊎ (type ≡ null_type)
 
--- what `eq` takes on its two sides: two numbers, two Booleans or two texts
-abbrev pub AreComparable : ExprType → ExprType → Type 0
-AreComparable left right =
-    (IsNumber left × IsNumber right)
-    ⊎ ((left ≡ boolean_type) × (right ≡ boolean_type))
-    ⊎ ((left ≡ string_type) × (right ≡ string_type))
+abbrev pub IsNumberSingle : SingleType → Option PrimitiveType → Type 0
+IsNumberSingle (primitive p) number = IsNumberType p × (number ≡ Some p)
+IsNumberSingle (enumeration name) number = ⊥
+IsNumberSingle (structured name) number = ⊥
+
+-- what an operand of arithmetic may be: of that number type, or of type Null for None
+abbrev pub IsNumberOrNull : ExprType → Option PrimitiveType → Type 0
+IsNumberOrNull null_type number = number ≡ None
+IsNumberOrNull (single s) number = IsNumberSingle s number
+IsNumberOrNull (collection s) number = ⊥
+
+-- the type of that
+abbrev pub number_or_null : Option PrimitiveType → ExprType
+number_or_null None = null_type
+number_or_null (Some p) = single (primitive p)

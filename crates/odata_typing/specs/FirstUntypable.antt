@@ -1,14 +1,13 @@
 -- Where and why a tree is no filter (OData URL Conventions 4.01, section 5.1.1).
 use Rattle.std.specs.Prelude.{◌≡◌, ◌⊎◌, ℕ, ◌≤◌, List, [], MatchOption}
-use Rattle.odata_syntax.specs.Tree.{Tree, node, literal, name, call, start_of, stop_of}
+use Rattle.odata_syntax.specs.Tree.{Tree, node, literal, it, name, member, call, start_of, stop_of}
 use Rattle.odata_syntax.specs.declared.node.LiteralKind.{LiteralKind}
-use Rattle.csdl_schema.specs.ExprType.{ExprType}
+use Rattle.csdl_schema.specs.ExprType.{ExprType, single, structured}
 use Rattle.csdl_schema.specs.SchemaModel.{PropertyModel, PropertyType, declared, opaque, navigation, Slots}
 use Rattle.odata_typing.specs.declared.refusal.TypeFault.{TypeFault}
 use Rattle.odata_typing.specs.declared.refusal.TypeFaultCode.{TypeFaultCode}
 use Rattle.odata_typing.specs.Considered.{IsConsidered, ChildrenTyped}
 use Rattle.odata_typing.specs.ExprTypes.{IsBooleanOrNull}
-use Rattle.odata_typing.specs.TypeInFilter.{type_in_filter}
 use Rattle.odata_typing.specs.Typed.{Scope, Typed, IsUntyped, property_named}
 
 -- why a property has no type
@@ -22,21 +21,27 @@ abbrev pub NameReason : List PropertyModel → List ℕ → TypeFaultCode → Ty
 NameReason properties asked code =
     MatchOption (property_named properties asked)
     (code ≡ TypeFaultCode.UnknownProperty)
-    (λ p. PropertyReason (type_in_filter p) code)
+    (λ p. PropertyReason p.type_of code)
 
--- why a literal has no type: it has no value, or its kind is not typed yet
+-- why a step from a value of that type has none: only one value of a structured type has properties
+abbrev pub StepReason : Slots → List ℕ → ExprType → TypeFaultCode → Type 0
+StepReason slots asked (single (structured owner)) code = NameReason (slots.properties owner) asked code
+StepReason slots asked _ code = code ≡ TypeFaultCode.UnknownProperty
+
+-- why a literal has no type: it has no value
 abbrev pub LiteralReason : LiteralKind → TypeFaultCode → Type 0
-LiteralReason LiteralKind.Bool code = code ≡ TypeFaultCode.LiteralRange
-LiteralReason LiteralKind.Int code = code ≡ TypeFaultCode.LiteralRange
-LiteralReason LiteralKind.Str code = code ≡ TypeFaultCode.LiteralRange
-LiteralReason _ code = code ≡ TypeFaultCode.OperandTypes
+LiteralReason LiteralKind.EnumLit code = code ≡ TypeFaultCode.UnknownEnum
+LiteralReason _ code = code ≡ TypeFaultCode.LiteralRange
 
--- why a node has no type though its considered children have; no function is known yet
-abbrev pub IsReason : Slots → List ℕ → Tree → TypeFaultCode → Type 0
-IsReason slots root (node start stop (literal kind spelling)) code = LiteralReason kind code
-IsReason slots root (node start stop (name asked)) code = NameReason (slots.properties root) asked code
-IsReason slots root (node start stop (call asked arguments)) code = code ≡ TypeFaultCode.UnknownFunction
-IsReason slots root (node start stop shape) code = code ≡ TypeFaultCode.OperandTypes
+-- why a node has no type though its considered children have; no function is known yet, and `$it` has a type
+abbrev pub IsReason : Slots → List ℕ → Scope → Tree → TypeFaultCode → Type 0
+IsReason slots root scope (node start stop (literal kind spelling)) code = LiteralReason kind code
+IsReason slots root scope (node start stop it) code = ⊥
+IsReason slots root scope (node start stop (name asked)) code = NameReason (slots.properties root) asked code
+IsReason slots root scope (node start stop (member base asked)) code =
+    (type : ExprType) × Typed slots root scope base type × StepReason slots asked type code
+IsReason slots root scope (node start stop (call asked arguments)) code = code ≡ TypeFaultCode.UnknownFunction
+IsReason slots root scope (node start stop shape) code = code ≡ TypeFaultCode.OperandTypes
 
 -- a considered node that has no type, while all its considered children have one
 pub record IsUntypable
@@ -53,7 +58,7 @@ pub record IsFirstUntypable
   pub untypable : IsUntypable slots root scope tree at part
   pub first :
       (scope' : Scope) (other : Tree) → IsUntypable slots root scope tree scope' other → start_of part ≤ start_of other
-  pub reason : IsReason slots root part fault.code
+  pub reason : IsReason slots root at part fault.code
   pub starts : fault.span.start ≡ start_of part
   pub stops : fault.span.stop ≡ stop_of part
 

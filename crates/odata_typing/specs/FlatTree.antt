@@ -1,7 +1,7 @@
 -- A tree as one list of its nodes in pre-order.
 use Rattle.std.specs.Prelude.{ℕ, ◌+◌, List, [], ◌∷◌, slice_get, nat_lt, unwrap_or, if◌then◌else◌}
 use Rattle.edm_values.specs.declared.value.Value.{Value}
-use Rattle.odata_syntax.specs.Tree.{Tree, node, Shape, literal, name, binary}
+use Rattle.odata_syntax.specs.Tree.{Tree, node, Shape, literal, it, name, member, negation, logical_not, binary}
 use Rattle.odata_typing.specs.declared.checked_node.CheckedNode.{CheckedNode}
 use Rattle.odata_typing.specs.declared.checked_node.NodeKind.{NodeKind}
 
@@ -14,6 +14,10 @@ pub record FlatTree : Type 0 where
 -- what a node is, by its kind, its text and its children; what is of no form counts as a name
 abbrev pub shape_of_kind : NodeKind → List ℕ → List Tree → Shape
 shape_of_kind (NodeKind.Literal kind value) text [] = literal kind text
+shape_of_kind NodeKind.It text [] = it
+shape_of_kind (NodeKind.Member slot) text (base ∷ []) = member base text
+shape_of_kind NodeKind.Neg text (operand ∷ []) = negation operand
+shape_of_kind NodeKind.Not text (operand ∷ []) = logical_not operand
 shape_of_kind (NodeKind.Binary operator) text (left ∷ right ∷ []) = binary operator left right
 shape_of_kind kind text children = name text
 

@@ -2,6 +2,7 @@
 use Rattle.std.specs.Prelude.{◌≡◌, ℕ, pos, List, [], ◌∷◌, None, false, codes}
 use Rattle.edm_values.specs.declared.primitive.PrimitiveType.{PrimitiveType}
 use Rattle.edm_values.specs.declared.value.Value.{Value}
+use Rattle.edm_values.specs.Val.{Val}
 use Rattle.odata_syntax.specs.FirstRun.{active_and_id, first_run_tree}
 use Rattle.odata_syntax.specs.Tree.{Tree, start_of, node, literal, name, binary}
 use Rattle.odata_syntax.specs.declared.node.BinaryOperator.{BinaryOperator}
@@ -18,6 +19,7 @@ use Rattle.odata_typing.specs.FirstUntypable.{IsUntypable}
 use Rattle.odata_typing.specs.HasTyping.{HasNoTyping, IsRefusal}
 use Rattle.odata_typing.specs.declared.refusal.Refusal.{Refusal}
 use Rattle.odata_typing.specs.FlatTree.{FlatTree, tree_of_nodes}
+use Rattle.odata_typing.specs.LiteralValue.{LiteralValue}
 use Rattle.odata_typing.specs.Stands.{Stands}
 use Rattle.odata_typing.specs.Typed.{Scope, Typed, IsTyped, IsUntyped}
 
@@ -27,6 +29,14 @@ OneType =
     (slots : Slots) (root : List ℕ) (scope : Scope) (tree : Tree) (a b : ExprType)
     → Typed slots root scope tree a
     → Typed slots root scope tree b
+    → a ≡ b
+
+-- a literal has at most one value
+abbrev pub OneLiteralValue : Type 0
+OneLiteralValue =
+    (slots : Slots) (kind : LiteralKind) (spelling : List ℕ) (a b : Val)
+    → LiteralValue slots kind spelling a
+    → LiteralValue slots kind spelling b
     → a ≡ b
 
 -- a tree that has a type has no untypable node
@@ -74,7 +84,7 @@ item_properties =
 
 -- every type has them
 abbrev pub item_slots : Slots
-item_slots = record { properties = λ _. item_properties; enumerations = λ _. None }
+item_slots = record { properties = λ _. item_properties; enumerations = λ _. None; enumeration_names = λ _. None }
 
 -- `ID eq 'a'`
 abbrev pub mixed_filter : Tree

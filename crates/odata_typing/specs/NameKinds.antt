@@ -1,27 +1,39 @@
 -- What a name in a tree names: a range variable around it, else a property (OData URL Conventions 4.01, 5.1.1.13).
-use Rattle.std.specs.Prelude.{◌≡◌, ℕ, List, [], Option, Some, None, slice_get, option_and_then, IsSomeAnd}
-use Rattle.odata_syntax.specs.Tree.{Tree, node, name}
+use Rattle.std.specs.Prelude.{◌≡◌, ℕ, List, [], Option, Some, None, slice_get, option_and_then}
+use Rattle.odata_syntax.specs.Tree.{Tree, node, name, member}
+use Rattle.csdl_schema.specs.ExprType.{single, structured}
 use Rattle.csdl_schema.specs.SchemaModel.{Slots, slots_of, type_name_at, slot_named}
+use Rattle.odata_typing.specs.Considered.{IsConsidered}
 use Rattle.odata_typing.specs.Filter.{Filter, tree_of_filter}
 use Rattle.odata_typing.specs.Levels.{level_named}
 use Rattle.odata_typing.specs.ScopedNodes.{scoped_nodes}
+use Rattle.odata_typing.specs.Stands.{names_of}
+use Rattle.odata_typing.specs.Typed.{Scope, Typed}
 
--- the node is a name that no variable in scope has, and the property of that name stands in the slot
-abbrev pub NamesSlot : Slots → List ℕ → List (List ℕ) → Tree → ℕ → Type 0
-NamesSlot slots root variables (node start stop (name asked)) slot =
-    (level_named variables asked ≡ None) × (slot_named (slots.properties root) asked ≡ Some slot)
-NamesSlot slots root variables (node start stop shape) slot = ⊥
+-- the node names the property in the slot: a name that no variable in scope has names one of the filtered type, a step
+-- one of the type of what stands before its slash
+abbrev pub NamesSlot : Slots → List ℕ → Scope → Tree → ℕ → Type 0
+NamesSlot slots root scope (node start stop (name asked)) slot =
+    (level_named (names_of scope) asked ≡ None) × (slot_named (slots.properties root) asked ≡ Some slot)
+NamesSlot slots root scope (node start stop (member base asked)) slot =
+    (owner : List ℕ) × Typed slots root scope base (single (structured owner))
+    × (slot_named (slots.properties owner) asked ≡ Some slot)
+NamesSlot slots root scope (node start stop shape) slot = ⊥
 
 -- the level of the variable that the node names
 abbrev pub level_of_node : List (List ℕ) → Tree → Option ℕ
 level_of_node variables (node start stop (name asked)) = level_named variables asked
 level_of_node variables (node start stop shape) = None
 
--- the filter's k-th node names the property of the slot
-abbrev pub IsSlotAt : Filter → ℕ → ℕ → Type 0
-IsSlotAt filter k slot =
-    IsSomeAnd (slice_get (scoped_nodes [] (tree_of_filter filter)) k)
-    (λ at. NamesSlot (slots_of filter.schema) (type_name_at filter.schema filter.filtered) at.variables at.part slot)
+-- the filter's k-th node, in the scope that it is judged in, names the property in the slot
+pub record IsSlotAt (filter : Filter) (k slot : ℕ) : Type 0 where
+  pub at : Scope
+  pub part : Tree
+  pub numbered :
+      slice_get (scoped_nodes [] (tree_of_filter filter)) k ≡ Some (record { variables = names_of at; part = part })
+  pub considered :
+      IsConsidered (slots_of filter.schema) (type_name_at filter.schema filter.filtered) [] (tree_of_filter filter) at part
+  pub names : NamesSlot (slots_of filter.schema) (type_name_at filter.schema filter.filtered) at part slot
 
 -- the level of the variable that the filter's k-th node names
 abbrev pub level_at : Filter → ℕ → Option ℕ

@@ -3,9 +3,10 @@ use Rattle.std.specs.Prelude.{◌≡◌, ℕ, ◌+◌, List, [], Some, None, map
 use Rattle.edm_values.specs.PlainVal.{plain_val}
 use Rattle.edm_values.specs.Val.{Val}
 use Rattle.edm_values.specs.declared.value.Value.{Value}
-use Rattle.odata_syntax.specs.Tree.{Tree, node, Shape, literal, name, binary}
+use Rattle.odata_syntax.specs.Tree.{Tree, node, Shape, literal, it, name, member, negation, logical_not, binary}
 use Rattle.odata_syntax.specs.declared.node.LiteralKind.{LiteralKind}
-use Rattle.csdl_schema.specs.SchemaModel.{PropertyModel, SchemaModel, properties_at, slots_of, type_name_at, slot_named}
+use Rattle.csdl_schema.specs.ExprType.{ExprType, single, structured}
+use Rattle.csdl_schema.specs.SchemaModel.{PropertyModel, SchemaModel, Slots, slots_of, type_name_at, slot_named}
 use Rattle.odata_typing.specs.declared.checked_node.CheckedNode.{CheckedNode}
 use Rattle.odata_typing.specs.declared.checked_node.NodeKind.{NodeKind}
 use Rattle.odata_typing.specs.FlatTree.{FlatTree}
@@ -19,16 +20,16 @@ abbrev pub names_of : Scope → List (List ℕ)
 names_of scope = map (λ bound. bound.0) scope
 
 -- a value of the code that a literal of this kind and spelling stands for
-pub record IsValueOf (kind : LiteralKind) (spelling : List ℕ) (value : Value) : Type 0 where
+pub record IsValueOf (slots : Slots) (kind : LiteralKind) (spelling : List ℕ) (value : Value) : Type 0 where
   pub val : Val
   pub plain : plain_val value ≡ Some val
-  pub value_of : LiteralValue kind spelling val
+  pub value_of : LiteralValue slots kind spelling val
 
 -- the kind of a literal's node: it has the place of the literal's value
-abbrev pub IsLiteralNode : List Value → LiteralKind → List ℕ → NodeKind → Type 0
-IsLiteralNode values kind spelling (NodeKind.Literal k place) =
-    (k ≡ kind) × IsSomeAnd (slice_get values place) (IsValueOf kind spelling)
-IsLiteralNode values kind spelling _ = ⊥
+abbrev pub IsLiteralNode : Slots → List Value → LiteralKind → List ℕ → NodeKind → Type 0
+IsLiteralNode slots values kind spelling (NodeKind.Literal k place) =
+    (k ≡ kind) × IsSomeAnd (slice_get values place) (IsValueOf slots kind spelling)
+IsLiteralNode slots values kind spelling _ = ⊥
 
 -- the kind of a name's node: a variable by its level, or else a property by its slot
 abbrev pub IsNameNode : List PropertyModel → List (List ℕ) → List ℕ → NodeKind → Type 0
@@ -37,17 +38,29 @@ IsNameNode properties variables asked (NodeKind.Property slot) =
     (level_named variables asked ≡ None) × (slot_named properties asked ≡ Some slot)
 IsNameNode properties variables asked _ = ⊥
 
--- the kind of a node, where these values, properties and variables are; the other forms have none yet
-abbrev pub IsKindOf : List Value → List PropertyModel → List (List ℕ) → Shape → NodeKind → Type 0
-IsKindOf values properties variables (literal kind spelling) k = IsLiteralNode values kind spelling k
-IsKindOf values properties variables (name asked) k = IsNameNode properties variables asked k
-IsKindOf values properties variables (binary operator left right) k = k ≡ NodeKind.Binary operator
-IsKindOf values properties variables _ k = ⊥
+-- the kind of a member's node: a property of its base's type, by its slot there
+abbrev pub IsMemberNode : Slots → (ExprType → Type 0) → List ℕ → NodeKind → Type 0
+IsMemberNode slots Base asked (NodeKind.Member slot) =
+    (owner : List ℕ) × Base (single (structured owner)) × (slot_named (slots.properties owner) asked ≡ Some slot)
+IsMemberNode slots Base asked _ = ⊥
+
+-- the kind of a node, where these values and types are, the filtered type is root and these variables are in scope; the
+-- other forms have none yet
+abbrev pub IsKindOf : List Value → Slots → List ℕ → Scope → Shape → NodeKind → Type 0
+IsKindOf values slots root scope (literal kind spelling) k = IsLiteralNode slots values kind spelling k
+IsKindOf values slots root scope it k = k ≡ NodeKind.It
+IsKindOf values slots root scope (name asked) k = IsNameNode (slots.properties root) (names_of scope) asked k
+IsKindOf values slots root scope (member base asked) k = IsMemberNode slots (Typed slots root scope base) asked k
+IsKindOf values slots root scope (negation operand) k = k ≡ NodeKind.Neg
+IsKindOf values slots root scope (logical_not operand) k = k ≡ NodeKind.Not
+IsKindOf values slots root scope (binary operator left right) k = k ≡ NodeKind.Binary operator
+IsKindOf values slots root scope _ k = ⊥
 
 -- the text beside a node
 abbrev pub text_of_shape : Shape → List ℕ
 text_of_shape (literal kind spelling) = spelling
 text_of_shape (name asked) = asked
+text_of_shape (member base asked) = asked
 text_of_shape _ = []
 
 -- the i-th node is the tree's top node, with its text, and stops at j
@@ -56,7 +69,7 @@ pub record IsTop
   pub found : CheckedNode
   pub stands_at : slice_get list.nodes i ≡ Some found
   pub text_at : slice_get list.texts i ≡ Some (text_of_shape shape)
-  pub kind : IsKindOf list.values (properties_at schema n) (names_of scope) shape found.kind
+  pub kind : IsKindOf list.values (slots_of schema) (type_name_at schema n) scope shape found.kind
   pub starts : found.span.start ≡ start
   pub stops : found.span.stop ≡ stop
   pub last : found.stop ≡ j
@@ -83,7 +96,11 @@ abbrev mutual
 
   pub ChildrenStand : SchemaModel → ℕ → Scope → FlatTree → ℕ → ℕ → Shape → Type 0
   ChildrenStand schema n scope list i j (literal kind spelling) = i ≡ j
+  ChildrenStand schema n scope list i j it = i ≡ j
   ChildrenStand schema n scope list i j (name asked) = i ≡ j
+  ChildrenStand schema n scope list i j (member base asked) = Stands schema n scope list i j base
+  ChildrenStand schema n scope list i j (negation operand) = Stands schema n scope list i j operand
+  ChildrenStand schema n scope list i j (logical_not operand) = Stands schema n scope list i j operand
   ChildrenStand schema n scope list i j (binary operator left right) =
       SideBySide (λ middle. Stands schema n scope list i middle left)
       (λ middle. Stands schema n scope list middle j right)

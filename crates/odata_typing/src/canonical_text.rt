@@ -4,8 +4,9 @@ ghost use Rattle.odata_syntax.specs.CanonicalText.{IsCanonicalText};
 ghost use Rattle.odata_syntax.specs.Grammar.{operator_level};
 ghost use Rattle.odata_syntax.specs.Lexeme.{operator_word};
 ghost use Rattle.odata_typing.specs.FlatTree.{tree_of_nodes};
-ghost use Rattle.odata_typing.specs.private.CanonicalWalk.{HasTreeAt, IsBinaryAt, IsPieceOf, IsTextAdded, Piece, StandsThere};
-ghost use Rattle.odata_typing.specs.private.CanonicalWalk.{WritesPart, operands_of};
+ghost use Rattle.odata_typing.specs.private.CanonicalWalk.{HasTreeAt, IsBinaryAt, IsPieceOf, IsSignAt};
+ghost use Rattle.odata_typing.specs.private.CanonicalWalk.{IsSignPut, IsStepAdded, IsTextAdded, Piece, StandsThere};
+ghost use Rattle.odata_typing.specs.private.CanonicalWalk.{WritesPart, operands_of, step_of};
 
 use super::checked_node::NodeKind;
 use super::node_list::NodeList;
@@ -19,9 +20,14 @@ pub(crate) enum Part {
     Operand { place: usize, needed: u8 },
     /// An operator between spaces.
     Operator(BinaryOperator),
+    /// A slash and the name beside the node at a place.
+    Step { place: usize },
     /// The end of a group.
     Close,
 }
+
+/// The level of `-` and `not`.
+const UNARY: u8 = 7;
 
 /// The canonical text of the tree that the list stands for. What is still to be written waits on a stack, so that the
 /// walk recurses nowhere, however deep the tree is.
@@ -55,6 +61,7 @@ fn write_part(
     match part {
         Part::Operand { place, needed } => write_operand(list, place, needed, text, pending),
         Part::Operator(operator) => write_operator(text, operator),
+        Part::Step { place } => write_step(list, place, text),
         Part::Close => write_close(text),
     }
 }
@@ -69,6 +76,15 @@ fn write_operator(text: &mut String, operator: BinaryOperator) -> Result<(), All
     text.push(' ')
 }
 
+/// Writes a slash and a name.
+fn write_step(list: &NodeList, place: usize, text: &mut String) -> Result<(), AllocError>
+    requires { place < length list.now.nodes }
+    ensures { OnOk result (IsStepAdded list.now place (string_bytes text.old) (string_bytes text.new)) }
+{
+    text.push('/')?;
+    text.push_str(list.text(place))
+}
+
 /// Ends a group.
 fn write_close(text: &mut String) -> Result<(), AllocError>
     ensures { OnOk result (string_bytes text.new ≡ string_bytes text.old ++ 41 ∷ []) }
@@ -76,7 +92,7 @@ fn write_close(text: &mut String) -> Result<(), AllocError>
     text.push(')')
 }
 
-/// Writes a literal or a name; of an operator perhaps `(`, and its operands wait.
+/// Writes a literal, a name or `$it`; of an operator perhaps `(`, and its operands wait.
 fn write_operand(
     list: &NodeList,
     place: usize,
@@ -90,8 +106,12 @@ fn write_operand(
 {
     match list.node(place).kind {
         NodeKind::Literal { kind, .. } => write_literal(text, kind, list.text(place)),
+        NodeKind::It => text.push_str("$it"),
         NodeKind::Property { .. } => write_name(list, place, text),
         NodeKind::Variable { .. } => write_name(list, place, text),
+        NodeKind::Member { .. } => put_step(list, place, pending),
+        NodeKind::Neg => write_sign(list, place, needed, "- ", text, pending),
+        NodeKind::Not => write_sign(list, place, needed, "not ", text, pending),
         NodeKind::Binary { operator } => write_binary(list, place, needed, operator, text, pending),
     }
 }
@@ -102,6 +122,63 @@ fn write_name(list: &NodeList, place: usize, text: &mut String) -> Result<(), Al
     ensures { OnOk result (IsTextAdded list.now place (string_bytes text.old) (string_bytes text.new)) }
 {
     text.push_str(list.text(place))
+}
+
+/// Puts the step to a member on the stack, and on top what stands before the slash.
+fn put_step(list: &NodeList, place: usize, pending: &mut Vec<Part>) -> Result<(), AllocError>
+    requires { place < length list.now.nodes }
+    ensures { OnOk result (pending.new.items ≡ pending.old.items ++ step_of place) }
+{
+    let count = list.nodes().len();
+    prove!(place < count);
+    pending.push(Part::Step { place })?;
+    pending.push(Part::Operand {
+        place: place + 1,
+        needed: 0,
+    })?;
+    Ok(())
+}
+
+/// Writes a sign, behind `(` where it binds less tightly than needed, and puts its operand on the stack.
+fn write_sign(
+    list: &NodeList,
+    place: usize,
+    needed: u8,
+    sign: &str,
+    text: &mut String,
+    pending: &mut Vec<Part>,
+) -> Result<(), AllocError>
+    requires there { HasTreeAt list.now place }
+    requires sign { IsSignAt list.now place sign.now }
+    ensures { OnOk result (WritesPart list.now (Part.Operand place needed) (string_bytes text.old)
+        (string_bytes text.new) pending.old.items pending.new.items) }
+{
+    let count = list.nodes().len();
+    prove!(place < count);
+    let operand = place + 1;
+    if needed <= UNARY {
+        return put_operand(operand, sign, text, pending);
+    }
+    open_group(text, pending)?;
+    put_operand(operand, sign, text, pending)
+}
+
+/// Writes a sign, and puts its operand on the stack.
+fn put_operand(
+    operand: usize,
+    sign: &str,
+    text: &mut String,
+    pending: &mut Vec<Part>,
+) -> Result<(), AllocError>
+    ensures { OnOk result (IsSignPut sign.now operand (string_bytes text.old) (string_bytes text.new)
+        pending.old.items pending.new.items) }
+{
+    text.push_str(sign)?;
+    pending.push(Part::Operand {
+        place: operand,
+        needed: UNARY,
+    })?;
+    Ok(())
 }
 
 /// Writes `(` where the operator binds less tightly than needed, and puts its operands on the stack.

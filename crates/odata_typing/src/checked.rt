@@ -1,4 +1,4 @@
-ghost use Rattle.std.specs.Prelude.{◌≡◌, ◌<◌, ◌≤◌, ◌↔◌, ℕ, length, slice_get, string_bytes};
+ghost use Rattle.std.specs.Prelude.{◌≡◌, ◌<◌, ◌≤◌, ◌↔◌, ℕ, [], length, slice_get, string_bytes};
 ghost use Rattle.std.specs.Prelude.{IsTrue, IsSome, IfSome, IfNone, IfOk, IfErr};
 ghost use Rattle.std.specs.Option.{option_map};
 ghost use Rattle.odata_text.specs.Tokens.{token_limit};
@@ -60,7 +60,7 @@ impl<'s> Checked<'s> {
         len: usize,
     ) -> Result<Checked<'s>, TypeFault>
         requires held { HoldsType schema.now filtered_type }
-        requires whole { IsWhole schema.now filtered_type list edm_type }
+        requires whole { IsWhole schema.now filtered_type [] list edm_type }
         requires few { length (pre_order (tree_of_nodes list)) ≤ token_limit }
         ensures parts { IfOk result (λ c. c ≡
             record { schema = schema.entry.now; filtered = filtered_type; list = list }) }
@@ -153,8 +153,8 @@ impl<'s> Checked<'s> {
         }
     }
 
-    /// The slot of a node that names a property, numbered from 0 in pre-order. `None` for every other node and past the
-    /// last one.
+    /// The slot of a node that names a property, numbered from 0 in pre-order: for a name its slot in the filtered type,
+    /// for a step that in the type of what stands before the slash. `None` for every other node and past the last one.
     pub fn slot_of(&self, node: usize) -> Option<usize>
         ensures found { IfSome result (IsSlotAt self.now node) }
         ensures none { IfNone result ((slot : ℕ) → ¬ IsSlotAt self.now node slot) }
@@ -162,8 +162,13 @@ impl<'s> Checked<'s> {
         match self.node_at(node) {
             Some(found) => match found.kind {
                 NodeKind::Property { slot } => Some(slot),
-                NodeKind::Literal { .. } | NodeKind::Variable { .. } | NodeKind::Binary { .. } =>
-                    None,
+                NodeKind::Member { slot } => Some(slot),
+                NodeKind::Literal { .. }
+                | NodeKind::It
+                | NodeKind::Variable { .. }
+                | NodeKind::Neg
+                | NodeKind::Not
+                | NodeKind::Binary { .. } => None,
             },
             None => None,
         }
@@ -177,8 +182,13 @@ impl<'s> Checked<'s> {
         match self.node_at(node) {
             Some(found) => match found.kind {
                 NodeKind::Variable { level } => Some(level),
-                NodeKind::Literal { .. } | NodeKind::Property { .. } | NodeKind::Binary { .. } =>
-                    None,
+                NodeKind::Literal { .. }
+                | NodeKind::It
+                | NodeKind::Property { .. }
+                | NodeKind::Member { .. }
+                | NodeKind::Neg
+                | NodeKind::Not
+                | NodeKind::Binary { .. } => None,
             },
             None => None,
         }

@@ -7,11 +7,19 @@ use odata_text::Span;
 pub enum NodeKind {
     /// A literal, by the place of its value in the list of values.
     Literal { kind: LiteralKind, value: usize },
+    /// `$it`, the filtered entity.
+    It,
     /// A property of the filtered type, by its slot.
     Property { slot: usize },
     /// A range variable, by the number of variables in scope where its lambda operator bound it, so the outermost is 0.
     /// No lambda operator has a type yet, so no filter has one.
     Variable { level: usize },
+    /// A property of the type of what stands before the slash, by its slot there.
+    Member { slot: usize },
+    /// `-`. Its operand stands behind it.
+    Neg,
+    /// `not`.
+    Not,
     /// An operator. Its operands stand behind it.
     Binary { operator: BinaryOperator },
 }

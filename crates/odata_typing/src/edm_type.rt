@@ -1,7 +1,10 @@
-ghost use Rattle.std.specs.Prelude.{◌≡◌, ◌↔◌, IsTrue};
+ghost use Rattle.std.specs.Prelude.{◌≡◌, ◌↔◌, Option, IsTrue, IfSome, IfNone};
+ghost use Rattle.edm_values.specs.NumberTypes.{IsNumberType};
+ghost use Rattle.edm_values.specs.declared.primitive.PrimitiveType.{PrimitiveType};
 ghost use Rattle.csdl_schema.specs.SchemaModel.{SchemaModel};
-ghost use Rattle.odata_typing.specs.ExprTypes.{boolean_type, string_type, IsNumber, IsBooleanOrNull};
+ghost use Rattle.odata_typing.specs.ExprTypes.{boolean_type, IsBooleanOrNull, IsNumberOrNull, number_or_null};
 ghost use Rattle.odata_typing.specs.TypeView.{expr_type};
+ghost use Rattle.odata_typing.specs.private.Answer.{IsTypeThere};
 
 use csdl_schema::{EnumId, TypeId};
 use edm_values::Prim;
@@ -14,7 +17,8 @@ pub enum ValueType {
     Structured(TypeId),
 }
 
-/// The type of an expression: of the literal `null` alone, of one value, or of a collection of such values.
+/// The type of an expression: of the literal `null` and of arithmetic on it alone, of one value, or of a collection of
+/// such values.
 #[derive(Clone, Copy, Debug, PartialEq, Eq)]
 pub enum EdmType {
     Null,
@@ -22,11 +26,13 @@ pub enum EdmType {
     Collection(ValueType),
 }
 
-/// The type of the literals `true` and `false`, and of what `and` and `eq` give.
+/// The type of the literals `true` and `false`, and of what the logical operators and comparisons give.
 pub(crate) const BOOLEAN: EdmType = EdmType::Single(ValueType::Prim(Prim::Bool));
 
+ghost use Rattle.odata_typing.specs.private.ManyValues.{type_of_many};
+
 impl EdmType {
-    /// Whether a filter, or an operand of `and`, may have the type.
+    /// Whether a filter, or an operand of a logical operator, may have the type.
     pub(crate) fn is_truth(&self) -> bool
         ensures { (schema : SchemaModel) → IsTrue result ↔ IsBooleanOrNull (expr_type schema self.now) }
     {
@@ -37,27 +43,51 @@ impl EdmType {
         }
     }
 
-    pub(crate) fn is_number(&self) -> bool
-        ensures { (schema : SchemaModel) → IsTrue result ↔ IsNumber (expr_type schema self.now) }
-    {
-        match self {
-            EdmType::Null => false,
-            EdmType::Single(ValueType::Prim(prim)) => prim.is_number(),
-            EdmType::Single(ValueType::Enum(_)) => false,
-            EdmType::Single(ValueType::Structured(_)) => false,
-            EdmType::Collection(_) => false,
-        }
-    }
-
-    pub(crate) fn is_boolean(&self) -> bool
+    fn is_boolean(&self) -> bool
         ensures { (schema : SchemaModel) → IsTrue result ↔ (expr_type schema self.now ≡ boolean_type) }
     {
         *self == BOOLEAN
     }
 
-    pub(crate) fn is_text(&self) -> bool
-        ensures { (schema : SchemaModel) → IsTrue result ↔ (expr_type schema self.now ≡ string_type) }
+    /// What kind of number an operand of arithmetic of this type is, None for null; no answer where it is no such operand.
+    pub(crate) fn number_operand(&self) -> Option<Option<Prim>>
+        ensures some { (schema : SchemaModel) → IfSome result (IsNumberOrNull (expr_type schema self.now)) }
+        ensures number { IfSome result (λ number. IfSome number IsNumberType) }
+        ensures none { (schema : SchemaModel) → IfNone result
+            ((number : Option PrimitiveType) → ¬ IsNumberOrNull (expr_type schema self.now) number) }
     {
-        *self == EdmType::Single(ValueType::Prim(Prim::String))
+        match self {
+            EdmType::Null => Some(None),
+            EdmType::Single(ValueType::Prim(prim)) => if prim.is_number() {
+                Some(Some(*prim))
+            } else {
+                None
+            },
+            EdmType::Single(ValueType::Enum(_)) => None,
+            EdmType::Single(ValueType::Structured(_)) => None,
+            EdmType::Collection(_) => None,
+        }
+    }
+
+    /// The type of that kind of number, `Null` for None.
+    pub(crate) fn of_number(number: Option<Prim>) -> EdmType
+        ensures role { (schema : SchemaModel) → expr_type schema result ≡ number_or_null number }
+        ensures there { (schema : SchemaModel) → IsTypeThere schema result }
+    {
+        match number {
+            Some(prim) => EdmType::Single(ValueType::Prim(prim)),
+            None => EdmType::Null,
+        }
+    }
+
+    /// The type of one such value, or of a collection of them.
+    pub(crate) fn of_values(value_type: ValueType, many: bool) -> EdmType
+        ensures { result ≡ type_of_many value_type many }
+    {
+        if many {
+            EdmType::Collection(value_type)
+        } else {
+            EdmType::Single(value_type)
+        }
     }
 }

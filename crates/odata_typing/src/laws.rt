@@ -1,5 +1,5 @@
-ghost use Rattle.odata_typing.specs.Laws.{ItemFilterTyped, ItemListStands, MixedFilterUntyped, OneRefusal, OneTree, OneType};
-ghost use Rattle.odata_typing.specs.Laws.{OneUntypableStart, RefusedIsUntyped, TypedIsClear};
+ghost use Rattle.odata_typing.specs.Laws.{ItemFilterTyped, ItemListStands, MixedFilterUntyped, OneLiteralValue, OneRefusal, OneTree};
+ghost use Rattle.odata_typing.specs.Laws.{OneType, OneUntypableStart, RefusedIsUntyped, TypedIsClear};
 
 use odata_syntax::{
     children_apart, fault_or_tree, one_fault, one_tree, spans_hold, spans_take_bytes,
@@ -10,6 +10,14 @@ use odata_text::{one_reading, tokens_are_spelled};
 pub fn trees_have_one_type()
     ensures { OneType }
 {}
+
+/// A law: a literal stands for one value at most.
+pub fn literals_have_one_value()
+    ensures { OneLiteralValue }
+{
+    edm_values::texts_have_one_value();
+    edm_enumerations::texts_have_one_value();
+}
 
 /// A law: a tree that has a type has no untypable node.
 pub fn typed_trees_are_clear()

@@ -2,18 +2,26 @@
 //! section 5.1.1).
 #![tactic(auto)]
 
+mod binary_node;
 mod canonical_text;
 mod checked;
 mod checked_node;
 mod checker;
+mod comparison;
 mod edm_type;
+mod enumeration_literal;
 mod laws;
 mod literal;
 mod node;
 mod node_list;
+mod normal_form_laws;
 mod operator;
+mod operator_class;
+mod path_node;
 mod property;
+mod reading;
 mod refusal;
+mod unary_node;
 mod untyped;
 mod untyped_form;
 
@@ -23,7 +31,9 @@ pub use checker::check;
 pub use edm_type::{EdmType, ValueType};
 pub use laws::{
     a_filter_of_items_is_boolean, a_list_is_read_as_its_tree, a_list_stands_for_one_tree,
-    a_number_is_no_text, texts_have_one_refusal, trees_have_one_type, typed_trees_are_clear,
-    untypable_nodes_start_apart,
+    a_number_is_no_text, literals_have_one_value, texts_have_one_refusal, trees_have_one_type,
+    typed_trees_are_clear, untypable_nodes_start_apart,
 };
+pub use normal_form_laws::{canonical_texts_keep_types, normal_forms_keep_types};
+pub use operator_class::{Connective, OperatorClass, class_of};
 pub use refusal::{Refusal, TypeFault, TypeFaultCode};

@@ -1,18 +1,18 @@
-ghost use Rattle.std.specs.Prelude.{◌≡◌, ◌≤◌, ℕ, Bool, length, IfOk, IfErr, IfSome, IfNone};
-ghost use Rattle.edm_values.specs.StringLiteral.{OnForm};
-ghost use Rattle.csdl_schema.specs.ExprType.{ExprType, single, primitive};
+ghost use Rattle.std.specs.Prelude.{◌≡◌, ◌≤◌, ℕ, length, IfOk};
 ghost use Rattle.odata_syntax.specs.Tree.{node, literal};
 ghost use Rattle.csdl_schema.specs.SchemaModel.{SchemaModel};
-ghost use Rattle.odata_typing.specs.private.Answer.{IsAnswer, IsReading};
+ghost use Rattle.odata_typing.specs.private.Answer.{IsAnswer, IsReading, IsTypeThere};
 ghost use Rattle.odata_typing.specs.FirstUntypable.{LiteralReason};
-ghost use Rattle.odata_typing.specs.LiteralValue.{BooleanValue, LiteralTyped};
+ghost use Rattle.odata_typing.specs.Typed.{Scope};
 
 use super::checked_node::NodeKind;
-use super::edm_type::{EdmType, ValueType};
+use super::edm_type::EdmType;
 use super::node_list::NodeList;
+use super::reading::{Reading, read_literal};
 use super::refusal::{TypeFault, TypeFaultCode};
 use super::untyped::Untyped;
-use edm_values::{LitFault, Prim, Value, read_int, read_string};
+use csdl_schema::Schema;
+use edm_values::LitFault;
 use odata_syntax::LiteralKind;
 use odata_text::Span;
 use std::alloc::Global;
@@ -20,16 +20,18 @@ use std::alloc::Global;
 /// Puts the literal's node behind the others, with its value, and answers its type.
 pub(crate) fn checked_literal(
     alloc: Global,
+    schema: &Schema,
     span: Span,
     kind: LiteralKind,
     spelling: &str,
     list: &mut NodeList,
 ) -> Result<EdmType, Untyped>
-    ensures answer { (schema : SchemaModel) (n : ℕ) →
-        IsAnswer schema n list.old (node span.start span.stop (literal kind spelling.now)) list.new result }
+    ensures answer { (n : ℕ) (scope : Scope) → IsAnswer schema.now n scope list.old
+        (node span.start span.stop (literal kind spelling.now)) list.new result }
+    ensures there { IfOk result (IsTypeThere schema.now) }
     ensures grown { length list.old.nodes ≤ length list.new.nodes }
 {
-    match read_literal(alloc, kind, spelling) {
+    match read_literal(alloc, schema, kind, spelling) {
         Ok(reading) => push_literal(alloc, span, kind, spelling, reading, list),
         Err(LitFault::Form) => Err(Untyped::Fault(TypeFault {
             code: literal_reason(kind),
@@ -48,21 +50,22 @@ fn push_literal(
     reading: Reading,
     list: &mut NodeList,
 ) -> Result<EdmType, Untyped>
-    ensures answer { (schema : SchemaModel) (n : ℕ)
-        → IsReading kind spelling.now reading.value (single (primitive reading.prim))
-        → IsAnswer schema n list.old (node span.start span.stop (literal kind spelling.now)) list.new result }
+    ensures answer { (schema : SchemaModel) (n : ℕ) (scope : Scope)
+        → IsReading schema kind spelling.now reading.value reading.edm_type
+        → IsAnswer schema n scope list.old (node span.start span.stop (literal kind spelling.now)) list.new result }
+    ensures edm_type { IfOk result (λ t. t ≡ reading.edm_type) }
     ensures grown { length list.old.nodes ≤ length list.new.nodes }
 {
     let text = match String::from_str(alloc, spelling) {
         Ok(text) => text,
         Err(_) => return Err(Untyped::Memory),
     };
+    let edm_type = reading.edm_type;
     let place = list.values().len();
     match list.push_value(reading.value) {
         Ok(()) => {}
         Err(untyped) => return Err(untyped),
     }
-    let edm_type = EdmType::Single(ValueType::Prim(reading.prim));
     let kind = NodeKind::Literal { kind, value: place };
     match list.push(kind, span, &edm_type, text) {
         Ok(()) => Ok(edm_type),
@@ -70,74 +73,18 @@ fn push_literal(
     }
 }
 
-/// A literal's value with its type.
-#[derive(Drop)]
-struct Reading {
-    prim: Prim,
-    value: Value,
-}
-
-/// Why a literal of this kind has no type.
+/// Why a literal of this kind has no type: it has no value.
 fn literal_reason(kind: LiteralKind) -> TypeFaultCode
     ensures { LiteralReason kind result }
 {
     match kind {
+        LiteralKind::Null => TypeFaultCode::LiteralRange,
         LiteralKind::Bool => TypeFaultCode::LiteralRange,
         LiteralKind::Int => TypeFaultCode::LiteralRange,
+        LiteralKind::Date => TypeFaultCode::LiteralRange,
+        LiteralKind::Moment => TypeFaultCode::LiteralRange,
+        LiteralKind::Guid => TypeFaultCode::LiteralRange,
         LiteralKind::Str => TypeFaultCode::LiteralRange,
-        LiteralKind::Null => TypeFaultCode::OperandTypes,
-        LiteralKind::Date => TypeFaultCode::OperandTypes,
-        LiteralKind::Moment => TypeFaultCode::OperandTypes,
-        LiteralKind::Guid => TypeFaultCode::OperandTypes,
-        LiteralKind::EnumLit => TypeFaultCode::OperandTypes,
-    }
-}
-
-/// What a literal of this kind and spelling stands for. `Form` where it has no value, or its kind no type yet.
-fn read_literal(alloc: Global, kind: LiteralKind, spelling: &str) -> Result<Reading, LitFault>
-    ensures right { IfOk result (λ r. IsReading kind spelling.now r.value (single (primitive r.prim))) }
-    ensures fault { IfErr result (λ f. OnForm f ((type : ExprType) → ¬ LiteralTyped kind spelling.now type)) }
-{
-    match kind {
-        LiteralKind::Bool => match truth_value(spelling) {
-            Some(truth) => Ok(Reading {
-                prim: Prim::Bool,
-                value: Value::Bool(truth),
-            }),
-            None => Err(LitFault::Form),
-        },
-        LiteralKind::Int => match read_int(spelling) {
-            Some(number) => Ok(Reading {
-                prim: Prim::of_int_literal(number),
-                value: Value::Int(number),
-            }),
-            None => Err(LitFault::Form),
-        },
-        LiteralKind::Str => match read_string(alloc, spelling) {
-            Ok(text) => Ok(Reading {
-                prim: Prim::String,
-                value: Value::Text(text),
-            }),
-            Err(fault) => Err(fault),
-        },
-        LiteralKind::Null
-        | LiteralKind::Date
-        | LiteralKind::Moment
-        | LiteralKind::Guid
-        | LiteralKind::EnumLit => Err(LitFault::Form),
-    }
-}
-
-/// `true` or `false` in any ASCII case.
-fn truth_value(spelling: &str) -> Option<bool>
-    ensures value { IfSome result (BooleanValue spelling.now) }
-    ensures none { IfNone result ((b : Bool) → ¬ BooleanValue spelling.now b) }
-{
-    if spelling.eq_ignore_ascii_case("true") {
-        Some(true)
-    } else if spelling.eq_ignore_ascii_case("false") {
-        Some(false)
-    } else {
-        None
+        LiteralKind::EnumLit => TypeFaultCode::UnknownEnum,
     }
 }

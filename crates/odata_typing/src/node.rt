@@ -1,22 +1,20 @@
-ghost use Rattle.std.specs.Prelude.{◌≡◌, ◌<◌, ◌≤◌, ℕ, length, IfOk, IfErr};
-ghost use Rattle.odata_syntax.specs.Tree.{Tree, node, binary};
+ghost use Rattle.std.specs.Prelude.{◌≡◌, ◌≤◌, [], length, string_bytes, IfOk, IfErr};
 ghost use Rattle.odata_syntax.specs.TreeView.{tree_of};
-ghost use Rattle.csdl_schema.specs.SchemaModel.{SchemaModel};
-ghost use Rattle.odata_typing.specs.FlatTree.{FlatTree};
-ghost use Rattle.odata_typing.specs.private.Answer.{IsAnswer, IsWalked};
+ghost use Rattle.odata_typing.specs.private.Answer.{IsAnswer, IsTypeThere};
 ghost use Rattle.odata_typing.specs.private.ListGrowth.{IsOpened};
 
+use super::binary_node::{close_binary, open_operator};
 use super::checked_node::NodeKind;
 use super::edm_type::{BOOLEAN, EdmType};
 use super::literal::checked_literal;
 use super::node_list::NodeList;
-use super::operator::takes;
+use super::path_node::{checked_it, checked_member};
 use super::property::checked_name;
-use super::refusal::{TypeFault, TypeFaultCode};
-use super::untyped::{Untyped, earlier};
+use super::unary_node::{checked_negation, checked_not};
+use super::untyped::Untyped;
 use super::untyped_form::untyped_form;
 use csdl_schema::{Schema, TypeId};
-use odata_syntax::{BinaryOperator, Node};
+use odata_syntax::Node;
 use odata_text::Span;
 use std::alloc::Global;
 
@@ -30,11 +28,15 @@ pub(crate) fn checked_tree(
     node: &Node,
     list: &mut NodeList,
 ) -> Result<EdmType, Untyped>
-    ensures answer { IsAnswer schema.now filtered_type list.old (tree_of node.now) list.new result }
+    ensures answer { IsAnswer schema.now filtered_type [] list.old (tree_of node.now) list.new result }
+    ensures there { IfOk result (IsTypeThere schema.now) }
     ensures grown { length list.old.nodes ≤ length list.new.nodes }
 {
     match node {
-        Node::Lit { span, kind, text } => checked_literal(alloc, *span, *kind, text.as_str(), list),
+        Node::Lit { span, kind, text } => {
+            checked_literal(alloc, schema, *span, *kind, text.as_str(), list)
+        }
+        Node::It { span } => checked_it(alloc, filtered_type, *span, list),
         Node::Name { span, name } => checked_name(
             alloc,
             schema,
@@ -43,25 +45,38 @@ pub(crate) fn checked_tree(
             name.as_str(),
             list,
         ),
+        Node::Member { span, base, name } => {
+            checked_member(
+                alloc,
+                schema,
+                filtered_type,
+                *span,
+                base,
+                name.as_str(),
+                list,
+            )
+        }
+        Node::Neg { span, operand } => {
+            checked_negation(alloc, schema, filtered_type, *span, operand, list)
+        }
+        Node::Not { span, operand } => {
+            checked_not(alloc, schema, filtered_type, *span, operand, list)
+        }
         Node::Binary {
             span,
             operator,
             left,
             right,
         } => {
-            let place = match open_binary(alloc, *span, *operator, list) {
+            let place = match open_operator(alloc, *span, *operator, list) {
                 Ok(place) => place,
                 Err(untyped) => return Err(untyped),
             };
             let left = checked_tree(alloc, schema, filtered_type, left, list);
             let right = checked_tree(alloc, schema, filtered_type, right, list);
-            close_binary(place, *span, *operator, left, right, list)
+            close_binary(schema, place, *span, *operator, left, right, list)
         }
-        Node::It { .. } => Err(untyped_form(alloc, schema, filtered_type, node, list)),
-        Node::Member { .. } => Err(untyped_form(alloc, schema, filtered_type, node, list)),
         Node::Count { .. } => Err(untyped_form(alloc, schema, filtered_type, node, list)),
-        Node::Neg { .. } => Err(untyped_form(alloc, schema, filtered_type, node, list)),
-        Node::Not { .. } => Err(untyped_form(alloc, schema, filtered_type, node, list)),
         Node::Has { .. } => Err(untyped_form(alloc, schema, filtered_type, node, list)),
         Node::InList { .. } => Err(untyped_form(alloc, schema, filtered_type, node, list)),
         Node::InPath { .. } => Err(untyped_form(alloc, schema, filtered_type, node, list)),
@@ -72,77 +87,19 @@ pub(crate) fn checked_tree(
 }
 
 /// Puts a node behind the others, to be closed at that place once its operands stand behind it.
-fn open_binary(
-    alloc: Global,
+pub(crate) fn open_node(
     span: Span,
-    operator: BinaryOperator,
+    kind: NodeKind,
+    text: String,
     list: &mut NodeList,
 ) -> Result<usize, Untyped>
-    ensures opened { IfOk result (λ place. IsOpened list.old place list.new) }
+    ensures opened { IfOk result (λ place. IsOpened list.old place (string_bytes text) list.new) }
     ensures grown { length list.old.nodes ≤ length list.new.nodes }
     ensures memory { IfErr result (λ untyped. untyped ≡ Untyped.Memory) }
 {
     let place = list.nodes().len();
-    let kind = NodeKind::Binary { operator };
-    match list.push(kind, span, &BOOLEAN, String::new(alloc)) {
+    match list.push(kind, span, &BOOLEAN, text) {
         Ok(()) => Ok(place),
         Err(untyped) => Err(untyped),
-    }
-}
-
-/// The operator's node, from what was answered of its two operands.
-fn close_binary(
-    place: usize,
-    span: Span,
-    operator: BinaryOperator,
-    left: Result<EdmType, Untyped>,
-    right: Result<EdmType, Untyped>,
-    list: &mut NodeList,
-) -> Result<EdmType, Untyped>
-    requires { place < length list.old.nodes }
-    ensures answer { (schema : SchemaModel) (n : ℕ) (l r : Tree) (start opened between : FlatTree)
-        → IsOpened start place opened
-        → IsAnswer schema n opened l between left
-        → IsAnswer schema n between r list.old right
-        → IsAnswer schema n start (node span.start span.stop (binary operator l r)) list.new result }
-    ensures grown { length list.old.nodes ≤ length list.new.nodes }
-{
-    match left {
-        Ok(left) => match right {
-            Ok(right) => close_operator(place, span, operator, left, right, list),
-            Err(behind) => Err(behind),
-        },
-        Err(before) => match right {
-            Ok(_) => Err(before),
-            Err(behind) => Err(earlier(before, behind)),
-        },
-    }
-}
-
-/// The operator between operands of these types.
-fn close_operator(
-    place: usize,
-    span: Span,
-    operator: BinaryOperator,
-    left: EdmType,
-    right: EdmType,
-    list: &mut NodeList,
-) -> Result<EdmType, Untyped>
-    requires { place < length list.old.nodes }
-    ensures answer { (schema : SchemaModel) (n : ℕ) (l r : Tree) (start opened between : FlatTree)
-        → IsOpened start place opened
-        → IsWalked schema n opened l between left
-        → IsWalked schema n between r list.old right
-        → IsAnswer schema n start (node span.start span.stop (binary operator l r)) list.new result }
-    ensures grown { length list.old.nodes ≤ length list.new.nodes }
-{
-    if takes(operator, &left, &right) {
-        list.close(place, NodeKind::Binary { operator }, span, BOOLEAN);
-        Ok(BOOLEAN)
-    } else {
-        Err(Untyped::Fault(TypeFault {
-            code: TypeFaultCode::OperandTypes,
-            span,
-        }))
     }
 }

@@ -129,16 +129,16 @@ impl NodeList {
     }
 
     /// Puts a node in the place of another, as the parent of all behind that.
-    pub(crate) fn close(&mut self, place: usize, kind: NodeKind, span: Span, edm_type: EdmType)
+    pub(crate) fn close(&mut self, place: usize, kind: NodeKind, span: Span, edm_type: &EdmType)
         requires { place < length self.old.nodes }
         ensures { self.new ≡ node_put self.old place
-            (record { kind = kind; span = span; edm_type = edm_type; stop = length self.old.nodes }) }
+            (record { kind = kind; span = span; edm_type = edm_type.now; stop = length self.old.nodes }) }
     {
         let stop = self.nodes.len();
         self.nodes[place] = CheckedNode {
             kind,
             span,
-            edm_type,
+            edm_type: *edm_type,
             stop,
         };
     }

@@ -1,41 +1,92 @@
-ghost use Rattle.std.specs.Prelude.{◌≡◌, ◌↔◌, IsTrue};
+//! Which type an operator makes of those of its operands.
+ghost use Rattle.std.specs.Prelude.{IfSome, IfNone};
+ghost use Rattle.csdl_schema.specs.ExprType.{ExprType};
 ghost use Rattle.csdl_schema.specs.SchemaModel.{SchemaModel};
-ghost use Rattle.odata_typing.specs.ExprTypes.{boolean_type, AreComparable};
-ghost use Rattle.odata_typing.specs.Typed.{OperatorTyped};
+ghost use Rattle.odata_typing.specs.OperatorTyped.{ArithmeticTyped, NegationTyped, NotTyped, OperatorTyped};
 ghost use Rattle.odata_typing.specs.TypeView.{expr_type};
+ghost use Rattle.odata_typing.specs.private.Answer.{IsTypeThere};
 
-use super::edm_type::EdmType;
+use super::comparison::are_compared;
+use super::edm_type::{BOOLEAN, EdmType};
+use super::operator_class::{OperatorClass, class_of};
+use csdl_schema::Schema;
+use odata_functions::{negation_type, promotion};
 use odata_syntax::BinaryOperator;
 
-/// Whether the operator takes operands of these types. Only `and` and `eq` take any yet.
-pub(crate) fn takes(operator: BinaryOperator, left: &EdmType, right: &EdmType) -> bool
-    ensures { (schema : SchemaModel) → IsTrue result ↔
-        OperatorTyped operator (expr_type schema left.now) (expr_type schema right.now) boolean_type }
+/// The type that the operator makes. `None` where it takes no operands of these types.
+pub(crate) fn made_type(
+    schema: &Schema,
+    operator: BinaryOperator,
+    left: &EdmType,
+    right: &EdmType,
+) -> Option<EdmType>
+    requires left { IsTypeThere schema.now left.now }
+    requires right { IsTypeThere schema.now right.now }
+    ensures typed { IfSome result (λ t. OperatorTyped operator
+        (expr_type schema.now left.now) (expr_type schema.now right.now) (expr_type schema.now t)) }
+    ensures there { IfSome result (IsTypeThere schema.now) }
+    ensures none { IfNone result ((type : ExprType) → ¬ OperatorTyped operator
+        (expr_type schema.now left.now) (expr_type schema.now right.now) type) }
 {
-    match operator {
-        BinaryOperator::And => left.is_truth() && right.is_truth(),
-        BinaryOperator::Eq => are_comparable(left, right),
-        BinaryOperator::Or
-        | BinaryOperator::Ne
-        | BinaryOperator::Gt
-        | BinaryOperator::Ge
-        | BinaryOperator::Lt
-        | BinaryOperator::Le
-        | BinaryOperator::Add
-        | BinaryOperator::Sub
-        | BinaryOperator::Mul
-        | BinaryOperator::Div
-        | BinaryOperator::Mod => false,
+    match class_of(operator) {
+        OperatorClass::Connective(_) => if left.is_truth() && right.is_truth() {
+            Some(BOOLEAN)
+        } else {
+            None
+        },
+        OperatorClass::Comparison(comparison) => {
+            if are_compared(schema, comparison, left, right) {
+                Some(BOOLEAN)
+            } else {
+                None
+            }
+        }
+        OperatorClass::Arithmetic(_) => promoted_type(left, right),
     }
 }
 
-/// Whether the types are two numbers, two Booleans or two texts.
-fn are_comparable(left: &EdmType, right: &EdmType) -> bool
-    ensures { (schema : SchemaModel) → IsTrue result ↔
-        AreComparable (expr_type schema left.now) (expr_type schema right.now) }
+/// The type of arithmetic on operands of these types. `None` where they are no numbers or nulls.
+fn promoted_type(left: &EdmType, right: &EdmType) -> Option<EdmType>
+    ensures typed { (schema : SchemaModel) → IfSome result (λ t. ArithmeticTyped
+        (expr_type schema left.now) (expr_type schema right.now) (expr_type schema t)) }
+    ensures there { (schema : SchemaModel) → IfSome result (IsTypeThere schema) }
+    ensures none { (schema : SchemaModel) → IfNone result ((type : ExprType) → ¬ ArithmeticTyped
+        (expr_type schema left.now) (expr_type schema right.now) type) }
 {
-    let numbers = left.is_number() && right.is_number();
-    let booleans = left.is_boolean() && right.is_boolean();
-    let texts = left.is_text() && right.is_text();
-    numbers || booleans || texts
+    match left.number_operand() {
+        Some(left) => match right.number_operand() {
+            Some(right) => Some(EdmType::of_number(promotion(left, right))),
+            None => None,
+        },
+        None => None,
+    }
+}
+
+/// The type of the negation of an operand of this type. `None` where it is no number or null.
+pub(crate) fn negated_type(operand: &EdmType) -> Option<EdmType>
+    ensures typed { (schema : SchemaModel) → IfSome result
+        (λ t. NegationTyped (expr_type schema operand.now) (expr_type schema t)) }
+    ensures there { (schema : SchemaModel) → IfSome result (IsTypeThere schema) }
+    ensures none { (schema : SchemaModel) → IfNone result
+        ((type : ExprType) → ¬ NegationTyped (expr_type schema operand.now) type) }
+{
+    match operand.number_operand() {
+        Some(number) => Some(EdmType::of_number(negation_type(number))),
+        None => None,
+    }
+}
+
+/// The type of `not` before an operand of this type. `None` where it is no truth value or null.
+pub(crate) fn opposite_type(operand: &EdmType) -> Option<EdmType>
+    ensures typed { (schema : SchemaModel) → IfSome result
+        (λ t. NotTyped (expr_type schema operand.now) (expr_type schema t)) }
+    ensures there { (schema : SchemaModel) → IfSome result (IsTypeThere schema) }
+    ensures none { (schema : SchemaModel) → IfNone result
+        ((type : ExprType) → ¬ NotTyped (expr_type schema operand.now) type) }
+{
+    if operand.is_truth() {
+        Some(BOOLEAN)
+    } else {
+        None
+    }
 }

@@ -1,10 +1,11 @@
-ghost use Rattle.std.specs.Prelude.{◌≡◌, ◌≤◌, ℕ, Some, length, IfOk, IfErr};
+//! Properties by name: their slots and their types, or why they have none.
+ghost use Rattle.std.specs.Prelude.{◌≡◌, ◌≤◌, ℕ, [], Some, length, IfOk, IfErr};
 ghost use Rattle.odata_syntax.specs.Tree.{node, name};
-ghost use Rattle.csdl_schema.specs.PropertyView.{property_type};
+ghost use Rattle.csdl_schema.specs.ExprType.{ExprType};
+ghost use Rattle.csdl_schema.specs.PropertyView.{PointsWithin, property_type};
 ghost use Rattle.csdl_schema.specs.SchemaModel.{SchemaModel, declared, properties_at, slot_named};
-ghost use Rattle.odata_typing.specs.private.Answer.{IsAnswer};
-ghost use Rattle.odata_typing.specs.FirstUntypable.{PropertyReason};
-ghost use Rattle.odata_typing.specs.TypeInFilter.{kind_in_filter, primitive_in_filter};
+ghost use Rattle.odata_typing.specs.private.Answer.{IsAnswer, IsTypeThere};
+ghost use Rattle.odata_typing.specs.FirstUntypable.{NameReason, PropertyReason};
 ghost use Rattle.odata_typing.specs.TypeView.{expr_type};
 ghost use Rattle.odata_typing.specs.Typed.{PropertyTyped};
 
@@ -14,9 +15,15 @@ use super::node_list::NodeList;
 use super::refusal::{TypeFault, TypeFaultCode};
 use super::untyped::Untyped;
 use csdl_schema::{Property, PropertyKind, Schema, TypeId};
-use edm_values::Prim;
 use odata_text::Span;
 use std::alloc::Global;
+
+/// A property that a filter may name, by its slot.
+#[derive(Clone, Copy)]
+pub(crate) struct NamedProperty {
+    pub(crate) slot: usize,
+    pub(crate) edm_type: EdmType,
+}
 
 /// Puts the node of the property of that name of the filtered type behind the others, and answers its type.
 pub(crate) fn checked_name(
@@ -27,21 +34,13 @@ pub(crate) fn checked_name(
     asked: &str,
     list: &mut NodeList,
 ) -> Result<EdmType, Untyped>
-    ensures answer { IsAnswer schema.now filtered_type list.old
+    ensures answer { IsAnswer schema.now filtered_type [] list.old
         (node span.start span.stop (name asked.now)) list.new result }
+    ensures there { IfOk result (IsTypeThere schema.now) }
     ensures grown { length list.old.nodes ≤ length list.new.nodes }
 {
-    let slot = match schema.slot(filtered_type, asked) {
-        Some(slot) => slot,
-        None => {
-            return Err(Untyped::Fault(TypeFault {
-                code: TypeFaultCode::UnknownProperty,
-                span,
-            }));
-        }
-    };
-    match property_edm_type(schema.property(filtered_type, slot)) {
-        Ok(edm_type) => push_property(alloc, span, asked, slot, edm_type, list),
+    match property_named(schema, filtered_type, asked) {
+        Ok(property) => push_property(alloc, span, asked, property, list),
         Err(code) => Err(Untyped::Fault(TypeFault { code, span })),
     }
 }
@@ -51,62 +50,69 @@ fn push_property(
     alloc: Global,
     span: Span,
     asked: &str,
-    slot: usize,
-    edm_type: EdmType,
+    property: NamedProperty,
     list: &mut NodeList,
 ) -> Result<EdmType, Untyped>
     ensures answer { (schema : SchemaModel) (n : ℕ)
-        → slot_named (properties_at schema n) asked.now ≡ Some slot
-        → PropertyTyped (properties_at schema n) asked.now (expr_type schema edm_type)
-        → IsAnswer schema n list.old (node span.start span.stop (name asked.now)) list.new result }
+        → slot_named (properties_at schema n) asked.now ≡ Some property.slot
+        → PropertyTyped (properties_at schema n) asked.now (expr_type schema property.edm_type)
+        → IsAnswer schema n [] list.old (node span.start span.stop (name asked.now)) list.new result }
+    ensures edm_type { IfOk result (λ t. t ≡ property.edm_type) }
     ensures grown { length list.old.nodes ≤ length list.new.nodes }
 {
     let text = match String::from_str(alloc, asked) {
         Ok(text) => text,
         Err(_) => return Err(Untyped::Memory),
     };
-    match list.push(NodeKind::Property { slot }, span, &edm_type, text) {
-        Ok(()) => Ok(edm_type),
+    let kind = NodeKind::Property {
+        slot: property.slot,
+    };
+    match list.push(kind, span, &property.edm_type, text) {
+        Ok(()) => Ok(property.edm_type),
         Err(untyped) => Err(untyped),
     }
 }
 
-/// The type of a property, or why a filter may not name it: single ones alone that are never null have a type so far.
-fn property_edm_type(property: &Property) -> Result<EdmType, TypeFaultCode>
-    ensures declared { IfOk result (λ t. (schema : SchemaModel) →
-        kind_in_filter (property_type schema property.now) property.now.nullable ≡ declared (expr_type schema t)) }
-    ensures reason { IfErr result (λ code. (schema : SchemaModel) →
-        PropertyReason (kind_in_filter (property_type schema property.now) property.now.nullable) code) }
+/// The property of that name of a type, or why it has no type itself.
+pub(crate) fn property_named(
+    schema: &Schema,
+    owner: TypeId,
+    asked: &str,
+) -> Result<NamedProperty, TypeFaultCode>
+    ensures slot { IfOk result (λ p. slot_named (properties_at schema.now owner) asked.now ≡ Some p.slot) }
+    ensures typed { IfOk result
+        (λ p. PropertyTyped (properties_at schema.now owner) asked.now (expr_type schema.now p.edm_type)) }
+    ensures there { IfOk result (λ p. IsTypeThere schema.now p.edm_type) }
+    ensures reason { IfErr result (NameReason (properties_at schema.now owner) asked.now) }
+    ensures untyped { IfErr result
+        (λ _. (type : ExprType) → ¬ PropertyTyped (properties_at schema.now owner) asked.now type) }
 {
-    match property.kind {
-        PropertyKind::Prim(prim) => {
-            if property.many || property.nullable {
-                Err(TypeFaultCode::TypeLeftOut)
-            } else {
-                primitive_edm_type(prim)
-            }
-        }
-        PropertyKind::Enum(_)
-        | PropertyKind::Complex(_)
-        | PropertyKind::Opaque
-        | PropertyKind::Navigation => Err(TypeFaultCode::TypeLeftOut),
+    match schema.slot(owner, asked) {
+        Some(slot) => match property_edm_type(schema.property(owner, slot)) {
+            Ok(edm_type) => Ok(NamedProperty { slot, edm_type }),
+            Err(code) => Err(code),
+        },
+        None => Err(TypeFaultCode::UnknownProperty),
     }
 }
 
-/// The type of a single property that is never null: Boolean, Int32 and String are those that a filter may name so far.
-fn primitive_edm_type(prim: Prim) -> Result<EdmType, TypeFaultCode>
+/// The type of a property, or why a filter may not name it.
+fn property_edm_type(property: &Property) -> Result<EdmType, TypeFaultCode>
     ensures declared { IfOk result (λ t. (schema : SchemaModel) →
-        primitive_in_filter prim ≡ declared (expr_type schema t)) }
-    ensures reason { IfErr result (PropertyReason (primitive_in_filter prim)) }
+        property_type schema property.now ≡ declared (expr_type schema t)) }
+    ensures there { IfOk result (λ t. (schema : SchemaModel) →
+        PointsWithin schema property.now.kind → IsTypeThere schema t) }
+    ensures reason { IfErr result (λ code. (schema : SchemaModel) →
+        PropertyReason (property_type schema property.now) code) }
 {
-    match prim {
-        Prim::Bool | Prim::Int32 | Prim::String => Ok(EdmType::Single(ValueType::Prim(prim))),
-        Prim::Byte
-        | Prim::SByte
-        | Prim::Int16
-        | Prim::Int64
-        | Prim::Date
-        | Prim::DateTimeOffset
-        | Prim::Guid => Err(TypeFaultCode::TypeLeftOut),
+    match property.kind {
+        PropertyKind::Prim(prim) => Ok(EdmType::of_values(ValueType::Prim(prim), property.many)),
+        PropertyKind::Enum(id) => Ok(EdmType::of_values(ValueType::Enum(id), property.many)),
+        PropertyKind::Complex(id) => Ok(EdmType::of_values(
+            ValueType::Structured(id),
+            property.many,
+        )),
+        PropertyKind::Opaque => Err(TypeFaultCode::TypeLeftOut),
+        PropertyKind::Navigation => Err(TypeFaultCode::Navigation),
     }
 }

@@ -4,9 +4,9 @@ use thiserror::Error;
 
 /// Why a node has no type. It is shown by its name.
 ///
-/// Only literals, names, `and` and `eq` have types yet. Every other node that can be blamed is `OperandTypes`, a call
-/// `UnknownFunction`. `ArgumentCount`, `ArgumentType`, `NotCollection`, `VariableTaken`, `BodyNotBoolean` and
-/// `UnknownEnum` are still to come.
+/// `has`, `in`, `$count`, calls and lambda operators have no types yet: such a node is blamed as `OperandTypes`, a call as
+/// `UnknownFunction`. `ArgumentCount`, `ArgumentType`, `NotCollection`, `VariableTaken` and `BodyNotBoolean` are still to
+/// come.
 #[derive(Clone, Copy, Debug, PartialEq, Eq, Error)]
 pub enum TypeFaultCode {
     /// A name that is no property of its type.

@@ -1,4 +1,4 @@
-//! Nodes of the forms that are not typed yet: `$it`, steps of paths, `-`, `not`, `has`, `in`, calls and lambda operators.
+//! Nodes of the forms that are not typed yet: `$count`, `has`, `in`, calls and lambda operators.
 ghost use Rattle.std.specs.Prelude.{◌≤◌, ℕ, List, [], ◌∷◌, length};
 ghost use Rattle.csdl_schema.specs.SchemaModel.{Slots};
 ghost use Rattle.odata_syntax.specs.Spans.{list_of_trees};
@@ -6,6 +6,7 @@ ghost use Rattle.odata_syntax.specs.Tree.{shape_of};
 ghost use Rattle.odata_syntax.specs.TreeView.{tree_of, trees_of};
 ghost use Rattle.odata_typing.specs.Considered.{children_in_scope};
 ghost use Rattle.odata_typing.specs.FirstUntypable.{IsReason};
+ghost use Rattle.odata_typing.specs.Typed.{Scope};
 ghost use Rattle.odata_typing.specs.private.Answer.{HasFault};
 ghost use Rattle.odata_typing.specs.private.Judged.{IsToldOf, IsUnruled};
 
@@ -27,7 +28,7 @@ pub(crate) fn untyped_form(
     list: &mut NodeList,
 ) -> Untyped
     requires { IsUnruled (shape_of (tree_of node.now)) }
-    ensures fault { HasFault schema.now filtered_type (tree_of node.now) result }
+    ensures fault { HasFault schema.now filtered_type [] (tree_of node.now) result }
     ensures grown { length list.old.nodes ≤ length list.new.nodes }
 {
     match fault_below(alloc, schema, filtered_type, node, list) {
@@ -42,16 +43,14 @@ pub(crate) fn untyped_form(
 /// Why such a node has no type though its children have.
 fn reason_of(node: &Node) -> TypeFaultCode
     requires { IsUnruled (shape_of (tree_of node.now)) }
-    ensures { (slots : Slots) (root : List ℕ) → IsReason slots root (tree_of node.now) result }
+    ensures { (slots : Slots) (root : List ℕ) (scope : Scope) → IsReason slots root scope (tree_of node.now) result }
 {
     match node {
         Node::Call { .. } => TypeFaultCode::UnknownFunction,
-        Node::Lit { .. } | Node::Name { .. } | Node::Binary { .. } => unreachable!(),
-        Node::It { .. } => TypeFaultCode::OperandTypes,
-        Node::Member { .. } => TypeFaultCode::OperandTypes,
+        Node::Lit { .. } | Node::It { .. } | Node::Name { .. } => unreachable!(),
+        Node::Member { .. } | Node::Neg { .. } | Node::Not { .. } => unreachable!(),
+        Node::Binary { .. } => unreachable!(),
         Node::Count { .. } => TypeFaultCode::OperandTypes,
-        Node::Neg { .. } => TypeFaultCode::OperandTypes,
-        Node::Not { .. } => TypeFaultCode::OperandTypes,
         Node::Has { .. } => TypeFaultCode::OperandTypes,
         Node::InList { .. } => TypeFaultCode::OperandTypes,
         Node::InPath { .. } => TypeFaultCode::OperandTypes,
@@ -70,16 +69,14 @@ fn fault_below(
     list: &mut NodeList,
 ) -> Option<Untyped>
     requires { IsUnruled (shape_of (tree_of node.now)) }
-    ensures told { IsToldOf schema.now filtered_type (children_in_scope (shape_of (tree_of node.now))) result }
+    ensures told { IsToldOf schema.now filtered_type [] (children_in_scope (shape_of (tree_of node.now))) result }
     ensures grown { length list.old.nodes ≤ length list.new.nodes }
 {
     match node {
-        Node::Lit { .. } | Node::Name { .. } | Node::Binary { .. } => unreachable!(),
-        Node::It { .. } => None,
-        Node::Member { base, .. } => fault_of(alloc, schema, filtered_type, base, list),
+        Node::Lit { .. } | Node::It { .. } | Node::Name { .. } => unreachable!(),
+        Node::Member { .. } | Node::Neg { .. } | Node::Not { .. } => unreachable!(),
+        Node::Binary { .. } => unreachable!(),
         Node::Count { base, .. } => fault_of(alloc, schema, filtered_type, base, list),
-        Node::Neg { operand, .. } => fault_of(alloc, schema, filtered_type, operand, list),
-        Node::Not { operand, .. } => fault_of(alloc, schema, filtered_type, operand, list),
         Node::Has { left, right, .. } => {
             let of_left = fault_of(alloc, schema, filtered_type, left, list);
             let of_right = fault_of(alloc, schema, filtered_type, right, list);
@@ -112,7 +109,7 @@ fn fault_of(
     node: &Node,
     list: &mut NodeList,
 ) -> Option<Untyped>
-    ensures told { IsToldOf schema.now filtered_type (tree_of node.now ∷ []) result }
+    ensures told { IsToldOf schema.now filtered_type [] (tree_of node.now ∷ []) result }
     ensures grown { length list.old.nodes ≤ length list.new.nodes }
 {
     match checked_tree(alloc, schema, filtered_type, node, list) {
@@ -130,7 +127,7 @@ fn fault_of_all(
     nodes: &[Node],
     list: &mut NodeList,
 ) -> Option<Untyped>
-    ensures told { IsToldOf schema.now filtered_type (list_of_trees (trees_of nodes.now)) result }
+    ensures told { IsToldOf schema.now filtered_type [] (list_of_trees (trees_of nodes.now)) result }
     ensures grown { length list.old.nodes ≤ length list.new.nodes }
 {
     let mut told = None;

@@ -1,118 +1,144 @@
 //! The public calls of a run from text to kept lines, with what they answer.
 use crate::mini::{FIRST, SCHEMA};
-use csdl_schema::{PropertyKind, Schema};
+use crate::outcomes::comes_to;
+use csdl_schema::{Property, PropertyKind, Schema, TypeId};
 use edm_entities::Entity;
-use edm_values::{Moment, Prim, Value as Held, read_int, read_string};
+use edm_values::{Moment, Prim, Value as Held};
 use jiff::civil;
-use odata_eval::{Verdict, evaluate};
-use odata_filter::command_line::{PlanFault, Verb};
+use odata_eval::Verdict;
+use odata_filter::command_line::{Plan, PlanFault, Verb};
 use odata_filter::{RunFault, filter_lines, filter_slice, plan};
-use odata_syntax::{Expr, Node, SyntaxFault, parse};
-use odata_text::{
-    Span, TextFault, TokenKind, filter_of_query, is_identifier, tokens, tokens_are_spelled,
-};
-use odata_typing::{EdmType, ValueType, check};
+use odata_text::Span;
+use odata_typing::{Checked, EdmType, ValueType, check};
 use serde_json::Value;
 use std::alloc::Global;
 use std::test::Fail;
 
 const A: &str = "{\"ID\":1,\"Name\":\"a\",\"Active\":true}\n";
 
-#[test]
-fn values(rt: HostRuntime) -> Result<(), Fail> {
-    assert_eq!(rt; read_int("-7"), Some(-7));
-    assert!(rt; read_string(rt.alloc(), "'O''Neil'")?.as_str() == "O'Neil");
-    let moment = Moment::new(civil::date(2020, 1, 1).at(1, 2, 3, 4), -90).ok_or("a moment")?;
-    assert_eq!(rt; moment.offset_minutes(), -90);
-    assert_eq!(rt; moment.civil().year(), 2020);
-    Ok(())
-}
-
-#[test]
-fn tokens_of_a_query(rt: HostRuntime) -> Result<(), Fail> {
-    let filter = filter_of_query(rt.alloc(), "$filter=ID%20eq%201".as_bytes())?.ok_or(
-        "the filter",
-    )?;
-    let text = filter.as_str();
-    assert!(rt; is_identifier("ID") && text == "ID eq 1");
-    let found = tokens(rt.alloc(), text)?;
-    assert_eq!(rt; found.len(), 3);
-    assert!(rt; found[1].kind == TokenKind::Word && found[1].text == "eq");
-    Ok(())
-}
-
-/// The tree of a text that has tokens, or the fault of its tokens.
-fn parsed(alloc: Global, text: &str) -> Result<Result<Expr, SyntaxFault>, TextFault> {
-    let found = tokens(alloc, text)?;
-    tokens_are_spelled();
-    Ok(parse(alloc, found.as_slice(), text.len()))
-}
-
-/// The span of a binary operator.
-fn operator_span(node: &Node) -> Option<Span> {
-    match node {
-        Node::Binary { span, .. } => Some(*span),
-        _ => None,
-    }
-}
-
-#[test]
-fn syntax(rt: HostRuntime) -> Result<(), Fail> {
-    let expression = parsed(rt.alloc(), "ID eq 1")??;
-    assert!(rt; operator_span(expression.root()) == Some(Span { start: 0, stop: 7 }));
-    Ok(())
+/// Whether a property has one truth value, and is never null.
+fn is_truth_value(property: &Property) -> bool {
+    property.kind == PropertyKind::Prim(Prim::Bool) && !property.many && !property.nullable
 }
 
 #[test]
 fn schema(rt: HostRuntime) -> Result<(), Fail> {
     let schema = Schema::read(rt.alloc(), SCHEMA.as_bytes())?;
     let id = schema.type_named("Mini.Item").ok_or("the type")?;
-    assert!(rt; schema.holds(id));
-    assert!(rt; schema.is_entity(id));
-    assert_eq!(rt; schema.slots(id), 3);
-    assert_eq!(rt; schema.slot(id, "ID"), Some(1));
-    assert_eq!(rt; schema.slot(id, "Id"), None);
-    assert!(rt; schema.slot_name(id, 2) == "Name");
-    let property = schema.property(id, 0);
-    assert!(rt;
-        property.kind == PropertyKind::Prim(Prim::Bool) && !property.many && !property.nullable
-    );
+    assert!(rt; schema.holds(id) && schema.is_entity(id));
     assert!(rt; schema.type_name(id) == Some("Mini.Item"));
+    assert_eq!(rt; schema.slots(id), 3);
+    assert!(rt; schema.slot_name(id, 2) == "Name");
+    assert!(rt; is_truth_value(schema.property(id, 0)));
     Ok(())
 }
 
-/// Whether the values are those of the first row in slot order: Active, ID, Name.
-fn is_first_row(items: &[Held]) -> bool {
-    match items {
-        [Held::Bool(true), Held::Int(1), Held::Text(name)] => name.as_str() == "a",
-        _ => false,
+#[test]
+fn slots_of_a_schema(rt: HostRuntime) -> Result<(), Fail> {
+    let schema = Schema::read(rt.alloc(), SCHEMA.as_bytes())?;
+    let id = schema.type_named("Mini.Item").ok_or("the type")?;
+    assert_eq!(rt; schema.slot(id, "ID"), Some(1));
+    assert_eq!(rt; schema.slot(id, "Id"), None);
+    Ok(())
+}
+
+/// Whether a filter has the nodes of the first one: how many, types and places of some.
+fn has_nodes(checked: &Checked<'_>) -> bool {
+    checked.node_count() == 9
+        && checked.type_of(0) == Some(EdmType::Single(ValueType::Prim(Prim::Bool)))
+        && checked.type_of(9).is_none()
+        && checked.span_of(1) == Some(Span { start: 0, stop: 18 })
+        && !checked.takes_memory()
+        && !checked.uses_now()
+}
+
+/// Whether a filter of this type has the type's three slots, and the nodes and values of the first one.
+fn has_places(checked: &Checked<'_>, id: TypeId) -> bool {
+    checked.filtered_type() == id
+        && checked.schema().slots(id) == 3
+        && checked.nodes().len() == 9
+        && checked.values().len() == 2
+        && checked.slot_of(2) == Some(0)
+        && checked.level_of(2).is_none()
+}
+
+/// The beginning of the year 1 by UTC.
+fn moment() -> Result<Moment, Fail> {
+    let moment = Moment::new(civil::date(1, 1, 1).at(0, 0, 0, 0), 0).ok_or("a moment")?;
+    Ok(moment)
+}
+
+/// Whether a filter keeps the row that a reader gives.
+fn keeps_row(alloc: Global, checked: &Checked<'_>) -> Result<bool, Fail> {
+    let mut out = Vec::new(alloc);
+    let tally = filter_lines(alloc, checked, &moment()?, A.as_bytes(), &mut out)?;
+    Ok(tally.rows == 1 && tally.kept == 1 && out.as_slice() == A.as_bytes())
+}
+
+/// A row that is kept, and a faulty one behind a blank line.
+const FAULTY: &[u8] = b"{\"ID\":1,\"Name\":\"a\",\"Active\":true}\n\n{}\n";
+
+/// What stood there, the row of a run without a fault, and the row before the faulty one.
+const WRITTEN: &[u8] =
+    b"kept\n{\"ID\":1,\"Name\":\"a\",\"Active\":true}\n{\"ID\":1,\"Name\":\"a\",\"Active\":true}\n";
+
+/// Whether what is written goes behind what is there, and stays where a later row is at fault.
+fn keeps_row_in_memory(alloc: Global, checked: &Checked<'_>) -> Result<bool, Fail> {
+    let now = moment()?;
+    let mut out = Vec::new(alloc);
+    out.extend_from_slice(b"kept\n")?;
+    let tally = filter_slice(alloc, checked, &now, A.as_bytes(), &mut out)?;
+    let answer = filter_slice(alloc, checked, &now, FAULTY, &mut out);
+    let is_told = matches!(answer, Err(RunFault::Row { line: 3, .. }));
+    Ok(tally.rows == 1 && tally.kept == 1 && is_told && out.as_slice() == WRITTEN)
+}
+
+/// What is asked of the first filter.
+#[derive(Clone, Copy)]
+enum Asked {
+    Nodes,
+    Places,
+    Row,
+    RowInMemory,
+}
+
+/// Whether the first filter answers as is wanted.
+fn first_filter(alloc: Global, asked: Asked) -> Result<bool, Fail> {
+    let schema = Schema::read(alloc, SCHEMA.as_bytes())?;
+    let id = schema.type_named("Mini.Item").ok_or("the type")?;
+    if !schema.holds(id) {
+        return Err(Fail::from("no type"));
+    }
+    let checked = check(alloc, &schema, id, FIRST)?;
+    match asked {
+        Asked::Nodes => Ok(has_nodes(&checked)),
+        Asked::Places => Ok(has_places(&checked, id)),
+        Asked::Row => keeps_row(alloc, &checked),
+        Asked::RowInMemory => keeps_row_in_memory(alloc, &checked),
     }
 }
 
 #[test]
 fn filter(rt: HostRuntime) -> Result<(), Fail> {
-    let schema = Schema::read(rt.alloc(), SCHEMA.as_bytes())?;
-    let id = schema.type_named("Mini.Item").ok_or("the type")?;
-    assert!(rt; schema.holds(id));
-    let checked = check(rt.alloc(), &schema, id, FIRST)?;
-    assert_eq!(rt; checked.node_count(), 9);
-    assert!(rt; checked.type_of(0) == Some(EdmType::Single(ValueType::Prim(Prim::Bool))));
-    assert!(rt; checked.type_of(9).is_none());
-    assert!(rt; checked.span_of(1) == Some(Span { start: 0, stop: 18 }));
-    assert!(rt; !checked.takes_memory() && !checked.uses_now());
+    assert!(rt; first_filter(rt.alloc(), Asked::Nodes)?);
     Ok(())
 }
 
 #[test]
 fn places_of_a_filter(rt: HostRuntime) -> Result<(), Fail> {
-    let schema = Schema::read(rt.alloc(), SCHEMA.as_bytes())?;
-    let id = schema.type_named("Mini.Item").ok_or("the type")?;
-    assert!(rt; schema.holds(id));
-    let checked = check(rt.alloc(), &schema, id, FIRST)?;
-    assert!(rt; checked.filtered_type() == id && checked.schema().slots(id) == 3);
-    assert!(rt; checked.nodes().len() == 9 && checked.values().len() == 2);
-    assert!(rt; checked.slot_of(2) == Some(0) && checked.level_of(2).is_none());
+    assert!(rt; first_filter(rt.alloc(), Asked::Places)?);
     Ok(())
+}
+
+/// Whether the values are those of the first row in slot order: Active, ID, Name.
+fn is_first_row(value: &Held) -> bool {
+    match value {
+        Held::Record(items) => match items.as_slice() {
+            [Held::Bool(true), Held::Int(1), Held::Text(name)] => name.as_str() == "a",
+            _ => false,
+        },
+        _ => false,
+    }
 }
 
 #[test]
@@ -123,90 +149,73 @@ fn row(rt: HostRuntime) -> Result<(), Fail> {
     let json = Value::from_str(rt.alloc(), A)?;
     let entity = Entity::from_json(rt.alloc(), &schema, id, &json)?;
     assert!(rt; entity.type_id() == id && entity.schema().slots(id) == 3);
-    let is_row = match entity.value() {
-        Held::Record(items) => is_first_row(items.as_slice()),
-        _ => false,
-    };
-    assert!(rt; is_row);
+    assert!(rt; is_first_row(entity.value()));
     Ok(())
 }
 
 #[test]
 fn filter_and_row(rt: HostRuntime) -> Result<(), Fail> {
-    let schema = Schema::read(rt.alloc(), SCHEMA.as_bytes())?;
-    let id = schema.type_named("Mini.Item").ok_or("the type")?;
-    assert!(rt; schema.holds(id));
-    let checked = check(rt.alloc(), &schema, id, FIRST)?;
-    let moment = Moment::new(civil::date(1, 1, 1).at(0, 0, 0, 0), 0).ok_or("a moment")?;
-    let json = Value::from_str(rt.alloc(), A)?;
-    let entity = Entity::from_json(rt.alloc(), &schema, id, &json)?;
-    assert!(rt; evaluate(rt.alloc(), &checked, &entity, &moment)? == Verdict::True);
+    assert!(rt; comes_to(rt.alloc(), FIRST, A, &Ok(Verdict::True))?);
     Ok(())
 }
 
 #[test]
 fn filter_and_rows(rt: HostRuntime) -> Result<(), Fail> {
-    let schema = Schema::read(rt.alloc(), SCHEMA.as_bytes())?;
-    let id = schema.type_named("Mini.Item").ok_or("the type")?;
-    assert!(rt; schema.holds(id));
-    let checked = check(rt.alloc(), &schema, id, FIRST)?;
-    let moment = Moment::new(civil::date(1, 1, 1).at(0, 0, 0, 0), 0).ok_or("a moment")?;
-    let mut out = Vec::new(rt.alloc());
-    let tally = filter_lines(rt.alloc(), &checked, &moment, A.as_bytes(), &mut out)?;
-    assert!(rt; tally.rows == 1 && tally.kept == 1);
-    assert!(rt; out.as_slice() == A.as_bytes());
+    assert!(rt; first_filter(rt.alloc(), Asked::Row)?);
     Ok(())
 }
 
-/// What is written goes behind what is there, and stays where a later row is at fault.
 #[test]
 fn rows_in_memory(rt: HostRuntime) -> Result<(), Fail> {
-    let schema = Schema::read(rt.alloc(), SCHEMA.as_bytes())?;
-    let id = schema.type_named("Mini.Item").ok_or("the type")?;
-    assert!(rt; schema.holds(id));
-    let checked = check(rt.alloc(), &schema, id, FIRST)?;
-    let moment = Moment::new(civil::date(1, 1, 1).at(0, 0, 0, 0), 0).ok_or("a moment")?;
-    let mut out = Vec::new(rt.alloc());
-    out.extend_from_slice(b"kept\n")?;
-    let tally = filter_slice(rt.alloc(), &checked, &moment, A.as_bytes(), &mut out)?;
-    assert!(rt; tally.rows == 1 && tally.kept == 1);
-    let faulty = b"{\"ID\":1,\"Name\":\"a\",\"Active\":true}\n\n{}\n";
-    let answer = filter_slice(rt.alloc(), &checked, &moment, faulty.as_slice(), &mut out);
-    assert!(rt; matches!(answer, Err(RunFault::Row { line: 3, .. })));
-    let written =
-        b"kept\n{\"ID\":1,\"Name\":\"a\",\"Active\":true}\n{\"ID\":1,\"Name\":\"a\",\"Active\":true}\n";
-    assert!(rt; out.as_slice() == written.as_slice());
+    assert!(rt; first_filter(rt.alloc(), Asked::RowInMemory)?);
     Ok(())
+}
+
+const BY_FILTER: &[&str] = &[
+    "odfilter", "filter", "--schema", "s", "--type", "N.T", "--filter", "true", "--rows", "r",
+];
+
+const BY_QUERY: &[&str] = &[
+    "odfilter", "filter", "--schema", "s", "--type", "N.T", "--query", "x",
+];
+
+/// Whether a plan is that of the first of these words.
+fn is_by_filter(plan: &Plan<'_>) -> bool {
+    plan.verb == Verb::Filter
+        && plan.schema == "s"
+        && plan.named == "N.T"
+        && plan.filter == Some("true")
+        && plan.rows == Some("r")
+        && plan.query.is_none()
+        && plan.now.is_none()
+        && !plan.collection
 }
 
 #[test]
 fn command_line(rt: HostRuntime) -> Result<(), Fail> {
-    let words = [
-        "odfilter", "filter", "--schema", "s", "--type", "N.T", "--filter", "true", "--rows", "r",
-    ];
-    let whole = plan(rt.alloc(), words.as_slice())?;
-    assert!(rt; whole.verb == Verb::Filter && whole.schema == "s" && whole.named == "N.T");
-    assert!(rt; whole.filter == Some("true") && whole.rows == Some("r"));
-    assert!(rt; whole.query.is_none() && whole.now.is_none() && !whole.collection);
-    let without = ["odfilter", "filter", "--schema", "s", "--type", "N.T"];
-    assert!(rt; matches!(plan(rt.alloc(), without.as_slice()), Err(PlanFault::OneOf)));
-    let queried = [
-        "odfilter", "filter", "--schema", "s", "--type", "N.T", "--query", "x",
-    ];
-    let by_query = plan(rt.alloc(), queried.as_slice())?;
+    let by_filter = plan(rt.alloc(), BY_FILTER)?;
+    assert!(rt; is_by_filter(&by_filter));
+    let by_query = plan(rt.alloc(), BY_QUERY)?;
     assert!(rt; by_query.query == Some("x") && by_query.filter.is_none());
-    let both = [
-        "odfilter", "filter", "--schema", "s", "--type", "N.T", "--query", "x", "--filter", "true",
-    ];
-    assert!(rt; matches!(plan(rt.alloc(), both.as_slice()), Err(PlanFault::OneOf)));
-    let unknown = [
-        "odfilter", "filter", "--schema", "s", "--type", "N.T", "--now", "x",
-    ];
-    assert!(rt;
-        matches!(
-            plan(rt.alloc(), unknown.as_slice()),
-            Err(PlanFault::Clap(_))
-        )
-    );
     Ok(())
+}
+
+/// Words with neither a filter nor a query, and with both.
+const NOT_ONE: &[&[&str]] = &[
+    &["odfilter", "filter", "--schema", "s", "--type", "N.T"],
+    &[
+        "odfilter", "filter", "--schema", "s", "--type", "N.T", "--query", "x", "--filter", "true",
+    ],
+];
+
+const UNKNOWN_OPTION: &[&str] = &[
+    "odfilter", "filter", "--schema", "s", "--type", "N.T", "--now", "x",
+];
+
+#[test]
+fn refused_command_lines(rt: HostRuntime) {
+    for &words in NOT_ONE {
+        assert!(rt; matches!(plan(rt.alloc(), words), Err(PlanFault::OneOf)));
+    }
+    assert!(rt; matches!(plan(rt.alloc(), UNKNOWN_OPTION), Err(PlanFault::Clap(_))));
 }

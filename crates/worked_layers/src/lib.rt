@@ -10,6 +10,8 @@ mod mini;
 #[cfg(test)]
 mod node_list;
 #[cfg(test)]
+mod operators;
+#[cfg(test)]
 mod outcomes;
 #[cfg(test)]
 mod typings;

@@ -4,12 +4,15 @@ use csdl_schema::Schema;
 use edm_entities::Entity;
 use edm_values::Moment;
 use jiff::civil;
-use odata_eval::{Verdict, evaluate};
+use odata_eval::{EvalFault, Verdict, evaluate};
 use odata_typing::check;
 use std::alloc::Global;
 use std::test::Fail;
 
-fn verdict(alloc: Global, filter: &str, row: &str) -> Result<Verdict, Fail> {
+pub(crate) type Outcome = Result<Verdict, EvalFault>;
+
+/// The verdict, or the fault of the evaluation.
+fn evaluated(alloc: Global, filter: &str, row: &str) -> Result<Outcome, Fail> {
     let schema = Schema::read(alloc, SCHEMA.as_bytes())?;
     let item = schema.type_named("Mini.Item").ok_or("the type")?;
     if !schema.holds(item) {
@@ -19,49 +22,114 @@ fn verdict(alloc: Global, filter: &str, row: &str) -> Result<Verdict, Fail> {
     let json = serde_json::Value::from_str(alloc, row)?;
     let entity = Entity::from_json(alloc, &schema, item, &json)?;
     let now = Moment::new(civil::date(1, 1, 1).at(0, 0, 0, 0), 0).ok_or("a moment")?;
-    Ok(evaluate(alloc, &checked, &entity, &now)?)
+    Ok(evaluate(alloc, &checked, &entity, &now))
 }
+
+/// Whether that is what the filter comes to on the row.
+pub(crate) fn comes_to(
+    alloc: Global,
+    filter: &str,
+    row: &str,
+    wanted: &Outcome,
+) -> Result<bool, Fail> {
+    Ok(evaluated(alloc, filter, row)? == *wanted)
+}
+
+/// Rows, and what the first filter says of each.
+const ROWS: &[(&str, Outcome)] = &[
+    (
+        "{\"ID\":1,\"Name\":\"a\",\"Active\":true}",
+        Ok(Verdict::True),
+    ),
+    (
+        "{\"ID\":1,\"Name\":\"b\",\"Active\":true}",
+        Ok(Verdict::False),
+    ),
+    (
+        "{\"ID\":2,\"Name\":\"a\",\"Active\":false}",
+        Ok(Verdict::False),
+    ),
+];
 
 #[test]
 fn rows_of_one_filter(rt: HostRuntime) -> Result<(), Fail> {
-    for (row, wanted) in [
-        ("{\"ID\":1,\"Name\":\"a\",\"Active\":true}", Verdict::True),
-        ("{\"ID\":1,\"Name\":\"b\",\"Active\":true}", Verdict::False),
-        ("{\"ID\":2,\"Name\":\"a\",\"Active\":false}", Verdict::False),
-    ] {
-        let told = verdict(rt.alloc(), FIRST, row)?;
-        assert_eq!(rt; told, wanted, "at {row}");
+    for (row, wanted) in ROWS {
+        assert!(rt; comes_to(rt.alloc(), FIRST, row, wanted)?, "at {row}");
     }
     Ok(())
 }
+
+const ROW: &str = "{\"ID\":-7,\"Name\":\"O'Neil\",\"Active\":false}";
+
+/// Filters, and what each says of that row.
+const FILTERS: &[(&str, Outcome)] = &[
+    ("Name eq 'O''Neil'", Ok(Verdict::True)),
+    ("Name eq 'o''neil'", Ok(Verdict::False)),
+    ("ID eq -007", Ok(Verdict::True)),
+    ("-9223372036854775808 eq ID", Ok(Verdict::False)),
+    ("Active eq FALSE", Ok(Verdict::True)),
+    ("1 eq 1 eq true", Ok(Verdict::True)),
+    ("ID eq 7 eq Active and TRUE", Ok(Verdict::True)),
+];
 
 #[test]
 fn filters_of_one_row(rt: HostRuntime) -> Result<(), Fail> {
-    let row = "{\"ID\":-7,\"Name\":\"O'Neil\",\"Active\":false}";
-    for (filter, wanted) in [
-        ("Name eq 'O''Neil'", Verdict::True),
-        ("Name eq 'o''neil'", Verdict::False),
-        ("ID eq -007", Verdict::True),
-        ("-9223372036854775808 eq ID", Verdict::False),
-        ("Active eq FALSE", Verdict::True),
-        ("1 eq 1 eq true", Verdict::True),
-        ("ID eq 7 eq Active and TRUE", Verdict::True),
-    ] {
-        let told = verdict(rt.alloc(), filter, row)?;
-        assert_eq!(rt; told, wanted, "at {filter}");
+    for (filter, wanted) in FILTERS {
+        assert!(rt; comes_to(rt.alloc(), filter, ROW, wanted)?, "at {filter}");
     }
     Ok(())
 }
 
-/// `true` 1,819 times and one more operand, joined by ` and `: the last one decides.
+const GREATEST: &str = "{\"ID\":2147483647,\"Name\":\"a\",\"Active\":false}";
+
+/// Filters with nulls and faults, and what each comes to on that row.
+const NULLS_AND_FAULTS: &[(&str, Outcome)] = &[
+    ("null", Ok(Verdict::Null)),
+    ("not null", Ok(Verdict::Null)),
+    ("null or Active", Ok(Verdict::Null)),
+    ("null and Active", Ok(Verdict::False)),
+    ("null ge null", Ok(Verdict::True)),
+    ("null gt null", Ok(Verdict::False)),
+    ("$it eq null", Ok(Verdict::False)),
+    ("$it/Name ge 'a'", Ok(Verdict::True)),
+    ("- ID lt 0", Ok(Verdict::True)),
+    ("ID add null eq null", Ok(Verdict::True)),
+    ("ID add 1 gt 0", Err(EvalFault::Overflow)),
+    ("- (- ID sub 1) gt 0", Err(EvalFault::Overflow)),
+    ("ID div 0 gt 0", Err(EvalFault::DivideByZero)),
+    ("ID mod 0 gt 0", Err(EvalFault::DivideByZero)),
+    ("ID mod 0 gt ID add 1", Err(EvalFault::DivideByZero)),
+    ("ID add 1 gt ID mod 0", Err(EvalFault::Overflow)),
+    ("Active and ID add 1 gt 0", Ok(Verdict::False)),
+    ("not Active or ID add 1 gt 0", Ok(Verdict::True)),
+];
+
+#[test]
+fn nulls_and_faults(rt: HostRuntime) -> Result<(), Fail> {
+    for (filter, wanted) in NULLS_AND_FAULTS {
+        assert!(rt;
+            comes_to(rt.alloc(), filter, GREATEST, wanted)?,
+            "at {filter}"
+        );
+    }
+    Ok(())
+}
+
+/// The last operand of a chain, and what the chain comes to.
+const LAST: &[(&str, Outcome)] = &[("true", Ok(Verdict::True)), ("Active", Ok(Verdict::False))];
+
+/// Whether `true` 1,819 times and one more operand, joined by ` and `, come to that.
+fn chain_comes_to(alloc: Global, last: &str, wanted: &Outcome) -> Result<bool, Fail> {
+    let mut filter = "true and ".repeat(alloc, 1819)?;
+    filter.push_str(last)?;
+    let row = "{\"ID\":1,\"Name\":\"a\",\"Active\":false}";
+    comes_to(alloc, filter.as_str(), row, wanted)
+}
+
 #[test]
 fn long_chains(rt: HostRuntime) -> Result<(), Fail> {
-    for (last, wanted) in [("true", Verdict::True), ("Active", Verdict::False)] {
-        let mut filter = "true and ".repeat(rt.alloc(), 1819)?;
-        filter.push_str(last)?;
-        let row = "{\"ID\":1,\"Name\":\"a\",\"Active\":false}";
-        let told = verdict(rt.alloc(), filter.as_str(), row)?;
-        assert_eq!(rt; told, wanted, "at {last}");
+    for (last, wanted) in LAST {
+        assert!(rt; chain_comes_to(rt.alloc(), last, wanted)?, "at {last}");
     }
     Ok(())
 }

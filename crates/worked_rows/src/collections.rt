@@ -8,7 +8,7 @@ use std::alloc::{AllocError, Global};
 use std::test::Fail;
 
 /// A collection, what is written of it, the line that is told, and the status.
-const COLLECTIONS: [(&str, &str, &str, u8); 26] = [
+const COLLECTIONS: &[(&str, &str, &str, u8)] = &[
     ("{\"value\":[]}", "", "", 0),
     (" {\"value\" : [\n]}\r\n", "", "", 0),
     ("{\"value\":[A]}", "0\n", "", 0),
@@ -36,7 +36,12 @@ const COLLECTIONS: [(&str, &str, &str, u8); 26] = [
     ("{\"value\":[A]", "", "row NotACollection\n", 4),
     ("{\"value\":[A,]}", "", "row NotACollection\n", 4),
     ("\u{feff}{\"value\":[A]}", "", "row NotACollection\n", 4),
-    ("{\"value\":[A,B,A,null,A]}", "0\n2\n", "row 4 NotObject\n", 4),
+    (
+        "{\"value\":[A,B,A,null,A]}",
+        "0\n2\n",
+        "row 4 NotObject\n",
+        4,
+    ),
     ("{\"value\":[A,{},A]}", "0\n", "row 2 Missing Active\n", 4),
     (
         "{\"value\":[B,A,{\"ID\":1,\"Name\":\"a\",\"Active\":1}]}",
@@ -85,7 +90,7 @@ fn spelled(alloc: Global, short: &str) -> Result<String, AllocError> {
 
 #[test]
 fn collections(rt: HostRuntime) -> Result<(), Fail> {
-    for (short, out, line, status) in COLLECTIONS {
+    for &(short, out, line, status) in COLLECTIONS {
         let document = spelled(rt.alloc(), short)?;
         let told = run_of_collection(rt.alloc(), document.as_bytes());
         assert!(rt; told.is(out, line, status), "at {short}");
@@ -118,10 +123,13 @@ fn thirds(alloc: Global, count: usize) -> Result<(String, String), Fail> {
     Ok((document, places))
 }
 
+/// How many entities a collection has.
+const COUNTS: &[usize] = &[1, 2, 1_000, 40_000];
+
 /// What is written of the last is more than is held back at a time.
 #[test]
 fn collections_of_many(rt: HostRuntime) -> Result<(), Fail> {
-    for count in [1, 2, 1_000, 40_000] {
+    for &count in COUNTS {
         let (document, places) = thirds(rt.alloc(), count)?;
         let told = run_of_collection(rt.alloc(), document.as_bytes());
         assert!(rt; told.is(&places, "", 0), "at {count}");
@@ -134,7 +142,7 @@ fn collections_of_many(rt: HostRuntime) -> Result<(), Fail> {
 fn collections_in_pieces(rt: HostRuntime) -> Result<(), Fail> {
     let document = spelled(rt.alloc(), "{\"value\":[A,B,A]}")?;
     let plan = plan_of_collection(None);
-    for piece in PIECES {
+    for &piece in PIECES {
         let mut out = Vec::new(rt.alloc());
         let mut err = Vec::new(rt.alloc());
         let rows = Cut {
@@ -157,13 +165,16 @@ fn collections_in_pieces(rt: HostRuntime) -> Result<(), Fail> {
     Ok(())
 }
 
+/// The file, none for standard input, and the line that is told.
+const NOT_READ: &[(Option<&str>, &str)] = &[
+    (Some("answer.json"), "read answer.json\n"),
+    (None, "read rows 0\n"),
+];
+
 /// A file is told by its name, and standard input by a line that has not come.
 #[test]
 fn collections_that_are_not_read(rt: HostRuntime) {
-    for (rows, line) in [
-        (Some("answer.json"), "read answer.json\n"),
-        (None, "read rows 0\n"),
-    ] {
+    for &(rows, line) in NOT_READ {
         let mut out = Vec::new(rt.alloc());
         let mut err = Vec::new(rt.alloc());
         let plan = plan_of_collection(rows);

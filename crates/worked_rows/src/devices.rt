@@ -4,7 +4,7 @@ use std::io;
 use std::io::{Read, Write};
 
 /// How many bytes a reader gives at a time, at the most: few, or as many as it is asked for.
-pub const PIECES: [usize; 4] = [1, 2, 7, usize::MAX];
+pub const PIECES: &[usize] = &[1, 2, 7, usize::MAX];
 
 /// Gives what another reader gives, at most so many bytes at a time.
 #[derive(Drop)]

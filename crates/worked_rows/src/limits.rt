@@ -50,15 +50,22 @@ fn a_filter_has_at_most_4096_tokens(rt: HostRuntime) -> Result<(), Fail> {
     Ok(())
 }
 
+/// 1,048,576 blanks.
+fn longest_line(alloc: Global) -> Result<String, AllocError> {
+    repeated(alloc, "                ", 65_536)
+}
+
+/// A row, a line that is too long by one byte, and a row.
+fn with_a_line_too_long(alloc: Global) -> Result<String, AllocError> {
+    let blank = longest_line(alloc)?;
+    format!(in alloc; "{A}{blank} \n{A}")
+}
+
 #[test]
 fn a_line_has_at_most_1048576_bytes(rt: HostRuntime) -> Result<(), Fail> {
-    let blank = repeated(rt.alloc(), "                ", 65_536)?;
+    let blank = longest_line(rt.alloc())?;
     assert!(rt; run_of(rt.alloc(), FIRST, blank.as_bytes()).is("", "", 0));
-    let mut over = String::new(rt.alloc());
-    over.push_str(A)?;
-    over.push_str(blank.as_str())?;
-    over.push_str(" \n")?;
-    over.push_str(A)?;
+    let over = with_a_line_too_long(rt.alloc())?;
     assert!(rt; run_of(rt.alloc(), FIRST, over.as_bytes()).is(A, "row 2 LineTooLong\n", 4));
     let endless = A.as_bytes().chain(io::repeat(b' '));
     assert!(rt; run_of_reader(rt.alloc(), endless).is(A, "row 2 LineTooLong\n", 4));

@@ -38,21 +38,21 @@ fn has_lines<R: Read>(
     lines.held() <= MOST_HELD
 }
 
+/// A text, and its lines.
+const LINES: &[(&str, &[&str])] = &[
+    ("", &[]),
+    ("\n", &[""]),
+    ("\n\n\n", &["", "", ""]),
+    ("a", &["a"]),
+    ("a\n", &["a"]),
+    ("one\n\r\n\ntwo \nlast", &["one", "\r", "", "two ", "last"]),
+    ("\u{e9}\n{}\n\n", &["\u{e9}", "{}", ""]),
+];
+
 #[test]
 fn lines_however_they_come(rt: HostRuntime) {
-    for (text, wanted) in [
-        ("", [].as_slice()),
-        ("\n", [""].as_slice()),
-        ("\n\n\n", ["", "", ""].as_slice()),
-        ("a", ["a"].as_slice()),
-        ("a\n", ["a"].as_slice()),
-        (
-            "one\n\r\n\ntwo \nlast",
-            ["one", "\r", "", "two ", "last"].as_slice(),
-        ),
-        ("\u{e9}\n{}\n\n", ["\u{e9}", "{}", ""].as_slice()),
-    ] {
-        for piece in PIECES {
+    for &(text, wanted) in LINES {
+        for &piece in PIECES {
             let reader = Cut {
                 reader: text.as_bytes(),
                 piece,
@@ -67,14 +67,17 @@ fn lines_however_they_come(rt: HostRuntime) {
     }
 }
 
+/// What a reader does behind `third`, the lines that come, and what the calls behind them answer.
+const STUMBLES: &[(Stumble, &[&str], Result<(), LineFault>)] = &[
+    (Stumble::Fails, &["a", "b"], Err(LineFault::Read)),
+    (Stumble::Ends, &["a", "b", "third"], Ok(())),
+];
+
 /// The reader would go on behind its failure, and behind its end: no line is made of what it would give.
 #[test]
 fn nothing_comes_behind_a_failure_or_the_end(rt: HostRuntime) {
-    for (stumble, wanted, ending) in [
-        (Stumble::Fails, ["a", "b"].as_slice(), Err(LineFault::Read)),
-        (Stumble::Ends, ["a", "b", "third"].as_slice(), Ok(())),
-    ] {
-        for piece in PIECES {
+    for &(stumble, wanted, ending) in STUMBLES {
+        for &piece in PIECES {
             let stumbling = Stumbling {
                 stumble: Some(stumble),
             };
@@ -117,10 +120,16 @@ fn first_length(
     }
 }
 
+/// How many bytes come at a time, at the most.
+const LONG_PIECES: &[usize] = &[7, 1000, usize::MAX];
+
+/// What stands behind the blanks of a line.
+const ENDS: &[&str] = &["", "\n"];
+
 #[test]
 fn the_longest_line(rt: HostRuntime) {
-    for piece in [7, 1000, usize::MAX] {
-        for behind in ["", "\n"] {
+    for &piece in LONG_PIECES {
+        for &behind in ENDS {
             let longest = first_length(rt.alloc(), LONGEST, behind, piece);
             assert!(rt; longest == Ok(Some(LONGEST)), "{piece} bytes at a time");
             let over = first_length(rt.alloc(), LONGEST + 1, behind, piece);
@@ -132,7 +141,7 @@ fn the_longest_line(rt: HostRuntime) {
 /// A line without end is over-long once more of it came than a line may have, and no read comes behind that.
 #[test]
 fn a_line_without_end(rt: HostRuntime) {
-    for piece in PIECES {
+    for &piece in PIECES {
         let settled = Cell::new(0);
         let blanks = Cut {
             reader: io::repeat(b' '),
@@ -150,10 +159,13 @@ fn a_line_without_end(rt: HostRuntime) {
     }
 }
 
+/// So many bytes at a time, of so many lines.
+const LATE: &[(usize, usize)] = &[(1, 100), (2, 100), (7, 1000), (usize::MAX, 10_000)];
+
 /// A read comes only where no whole line is held, and asks for little.
 #[test]
 fn reads_are_late_and_small(rt: HostRuntime) -> Result<(), Fail> {
-    for (piece, count) in [(1, 100), (2, 100), (7, 1000), (usize::MAX, 10_000)] {
+    for &(piece, count) in LATE {
         let text = repeated(rt.alloc(), "a line of some bytes\n", count)?;
         let settled = Cell::new(0);
         let cut = Cut {

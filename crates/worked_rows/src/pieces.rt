@@ -8,28 +8,31 @@ use std::test::Fail;
 
 const A: &str = "{\"ID\":1,\"Name\":\"a\",\"Active\":true}\n";
 
+/// Rows, what is written of them, the line that is told, and the status.
+const ROWS: &[(&str, &str, &str, u8)] = &[
+    (
+        "{\"ID\":1,\"Name\":\"a\",\"Active\":true}\n{\"ID\":2147483648,\"Name\":\"a\",\"Active\":true}\n{\"ID\":1,\"Name\":\"a\",\"Active\":true}\n",
+        A,
+        "row 2 OutOfRange ID\n",
+        4,
+    ),
+    (
+        "\n \r\n{\"ID\":1,\"Name\":\"b\",\"Active\":true}\n{\"ID\":1,\"Name\":\"a\",\"Active\":true}",
+        A,
+        "",
+        0,
+    ),
+    ("{}", "", "row 1 Missing Active\n", 4),
+    ("{\"ID\":1", "", "row 1 Json\n", 4),
+    ("\n\n\n", "", "", 0),
+    ("", "", "", 0),
+];
+
 /// The answer does not depend on how the rows come.
 #[test]
 fn answers_however_rows_come(rt: HostRuntime) {
-    for (rows, out, line, status) in [
-        (
-            "{\"ID\":1,\"Name\":\"a\",\"Active\":true}\n{\"ID\":2147483648,\"Name\":\"a\",\"Active\":true}\n{\"ID\":1,\"Name\":\"a\",\"Active\":true}\n",
-            A,
-            "row 2 OutOfRange ID\n",
-            4,
-        ),
-        (
-            "\n \r\n{\"ID\":1,\"Name\":\"b\",\"Active\":true}\n{\"ID\":1,\"Name\":\"a\",\"Active\":true}",
-            A,
-            "",
-            0,
-        ),
-        ("{}", "", "row 1 Missing Active\n", 4),
-        ("{\"ID\":1", "", "row 1 Json\n", 4),
-        ("\n\n\n", "", "", 0),
-        ("", "", "", 0),
-    ] {
-        for piece in PIECES {
+    for &(rows, out, line, status) in ROWS {
+        for &piece in PIECES {
             let reader = Cut {
                 reader: rows.as_bytes(),
                 piece,
@@ -54,10 +57,13 @@ fn nothing_is_read_behind_a_faulty_line(rt: HostRuntime) {
     assert!(rt; left == b"{\"ID\":1,\"Name\":\"a\",\"Active\":true}\n\n".as_slice());
 }
 
+/// So many bytes at a time, of so many rows.
+const KEPT: &[(usize, usize)] = &[(1, 20), (2, 20), (7, 200), (usize::MAX, 4000)];
+
 /// What is kept of the lines that came is written before the next read, in one call, and flushed once at the end.
 #[test]
 fn kept_rows_are_written_before_the_next_read(rt: HostRuntime) -> Result<(), Fail> {
-    for (piece, count) in [(1, 20), (2, 20), (7, 200), (usize::MAX, 4000)] {
+    for &(piece, count) in KEPT {
         let rows = repeated(rt.alloc(), A, count)?;
         let written = Cell::new(0);
         let cut = Cut {

@@ -1,6 +1,7 @@
 //! Rows of a type with properties of every kind (OData JSON Format 4.01, section 7): which are kept, and the line that is
 //! told of the first fault.
 use crate::told::{outcome_of, plan_of};
+use std::alloc::{AllocError, Global};
 use std::test::Fail;
 
 const SHOP: &str =
@@ -12,7 +13,7 @@ const PRODUCT: &str =
 
 /// What is written behind the product's members, of which the last of a name counts, and the line that is told; none
 /// where the row is kept.
-const CHANGED: [(&str, &str); 15] = [
+const CHANGED: &[(&str, &str)] = &[
     ("", ""),
     (",\"Color\":\"8\"", ""),
     (",\"Home\":null", ""),
@@ -33,69 +34,82 @@ const CHANGED: [(&str, &str); 15] = [
     (",\"Tags\":[\"a\",1]", "row 1 WrongKind Tags/1\n"),
 ];
 
+/// Whether a run ends with that line and status, or keeps the row where there is none.
+fn is_told(
+    alloc: Global,
+    filter: &str,
+    members: &str,
+    line: &str,
+    failed: u8,
+) -> Result<bool, AllocError> {
+    let row = format!(in alloc; "{PRODUCT}{members}}}\n")?;
+    let (out, status) = if line.is_empty() {
+        (row.as_str(), 0)
+    } else {
+        ("", failed)
+    };
+    let plan = plan_of("S.Product", filter);
+    let told = outcome_of(alloc, SHOP, &plan, Some(row.as_bytes()));
+    Ok(told.is(out, line, status))
+}
+
 #[test]
 fn changed_products(rt: HostRuntime) -> Result<(), Fail> {
-    let plan = plan_of("S.Product", "ID eq 1");
-    let product = PRODUCT;
-    for (members, line) in CHANGED {
-        let row = format!(in rt.alloc(); "{product}{members}}}\n")?;
-        let (out, status) = if line.is_empty() {
-            (row.as_str(), 0)
-        } else {
-            ("", 4)
-        };
-        let told = outcome_of(rt.alloc(), SHOP, &plan, Some(row.as_bytes()));
-        assert!(rt; told.is(out, line, status), "at {members}");
+    for &(members, line) in CHANGED {
+        assert!(rt;
+            is_told(rt.alloc(), "ID eq 1", members, line, 4)?,
+            "at {members}"
+        );
     }
     Ok(())
 }
 
+/// Rows that are no products, with the line that is told.
+const ANOTHER_KIND: &[(&str, &str)] = &[
+    ("{}", "row 1 Missing Changed\n"),
+    ("[]", "row 1 NotObject\n"),
+    ("null", "row 1 NotObject\n"),
+];
+
 #[test]
 fn rows_of_another_kind(rt: HostRuntime) {
     let plan = plan_of("Shop.Product", "ID eq 1");
-    for (row, line) in [
-        ("{}", "row 1 Missing Changed\n"),
-        ("[]", "row 1 NotObject\n"),
-        ("null", "row 1 NotObject\n"),
-    ] {
+    for &(row, line) in ANOTHER_KIND {
         let told = outcome_of(rt.alloc(), SHOP, &plan, Some(row.as_bytes()));
         assert!(rt; told.is("", line, 4), "at {row}");
     }
 }
 
-/// Filters that name what they may, and what they may not yet.
+/// Filters that name what they may, and what they may not, with the line that is told of these.
+const FILTERS: &[(&str, &str)] = &[
+    ("Name eq 'O''Neil'", ""),
+    ("ID eq 1 and Name eq 'O''Neil'", ""),
+    ("Price eq 1", "refused TypeLeftOut 0..5\n"),
+    ("ID eq 1 and Rating eq 3", ""),
+    ("Home/City eq 'Oslo'", ""),
+    ("ID eq 1 and Price eq 3", "refused TypeLeftOut 12..17\n"),
+    ("Tags eq 'a'", "refused OperandTypes 0..11\n"),
+];
+
 #[test]
 fn filters_of_products(rt: HostRuntime) -> Result<(), Fail> {
-    let product = PRODUCT;
-    let row = format!(in rt.alloc(); "{product}}}\n")?;
-    for (filter, line) in [
-        ("Name eq 'O''Neil'", ""),
-        ("ID eq 1 and Name eq 'O''Neil'", ""),
-        ("Price eq 1", "refused TypeLeftOut 0..5\n"),
-        ("ID eq 1 and Rating eq 3", "refused TypeLeftOut 12..18\n"),
-        ("Tags eq 'a'", "refused TypeLeftOut 0..4\n"),
-    ] {
-        let (out, status) = if line.is_empty() {
-            (row.as_str(), 0)
-        } else {
-            ("", 1)
-        };
-        let plan = plan_of("Shop.Product", filter);
-        let told = outcome_of(rt.alloc(), SHOP, &plan, Some(row.as_bytes()));
-        assert!(rt; told.is(out, line, status), "at {filter}");
+    for &(filter, line) in FILTERS {
+        assert!(rt; is_told(rt.alloc(), filter, "", line, 1)?, "at {filter}");
     }
     Ok(())
 }
 
+/// Names that are of no entity type, with the line that is told.
+const OTHER_TYPES: &[(&str, &str)] = &[
+    ("Shop.Line", "schema UnknownType Shop.Line\n"),
+    ("S.Color", "schema UnknownType S.Color\n"),
+    ("Shop.Colors", "schema UnknownType Shop.Colors\n"),
+];
+
 #[test]
 fn types_that_are_not_filtered(rt: HostRuntime) {
-    for named in ["Shop.Line", "S.Color", "Shop.Colors"] {
+    for &(named, line) in OTHER_TYPES {
         let plan = plan_of(named, "ID eq 1");
-        let line = match named {
-            "Shop.Line" => "schema UnknownType Shop.Line\n",
-            "S.Color" => "schema UnknownType S.Color\n",
-            _ => "schema UnknownType Shop.Colors\n",
-        };
         let told = outcome_of(rt.alloc(), SHOP, &plan, Some("".as_bytes()));
         assert!(rt; told.is("", line, 3), "at {named}");
     }

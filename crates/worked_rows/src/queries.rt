@@ -16,15 +16,18 @@ fn run_by_query(alloc: Global, query: &str) -> Told {
     outcome_of(alloc, SCHEMA, &plan, Some(rows))
 }
 
+/// A query, and what its filter keeps.
+const FILTERS: &[(&str, &str)] = &[
+    ("$filter=Active", A),
+    ("%24FILTER=Active", A),
+    ("filter=ID%20eq%202", B),
+    ("x=1&$Filter=Name%20eq%20'a%2Bb%26c'", A),
+    ("&&filter=Name%20eq%20'a+b%26c'&skiptoken=%C3%A9", A),
+];
+
 #[test]
 fn the_filter_of_a_query(rt: HostRuntime) {
-    for (query, out) in [
-        ("$filter=Active", A),
-        ("%24FILTER=Active", A),
-        ("filter=ID%20eq%202", B),
-        ("x=1&$Filter=Name%20eq%20'a%2Bb%26c'", A),
-        ("&&filter=Name%20eq%20'a+b%26c'&skiptoken=%C3%A9", A),
-    ] {
+    for &(query, out) in FILTERS {
         assert!(rt;
             run_by_query(rt.alloc(), query).is(out, "", 0),
             "at {query}"
@@ -32,22 +35,25 @@ fn the_filter_of_a_query(rt: HostRuntime) {
     }
 }
 
+/// A query, and the line of its refusal.
+const REFUSED: &[(&str, &str)] = &[
+    ("$filter=Name%2", "refused query BadEscape 12\n"),
+    ("x=%zz", "refused query BadEscape 2\n"),
+    ("x=%FF", "refused query NotUtf8 0\n"),
+    (
+        "$filter=Active&$FILTER=Active",
+        "refused query Repeated 1\n",
+    ),
+    ("$top=5&$filter=Active", "refused query OtherOption 0\n"),
+    ("a=1&Skip=1", "refused query OtherOption 1\n"),
+    ("&&filter=", "refused Unexpected 0..0\n"),
+    ("filter=ID+eq+1", "refused BadCharacter 2..3\n"),
+    ("%24FILTER=Active=1", "refused BadCharacter 6..7\n"),
+];
+
 #[test]
 fn refused_queries(rt: HostRuntime) {
-    for (query, line) in [
-        ("$filter=Name%2", "refused query BadEscape 12\n"),
-        ("x=%zz", "refused query BadEscape 2\n"),
-        ("x=%FF", "refused query NotUtf8 0\n"),
-        (
-            "$filter=Active&$FILTER=Active",
-            "refused query Repeated 1\n",
-        ),
-        ("$top=5&$filter=Active", "refused query OtherOption 0\n"),
-        ("a=1&Skip=1", "refused query OtherOption 1\n"),
-        ("&&filter=", "refused Unexpected 0..0\n"),
-        ("filter=ID+eq+1", "refused BadCharacter 2..3\n"),
-        ("%24FILTER=Active=1", "refused BadCharacter 6..7\n"),
-    ] {
+    for &(query, line) in REFUSED {
         assert!(rt;
             run_by_query(rt.alloc(), query).is("", line, 1),
             "at {query}"
@@ -55,9 +61,12 @@ fn refused_queries(rt: HostRuntime) {
     }
 }
 
+/// Queries that ask for no filter.
+const WITHOUT_FILTER: &[&str] = &["", "x=1", "&&", "deltatoken=1&id=$filter"];
+
 #[test]
 fn queries_without_a_filter(rt: HostRuntime) {
-    for query in ["", "x=1", "&&", "deltatoken=1&id=$filter"] {
+    for &query in WITHOUT_FILTER {
         assert!(rt;
             run_by_query(rt.alloc(), query).is("", "usage no filter option\n", 2),
             "at {query}"

@@ -35,22 +35,25 @@ fn run_of_failing(alloc: Global, text: &[u8], piece: usize) -> Told {
 fn complete_lines_are_judged_before_a_failed_read(rt: HostRuntime) {
     let text =
         b"{\"ID\":1,\"Name\":\"a\",\"Active\":true}\n{\"ID\":1,\"Name\":\"b\",\"Active\":true}\n{\"ID\":1,";
-    for piece in PIECES {
+    for &piece in PIECES {
         assert!(rt; run_of_failing(rt.alloc(), text, piece).is(A, "read rows 3\n", 5));
     }
 }
 
+/// What comes behind a kept row and before the failure, the line that is told, and the status.
+const BEHIND: &[(&str, &str, u8)] = &[
+    ("{\n{", "row 2 Json\n", 4),
+    ("{}\n{", "row 2 Missing Active\n", 4),
+    ("{}\n", "row 2 Missing Active\n", 4),
+    ("\n[]\n{}\n", "row 3 NotObject\n", 4),
+    ("{}", "read rows 2\n", 5),
+    ("\n", "read rows 3\n", 5),
+];
+
 /// A fault of a complete line goes before the failed read; a line that is not complete is not judged.
 #[test]
 fn a_faulty_line_goes_before_a_failed_read(rt: HostRuntime) {
-    for (behind, line, status) in [
-        ("{\n{", "row 2 Json\n", 4),
-        ("{}\n{", "row 2 Missing Active\n", 4),
-        ("{}\n", "row 2 Missing Active\n", 4),
-        ("\n[]\n{}\n", "row 3 NotObject\n", 4),
-        ("{}", "read rows 2\n", 5),
-        ("\n", "read rows 3\n", 5),
-    ] {
+    for &(behind, line, status) in BEHIND {
         let mut text = Vec::new(rt.alloc());
         assert!(rt; text.extend_from_slice(A.as_bytes()).is_ok());
         assert!(rt; text.extend_from_slice(behind.as_bytes()).is_ok());
@@ -70,23 +73,26 @@ fn run_of_interrupted<'a>(alloc: Global, first: &[u8], behind: &'a [u8]) -> (Tol
     (told, left)
 }
 
+/// What comes before the failure, what would come behind it, what is written, the line that is told, and the status.
+const INTERRUPTED: &[(&str, &str, &str, &str, u8)] = &[
+    ("", A, "", "read rows 1\n", 5),
+    (A, A, A, "read rows 2\n", 5),
+    ("{}", "\n", "", "read rows 1\n", 5),
+    (
+        "{\"ID\":1,\"Name\":\"a\"",
+        ",\"Active\":true}\n",
+        "",
+        "read rows 1\n",
+        5,
+    ),
+    ("\n\n", A, "", "read rows 3\n", 5),
+    ("{\n", A, "", "row 1 Json\n", 4),
+];
+
 /// A failed read is not tried again: what the reader would give behind it is not read.
 #[test]
 fn nothing_is_read_behind_a_failed_read(rt: HostRuntime) {
-    for (first, behind, out, line, status) in [
-        ("", A, "", "read rows 1\n", 5),
-        (A, A, A, "read rows 2\n", 5),
-        ("{}", "\n", "", "read rows 1\n", 5),
-        (
-            "{\"ID\":1,\"Name\":\"a\"",
-            ",\"Active\":true}\n",
-            "",
-            "read rows 1\n",
-            5,
-        ),
-        ("\n\n", A, "", "read rows 3\n", 5),
-        ("{\n", A, "", "row 1 Json\n", 4),
-    ] {
+    for &(first, behind, out, line, status) in INTERRUPTED {
         let (told, left) = run_of_interrupted(rt.alloc(), first.as_bytes(), behind.as_bytes());
         assert!(rt; told.is(out, line, status), "behind {first}");
         assert!(rt; left == behind.as_bytes(), "behind {first}");

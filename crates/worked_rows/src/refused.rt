@@ -9,7 +9,7 @@ use edm_values::{Moment, Value};
 use jiff::civil;
 use odata_eval::{Verdict, evaluate};
 use odata_filter::{RunFault, Tally, filter_collection, filter_lines};
-use odata_typing::{Checked, Refusal, TypeFaultCode, check};
+use odata_typing::{Checked, Refusal, TypeFault, TypeFaultCode, check};
 use std::alloc::{AllocError, Global};
 use std::io;
 use std::io::Read;
@@ -21,7 +21,8 @@ const SCHEMA: &str =
 const FAULTY_SCHEMA: &str =
     "{\"$Version\":\"4.01\",\"N\":{\"T\":{\"$Kind\":\"EntityType\",\"Name\":{\"$Type\":7}}}}";
 
-const FILTER: &str = "On and Name eq 'a'";
+/// It has a node of each form that has types.
+const FILTER: &str = "On and not (- 1 gt 2) and $it/Name eq 'a'";
 
 const KEPT: &str = "{\"Name\":\"a\",\"On\":true}\n";
 
@@ -80,70 +81,101 @@ fn entity_of<'s>(
     }
 }
 
-#[test]
-fn schemas(rt: HostRuntime) -> Result<(), Fail> {
-    let is_refused = match Schema::read(rt.alloc(), SCHEMA.as_bytes()) {
+/// Whether a document was refused memory; otherwise its schema is read.
+fn schema_is_refused(alloc: Global) -> Result<bool, Fail> {
+    match Schema::read(alloc, SCHEMA.as_bytes()) {
         Ok(schema) => {
             let id = schema.type_named("N.T").ok_or("the type")?;
-            assert!(rt; schema.slot(id, "Name") == Some(0) && schema.slot(id, "On") == Some(1));
-            false
+            if schema.slot(id, "Name") == Some(0) && schema.slot(id, "On") == Some(1) {
+                Ok(false)
+            } else {
+                Err(Fail::from("other slots"))
+            }
         }
-        Err(fault) => {
-            assert!(rt; matches!(fault, SchemaFault::Memory));
-            true
-        }
-    };
+        Err(SchemaFault::Memory) => Ok(true),
+        Err(_) => Err(Fail::from("another fault")),
+    }
+}
+
+#[test]
+fn schemas(rt: HostRuntime) -> Result<(), Fail> {
+    let is_refused = schema_is_refused(rt.alloc())?;
     println!(rt; "schema_read {}", told(is_refused))?;
     Ok(())
 }
 
+/// Whether a faulty document was refused memory; otherwise its fault is told.
+fn faulty_schema_is_refused(alloc: Global) -> Result<bool, Fail> {
+    match Schema::read(alloc, FAULTY_SCHEMA.as_bytes()) {
+        Err(SchemaFault::Memory) => Ok(true),
+        Err(SchemaFault::BadProperty { owner, name }) => {
+            if owner.as_str() == "N.T" && name.as_str() == "Name" {
+                Ok(false)
+            } else {
+                Err(Fail::from("other names"))
+            }
+        }
+        _ => Err(Fail::from("another answer")),
+    }
+}
+
 #[test]
 fn faulty_schemas(rt: HostRuntime) -> Result<(), Fail> {
-    let is_refused = match Schema::read(rt.alloc(), FAULTY_SCHEMA.as_bytes()) {
-        Err(SchemaFault::Memory) => true,
-        Err(SchemaFault::BadProperty { owner, name }) => {
-            assert!(rt; owner.as_str() == "N.T" && name.as_str() == "Name");
-            false
-        }
-        _ => return Err("another answer")?,
-    };
+    let is_refused = faulty_schema_is_refused(rt.alloc())?;
     println!(rt; "schema_read_of_fault {}", told(is_refused))?;
     Ok(())
 }
 
+/// Whether a filter was refused memory; otherwise it has all its nodes.
+fn filter_is_refused(alloc: Global) -> Result<bool, Fail> {
+    let schema = schema_of(alloc)?;
+    let id = schema.type_named("N.T").ok_or("the type")?;
+    if !schema.holds(id) {
+        return Err(Fail::from("no type"));
+    }
+    match check(alloc, &schema, id, FILTER) {
+        Ok(checked) => {
+            if checked.node_count() == 12 {
+                Ok(false)
+            } else {
+                Err(Fail::from("other nodes"))
+            }
+        }
+        Err(Refusal::Memory) => Ok(true),
+        Err(_) => Err(Fail::from("another refusal")),
+    }
+}
+
 #[test]
 fn filters(rt: HostRuntime) -> Result<(), Fail> {
-    let schema = schema_of(rt.alloc())?;
-    let id = schema.type_named("N.T").ok_or("the type")?;
-    assert!(rt; schema.holds(id));
-    let is_refused = match check(rt.alloc(), &schema, id, FILTER) {
-        Ok(checked) => {
-            assert_eq!(rt; checked.node_count(), 5);
-            false
-        }
-        Err(refusal) => {
-            assert!(rt; refusal == Refusal::Memory);
-            true
-        }
-    };
+    let is_refused = filter_is_refused(rt.alloc())?;
     println!(rt; "check {}", told(is_refused))?;
     Ok(())
 }
 
+/// Whether an untypable filter was refused memory; otherwise its fault is told.
+fn untypable_filter_is_refused(alloc: Global) -> Result<bool, Fail> {
+    let schema = schema_of(alloc)?;
+    let id = schema.type_named("N.T").ok_or("the type")?;
+    if !schema.holds(id) {
+        return Err(Fail::from("no type"));
+    }
+    match check(alloc, &schema, id, "On and Name") {
+        Err(Refusal::Memory) => Ok(true),
+        Err(Refusal::Typing(TypeFault { code, span })) => {
+            if code == TypeFaultCode::OperandTypes && span.start == 0 && span.stop == 11 {
+                Ok(false)
+            } else {
+                Err(Fail::from("another fault"))
+            }
+        }
+        _ => Err(Fail::from("another answer")),
+    }
+}
+
 #[test]
 fn untypable_filters(rt: HostRuntime) -> Result<(), Fail> {
-    let schema = schema_of(rt.alloc())?;
-    let id = schema.type_named("N.T").ok_or("the type")?;
-    assert!(rt; schema.holds(id));
-    let is_refused = match check(rt.alloc(), &schema, id, "On and Name") {
-        Err(Refusal::Memory) => true,
-        Err(Refusal::Typing(fault)) => {
-            assert!(rt; fault.code == TypeFaultCode::OperandTypes);
-            assert!(rt; fault.span.start == 0 && fault.span.stop == 11);
-            false
-        }
-        _ => return Err("another answer")?,
-    };
+    let is_refused = untypable_filter_is_refused(rt.alloc())?;
     println!(rt; "check_of_fault {}", told(is_refused))?;
     Ok(())
 }
@@ -158,54 +190,84 @@ fn is_kept_row(value: &Value) -> bool {
     }
 }
 
+/// Whether a row was refused memory; otherwise its values are there.
+fn row_is_refused(alloc: Global) -> Result<bool, Fail> {
+    let schema = schema_of(alloc)?;
+    let id = schema.type_named("N.T").ok_or("the type")?;
+    if !schema.holds(id) {
+        return Err(Fail::from("no type"));
+    }
+    let row = json_of(alloc, KEPT)?;
+    match Entity::from_json(alloc, &schema, id, &row) {
+        Ok(entity) => {
+            if is_kept_row(entity.value()) {
+                Ok(false)
+            } else {
+                Err(Fail::from("other values"))
+            }
+        }
+        Err(RowFault::Memory) => Ok(true),
+        Err(_) => Err(Fail::from("another fault")),
+    }
+}
+
 #[test]
 fn entities(rt: HostRuntime) -> Result<(), Fail> {
-    let schema = schema_of(rt.alloc())?;
-    let id = schema.type_named("N.T").ok_or("the type")?;
-    assert!(rt; schema.holds(id));
-    let row = json_of(rt.alloc(), KEPT)?;
-    let is_refused = match Entity::from_json(rt.alloc(), &schema, id, &row) {
-        Ok(entity) => {
-            assert!(rt; is_kept_row(entity.value()));
-            false
-        }
-        Err(fault) => {
-            assert!(rt; matches!(fault, RowFault::Memory));
-            true
-        }
-    };
+    let is_refused = row_is_refused(rt.alloc())?;
     println!(rt; "from_json {}", told(is_refused))?;
     Ok(())
 }
 
+/// Whether a faulty row was refused memory; otherwise its fault is told.
+fn faulty_row_is_refused(alloc: Global) -> Result<bool, Fail> {
+    let schema = schema_of(alloc)?;
+    let id = schema.type_named("N.T").ok_or("the type")?;
+    if !schema.holds(id) {
+        return Err(Fail::from("no type"));
+    }
+    let row = json_of(alloc, "{\"Name\":\"a\"}")?;
+    match Entity::from_json(alloc, &schema, id, &row) {
+        Err(RowFault::Memory) => Ok(true),
+        Err(RowFault::Missing { path }) => {
+            if path.as_str() == "On" {
+                Ok(false)
+            } else {
+                Err(Fail::from("another path"))
+            }
+        }
+        _ => Err(Fail::from("another answer")),
+    }
+}
+
 #[test]
 fn faulty_rows(rt: HostRuntime) -> Result<(), Fail> {
-    let schema = schema_of(rt.alloc())?;
-    let id = schema.type_named("N.T").ok_or("the type")?;
-    assert!(rt; schema.holds(id));
-    let row = json_of(rt.alloc(), "{\"Name\":\"a\"}")?;
-    let is_refused = match Entity::from_json(rt.alloc(), &schema, id, &row) {
-        Err(RowFault::Memory) => true,
-        Err(RowFault::Missing { path }) => {
-            assert!(rt; path.as_str() == "On");
-            false
-        }
-        _ => return Err("another answer")?,
-    };
+    let is_refused = faulty_row_is_refused(rt.alloc())?;
     println!(rt; "from_json_of_fault {}", told(is_refused))?;
     Ok(())
 }
 
+/// The beginning of the year 1 by UTC.
+fn moment() -> Result<Moment, Fail> {
+    let moment = Moment::new(civil::date(1, 1, 1).at(0, 0, 0, 0), 0).ok_or("a moment")?;
+    Ok(moment)
+}
+
+/// What the filter says of the kept row.
+fn verdict_of(alloc: Global) -> Result<Verdict, Fail> {
+    let schema = schema_of(alloc)?;
+    let id = schema.type_named("N.T").ok_or("the type")?;
+    if !schema.holds(id) {
+        return Err(Fail::from("no type"));
+    }
+    let checked = filter_of(alloc, &schema, id)?;
+    let row = json_of(alloc, KEPT)?;
+    let entity = entity_of(alloc, &schema, id, &row)?;
+    Ok(evaluate(alloc, &checked, &entity, &moment()?)?)
+}
+
 #[test]
 fn verdicts(rt: HostRuntime) -> Result<(), Fail> {
-    let schema = schema_of(rt.alloc())?;
-    let id = schema.type_named("N.T").ok_or("the type")?;
-    assert!(rt; schema.holds(id));
-    let checked = filter_of(rt.alloc(), &schema, id)?;
-    let moment = Moment::new(civil::date(1, 1, 1).at(0, 0, 0, 0), 0).ok_or("a moment")?;
-    let row = json_of(rt.alloc(), KEPT)?;
-    let entity = entity_of(rt.alloc(), &schema, id, &row)?;
-    let verdict = evaluate(rt.alloc(), &checked, &entity, &moment)?;
+    let verdict = verdict_of(rt.alloc())?;
     assert!(rt; verdict == Verdict::True);
     println!(rt; "evaluate ample")?;
     Ok(())
@@ -228,65 +290,59 @@ fn room(alloc: Global) -> Result<Vec<u8>, AllocError> {
     }
 }
 
-/// The fourth line is so long that the buffer of what is read grows a second time.
-#[test]
-fn lines(rt: HostRuntime) -> Result<(), Fail> {
-    let schema = schema_of(rt.alloc())?;
-    let id = schema.type_named("N.T").ok_or("the type")?;
-    assert!(rt; schema.holds(id));
-    let checked = filter_of(rt.alloc(), &schema, id)?;
-    let moment = Moment::new(civil::date(1, 1, 1).at(0, 0, 0, 0), 0).ok_or("a moment")?;
-    let mut out = room(rt.alloc())?;
+/// Whether the run over three rows and a blank line was refused memory, with what was written by then; otherwise it
+/// ended.
+fn lines_are_refused(alloc: Global, checked: &Checked<'_>) -> Result<bool, Fail> {
+    let mut out = room(alloc)?;
     let blank = io::repeat(b' ').take(65_536);
     let rows = THREE.as_bytes().chain(blank).chain(BEHIND.as_bytes());
-    let is_refused = match filter_lines(rt.alloc(), &checked, &moment, rows, &mut out) {
+    match filter_lines(alloc, checked, &moment()?, rows, &mut out) {
         Ok(tally) => {
-            assert!(rt; tally == Tally { rows: 4, kept: 3 });
-            assert!(rt; out.as_slice() == KEPT_THRICE.as_bytes());
-            false
+            if tally == (Tally { rows: 4, kept: 3 }) && out.as_slice() == KEPT_THRICE.as_bytes() {
+                Ok(false)
+            } else {
+                Err(Fail::from("other rows"))
+            }
         }
         Err(RunFault::Memory { line }) => {
-            assert!(rt;
-                out.as_slice() == written_before(line).as_bytes(),
-                "at {line}"
-            );
-            true
+            if out.as_slice() == written_before(line).as_bytes() {
+                Ok(true)
+            } else {
+                Err(Fail::from("other rows before the refusal"))
+            }
         }
-        _ => return Err("another answer")?,
-    };
-    println!(rt; "filter_lines {}", told(is_refused))?;
-    Ok(())
+        _ => Err(Fail::from("another answer")),
+    }
 }
 
-/// The rows run on behind the faulty line, longer than the buffer of what is read: the line is judged before that grows.
-#[test]
-fn faulty_lines(rt: HostRuntime) -> Result<(), Fail> {
-    let schema = schema_of(rt.alloc())?;
-    let id = schema.type_named("N.T").ok_or("the type")?;
-    assert!(rt; schema.holds(id));
-    let checked = filter_of(rt.alloc(), &schema, id)?;
-    let moment = Moment::new(civil::date(1, 1, 1).at(0, 0, 0, 0), 0).ok_or("a moment")?;
-    let mut out = room(rt.alloc())?;
+/// Whether the run over rows with a faulty one was refused memory, with what was written by then; otherwise the fault
+/// is told.
+fn faulty_lines_are_refused(alloc: Global, checked: &Checked<'_>) -> Result<bool, Fail> {
+    let mut out = room(alloc)?;
     let blank = io::repeat(b' ').take(65_536);
     let rows = THREE.as_bytes().chain(b"{}\n".as_slice()).chain(blank);
-    let is_refused = match filter_lines(rt.alloc(), &checked, &moment, rows, &mut out) {
+    match filter_lines(alloc, checked, &moment()?, rows, &mut out) {
         Err(RunFault::Memory { line }) => {
-            assert!(rt;
-                line <= 4 && out.as_slice() == written_before(line).as_bytes(),
-                "at {line}"
-            );
-            true
+            if line <= 4 && out.as_slice() == written_before(line).as_bytes() {
+                Ok(true)
+            } else {
+                Err(Fail::from("other rows before the refusal"))
+            }
         }
-        Err(RunFault::Row { line, fault }) => {
-            assert_eq!(rt; line, 4);
-            assert!(rt; matches!(fault, RowFault::Missing { .. }));
-            assert!(rt; out.as_slice() == KEPT_TWICE.as_bytes());
-            false
+        Err(
+            RunFault::Row {
+                line: 4,
+                fault: RowFault::Missing { .. },
+            },
+        ) => {
+            if out.as_slice() == KEPT_TWICE.as_bytes() {
+                Ok(false)
+            } else {
+                Err(Fail::from("other rows before the fault"))
+            }
         }
-        _ => return Err("another answer")?,
-    };
-    println!(rt; "filter_lines_of_fault {}", told(is_refused))?;
-    Ok(())
+        _ => Err(Fail::from("another answer")),
+    }
 }
 
 /// The first and the third entity are kept.
@@ -302,30 +358,70 @@ fn places_before(line: u64) -> &'static str {
     }
 }
 
-#[test]
-fn collections(rt: HostRuntime) -> Result<(), Fail> {
-    let schema = schema_of(rt.alloc())?;
-    let id = schema.type_named("N.T").ok_or("the type")?;
-    assert!(rt; schema.holds(id));
-    let checked = filter_of(rt.alloc(), &schema, id)?;
-    let moment = Moment::new(civil::date(1, 1, 1).at(0, 0, 0, 0), 0).ok_or("a moment")?;
-    let mut out = room(rt.alloc())?;
-    let document = COLLECTION.as_bytes();
-    let is_refused = match filter_collection(rt.alloc(), &checked, &moment, document, &mut out) {
+/// Whether the collection was refused memory, with what was written by then; otherwise the places are written.
+fn collection_is_refused(alloc: Global, checked: &Checked<'_>) -> Result<bool, Fail> {
+    let mut out = room(alloc)?;
+    match filter_collection(alloc, checked, &moment()?, COLLECTION.as_bytes(), &mut out) {
         Ok(tally) => {
-            assert!(rt; tally == Tally { rows: 3, kept: 2 });
-            assert!(rt; out.as_slice() == "0\n2\n".as_bytes());
-            false
+            if tally == (Tally { rows: 3, kept: 2 }) && out.as_slice() == "0\n2\n".as_bytes() {
+                Ok(false)
+            } else {
+                Err(Fail::from("other places"))
+            }
         }
         Err(RunFault::Memory { line }) => {
-            assert!(rt;
-                out.as_slice() == places_before(line).as_bytes(),
-                "at {line}"
-            );
-            true
+            if out.as_slice() == places_before(line).as_bytes() {
+                Ok(true)
+            } else {
+                Err(Fail::from("other places before the refusal"))
+            }
         }
-        _ => return Err("another answer")?,
-    };
+        _ => Err(Fail::from("another answer")),
+    }
+}
+
+/// What is asked of the filter.
+#[derive(Clone, Copy)]
+enum Run {
+    Lines,
+    FaultyLines,
+    Collection,
+}
+
+/// Whether this was refused memory.
+fn run_is_refused(alloc: Global, run: Run) -> Result<bool, Fail> {
+    let schema = schema_of(alloc)?;
+    let id = schema.type_named("N.T").ok_or("the type")?;
+    if !schema.holds(id) {
+        return Err(Fail::from("no type"));
+    }
+    let checked = filter_of(alloc, &schema, id)?;
+    match run {
+        Run::Lines => lines_are_refused(alloc, &checked),
+        Run::FaultyLines => faulty_lines_are_refused(alloc, &checked),
+        Run::Collection => collection_is_refused(alloc, &checked),
+    }
+}
+
+/// The fourth line is so long that the buffer of what is read grows a second time.
+#[test]
+fn lines(rt: HostRuntime) -> Result<(), Fail> {
+    let is_refused = run_is_refused(rt.alloc(), Run::Lines)?;
+    println!(rt; "filter_lines {}", told(is_refused))?;
+    Ok(())
+}
+
+/// The rows run on behind the faulty line, longer than the buffer of what is read: the line is judged before that grows.
+#[test]
+fn faulty_lines(rt: HostRuntime) -> Result<(), Fail> {
+    let is_refused = run_is_refused(rt.alloc(), Run::FaultyLines)?;
+    println!(rt; "filter_lines_of_fault {}", told(is_refused))?;
+    Ok(())
+}
+
+#[test]
+fn collections(rt: HostRuntime) -> Result<(), Fail> {
+    let is_refused = run_is_refused(rt.alloc(), Run::Collection)?;
     println!(rt; "filter_collection {}", told(is_refused))?;
     Ok(())
 }

@@ -20,126 +20,128 @@ fn a_doubled_quote_is_one(rt: HostRuntime) {
     assert!(rt; run_of(rt.alloc(), "Name eq 'O''Neil'", row.as_bytes()).is(row, "", 0));
 }
 
+/// Filters that are refused, with the line that is told.
+const REFUSED: &[(&str, &str)] = &[
+    ("Name eq 'abc", "refused UnclosedString 8..12\n"),
+    ("Name eq", "refused Unexpected 7..7\n"),
+    ("Name eq ", "refused Unexpected 8..8\n"),
+    ("", "refused Unexpected 0..0\n"),
+    ("1eq 1", "refused RunOn 0..3\n"),
+    ("1\u{e9}", "refused RunOn 0..3\n"),
+    ("1\u{20ac}", "refused BadCharacter 1..4\n"),
+    ("-", "refused Unexpected 1..1\n"),
+    ("(Active", "refused Unexpected 7..7\n"),
+    ("$top", "refused Unexpected 0..4\n"),
+    ("$it", "refused NotBoolean 0..3\n"),
+    ("Name eq N.Color'Red'", "refused UnknownEnum 8..20\n"),
+    ("Name eq tolower(Name)", "refused UnknownFunction 8..21\n"),
+    ("Name eq duration'PT1S'", "refused LeftOutLiteral 8..22\n"),
+    ("Price gt 1.5", "refused LeftOutLiteral 9..12\n"),
+    ("2020-01-01 eq 1", "refused OperandTypes 0..15\n"),
+    ("2020-01-011 eq 1", "refused RunOn 0..11\n"),
+    ("Na.me eq 1", "refused UnknownProperty 0..5\n"),
+    ("Name", "refused NotBoolean 0..4\n"),
+    ("Foo eq Bar", "refused UnknownProperty 0..3\n"),
+    ("Active and ID", "refused OperandTypes 0..13\n"),
+    ("ID eq 'a'", "refused OperandTypes 0..9\n"),
+    ("ID eq 9223372036854775808", "refused LiteralRange 6..25\n"),
+    ("Foo", "refused UnknownProperty 0..3\n"),
+    ("ID eq 'x' and Foo", "refused OperandTypes 0..9\n"),
+    ("not ID eq 3", "refused OperandTypes 0..6\n"),
+    ("length(Name) eq 1", "refused UnknownFunction 0..12\n"),
+    ("length(Foo) eq 1", "refused UnknownProperty 7..10\n"),
+    ("Active Active", "refused Unexpected 7..13\n"),
+];
+
 #[test]
 fn refused_filters(rt: HostRuntime) {
-    for (filter, line) in [
-        ("Name eq 'abc", "refused UnclosedString 8..12\n"),
-        ("Name eq", "refused Unexpected 7..7\n"),
-        ("Name eq ", "refused Unexpected 8..8\n"),
-        ("", "refused Unexpected 0..0\n"),
-        ("1eq 1", "refused RunOn 0..3\n"),
-        ("1\u{e9}", "refused RunOn 0..3\n"),
-        ("1\u{20ac}", "refused BadCharacter 1..4\n"),
-        ("-", "refused Unexpected 1..1\n"),
-        ("(Active", "refused Unexpected 7..7\n"),
-        ("$top", "refused Unexpected 0..4\n"),
-        ("$it", "refused OperandTypes 0..3\n"),
-        ("Name eq N.Color'Red'", "refused OperandTypes 8..20\n"),
-        ("Name eq tolower(Name)", "refused UnknownFunction 8..21\n"),
-        ("Name eq duration'PT1S'", "refused LeftOutLiteral 8..22\n"),
-        ("Price gt 1.5", "refused LeftOutLiteral 9..12\n"),
-        ("2020-01-01 eq 1", "refused OperandTypes 0..10\n"),
-        ("2020-01-011 eq 1", "refused RunOn 0..11\n"),
-        ("Na.me eq 1", "refused UnknownProperty 0..5\n"),
-        ("Name", "refused NotBoolean 0..4\n"),
-        ("Foo eq Bar", "refused UnknownProperty 0..3\n"),
-        ("Active and ID", "refused OperandTypes 0..13\n"),
-        ("ID eq 'a'", "refused OperandTypes 0..9\n"),
-        ("ID eq 9223372036854775808", "refused LiteralRange 6..25\n"),
-        ("Foo", "refused UnknownProperty 0..3\n"),
-        ("ID eq 'x' and Foo", "refused OperandTypes 0..9\n"),
-        ("null", "refused OperandTypes 0..4\n"),
-        ("not Active", "refused OperandTypes 0..10\n"),
-        ("not ID eq 3", "refused OperandTypes 0..6\n"),
-        ("length(Name) eq 1", "refused UnknownFunction 0..12\n"),
-        ("length(Foo) eq 1", "refused UnknownProperty 7..10\n"),
-        ("Active Active", "refused Unexpected 7..13\n"),
-    ] {
-        assert!(rt;
-            run_of(rt.alloc(), filter, A.as_bytes()).is("", line, 1),
-            "at {filter}"
-        );
+    for &(filter, line) in REFUSED {
+        let told = run_of(rt.alloc(), filter, A.as_bytes());
+        assert!(rt; told.is("", line, 1), "at {filter}");
     }
 }
+
+/// Filters that are accepted, and whether they keep the row.
+const ACCEPTED: &[(&str, bool)] = &[
+    ("Active", true),
+    ("((Active)) and (ID eq 1)", true),
+    ("TRUE and Active", true),
+    ("false", false),
+    ("Active eq false", false),
+    ("1 eq 1 eq true", true),
+    ("ID eq +01", true),
+    ("Active AND Name EQ 'a'", true),
+    ("ID eq 9223372036854775807", false),
+    ("'a' eq Name", true),
+    ("((Active))", true),
+    ("(ID eq 1)and(Name eq 'b')", false),
+    ("Active eq (ID eq 1)", true),
+];
 
 #[test]
 fn accepted_filters(rt: HostRuntime) {
-    for (filter, is_kept) in [
-        ("Active", true),
-        ("((Active)) and (ID eq 1)", true),
-        ("TRUE and Active", true),
-        ("false", false),
-        ("Active eq false", false),
-        ("1 eq 1 eq true", true),
-        ("ID eq +01", true),
-        ("Active AND Name EQ 'a'", true),
-        ("ID eq 9223372036854775807", false),
-        ("'a' eq Name", true),
-        ("((Active))", true),
-        ("(ID eq 1)and(Name eq 'b')", false),
-        ("Active eq (ID eq 1)", true),
-    ] {
+    for &(filter, is_kept) in ACCEPTED {
         let out = if is_kept { A } else { "" };
-        assert!(rt;
-            run_of(rt.alloc(), filter, A.as_bytes()).is(out, "", 0),
-            "at {filter}"
-        );
+        let told = run_of(rt.alloc(), filter, A.as_bytes());
+        assert!(rt; told.is(out, "", 0), "at {filter}");
     }
 }
 
+/// Rows at fault, with the line that is told.
+const FAULTY: &[(&str, &str)] = &[
+    ("{\"ID\":1,\"Name\":\"a\"}", "row 1 Missing Active\n"),
+    (
+        "{\"ID\":1,\"Name\":null,\"Active\":true}",
+        "row 1 NullNotAllowed Name\n",
+    ),
+    (
+        "{\"ID\":1,\"Name\":2,\"Active\":3}",
+        "row 1 WrongKind Active\n",
+    ),
+    ("{}", "row 1 Missing Active\n"),
+    ("[]", "row 1 NotObject\n"),
+    ("{\"ID\":1", "row 1 Json\n"),
+    ("\u{feff}{}", "row 1 Json\n"),
+];
+
 #[test]
 fn faulty_rows(rt: HostRuntime) {
-    for (row, line) in [
-        ("{\"ID\":1,\"Name\":\"a\"}", "row 1 Missing Active\n"),
-        (
-            "{\"ID\":1,\"Name\":null,\"Active\":true}",
-            "row 1 NullNotAllowed Name\n",
-        ),
-        (
-            "{\"ID\":1,\"Name\":2,\"Active\":3}",
-            "row 1 WrongKind Active\n",
-        ),
-        ("{}", "row 1 Missing Active\n"),
-        ("[]", "row 1 NotObject\n"),
-        ("{\"ID\":1", "row 1 Json\n"),
-        ("\u{feff}{}", "row 1 Json\n"),
-    ] {
-        assert!(rt;
-            run_of(rt.alloc(), FIRST, row.as_bytes()).is("", line, 4),
-            "at {row}"
-        );
+    for &(row, line) in FAULTY {
+        let told = run_of(rt.alloc(), FIRST, row.as_bytes());
+        assert!(rt; told.is("", line, 4), "at {row}");
     }
     assert!(rt; run_of(rt.alloc(), FIRST, b"\xff\n").is("", "row 1 Json\n", 4));
 }
 
+/// Rows whose number does not fit.
+const FAULTY_NUMBERS: &[(&str, &str)] = &[
+    (
+        "{\"ID\":2147483648,\"Name\":\"a\",\"Active\":true}",
+        "row 1 OutOfRange ID\n",
+    ),
+    (
+        "{\"ID\":1.0,\"Name\":\"a\",\"Active\":true}",
+        "row 1 WrongKind ID\n",
+    ),
+    (
+        "{\"ID\":18446744073709551615,\"Name\":\"a\",\"Active\":true}",
+        "row 1 OutOfRange ID\n",
+    ),
+    (
+        "{\"ID\":-0,\"Name\":\"a\",\"Active\":true}",
+        "row 1 WrongKind ID\n",
+    ),
+    (
+        "{\"ID\":1e0,\"Name\":\"a\",\"Active\":true}",
+        "row 1 WrongKind ID\n",
+    ),
+];
+
 #[test]
 fn faulty_numbers(rt: HostRuntime) {
-    for (row, line) in [
-        (
-            "{\"ID\":2147483648,\"Name\":\"a\",\"Active\":true}",
-            "row 1 OutOfRange ID\n",
-        ),
-        (
-            "{\"ID\":1.0,\"Name\":\"a\",\"Active\":true}",
-            "row 1 WrongKind ID\n",
-        ),
-        (
-            "{\"ID\":18446744073709551615,\"Name\":\"a\",\"Active\":true}",
-            "row 1 OutOfRange ID\n",
-        ),
-        (
-            "{\"ID\":-0,\"Name\":\"a\",\"Active\":true}",
-            "row 1 WrongKind ID\n",
-        ),
-        (
-            "{\"ID\":1e0,\"Name\":\"a\",\"Active\":true}",
-            "row 1 WrongKind ID\n",
-        ),
-    ] {
-        assert!(rt;
-            run_of(rt.alloc(), FIRST, row.as_bytes()).is("", line, 4),
-            "at {row}"
-        );
+    for &(row, line) in FAULTY_NUMBERS {
+        let told = run_of(rt.alloc(), FIRST, row.as_bytes());
+        assert!(rt; told.is("", line, 4), "at {row}");
     }
 }
 
@@ -150,67 +152,72 @@ fn kept_lines_before_a_fault_stay(rt: HostRuntime) {
     assert!(rt; run_of(rt.alloc(), FIRST, rows).is(A, "row 3 Missing Active\n", 4));
 }
 
+/// Rows, and what is written of them.
+const LINES: &[(&str, &str)] = &[
+    ("", ""),
+    ("\n", ""),
+    ("\n \t\r\n", ""),
+    (
+        "{\"ID\":1,\"Name\":\"a\",\"Active\":true}",
+        "{\"ID\":1,\"Name\":\"a\",\"Active\":true}\n",
+    ),
+    (
+        "{\"ID\":1,\"Name\":\"a\",\"Active\":true}\r\n",
+        "{\"ID\":1,\"Name\":\"a\",\"Active\":true}\r\n",
+    ),
+    (
+        " { \"Active\" : true , \"Name\":\"a\",\"ID\":1,\"More\":[1.5] }\n\n",
+        " { \"Active\" : true , \"Name\":\"a\",\"ID\":1,\"More\":[1.5] }\n",
+    ),
+];
+
 #[test]
 fn lines_and_their_ends(rt: HostRuntime) {
-    for (rows, out) in [
-        ("", ""),
-        ("\n", ""),
-        ("\n \t\r\n", ""),
-        ("{\"ID\":1,\"Name\":\"a\",\"Active\":true}", A),
-        (
-            "{\"ID\":1,\"Name\":\"a\",\"Active\":true}\r\n",
-            "{\"ID\":1,\"Name\":\"a\",\"Active\":true}\r\n",
-        ),
-        (
-            " { \"Active\" : true , \"Name\":\"a\",\"ID\":1,\"More\":[1.5] }\n\n",
-            " { \"Active\" : true , \"Name\":\"a\",\"ID\":1,\"More\":[1.5] }\n",
-        ),
-    ] {
-        assert!(rt;
-            run_of(rt.alloc(), FIRST, rows.as_bytes()).is(out, "", 0),
-            "at {rows}"
-        );
+    for &(rows, out) in LINES {
+        let told = run_of(rt.alloc(), FIRST, rows.as_bytes());
+        assert!(rt; told.is(out, "", 0), "at {rows}");
     }
     assert!(rt; run_of(rt.alloc(), "Name eq 'b'", B.as_bytes()).is(B, "", 0));
 }
 
+/// Documents that are no schema, or none with the type, and the line that is told.
+const SCHEMAS: &[(&str, &str)] = &[
+    ("{", "schema NotJson\n"),
+    ("[]", "schema NotObject\n"),
+    ("{}", "schema Version\n"),
+    (
+        "{\"$Version\":\"4.01\",\"N\":{\"A\":{\"$Kind\":\"EntityType\",\"P\":5}}}",
+        "schema BadProperty N.A P\n",
+    ),
+    (
+        "{\"$Version\":\"4.01\",\"N\":{\"A\":{\"$Kind\":\"EntityType\",\"$BaseType\":\"N.B\"}}}",
+        "schema UnknownBase N.A\n",
+    ),
+    (
+        "{\"$Version\":\"4.01\",\"N\":{\"A\":{\"$Kind\":\"EntityType\",\"$BaseType\":\"N.A\"}}}",
+        "schema BaseCycle N.A\n",
+    ),
+    (
+        "{\"$Version\":\"4.01\",\"N\":{\"A\":{\"$Kind\":\"EntityType\",\"P\":{}},\"B\":{\"$Kind\":\"EntityType\",\"$BaseType\":\"N.A\",\"P\":{}}}}",
+        "schema PropertyTwice N.B P\n",
+    ),
+    (
+        "{\"$Version\":\"4.01\",\"N\":{\"E\":{\"$Kind\":\"EnumType\",\"$UnderlyingType\":\"Edm.Byte\",\"X\":256}}}",
+        "schema BadEnumMember N.E X\n",
+    ),
+    (
+        "{\"$Version\":\"4.01\",\"N\":{\"$Alias\":\"N\"}}",
+        "schema BadType N\n",
+    ),
+    ("{\"$Version\":\"4.01\"}", "schema UnknownType Mini.Item\n"),
+];
+
 #[test]
 fn schemas_types_and_files(rt: HostRuntime) {
     let plan = plan_of("Mini.Item", FIRST);
-    for (schema, line) in [
-        ("{", "schema NotJson\n"),
-        ("[]", "schema NotObject\n"),
-        ("{}", "schema Version\n"),
-        (
-            "{\"$Version\":\"4.01\",\"N\":{\"A\":{\"$Kind\":\"EntityType\",\"P\":5}}}",
-            "schema BadProperty N.A P\n",
-        ),
-        (
-            "{\"$Version\":\"4.01\",\"N\":{\"A\":{\"$Kind\":\"EntityType\",\"$BaseType\":\"N.B\"}}}",
-            "schema UnknownBase N.A\n",
-        ),
-        (
-            "{\"$Version\":\"4.01\",\"N\":{\"A\":{\"$Kind\":\"EntityType\",\"$BaseType\":\"N.A\"}}}",
-            "schema BaseCycle N.A\n",
-        ),
-        (
-            "{\"$Version\":\"4.01\",\"N\":{\"A\":{\"$Kind\":\"EntityType\",\"P\":{}},\"B\":{\"$Kind\":\"EntityType\",\"$BaseType\":\"N.A\",\"P\":{}}}}",
-            "schema PropertyTwice N.B P\n",
-        ),
-        (
-            "{\"$Version\":\"4.01\",\"N\":{\"E\":{\"$Kind\":\"EnumType\",\"$UnderlyingType\":\"Edm.Byte\",\"X\":256}}}",
-            "schema BadEnumMember N.E X\n",
-        ),
-        (
-            "{\"$Version\":\"4.01\",\"N\":{\"$Alias\":\"N\"}}",
-            "schema BadType N\n",
-        ),
-        ("{\"$Version\":\"4.01\"}", "schema UnknownType Mini.Item\n"),
-    ] {
-        assert!(rt;
-            outcome_of(rt.alloc(), schema, &plan, Some(A.as_bytes())).is("", line, 3),
-            "at {schema}"
-        );
+    for &(schema, line) in SCHEMAS {
+        let told = outcome_of(rt.alloc(), schema, &plan, Some(A.as_bytes()));
+        assert!(rt; told.is("", line, 3), "at {schema}");
     }
     let unknown = plan_of("Mini.Thing", FIRST);
     assert!(rt;
@@ -238,26 +245,41 @@ fn what_is_still_to_come(rt: HostRuntime) {
     assert!(rt; is_misused(rt.alloc(), &plan, "usage now is still to come\n"));
 }
 
-/// What `check` says of each filter, and its status. It reads no rows.
+/// What `check` says of each filter, and its status.
+const CHECKED: &[(&str, &str, u8)] = &[
+    (
+        "Active and ID eq 1 and Name eq 'a'",
+        "accepted\nActive and ID eq 1 and Name eq 'a'\n",
+        0,
+    ),
+    ("(Active)AND(TRUE)", "accepted\nActive and true\n", 0),
+    ("ID eq 'a'", "refused OperandTypes 0..9\n", 1),
+    ("NOT(Active)", "accepted\nnot Active\n", 0),
+    ("not ID", "refused OperandTypes 0..6\n", 1),
+    ("Active and now()", "refused UnknownFunction 11..16\n", 1),
+    ("(Active", "refused Unexpected 7..7\n", 1),
+    ("Name eq 'a", "refused UnclosedString 8..10\n", 1),
+];
+
+/// Whether `check` says that, whether there are rows or not.
+fn is_checked(alloc: Global, filter: &str, line: &str, status: u8) -> bool {
+    let mut plan = plan_of("Mini.Item", filter);
+    plan.verb = Verb::Check;
+    plan.rows = None;
+    outcome_of(alloc, SCHEMA, &plan, None).is(line, "", status)
+        && outcome_of(alloc, SCHEMA, &plan, Some(A.as_bytes())).is(line, "", status)
+}
+
 #[test]
 fn checks(rt: HostRuntime) {
-    for (filter, line, status) in [
-        (FIRST, "accepted\nActive and ID eq 1 and Name eq 'a'\n", 0),
-        ("(Active)AND(TRUE)", "accepted\nActive and true\n", 0),
-        ("ID eq 'a'", "refused OperandTypes 0..9\n", 1),
-        ("not Active", "refused OperandTypes 0..10\n", 1),
-        ("Active and now()", "refused UnknownFunction 11..16\n", 1),
-        ("(Active", "refused Unexpected 7..7\n", 1),
-        ("Name eq 'a", "refused UnclosedString 8..10\n", 1),
-    ] {
-        let mut plan = plan_of("Mini.Item", filter);
-        plan.verb = Verb::Check;
-        plan.rows = None;
-        for rows in [None, Some(A.as_bytes())] {
-            let told = outcome_of(rt.alloc(), SCHEMA, &plan, rows);
-            assert!(rt; told.is(line, "", status), "of {filter}");
-        }
+    for &(filter, line, status) in CHECKED {
+        assert!(rt; is_checked(rt.alloc(), filter, line, status), "of {filter}");
     }
+}
+
+/// Checks by a type that is not there, and by queries.
+#[test]
+fn checks_of_other_plans(rt: HostRuntime) {
     let mut plan = plan_of("Mini.Other", FIRST);
     plan.verb = Verb::Check;
     assert!(rt;

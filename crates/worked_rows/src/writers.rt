@@ -73,17 +73,20 @@ fn is_written(
     ended == status && writer.taken.as_slice() == out && err.as_slice() == line.as_bytes()
 }
 
+/// A writer's room, and what it does once this is filled.
+const ROOMS: &[(usize, Filled)] = &[
+    (0, Filled::Fails),
+    (0, Filled::TakesNone),
+    (1, Filled::Fails),
+    (33, Filled::TakesNone),
+    (34, Filled::Fails),
+    (67, Filled::TakesNone),
+];
+
 /// Of the kept text a beginning has been written, as long as the writer's room.
 #[test]
 fn a_failed_write_is_told(rt: HostRuntime) -> Result<(), Fail> {
-    for (room, filled) in [
-        (0, Filled::Fails),
-        (0, Filled::TakesNone),
-        (1, Filled::Fails),
-        (33, Filled::TakesNone),
-        (34, Filled::Fails),
-        (67, Filled::TakesNone),
-    ] {
+    for &(room, filled) in ROOMS {
         let writer = FailingWriter {
             taken: Vec::new(rt.alloc()),
             piece: 10,
@@ -100,10 +103,13 @@ fn a_failed_write_is_told(rt: HostRuntime) -> Result<(), Fail> {
     Ok(())
 }
 
+/// How many bytes a writer takes at a time.
+const TAKEN: &[usize] = &[1, 33, 34, 100];
+
 /// The room of a writer is just what is written, and each call takes few bytes of it.
 #[test]
 fn a_writer_that_takes_little_gets_all(rt: HostRuntime) {
-    for piece in [1, 33, 34, 100] {
+    for &piece in TAKEN {
         let writer = FailingWriter {
             taken: Vec::new(rt.alloc()),
             piece,
@@ -118,16 +124,19 @@ fn a_writer_that_takes_little_gets_all(rt: HostRuntime) {
     }
 }
 
+/// Rows, what is written of them, the line that is told, and the status.
+const FLUSHED: &[(&str, &str, &str, u8)] = &[
+    (THREE, A_TWICE, "write\n", 5),
+    (A, A, "write\n", 5),
+    ("", "", "write\n", 5),
+    ("{}\n", "", "row 1 Missing Active\n", 4),
+    ("\n{\n", "", "row 2 Json\n", 4),
+];
+
 /// The flush that ends a run without a fault: what was written stays. Behind a fault it changes nothing of what is told.
 #[test]
 fn a_failed_flush_is_told(rt: HostRuntime) {
-    for (rows, out, line, status) in [
-        (THREE, A_TWICE, "write\n", 5),
-        (A, A, "write\n", 5),
-        ("", "", "write\n", 5),
-        ("{}\n", "", "row 1 Missing Active\n", 4),
-        ("\n{\n", "", "row 2 Json\n", 4),
-    ] {
+    for &(rows, out, line, status) in FLUSHED {
         let writer = FailingWriter {
             taken: Vec::new(rt.alloc()),
             piece: 1000,

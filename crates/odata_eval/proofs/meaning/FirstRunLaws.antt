@@ -4,6 +4,7 @@ use Rattle.std.proofs.lemmas.Int.{fits_signed_from_abs}
 use Rattle.std.specs.Prelude.{codes, FitsSigned}
 use Rattle.std.specs.Int.{w64}
 use Rattle.std.specs.Cmp.Lexicographic.{pointwise}
+use Rattle.std.specs.Str.{chars}
 use Rattle.std.specs.Str.Parse.{IsNumeral}
 use Rattle.edm_values.specs.IntLiteral.{IntValue}
 use Rattle.edm_values.specs.MomentParts.{MomentParts}
@@ -15,13 +16,13 @@ use Rattle.odata_eval.specs.ComesTo.{ComesTo, false_and_missing, item_value}
 use Rattle.odata_eval.specs.Means.{Means}
 use Rattle.odata_eval.specs.Outcome.{Outcome, gives}
 use Rattle.odata_eval.proofs.meaning.OneMeaning.{Means-one}
-use Rattle.odata_eval.proofs.meaning.OneStep.{OneValue}
+use Rattle.odata_eval.proofs.meaning.LawsBelow.{OneEach}
 
 -- one outcome of a tree is the only one
-comes_to : OneValue → (tree : Tree) (value : Val) (outcome : Outcome)
+comes_to : OneEach → (tree : Tree) (value : Val) (outcome : Outcome)
     → ((slots : Slots) (root : List ℕ) (now : MomentParts) → Means slots root now value [] tree outcome) → ComesTo tree value outcome
-comes_to values tree value outcome related = λ slots root now o. (
-  λ of_o. Means-one values slots root now value [] tree o outcome of_o (related slots root now),
+comes_to known tree value outcome related = λ slots root now o. (
+  λ of_o. Means-one known slots root now value [] tree o outcome of_o (related slots root now),
   λ same. subst (Means slots root now value [] tree) (sym same) (related slots root now),
 )
 
@@ -34,8 +35,8 @@ small = fits_signed_from_abs w64 (pos 1) (lit< tt)
 one : IntValue (codes "1") (pos 1)
 one = (inr (inr (numeral, refl)), small)
 
-pub kept_item : OneValue → ComesTo first_run_tree (item_value (pos 1) (codes "a") true) (gives (boolean true))
-kept_item values = comes_to values first_run_tree (item_value (pos 1) (codes "a") true) (gives (boolean true)) (λ slots root now. (
+pub kept_item : OneEach → ComesTo first_run_tree (item_value (pos 1) (codes "a") true) (gives (boolean true))
+kept_item known = comes_to known first_run_tree (item_value (pos 1) (codes "a") true) (gives (boolean true)) (λ slots root now. (
   gives (boolean true),
   (
     (
@@ -45,7 +46,7 @@ kept_item values = comes_to values first_run_tree (item_value (pos 1) (codes "a"
         (
           gives (boolean true),
           (
-            (gives (whole (pos 1)), (refl, (gives (whole (pos 1)), (one, (λ _. refl, λ _. refl))))),
+            (gives (whole (pos 1)), (refl, (gives (whole (pos 1)), (one, (tt, (λ _. refl, λ _. refl)))))),
             refl,
           ),
         ),
@@ -54,7 +55,7 @@ kept_item values = comes_to values first_run_tree (item_value (pos 1) (codes "a"
     (
       gives (boolean true),
       (
-        (gives (text (codes "a")), (refl, (gives (text (codes "a")), (refl, (λ _. refl, λ _. refl))))),
+        (gives (text (codes "a")), (refl, (gives (text (codes "a")), (refl, (tt, (λ _. refl, λ _. refl)))))),
         refl,
       ),
     ),
@@ -62,11 +63,12 @@ kept_item values = comes_to values first_run_tree (item_value (pos 1) (codes "a"
 ))
 
 -- 98 is no 97
-other_text : codes "b" ≡ codes "a" → false ≡ true
-other_text same = ap (λ (xs : List ℕ). pointwise nat_eq xs (codes "a")) same
+other_text : chars (codes "b") ≡ chars (codes "a") → false ≡ true
+unfolding chars
+other_text same = ap (λ (xs : List ℕ). pointwise nat_eq xs (chars (codes "a"))) same
 
-pub other_item : OneValue → ComesTo first_run_tree (item_value (pos 1) (codes "b") true) (gives (boolean false))
-other_item values = comes_to values first_run_tree (item_value (pos 1) (codes "b") true) (gives (boolean false)) (λ slots root now. (
+pub other_item : OneEach → ComesTo first_run_tree (item_value (pos 1) (codes "b") true) (gives (boolean false))
+other_item known = comes_to known first_run_tree (item_value (pos 1) (codes "b") true) (gives (boolean false)) (λ slots root now. (
   gives (boolean true),
   (
     (
@@ -76,7 +78,7 @@ other_item values = comes_to values first_run_tree (item_value (pos 1) (codes "b
         (
           gives (boolean true),
           (
-            (gives (whole (pos 1)), (refl, (gives (whole (pos 1)), (one, (λ _. refl, λ _. refl))))),
+            (gives (whole (pos 1)), (refl, (gives (whole (pos 1)), (one, (tt, (λ _. refl, λ _. refl)))))),
             refl,
           ),
         ),
@@ -85,16 +87,16 @@ other_item values = comes_to values first_run_tree (item_value (pos 1) (codes "b
     (
       gives (boolean false),
       (
-        (gives (text (codes "b")), (refl, (gives (text (codes "a")), (refl, (λ no. cc, λ same. other_text same))))),
+        (gives (text (codes "b")), (refl, (gives (text (codes "a")), (refl, (tt, (λ no. cc, λ same. other_text same)))))),
         refl,
       ),
     ),
   ),
 ))
 
-pub inactive_item : OneValue → ComesTo first_run_tree (item_value (pos 2) (codes "a") false) (gives (boolean false))
-inactive_item values = comes_to values first_run_tree (item_value (pos 2) (codes "a") false) (gives (boolean false)) (λ slots root now.
+pub inactive_item : OneEach → ComesTo first_run_tree (item_value (pos 2) (codes "a") false) (gives (boolean false))
+inactive_item known = comes_to known first_run_tree (item_value (pos 2) (codes "a") false) (gives (boolean false)) (λ slots root now.
     (gives (boolean false), ((gives (boolean false), (refl, refl)), refl)))
 
-pub right_side_unread : OneValue → (value : Val) → ComesTo false_and_missing value (gives (boolean false))
-right_side_unread values value = comes_to values false_and_missing value (gives (boolean false)) (λ slots root now. (gives (boolean false), (refl, refl)))
+pub right_side_unread : OneEach → (value : Val) → ComesTo false_and_missing value (gives (boolean false))
+right_side_unread known value = comes_to known false_and_missing value (gives (boolean false)) (λ slots root now. (gives (boolean false), (refl, refl)))

@@ -1,19 +1,22 @@
 -- Each table gives at most one outcome.
-use Rattle.std.proofs.Common.{◌≡◌, refl, sym, ◌∙◌, ap, ℕ, length, List, Bool, true, false, IsTrue, Option, Some, None, arith}
-use Rattle.std.specs.Str.{str_to_ascii_lowercase}
-use Rattle.std.specs.Prelude.{codes}
-use Rattle.std.proofs.lemmas.Slice.Eq.{bytes_eq-Decides}
-use Rattle.edm_values.specs.Val.{Val, null, boolean, whole, text, fields, FieldVal, absent, present}
-use Rattle.odata_syntax.specs.declared.node.BinaryOperator.{BinaryOperator}
-use Rattle.odata_syntax.specs.declared.node.LiteralKind.{LiteralKind}
-use Rattle.odata_syntax.specs.declared.node.LiteralKind.TheVariants.{Bool as BoolLiteral, Int as IntLiteral, Str as StrLiteral}
-use Rattle.odata_eval.specs.AndGives.{BothGive, AndGives}
-use Rattle.odata_eval.specs.EqualGives.{IsWhether, EqualGives}
-use Rattle.odata_typing.specs.LiteralValue.{LiteralValue, BooleanValue}
+use Rattle.std.proofs.Common.{◌≡◌, refl, sym, ◌∙◌, ap, ℕ, ℤ, List, Bool, true, false, IsTrue, Option, Some, None, Result}
+use Rattle.edm_values.specs.Val.{Val, null, boolean, whole, fields, FieldVal, absent, present}
+use Rattle.csdl_schema.specs.ExprType.{ExprType, null_type, single, collection, primitive, enumeration, structured}
+use Rattle.odata_functions.specs.Comparison.{ComparesTrue}
+use Rattle.odata_functions.specs.Connectives.{not3}
+use Rattle.odata_functions.specs.declared.arithmetic.ArithFault.{ArithFault}
+use Rattle.odata_functions.specs.declared.arithmetic.ArithmeticOperator.{ArithmeticOperator}
+use Rattle.odata_functions.specs.declared.comparison.ComparisonOperator.{ComparisonOperator}
+use Rattle.odata_typing.specs.declared.operator_class.Connective.{Connective}
+use Rattle.odata_typing.specs.declared.operator_class.OperatorClass.{OperatorClass}
+use Rattle.odata_eval.specs.CalculationGives.{CalculationGives, NegatedGives, number_outcome}
+use Rattle.odata_eval.specs.CompareGives.{CompareGives, IsWhether}
 use Rattle.odata_eval.specs.NameGives.{FoundGives, StepGives, FieldGives}
-use Rattle.odata_eval.specs.OperatorGives.{OperatorGives}
+use Rattle.odata_eval.specs.OperatorGives.{ClassGives, InType}
 use Rattle.odata_eval.specs.Outcome.{Outcome, gives}
-use Rattle.odata_eval.proofs.meaning.OneStep.{AtMostOne, OneValue, same_one, GivesSome-one, After-one}
+use Rattle.odata_eval.specs.TruthGives.{ConnectiveGives, JoinGives, NotGives, joined, truth_val}
+use Rattle.odata_eval.proofs.meaning.LawsBelow.{OneEach}
+use Rattle.odata_eval.proofs.meaning.OneStep.{AtMostOne, same_one, GivesSome-one, After-one, InType-one}
 
 false-true : IsTrue false → ⊥
 false-true same = cc
@@ -26,38 +29,61 @@ IsWhether-one Fact (boolean false) (boolean false) p q = refl
 IsWhether-one Fact (boolean b) _ p q = absurd q
 IsWhether-one Fact _ w p q = absurd p
 
-pub EqualGives-one : (v w : Val) → AtMostOne (EqualGives v w)
-EqualGives-one (boolean x) (boolean y) a b p q = GivesSome-one (IsWhether (x ≡ y)) (IsWhether-one (x ≡ y)) a b p q
-EqualGives-one (whole x) (whole y) a b p q = GivesSome-one (IsWhether (x ≡ y)) (IsWhether-one (x ≡ y)) a b p q
-EqualGives-one (text x) (text y) a b p q = GivesSome-one (IsWhether (x ≡ y)) (IsWhether-one (x ≡ y)) a b p q
-EqualGives-one null null a b p q = same_one (gives (boolean true)) a b p q
-EqualGives-one null (boolean y) a b p q = same_one (gives (boolean false)) a b p q
-EqualGives-one null (whole y) a b p q = same_one (gives (boolean false)) a b p q
-EqualGives-one null (text y) a b p q = same_one (gives (boolean false)) a b p q
-EqualGives-one (boolean x) null a b p q = same_one (gives (boolean false)) a b p q
-EqualGives-one (whole x) null a b p q = same_one (gives (boolean false)) a b p q
-EqualGives-one (text x) null a b p q = same_one (gives (boolean false)) a b p q
-EqualGives-one _ _ a b p q = absurd p
+pub CompareGives-one : (operator : ComparisonOperator) (v w : Val) → AtMostOne (CompareGives operator v w)
+CompareGives-one operator v w a b p q = GivesSome-one (IsWhether (ComparesTrue operator v w)) (IsWhether-one (ComparesTrue operator v w)) a b p.1 q.1
 
-pub BothGive-one : (v w : Val) → AtMostOne (BothGive v w)
-BothGive-one (boolean true) (boolean true) a b p q = same_one (gives (boolean true)) a b p q
-BothGive-one (boolean true) (boolean false) a b p q = same_one (gives (boolean false)) a b p q
-BothGive-one (boolean true) null a b p q = same_one (gives null) a b p q
-BothGive-one null (boolean true) a b p q = same_one (gives null) a b p q
-BothGive-one null (boolean false) a b p q = same_one (gives (boolean false)) a b p q
-BothGive-one null null a b p q = same_one (gives null) a b p q
-BothGive-one _ _ a b p q = absurd p
+pub JoinGives-one : (connective : Connective) (left : Option Bool) (v : Val) → AtMostOne (JoinGives connective left v)
+JoinGives-one connective left null a b p q = same_one (gives (truth_val (joined connective left None))) a b p q
+JoinGives-one connective left (boolean x) a b p q = same_one (gives (truth_val (joined connective left (Some x)))) a b p q
+JoinGives-one connective left _ a b p q = absurd p
 
-pub AndGives-one : (v : Val) (Right : Outcome → Type 0) → AtMostOne Right → AtMostOne (AndGives v Right)
-AndGives-one (boolean false) Right one a b p q = same_one (gives (boolean false)) a b p q
-AndGives-one (boolean true) Right one a b p q = After-one Right (BothGive (boolean true)) one (BothGive-one (boolean true)) a b p q
-AndGives-one null Right one a b p q = After-one Right (BothGive null) one (BothGive-one null) a b p q
-AndGives-one _ Right one a b p q = absurd p
+pub ConnectiveGives-one : (connective : Connective) (v : Val) (Right : Outcome → Type 0) → AtMostOne Right → AtMostOne (ConnectiveGives connective v Right)
+ConnectiveGives-one Connective.And (boolean false) Right one a b p q = same_one (gives (boolean false)) a b p q
+ConnectiveGives-one Connective.And (boolean true) Right one a b p q = After-one Right (JoinGives Connective.And (Some true)) one (JoinGives-one Connective.And (Some true)) a b p q
+ConnectiveGives-one Connective.And null Right one a b p q = After-one Right (JoinGives Connective.And None) one (JoinGives-one Connective.And None) a b p q
+ConnectiveGives-one Connective.Or (boolean true) Right one a b p q = same_one (gives (boolean true)) a b p q
+ConnectiveGives-one Connective.Or (boolean false) Right one a b p q = After-one Right (JoinGives Connective.Or (Some false)) one (JoinGives-one Connective.Or (Some false)) a b p q
+ConnectiveGives-one Connective.Or null Right one a b p q = After-one Right (JoinGives Connective.Or None) one (JoinGives-one Connective.Or None) a b p q
+ConnectiveGives-one Connective.And _ Right one a b p q = absurd p
+ConnectiveGives-one Connective.Or _ Right one a b p q = absurd p
 
-pub OperatorGives-one : (operator : BinaryOperator) (v : Val) (Right : Outcome → Type 0) → AtMostOne Right → AtMostOne (OperatorGives operator v Right)
-OperatorGives-one BinaryOperator.And v Right one a b p q = AndGives-one v Right one a b p q
-OperatorGives-one BinaryOperator.Eq v Right one a b p q = After-one Right (EqualGives v) one (EqualGives-one v) a b p q
-OperatorGives-one _ v Right one a b p q = absurd p
+pub NotGives-one : (v : Val) → AtMostOne (NotGives v)
+NotGives-one null a b p q = same_one (gives (truth_val (not3 None))) a b p q
+NotGives-one (boolean x) a b p q = same_one (gives (truth_val (not3 (Some x)))) a b p q
+NotGives-one _ a b p q = absurd p
+
+same_number : (x y : Result (Option ℤ) ArithFault) (a b : Outcome) → x ≡ y → a ≡ number_outcome x → b ≡ number_outcome y → a ≡ b
+same_number x y a b same is_a is_b = is_a ∙ ap number_outcome same ∙ sym is_b
+
+module _ (known : OneEach) where
+  pub CalculationGives-one : (operator : ArithmeticOperator) (type : ExprType) (v w : Val) → AtMostOne (CalculationGives operator type v w)
+  CalculationGives-one operator type null null a b p q = same_one (gives null) a b p q
+  CalculationGives-one operator type null (whole y) a b p q = same_one (gives null) a b p q
+  CalculationGives-one operator type (whole x) null a b p q = same_one (gives null) a b p q
+  CalculationGives-one operator (single (primitive t)) (whole x) (whole y) a b p q =
+      same_number p.0 q.0 a b (known.answer operator t (Some x) (Some y) p.0 q.0 p.1 q.1) p.2 q.2
+  CalculationGives-one operator (single (enumeration name)) (whole x) (whole y) a b p q = absurd p
+  CalculationGives-one operator (single (structured name)) (whole x) (whole y) a b p q = absurd p
+  CalculationGives-one operator null_type (whole x) (whole y) a b p q = absurd p
+  CalculationGives-one operator (collection s) (whole x) (whole y) a b p q = absurd p
+  CalculationGives-one operator type null _ a b p q = absurd p
+  CalculationGives-one operator type (whole x) _ a b p q = absurd p
+  CalculationGives-one operator type _ w a b p q = absurd p
+
+  pub NegatedGives-one : (type : ExprType) (v : Val) → AtMostOne (NegatedGives type v)
+  NegatedGives-one type null a b p q = same_one (gives null) a b p q
+  NegatedGives-one (single (primitive t)) (whole x) a b p q =
+      same_number p.0 q.0 a b (known.negation t (Some x) p.0 q.0 p.1 q.1) p.2 q.2
+  NegatedGives-one _ _ a b p q = absurd p
+
+  pub ClassGives-one : (class : OperatorClass) (NodeTyped : ExprType → Type 0) (v : Val) (Right : Outcome → Type 0)
+      → ((s t : ExprType) → NodeTyped s → NodeTyped t → s ≡ t) → AtMostOne Right → AtMostOne (ClassGives class NodeTyped v Right)
+  ClassGives-one (OperatorClass.Connective connective) NodeTyped v Right types one a b p q = ConnectiveGives-one connective v Right one a b p q
+  ClassGives-one (OperatorClass.Comparison comparison) NodeTyped v Right types one a b p q =
+      After-one Right (CompareGives comparison v) one (CompareGives-one comparison v) a b p q
+  ClassGives-one (OperatorClass.Arithmetic arithmetic) NodeTyped v Right types one a b p q =
+      After-one Right (λ w. InType NodeTyped (λ type. CalculationGives arithmetic type v w)) one
+      (λ w. InType-one NodeTyped (λ type. CalculationGives arithmetic type v w) types (λ type. CalculationGives-one arithmetic type v w)) a b p q
 
 pub FieldGives-one : (h : FieldVal) → AtMostOne (FieldGives h)
 FieldGives-one (present v) a b p q = same_one (gives v) a b p q
@@ -71,26 +97,3 @@ StepGives-one _ name a b p q = absurd p
 pub FoundGives-one : (found : Option Val) (entity : Val) (name : List ℕ) → AtMostOne (FoundGives found entity name)
 FoundGives-one (Some v) entity name a b p q = same_one (gives v) a b p q
 FoundGives-one None entity name a b p q = StepGives-one entity name a b p q
-
--- no spelling is `true` and `false`
-two_words : (spelling : List ℕ) → BooleanValue spelling true → BooleanValue spelling false → ⊥
-two_words spelling p q =
-    let as_true = (bytes_eq-Decides (str_to_ascii_lowercase spelling) (str_to_ascii_lowercase (codes "true"))).0 p in
-    let as_false = (bytes_eq-Decides (str_to_ascii_lowercase spelling) (str_to_ascii_lowercase (codes "false"))).0 q in
-    let same : ◌≡◌ {A = ℕ} 4 5 = ap length (sym as_true ∙ as_false) in
-    omega arith
-
-pub BooleanValue-one : (spelling : List ℕ) (x y : Bool) → BooleanValue spelling x → BooleanValue spelling y → x ≡ y
-BooleanValue-one spelling true true p q = refl
-BooleanValue-one spelling false false p q = refl
-BooleanValue-one spelling true false p q = absurd (two_words spelling p q)
-BooleanValue-one spelling false true p q = absurd (two_words spelling q p)
-
-pub LiteralValue-one : OneValue → (kind : LiteralKind) (spelling : List ℕ) (v w : Val) → LiteralValue kind spelling v → LiteralValue kind spelling w → v ≡ w
-LiteralValue-one values BoolLiteral spelling (boolean x) (boolean y) p q = ap boolean (BooleanValue-one spelling x y p q)
-LiteralValue-one values IntLiteral spelling (whole x) (whole y) p q = ap whole (values.0 spelling x y p q)
-LiteralValue-one values StrLiteral spelling (text x) (text y) p q = ap text (values.1 spelling x y p q)
-LiteralValue-one values BoolLiteral spelling (boolean x) _ p q = absurd q
-LiteralValue-one values IntLiteral spelling (whole x) _ p q = absurd q
-LiteralValue-one values StrLiteral spelling (text x) _ p q = absurd q
-LiteralValue-one values _ spelling _ _ p q = absurd p

@@ -2,24 +2,48 @@
 use Rattle.std.proofs.Common.{ℕ, List}
 use Rattle.edm_values.specs.Val.{Val}
 use Rattle.edm_values.specs.MomentParts.{MomentParts}
-use Rattle.odata_syntax.specs.Tree.{Tree, node, Shape, literal, name, binary}
+use Rattle.odata_syntax.specs.Tree.{Tree, node, Shape, literal, it, name, member, negation, logical_not, binary}
+use Rattle.csdl_schema.specs.ExprType.{ExprType}
 use Rattle.csdl_schema.specs.SchemaModel.{Slots}
-use Rattle.odata_eval.specs.Environment.{Environment, variable_value}
-use Rattle.odata_eval.specs.OperatorGives.{OperatorGives}
 use Rattle.odata_typing.specs.LiteralValue.{LiteralValue}
+use Rattle.odata_typing.specs.OperatorClass.{class_of}
+use Rattle.odata_typing.specs.OperatorTyped.{NegationTyped}
+use Rattle.odata_typing.specs.Typed.{OperandTyped, OperandsTyped, Typed}
+use Rattle.odata_eval.specs.CalculationGives.{NegatedGives}
+use Rattle.odata_eval.specs.Environment.{Environment, scope_of, variable_value}
 use Rattle.odata_eval.specs.Means.{Means, ShapeMeans}
-use Rattle.odata_eval.proofs.meaning.OneLeaf.{LiteralValue-one, FoundGives-one, OperatorGives-one}
-use Rattle.odata_eval.proofs.meaning.OneStep.{AtMostOne, OneValue, GivesSome-one, After-one}
+use Rattle.odata_eval.specs.NameGives.{StepGives}
+use Rattle.odata_eval.specs.OperatorGives.{InType, OperatorGives}
+use Rattle.odata_eval.specs.Outcome.{gives}
+use Rattle.odata_eval.specs.TruthGives.{NotGives}
+use Rattle.odata_eval.proofs.meaning.LawsBelow.{OneEach}
+use Rattle.odata_eval.proofs.meaning.OneLeaf.{ClassGives-one, FoundGives-one, NegatedGives-one, NotGives-one, StepGives-one}
+use Rattle.odata_eval.proofs.meaning.OneStep.{AtMostOne, GivesSome-one, After-one, InType-one, same_one}
 
-module _ (values : OneValue) (slots : Slots) (root : List ℕ) (now : MomentParts) (entity : Val) (environment : Environment) where
+module _ (known : OneEach) (slots : Slots) (root : List ℕ) (now : MomentParts) (entity : Val) (environment : Environment) where
   mutual
     pub Means-one : (tree : Tree) → AtMostOne (Means slots root now entity environment tree)
     Means-one (node start stop shape) = ShapeMeans-one shape
 
     pub ShapeMeans-one : (shape : Shape) → AtMostOne (ShapeMeans slots root now entity environment shape)
-    ShapeMeans-one (literal kind spelling) = GivesSome-one (LiteralValue kind spelling) (LiteralValue-one values kind spelling)
+    ShapeMeans-one (literal kind spelling) = GivesSome-one (LiteralValue slots kind spelling) (known.values slots kind spelling)
+    ShapeMeans-one it = λ a b p q. same_one (gives entity) a b p q
     ShapeMeans-one (name word) = FoundGives-one (variable_value environment word) entity word
+    ShapeMeans-one (member base word) =
+        After-one (Means slots root now entity environment base) (λ v. StepGives v word) (Means-one base) (λ v. StepGives-one v word)
+    ShapeMeans-one (negation operand) =
+        let NodeTyped : ExprType → Type 0 = OperandTyped (Typed slots root (scope_of environment) operand) NegationTyped in
+        After-one (Means slots root now entity environment operand) (λ v. InType NodeTyped (λ type. NegatedGives type v))
+        (Means-one operand)
+        (λ v. InType-one NodeTyped (λ type. NegatedGives type v)
+        (λ s t p q. known.types slots root (scope_of environment) (node 0 0 (negation operand)) s t p q) (λ type. NegatedGives-one known type v))
+    ShapeMeans-one (logical_not operand) =
+        After-one (Means slots root now entity environment operand) NotGives (Means-one operand) NotGives-one
     ShapeMeans-one (binary operator left right) =
-        After-one (Means slots root now entity environment left) (λ l. OperatorGives operator l (Means slots root now entity environment right))
-        (Means-one left) (λ l. OperatorGives-one operator l (Means slots root now entity environment right) (Means-one right))
+        let NodeTyped : ExprType → Type 0 =
+        OperandsTyped operator (Typed slots root (scope_of environment) left) (Typed slots root (scope_of environment) right) in
+        After-one (Means slots root now entity environment left) (λ l. OperatorGives operator NodeTyped l (Means slots root now entity environment right))
+        (Means-one left)
+        (λ l. ClassGives-one known (class_of operator) NodeTyped l (Means slots root now entity environment right)
+        (λ s t p q. known.types slots root (scope_of environment) (node 0 0 (binary operator left right)) s t p q) (Means-one right))
     ShapeMeans-one _ = λ a b p q. absurd p

@@ -1,16 +1,31 @@
 -- A tree that has a type has one outcome.
-use Rattle.odata_eval.specs.EndsOnce.{TypedEndsOnce}
-use Rattle.odata_eval.specs.Outcome.{gives}
+use Rattle.std.proofs.Common.{ℕ, List}
+use Rattle.serde_json.specs.Data.{Data}
+use Rattle.edm_values.specs.Val.{Val}
+use Rattle.csdl_schema.specs.ExprType.{single, structured}
+use Rattle.csdl_schema.specs.SchemaModel.{Slots, slots_of, type_name_at}
+use Rattle.edm_entities.specs.Fits.{Fits}
+use Rattle.edm_entities.specs.HasType.{HasType}
+use Rattle.edm_entities.specs.Row.{value_of}
+use Rattle.odata_eval.specs.EndsOnce.{EndsOnceOnEntities, TypedEndsOnce}
+use Rattle.odata_eval.proofs.meaning.LawsBelow.{OneEach, Promotes, SomeEach}
 use Rattle.odata_eval.proofs.meaning.OneMeaning.{Means-one}
-use Rattle.odata_eval.proofs.meaning.OneStep.{OneValue}
 use Rattle.odata_eval.proofs.meaning.Progress.{tree_ends}
 
-pub ends_once : OneValue → TypedEndsOnce
-ends_once values slots root now entity environment tree type conforms fitting typed =
-    let ends = tree_ends slots root now entity environment conforms fitting tree type typed in
+pub ends_once : OneEach → SomeEach → Promotes → TypedEndsOnce
+ends_once one some promotes slots root now entity environment tree type conforms fitting typed =
+    let ends = tree_ends some promotes slots root now entity environment conforms fitting tree type typed in
     record {
-      outcome = gives ends.0;
+      outcome = ends.0;
       related = ends.1.0;
       of_type = ends.1.1;
-      only = λ other of_other. Means-one values slots root now entity environment tree other (gives ends.0) of_other ends.1.0;
+      only = λ other of_other. Means-one one slots root now entity environment tree other ends.0 of_other ends.1.0;
     }
+
+pub ends_on_entities :
+    TypedEndsOnce
+    → ((slots : Slots) (type_name : List ℕ) (json : Data) (v : Val) → Fits slots type_name json v → HasType slots (single (structured type_name)) v)
+    → EndsOnceOnEntities
+ends_on_entities ends fits row now environment tree type entity fitting typed =
+    ends (slots_of row.schema) (type_name_at row.schema row.type_id) now (value_of row) environment tree type
+    (fits (slots_of row.schema) (type_name_at row.schema row.type_id) entity.conforms.0 (value_of row) entity.conforms.1) fitting typed

@@ -1,16 +1,10 @@
 -- The combinators of outcomes leave at most one outcome.
-use Rattle.std.proofs.Common.{◌≡◌, sym, ◌∙◌, ap, subst, ℕ, ℤ, List}
-use Rattle.edm_values.specs.IntLiteral.{IntValue}
-use Rattle.edm_values.specs.StringLiteral.{StringValue}
+use Rattle.std.proofs.Common.{◌≡◌, sym, ◌∙◌, ap, subst}
 use Rattle.edm_values.specs.Val.{Val}
-use Rattle.odata_eval.specs.Outcome.{Outcome, gives, overflow, divides_by_zero, GivesSome}
+use Rattle.csdl_schema.specs.ExprType.{ExprType}
 use Rattle.odata_eval.specs.LeftFirst.{Then, After}
-
--- a text spells at most one number, and at most one text in quotes
-abbrev pub OneValue : Type 0
-OneValue =
-    ((text : List ℕ) (m n : ℤ) → IntValue text m → IntValue text n → m ≡ n)
-    × ((text a b : List ℕ) → StringValue text a → StringValue text b → a ≡ b)
+use Rattle.odata_eval.specs.OperatorGives.{InType}
+use Rattle.odata_eval.specs.Outcome.{Outcome, gives, overflow, divides_by_zero, GivesSome}
 
 -- no two outcomes
 abbrev pub AtMostOne : (Outcome → Type 0) → Type 0
@@ -41,3 +35,9 @@ pub After-one : (Operand : Outcome → Type 0) (Goes : Val → Outcome → Type 
     → AtMostOne Operand → ((v : Val) → AtMostOne (Goes v)) → AtMostOne (After Operand Goes)
 After-one Operand Goes one each a b of_a of_b =
     Then-one of_a.0 Goes each a b of_a.1.1 (After-follows Operand Goes of_a.0 b one of_a.1.0 of_b)
+
+-- what is computed in the one type of its node
+pub InType-one : (NodeTyped : ExprType → Type 0) (Gives : ExprType → Outcome → Type 0)
+    → ((s t : ExprType) → NodeTyped s → NodeTyped t → s ≡ t) → ((t : ExprType) → AtMostOne (Gives t)) → AtMostOne (InType NodeTyped Gives)
+InType-one NodeTyped Gives one each a b of_a of_b =
+    each of_a.0 a b of_a.2 (subst (λ (t : ExprType). Gives t b) (one of_b.0 of_a.0 of_b.1 of_a.1) of_b.2)

@@ -1,5 +1,5 @@
--- A tree that has a type has an outcome, a value of that type.
-use Rattle.std.proofs.Common.{◌≡◌, refl, sym, subst, inl, inr, ℕ, List, [], ◌∷◌, ℤ, Bool, true, false, Option, Some, None, cond, nat_eq}
+-- A tree that has a type has an outcome: a value of that type, or a fault.
+use Rattle.std.proofs.Common.{◌≡◌, refl, sym, subst, inl, inr, ℕ, List, [], ◌∷◌, ℤ, Bool, true, false, Option, Some, None, Result, Ok, Err, cond, nat_eq}
 use Rattle.std.specs.Prelude.{find, MatchOption, IsSomeAnd, FitsSigned}
 use Rattle.std.specs.Int.{w64}
 use Rattle.std.specs.List.{AllByRecursion}
@@ -8,30 +8,54 @@ use Rattle.std.specs.Cmp.Lexicographic.{pointwise}
 use Rattle.std.proofs.lemmas.Slice.Eq.{bytes_eq-Decides}
 use Rattle.edm_values.specs.MomentParts.{MomentParts}
 use Rattle.edm_values.specs.IntLiteral.{IntValue}
-use Rattle.edm_values.specs.NumberTypes.{IsIntLiteralType}
-use Rattle.edm_values.specs.Val.{Val, null, boolean, whole, text, fields, FieldVal, absent, present}
+use Rattle.edm_values.specs.NumberTypes.{IsIntLiteralType, IsNumberOf}
+use Rattle.edm_values.specs.Val.{Val, null, boolean, whole, date, moment, guid, member, text, fields, FieldVal, absent, present}
 use Rattle.edm_values.specs.declared.primitive.PrimitiveType.{PrimitiveType}
-use Rattle.odata_syntax.specs.Tree.{Tree, node, literal, name, binary}
+use Rattle.odata_syntax.specs.Tree.{Tree, node, literal, it, name, negation, logical_not, binary}
+use Rattle.odata_syntax.specs.Tree as tree
 use Rattle.odata_syntax.specs.declared.node.LiteralKind.{LiteralKind}
-use Rattle.odata_syntax.specs.declared.node.BinaryOperator.{BinaryOperator}
-use Rattle.csdl_schema.specs.ExprType.{ExprType, single, primitive, structured}
+use Rattle.csdl_schema.specs.ExprType.{ExprType, null_type, single, collection, primitive, enumeration, structured}
 use Rattle.csdl_schema.specs.SchemaModel.{Slots, PropertyModel, PropertyType, declared}
 use Rattle.edm_entities.specs.HasType.{HasType, HasPropertyType}
+use Rattle.odata_functions.specs.Arithmetic.{ArithmeticGives, ComesWithin}
+use Rattle.odata_functions.specs.Connectives.{not3}
+use Rattle.odata_functions.specs.declared.arithmetic.ArithFault.{ArithFault}
+use Rattle.odata_functions.specs.declared.arithmetic.ArithFault.TheVariants.{Overflow, DivideByZero}
+use Rattle.odata_functions.specs.declared.arithmetic.ArithmeticOperator.{ArithmeticOperator}
+use Rattle.odata_functions.specs.declared.comparison.ComparisonOperator.{ComparisonOperator}
+use Rattle.odata_typing.specs.declared.operator_class.Connective.{Connective}
+use Rattle.odata_typing.specs.declared.operator_class.OperatorClass.{OperatorClass}
+use Rattle.odata_typing.specs.ExprTypes.{boolean_type, string_type}
+use Rattle.odata_typing.specs.LiteralValue.{LiteralTyped, IntTyped}
+use Rattle.odata_typing.specs.OperatorClass.{class_of}
+use Rattle.odata_typing.specs.OperatorTyped.{ClassTyped, NegationTyped, NotTyped}
+use Rattle.odata_typing.specs.Typed.{OperandTyped, OperandsTyped, Typed, PropertyTyped, StepTyped, variable_type, property_named}
+use Rattle.odata_eval.specs.CalculationGives.{CalculationGives, NegatedGives, number_outcome}
+use Rattle.odata_eval.specs.CompareGives.{CompareGives}
+use Rattle.odata_eval.specs.EndsOnce.{IsOutcomeOf}
 use Rattle.odata_eval.specs.Environment.{Environment, variable_value, scope_of, IsFitting}
-use Rattle.odata_eval.specs.EqualGives.{EqualGives}
+use Rattle.odata_eval.specs.LeftFirst.{After}
 use Rattle.odata_eval.specs.LiteralGives.{LiteralGives}
 use Rattle.odata_eval.specs.Means.{Means}
 use Rattle.odata_eval.specs.NameGives.{FoundGives, StepGives, FieldGives}
-use Rattle.odata_eval.specs.Outcome.{Outcome, gives}
-use Rattle.odata_typing.specs.ExprTypes.{boolean_type, string_type, AreComparable}
-use Rattle.odata_typing.specs.LiteralValue.{LiteralTyped, IntTyped}
-use Rattle.odata_typing.specs.Typed.{Typed, PropertyTyped, OperatorTyped, variable_type, property_named}
-use Rattle.odata_eval.proofs.meaning.PropertiesInFilter.{found_property}
-use Rattle.odata_eval.proofs.meaning.Truths.{truth_of, boolean_of_truth, text_of, whole_of, and_truths, equal_truths, equal_wholes, equal_texts}
+use Rattle.odata_eval.specs.OperatorGives.{ClassGives, InType}
+use Rattle.odata_eval.specs.Outcome.{Outcome, gives, overflow, divides_by_zero}
+use Rattle.odata_eval.specs.TruthGives.{ConnectiveGives, JoinGives, NotGives, joined, truth_val}
+use Rattle.odata_eval.specs.private.Operands.{AreNumbers, IsOneNumber}
+use Rattle.odata_eval.proofs.meaning.Kinds.{IsOfKind, comparable_values, truth_of, truths}
+use Rattle.odata_eval.proofs.meaning.LawsBelow.{Promotes, SomeEach}
+use Rattle.odata_eval.proofs.meaning.Numbers.{calculated_values, negated_value}
 
--- some value of the type is an outcome
+-- some outcome of the type
 abbrev pub Ends : Slots → ExprType → (Outcome → Type 0) → Type 0
-Ends slots type Gives = (v : Val) × (Gives (gives v) × HasType slots type v)
+Ends slots type Gives = (o : Outcome) × (Gives o × IsOutcomeOf slots type o)
+
+-- what follows an operand's outcome: a fault stays
+pub after_ends : (slots : Slots) (operand type : ExprType) (Operand : Outcome → Type 0) (Goes : Val → Outcome → Type 0)
+    → Ends slots operand Operand → ((v : Val) → HasType slots operand v → Ends slots type (Goes v)) → Ends slots type (After Operand Goes)
+after_ends slots operand type Operand Goes (gives v, ends) goes = let e = goes v ends.1 in (e.0, ((gives v, (ends.0, e.1.0)), e.1.1))
+after_ends slots operand type Operand Goes (overflow, ends) goes = (overflow, ((overflow, (ends.0, refl)), tt))
+after_ends slots operand type Operand Goes (divides_by_zero, ends) goes = (divides_by_zero, ((divides_by_zero, (ends.0, refl)), tt))
 
 typed_value : (slots : Slots) (given type : ExprType) (v : Val) → type ≡ given → HasType slots given v → HasType slots type v
 typed_value slots given type v same has = subst (λ (t : ExprType). HasType slots t v) (sym same) has
@@ -44,11 +68,19 @@ int_ends : (slots : Slots) (type : ExprType) (spelling : List ℕ) (n : ℤ) →
 int_ends slots type spelling n value typed =
     typed_value slots (single (primitive typed.0)) type (whole n) typed.2 (int_has slots n typed.0 value.1 typed.1)
 
-literal_ends : (slots : Slots) (kind : LiteralKind) (spelling : List ℕ) (type : ExprType) → LiteralTyped kind spelling type → Ends slots type (LiteralGives kind spelling)
-literal_ends slots LiteralKind.Bool spelling type typed = (boolean typed.0, (typed.1, typed_value slots boolean_type type (boolean typed.0) typed.2 tt))
-literal_ends slots LiteralKind.Int spelling type typed = (whole typed.0, (typed.1, int_ends slots type spelling typed.0 typed.1 typed.2))
-literal_ends slots LiteralKind.Str spelling type typed = (text typed.0, (typed.1, typed_value slots string_type type (text typed.0) typed.2 tt))
-literal_ends slots _ spelling type typed = absurd typed
+literal_ends : (slots : Slots) (kind : LiteralKind) (spelling : List ℕ) (type : ExprType) → LiteralTyped slots kind spelling type → Ends slots type (LiteralGives slots kind spelling)
+literal_ends slots LiteralKind.Null spelling type typed = (gives null, (tt, tt))
+literal_ends slots LiteralKind.Bool spelling type typed = (gives (boolean typed.0), (typed.1, typed_value slots boolean_type type (boolean typed.0) typed.2 tt))
+literal_ends slots LiteralKind.Int spelling type typed = (gives (whole typed.0), (typed.1, int_ends slots type spelling typed.0 typed.1 typed.2))
+literal_ends slots LiteralKind.Date spelling type typed =
+    (gives (date typed.0), (typed.1, typed_value slots (single (primitive PrimitiveType.Date)) type (date typed.0) typed.2 tt))
+literal_ends slots LiteralKind.Moment spelling type typed =
+    (gives (moment typed.0), (typed.1, typed_value slots (single (primitive PrimitiveType.DateTimeOffset)) type (moment typed.0) typed.2 tt))
+literal_ends slots LiteralKind.Guid spelling type typed =
+    (gives (guid typed.0), (typed.1, typed_value slots (single (primitive PrimitiveType.Guid)) type (guid typed.0) typed.2 tt))
+literal_ends slots LiteralKind.Str spelling type typed = (gives (text typed.0), (typed.1, typed_value slots string_type type (text typed.0) typed.2 tt))
+literal_ends slots LiteralKind.EnumLit spelling type typed =
+    (gives (member typed.1), ((typed.0, typed.2), typed_value slots (single (enumeration typed.0)) type (member typed.1) typed.3 typed.2.names.within))
 
 -- a name is found in the scope where it is in the environment, with a value of its type
 abbrev VariableFits : Slots → Option ExprType → Option Val → Type 0
@@ -68,60 +100,187 @@ variable_fits slots (bound ∷ more) asked fitting =
     ]
 
 held_ends : (slots : Slots) (type : ExprType) (held : FieldVal) → HasPropertyType slots (declared type) held → Ends slots type (FieldGives held)
-held_ends slots type (present v) has = (v, (refl, has))
+held_ends slots type (present v) has = (gives v, (refl, has))
 held_ends slots type absent has = absurd has
 
-step_ends : (slots : Slots) (root : List ℕ) (entity : Val) (asked : List ℕ) (type : ExprType)
-    → HasType slots (single (structured root)) entity → PropertyTyped (slots.properties root) asked type → Ends slots type (StepGives entity asked)
-step_ends slots root null asked type conforms typed = (null, (refl, tt))
-step_ends slots root (fields held) asked type conforms typed =
-    let found = found_property (λ p. HasPropertyType slots p.type_of (held p.name)) asked type (slots.properties root) conforms typed in
+-- a property of the asked name, of which a fact holds
+record IsNamed (Holds : PropertyModel → Type 0) (asked : List ℕ) (type : ExprType) : Type 0 where
+  pub property : PropertyModel
+  pub holds : Holds property
+  pub named : property.name ≡ asked
+  pub is_declared : property.type_of ≡ declared type
+
+-- what holds of each property holds of the first one of a name that has a type
+found_property : (Holds : PropertyModel → Type 0) (asked : List ℕ) (type : ExprType) (properties : List PropertyModel)
+    → AllByRecursion Holds properties → PropertyTyped properties asked type → IsNamed Holds asked type
+found_property Holds asked type [] all typed = absurd typed
+found_property Holds asked type (p ∷ more) all typed =
+    elim (pointwise nat_eq asked p.name) as (λ is_it. pointwise nat_eq asked p.name ≡ is_it
+    → IsSomeAnd (cond is_it (Some p) (property_named more asked)) (λ q. q.type_of ≡ declared type)
+    → IsNamed Holds asked type) [
+      | true ↦ λ same is_typed. record {
+        property = p;
+        holds = all.0;
+        named = sym ((bytes_eq-Decides asked p.name).0 same);
+        is_declared = is_typed;
+      }
+      | false ↦ λ other is_typed. found_property Holds asked type more all.1 is_typed
+    ] refl typed
+
+step_ends : (slots : Slots) (owner : List ℕ) (v : Val) (asked : List ℕ) (type : ExprType)
+    → HasType slots (single (structured owner)) v → PropertyTyped (slots.properties owner) asked type → Ends slots type (StepGives v asked)
+step_ends slots owner null asked type conforms typed = (gives null, (refl, tt))
+step_ends slots owner (fields held) asked type conforms typed =
+    let found = found_property (λ p. HasPropertyType slots p.type_of (held p.name)) asked type (slots.properties owner) conforms typed in
     held_ends slots type (held asked)
-    (subst (λ (t : PropertyType). HasPropertyType slots t (held asked)) found.plain.is_declared
+    (subst (λ (t : PropertyType). HasPropertyType slots t (held asked)) found.is_declared
     (subst (λ (n : List ℕ). HasPropertyType slots found.property.type_of (held n)) found.named found.holds))
-step_ends slots root _ asked type conforms typed = absurd conforms
+step_ends slots owner _ asked type conforms typed = absurd conforms
+
+-- a step from what has a type
+member_ends : (slots : Slots) (base : ExprType) (v : Val) (asked : List ℕ) (type : ExprType)
+    → StepTyped slots asked base type → HasType slots base v → Ends slots type (StepGives v asked)
+member_ends slots (single (structured owner)) v asked type typed has = step_ends slots owner v asked type has typed
+member_ends slots (single (primitive p)) v asked type typed has = absurd typed
+member_ends slots (single (enumeration owner)) v asked type typed has = absurd typed
+member_ends slots null_type v asked type typed has = absurd typed
+member_ends slots (collection s) v asked type typed has = absurd typed
 
 found_ends : (slots : Slots) (root : List ℕ) (entity : Val) (asked : List ℕ) (type : ExprType) (in_scope : Option ExprType) (value : Option Val)
     → HasType slots (single (structured root)) entity → VariableFits slots in_scope value
     → MatchOption in_scope (PropertyTyped (slots.properties root) asked type) (λ t. type ≡ t) → Ends slots type (FoundGives value entity asked)
-found_ends slots root entity asked type (Some t) (Some v) conforms is_found typed = (v, (refl, typed_value slots t type v typed is_found))
+found_ends slots root entity asked type (Some t) (Some v) conforms is_found typed = (gives v, (refl, typed_value slots t type v typed is_found))
 found_ends slots root entity asked type None None conforms is_found typed = step_ends slots root entity asked type conforms typed
 found_ends slots root entity asked type (Some t) None conforms is_found typed = absurd is_found
 found_ends slots root entity asked type None (Some v) conforms is_found typed = absurd is_found
 
-equal_ends : (slots : Slots) (left right : ExprType) (l r : Val) → AreComparable left right → HasType slots left l → HasType slots right r
-    → (b : Bool) × EqualGives l r (gives (boolean b))
-equal_ends slots left right l r (inl numbers) of_l of_r =
-    equal_wholes l r (whole_of slots left l numbers.0 of_l) (whole_of slots right r numbers.1 of_r)
-equal_ends slots left right l r (inr (inl truths)) of_l of_r =
-    equal_truths l r (truth_of slots left l (inl truths.0) of_l) (truth_of slots right r (inl truths.1) of_r)
-equal_ends slots left right l r (inr (inr texts)) of_l of_r =
-    equal_texts l r (text_of slots l (subst (λ (t : ExprType). HasType slots t l) texts.0 of_l))
-    (text_of slots r (subst (λ (t : ExprType). HasType slots t r) texts.1 of_r))
+-- ---- operators
 
-module _ (slots : Slots) (root : List ℕ) (now : MomentParts) (entity : Val) (environment : Environment)
+compare_ends : (some : SomeEach) (slots : Slots) (operator : ComparisonOperator) (left right type : ExprType) (l r : Val)
+    → ClassTyped (OperatorClass.Comparison operator) left right type → HasType slots left l → HasType slots right r
+    → Ends slots type (CompareGives operator l r)
+compare_ends some slots operator left right type l r typed of_l of_r =
+    let answer = some.decided operator l r in
+    (gives (boolean answer.0), ((comparable_values slots operator left right l r typed.0 of_l of_r, answer.1), typed_value slots boolean_type type (boolean answer.0) typed.1 tt))
+
+-- a truth value is of type Boolean
+truth_ends : (slots : Slots) (type : ExprType) (t : Option Bool) → type ≡ boolean_type → HasType slots type (truth_val t)
+truth_ends slots type (Some b) is = typed_value slots boolean_type type (boolean b) is tt
+truth_ends slots type None is = tt
+
+not_of : (slots : Slots) (type : ExprType) (v : Val) → type ≡ boolean_type → IsOfKind truths v → Ends slots type (NotGives v)
+not_of slots type null is truth = (gives (truth_val (not3 None)), (refl, truth_ends slots type (not3 None) is))
+not_of slots type (boolean b) is truth = (gives (truth_val (not3 (Some b))), (refl, truth_ends slots type (not3 (Some b)) is))
+not_of slots type _ is truth = absurd truth
+
+not_ends : (slots : Slots) (operand type : ExprType) (v : Val) → NotTyped operand type → HasType slots operand v → Ends slots type (NotGives v)
+not_ends slots operand type v typed has = not_of slots type v typed.1 (truth_of slots operand v typed.0 has)
+
+join_ends : (slots : Slots) (type : ExprType) (connective : Connective) (left : Option Bool) (v : Val)
+    → type ≡ boolean_type → IsOfKind truths v → Ends slots type (JoinGives connective left v)
+join_ends slots type connective left null is truth =
+    (gives (truth_val (joined connective left None)), (refl, truth_ends slots type (joined connective left None) is))
+join_ends slots type connective left (boolean b) is truth =
+    (gives (truth_val (joined connective left (Some b))), (refl, truth_ends slots type (joined connective left (Some b)) is))
+join_ends slots type connective left _ is truth = absurd truth
+
+connective_ends : (slots : Slots) (connective : Connective) (right type : ExprType) (l : Val) (Right : Outcome → Type 0)
+    → type ≡ boolean_type → IsOfKind truths l → ((v : Val) → HasType slots right v → IsOfKind truths v)
+    → Ends slots right Right → Ends slots type (ConnectiveGives connective l Right)
+connective_ends slots Connective.And right type (boolean false) Right is truth truths_right ends = (gives (boolean false), (refl, truth_ends slots type (Some false) is))
+connective_ends slots Connective.And right type (boolean true) Right is truth truths_right ends =
+    after_ends slots right type Right (JoinGives Connective.And (Some true)) ends (λ v has. join_ends slots type Connective.And (Some true) v is (truths_right v has))
+connective_ends slots Connective.And right type null Right is truth truths_right ends =
+    after_ends slots right type Right (JoinGives Connective.And None) ends (λ v has. join_ends slots type Connective.And None v is (truths_right v has))
+connective_ends slots Connective.Or right type (boolean true) Right is truth truths_right ends = (gives (boolean true), (refl, truth_ends slots type (Some true) is))
+connective_ends slots Connective.Or right type (boolean false) Right is truth truths_right ends =
+    after_ends slots right type Right (JoinGives Connective.Or (Some false)) ends (λ v has. join_ends slots type Connective.Or (Some false) v is (truths_right v has))
+connective_ends slots Connective.Or right type null Right is truth truths_right ends =
+    after_ends slots right type Right (JoinGives Connective.Or None) ends (λ v has. join_ends slots type Connective.Or None v is (truths_right v has))
+connective_ends slots Connective.And right type _ Right is truth truths_right ends = absurd truth
+connective_ends slots Connective.Or right type _ Right is truth truths_right ends = absurd truth
+
+-- what comes of a number in a type lies within that
+number_typed : (slots : Slots) (p : PrimitiveType) (n : ℤ) (answer : Result (Option ℤ) ArithFault) → ComesWithin p n answer
+    → IsOutcomeOf slots (single (primitive p)) (number_outcome answer)
+number_typed slots p n (Ok (Some m)) comes = let same : m ≡ n = cc in subst (λ (k : ℤ). IsNumberOf p k) (sym same) comes.1
+number_typed slots p n (Ok None) comes = tt
+number_typed slots p n (Err Overflow) comes = tt
+number_typed slots p n (Err DivideByZero) comes = tt
+
+answer_typed : (slots : Slots) (operator : ArithmeticOperator) (p : PrimitiveType) (a b : ℤ) (answer : Result (Option ℤ) ArithFault)
+    → ArithmeticGives operator p (Some a) (Some b) answer → IsOutcomeOf slots (single (primitive p)) (number_outcome answer)
+answer_typed slots operator p a b (Err DivideByZero) given = tt
+answer_typed slots operator p a b (Err Overflow) given = tt
+answer_typed slots operator p a b (Ok answer) given = number_typed slots p given.0 (Ok answer) given.2
+
+calculation_ends : (some : SomeEach) (slots : Slots) (operator : ArithmeticOperator) (type : ExprType) (l r : Val)
+    → AreNumbers type l r → Ends slots type (CalculationGives operator type l r)
+calculation_ends some slots operator type null null are = (gives null, (refl, tt))
+calculation_ends some slots operator type null (whole b) are = (gives null, (refl, tt))
+calculation_ends some slots operator type (whole a) null are = (gives null, (refl, tt))
+calculation_ends some slots operator (single (primitive p)) (whole a) (whole b) are =
+    let answer = some.answer operator p (Some a) (Some b) are.0 in
+    (number_outcome answer.0, ((answer.0, answer.1, refl), answer_typed slots operator p a b answer.0 answer.1))
+calculation_ends some slots operator (single (enumeration qualified)) (whole a) (whole b) are = absurd are
+calculation_ends some slots operator (single (structured qualified)) (whole a) (whole b) are = absurd are
+calculation_ends some slots operator null_type (whole a) (whole b) are = absurd are
+calculation_ends some slots operator (collection s) (whole a) (whole b) are = absurd are
+calculation_ends some slots operator type null _ are = absurd are
+calculation_ends some slots operator type (whole a) _ are = absurd are
+calculation_ends some slots operator type _ r are = absurd are
+
+negation_ends : (some : SomeEach) (slots : Slots) (type : ExprType) (v : Val) → IsOneNumber type v → Ends slots type (NegatedGives type v)
+negation_ends some slots type null is = (gives null, (refl, tt))
+negation_ends some slots (single (primitive p)) (whole a) is =
+    let answer = some.negation p (Some a) is.0 in
+    (number_outcome answer.0, ((answer.0, answer.1, refl), number_typed slots p _ answer.0 answer.1))
+negation_ends some slots _ _ is = absurd is
+
+-- what is computed in the type of its node
+in_type : (slots : Slots) (NodeTyped : ExprType → Type 0) (Gives : ExprType → Outcome → Type 0) (type : ExprType)
+    → NodeTyped type → Ends slots type (Gives type) → Ends slots type (InType NodeTyped Gives)
+in_type slots NodeTyped Gives type typed ends = (ends.0, ((type, typed, ends.1.0), ends.1.1))
+
+class_ends : (some : SomeEach) (promotes : Promotes) (slots : Slots) (class : OperatorClass) (NodeTyped : ExprType → Type 0) (left right type : ExprType) (l : Val) (Right : Outcome → Type 0)
+    → ClassTyped class left right type → NodeTyped type → HasType slots left l → Ends slots right Right
+    → Ends slots type (ClassGives class NodeTyped l Right)
+class_ends some promotes slots (OperatorClass.Connective connective) NodeTyped left right type l Right typed is of_l ends =
+    connective_ends slots connective right type l Right typed.2 (truth_of slots left l typed.0 of_l) (λ v has. truth_of slots right v typed.1 has) ends
+class_ends some promotes slots (OperatorClass.Comparison comparison) NodeTyped left right type l Right typed is of_l ends =
+    after_ends slots right type Right (CompareGives comparison l) ends (λ r of_r. compare_ends some slots comparison left right type l r typed of_l of_r)
+class_ends some promotes slots (OperatorClass.Arithmetic arithmetic) NodeTyped left right type l Right typed is of_l ends =
+    after_ends slots right type Right (λ r. InType NodeTyped (λ t. CalculationGives arithmetic t l r)) ends
+    (λ r of_r. in_type slots NodeTyped (λ t. CalculationGives arithmetic t l r) type is
+    (calculation_ends some slots arithmetic type l r (calculated_values promotes slots left right type l r typed of_l of_r)))
+
+module _ (some : SomeEach) (promotes : Promotes) (slots : Slots) (root : List ℕ) (now : MomentParts) (entity : Val) (environment : Environment)
     (conforms : HasType slots (single (structured root)) entity) (fitting : IsFitting slots environment) where
-  operator_ends : (operator : BinaryOperator) (left right : Tree) (left_type right_type type : ExprType)
-      → OperatorTyped operator left_type right_type type
-      → Ends slots left_type (Means slots root now entity environment left)
-      → Ends slots right_type (Means slots root now entity environment right)
-      → (start stop : ℕ) → Ends slots type (Means slots root now entity environment (node start stop (binary operator left right)))
-  operator_ends BinaryOperator.And left right left_type right_type type typed l r start stop =
-      let both = and_truths l.0 r.0 (Means slots root now entity environment right) (truth_of slots left_type l.0 typed.0 l.1.1)
-      (truth_of slots right_type r.0 typed.1 r.1.1) r.1.0 in
-      (both.0, ((gives l.0, (l.1.0, both.1.0)), typed_value slots boolean_type type both.0 typed.2 (boolean_of_truth slots both.0 both.1.1)))
-  operator_ends BinaryOperator.Eq left right left_type right_type type typed l r start stop =
-      let equal = equal_ends slots left_type right_type l.0 r.0 typed.0 l.1.1 r.1.1 in
-      (boolean equal.0, ((gives l.0, (l.1.0, (gives r.0, (r.1.0, equal.1)))), typed_value slots boolean_type type (boolean equal.0) typed.1 tt))
-  operator_ends _ left right left_type right_type type typed l r start stop = absurd typed
-
   pub tree_ends : (tree : Tree) (type : ExprType) → Typed slots root (scope_of environment) tree type
       → Ends slots type (Means slots root now entity environment tree)
   tree_ends (node start stop (literal kind spelling)) type typed = literal_ends slots kind spelling type typed
+  tree_ends (node start stop it) type typed = (gives entity, (refl, typed_value slots (single (structured root)) type entity typed conforms))
   tree_ends (node start stop (name asked)) type typed =
       found_ends slots root entity asked type (variable_type (scope_of environment) asked) (variable_value environment asked)
       conforms (variable_fits slots environment asked fitting) typed
+  tree_ends (node start stop (tree.member base asked)) type typed =
+      after_ends slots typed.operand type (Means slots root now entity environment base) (λ v. StepGives v asked)
+      (tree_ends base typed.operand typed.operand_typed) (λ v has. member_ends slots typed.operand v asked type typed.makes has)
+  tree_ends (node start stop (negation operand)) type typed =
+      let NodeTyped : ExprType → Type 0 = OperandTyped (Typed slots root (scope_of environment) operand) NegationTyped in
+      after_ends slots typed.operand type (Means slots root now entity environment operand) (λ v. InType NodeTyped (λ t. NegatedGives t v))
+      (tree_ends operand typed.operand typed.operand_typed)
+      (λ v has. in_type slots NodeTyped (λ t. NegatedGives t v) type typed
+      (negation_ends some slots type v (negated_value promotes slots typed.operand type v typed.makes has)))
+  tree_ends (node start stop (logical_not operand)) type typed =
+      after_ends slots typed.operand type (Means slots root now entity environment operand) NotGives
+      (tree_ends operand typed.operand typed.operand_typed) (λ v has. not_ends slots typed.operand type v typed.makes has)
   tree_ends (node start stop (binary operator left right)) type typed =
-      operator_ends operator left right typed.left typed.right type typed.operator_typed
-      (tree_ends left typed.left typed.left_typed) (tree_ends right typed.right typed.right_typed) start stop
+      let NodeTyped : ExprType → Type 0 =
+      OperandsTyped operator (Typed slots root (scope_of environment) left) (Typed slots root (scope_of environment) right) in
+      after_ends slots typed.left type (Means slots root now entity environment left)
+      (λ l. ClassGives (class_of operator) NodeTyped l (Means slots root now entity environment right))
+      (tree_ends left typed.left typed.left_typed)
+      (λ l of_l. class_ends some promotes slots (class_of operator) NodeTyped typed.left typed.right type l (Means slots root now entity environment right)
+      typed.operator_typed typed of_l (tree_ends right typed.right typed.right_typed))
   tree_ends (node start stop _) type typed = absurd typed

@@ -1,30 +1,21 @@
 -- What a filter's whole list comes to.
-use Rattle.std.proofs.Common.{◌≡◌, ℕ, [], Option, Some, None, length, subst}
+use Rattle.std.proofs.Common.{◌≡◌, ◌∙◌, ℕ, [], Option, Some, None, Result, Err, Bool, length, sym, subst}
 use Rattle.std.specs.Prelude.{IsSomeAnd, IfSome}
 use Rattle.edm_values.specs.MomentParts.{MomentParts}
-use Rattle.odata_syntax.specs.Tree.{Tree}
 use Rattle.csdl_schema.specs.SchemaModel.{SchemaModel, slots_of, type_name_at}
-use Rattle.edm_entities.specs.Row.{Row, value_of}
-use Rattle.odata_eval.specs.MeansOn.{MeansOn, IsTheOutcome}
-use Rattle.odata_eval.specs.Outcome.{Outcome}
-use Rattle.odata_eval.specs.private.Place.{TruthStands}
-use Rattle.odata_eval.specs.private.WalkAnswer.{AnswersAtPlace}
+use Rattle.edm_entities.specs.Row.{Row, IsEntity}
 use Rattle.odata_typing.specs.Filter.{Filter, IsFilter, tree_of_filter}
 use Rattle.odata_typing.specs.Stands.{Stands}
 use Rattle.odata_typing.specs.Typed.{Typed}
-use Rattle.odata_eval.proofs.meaning.OneMeaning.{Means-one}
-use Rattle.odata_eval.proofs.meaning.OneStep.{OneValue}
-
--- no tree has two outcomes on an entity
-one_outcome : OneValue → (row : Row) (now : MomentParts) (tree : Tree) (a b : Outcome) → MeansOn row now tree a → MeansOn row now tree b → a ≡ b
-one_outcome values row now tree = Means-one values (slots_of row.schema) (type_name_at row.schema row.type_id) now (value_of row) [] tree
-
-told_the_outcome : OneValue → (row : Row) (now : MomentParts) (tree : Tree) (told : Option Outcome) → IsSomeAnd told (MeansOn row now tree) → IfSome told (IsTheOutcome row now tree)
-told_the_outcome values row now tree (Some o) related = record {
-  related = related;
-  only = λ other of_other. one_outcome values row now tree other o of_other related;
-}
-told_the_outcome values row now tree None related = absurd related
+use Rattle.odata_eval.specs.declared.fault.EvalFault.{EvalFault}
+use Rattle.odata_eval.specs.EndsOnce.{EndsOnceOnEntities}
+use Rattle.odata_eval.specs.MeansOn.{IsTheOutcome}
+use Rattle.odata_eval.specs.Outcome.{Outcome}
+use Rattle.odata_eval.specs.VerdictView.{fault_outcome}
+use Rattle.odata_eval.specs.private.DatumView.{truth_outcome}
+use Rattle.odata_eval.specs.private.Place.{TruthStands}
+use Rattle.odata_eval.specs.private.WalkAnswer.{AnswersTruth}
+use Rattle.odata_eval.proofs.walking.WalkValues.{MeansAt}
 
 module _ (filter : Filter) (row : Row) (right : IsFilter filter) (one_schema : filter.schema ≡ row.schema) (one_type : filter.filtered ≡ row.type_id) where
   whole_stands : Stands row.schema row.type_id [] filter.list 0 (length filter.list.nodes) (tree_of_filter filter)
@@ -32,19 +23,40 @@ module _ (filter : Filter) (row : Row) (right : IsFilter filter) (one_schema : f
       subst (λ (s : SchemaModel). Stands s row.type_id [] filter.list 0 (length filter.list.nodes) (tree_of_filter filter)) one_schema
       (subst (λ (n : ℕ). Stands filter.schema n [] filter.list 0 (length filter.list.nodes) (tree_of_filter filter)) one_type right.stands)
 
+  whole_typed : Typed (slots_of row.schema) (type_name_at row.schema row.type_id) [] (tree_of_filter filter) right.type_of
+  whole_typed =
+      subst (λ (s : SchemaModel). Typed (slots_of s) (type_name_at s row.type_id) [] (tree_of_filter filter) right.type_of) one_schema
+      (subst (λ (n : ℕ). Typed (slots_of filter.schema) (type_name_at filter.schema n) [] (tree_of_filter filter) right.type_of) one_type right.typed)
+
   -- the whole is of type Boolean or Null
-  pub top_stands : TruthStands row filter.list 0
+  pub top_stands : TruthStands row [] filter.list 0
   top_stands = record {
     stop = length filter.list.nodes;
     tree = tree_of_filter filter;
     stands = whole_stands;
     type_of = right.type_of;
-    typed = subst (λ (s : SchemaModel). Typed (slots_of s) (type_name_at s row.type_id) [] (tree_of_filter filter) right.type_of) one_schema
-        (subst (λ (n : ℕ). Typed (slots_of filter.schema) (type_name_at filter.schema n) [] (tree_of_filter filter) right.type_of) one_type right.typed);
+    typed = whole_typed;
     truth = right.truth;
   }
 
+  only_told : EndsOnceOnEntities → IsEntity row → (now : MomentParts) (told : Option Outcome)
+      → IsSomeAnd told (MeansAt row now (tree_of_filter filter)) → IfSome told (IsTheOutcome row now (tree_of_filter filter))
+  only_told ends entity now (Some o) related =
+      let e = ends row now [] (tree_of_filter filter) right.type_of entity tt whole_typed in
+      record { related = related; only = λ other of_other. e.only other of_other ∙ sym (e.only o related) }
+  only_told ends entity now None related = absurd related
+
+  no_memory_told : (fault : EvalFault) (Told : Outcome → Type 0) → IsSomeAnd (fault_outcome fault) Told → fault ≡ EvalFault.Memory → ⊥
+  no_memory_told fault Told is same = subst (λ (f : EvalFault). IsSomeAnd (fault_outcome f) Told) same is
+
+  -- the walk takes no memory
+  pub top_no_memory : (now : MomentParts) (fault : EvalFault) → AnswersTruth row now [] filter.list 0 (Err fault) → fault ≡ EvalFault.Memory → ⊥
+  top_no_memory now fault answers =
+      no_memory_told fault (MeansAt row now (tree_of_filter filter))
+      (answers.of_tree (length filter.list.nodes) (tree_of_filter filter) right.type_of whole_stands whole_typed)
+
   -- what the walk answers of it is the filter's one outcome
-  pub top_outcome : OneValue → (now : MomentParts) (told : Option Outcome) → AnswersAtPlace row now filter.list 0 told → IfSome told (IsTheOutcome row now (tree_of_filter filter))
-  top_outcome values now told answers =
-      told_the_outcome values row now (tree_of_filter filter) told (answers.of_tree (length filter.list.nodes) (tree_of_filter filter) whole_stands)
+  pub top_outcome : EndsOnceOnEntities → IsEntity row → (now : MomentParts) (answer : Result (Option Bool) EvalFault)
+      → AnswersTruth row now [] filter.list 0 answer → IfSome (truth_outcome answer) (IsTheOutcome row now (tree_of_filter filter))
+  top_outcome ends entity now answer answers =
+      only_told ends entity now (truth_outcome answer) (answers.of_tree (length filter.list.nodes) (tree_of_filter filter) right.type_of whole_stands whole_typed)

@@ -342,7 +342,7 @@ expression_solid tree part e w = nested_solid (held w (expression_nested tree e)
 pub expression_apart : (tree a b : Tree) → IsExpression tree → IsWithin a tree → IsWithin b tree → ¬ IsWithin a b → ¬ IsWithin b a → SharesNoByte a b
 expression_apart tree a b e w v outside beyond = apart w b (expression_nested tree e) v outside beyond
 
-pub expression_children : (tree node a b : Tree) → IsExpression tree → IsWithin node tree → Contains (children_of (shape_of node)) a → Contains (children_of (shape_of node)) b → (a ≡ b) ⊎ SharesNoByte a b
+pub expression_children : (tree parent a b : Tree) → IsExpression tree → IsWithin parent tree → Contains (children_of (shape_of parent)) a → Contains (children_of (shape_of parent)) b → (a ≡ b) ⊎ SharesNoByte a b
 unfolding Apart
-expression_children tree node a b e w c d =
-    two_apart (nested_children (held w (expression_nested tree e)).nests) a b (among (children_of (shape_of node)) a c) (among (children_of (shape_of node)) b d)
+expression_children tree parent a b e w c d =
+    two_apart (nested_children (held w (expression_nested tree e)).nests) a b (among (children_of (shape_of parent)) a c) (among (children_of (shape_of parent)) b d)

@@ -1,4 +1,4 @@
-//! How tightly the forms bind, the loosest first (OData URL Conventions 4.01, section 5.1.1.16, operator precedence).
+//! How tightly the forms bind, the loosest first (OData URL Conventions 4.01, section 5.1.1.17, operator precedence).
 
 /// A whole expression.
 pub const OR: u8 = 1;

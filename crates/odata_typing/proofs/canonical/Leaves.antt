@@ -1,31 +1,35 @@
--- What the walk that writes canonical text writes of a node.
+-- What the walk that writes canonical text writes of a node without children.
 use Rattle.std.proofs.lemmas.Bool.Decides.{nat_tests}
 use Rattle.std.proofs.Common.{◌≡◌, ◌∙◌, ℕ, ◌*◌, ◌-◌, ◌<◌, ◌≤◌, List, [], ◌∷◌, ◌++◌, Option, Some, Result, Ok, Err, OnOk, append-nil, slice_get, false, true, refl, sym, subst, ap, arith, unwrap_or, option_map, length}
-use Rattle.std.specs.Prelude.{nat_lt}
-use Rattle.edm_values.specs.declared.value.Value.{Value}
+use Rattle.std.specs.Prelude.{codes, if◌then◌else◌, is_ok, nat_lt}
 use Rattle.odata_text.specs.LiteralSpelling.{IsLiteralSpelling}
 use Rattle.odata_syntax.specs.Appended.{IsAppended}
 use Rattle.odata_syntax.specs.CanonicalText.{grouped}
 use Rattle.odata_syntax.specs.Grammar.{Level, base_level}
 use Rattle.odata_syntax.specs.NormalForm.{literal_token}
-use Rattle.odata_syntax.specs.Tree.{Shape, Tree, binary, literal, name, node}
-use Rattle.odata_syntax.specs.declared.node.BinaryOperator.{BinaryOperator}
+use Rattle.odata_syntax.specs.Tree.{Shape, Tree, it, literal, name, node}
 use Rattle.odata_syntax.specs.declared.node.LiteralKind.{LiteralKind}
-use Rattle.csdl_schema.specs.SchemaModel.{PropertyModel, SchemaModel, properties_at}
+use Rattle.csdl_schema.specs.SchemaModel.{SchemaModel}
 use Rattle.odata_typing.specs.declared.canonical_text.Part.{Part}
 use Rattle.odata_typing.specs.declared.canonical_text.Part.TheVariants.{Operand}
 use Rattle.odata_typing.specs.declared.checked_node.CheckedNode.{CheckedNode}
 use Rattle.odata_typing.specs.declared.checked_node.NodeKind.{NodeKind}
 use Rattle.odata_typing.specs.FlatTree.{FlatTree}
-use Rattle.odata_typing.specs.Stands.{IsKindOf, IsTop, Stands, names_of}
+use Rattle.odata_typing.specs.Stands.{Stands}
 use Rattle.odata_typing.specs.Typed.{Scope}
-use Rattle.odata_typing.specs.private.CanonicalWalk.{GoesOn, HasTreeAt, IsPieceOf, IsPieceText, IsTextAdded, Piece, StandsThere, WritesPart, between, closing, operand, stop_at}
+use Rattle.odata_typing.specs.private.CanonicalWalk.{GoesOn, HasTreeAt, IsPieceOf, IsPieceText, IsTextAdded, Piece, StandsThere, WritesPart, behind_slash, between, closing, operand, stop_at}
+use Rattle.odata_typing.proofs.canonical.Kinds.{Matches, shape_there}
 use Rattle.odata_typing.proofs.flat.Places.{found_before}
 use Rattle.odata_typing.proofs.flat.Standing.{stands_nonempty}
 
 pub on_ok : {A E P Q : Type 0} (r : Result A E) → (P → Q) → OnOk r P → OnOk r Q
 on_ok (Ok x) f given = f given
 on_ok (Err e) f given = tt
+
+-- what `push_str` says of its own success
+pub pushed_ok : {A E : Type 0} (r : Result A E) (x a b : List ℕ) → x ≡ (if is_ok r then a else b) → OnOk r (x ≡ a)
+pushed_ok (Ok v) x a b given = given
+pushed_ok (Err e) x a b given = tt
 
 -- ---- where a node stops
 
@@ -48,21 +52,6 @@ has_weight list i has =
     let some : i < there.stop = stands_nonempty there.schema there.filtered there.scope list i there.stop has.0 there.stands in
     omega arith
 
--- ---- its kind
-
-same_node : (nodes : List CheckedNode) (i : ℕ) (a b : CheckedNode) → slice_get nodes i ≡ Some a → slice_get nodes i ≡ Some b → a ≡ b
-same_node nodes i a b first second = cc
-
-same_text : (texts : List (List ℕ)) (i : ℕ) (a b : List ℕ) → slice_get texts i ≡ Some a → slice_get texts i ≡ Some b → a ≡ b
-same_text texts i a b first second = cc
-
-pub kind_there : (list : FlatTree) (schema : SchemaModel) (n : ℕ) (scope : Scope) (i j start stop : ℕ) (shape : Shape) (found : CheckedNode) (kind : NodeKind)
-    → IsTop schema n scope list i j start stop shape → slice_get list.nodes i ≡ Some found → found.kind ≡ kind
-    → IsKindOf list.values (properties_at schema n) (names_of scope) shape kind
-kind_there list schema n scope i j start stop shape found kind top at is =
-    let same : top.found.kind ≡ kind = ap (λ (f : CheckedNode). f.kind) (same_node list.nodes i top.found found top.stands_at at) ∙ is in
-    subst (λ (k : NodeKind). IsKindOf list.values (properties_at schema n) (names_of scope) shape k) same top.kind
-
 -- ---- groups
 
 pub below : (a b : ℕ) → b ≤ a → nat_lt a b ≡ false
@@ -79,26 +68,34 @@ in_group needed own text tight = rw tight refl
 
 -- ---- a leaf
 
-no_operator : (kind : LiteralKind) (value : ℕ) (operator : BinaryOperator) → NodeKind.Literal kind value ≡ NodeKind.Binary operator → ⊥
-no_operator kind value operator same = cc
+same_text : (texts : List (List ℕ)) (i : ℕ) (a b : List ℕ) → slice_get texts i ≡ Some a → slice_get texts i ≡ Some b → a ≡ b
+same_text texts i a b first second = cc
+
+-- the text of an operand that is a path, which stands without parentheses anywhere
+pub path_text : (level : Level) (text : List ℕ) → level ≤ base_level → text ≡ grouped level 11 text
+path_text level text within = sym (ungrouped level 11 text (below 11 level (let h : level ≤ 9 = within in omega arith)))
 
 literal_there : (list : FlatTree) (i : ℕ) (found : CheckedNode) (kind : LiteralKind) (value : ℕ) (spelling text : List ℕ) (level : Level) (tree : Tree)
     → slice_get list.nodes i ≡ Some found → found.kind ≡ NodeKind.Literal kind value → slice_get list.texts i ≡ Some spelling
     → level ≤ base_level → IsLiteralSpelling (literal_token kind) spelling text → StandsThere list i tree
     → IsPieceText (operand level tree) text
-literal_there list i found kind value spelling text level (node start stop (literal k s)) at is beside within spelled there =
-    let top = there.stands.top in
-    let kinds = kind_there list there.schema there.filtered there.scope i there.stop start stop (literal k s) found (NodeKind.Literal kind value) top at is in
-    let same : spelling ≡ s = same_text list.texts i spelling s beside top.text_at in
-    let here : IsLiteralSpelling (literal_token k) s text =
-    subst (λ (l : LiteralKind). IsLiteralSpelling (literal_token l) s text) kinds.0 (subst (λ (t : List ℕ). IsLiteralSpelling (literal_token kind) t text) same spelled) in
-    (node start stop (literal k text), (literal k text, (text, here, refl), refl), sym (ungrouped level base_level text (below base_level level within)))
-literal_there list i found kind value spelling text level (node start stop (name asked)) at is beside within spelled there =
-    absurd (kind_there list there.schema there.filtered there.scope i there.stop start stop (name asked) found (NodeKind.Literal kind value) there.stands.top at is)
-literal_there list i found kind value spelling text level (node start stop (binary operator left right)) at is beside within spelled there =
-    absurd (no_operator kind value operator
-    (kind_there list there.schema there.filtered there.scope i there.stop start stop (binary operator left right) found (NodeKind.Literal kind value) there.stands.top at is))
-literal_there list i found kind value spelling text level (node start stop _) at is beside within spelled there = absurd there.stands.children
+literal_there list i found kind value spelling text level (node start stop shape) at is beside within spelled there =
+    let m = shape_there list i found (NodeKind.Literal kind value) start stop shape at is there in
+    let P : Shape → Type 0 = λ (s : Shape). StandsThere list i (node start stop s) → IsPieceText (operand level (node start stop s)) text in
+    let T : List ℕ → Type 0 = λ (t : List ℕ). IsLiteralSpelling (literal_token kind) t text in
+    subst P (sym m.1)
+    (λ here.
+    let same : spelling ≡ m.0 = same_text list.texts i spelling m.0 beside here.stands.top.text_at in
+    (node start stop (literal kind text), (literal kind text, (text, subst T same spelled, refl), refl), sym (ungrouped level base_level text (below base_level level within))))
+    there
+
+it_there : (list : FlatTree) (i : ℕ) (found : CheckedNode) (level : Level) (tree : Tree)
+    → slice_get list.nodes i ≡ Some found → found.kind ≡ NodeKind.It → level ≤ base_level → StandsThere list i tree
+    → IsPieceText (operand level tree) (codes "$it")
+it_there list i found level (node start stop shape) at is within there =
+    let m = shape_there list i found NodeKind.It start stop shape at is there in
+    let P : Shape → Type 0 = λ (s : Shape). IsPieceText (operand level (node start stop s)) (codes "$it") in
+    subst P (sym m) (node start stop it, (it, refl, refl), path_text level (codes "$it") within)
 
 -- a name is that of a property or of a variable
 abbrev pub IsNamed : NodeKind → Type 0
@@ -106,28 +103,22 @@ IsNamed (NodeKind.Property slot) = Unit {0}
 IsNamed (NodeKind.Variable level) = Unit {0}
 IsNamed _ = ⊥
 
-no_literal : (values : List Value) (properties : List PropertyModel) (variables : List (List ℕ)) (k : LiteralKind) (s : List ℕ) (kind : NodeKind)
-    → IsNamed kind → IsKindOf values properties variables (literal k s) kind → ⊥
-no_literal values properties variables k s (NodeKind.Property slot) named is = is
-no_literal values properties variables k s (NodeKind.Variable level) named is = is
-no_literal values properties variables k s _ named is = named
-
-no_binary : (operator : BinaryOperator) (kind : NodeKind) → IsNamed kind → kind ≡ NodeKind.Binary operator → ⊥
-no_binary operator kind named is = subst IsNamed is named
+named_shape : (kind : NodeKind) (shape : Shape) → IsNamed kind → Matches kind shape → (asked : List ℕ) × (shape ≡ name asked)
+named_shape (NodeKind.Property slot) shape named is = is
+named_shape (NodeKind.Variable level) shape named is = is
+named_shape _ shape named is = absurd named
 
 name_there : (list : FlatTree) (i : ℕ) (found : CheckedNode) (spelling : List ℕ) (level : Level) (tree : Tree)
     → slice_get list.nodes i ≡ Some found → IsNamed found.kind → slice_get list.texts i ≡ Some spelling
     → level ≤ base_level → StandsThere list i tree → IsPieceText (operand level tree) spelling
-name_there list i found spelling level (node start stop (name asked)) at named beside within there =
-    let same : spelling ≡ asked = same_text list.texts i spelling asked beside there.stands.top.text_at in
-    (node start stop (name asked), (name asked, refl, refl), same ∙ sym (ungrouped level 11 asked (below 11 level (let h : level ≤ 9 = within in omega arith))))
-name_there list i found spelling level (node start stop (literal k s)) at named beside within there =
-    absurd (no_literal list.values (properties_at there.schema there.filtered) (names_of there.scope) k s found.kind named
-    (kind_there list there.schema there.filtered there.scope i there.stop start stop (literal k s) found found.kind there.stands.top at refl))
-name_there list i found spelling level (node start stop (binary operator left right)) at named beside within there =
-    absurd (no_binary operator found.kind named
-    (kind_there list there.schema there.filtered there.scope i there.stop start stop (binary operator left right) found found.kind there.stands.top at refl))
-name_there list i found spelling level (node start stop _) at named beside within there = absurd there.stands.children
+name_there list i found spelling level (node start stop shape) at named beside within there =
+    let m = named_shape found.kind shape named (shape_there list i found found.kind start stop shape at refl there) in
+    let P : Shape → Type 0 = λ (s : Shape). StandsThere list i (node start stop s) → IsPieceText (operand level (node start stop s)) spelling in
+    subst P (sym m.1)
+    (λ here.
+    let same : spelling ≡ m.0 = same_text list.texts i spelling m.0 beside here.stands.top.text_at in
+    (node start stop (name m.0), (name m.0, refl, refl), same ∙ path_text level m.0 within))
+    there
 
 -- the text of an operand was written, and nothing of it waits
 whole_operand : (list : FlatTree) (i needed : ℕ) (text : List ℕ) (piece : Piece)
@@ -135,6 +126,7 @@ whole_operand : (list : FlatTree) (i needed : ℕ) (text : List ℕ) (piece : Pi
     → IsPieceOf list (Operand i needed) piece → GoesOn list [] text piece
 whole_operand list i needed text (between operator) written is = absurd is
 whole_operand list i needed text closing written is = absurd is
+whole_operand list i needed text (behind_slash asked) written is = absurd is
 whole_operand list i needed text (operand level tree) written is = record {
   pieces = [];
   are = tt;
@@ -162,6 +154,13 @@ literal_written list i needed found kind value spelling before after parts has a
     whole_written list i needed added.text before after parts has added.whole
     (λ level tree within there. literal_there list i found kind value spelling added.text level tree at is beside within added.is_text there)
 
+pub it_written : (list : FlatTree) (i needed : ℕ) (found : CheckedNode) (before after : List ℕ) (parts : List Part)
+    → HasTreeAt list i → slice_get list.nodes i ≡ Some found → found.kind ≡ NodeKind.It → after ≡ before ++ codes "$it"
+    → WritesPart list (Operand i needed) before after parts parts
+it_written list i needed found before after parts has at is added =
+    whole_written list i needed (codes "$it") before after parts has added
+    (λ level tree within there. it_there list i found level tree at is within there)
+
 pub name_written : (list : FlatTree) (i needed : ℕ) (found : CheckedNode) (before after : List ℕ) (parts : List Part)
     → HasTreeAt list i → slice_get list.nodes i ≡ Some found → IsNamed found.kind → IsTextAdded list i before after
     → WritesPart list (Operand i needed) before after parts parts
@@ -173,4 +172,5 @@ name_written list i needed found before after parts has at named text =
 pub operand_there : (list : FlatTree) (i needed : ℕ) (piece : Piece) → IsPieceOf list (Operand i needed) piece → HasTreeAt list i
 operand_there list i needed (between operator) is = absurd is
 operand_there list i needed closing is = absurd is
+operand_there list i needed (behind_slash asked) is = absurd is
 operand_there list i needed (operand level tree) is = (tree, is.there)

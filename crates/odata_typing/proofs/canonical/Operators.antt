@@ -5,7 +5,7 @@ use Rattle.odata_syntax.specs.CanonicalText.{grouped, tree_level, tree_text}
 use Rattle.odata_syntax.specs.Grammar.{Level, base_level, operator_level}
 use Rattle.odata_syntax.specs.Lexeme.{operator_word}
 use Rattle.odata_syntax.specs.NormalForm.{IsNormalForm}
-use Rattle.odata_syntax.specs.Tree.{Tree, binary, literal, name, node}
+use Rattle.odata_syntax.specs.Tree.{Shape, Tree, binary, node}
 use Rattle.odata_syntax.specs.declared.node.BinaryOperator.{BinaryOperator}
 use Rattle.odata_syntax.specs.declared.node.BinaryOperator.TheVariants.{Add, And, Div, Eq, Ge, Gt, Le, Lt, Mod, Mul, Ne, Or, Sub}
 use Rattle.odata_typing.specs.declared.canonical_text.Part.{Part}
@@ -13,9 +13,10 @@ use Rattle.odata_typing.specs.declared.canonical_text.Part.TheVariants.{Close, O
 use Rattle.odata_typing.specs.declared.checked_node.NodeKind.{NodeKind}
 use Rattle.odata_typing.specs.FlatTree.{FlatTree}
 use Rattle.odata_typing.specs.Stands.{Stands}
-use Rattle.odata_typing.specs.private.CanonicalWalk.{ArePieceTexts, ArePiecesOf, GoesOn, HasTreeAt, IsBinaryAt, IsPieceOf, Piece, StandsThere, WritesPart, between, closing, operand, operands_of, stop_at}
+use Rattle.odata_typing.specs.private.CanonicalWalk.{ArePieceTexts, ArePiecesOf, GoesOn, HasTreeAt, IsBinaryAt, IsPieceOf, Piece, StandsThere, WritesPart, behind_slash, between, closing, operand, operands_of, stop_at}
 use Rattle.odata_typing.proofs.flat.Standing.{stands_nonempty}
-use Rattle.odata_typing.proofs.canonical.Leaves.{above, below, in_group, kind_there, place_of, stop_is, ungrouped}
+use Rattle.odata_typing.proofs.canonical.Kinds.{shape_there}
+use Rattle.odata_typing.proofs.canonical.Leaves.{above, below, in_group, place_of, stop_is, ungrouped}
 
 level_low : (operator : BinaryOperator) → operator_level operator + 1 ≤ base_level
 level_low Or = omega arith
@@ -101,15 +102,6 @@ operands_text start stop operator left right text are =
       printed = whole ∙ ap (λ (n : ℕ). a ++ (32 ∷ (w ++ (32 ∷ grouped n (tree_level r.0) (tree_text r.0))))) next;
     }
 
--- ---- the operator that stands there
-
-same_operator : (list : FlatTree) (i start stop : ℕ) (operator other : BinaryOperator) (left right : Tree)
-    → IsBinaryAt list i operator → StandsThere list i (node start stop (binary other left right)) → other ≡ operator
-same_operator list i start stop operator other left right is there =
-    let kinds : NodeKind.Binary operator ≡ NodeKind.Binary other =
-    kind_there list there.schema there.filtered there.scope i there.stop start stop (binary other left right) is.found (NodeKind.Binary operator) there.stands.top is.at is.is in
-    cc
-
 -- in the place of an operand, no parentheses
 goes_bare : (list : FlatTree) (i start stop : ℕ) (operator : BinaryOperator) (left right : Tree) (level : Level)
     → nat_lt (operator_level operator) level ≡ false → StandsThere list i (node start stop (binary operator left right))
@@ -144,19 +136,14 @@ module _ (list : FlatTree) (i needed : ℕ) (operator : BinaryOperator) (parts :
     → GoesOn list parts text (operand needed (node start stop (binary operator left right))))
     (is : IsBinaryAt list i operator) where
   at_tree : (tree : Tree) → StandsThere list i tree → GoesOn list parts text (operand needed tree)
-  at_tree (node start stop (binary other left right)) there =
-      let same : other ≡ operator = same_operator list i start stop operator other left right is there in
-      let T : BinaryOperator → Tree = λ (o : BinaryOperator). node start stop (binary o left right) in
-      subst (λ (o : BinaryOperator). GoesOn list parts text (operand needed (T o))) (sym same)
-      (goes start stop left right (subst (λ (o : BinaryOperator). StandsThere list i (T o)) same there))
-  at_tree (node start stop (literal k s)) there =
-      absurd (kind_there list there.schema there.filtered there.scope i there.stop start stop (literal k s) is.found (NodeKind.Binary operator) there.stands.top is.at is.is)
-  at_tree (node start stop (name asked)) there =
-      absurd (kind_there list there.schema there.filtered there.scope i there.stop start stop (name asked) is.found (NodeKind.Binary operator) there.stands.top is.at is.is)
-  at_tree (node start stop _) there = absurd there.stands.children
+  at_tree (node start stop shape) there =
+      let m = shape_there list i is.found (NodeKind.Binary operator) start stop shape is.at is.is there in
+      let P : Shape → Type 0 = λ (s : Shape). StandsThere list i (node start stop s) → GoesOn list parts text (operand needed (node start stop s)) in
+      subst P (sym m.2) (goes start stop m.0 m.1) there
 
   at_piece : (piece : Piece) → IsPieceOf list (Operand i needed) piece → GoesOn list parts text piece
   at_piece (between o) of = absurd of
+  at_piece (behind_slash asked) of = absurd of
   at_piece closing of = absurd of
   at_piece (operand level tree) of = subst (λ (n : ℕ). GoesOn list parts text (operand n tree)) of.same (at_tree tree of.there)
 
@@ -173,13 +160,14 @@ record HasOperands (list : FlatTree) (i : ℕ) : Type 0 where
   within : i + 1 < length list.nodes
   lighter : operand_sum list i < 3 * (stop_at list i - i)
 
-has_operands : (list : FlatTree) (i : ℕ) (operator : BinaryOperator) (tree : Tree) → IsBinaryAt list i operator → StandsThere list i tree → HasOperands list i
-has_operands list i operator (node start stop (binary other left right)) is there =
+operands_behind : (list : FlatTree) (i start stop : ℕ) (operator : BinaryOperator) (left right : Tree)
+    → StandsThere list i (node start stop (binary operator left right)) → HasOperands list i
+operands_behind list i start stop operator left right there =
     let sides = there.stands.children in
     let m = sides.middle in
     let first : stop_at list (i + 1) ≡ m = stop_is there.schema there.filtered there.scope list (i + 1) m left sides.left in
     let second : stop_at list m ≡ there.stop = stop_is there.schema there.filtered there.scope list m there.stop right sides.right in
-    let top : stop_at list i ≡ there.stop = stop_is there.schema there.filtered there.scope list i there.stop (node start stop (binary other left right)) there.stands in
+    let top : stop_at list i ≡ there.stop = stop_is there.schema there.filtered there.scope list i there.stop (node start stop (binary operator left right)) there.stands in
     record {
       within = place_of there.schema there.filtered there.scope list (i + 1) m left sides.left;
       lighter = sums (stop_at list (stop_at list (i + 1))) (stop_at list (i + 1)) (stop_at list i) i m there.stop
@@ -187,11 +175,12 @@ has_operands list i operator (node start stop (binary other left right)) is ther
           (stands_nonempty there.schema there.filtered there.scope list (i + 1) m left sides.left)
           (stands_nonempty there.schema there.filtered there.scope list m there.stop right sides.right);
     }
-has_operands list i operator (node start stop (literal k s)) is there =
-    absurd (kind_there list there.schema there.filtered there.scope i there.stop start stop (literal k s) is.found (NodeKind.Binary operator) there.stands.top is.at is.is)
-has_operands list i operator (node start stop (name asked)) is there =
-    absurd (kind_there list there.schema there.filtered there.scope i there.stop start stop (name asked) is.found (NodeKind.Binary operator) there.stands.top is.at is.is)
-has_operands list i operator (node start stop _) is there = absurd there.stands.children
+
+has_operands : (list : FlatTree) (i : ℕ) (operator : BinaryOperator) (tree : Tree) → IsBinaryAt list i operator → StandsThere list i tree → HasOperands list i
+has_operands list i operator (node start stop shape) is there =
+    let m = shape_there list i is.found (NodeKind.Binary operator) start stop shape is.at is.is there in
+    let P : Shape → Type 0 = λ (s : Shape). StandsThere list i (node start stop s) in
+    operands_behind list i start stop operator m.0 m.1 (subst P m.2 there)
 
 pub left_within : (list : FlatTree) (i : ℕ) (operator : BinaryOperator) → HasTreeAt list i → IsBinaryAt list i operator → i + 1 < length list.nodes
 left_within list i operator has is =

@@ -1,5 +1,5 @@
 -- What the walk that writes canonical text has still to write, step by step.
-use Rattle.std.proofs.Common.{◌≡◌, ◌∙◌, ℕ, ◌+◌, ◌-◌, ◌<◌, List, [], ◌∷◌, ◌++◌, Option, Some, None, take, append-nil, append_assoc, refl, sym, subst, ap, arith}
+use Rattle.std.proofs.Common.{◌≡◌, ◌∙◌, ℕ, ◌+◌, ◌-◌, ◌<◌, List, [], ◌∷◌, ◌++◌, Option, Some, None, length, slice_get, take, append-nil, append_assoc, refl, sym, subst, ap, arith}
 use Rattle.std.specs.Prelude.{MatchOption}
 use Rattle.std.specs.Option.{option_to_list}
 use Rattle.std.proofs.lemmas.List.Sums.{sum_by-append}
@@ -8,9 +8,9 @@ use Rattle.odata_syntax.specs.Lexeme.{operator_word}
 use Rattle.odata_syntax.specs.Tree.{Tree}
 use Rattle.odata_syntax.specs.declared.node.BinaryOperator.{BinaryOperator}
 use Rattle.odata_typing.specs.declared.canonical_text.Part.{Part}
-use Rattle.odata_typing.specs.declared.canonical_text.Part.TheVariants.{Close, Operand, Operator}
+use Rattle.odata_typing.specs.declared.canonical_text.Part.TheVariants.{Close, Operand, Operator, Step}
 use Rattle.odata_typing.specs.FlatTree.{FlatTree}
-use Rattle.odata_typing.specs.private.CanonicalWalk.{ArePieceTexts, ArePiecesOf, GoesOn, IsBehind, IsPending, IsPieceOf, IsPieceText, Piece, StandsThere, WritesPart, between, closing, operand, part_weight, weight}
+use Rattle.odata_typing.specs.private.CanonicalWalk.{ArePieceTexts, ArePiecesOf, GoesOn, IsBehind, IsPending, IsPieceOf, IsPieceText, IsStepAdded, Piece, StandsThere, WritesPart, behind_slash, between, closing, operand, part_weight, weight}
 use Rattle.odata_typing.proofs.canonical.Leaves.{below, ungrouped}
 
 -- ---- pieces of two lists of parts
@@ -161,13 +161,33 @@ operator_goes : (list : FlatTree) (operator : BinaryOperator) (piece : Piece) �
     → GoesOn list [] (32 ∷ (operator_word operator ++ 32 ∷ [])) piece
 operator_goes list operator (between other) is =
     word_goes list (32 ∷ (operator_word operator ++ 32 ∷ [])) (between other) (ap (λ (o : BinaryOperator). 32 ∷ (operator_word o ++ 32 ∷ [])) is)
+operator_goes list operator (behind_slash asked) is = absurd is
 operator_goes list operator closing is = absurd is
 operator_goes list operator (operand level tree) is = absurd is
 
 close_goes : (list : FlatTree) (piece : Piece) → IsPieceOf list Close piece → GoesOn list [] (41 ∷ []) piece
 close_goes list closing is = word_goes list (41 ∷ []) closing refl
 close_goes list (between other) is = absurd is
+close_goes list (behind_slash asked) is = absurd is
 close_goes list (operand level tree) is = absurd is
+
+same_name : (texts : List (List ℕ)) (i : ℕ) (a b : List ℕ) → slice_get texts i ≡ Some a → slice_get texts i ≡ Some b → a ≡ b
+same_name texts i a b first second = cc
+
+step_goes : (list : FlatTree) (i : ℕ) (asked : List ℕ) → slice_get list.texts i ≡ Some asked
+    → (piece : Piece) → IsPieceOf list (Step i) piece → GoesOn list [] (47 ∷ asked) piece
+step_goes list i asked beside (behind_slash other) is =
+    word_goes list (47 ∷ asked) (behind_slash other) (ap (λ (t : List ℕ). 47 ∷ t) (same_name list.texts i asked other beside is.beside))
+step_goes list i asked beside (between other) is = absurd is
+step_goes list i asked beside closing is = absurd is
+step_goes list i asked beside (operand level tree) is = absurd is
+
+-- the node of a step is there
+pub step_there : (list : FlatTree) (i : ℕ) (piece : Piece) → IsPieceOf list (Step i) piece → i < length list.nodes
+step_there list i (behind_slash asked) is = is.within
+step_there list i (between other) is = absurd is
+step_there list i closing is = absurd is
+step_there list i (operand level tree) is = absurd is
 
 pub operator_part : (list : FlatTree) (operator : BinaryOperator) (before after : List ℕ) (parts : List Part)
     → after ≡ before ++ (32 ∷ (operator_word operator ++ 32 ∷ [])) → WritesPart list (Operator operator) before after parts parts
@@ -178,6 +198,17 @@ operator_part list operator before after parts written = record {
   text = 32 ∷ (operator_word operator ++ 32 ∷ []);
   written = written;
   goes_on = operator_goes list operator;
+}
+
+pub step_part : (list : FlatTree) (i : ℕ) (before after : List ℕ) (parts : List Part)
+    → IsStepAdded list i before after → WritesPart list (Step i) before after parts parts
+step_part list i before after parts step_added = record {
+  parts = [];
+  pushed = sym (append-nil parts);
+  lighter = omega arith;
+  text = 47 ∷ step_added.asked;
+  written = step_added.added;
+  goes_on = step_goes list i step_added.asked step_added.beside;
 }
 
 pub close_part : (list : FlatTree) (before after : List ℕ) (parts : List Part)

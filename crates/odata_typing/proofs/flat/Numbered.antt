@@ -1,9 +1,10 @@
 -- The node of a number, in the list and in the tree.
-use Rattle.std.proofs.Common.{◌≡◌, refl, sym, ap, ◌∙◌, subst, inl, inr, ℕ, ◌<◌, ◌≤◌, ◌+◌, List, [], Some, None, Option, IsSomeAnd, slice_get, length, arith}
+use Rattle.std.proofs.Common.{◌≡◌, refl, sym, ap, ◌∙◌, subst, inl, inr, ℕ, ◌<◌, ◌≤◌, ◌+◌, List, [], ◌∷◌, Some, None, Option, slice_get, length, arith}
 use Rattle.std.specs.Option.{option_map}
 use Rattle.std.proofs.lemmas.Option.{none-some, slice_get-map, slice_get_cases, slice_get_past, slice_get_within}
-use Rattle.odata_syntax.specs.Tree.{Tree, node, literal, name, binary}
+use Rattle.odata_syntax.specs.Tree.{Shape, Tree, node, literal, it, name, member, negation, logical_not, binary}
 use Rattle.odata_text.specs.declared.span.Span.{Span}
+use Rattle.csdl_schema.specs.ExprType.{single, structured}
 use Rattle.csdl_schema.specs.SchemaModel.{Slots, slots_of, type_name_at, slot_named}
 use Rattle.odata_typing.specs.declared.checked_node.CheckedNode.{CheckedNode}
 use Rattle.odata_typing.specs.declared.checked_node.NodeKind.{NodeKind}
@@ -14,65 +15,102 @@ use Rattle.odata_typing.specs.Levels.{level_named}
 use Rattle.odata_typing.specs.NameKinds.{NamesSlot, IsSlotAt, level_of_node, level_at}
 use Rattle.odata_typing.specs.PreOrder.{pre_order, span_of_tree}
 use Rattle.odata_typing.specs.ScopedNodes.{ScopedNode, scoped_nodes}
-use Rattle.odata_typing.specs.Stands.{Stands, IsKindOf}
-use Rattle.odata_typing.specs.Typed.{Typed}
+use Rattle.odata_typing.specs.Stands.{Stands, IsKindOf, names_of}
+use Rattle.odata_typing.specs.Typed.{Scope, Typed}
 use Rattle.odata_typing.specs.TypeView.{expr_type}
 use Rattle.odata_typing.proofs.flat.Places.{found_within, same_found}
 use Rattle.odata_typing.proofs.flat.Parts.{IsPart, part_stands, parts_count, parts_of}
 use Rattle.odata_typing.proofs.flat.Standing.{stands_size}
+use Rattle.odata_typing.proofs.types.OneType.{Typed-one}
 
 -- the level that a kind has
 abbrev pub level_of_kind : NodeKind → Option ℕ
 level_of_kind (NodeKind.Variable level) = Some level
 level_of_kind _ = None
 
-names_slot :
-    (list : FlatTree) (slots : Slots) (root : List ℕ) (variables : List (List ℕ)) (start stop : ℕ) (shape : _) (slot : ℕ)
-    → IsKindOf list.values (slots.properties root) variables shape (NodeKind.Property slot)
-    → NamesSlot slots root variables (node start stop shape) slot
-names_slot list slots root variables start stop (literal kind spelling) slot is = absurd is
-names_slot list slots root variables start stop (name asked) slot is = is
-names_slot list slots root variables start stop (binary operator left right) slot is = cc
-names_slot list slots root variables start stop _ slot is = absurd is
+-- the slot that a kind has
+abbrev pub slot_of_kind : NodeKind → Option ℕ
+slot_of_kind (NodeKind.Property slot) = Some slot
+slot_of_kind (NodeKind.Member slot) = Some slot
+slot_of_kind _ = None
 
-same_slot : (o : Option ℕ) (a b : ℕ) → o ≡ Some a → o ≡ Some b → NodeKind.Property a ≡ NodeKind.Property b
+-- a kind without a slot
+slotless : (kind other : NodeKind) (slot : ℕ) → slot_of_kind other ≡ None → kind ≡ other → slot_of_kind kind ≡ Some slot → ⊥
+slotless kind other slot none is found =
+    let e : slot_of_kind kind ≡ None = ap slot_of_kind is ∙ none in
+    cc
+
+no_slot : (slot : ℕ) → None ≡ Some slot → ⊥
+no_slot slot found = cc
+
+names_slot :
+    (list : FlatTree) (slots : Slots) (root : List ℕ) (scope : Scope) (start stop : ℕ) (shape : Shape) (kind : NodeKind) (slot : ℕ)
+    → IsKindOf list.values slots root scope shape kind
+    → slot_of_kind kind ≡ Some slot
+    → NamesSlot slots root scope (node start stop shape) slot
+names_slot list slots root scope start stop (literal k spelling) (NodeKind.Literal l place) slot is found = absurd (no_slot slot found)
+names_slot list slots root scope start stop (literal k spelling) _ slot is found = absurd is
+names_slot list slots root scope start stop it kind slot is found = slotless kind NodeKind.It slot refl is found
+names_slot list slots root scope start stop (name asked) (NodeKind.Property other) slot is found = (is.0, is.1 ∙ found)
+names_slot list slots root scope start stop (name asked) (NodeKind.Variable level) slot is found = absurd (no_slot slot found)
+names_slot list slots root scope start stop (name asked) _ slot is found = absurd is
+names_slot list slots root scope start stop (member base asked) (NodeKind.Member other) slot is found = (is.0, is.1, is.2 ∙ found)
+names_slot list slots root scope start stop (member base asked) _ slot is found = absurd is
+names_slot list slots root scope start stop (negation operand) kind slot is found = slotless kind NodeKind.Neg slot refl is found
+names_slot list slots root scope start stop (logical_not operand) kind slot is found = slotless kind NodeKind.Not slot refl is found
+names_slot list slots root scope start stop (binary operator left right) kind slot is found = slotless kind (NodeKind.Binary operator) slot refl is found
+names_slot list slots root scope start stop _ kind slot is found = absurd is
+
+same_slot : (o : Option ℕ) (a b : ℕ) → o ≡ Some a → o ≡ Some b → Some a ≡ Some b
 same_slot o a b x y = cc
 
 none_some : (o : Option ℕ) (a : ℕ) → o ≡ Some a → o ≡ None → ⊥
 none_some o a x y = cc
 
+same_owner : (a b : List ℕ) → single (structured a) ≡ single (structured b) → a ≡ b
+same_owner a b same = cc
+
 only_slot :
-    (list : FlatTree) (slots : Slots) (root : List ℕ) (variables : List (List ℕ)) (start stop : ℕ) (shape : _) (kind : NodeKind) (slot : ℕ)
-    → IsKindOf list.values (slots.properties root) variables shape kind
-    → NamesSlot slots root variables (node start stop shape) slot
-    → kind ≡ NodeKind.Property slot
-only_slot list slots root variables start stop (literal k spelling) kind slot is names = absurd names
-only_slot list slots root variables start stop (binary operator left right) kind slot is names = absurd names
-only_slot list slots root variables start stop (name asked) (NodeKind.Property other) slot is names =
+    (list : FlatTree) (slots : Slots) (root : List ℕ) (scope : Scope) (start stop : ℕ) (shape : Shape) (kind : NodeKind) (slot : ℕ)
+    → IsKindOf list.values slots root scope shape kind
+    → NamesSlot slots root scope (node start stop shape) slot
+    → slot_of_kind kind ≡ Some slot
+only_slot list slots root scope start stop (name asked) (NodeKind.Property other) slot is names =
     same_slot (slot_named (slots.properties root) asked) other slot is.1 names.1
-only_slot list slots root variables start stop (name asked) (NodeKind.Variable level) slot is names =
-    absurd (none_some (level_named variables asked) level is names.0)
-only_slot list slots root variables start stop (name asked) _ slot is names = absurd is
-only_slot list slots root variables start stop _ kind slot is names = absurd is
+only_slot list slots root scope start stop (name asked) (NodeKind.Variable level) slot is names =
+    absurd (none_some (level_named (names_of scope) asked) level is names.0)
+only_slot list slots root scope start stop (name asked) _ slot is names = absurd is
+only_slot list slots root scope start stop (member base asked) (NodeKind.Member other) slot is names =
+    let owner : is.0 ≡ names.0 =
+    same_owner is.0 names.0 (Typed-one slots root scope base (single (structured is.0)) (single (structured names.0)) is.1 names.1) in
+    let P : List ℕ → Type 0 = λ (o : List ℕ). slot_named (slots.properties o) asked ≡ Some other in
+    same_slot (slot_named (slots.properties names.0) asked) other slot (subst P owner is.2) names.2
+only_slot list slots root scope start stop (member base asked) _ slot is names = absurd is
+only_slot list slots root scope start stop _ kind slot is names = absurd names
 
 level_of_top :
-    (list : FlatTree) (slots : Slots) (root : List ℕ) (variables : List (List ℕ)) (start stop : ℕ) (shape : _) (kind : NodeKind)
-    → IsKindOf list.values (slots.properties root) variables shape kind
-    → level_of_node variables (node start stop shape) ≡ level_of_kind kind
-level_of_top list slots root variables start stop (literal k spelling) (NodeKind.Literal l place) is = refl
-level_of_top list slots root variables start stop (literal k spelling) _ is = absurd is
-level_of_top list slots root variables start stop (name asked) (NodeKind.Variable level) is = is
-level_of_top list slots root variables start stop (name asked) (NodeKind.Property slot) is = is.0
-level_of_top list slots root variables start stop (name asked) _ is = absurd is
-level_of_top list slots root variables start stop (binary operator left right) kind is = rw is refl
-level_of_top list slots root variables start stop _ kind is = absurd is
+    (list : FlatTree) (slots : Slots) (root : List ℕ) (scope : Scope) (start stop : ℕ) (shape : Shape) (kind : NodeKind)
+    → IsKindOf list.values slots root scope shape kind
+    → level_of_node (names_of scope) (node start stop shape) ≡ level_of_kind kind
+level_of_top list slots root scope start stop (literal k spelling) (NodeKind.Literal l place) is = refl
+level_of_top list slots root scope start stop (literal k spelling) _ is = absurd is
+level_of_top list slots root scope start stop it kind is = rw is refl
+level_of_top list slots root scope start stop (name asked) (NodeKind.Variable level) is = is
+level_of_top list slots root scope start stop (name asked) (NodeKind.Property slot) is = is.0
+level_of_top list slots root scope start stop (name asked) _ is = absurd is
+level_of_top list slots root scope start stop (member base asked) (NodeKind.Member slot) is = refl
+level_of_top list slots root scope start stop (member base asked) _ is = absurd is
+level_of_top list slots root scope start stop (negation operand) kind is = rw is refl
+level_of_top list slots root scope start stop (logical_not operand) kind is = rw is refl
+level_of_top list slots root scope start stop (binary operator left right) kind is = rw is refl
+level_of_top list slots root scope start stop _ kind is = absurd is
 
 -- what a node of the list says of the tree that stands there
 pub record IsNodeOf (filter : Filter) (found : CheckedNode) (at : ScopedNode) : Type 0 where
   pub span : found.span ≡ span_of_tree at.part
   pub typed : Typed (slots_of filter.schema) (type_name_at filter.schema filter.filtered) [] at.part (expr_type filter.schema found.edm_type)
-  pub slots : (slot : ℕ) → found.kind ≡ NodeKind.Property slot → NamesSlot (slots_of filter.schema) (type_name_at filter.schema filter.filtered) at.variables at.part slot
-  pub only_slots : (slot : ℕ) → NamesSlot (slots_of filter.schema) (type_name_at filter.schema filter.filtered) at.variables at.part slot → found.kind ≡ NodeKind.Property slot
+  pub slots : (slot : ℕ) → slot_of_kind found.kind ≡ Some slot → NamesSlot (slots_of filter.schema) (type_name_at filter.schema filter.filtered) [] at.part slot
+  pub only_slots : (slot : ℕ) → NamesSlot (slots_of filter.schema) (type_name_at filter.schema filter.filtered) [] at.part slot → slot_of_kind found.kind ≡ Some slot
   pub levels : level_of_node at.variables at.part ≡ level_of_kind found.kind
 
 span_same : (span : Span) (start stop : ℕ) → span.start ≡ start → span.stop ≡ stop → span ≡ record { start = start; stop = stop }
@@ -93,9 +131,7 @@ top_says filter k j (node start stop shape) stands found here =
     subst P same (record {
       span = span_same top.found.span start stop top.starts top.stops;
       typed = top.typed;
-      slots = λ slot is.
-          let K : NodeKind → Type 0 = λ (x : NodeKind). IsKindOf filter.list.values ((slots_of schema).properties root) [] shape x in
-          names_slot filter.list (slots_of schema) root [] start stop shape slot (subst K is top.kind);
+      slots = λ slot is. names_slot filter.list (slots_of schema) root [] start stop shape top.found.kind slot top.kind is;
       only_slots = λ slot names. only_slot filter.list (slots_of schema) root [] start stop shape top.found.kind slot top.kind names;
       levels = level_of_top filter.list (slots_of schema) root [] start stop shape top.found.kind top.kind;
     })
@@ -162,23 +198,34 @@ type_at filter k found is = record { at = []; part = is.at.part; numbered = is.u
 pub span_at : (filter : Filter) (k : ℕ) (found : CheckedNode) → IsNumbered filter k found → Some found.span ≡ option_map span_of_tree (slice_get (pre_order (tree_of_filter filter)) k)
 span_at filter k found is = ap Some is.says.span ∙ sym (ap (option_map span_of_tree) is.ordered)
 
-pub slot_at : (filter : Filter) (k slot : ℕ) (found : CheckedNode) → IsNumbered filter k found → found.kind ≡ NodeKind.Property slot → IsSlotAt filter k slot
-slot_at filter k slot found is kind = rw is.scoped (is.says.slots slot kind)
+pub slot_at : (filter : Filter) (k slot : ℕ) (found : CheckedNode) → IsNumbered filter k found → slot_of_kind found.kind ≡ Some slot → IsSlotAt filter k slot
+slot_at filter k slot found is kind =
+    record { at = []; part = is.at.part; numbered = is.unbound; considered = is.considered; names = is.says.slots slot kind }
 
-pub no_other_slot : (filter : Filter) (k slot : ℕ) (found : CheckedNode) → IsNumbered filter k found → IsSlotAt filter k slot → found.kind ≡ NodeKind.Property slot
-no_other_slot filter k slot found is names =
-    let P : Option ScopedNode → Type 0 =
-    λ (o : Option ScopedNode). IsSomeAnd o (λ at. NamesSlot (slots_of filter.schema) (type_name_at filter.schema filter.filtered) at.variables at.part slot) in
-    is.says.only_slots slot (subst P is.scoped names)
+same_scoped : (o : Option ScopedNode) (a b : ScopedNode) → o ≡ Some a → o ≡ Some b → a ≡ b
+same_scoped o a b x y = cc
+
+no_variables : (scope : Scope) → names_of scope ≡ [] → scope ≡ []
+no_variables [] none = refl
+no_variables (bound ∷ scope) none = cc
+
+pub no_other_slot : (filter : Filter) (k slot : ℕ) (found : CheckedNode) → IsNumbered filter k found → IsSlotAt filter k slot → slot_of_kind found.kind ≡ Some slot
+no_other_slot filter k slot found is other =
+    let named : ScopedNode = record { variables = names_of other.at; part = other.part } in
+    let here : ScopedNode = record { variables = []; part = is.at.part } in
+    let same : named ≡ here = same_scoped (slice_get (scoped_nodes [] (tree_of_filter filter)) k) named here other.numbered is.unbound in
+    let scope : other.at ≡ [] = no_variables other.at (ap (λ (x : ScopedNode). x.variables) same) in
+    let part : other.part ≡ is.at.part = ap (λ (x : ScopedNode). x.part) same in
+    let P : Scope → Type 0 = λ (x : Scope). NamesSlot (slots_of filter.schema) (type_name_at filter.schema filter.filtered) x other.part slot in
+    let Q : Tree → Type 0 = λ (t : Tree). NamesSlot (slots_of filter.schema) (type_name_at filter.schema filter.filtered) [] t slot in
+    is.says.only_slots slot (subst Q part (subst P scope other.names))
 
 pub level_found : (filter : Filter) (k : ℕ) (found : CheckedNode) → IsNumbered filter k found → level_at filter k ≡ level_of_kind found.kind
 level_found filter k found is = rw is.scoped is.says.levels
 
 pub no_slot_past : (filter : Filter) (k slot : ℕ) → IsFilter filter → length filter.list.nodes ≤ k → ¬ IsSlotAt filter k slot
 no_slot_past filter k slot is past names =
-    let P : Option ScopedNode → Type 0 =
-    λ (o : Option ScopedNode). IsSomeAnd o (λ at. NamesSlot (slots_of filter.schema) (type_name_at filter.schema filter.filtered) at.variables at.part slot) in
-    subst P (past_scoped filter k is past) names
+    none-some (record { variables = names_of names.at; part = names.part }) (sym (past_scoped filter k is past) ∙ names.numbered)
 
 pub no_level_past : (filter : Filter) (k : ℕ) → IsFilter filter → length filter.list.nodes ≤ k → level_at filter k ≡ None
 no_level_past filter k is past = rw (past_scoped filter k is past) refl

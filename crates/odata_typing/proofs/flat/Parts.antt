@@ -4,7 +4,7 @@ use Rattle.std.proofs.lemmas.List.{length-map, map-append}
 use Rattle.std.proofs.lemmas.Option.{none-some}
 use Rattle.odata_syntax.specs.Tree.{Shape, Tree, Trees, any_item, binary, call, count, has, in_list, in_path, it, lambda, literal, logical_not, member, more_trees, name, negation, no_trees, node}
 use Rattle.csdl_schema.specs.SchemaModel.{SchemaModel, slots_of, type_name_at}
-use Rattle.odata_typing.specs.Considered.{IsConsidered, considers_below, considers_itself}
+use Rattle.odata_typing.specs.Considered.{IsConsidered, IsConsideredChild, considers_below, considers_itself}
 use Rattle.odata_typing.specs.FlatTree.{FlatTree}
 use Rattle.odata_typing.specs.PreOrder.{nodes_among, nodes_below, pre_order}
 use Rattle.odata_typing.specs.ScopedNodes.{ScopedNode, scoped_among, scoped_below, scoped_nodes}
@@ -75,6 +75,15 @@ itself schema n scope list i j k tree at stands same is =
     let Q : ScopedNode → Type 0 = λ (x : ScopedNode). IsPart schema n scope list tree i x in
     subst P (sym same) (subst Q is (record { j = j; stands = stands; variables = refl; considered = considers_itself }))
 
+-- a part of the one child
+of_only :
+    (schema : SchemaModel) (n : ℕ) (scope : Scope) (list : FlatTree) (start stop : ℕ) (shape : Shape) (child : Tree) (k : ℕ) (at : ScopedNode)
+    → IsConsideredChild (slots_of schema) (type_name_at schema n) scope shape scope child
+    → IsPart schema n scope list child k at
+    → IsPart schema n scope list (node start stop shape) k at
+of_only schema n scope list start stop shape child k at is part =
+    record { j = part.j; stands = part.stands; variables = part.variables; considered = considers_below {child = child} is part.considered }
+
 of_left :
     (schema : SchemaModel) (n : ℕ) (scope : Scope) (list : FlatTree) (start stop : ℕ) (operator : _) (left right : Tree) (k : ℕ) (at : ScopedNode)
     → IsPart schema n scope list left k at
@@ -101,7 +110,23 @@ part_stands schema n scope list i j (node start stop shape) zero at stands found
     itself schema n scope list i j (i + 0) (node start stop shape) at stands (omega arith)
     (first_of (record { variables = names_of scope; part = node start stop shape }) at (scoped_below (names_of scope) shape) found)
 part_stands schema n scope list i j (node start stop (literal kind spelling)) (suc k) at stands found = absurd (none-some at found)
+part_stands schema n scope list i j (node start stop it) (suc k) at stands found = absurd (none-some at found)
 part_stands schema n scope list i j (node start stop (name asked)) (suc k) at stands found = absurd (none-some at found)
+part_stands schema n scope list i j (node start stop (member base asked)) (suc k) at stands found =
+    let P : ℕ → Type 0 = λ (x : ℕ). IsPart schema n scope list (node start stop (member base asked)) x at in
+    let e : i + 1 + k ≡ i + suc k = omega arith in
+    subst P e (of_only schema n scope list start stop (member base asked) base (i + 1 + k) at (inl (refl, refl))
+    (part_stands schema n scope list (i + 1) j base k at stands.children found))
+part_stands schema n scope list i j (node start stop (negation operand)) (suc k) at stands found =
+    let P : ℕ → Type 0 = λ (x : ℕ). IsPart schema n scope list (node start stop (negation operand)) x at in
+    let e : i + 1 + k ≡ i + suc k = omega arith in
+    subst P e (of_only schema n scope list start stop (negation operand) operand (i + 1 + k) at (inl (refl, refl))
+    (part_stands schema n scope list (i + 1) j operand k at stands.children found))
+part_stands schema n scope list i j (node start stop (logical_not operand)) (suc k) at stands found =
+    let P : ℕ → Type 0 = λ (x : ℕ). IsPart schema n scope list (node start stop (logical_not operand)) x at in
+    let e : i + 1 + k ≡ i + suc k = omega arith in
+    subst P e (of_only schema n scope list start stop (logical_not operand) operand (i + 1 + k) at (inl (refl, refl))
+    (part_stands schema n scope list (i + 1) j operand k at stands.children found))
 part_stands schema n scope list i j (node start stop (binary operator left right)) (suc k) at stands found =
     let m = stands.children.middle in
     let P : ℕ → Type 0 = λ (x : ℕ). IsPart schema n scope list (node start stop (binary operator left right)) x at in

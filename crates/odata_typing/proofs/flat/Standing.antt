@@ -1,8 +1,8 @@
 -- What stands for a tree: how many nodes, and that it still does where they are kept.
 use Rattle.std.proofs.Common.{◌≡◌, ◌≢◌, ℕ, ◌<◌, ◌+◌, List, Some, None, slice_get, length, length-append, IsSomeAnd, Option, refl, arith}
 use Rattle.edm_values.specs.declared.value.Value.{Value}
-use Rattle.odata_syntax.specs.Tree.{Tree, node, Shape, literal, name, binary}
-use Rattle.csdl_schema.specs.SchemaModel.{PropertyModel, SchemaModel}
+use Rattle.odata_syntax.specs.Tree.{Tree, node, Shape, literal, it, name, member, negation, logical_not, binary}
+use Rattle.csdl_schema.specs.SchemaModel.{SchemaModel, Slots}
 use Rattle.odata_typing.specs.declared.checked_node.CheckedNode.{CheckedNode}
 use Rattle.odata_typing.specs.declared.checked_node.NodeKind.{NodeKind}
 use Rattle.odata_typing.specs.FlatTree.{FlatTree}
@@ -17,7 +17,14 @@ pub stands_size :
     → Stands schema n scope list i j tree
     → j ≡ i + length (pre_order tree)
 stands_size schema n scope list i j (node start stop (literal kind spelling)) stands = let e : i + 1 ≡ j = stands.children in omega arith
+stands_size schema n scope list i j (node start stop it) stands = let e : i + 1 ≡ j = stands.children in omega arith
 stands_size schema n scope list i j (node start stop (name asked)) stands = let e : i + 1 ≡ j = stands.children in omega arith
+stands_size schema n scope list i j (node start stop (member base asked)) stands =
+    let a : j ≡ i + 1 + length (pre_order base) = stands_size schema n scope list (i + 1) j base stands.children in omega arith
+stands_size schema n scope list i j (node start stop (negation operand)) stands =
+    let a : j ≡ i + 1 + length (pre_order operand) = stands_size schema n scope list (i + 1) j operand stands.children in omega arith
+stands_size schema n scope list i j (node start stop (logical_not operand)) stands =
+    let a : j ≡ i + 1 + length (pre_order operand) = stands_size schema n scope list (i + 1) j operand stands.children in omega arith
 stands_size schema n scope list i j (node start stop (binary operator left right)) stands =
     let m = stands.children.middle in
     let a : m ≡ i + 1 + length (pre_order left) = stands_size schema n scope list (i + 1) m left stands.children.left in
@@ -30,7 +37,14 @@ pub stands_nonempty :
     → Stands schema n scope list i j tree
     → i < j
 stands_nonempty schema n scope list i j (node start stop (literal kind spelling)) stands = let e : i + 1 ≡ j = stands.children in omega arith
+stands_nonempty schema n scope list i j (node start stop it) stands = let e : i + 1 ≡ j = stands.children in omega arith
 stands_nonempty schema n scope list i j (node start stop (name asked)) stands = let e : i + 1 ≡ j = stands.children in omega arith
+stands_nonempty schema n scope list i j (node start stop (member base asked)) stands =
+    let a : i + 1 < j = stands_nonempty schema n scope list (i + 1) j base stands.children in omega arith
+stands_nonempty schema n scope list i j (node start stop (negation operand)) stands =
+    let a : i + 1 < j = stands_nonempty schema n scope list (i + 1) j operand stands.children in omega arith
+stands_nonempty schema n scope list i j (node start stop (logical_not operand)) stands =
+    let a : i + 1 < j = stands_nonempty schema n scope list (i + 1) j operand stands.children in omega arith
 stands_nonempty schema n scope list i j (node start stop (binary operator left right)) stands =
     let m = stands.children.middle in
     let a : i + 1 < m = stands_nonempty schema n scope list (i + 1) m left stands.children.left in
@@ -52,16 +66,20 @@ some_kept P (Some value) new kept holds = rw (kept value refl) holds
 some_kept P None new kept holds = absurd holds
 
 kind_kept :
-    (old new : FlatTree) (properties : List PropertyModel) (variables : List (List ℕ)) (shape : Shape) (kind : NodeKind)
+    (old new : FlatTree) (slots : Slots) (root : List ℕ) (scope : Scope) (shape : Shape) (kind : NodeKind)
     → ((k : ℕ) (value : Value) → slice_get old.values k ≡ Some value → slice_get new.values k ≡ Some value)
-    → IsKindOf old.values properties variables shape kind
-    → IsKindOf new.values properties variables shape kind
-kind_kept old new properties variables (literal k spelling) (NodeKind.Literal l place) kept is =
+    → IsKindOf old.values slots root scope shape kind
+    → IsKindOf new.values slots root scope shape kind
+kind_kept old new slots root scope (literal k spelling) (NodeKind.Literal l place) kept is =
     (is.0, some_kept _ (slice_get old.values place) (slice_get new.values place) (kept place) is.1)
-kind_kept old new properties variables (literal k spelling) _ kept is = absurd is
-kind_kept old new properties variables (name asked) kind kept is = is
-kind_kept old new properties variables (binary operator left right) kind kept is = is
-kind_kept old new properties variables _ kind kept is = absurd is
+kind_kept old new slots root scope (literal k spelling) _ kept is = absurd is
+kind_kept old new slots root scope it kind kept is = is
+kind_kept old new slots root scope (name asked) kind kept is = is
+kind_kept old new slots root scope (member base asked) kind kept is = is
+kind_kept old new slots root scope (negation operand) kind kept is = is
+kind_kept old new slots root scope (logical_not operand) kind kept is = is
+kind_kept old new slots root scope (binary operator left right) kind kept is = is
+kind_kept old new slots root scope _ kind kept is = absurd is
 
 top_kept :
     (hole : ℕ) (old new : FlatTree) (schema : SchemaModel) (n : ℕ) (scope : Scope) (i j start stop : ℕ) (shape : Shape)
@@ -73,7 +91,7 @@ top_kept hole old new schema n scope i j start stop shape kept behind top = reco
   found = top.found;
   stands_at = kept.nodes i top.found (omega arith) top.stands_at;
   text_at = kept.texts i _ top.text_at;
-  kind = kind_kept old new _ _ shape top.found.kind kept.values top.kind;
+  kind = kind_kept old new _ _ _ shape top.found.kind kept.values top.kind;
   starts = top.starts;
   stops = top.stops;
   last = top.last;
@@ -89,8 +107,25 @@ pub stands_kept :
     → Stands schema n scope new i j tree
 stands_kept hole old new schema n scope i j (node start stop (literal kind spelling)) kept behind stands =
     record { top = top_kept hole old new schema n scope i j start stop (literal kind spelling) kept behind stands.top; children = stands.children }
+stands_kept hole old new schema n scope i j (node start stop it) kept behind stands =
+    record { top = top_kept hole old new schema n scope i j start stop it kept behind stands.top; children = stands.children }
 stands_kept hole old new schema n scope i j (node start stop (name asked)) kept behind stands =
     record { top = top_kept hole old new schema n scope i j start stop (name asked) kept behind stands.top; children = stands.children }
+stands_kept hole old new schema n scope i j (node start stop (member base asked)) kept behind stands =
+    record {
+      top = top_kept hole old new schema n scope i j start stop (member base asked) kept behind stands.top;
+      children = stands_kept hole old new schema n scope (i + 1) j base kept (omega arith) stands.children;
+    }
+stands_kept hole old new schema n scope i j (node start stop (negation operand)) kept behind stands =
+    record {
+      top = top_kept hole old new schema n scope i j start stop (negation operand) kept behind stands.top;
+      children = stands_kept hole old new schema n scope (i + 1) j operand kept (omega arith) stands.children;
+    }
+stands_kept hole old new schema n scope i j (node start stop (logical_not operand)) kept behind stands =
+    record {
+      top = top_kept hole old new schema n scope i j start stop (logical_not operand) kept behind stands.top;
+      children = stands_kept hole old new schema n scope (i + 1) j operand kept (omega arith) stands.children;
+    }
 stands_kept hole old new schema n scope i j (node start stop (binary operator left right)) kept behind stands =
     let m = stands.children.middle in
     let a : i + 1 < m = stands_nonempty schema n scope old (i + 1) m left stands.children.left in

@@ -3,7 +3,7 @@ use Rattle.std.proofs.Common.{◌≡◌, ℕ, List}
 use Rattle.std.specs.List.{AllByRecursion}
 use Rattle.std.proofs.lemmas.List.Elements.{All-contains, All-from_recursion}
 use Rattle.odata_syntax.specs.Spans.{IsWithin, children_of, in_child, is_root}
-use Rattle.odata_syntax.specs.Tree.{Tree, Trees, binary, call, literal, name, node, shape_of}
+use Rattle.odata_syntax.specs.Tree.{Tree, Trees, binary, call, it, literal, logical_not, member, name, negation, node, shape_of}
 use Rattle.csdl_schema.specs.ExprType.{ExprType}
 use Rattle.csdl_schema.specs.SchemaModel.{Slots}
 use Rattle.odata_typing.specs.Calls.{CallsOne}
@@ -14,7 +14,11 @@ typed_children :
     → Typed slots root scope tree type
     → AllByRecursion (IsTyped slots root scope) (children_of (shape_of tree))
 typed_children slots root scope (node start stop (literal kind spelling)) type typed = tt
+typed_children slots root scope (node start stop it) type typed = tt
 typed_children slots root scope (node start stop (name asked)) type typed = tt
+typed_children slots root scope (node start stop (member base asked)) type typed = ((typed.operand, typed.operand_typed), tt)
+typed_children slots root scope (node start stop (negation operand)) type typed = ((typed.operand, typed.operand_typed), tt)
+typed_children slots root scope (node start stop (logical_not operand)) type typed = ((typed.operand, typed.operand_typed), tt)
 typed_children slots root scope (node start stop (binary operator left right)) type typed =
     ((typed.left, typed.left_typed), ((typed.right, typed.right_typed), tt))
 typed_children slots root scope (node start stop _) type typed = absurd typed
@@ -37,7 +41,11 @@ no_typed_call :
     → shape_of tree ≡ call called arguments
     → ⊥
 no_typed_call slots root scope (node start stop (literal kind spelling)) type called arguments typed same = cc
+no_typed_call slots root scope (node start stop it) type called arguments typed same = cc
 no_typed_call slots root scope (node start stop (name asked)) type called arguments typed same = cc
+no_typed_call slots root scope (node start stop (member base asked)) type called arguments typed same = cc
+no_typed_call slots root scope (node start stop (negation operand)) type called arguments typed same = cc
+no_typed_call slots root scope (node start stop (logical_not operand)) type called arguments typed same = cc
 no_typed_call slots root scope (node start stop (binary operator left right)) type called arguments typed same = cc
 no_typed_call slots root scope (node start stop _) type called arguments typed same = absurd typed
 

@@ -1,12 +1,14 @@
 -- Two filters of items.
-use Rattle.std.proofs.Common.{◌≡◌, refl, subst, inl, inr, pos, [], ◌∷◌, FitsSigned, w32, w64, lit<, rules}
+use Rattle.std.proofs.Common.{◌≡◌, refl, sym, subst, inl, inr, pos, [], ◌∷◌, FitsSigned, w32, w64, lit<, rules}
 use Rattle.std.proofs.lemmas.Int.{fits_signed_from_abs}
 use Rattle.std.specs.Prelude.{codes}
 use Rattle.std.specs.Str.Parse.{IsNumeral}
 use Rattle.edm_values.specs.IntLiteral.{IntValue}
 use Rattle.csdl_schema.specs.ExprType.{ExprType, single, primitive}
 use Rattle.edm_values.specs.declared.primitive.PrimitiveType.{PrimitiveType}
-use Rattle.odata_typing.specs.ExprTypes.{boolean_type, string_type, IsNumber}
+use Rattle.csdl_schema.specs.SchemaModel.{declared}
+use Rattle.odata_typing.specs.ComparableTypes.{AreComparable}
+use Rattle.odata_typing.specs.ExprTypes.{boolean_type, string_type}
 use Rattle.odata_typing.specs.Laws.{ItemFilterTyped, MixedFilterUntyped}
 
 -- Edm.Int32
@@ -44,18 +46,18 @@ item_filter_typed = record {
     right = string_type;
     left_typed = refl;
     right_typed = (97 ∷ [], refl, refl);
-    operator_typed = (inr (inr (refl, refl)), refl);
+    operator_typed = (inr refl, refl);
   };
   operator_typed = (inl refl, inl refl, refl);
 }
 
-text_no_number : (type : ExprType) → type ≡ string_type → ¬ IsNumber type
-text_no_number type same number = let P : ExprType → Type 0 = λ (t : ExprType). IsNumber t in subst P same number
+declared_one : (a b : ExprType) → declared a ≡ declared b → a ≡ b
+declared_one a b same = cc
 
 pub mixed_filter_untyped : MixedFilterUntyped
 mixed_filter_untyped type typed =
-    elim typed.operator_typed.0 [
-      | inl numbers ↦ text_no_number typed.right typed.right_typed.2 numbers.1
-      | inr (inl booleans) ↦ let a : typed.right ≡ string_type = typed.right_typed.2 in let b : typed.right ≡ boolean_type = booleans.1 in cc
-      | inr (inr texts) ↦ let a : typed.left ≡ string_type = texts.0 in let b = typed.left_typed in cc
-    ]
+    let P : ExprType → Type 0 = λ (t : ExprType). AreComparable t typed.right in
+    let Q : ExprType → Type 0 = λ (t : ExprType). AreComparable int32 t in
+    let compared : AreComparable int32 string_type =
+    subst Q typed.right_typed.2 (subst P (sym (declared_one int32 typed.left typed.left_typed)) typed.operator_typed.0) in
+    elim compared [ inl numbers ↦ absurd numbers.1 | inr same ↦ (let e : PrimitiveType.Int32 ≡ PrimitiveType.String = same in cc) ]

@@ -1,37 +1,105 @@
 -- Literals that have been read have their value and their type.
-use Rattle.std.proofs.Common.{◌≡◌, refl, ap, ℕ, ℤ, Bool, List, Some, w64, to_z, of_z}
+use Rattle.std.proofs.Common.{◌≡◌, refl, ap, subst, ℕ, ℤ, Bool, List, Option, Some, None, w64, to_z, of_z}
 use Rattle.std.proofs.Math.Facts.{to_z-of_z}
 use Rattle.std.specs.Prelude.{string_bytes}
 use Rattle.edm_values.specs.IntLiteral.{IntValue}
 use Rattle.edm_values.specs.NumberTypes.{IsIntLiteralType}
 use Rattle.edm_values.specs.StringLiteral.{StringValue}
-use Rattle.edm_values.specs.Val.{boolean, whole}
+use Rattle.edm_values.specs.Civil as civil
+use Rattle.edm_values.specs.DateLiteral.{DateValue}
+use Rattle.edm_values.specs.GuidLiteral.{GuidValue}
+use Rattle.edm_values.specs.MomentLiteral.{MomentValue}
+use Rattle.edm_values.specs.MomentParts.{MomentParts}
+use Rattle.edm_values.specs.Val.{boolean, date, guid, moment, null, whole}
 use Rattle.edm_values.specs.Val as val
 use Rattle.edm_values.specs.declared.primitive.PrimitiveType.{PrimitiveType}
 use Rattle.edm_values.specs.declared.value.Value as code
+use Rattle.edm_values.specs.declared.value.Value.{Value}
 use Rattle.odata_syntax.specs.declared.node.LiteralKind.{LiteralKind}
-use Rattle.csdl_schema.specs.ExprType.{single, primitive}
-use Rattle.odata_typing.specs.ExprTypes.{boolean_type, string_type}
-use Rattle.odata_typing.specs.LiteralValue.{BooleanValue}
+use Rattle.csdl_schema.specs.ExprType.{ExprType}
+use Rattle.csdl_schema.specs.SchemaModel.{SchemaModel, Slots}
+use Rattle.odata_typing.specs.declared.edm_type.EdmType.{EdmType}
+use Rattle.odata_typing.specs.declared.edm_type.ValueType.{ValueType}
+use Rattle.odata_typing.specs.LiteralValue.{BooleanValue, LiteralTyped}
 use Rattle.odata_typing.specs.private.Answer.{IsReading}
 
-pub reads_truth : (spelling : List ℕ) (b : Bool) → BooleanValue spelling b → IsReading LiteralKind.Bool spelling (code.Bool b) boolean_type
-reads_truth spelling b value = record { value_of = record { val = boolean b; plain = refl; value_of = value }; typed = (b, value, refl) }
+-- one value of a primitive type
+abbrev pub plain : PrimitiveType → EdmType
+plain p = EdmType.Single (ValueType.Prim p)
+
+pub reads_truth : (schema : SchemaModel) (spelling : List ℕ) (b : Bool) → BooleanValue spelling b → IsReading schema LiteralKind.Bool spelling (code.Bool b) (plain PrimitiveType.Bool)
+reads_truth schema spelling b value = record { value_of = record { val = boolean b; plain = refl; value_of = value }; typed = (b, value, refl) }
 
 -- the code holds the number in 64 bits
 pub reads_int :
-    (spelling : List ℕ) (n : ℤ) (p : PrimitiveType)
+    (schema : SchemaModel) (spelling : List ℕ) (n : ℤ) (p : PrimitiveType)
     → IntValue spelling n
     → IsIntLiteralType (to_z w64 (of_z w64 n)) p
-    → IsReading LiteralKind.Int spelling (code.Int (to_z w64 (of_z w64 n))) (single (primitive p))
-reads_int spelling n p value typed =
+    → IsReading schema LiteralKind.Int spelling (code.Int (to_z w64 (of_z w64 n))) (plain p)
+reads_int schema spelling n p value typed =
     let same = to_z-of_z {w = w64} {z = n} value.1 in
     let right = rw same at typed in
     rw same (record { value_of = record { val = whole n; plain = refl; value_of = value }; typed = (n, value, (p, right, refl)) })
 
 pub reads_text :
-    (spelling bytes : List ℕ) (text : _) → string_bytes text ≡ bytes → StringValue spelling bytes → IsReading LiteralKind.Str spelling (code.Text text) string_type
-reads_text spelling bytes text same value = record {
+    (schema : SchemaModel) (spelling bytes : List ℕ) (text : _) → string_bytes text ≡ bytes → StringValue spelling bytes → IsReading schema LiteralKind.Str spelling (code.Text text) (plain PrimitiveType.String)
+reads_text schema spelling bytes text same value = record {
   value_of = record { val = val.text bytes; plain = ap (λ (b : List ℕ). Some (val.text b)) same; value_of = value };
   typed = (bytes, value, refl);
 }
+
+pub reads_null : (schema : SchemaModel) (spelling : List ℕ) → IsReading schema LiteralKind.Null spelling code.Null EdmType.Null
+reads_null schema spelling = record { value_of = record { val = null; plain = refl; value_of = tt }; typed = refl }
+
+pub reads_date : (schema : SchemaModel) (spelling : List ℕ) (d : civil.Date) → DateValue spelling d → IsReading schema LiteralKind.Date spelling (code.Date d) (plain PrimitiveType.Date)
+reads_date schema spelling d value = record { value_of = record { val = date d; plain = refl; value_of = value }; typed = (d, value, refl) }
+
+pub reads_moment : (schema : SchemaModel) (spelling : List ℕ) (m : MomentParts) → MomentValue spelling m → IsReading schema LiteralKind.Moment spelling (code.Moment m) (plain PrimitiveType.DateTimeOffset)
+reads_moment schema spelling m value = record { value_of = record { val = moment m; plain = refl; value_of = value }; typed = (m, value, refl) }
+
+pub reads_guid : (schema : SchemaModel) (spelling bytes : List ℕ) → GuidValue spelling bytes → IsReading schema LiteralKind.Guid spelling (code.Guid bytes) (plain PrimitiveType.Guid)
+reads_guid schema spelling bytes value = record { value_of = record { val = guid bytes; plain = refl; value_of = value }; typed = (bytes, value, refl) }
+
+-- what is known of a value and its type is known of equal ones
+pub reads_as :
+    (schema : SchemaModel) (kind other : LiteralKind) (spelling : List ℕ) (value given : Value) (type made : EdmType)
+    → kind ≡ other
+    → value ≡ given
+    → type ≡ made
+    → IsReading schema other spelling given made
+    → IsReading schema kind spelling value type
+reads_as schema kind other spelling value given type made is of by reading = rw (is, of, by) reading
+
+none_some : {X : Type 0} (o : Option X) (x : X) → o ≡ None → o ≡ Some x → ⊥
+none_some o x none some = cc
+
+-- a spelling without a value is of no type
+pub no_moment :
+    (slots : Slots) (kind : LiteralKind) (spelling : List ℕ) (found : Option MomentParts)
+    → kind ≡ LiteralKind.Moment
+    → ((m : MomentParts) → MomentValue spelling m → found ≡ Some m)
+    → found ≡ None
+    → (type : ExprType) → ¬ LiteralTyped slots kind spelling type
+no_moment slots kind spelling found is only none type typed =
+    let P : LiteralKind → Type 0 = λ (k : LiteralKind). LiteralTyped slots k spelling type in
+    let t : LiteralTyped slots LiteralKind.Moment spelling type = subst P is typed in
+    none_some found t.0 none (only t.0 t.1)
+
+pub no_guid :
+    (slots : Slots) (kind : LiteralKind) (spelling : List ℕ) (found : Option (List ℕ))
+    → kind ≡ LiteralKind.Guid
+    → ((bytes : List ℕ) → GuidValue spelling bytes → found ≡ Some bytes)
+    → found ≡ None
+    → (type : ExprType) → ¬ LiteralTyped slots kind spelling type
+no_guid slots kind spelling found is only none type typed =
+    let P : LiteralKind → Type 0 = λ (k : LiteralKind). LiteralTyped slots k spelling type in
+    let t : LiteralTyped slots LiteralKind.Guid spelling type = subst P is typed in
+    none_some found t.0 none (only t.0 t.1)
+
+pub same_untyped :
+    (slots : Slots) (kind other : LiteralKind) (spelling : List ℕ) → kind ≡ other
+    → ((type : ExprType) → ¬ LiteralTyped slots other spelling type)
+    → (type : ExprType) → ¬ LiteralTyped slots kind spelling type
+same_untyped slots kind other spelling is none type typed =
+    let P : LiteralKind → Type 0 = λ (k : LiteralKind). LiteralTyped slots k spelling type in
+    none type (subst P is typed)

@@ -62,7 +62,7 @@ empty_list = record { nodes = []; values = []; texts = [] }
 pub whole_is :
     (schema : SchemaModel) (n : ℕ) (old : FlatTree) (tree : Tree) (new : FlatTree) (type : EdmType)
     → old ≡ empty_list
-    → IsWalked schema n old tree new type
+    → IsWalked schema n [] old tree new type
     → tree_of_nodes new ≡ tree
 whole_is schema n old tree new type empty walked =
     let P : FlatTree → Type 0 = λ (l : FlatTree). Stands schema n [] new (length l.nodes) (length new.nodes) tree in
@@ -71,8 +71,8 @@ whole_is schema n old tree new type empty walked =
 pub is_whole :
     (schema : SchemaModel) (n : ℕ) (old : FlatTree) (tree : Tree) (new : FlatTree) (type : EdmType)
     → old ≡ empty_list
-    → IsWalked schema n old tree new type
-    → IsWhole schema n new type
+    → IsWalked schema n [] old tree new type
+    → IsWhole schema n [] new type
 is_whole schema n old tree new type empty walked =
     let same : tree ≡ tree_of_nodes new = sym (whole_is schema n old tree new type empty walked) in
     let P : FlatTree → Type 0 = λ (l : FlatTree). Stands schema n [] new (length l.nodes) (length new.nodes) tree in
@@ -85,7 +85,7 @@ pub whole_typing :
     (schema : SchemaModel) (n : ℕ) (text : List ℕ) (old : FlatTree) (tree : Tree) (new : FlatTree) (type : EdmType)
     → HasTree text tree
     → old ≡ empty_list
-    → IsWalked schema n old tree new type
+    → IsWalked schema n [] old tree new type
     → IsBooleanOrNull (expr_type schema type)
     → HasTyping (slots_of schema) (type_name_at schema n) text (tree_of_nodes new)
 whole_typing schema n text old tree new type has_tree empty walked truth = record {
@@ -99,7 +99,7 @@ pub few_whole :
     (schema : SchemaModel) (n : ℕ) (text : List ℕ) (old : FlatTree) (tree : Tree) (new : FlatTree) (type : EdmType)
     → HasTree text tree
     → old ≡ empty_list
-    → IsWalked schema n old tree new type
+    → IsWalked schema n [] old tree new type
     → length (pre_order (tree_of_nodes new)) ≤ token_limit
 few_whole schema n text old tree new type has_tree empty walked =
     let P : Tree → Type 0 = λ (t : Tree). length (pre_order t) ≤ token_limit in

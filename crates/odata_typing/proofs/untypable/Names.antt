@@ -1,15 +1,14 @@
--- What the walk answers of a name.
-use Rattle.std.proofs.Common.{◌≡◌, refl, sym, ap, subst, ◌∙◌, inl, inr, ℕ, ◌<◌, ◌≤◌, List, [], length, Bool, Option, Some, None, IfSome, IsSomeAnd, MatchOption, slice_get, arith}
+-- What is known of a property by its name.
+use Rattle.std.proofs.Common.{◌≡◌, refl, sym, subst, ◌∙◌, inl, inr, ℕ, ◌<◌, ◌≤◌, List, [], length, Option, Some, None, IfSome, IsSomeAnd, MatchOption, slice_get, arith}
 use Rattle.std.proofs.lemmas.Option.{slice_get_cases}
 use Rattle.odata_syntax.specs.Tree.{node, name}
 use Rattle.odata_text.specs.declared.span.Span.{Span}
 use Rattle.csdl_schema.specs.ExprType.{ExprType}
-use Rattle.csdl_schema.specs.PropertyView.{IsReadAs, property_type}
+use Rattle.csdl_schema.specs.PropertyView.{IsReadAs, PointsWithin, property_type}
 use Rattle.csdl_schema.specs.SchemaModel.{PropertyModel, PropertyType, SchemaModel, Slots, declared, slot_named}
 use Rattle.csdl_schema.specs.declared.property.Property.{Property}
 use Rattle.odata_typing.specs.declared.refusal.TypeFaultCode.{TypeFaultCode}
 use Rattle.odata_typing.specs.FirstUntypable.{IsFirstUntypable, NameReason, PropertyReason}
-use Rattle.odata_typing.specs.TypeInFilter.{kind_in_filter, type_in_filter}
 use Rattle.odata_typing.specs.Typed.{PropertyTyped}
 use Rattle.odata_typing.proofs.untypable.Untypable.{first_itself}
 use Rattle.odata_typing.proofs.untypable.PropertySlots.{slot_below, property_at, property_none}
@@ -24,69 +23,84 @@ first_name slots root asked span code untyped reason =
     first_itself slots root [] span.start span.stop (name asked) (record { code = code; span = span }) tt untyped reason refl refl
 
 -- there is no property of the name
-pub first_unknown :
-    (slots : Slots) (root asked : List ℕ) (span : Span)
-    → slot_named (slots.properties root) asked ≡ None
-    → IsFirstUntypable slots root [] (node span.start span.stop (name asked)) (record { code = TypeFaultCode.UnknownProperty; span = span })
-first_unknown slots root asked span none =
-    let unknown = property_none (slots.properties root) asked none in
-    let P : ExprType → Option PropertyModel → Type 0 = λ (t : ExprType) (o : Option PropertyModel). IsSomeAnd o (λ p. type_in_filter p ≡ declared t) in
-    let Q : Option PropertyModel → Type 0 =
-    λ (o : Option PropertyModel). MatchOption o (TypeFaultCode.UnknownProperty ≡ TypeFaultCode.UnknownProperty) (λ p. PropertyReason (type_in_filter p) TypeFaultCode.UnknownProperty) in
-    first_name slots root asked span TypeFaultCode.UnknownProperty (λ type typed. subst (P type) unknown typed) (subst Q (sym unknown) refl)
+pub unknown_untyped : (properties : List PropertyModel) (asked : List ℕ) (type : ExprType) → slot_named properties asked ≡ None → ¬ PropertyTyped properties asked type
+unknown_untyped properties asked type none typed =
+    let P : Option PropertyModel → Type 0 = λ (o : Option PropertyModel). IsSomeAnd o (λ p. p.type_of ≡ declared type) in
+    subst P (property_none properties asked none) typed
 
--- the property at a slot of a name
-pub at_slot : (properties : List PropertyModel) (asked : List ℕ) (k : ℕ) → slot_named properties asked ≡ Some k → (p : PropertyModel) × (slice_get properties k ≡ Some p)
+pub unknown_reason : (properties : List PropertyModel) (asked : List ℕ) → slot_named properties asked ≡ None → NameReason properties asked TypeFaultCode.UnknownProperty
+unknown_reason properties asked none =
+    let code = TypeFaultCode.UnknownProperty in
+    let Q : Option PropertyModel → Type 0 = λ (o : Option PropertyModel). MatchOption o (code ≡ TypeFaultCode.UnknownProperty) (λ p. PropertyReason p.type_of code) in
+    subst Q (sym (property_none properties asked none)) refl
+
+-- the property at the slot of a name, by the type that the code gives it
+pub record IsFoundAt (properties : List PropertyModel) (asked : List ℕ) (k : ℕ) (kind : PropertyType) : Type 0 where
+  pub property : PropertyModel
+  pub named : slice_get properties k ≡ Some property
+  pub kind_is : kind ≡ property.type_of
+
+at_slot : (properties : List PropertyModel) (asked : List ℕ) (k : ℕ) → slot_named properties asked ≡ Some k → (p : PropertyModel) × (slice_get properties k ≡ Some p)
 at_slot properties asked k found =
     let below : k < length properties = slot_below properties asked k found in
     elim (slice_get_cases properties k).1 [ inl x ↦ (x.0, x.2) | inr y ↦ let past : length properties ≤ k = y.0 in absurd (omega arith) ]
 
--- a property of the code is seen as its declaration is
-pub read_as : (schema : SchemaModel) (p : Property) (declaration : PropertyModel) → IsReadAs schema declaration p → kind_in_filter (property_type schema p) p.nullable ≡ type_in_filter declaration
-read_as schema p declaration read =
-    ap (λ (t : PropertyType). kind_in_filter t p.nullable) read.type_of ∙ ap (λ (b : Bool). kind_in_filter declaration.type_of b) read.nullable
+pub found_at :
+    (schema : SchemaModel) (properties : List PropertyModel) (asked : List ℕ) (k : ℕ) (p : Property)
+    → slot_named properties asked ≡ Some k
+    → IfSome (slice_get properties k) (λ declaration. IsReadAs schema declaration p)
+    → IsFoundAt properties asked k (property_type schema p)
+found_at schema properties asked k p found read =
+    let at = at_slot properties asked k found in
+    let F : Option PropertyModel → Type 0 = λ (o : Option PropertyModel). IfSome o (λ declaration. IsReadAs schema declaration p) in
+    let is : IsReadAs schema at.0 p = subst F at.1 read in
+    record { property = at.0; named = at.1; kind_is = is.type_of }
 
-pub found_as :
-    (schema : SchemaModel) (p : Property) (found : Option PropertyModel)
-    → IfSome found (λ declaration. IsReadAs schema declaration p)
-    → IfSome found (λ declaration. kind_in_filter (property_type schema p) p.nullable ≡ type_in_filter declaration)
-found_as schema p None read = tt
-found_as schema p (Some declaration) read = read_as schema p declaration read
+-- and that what its kind points to is there
+pub points_within :
+    (schema : SchemaModel) (properties : List PropertyModel) (asked : List ℕ) (k : ℕ) (p : Property)
+    → slot_named properties asked ≡ Some k
+    → IfSome (slice_get properties k) (λ declaration. IsReadAs schema declaration p)
+    → PointsWithin schema p.kind
+points_within schema properties asked k p found read =
+    let at = at_slot properties asked k found in
+    let F : Option PropertyModel → Type 0 = λ (o : Option PropertyModel). IfSome o (λ declaration. IsReadAs schema declaration p) in
+    let is : IsReadAs schema at.0 p = subst F at.1 read in
+    is.there
 
 -- a property that a filter may not name has no type
 reason_untyped : (kind : PropertyType) (code : TypeFaultCode) (type : ExprType) → PropertyReason kind code → ¬ (kind ≡ declared type)
 reason_untyped (declared t) code type reason same = reason
 reason_untyped _ code type reason same = cc
 
-pub first_refused :
-    (slots : Slots) (root asked : List ℕ) (span : Span) (code : TypeFaultCode) (k : ℕ) (kind : PropertyType)
-    → slot_named (slots.properties root) asked ≡ Some k
-    → IfSome (slice_get (slots.properties root) k) (λ p. kind ≡ type_in_filter p)
+pub refused_untyped :
+    (properties : List PropertyModel) (asked : List ℕ) (k : ℕ) (kind : PropertyType) (code : TypeFaultCode) (type : ExprType)
+    → slot_named properties asked ≡ Some k
+    → IsFoundAt properties asked k kind
     → PropertyReason kind code
-    → IsFirstUntypable slots root [] (node span.start span.stop (name asked)) (record { code = code; span = span })
-first_refused slots root asked span code k kind found property reason =
-    let p = at_slot (slots.properties root) asked k found in
-    let same = property_at (slots.properties root) asked k found ∙ p.1 in
-    let F : Option PropertyModel → Type 0 = λ (o : Option PropertyModel). IfSome o (λ p. kind ≡ type_in_filter p) in
-    let of_kind : kind ≡ type_in_filter p.0 = subst F p.1 property in
-    let P : ExprType → Option PropertyModel → Type 0 = λ (t : ExprType) (o : Option PropertyModel). IsSomeAnd o (λ p. type_in_filter p ≡ declared t) in
-    let Q : Option PropertyModel → Type 0 = λ (o : Option PropertyModel). MatchOption o (code ≡ TypeFaultCode.UnknownProperty) (λ p. PropertyReason (type_in_filter p) code) in
+    → ¬ PropertyTyped properties asked type
+refused_untyped properties asked k kind code type found at reason typed =
+    let P : Option PropertyModel → Type 0 = λ (o : Option PropertyModel). IsSomeAnd o (λ p. p.type_of ≡ declared type) in
+    reason_untyped kind code type reason (at.kind_is ∙ subst P (property_at properties asked k found ∙ at.named) typed)
+
+pub refused_reason :
+    (properties : List PropertyModel) (asked : List ℕ) (k : ℕ) (kind : PropertyType) (code : TypeFaultCode)
+    → slot_named properties asked ≡ Some k
+    → IsFoundAt properties asked k kind
+    → PropertyReason kind code
+    → NameReason properties asked code
+refused_reason properties asked k kind code found at reason =
+    let Q : Option PropertyModel → Type 0 = λ (o : Option PropertyModel). MatchOption o (code ≡ TypeFaultCode.UnknownProperty) (λ p. PropertyReason p.type_of code) in
     let R : PropertyType → Type 0 = λ (t : PropertyType). PropertyReason t code in
-    first_name slots root asked span code
-    (λ type typed. reason_untyped kind code type reason (of_kind ∙ subst (P type) same typed))
-    (subst Q (sym same) (subst R of_kind reason))
+    subst Q (sym (property_at properties asked k found ∙ at.named)) (subst R at.kind_is reason)
 
 -- a property that a filter may name
 pub property_typed :
     (properties : List PropertyModel) (asked : List ℕ) (k : ℕ) (type : ExprType) (kind : PropertyType)
     → slot_named properties asked ≡ Some k
-    → IfSome (slice_get properties k) (λ p. kind ≡ type_in_filter p)
+    → IsFoundAt properties asked k kind
     → kind ≡ declared type
     → PropertyTyped properties asked type
-property_typed properties asked k type kind found property is_declared =
-    let p = at_slot properties asked k found in
-    let same = property_at properties asked k found ∙ p.1 in
-    let F : Option PropertyModel → Type 0 = λ (o : Option PropertyModel). IfSome o (λ p. kind ≡ type_in_filter p) in
-    let of_kind : kind ≡ type_in_filter p.0 = subst F p.1 property in
-    let P : Option PropertyModel → Type 0 = λ (o : Option PropertyModel). IsSomeAnd o (λ p. type_in_filter p ≡ declared type) in
-    subst P (sym same) (sym of_kind ∙ is_declared)
+property_typed properties asked k type kind found at is_declared =
+    let P : Option PropertyModel → Type 0 = λ (o : Option PropertyModel). IsSomeAnd o (λ p. p.type_of ≡ declared type) in
+    subst P (sym (property_at properties asked k found ∙ at.named)) (sym at.kind_is ∙ is_declared)

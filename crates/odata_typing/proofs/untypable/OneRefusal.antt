@@ -7,19 +7,18 @@ use Rattle.odata_text.specs.declared.fault.TextFault.{TextFault}
 use Rattle.odata_text.specs.declared.span.Span.{Span}
 use Rattle.odata_syntax.specs.Grammar.{Derives, or_level}
 use Rattle.odata_syntax.specs.Parse.{HasNoParse, IsExpression, IsSyntaxFault}
-use Rattle.odata_syntax.specs.Tree.{Tree, node, literal, name, call, start_of, stop_of}
+use Rattle.odata_syntax.specs.Tree.{Tree, node, literal, it, name, member, call, start_of, stop_of}
 use Rattle.odata_syntax.specs.declared.node.LiteralKind.{LiteralKind}
 use Rattle.odata_syntax.specs.declared.syntax_fault.SyntaxFault.{SyntaxFault}
-use Rattle.csdl_schema.specs.ExprType.{ExprType}
+use Rattle.csdl_schema.specs.ExprType.{ExprType, single, structured}
 use Rattle.csdl_schema.specs.SchemaModel.{PropertyModel, PropertyType, Slots, declared, opaque, navigation}
 use Rattle.odata_typing.specs.declared.refusal.Refusal.{Refusal}
 use Rattle.odata_typing.specs.declared.refusal.TypeFault.{TypeFault}
 use Rattle.odata_typing.specs.declared.refusal.TypeFaultCode.{TypeFaultCode}
 use Rattle.odata_typing.specs.ExprTypes.{IsBooleanOrNull}
-use Rattle.odata_typing.specs.FirstUntypable.{IsFirstUntypable, IsNotBoolean, IsReason, IsTypeFault, LiteralReason, PropertyReason}
+use Rattle.odata_typing.specs.FirstUntypable.{IsFirstUntypable, IsNotBoolean, IsReason, IsTypeFault, LiteralReason, PropertyReason, StepReason}
 use Rattle.odata_typing.specs.HasTyping.{HasNoTyping, HasTree, HasTypeFault, IsRefusal}
 use Rattle.odata_typing.specs.Laws.{OneUntypableStart}
-use Rattle.odata_typing.specs.TypeInFilter.{type_in_filter}
 use Rattle.odata_typing.specs.Typed.{Scope, Typed, property_named}
 use Rattle.odata_typing.proofs.types.OneType.{Typed-one}
 use Rattle.odata_typing.proofs.untypable.Untypable.{untypable_blocks}
@@ -37,9 +36,7 @@ pub record Readings : Type 0 where
 
 -- one reason for a node
 literal_reason : (kind : LiteralKind) (a b : TypeFaultCode) → LiteralReason kind a → LiteralReason kind b → a ≡ b
-literal_reason LiteralKind.Bool a b x y = x ∙ sym y
-literal_reason LiteralKind.Int a b x y = x ∙ sym y
-literal_reason LiteralKind.Str a b x y = x ∙ sym y
+literal_reason LiteralKind.EnumLit a b x y = x ∙ sym y
 literal_reason _ a b x y = x ∙ sym y
 
 property_reason : (kind : PropertyType) (a b : TypeFaultCode) → PropertyReason kind a → PropertyReason kind b → a ≡ b
@@ -49,17 +46,25 @@ property_reason navigation a b x y = x ∙ sym y
 
 found_reason :
     (found : Option PropertyModel) (a b : TypeFaultCode)
-    → MatchOption found (a ≡ TypeFaultCode.UnknownProperty) (λ p. PropertyReason (type_in_filter p) a)
-    → MatchOption found (b ≡ TypeFaultCode.UnknownProperty) (λ p. PropertyReason (type_in_filter p) b)
+    → MatchOption found (a ≡ TypeFaultCode.UnknownProperty) (λ p. PropertyReason p.type_of a)
+    → MatchOption found (b ≡ TypeFaultCode.UnknownProperty) (λ p. PropertyReason p.type_of b)
     → a ≡ b
 found_reason None a b x y = x ∙ sym y
-found_reason (Some p) a b x y = property_reason (type_in_filter p) a b x y
+found_reason (Some p) a b x y = property_reason p.type_of a b x y
 
-one_reason : (slots : Slots) (root : List ℕ) (tree : Tree) (a b : TypeFaultCode) → IsReason slots root tree a → IsReason slots root tree b → a ≡ b
-one_reason slots root (node start stop (literal kind spelling)) a b x y = literal_reason kind a b x y
-one_reason slots root (node start stop (name asked)) a b x y = found_reason (property_named (slots.properties root) asked) a b x y
-one_reason slots root (node start stop (call asked arguments)) a b x y = x ∙ sym y
-one_reason slots root (node start stop shape) a b x y = x ∙ sym y
+step_reason : (slots : Slots) (asked : List ℕ) (type : ExprType) (a b : TypeFaultCode) → StepReason slots asked type a → StepReason slots asked type b → a ≡ b
+step_reason slots asked (single (structured owner)) a b x y = found_reason (property_named (slots.properties owner) asked) a b x y
+step_reason slots asked _ a b x y = x ∙ sym y
+
+one_reason : (slots : Slots) (root : List ℕ) (scope : Scope) (tree : Tree) (a b : TypeFaultCode) → IsReason slots root scope tree a → IsReason slots root scope tree b → a ≡ b
+one_reason slots root scope (node start stop (literal kind spelling)) a b x y = literal_reason kind a b x y
+one_reason slots root scope (node start stop it) a b x y = absurd x
+one_reason slots root scope (node start stop (name asked)) a b x y = found_reason (property_named (slots.properties root) asked) a b x y
+one_reason slots root scope (node start stop (member base asked)) a b x y =
+    let same : y.0 ≡ x.0 = Typed-one slots root scope base y.0 x.0 y.1 x.1 in
+    step_reason slots asked x.0 a b x.2 (subst (λ (t : ExprType). StepReason slots asked t b) same y.2)
+one_reason slots root scope (node start stop (call asked arguments)) a b x y = x ∙ sym y
+one_reason slots root scope (node start stop shape) a b x y = x ∙ sym y
 
 same_span : (a b : Span) → a.start ≡ b.start → a.stop ≡ b.stop → a ≡ b
 same_span a b s e =
@@ -77,8 +82,9 @@ one_first known slots root scope tree a b e x y =
     let before : start_of x.part ≤ start_of y.part = x.first y.at y.part y.untypable in
     let behind : start_of y.part ≤ start_of x.part = y.first x.at x.part x.untypable in
     let one = known.start slots root scope tree x.at y.at x.part y.part e x.untypable y.untypable (omega arith) in
-    let reason : IsReason slots root x.part b.code = subst (λ (t : Tree). IsReason slots root t b.code) (sym one.1) y.reason in
-    same_fault a b (one_reason slots root x.part a.code b.code x.reason reason)
+    let there : IsReason slots root x.at y.part b.code = subst (λ (s : Scope). IsReason slots root s y.part b.code) (sym one.0) y.reason in
+    let reason : IsReason slots root x.at x.part b.code = subst (λ (t : Tree). IsReason slots root x.at t b.code) (sym one.1) there in
+    same_fault a b (one_reason slots root x.at x.part a.code b.code x.reason reason)
     (x.starts ∙ ap start_of one.1 ∙ sym y.starts)
     (x.stops ∙ ap stop_of one.1 ∙ sym y.stops)
 

@@ -1,7 +1,7 @@
 -- The first untypable node of a tree, from those of its children.
 use Rattle.std.proofs.Common.{◌≡◌, refl, sym, ap, inl, inr, ◌⊎◌, ℕ, ◌<◌, ◌≤◌, List, [], ◌∷◌, ◌++◌, subst, arith}
 use Rattle.std.specs.List.{AllByRecursion}
-use Rattle.odata_syntax.specs.Tree.{Shape, Tree, node, literal, name, binary, shape_of, start_of}
+use Rattle.odata_syntax.specs.Tree.{Shape, Tree, node, literal, it, name, member, negation, logical_not, binary, shape_of, start_of}
 use Rattle.csdl_schema.specs.ExprType.{ExprType}
 use Rattle.csdl_schema.specs.SchemaModel.{Slots}
 use Rattle.odata_typing.specs.declared.refusal.TypeFault.{TypeFault}
@@ -30,7 +30,11 @@ children_typed :
     → Typed slots root scope tree type
     → AllTyped slots root scope (children_in_scope (shape_of tree))
 children_typed slots root scope (node start stop (literal kind spelling)) type typed = tt
+children_typed slots root scope (node start stop it) type typed = tt
 children_typed slots root scope (node start stop (name asked)) type typed = tt
+children_typed slots root scope (node start stop (member base asked)) type typed = ((typed.operand, typed.operand_typed), tt)
+children_typed slots root scope (node start stop (negation operand)) type typed = ((typed.operand, typed.operand_typed), tt)
+children_typed slots root scope (node start stop (logical_not operand)) type typed = ((typed.operand, typed.operand_typed), tt)
 children_typed slots root scope (node start stop (binary operator left right)) type typed =
     ((typed.left, typed.left_typed), ((typed.right, typed.right_typed), tt))
 children_typed slots root scope (node start stop _) type typed = absurd typed
@@ -211,7 +215,7 @@ pub first_itself :
     (slots : Slots) (root : List ℕ) (scope : Scope) (start stop : ℕ) (shape : Shape) (fault : TypeFault)
     → AllTyped slots root scope (children_in_scope shape)
     → IsUntyped slots root scope (node start stop shape)
-    → IsReason slots root (node start stop shape) fault.code
+    → IsReason slots root scope (node start stop shape) fault.code
     → fault.span.start ≡ start
     → fault.span.stop ≡ stop
     → IsFirstUntypable slots root scope (node start stop shape) fault

@@ -1,14 +1,14 @@
 -- For private clauses: what the walk that writes the canonical text of a list has still to write.
-use Rattle.std.specs.Prelude.{◌≡◌, ℕ, ◌+◌, ◌*◌, ◌-◌, ◌<◌, ◌≤◌, List, [], ◌∷◌, ◌++◌, Some, option_map, slice_get, sum_by, unwrap_or}
+use Rattle.std.specs.Prelude.{◌≡◌, ℕ, ◌+◌, ◌*◌, ◌-◌, ◌<◌, ◌≤◌, List, [], ◌∷◌, ◌++◌, Some, codes, length, option_map, slice_get, sum_by, unwrap_or}
 use Rattle.odata_syntax.specs.CanonicalText.{IsCanonicalText, grouped, tree_level, tree_text}
-use Rattle.odata_syntax.specs.Grammar.{Level, base_level, operator_level}
+use Rattle.odata_syntax.specs.Grammar.{Level, base_level, operator_level, unary_level}
 use Rattle.odata_syntax.specs.Lexeme.{operator_word}
 use Rattle.odata_syntax.specs.NormalForm.{IsNormalForm}
 use Rattle.odata_syntax.specs.Tree.{Tree}
 use Rattle.odata_syntax.specs.declared.node.BinaryOperator.{BinaryOperator}
 use Rattle.csdl_schema.specs.SchemaModel.{SchemaModel}
 use Rattle.odata_typing.specs.declared.canonical_text.Part.{Part}
-use Rattle.odata_typing.specs.declared.canonical_text.Part.TheVariants.{Close, Operand, Operator}
+use Rattle.odata_typing.specs.declared.canonical_text.Part.TheVariants.{Close, Operand, Operator, Step}
 use Rattle.odata_typing.specs.declared.checked_node.CheckedNode.{CheckedNode}
 use Rattle.odata_typing.specs.declared.checked_node.NodeKind.{NodeKind}
 use Rattle.odata_typing.specs.FlatTree.{FlatTree}
@@ -27,15 +27,18 @@ pub record StandsThere (list : FlatTree) (i : ℕ) (tree : Tree) : Type 0 where
 abbrev pub HasTreeAt : FlatTree → ℕ → Type 0
 HasTreeAt list i = (tree : Tree) × StandsThere list i tree
 
--- what is still to be written: an operator between spaces, `)`, and an operand whose place needs a level
+-- what is still to be written: an operator between spaces, a slash and a name, `)`, and an operand whose place needs a
+-- level
 pub data Piece : Type 0 where
   between : BinaryOperator → Piece
+  behind_slash : List ℕ → Piece
   closing : Piece
   operand : Level → Tree → Piece
 
 -- the text of a piece
 abbrev pub IsPieceText : Piece → List ℕ → Type 0
 IsPieceText (between operator) text = text ≡ 32 ∷ (operator_word operator ++ 32 ∷ [])
+IsPieceText (behind_slash asked) text = text ≡ 47 ∷ asked
 IsPieceText closing text = text ≡ 41 ∷ []
 IsPieceText (operand level tree) text =
     (normal : Tree) × IsNormalForm tree normal × (text ≡ grouped level (tree_level normal) (tree_text normal))
@@ -58,9 +61,15 @@ pub record IsOperandOf (list : FlatTree) (place needed level : ℕ) (tree : Tree
   pub within : level ≤ base_level
   pub there : StandsThere list place tree
 
+-- a name stands beside a node
+pub record IsStepOf (list : FlatTree) (place : ℕ) (asked : List ℕ) : Type 0 where
+  pub within : place < length list.nodes
+  pub beside : slice_get list.texts place ≡ Some asked
+
 -- what a part of the code stands for
 abbrev pub IsPieceOf : FlatTree → Part → Piece → Type 0
 IsPieceOf list (Operator word) (between operator) = word ≡ operator
+IsPieceOf list (Step place) (behind_slash asked) = IsStepOf list place asked
 IsPieceOf list Close closing = Unit {0}
 IsPieceOf list (Operand place needed) (operand level tree) = IsOperandOf list place needed level tree
 IsPieceOf list _ _ = ⊥
@@ -109,6 +118,26 @@ operands_of list i operator =
     Operand (stop_at list (i + 1)) (operator_level operator + 1)
     ∷ (Operator operator ∷ (Operand (i + 1) (operator_level operator) ∷ []))
 
+-- a step to a member, and what stands before its slash last
+abbrev pub step_of : ℕ → List Part
+step_of i = Step i ∷ (Operand (i + 1) 0 ∷ [])
+
+-- the operand of a sign
+abbrev pub operand_of : ℕ → List Part
+operand_of i = Operand i unary_level ∷ []
+
+-- the text of a sign with the space behind it
+abbrev pub IsSign : NodeKind → List ℕ → Type 0
+IsSign NodeKind.Neg text = text ≡ codes "- "
+IsSign NodeKind.Not text = text ≡ codes "not "
+IsSign _ text = ⊥
+
+-- a sign of that text stands there
+pub record IsSignAt (list : FlatTree) (i : ℕ) (text : List ℕ) : Type 0 where
+  pub found : CheckedNode
+  pub at : slice_get list.nodes i ≡ Some found
+  pub is : IsSign found.kind text
+
 -- the operator stands there
 pub record IsBinaryAt (list : FlatTree) (i : ℕ) (operator : BinaryOperator) : Type 0 where
   pub found : CheckedNode
@@ -120,3 +149,14 @@ pub record IsTextAdded (list : FlatTree) (i : ℕ) (before after : List ℕ) : T
   pub spelling : List ℕ
   pub beside : slice_get list.texts i ≡ Some spelling
   pub added : after ≡ before ++ spelling
+
+-- a slash and the text beside a node were put behind
+pub record IsStepAdded (list : FlatTree) (i : ℕ) (before after : List ℕ) : Type 0 where
+  pub asked : List ℕ
+  pub beside : slice_get list.texts i ≡ Some asked
+  pub added : after ≡ before ++ 47 ∷ asked
+
+-- a sign was put behind, and its operand on the stack
+pub record IsSignPut (sign : List ℕ) (i : ℕ) (before after : List ℕ) (old new : List Part) : Type 0 where
+  pub text : after ≡ before ++ sign
+  pub pending : new ≡ old ++ operand_of i

@@ -1,7 +1,7 @@
 -- For private clauses: what is told of the children of a node that is not typed yet.
-use Rattle.std.specs.Prelude.{◌≤◌, ℕ, List, [], Option, MatchOption}
+use Rattle.std.specs.Prelude.{◌≤◌, ℕ, List, Option, MatchOption}
 use Rattle.std.specs.List.{AllByRecursion}
-use Rattle.odata_syntax.specs.Tree.{Shape, Tree, binary, literal, name, start_of}
+use Rattle.odata_syntax.specs.Tree.{Shape, Tree, binary, it, literal, logical_not, member, name, negation, start_of}
 use Rattle.csdl_schema.specs.SchemaModel.{SchemaModel, Slots, slots_of, type_name_at}
 use Rattle.odata_typing.specs.declared.refusal.TypeFault.{TypeFault}
 use Rattle.odata_typing.specs.declared.untyped.Untyped.{Untyped}
@@ -12,7 +12,11 @@ use Rattle.odata_typing.specs.Typed.{Scope, IsTyped}
 -- no node of that shape has a type yet
 abbrev pub IsUnruled : Shape → Type 0
 IsUnruled (literal kind spelling) = ⊥
+IsUnruled it = ⊥
 IsUnruled (name asked) = ⊥
+IsUnruled (member base asked) = ⊥
+IsUnruled (negation operand) = ⊥
+IsUnruled (logical_not operand) = ⊥
 IsUnruled (binary operator left right) = ⊥
 IsUnruled shape = Unit {0}
 
@@ -31,13 +35,13 @@ pub record IsFirstAmong
       (at : Scope) (other : Tree) → IsAmong scope trees at other → StartFrom slots root at other fault.span.start
 
 -- the first fault among the trees; want of memory says nothing
-abbrev pub HasFaultAmong : SchemaModel → ℕ → List Tree → Untyped → Type 0
-HasFaultAmong schema n trees (Untyped.Fault fault) =
-    IsFirstAmong (slots_of schema) (type_name_at schema n) [] trees fault
-HasFaultAmong schema n trees Untyped.Memory = Unit {0}
+abbrev pub HasFaultAmong : SchemaModel → ℕ → Scope → List Tree → Untyped → Type 0
+HasFaultAmong schema n scope trees (Untyped.Fault fault) =
+    IsFirstAmong (slots_of schema) (type_name_at schema n) scope trees fault
+HasFaultAmong schema n scope trees Untyped.Memory = Unit {0}
 
 -- what is told of trees: nothing where each has a type, else the first fault among them
-abbrev pub IsToldOf : SchemaModel → ℕ → List Tree → Option Untyped → Type 0
-IsToldOf schema n trees told =
-    MatchOption told (AllByRecursion (IsTyped (slots_of schema) (type_name_at schema n) []) trees)
-    (HasFaultAmong schema n trees)
+abbrev pub IsToldOf : SchemaModel → ℕ → Scope → List Tree → Option Untyped → Type 0
+IsToldOf schema n scope trees told =
+    MatchOption told (AllByRecursion (IsTyped (slots_of schema) (type_name_at schema n) scope) trees)
+    (HasFaultAmong schema n scope trees)

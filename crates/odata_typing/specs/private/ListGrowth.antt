@@ -17,9 +17,9 @@ with_node list added text =
 abbrev pub node_put : FlatTree → ℕ → CheckedNode → FlatTree
 node_put list place put = record { nodes = slice_set list.nodes place put; values = list.values; texts = list.texts }
 
--- a node without a text has been put behind the others, which is still to be closed
-pub record IsOpened (old : FlatTree) (place : ℕ) (new : FlatTree) : Type 0 where
+-- a node with that text has been put behind the others, which is still to be closed
+pub record IsOpened (old : FlatTree) (place : ℕ) (text : List ℕ) (new : FlatTree) : Type 0 where
   pub last : place ≡ length old.nodes
   pub beside : length old.texts ≡ length old.nodes
   pub added : CheckedNode
-  pub grown : new ≡ with_node old added []
+  pub grown : new ≡ with_node old added text

@@ -1,11 +1,11 @@
 use Rattle.std.proofs.Common.{ℕ, ◌<◌, ◌≤◌, ◌-◌}
-use Rattle.odata_eval.specs.private.Place.{IsOperatorAt}
+use Rattle.odata_eval.specs.private.Place.{IsClassAt}
 use Rattle.odata_eval.proofs.part.spine_bottom.Given as goal
 
 abbrev pub invariant-loop-place : goal.invariant-loop-place
 invariant-loop-place l = record {
   below : l.top ≤ l.place;
-  spine : (k : ℕ) → k < l.place → l.top ≤ k → IsOperatorAt l.checked.list l.logical k;
+  spine : (k : ℕ) → k < l.place → l.top ≤ k → IsClassAt l.checked.list l.class k;
 }
 
 abbrev pub decreases-loop-place : goal.decreases-loop-place

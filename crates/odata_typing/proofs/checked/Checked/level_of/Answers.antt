@@ -10,7 +10,15 @@ returns-in-Variable c =
 pub returns-in-Literal : goal.returns-in-Literal
 returns-in-Literal c =
     let found = level_found c.args.self.now c.args.node c.in-Some.found.now (numbered c.args.self.now c.args.node c.in-Some.found.now c.node_at.ensures.right (sym c.in-Some.ensures.same)) in
-    elim c.in-Literal.is [ inl x ↦ sym (found ∙ ap level_of_kind x.2) | inr (inl y) ↦ sym (found ∙ ap level_of_kind y.1) | inr (inr z) ↦ sym (found ∙ ap level_of_kind z.1) ]
+    elim c.in-Literal.is [
+      | inl x ↦ sym (found ∙ ap level_of_kind x.2)
+      | inr (inl x) ↦ sym (found ∙ ap level_of_kind x)
+      | inr (inr (inl x)) ↦ sym (found ∙ ap level_of_kind x.1)
+      | inr (inr (inr (inl x))) ↦ sym (found ∙ ap level_of_kind x.1)
+      | inr (inr (inr (inr (inl x)))) ↦ sym (found ∙ ap level_of_kind x)
+      | inr (inr (inr (inr (inr (inl x))))) ↦ sym (found ∙ ap level_of_kind x)
+      | inr (inr (inr (inr (inr (inr x))))) ↦ sym (found ∙ ap level_of_kind x.1)
+    ]
 
 pub returns-in-None : goal.returns-in-None
 returns-in-None c =

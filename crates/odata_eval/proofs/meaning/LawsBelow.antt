@@ -1,0 +1,40 @@
+-- What is known of the layers below.
+use Rattle.std.proofs.Common.{◌≡◌, ◌↔◌, ℤ, Bool, IsTrue, Option, Some, Result}
+use Rattle.std.specs.Prelude.{IfSome}
+use Rattle.edm_values.specs.NumberTypes.{IsNumberOf, IsNumberType}
+use Rattle.edm_values.specs.Val.{Val}
+use Rattle.edm_values.specs.declared.primitive.PrimitiveType.{PrimitiveType}
+use Rattle.odata_functions.specs.Arithmetic.{ArithmeticGives, NegationGives}
+use Rattle.odata_functions.specs.Comparison.{ComparesTrue}
+use Rattle.odata_functions.specs.Promotion.{IsPromoted, negation_type, promotion}
+use Rattle.odata_functions.specs.declared.arithmetic.ArithFault.{ArithFault}
+use Rattle.odata_functions.specs.declared.arithmetic.ArithmeticOperator.{ArithmeticOperator}
+use Rattle.odata_functions.specs.declared.comparison.ComparisonOperator.{ComparisonOperator}
+use Rattle.odata_typing.specs.Laws.{OneLiteralValue, OneType}
+
+-- what makes outcomes the only ones
+pub record OneEach : Type 0 where
+  pub values : OneLiteralValue
+  pub types : OneType
+  pub answer : (operator : ArithmeticOperator) (kind : PrimitiveType) (left right : Option ℤ) (x y : Result (Option ℤ) ArithFault)
+      → ArithmeticGives operator kind left right x → ArithmeticGives operator kind left right y → x ≡ y
+  pub negation : (kind : PrimitiveType) (operand : Option ℤ) (x y : Result (Option ℤ) ArithFault)
+      → NegationGives kind operand x → NegationGives kind operand y → x ≡ y
+
+-- what gives outcomes
+pub record SomeEach : Type 0 where
+  pub decided : (operator : ComparisonOperator) (v w : Val) → (answer : Bool) × (IsTrue answer ↔ ComparesTrue operator v w)
+  pub answer : (operator : ArithmeticOperator) (kind : PrimitiveType) (left right : Option ℤ) → IsPromoted kind
+      → (x : Result (Option ℤ) ArithFault) × ArithmeticGives operator kind left right x
+  pub negation : (kind : PrimitiveType) (operand : Option ℤ) → IsPromoted kind
+      → (x : Result (Option ℤ) ArithFault) × NegationGives kind operand x
+
+-- where operands lie
+pub record Promotes : Type 0 where
+  pub left : (l t : PrimitiveType) (r : Option PrimitiveType) (n : ℤ) → IsNumberType l
+      → IfSome r IsNumberType → promotion (Some l) r ≡ Some t → IsNumberOf l n → IsNumberOf t n
+  pub right : (l : Option PrimitiveType) (r t : PrimitiveType) (n : ℤ) → IfSome l IsNumberType
+      → IsNumberType r → promotion l (Some r) ≡ Some t → IsNumberOf r n → IsNumberOf t n
+  pub negation : (o t : PrimitiveType) (n : ℤ) → IsNumberType o → negation_type (Some o) ≡ Some t
+      → IsNumberOf o n → IsNumberOf t n
+  pub three : (l r : Option PrimitiveType) (t : PrimitiveType) → promotion l r ≡ Some t → IsPromoted t

@@ -1,0 +1,90 @@
+-- Operands of arithmetic lie within the type in which they are computed.
+use Rattle.std.proofs.Common.{refl, sym, subst, Option, Some, None}
+use Rattle.std.specs.Prelude.{IfSome}
+use Rattle.edm_values.specs.NumberTypes.{IsNumberOf, IsNumberType}
+use Rattle.edm_values.specs.Val.{Val, null, whole}
+use Rattle.edm_values.specs.declared.primitive.PrimitiveType.{PrimitiveType}
+use Rattle.csdl_schema.specs.ExprType.{ExprType, null_type, single, collection, primitive, enumeration, structured}
+use Rattle.csdl_schema.specs.SchemaModel.{Slots}
+use Rattle.edm_entities.specs.HasType.{HasType}
+use Rattle.odata_functions.specs.Promotion.{negation_type, promotion, wider_type}
+use Rattle.odata_typing.specs.ExprTypes.{IsNumberOrNull, number_or_null}
+use Rattle.odata_typing.specs.OperatorTyped.{ArithmeticTyped, NegationTyped}
+use Rattle.odata_eval.specs.private.Operands.{AreNumbers, IsOneNumber}
+use Rattle.odata_eval.proofs.meaning.LawsBelow.{Promotes}
+
+-- a number of that type, or null
+abbrev pub IsNumberIn : Option PrimitiveType → Val → Type 0
+IsNumberIn number null = Unit {0}
+IsNumberIn (Some p) (whole n) = IsNumberOf p n
+IsNumberIn number _ = ⊥
+
+-- the number type of an operand, if it has one, is one of numbers
+pub are_numbers : (type : ExprType) (number : Option PrimitiveType) → IsNumberOrNull type number → IfSome number IsNumberType
+are_numbers null_type number is = rw is tt
+are_numbers (single (primitive p)) number is = rw is.1 is.0
+are_numbers (single (enumeration name)) number is = absurd is
+are_numbers (single (structured name)) number is = absurd is
+are_numbers (collection s) number is = absurd is
+
+primitive_number : (slots : Slots) (p : PrimitiveType) (v : Val) → IsNumberType p → HasType slots (single (primitive p)) v → IsNumberIn (Some p) v
+primitive_number slots p null is has = tt
+primitive_number slots p (whole n) is has = has
+primitive_number slots PrimitiveType.Byte _ is has = absurd has
+primitive_number slots PrimitiveType.SByte _ is has = absurd has
+primitive_number slots PrimitiveType.Int16 _ is has = absurd has
+primitive_number slots PrimitiveType.Int32 _ is has = absurd has
+primitive_number slots PrimitiveType.Int64 _ is has = absurd has
+primitive_number slots _ _ is has = absurd is
+
+null_number : (slots : Slots) (v : Val) → HasType slots null_type v → IsNumberIn None v
+null_number slots null has = tt
+null_number slots _ has = absurd has
+
+pub number_in : (slots : Slots) (type : ExprType) (number : Option PrimitiveType) (v : Val) → IsNumberOrNull type number → HasType slots type v → IsNumberIn number v
+number_in slots null_type number v is has = rw is (null_number slots v has)
+number_in slots (single (primitive p)) number v is has = rw is.1 (primitive_number slots p v is.0 has)
+number_in slots (single (enumeration name)) number v is has = absurd is
+number_in slots (single (structured name)) number v is has = absurd is
+number_in slots (collection s) number v is has = absurd is
+
+module _ (laws : Promotes) where
+  -- two operands, in the type to which theirs are promoted
+  both_numbers : (left right : Option PrimitiveType) (l r : Val) → IfSome left IsNumberType → IfSome right IsNumberType
+      → IsNumberIn left l → IsNumberIn right r → AreNumbers (number_or_null (promotion left right)) l r
+  both_numbers left right null null p q of_l of_r = tt
+  both_numbers left (Some q') null (whole b) p q of_l of_r = tt
+  both_numbers (Some p') right (whole a) null p q of_l of_r = tt
+  both_numbers (Some p') (Some q') (whole a) (whole b) p q of_l of_r = (
+    laws.three (Some p') (Some q') (wider_type (Some p') (Some q')) refl,
+    laws.left p' (wider_type (Some p') (Some q')) (Some q') a p q refl of_l,
+    laws.right (Some p') q' (wider_type (Some p') (Some q')) b p q refl of_r,
+  )
+  both_numbers None right (whole a) r p q of_l of_r = absurd of_l
+  both_numbers (Some p') None (whole a) (whole b) p q of_l of_r = absurd of_r
+  both_numbers left None null (whole b) p q of_l of_r = absurd of_r
+  both_numbers left right null _ p q of_l of_r = absurd of_r
+  both_numbers left right (whole a) _ p q of_l of_r = absurd of_r
+  both_numbers left right _ r p q of_l of_r = absurd of_l
+
+  pub calculated_values : (slots : Slots) (left right type : ExprType) (l r : Val) → ArithmeticTyped left right type
+      → HasType slots left l → HasType slots right r → AreNumbers type l r
+  calculated_values slots left right type l r typed of_l of_r =
+      subst (λ (t : ExprType). AreNumbers t l r) (sym typed.type_is)
+      (both_numbers typed.left_number typed.right_number l r
+      (are_numbers left typed.left_number typed.left_is) (are_numbers right typed.right_number typed.right_is)
+      (number_in slots left typed.left_number l typed.left_is of_l) (number_in slots right typed.right_number r typed.right_is of_r))
+
+  one_number : (number : Option PrimitiveType) (v : Val) → IfSome number IsNumberType → IsNumberIn number v → IsOneNumber (number_or_null (negation_type number)) v
+  one_number number null p of_v = tt
+  one_number (Some p') (whole a) p of_v = (
+    laws.three (Some p') (Some PrimitiveType.Int16) (wider_type (Some p') (Some PrimitiveType.Int16)) refl,
+    laws.negation p' (wider_type (Some p') (Some PrimitiveType.Int16)) a p refl of_v,
+  )
+  one_number None (whole a) p of_v = absurd of_v
+  one_number number _ p of_v = absurd of_v
+
+  pub negated_value : (slots : Slots) (operand type : ExprType) (v : Val) → NegationTyped operand type → HasType slots operand v → IsOneNumber type v
+  negated_value slots operand type v typed of_v =
+      subst (λ (t : ExprType). IsOneNumber t v) (sym typed.type_is)
+      (one_number typed.number v (are_numbers operand typed.number typed.operand_is) (number_in slots operand typed.number v typed.operand_is of_v))

@@ -1,0 +1,121 @@
+-- The combinators of outcomes give the same of operands with the same outcomes.
+use Rattle.std.proofs.Common.{◌↔◌, Bool, true, false, Option, Some, None}
+use Rattle.edm_values.specs.Val.{Val, null, boolean}
+use Rattle.csdl_schema.specs.ExprType.{ExprType}
+use Rattle.odata_typing.specs.Typed.{OperandTyped, OperandsTyped}
+use Rattle.odata_typing.specs.declared.operator_class.Connective.{Connective}
+use Rattle.odata_typing.specs.declared.operator_class.OperatorClass.{OperatorClass}
+use Rattle.odata_syntax.specs.declared.node.BinaryOperator.{BinaryOperator}
+use Rattle.odata_eval.specs.CalculationGives.{CalculationGives}
+use Rattle.odata_eval.specs.CompareGives.{CompareGives}
+use Rattle.odata_eval.specs.LeftFirst.{After, Then}
+use Rattle.odata_eval.specs.OperatorGives.{ClassGives, InType}
+use Rattle.odata_eval.specs.Outcome.{Outcome, gives, overflow, divides_by_zero, GivesSome}
+use Rattle.odata_eval.specs.TruthGives.{ConnectiveGives, JoinGives}
+
+-- outcomes of the one are outcomes of the other
+abbrev pub Goes : (Outcome → Type 0) → (Outcome → Type 0) → Type 0
+Goes P Q = (o : Outcome) → P o → Q o
+
+-- each way
+abbrev pub Both : (Outcome → Type 0) → (Outcome → Type 0) → Type 0
+Both P Q = (o : Outcome) → P o ↔ Q o
+
+-- types of the one are types of the other, each way
+abbrev pub BothTyped : (ExprType → Type 0) → (ExprType → Type 0) → Type 0
+BothTyped N M = (type : ExprType) → N type ↔ M type
+
+pub both : (P Q : Outcome → Type 0) → Goes P Q → Goes Q P → Both P Q
+both P Q to from o = (to o, from o)
+
+pub there : (P Q : Outcome → Type 0) → Both P Q → Goes P Q
+there P Q same o = (same o).0
+
+pub back : (P Q : Outcome → Type 0) → Both P Q → Goes Q P
+back P Q same o = (same o).1
+
+pub itself : (P : Outcome → Type 0) → Both P P
+itself P o = (λ is. is, λ is. is)
+
+pub in_turn : (P Q R : Outcome → Type 0) → Both P Q → Both Q R → Both P R
+in_turn P Q R first second o = (λ is. (second o).0 ((first o).0 is), λ is. (first o).1 ((second o).1 is))
+
+pub turned : (P Q : Outcome → Type 0) → Both P Q → Both Q P
+turned P Q same o = ((same o).1, (same o).0)
+
+some_goes : (P Q : Val → Type 0) → ((v : Val) → P v → Q v) → Goes (GivesSome P) (GivesSome Q)
+some_goes P Q goes (gives v) is = goes v is
+some_goes P Q goes overflow is = absurd is
+some_goes P Q goes divides_by_zero is = absurd is
+
+pub some_both : (P Q : Val → Type 0) → ((v : Val) → P v ↔ Q v) → Both (GivesSome P) (GivesSome Q)
+some_both P Q same = both (GivesSome P) (GivesSome Q) (some_goes P Q (λ v. (same v).0)) (some_goes Q P (λ v. (same v).1))
+
+then_goes : (first : Outcome) (F G : Val → Outcome → Type 0) → ((v : Val) → Goes (F v) (G v)) → Goes (Then first F) (Then first G)
+then_goes (gives v) F G goes o is = goes v o is
+then_goes overflow F G goes o is = is
+then_goes divides_by_zero F G goes o is = is
+
+after_goes : (P Q : Outcome → Type 0) (F G : Val → Outcome → Type 0) → Goes P Q → ((v : Val) → Goes (F v) (G v)) → Goes (After P F) (After Q G)
+after_goes P Q F G operand goes o (first, (is, follows)) = (first, (operand first is, then_goes first F G goes o follows))
+
+pub after_both : (P Q : Outcome → Type 0) (F G : Val → Outcome → Type 0) → Both P Q → ((v : Val) → Both (F v) (G v)) → Both (After P F) (After Q G)
+after_both P Q F G operand same =
+    both (After P F) (After Q G)
+    (after_goes P Q F G (there P Q operand) (λ v. there (F v) (G v) (same v)))
+    (after_goes Q P G F (back P Q operand) (λ v. back (F v) (G v) (same v)))
+
+in_type_goes : (N M : ExprType → Type 0) (Gives : ExprType → Outcome → Type 0) → ((type : ExprType) → N type → M type) → Goes (InType N Gives) (InType M Gives)
+in_type_goes N M Gives goes o (type, typed, given) = (type, goes type typed, given)
+
+pub in_type_both : (N M : ExprType → Type 0) (Gives : ExprType → Outcome → Type 0) → BothTyped N M → Both (InType N Gives) (InType M Gives)
+in_type_both N M Gives same =
+    both (InType N Gives) (InType M Gives) (in_type_goes N M Gives (λ type. (same type).0)) (in_type_goes M N Gives (λ type. (same type).1))
+
+connective_goes : (connective : Connective) (v : Val) (P Q : Outcome → Type 0) → Goes P Q → Goes (ConnectiveGives connective v P) (ConnectiveGives connective v Q)
+connective_goes Connective.And (boolean false) P Q goes o is = is
+connective_goes Connective.And (boolean true) P Q goes o is = after_goes P Q (JoinGives Connective.And (Some true)) (JoinGives Connective.And (Some true)) goes (λ v r given. given) o is
+connective_goes Connective.And null P Q goes o is = after_goes P Q (JoinGives Connective.And None) (JoinGives Connective.And None) goes (λ v r given. given) o is
+connective_goes Connective.Or (boolean true) P Q goes o is = is
+connective_goes Connective.Or (boolean false) P Q goes o is = after_goes P Q (JoinGives Connective.Or (Some false)) (JoinGives Connective.Or (Some false)) goes (λ v r given. given) o is
+connective_goes Connective.Or null P Q goes o is = after_goes P Q (JoinGives Connective.Or None) (JoinGives Connective.Or None) goes (λ v r given. given) o is
+connective_goes Connective.And _ P Q goes o is = absurd is
+connective_goes Connective.Or _ P Q goes o is = absurd is
+
+class_goes : (class : OperatorClass) (N M : ExprType → Type 0) (v : Val) (P Q : Outcome → Type 0) → ((type : ExprType) → N type → M type) → Goes P Q
+    → Goes (ClassGives class N v P) (ClassGives class M v Q)
+class_goes (OperatorClass.Connective connective) N M v P Q typed goes = connective_goes connective v P Q goes
+class_goes (OperatorClass.Comparison comparison) N M v P Q typed goes =
+    after_goes P Q (CompareGives comparison v) (CompareGives comparison v) goes (λ w o given. given)
+class_goes (OperatorClass.Arithmetic arithmetic) N M v P Q typed goes =
+    after_goes P Q (λ w. InType N (λ type. CalculationGives arithmetic type v w)) (λ w. InType M (λ type. CalculationGives arithmetic type v w)) goes
+    (λ w. in_type_goes N M (λ type. CalculationGives arithmetic type v w) typed)
+
+pub class_both : (class : OperatorClass) (N M : ExprType → Type 0) (v : Val) (P Q : Outcome → Type 0) → BothTyped N M → Both P Q
+    → Both (ClassGives class N v P) (ClassGives class M v Q)
+class_both class N M v P Q typed same =
+    both (ClassGives class N v P) (ClassGives class M v Q)
+    (class_goes class N M v P Q (λ type. (typed type).0) (there P Q same))
+    (class_goes class M N v Q P (λ type. (typed type).1) (back P Q same))
+
+-- ---- the types of operands
+
+operand_goes : (N M : ExprType → Type 0) (Makes : ExprType → ExprType → Type 0) (type : ExprType) → ((t : ExprType) → N t → M t) → OperandTyped N Makes type → OperandTyped M Makes type
+operand_goes N M Makes type goes typed = record { operand = typed.operand; operand_typed = goes typed.operand typed.operand_typed; makes = typed.makes }
+
+pub operand_both : (N M : ExprType → Type 0) (Makes : ExprType → ExprType → Type 0) → BothTyped N M → BothTyped (OperandTyped N Makes) (OperandTyped M Makes)
+operand_both N M Makes same type = (operand_goes N M Makes type (λ t. (same t).0), operand_goes M N Makes type (λ t. (same t).1))
+
+operands_go : (operator : BinaryOperator) (L K R S : ExprType → Type 0) (type : ExprType) → ((t : ExprType) → L t → K t) → ((t : ExprType) → R t → S t)
+    → OperandsTyped operator L R type → OperandsTyped operator K S type
+operands_go operator L K R S type left right typed = record {
+  left = typed.left;
+  right = typed.right;
+  left_typed = left typed.left typed.left_typed;
+  right_typed = right typed.right typed.right_typed;
+  operator_typed = typed.operator_typed;
+}
+
+pub operands_both : (operator : BinaryOperator) (L K R S : ExprType → Type 0) → BothTyped L K → BothTyped R S → BothTyped (OperandsTyped operator L R) (OperandsTyped operator K S)
+operands_both operator L K R S left right type =
+    (operands_go operator L K R S type (λ t. (left t).0) (λ t. (right t).0), operands_go operator K L S R type (λ t. (left t).1) (λ t. (right t).1))

@@ -1,0 +1,93 @@
+-- What a node without operands comes to: the value that is kept for it.
+use Rattle.std.proofs.Common.{◌≡◌, ℕ, ◌<◌, List, [], false, Option, Some, None, length, nat_eq, ap, rules}
+use Rattle.std.specs.Prelude.{slice_get, string_bytes}
+use Rattle.std.specs.Cmp.Lexicographic.{pointwise}
+use Rattle.std.proofs.lemmas.List.Quantifiers.{position-Some}
+use Rattle.edm_values.specs.MomentParts.{MomentParts}
+use Rattle.edm_values.specs.PlainVal.{plain_val}
+use Rattle.edm_values.specs.Val.{Val, null, boolean, whole, text, date, moment, guid, member}
+use Rattle.edm_values.specs.declared.value.Value.{Value, Null, Bool, Int, Text, Date, Moment, Guid, Enum, Record', List', the_lemmas}
+use Rattle.odata_syntax.specs.Tree.{literal, name}
+use Rattle.odata_syntax.specs.declared.node.LiteralKind.{LiteralKind}
+use Rattle.csdl_schema.specs.ExprType.{ExprType}
+use Rattle.csdl_schema.specs.SchemaModel.{PropertyModel, Slots, opaque, properties_at, slot_named, slots_of}
+use Rattle.edm_entities.specs.Row.{Row, val_of}
+use Rattle.odata_typing.specs.declared.checked_node.NodeKind.{NodeKind}
+use Rattle.odata_typing.specs.FlatTree.{FlatTree}
+use Rattle.odata_typing.specs.Stands.{IsValueOf}
+use Rattle.odata_eval.specs.Outcome.{gives}
+use Rattle.odata_eval.specs.private.Place.{PartStands}
+use Rattle.odata_eval.specs.private.WalkAnswer.{AnswersKept, HoldsAt}
+use Rattle.odata_eval.proofs.walking.Parts.{HasKind, by_it, by_literal, by_property, by_variable, inside, kind_there}
+use Rattle.odata_eval.proofs.walking.Shapes.{found_there}
+use Rattle.odata_eval.proofs.walking.SlotValue.{slot_value}
+use Rattle.odata_eval.proofs.walking.WalkValues.{MeansAt, TypedAt}
+
+-- a value without parts stands for the same at each type
+pub plain_is : (slots : Slots) (type : ExprType) (value : Value) (v : Val) → plain_val value ≡ Some v → val_of value slots type ≡ v
+plain_is slots type Null v is = let same : val_of Null slots type ≡ null = search (rules, the_lemmas) in cc
+plain_is slots type (Bool b) v is = let same : val_of (Bool b) slots type ≡ boolean b = search (rules, the_lemmas) in cc
+plain_is slots type (Int n) v is = let same : val_of (Int n) slots type ≡ whole n = search (rules, the_lemmas) in cc
+plain_is slots type (Text s) v is = let same : val_of (Text s) slots type ≡ text (string_bytes s) = search (rules, the_lemmas) in cc
+plain_is slots type (Date d) v is = let same : val_of (Date d) slots type ≡ date d = search (rules, the_lemmas) in cc
+plain_is slots type (Moment m) v is = let same : val_of (Moment m) slots type ≡ moment m = search (rules, the_lemmas) in cc
+plain_is slots type (Guid g) v is = let same : val_of (Guid g) slots type ≡ guid g = search (rules, the_lemmas) in cc
+plain_is slots type (Enum n) v is = let same : val_of (Enum n) slots type ≡ member n = search (rules, the_lemmas) in cc
+plain_is slots type (Record' shape all) v is = absurd (cc)
+plain_is slots type (List' shape all) v is = absurd (cc)
+
+slot_below : (asked : List ℕ) (slot : ℕ) (properties : List PropertyModel) → slot_named properties asked ≡ Some slot → slot < length properties
+slot_below asked slot properties named =
+    (position-Some (λ p. pointwise nat_eq asked p.name) properties slot (record { name = []; type_of = opaque; many = false; nullable = false }) named).0
+
+module _ (row : Row) (list : FlatTree) (place : ℕ) where
+  pub literal_within : (kind : LiteralKind) (value : ℕ) → HasKind list place (NodeKind.Literal kind value) → PartStands row [] list place → value < length list.values
+  literal_within kind value here part =
+      by_literal row [] list place (λ stop tree. value < length list.values) kind value here
+      (λ stop from to k spelling stands.
+      inside (IsValueOf (slots_of row.schema) k spelling) list.values value (kind_there row [] list place (NodeKind.Literal kind value) here stop from to (literal k spelling) stands).1)
+      part.stop part.tree part.stands
+
+  pub literal_answers : (kind : LiteralKind) (value : ℕ) → HasKind list place (NodeKind.Literal kind value) → (now : MomentParts) (v : Value) → slice_get list.values value ≡ Some v
+      → AnswersKept row now [] list place v
+  literal_answers kind value here now v at = record {
+    of_tree = λ stop tree type stands typed.
+        by_literal row [] list place (λ stop tree. MeansAt row now tree (gives (val_of v (slots_of row.schema) type))) kind value here
+        (λ stop from to k spelling stands.
+        let read : IsValueOf (slots_of row.schema) k spelling v =
+        found_there (IsValueOf (slots_of row.schema) k spelling) (slice_get list.values value) v at
+        (kind_there row [] list place (NodeKind.Literal kind value) here stop from to (literal k spelling) stands).1 in
+        rw (plain_is (slots_of row.schema) type v read.val read.plain) read.value_of)
+        stop tree stands;
+  }
+
+  pub it_answers : (now : MomentParts) → HasKind list place NodeKind.It → AnswersKept row now [] list place row.value
+  it_answers now here = record {
+    of_tree = λ stop tree type stands typed.
+        by_it row [] list place (λ stop tree. (t : ExprType) → TypedAt row tree t → MeansAt row now tree (gives (val_of row.value (slots_of row.schema) t))) here
+        (λ stop from to stands t typed. ap (λ (s : ExprType). gives (val_of row.value (slots_of row.schema) s)) typed)
+        stop tree stands type typed;
+  }
+
+  pub property_within : (slot : ℕ) → HasKind list place (NodeKind.Property slot) → PartStands row [] list place → slot < length (properties_at row.schema row.type_id)
+  property_within slot here part =
+      by_property row [] list place (λ stop tree. slot < length (properties_at row.schema row.type_id)) slot here
+      (λ stop from to asked stands.
+      slot_below asked slot (properties_at row.schema row.type_id) (kind_there row [] list place (NodeKind.Property slot) here stop from to (name asked) stands).1)
+      part.stop part.tree part.stands
+
+  pub property_answers : (slot : ℕ) → HasKind list place (NodeKind.Property slot) → (now : MomentParts) (v : Value) → HoldsAt row slot v → AnswersKept row now [] list place v
+  property_answers slot here now v holds = record {
+    of_tree = λ stop tree type stands typed.
+        by_property row [] list place (λ stop tree. (t : ExprType) → TypedAt row tree t → MeansAt row now tree (gives (val_of v (slots_of row.schema) t))) slot here
+        (λ stop from to asked stands t typed.
+        slot_value row slot v asked t holds (kind_there row [] list place (NodeKind.Property slot) here stop from to (name asked) stands).1 typed)
+        stop tree stands type typed;
+  }
+
+  pub variable_absurd : (level : ℕ) → HasKind list place (NodeKind.Variable level) → PartStands row [] list place → ⊥
+  variable_absurd level here part =
+      by_variable row [] list place (λ stop tree. ⊥) level here
+      (λ stop from to asked stands.
+      let nowhere : ◌≡◌ {A = Option ℕ} None (Some level) = kind_there row [] list place (NodeKind.Variable level) here stop from to (name asked) stands in cc)
+      part.stop part.tree part.stands

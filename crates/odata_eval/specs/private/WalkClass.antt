@@ -1,0 +1,31 @@
+-- For private clauses: how the walk takes a node.
+use Rattle.std.specs.Prelude.{true, false}
+use Rattle.edm_values.specs.Val.{Val, boolean}
+use Rattle.odata_typing.specs.OperatorClass.{class_of}
+use Rattle.odata_typing.specs.declared.checked_node.NodeKind.{NodeKind}
+use Rattle.odata_typing.specs.declared.operator_class.Connective.{Connective}
+use Rattle.odata_typing.specs.declared.operator_class.OperatorClass.{OperatorClass}
+use Rattle.odata_eval.specs.declared.part.WalkClass.{WalkClass}
+
+-- a connective takes truth values, any other operator the values of both sides
+abbrev pub walk_of_operator : OperatorClass → WalkClass
+walk_of_operator (OperatorClass.Connective connective) = WalkClass.Logical
+walk_of_operator (OperatorClass.Comparison comparison) = WalkClass.Eager
+walk_of_operator (OperatorClass.Arithmetic arithmetic) = WalkClass.Eager
+
+-- `not` takes a truth value, `-` and a step any value; the others have no operand
+abbrev pub walk_of_kind : NodeKind → WalkClass
+walk_of_kind (NodeKind.Literal kind value) = WalkClass.Leaf
+walk_of_kind NodeKind.It = WalkClass.Leaf
+walk_of_kind (NodeKind.Property slot) = WalkClass.Leaf
+walk_of_kind (NodeKind.Variable level) = WalkClass.Leaf
+walk_of_kind (NodeKind.Member slot) = WalkClass.Eager
+walk_of_kind NodeKind.Neg = WalkClass.Eager
+walk_of_kind NodeKind.Not = WalkClass.Logical
+walk_of_kind (NodeKind.Binary operator) = walk_of_operator (class_of operator)
+
+-- the left truth value alone decides
+abbrev pub IsDecided : Connective → Val → Type 0
+IsDecided Connective.And (boolean false) = Unit {0}
+IsDecided Connective.Or (boolean true) = Unit {0}
+IsDecided connective _ = ⊥

@@ -1,0 +1,60 @@
+//! The values that operators take: those of literals and of the entity where they are kept.
+ghost use Rattle.std.specs.Prelude.{◌≡◌, Option, Bool};
+ghost use Rattle.odata_functions.specs.DatumVal.{Reading, datum_val};
+ghost use Rattle.odata_eval.specs.TruthGives.{truth_val};
+ghost use Rattle.odata_eval.specs.private.DatumView.{HasSlot, IsDatumOf, IsStepOf};
+
+use edm_values::{Datum, Value};
+use std::borrow::CowStr;
+
+/// A value that is kept. Its text, its fields or its items stay there.
+pub(crate) fn datum_of(value: &Value) -> Datum<'_>
+    ensures { IsDatumOf value.now result }
+{
+    match value {
+        Value::Null => Datum::Null,
+        Value::Bool(b) => Datum::Bool(*b),
+        Value::Int(n) => Datum::Int(*n),
+        Value::Text(s) => Datum::Text(CowStr::Borrowed(s.as_str())),
+        Value::Date(d) => Datum::Date(*d),
+        Value::Moment(m) => Datum::Moment(*m),
+        Value::Guid(g) => Datum::Guid(*g),
+        Value::Enum(n) => Datum::Enum(*n),
+        Value::Record(fields) => Datum::Record(fields.as_slice()),
+        Value::List(items) => Datum::List(items.as_slice()),
+    }
+}
+
+/// What a record has in a slot; null of null.
+pub(crate) fn step<'e>(base: Datum<'e>, slot: usize) -> Datum<'e>
+    requires { HasSlot base slot }
+    ensures { IsStepOf base.entry slot result }
+{
+    match base {
+        Datum::Null => Datum::Null,
+        Datum::Record(fields) => datum_of(&fields[slot]),
+        _ => unreachable!(),
+    }
+}
+
+/// A truth value, or None for null.
+pub(crate) fn truth_of(value: &Datum<'_>) -> Option<bool>
+    requires { (reading : Reading) → (truth : Option Bool) × (datum_val reading value.now ≡ truth_val truth) }
+    ensures { (reading : Reading) → datum_val reading value.now ≡ truth_val result }
+{
+    match value {
+        Datum::Bool(b) => Some(*b),
+        Datum::Null => None,
+        _ => unreachable!(),
+    }
+}
+
+/// Null for None.
+pub(crate) fn datum_of_truth<'e>(truth: Option<bool>) -> Datum<'e>
+    ensures { (reading : Reading) → datum_val reading result ≡ truth_val truth }
+{
+    match truth {
+        Some(b) => Datum::Bool(b),
+        None => Datum::Null,
+    }
+}

@@ -1,0 +1,39 @@
+-- Which type an operator makes of those of its operands (OData URL Conventions 4.01, sections 5.1.1.1 and 5.1.1.2).
+use Rattle.std.specs.Prelude.{◌≡◌, Option}
+use Rattle.edm_values.specs.declared.primitive.PrimitiveType.{PrimitiveType}
+use Rattle.csdl_schema.specs.ExprType.{ExprType}
+use Rattle.odata_functions.specs.Promotion.{promotion, negation_type}
+use Rattle.odata_syntax.specs.declared.node.BinaryOperator.{BinaryOperator}
+use Rattle.odata_typing.specs.declared.operator_class.OperatorClass.{OperatorClass}
+use Rattle.odata_typing.specs.declared.operator_class.OperatorClass.TheVariants.{Connective, Comparison, Arithmetic}
+use Rattle.odata_typing.specs.ComparableTypes.{AreComparedBy}
+use Rattle.odata_typing.specs.ExprTypes.{boolean_type, IsBooleanOrNull, IsNumberOrNull, number_or_null}
+use Rattle.odata_typing.specs.OperatorClass.{class_of}
+
+-- arithmetic of two numbers or nulls has the type to which these are promoted, that of two nulls type Null
+pub record ArithmeticTyped (left right type : ExprType) : Type 0 where
+  pub left_number : Option PrimitiveType
+  pub right_number : Option PrimitiveType
+  pub left_is : IsNumberOrNull left left_number
+  pub right_is : IsNumberOrNull right right_number
+  pub type_is : type ≡ number_or_null (promotion left_number right_number)
+
+abbrev pub ClassTyped : OperatorClass → ExprType → ExprType → ExprType → Type 0
+ClassTyped (Connective connective) left right type =
+    IsBooleanOrNull left × IsBooleanOrNull right × (type ≡ boolean_type)
+ClassTyped (Comparison comparison) left right type = AreComparedBy comparison left right × (type ≡ boolean_type)
+ClassTyped (Arithmetic arithmetic) left right type = ArithmeticTyped left right type
+
+-- the operator takes operands of the first two types and gives a value of the third
+abbrev pub OperatorTyped : BinaryOperator → ExprType → ExprType → ExprType → Type 0
+OperatorTyped operator left right type = ClassTyped (class_of operator) left right type
+
+-- `-` before an operand of the first type gives the second
+pub record NegationTyped (operand type : ExprType) : Type 0 where
+  pub number : Option PrimitiveType
+  pub operand_is : IsNumberOrNull operand number
+  pub type_is : type ≡ number_or_null (negation_type number)
+
+-- and so does `not`
+abbrev pub NotTyped : ExprType → ExprType → Type 0
+NotTyped operand type = IsBooleanOrNull operand × (type ≡ boolean_type)

@@ -1,0 +1,125 @@
+//! Nodes of `$it` and of steps to a property.
+ghost use Rattle.std.specs.Prelude.{◌<◌, ◌≤◌, [], ℕ, length, IfOk, IfErr};
+ghost use Rattle.odata_syntax.specs.Tree.{Tree, node, it, member};
+ghost use Rattle.odata_syntax.specs.TreeView.{tree_of};
+ghost use Rattle.csdl_schema.specs.ExprType.{ExprType};
+ghost use Rattle.csdl_schema.specs.SchemaModel.{SchemaModel, slots_of};
+ghost use Rattle.odata_typing.specs.FirstUntypable.{StepReason};
+ghost use Rattle.odata_typing.specs.FlatTree.{FlatTree};
+ghost use Rattle.odata_typing.specs.Typed.{StepTyped};
+ghost use Rattle.odata_typing.specs.TypeView.{expr_type};
+ghost use Rattle.odata_typing.specs.private.Answer.{IsAnswer, IsTypeThere, IsWalked};
+ghost use Rattle.odata_typing.specs.private.ListGrowth.{IsOpened};
+ghost use Rattle.odata_typing.specs.private.StepFound.{IsStepSlot};
+
+use super::checked_node::NodeKind;
+use super::edm_type::{EdmType, ValueType};
+use super::node::{checked_tree, open_node};
+use super::node_list::NodeList;
+use super::property::{NamedProperty, property_named};
+use super::refusal::{TypeFault, TypeFaultCode};
+use super::untyped::Untyped;
+use csdl_schema::{Schema, TypeId};
+use odata_syntax::Node;
+use odata_text::Span;
+use std::alloc::Global;
+
+/// Puts the node of `$it` behind the others, and answers the filtered type.
+pub(crate) fn checked_it(
+    alloc: Global,
+    filtered_type: TypeId,
+    span: Span,
+    list: &mut NodeList,
+) -> Result<EdmType, Untyped>
+    ensures answer { (schema : SchemaModel)
+        → IsAnswer schema filtered_type [] list.old (node span.start span.stop it) list.new result }
+    ensures there { (schema : SchemaModel) → IfOk result (IsTypeThere schema) }
+    ensures grown { length list.old.nodes ≤ length list.new.nodes }
+{
+    let edm_type = EdmType::Single(ValueType::Structured(filtered_type));
+    match list.push(NodeKind::It, span, &edm_type, String::new(alloc)) {
+        Ok(()) => Ok(edm_type),
+        Err(untyped) => Err(untyped),
+    }
+}
+
+/// The node of a step to the property of that name, and those of what stands before the slash behind it.
+#[cycle(typing)]
+pub(crate) fn checked_member(
+    alloc: Global,
+    schema: &Schema,
+    filtered_type: TypeId,
+    span: Span,
+    base: &Node,
+    asked: &str,
+    list: &mut NodeList,
+) -> Result<EdmType, Untyped>
+    ensures answer { IsAnswer schema.now filtered_type [] list.old
+        (node span.start span.stop (member (tree_of base.now) asked.now)) list.new result }
+    ensures there { IfOk result (IsTypeThere schema.now) }
+    ensures grown { length list.old.nodes ≤ length list.new.nodes }
+{
+    let text = match String::from_str(alloc, asked) {
+        Ok(text) => text,
+        Err(_) => return Err(Untyped::Memory),
+    };
+    // The slot is put in once the type of what stands before the slash is known.
+    let place = match open_node(span, NodeKind::Member { slot: 0 }, text, list) {
+        Ok(place) => place,
+        Err(untyped) => return Err(untyped),
+    };
+    match checked_tree(alloc, schema, filtered_type, base, list) {
+        Ok(base) => close_member(schema, place, span, base, asked, list),
+        Err(untyped) => Err(untyped),
+    }
+}
+
+/// The step from a value of that type.
+fn close_member(
+    schema: &Schema,
+    place: usize,
+    span: Span,
+    base: EdmType,
+    asked: &str,
+    list: &mut NodeList,
+) -> Result<EdmType, Untyped>
+    requires { place < length list.old.nodes }
+    ensures answer { (n : ℕ) (b : Tree) (start opened : FlatTree)
+        → IsOpened start place asked.now opened
+        → IsWalked schema.now n [] opened b list.old base
+        → IsAnswer schema.now n [] start (node span.start span.stop (member b asked.now)) list.new result }
+    ensures there { IfOk result (IsTypeThere schema.now) }
+    ensures grown { length list.old.nodes ≤ length list.new.nodes }
+{
+    match step_from(schema, &base, asked) {
+        Ok(property) => {
+            let kind = NodeKind::Member {
+                slot: property.slot,
+            };
+            list.close(place, kind, span, &property.edm_type);
+            Ok(property.edm_type)
+        }
+        Err(code) => Err(Untyped::Fault(TypeFault { code, span })),
+    }
+}
+
+/// The property of that name of what has the type, or why there is none: only one value of a structured type has
+/// properties.
+fn step_from(schema: &Schema, base: &EdmType, asked: &str) -> Result<NamedProperty, TypeFaultCode>
+    ensures slot { IfOk result
+        (λ p. IsStepSlot (slots_of schema.now) (expr_type schema.now base.now) asked.now p.slot) }
+    ensures typed { IfOk result (λ p. StepTyped (slots_of schema.now) asked.now
+        (expr_type schema.now base.now) (expr_type schema.now p.edm_type)) }
+    ensures there { IfOk result (λ p. IsTypeThere schema.now p.edm_type) }
+    ensures reason { IfErr result (StepReason (slots_of schema.now) asked.now (expr_type schema.now base.now)) }
+    ensures untyped { IfErr result (λ _. (type : ExprType)
+        → ¬ StepTyped (slots_of schema.now) asked.now (expr_type schema.now base.now) type) }
+{
+    match base {
+        EdmType::Single(ValueType::Structured(id)) => property_named(schema, *id, asked),
+        EdmType::Single(ValueType::Prim(_)) => Err(TypeFaultCode::UnknownProperty),
+        EdmType::Single(ValueType::Enum(_)) => Err(TypeFaultCode::UnknownProperty),
+        EdmType::Null => Err(TypeFaultCode::UnknownProperty),
+        EdmType::Collection(_) => Err(TypeFaultCode::UnknownProperty),
+    }
+}

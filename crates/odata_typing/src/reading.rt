@@ -1,0 +1,127 @@
+//! Literals read once, for all rows.
+ghost use Rattle.std.specs.Prelude.{◌≡◌, ◌≢◌, Bool, IfOk, IfErr, IfSome, IfNone};
+ghost use Rattle.edm_values.specs.StringLiteral.{OnForm};
+ghost use Rattle.csdl_schema.specs.ExprType.{ExprType};
+ghost use Rattle.csdl_schema.specs.SchemaModel.{slots_of};
+ghost use Rattle.odata_typing.specs.LiteralValue.{BooleanValue, LiteralTyped};
+ghost use Rattle.odata_typing.specs.private.Answer.{IsReading, IsTypeThere};
+
+use super::edm_type::{EdmType, ValueType};
+use super::enumeration_literal::read_enumeration;
+use csdl_schema::Schema;
+use edm_values::{LitFault, Prim, Value, read_date, read_guid, read_int, read_moment, read_string};
+use odata_syntax::LiteralKind;
+use std::alloc::Global;
+
+/// A literal's value with its type.
+#[derive(Drop)]
+pub(crate) struct Reading {
+    pub(crate) edm_type: EdmType,
+    pub(crate) value: Value,
+}
+
+/// What a literal of this kind and spelling stands for. `Form` where it has no value.
+pub(crate) fn read_literal(
+    alloc: Global,
+    schema: &Schema,
+    kind: LiteralKind,
+    spelling: &str,
+) -> Result<Reading, LitFault>
+    ensures right { IfOk result (λ r. IsReading schema.now kind spelling.now r.value r.edm_type) }
+    ensures there { IfOk result (λ r. IsTypeThere schema.now r.edm_type) }
+    ensures fault { IfErr result (λ f. OnForm f
+        ((type : ExprType) → ¬ LiteralTyped (slots_of schema.now) kind spelling.now type)) }
+{
+    match kind {
+        LiteralKind::Str => match read_string(alloc, spelling) {
+            Ok(text) => Ok(Reading {
+                edm_type: EdmType::Single(ValueType::Prim(Prim::String)),
+                value: Value::Text(text),
+            }),
+            Err(fault) => Err(fault),
+        },
+        _ => match read_plain(schema, kind, spelling) {
+            Some(reading) => Ok(reading),
+            None => Err(LitFault::Form),
+        },
+    }
+}
+
+/// The same of every other kind. Their values take no memory.
+fn read_plain(schema: &Schema, kind: LiteralKind, spelling: &str) -> Option<Reading>
+    requires { kind ≢ LiteralKind.Str }
+    ensures right { IfSome result (λ r. IsReading schema.now kind spelling.now r.value r.edm_type) }
+    ensures there { IfSome result (λ r. IsTypeThere schema.now r.edm_type) }
+    ensures none { IfNone result ((type : ExprType) → ¬ LiteralTyped (slots_of schema.now) kind spelling.now type) }
+{
+    match kind {
+        LiteralKind::Null => Some(Reading {
+            edm_type: EdmType::Null,
+            value: Value::Null,
+        }),
+        LiteralKind::Bool => match truth_value(spelling) {
+            Some(truth) => Some(primitive(Prim::Bool, Value::Bool(truth))),
+            None => None,
+        },
+        LiteralKind::Int => match read_int(spelling) {
+            Some(n) => Some(primitive(Prim::of_int_literal(n), Value::Int(n))),
+            None => None,
+        },
+        LiteralKind::Date => match read_date(spelling) {
+            Some(date) => Some(primitive(Prim::Date, Value::Date(date))),
+            None => None,
+        },
+        LiteralKind::Moment => match read_moment(spelling) {
+            Some(moment) => Some(primitive(Prim::DateTimeOffset, Value::Moment(moment))),
+            None => None,
+        },
+        LiteralKind::Guid => match read_guid(spelling) {
+            Some(guid) => Some(primitive(Prim::Guid, Value::Guid(guid))),
+            None => None,
+        },
+        LiteralKind::EnumLit => read_member(schema, spelling),
+        LiteralKind::Str => unreachable!(),
+    }
+}
+
+/// A value of a primitive type.
+fn primitive(prim: Prim, value: Value) -> Reading
+    ensures edm_type { result.edm_type ≡ EdmType.Single (ValueType.Prim prim) }
+    ensures value { result.value ≡ value }
+{
+    Reading {
+        edm_type: EdmType::Single(ValueType::Prim(prim)),
+        value,
+    }
+}
+
+/// The same of an enumeration literal.
+fn read_member(schema: &Schema, spelling: &str) -> Option<Reading>
+    ensures right { IfSome result
+        (λ r. IsReading schema.now LiteralKind.EnumLit spelling.now r.value r.edm_type) }
+    ensures there { IfSome result (λ r. IsTypeThere schema.now r.edm_type) }
+    ensures none { IfNone result ((type : ExprType)
+        → ¬ LiteralTyped (slots_of schema.now) LiteralKind.EnumLit spelling.now type) }
+{
+    match read_enumeration(schema, spelling) {
+        Some(found) => Some(Reading {
+            edm_type: EdmType::Single(ValueType::Enum(found.enumeration)),
+            value: Value::Enum(found.number),
+        }),
+        None => None,
+    }
+}
+
+/// `true` or `false` in any ASCII case.
+fn truth_value(spelling: &str) -> Option<bool>
+    ensures value { IfSome result (BooleanValue spelling.now) }
+    ensures none { IfNone result ((b : Bool) → ¬ BooleanValue spelling.now b) }
+{
+    if spelling.eq_ignore_ascii_case("true") {
+        Some(true)
+    } else if spelling.eq_ignore_ascii_case("false") {
+        Some(false)
+    } else {
+        None
+    }
+}

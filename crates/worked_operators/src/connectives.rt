@@ -1,0 +1,91 @@
+//! The whole tables of `and`, `or` and `not`, and where their right side is left out.
+use crate::kinds::answers;
+use std::alloc::{AllocError, Global};
+use std::test::Fail;
+
+/// Operands that are true, false and null, and one that is the literal `null`.
+const OPERANDS: &[&str] = &["Bool", "Bool eq false", "NoText eq null and null", "null"];
+
+/// For each of them on the left, what comes of it with each of them on the right: `t`, `f` and `n`.
+const TABLES: &[(&str, &[&str])] = &[
+    ("and", &["tfnn", "ffff", "nfnn", "nfnn"]),
+    ("or", &["tttt", "tfnn", "tnnn", "tnnn"]),
+];
+
+/// Their opposites.
+const OPPOSITES: &str = "ftnn";
+
+fn spelled(letter: u8) -> &'static str {
+    match letter {
+        b't' => "true",
+        b'f' => "false",
+        _ => "null",
+    }
+}
+
+/// Whether that comes of two operands.
+fn connects(
+    alloc: Global,
+    operator: &str,
+    left: &str,
+    right: &str,
+    letter: u8,
+) -> Result<bool, AllocError> {
+    let filter = format!(in alloc; "({left}) {operator} ({right})")?;
+    answers(alloc, filter.as_str(), spelled(letter))
+}
+
+#[test]
+fn tables(rt: HostRuntime) -> Result<(), Fail> {
+    for &(operator, rows) in TABLES {
+        for (left, row) in OPERANDS.iter().zip(rows.iter()) {
+            for (right, letter) in OPERANDS.iter().zip(row.bytes()) {
+                assert!(rt;
+                    connects(rt.alloc(), operator, left, right, letter)?,
+                    "({left}) {operator} ({right})"
+                );
+            }
+        }
+    }
+    Ok(())
+}
+
+/// Whether that comes of `not`.
+fn turns(alloc: Global, operand: &str, letter: u8) -> Result<bool, AllocError> {
+    let filter = format!(in alloc; "not ({operand})")?;
+    answers(alloc, filter.as_str(), spelled(letter))
+}
+
+#[test]
+fn opposites(rt: HostRuntime) -> Result<(), Fail> {
+    for (operand, letter) in OPERANDS.iter().zip(OPPOSITES.bytes()) {
+        assert!(rt; turns(rt.alloc(), operand, letter)?, "not ({operand})");
+    }
+    Ok(())
+}
+
+/// A side that is decided leaves the other one out; the first fault from the left is told.
+const FAULTS: &[(&str, &str)] = &[
+    ("false and 1 div 0 eq 1", "false"),
+    ("1 div 0 eq 1 and false", "row 1 DivideByZero"),
+    ("true and 1 div 0 eq 1", "row 1 DivideByZero"),
+    ("null and 1 div 0 eq 1", "row 1 DivideByZero"),
+    ("true or 1 div 0 eq 1", "true"),
+    ("1 div 0 eq 1 or true", "row 1 DivideByZero"),
+    ("false or 1 div 0 eq 1", "row 1 DivideByZero"),
+    ("null or 1 div 0 eq 1", "row 1 DivideByZero"),
+    ("(false and 1 div 0 eq 1) or Bool", "true"),
+    ("false and 1 div 0 eq 1 and 2147483647 add 1 eq 1", "false"),
+    ("1 mod 0 eq 2147483647 add 1", "row 1 DivideByZero"),
+    ("2147483647 add 1 eq 1 mod 0", "row 1 Overflow"),
+    ("not (1 div 0 eq 1)", "row 1 DivideByZero"),
+    ("- (1 div 0) eq 1", "row 1 DivideByZero"),
+];
+
+#[test]
+fn faults(rt: HostRuntime) -> Result<(), Fail> {
+    for &(filter, wanted) in FAULTS {
+        assert!(rt; answers(rt.alloc(), filter, wanted)?, "at {filter}");
+    }
+    Ok(())
+}

@@ -1,0 +1,22 @@
+//! A type with numbers of each type, some of them at its bounds, and one row of it.
+use crate::answer::answer;
+use std::alloc::{AllocError, Global};
+
+const SCHEMA: &str =
+    "{\"$Version\":\"4.01\",\"N\":{\"Row\":{\"$Kind\":\"EntityType\",\"High2\":{\"$Type\":\"Edm.Int16\"},\"Low2\":{\"$Type\":\"Edm.Int16\"},\"Zero2\":{\"$Type\":\"Edm.Int16\"},\"One2\":{\"$Type\":\"Edm.Int16\"},\"Minus2\":{\"$Type\":\"Edm.Int16\"},\"High8\":{\"$Type\":\"Edm.Int64\"},\"Low8\":{\"$Type\":\"Edm.Int64\"},\"One8\":{\"$Type\":\"Edm.Int64\"},\"Byte\":{\"$Type\":\"Edm.Byte\"},\"ByteOne\":{\"$Type\":\"Edm.Byte\"},\"SByte\":{\"$Type\":\"Edm.SByte\"},\"SByteOne\":{\"$Type\":\"Edm.SByte\"},\"None2\":{\"$Type\":\"Edm.Int16\",\"$Nullable\":true}}}}";
+
+const ROW: &str =
+    "{\"High2\":32767,\"Low2\":-32768,\"Zero2\":0,\"One2\":1,\"Minus2\":-1,\"High8\":9223372036854775807,\"Low8\":-9223372036854775808,\"One8\":1,\"Byte\":255,\"ByteOne\":1,\"SByte\":-128,\"SByteOne\":1,\"None2\":null}";
+
+/// Whether a computation on the row comes to that: a number, `null` or a fault.
+pub(crate) fn comes_to(alloc: Global, computation: &str, wanted: &str) -> Result<bool, AllocError> {
+    let is_fault = wanted == "Overflow" || wanted == "DivideByZero";
+    let compared = if is_fault { "0" } else { wanted };
+    let filter = format!(in alloc; "{computation} eq {compared}")?;
+    let told = answer(alloc, SCHEMA, "N.Row", filter.as_str(), ROW)?;
+    if !is_fault {
+        return Ok(told.as_str() == "true");
+    }
+    let line = format!(in alloc; "row 1 {wanted}")?;
+    Ok(told.as_str() == line.as_str())
+}
