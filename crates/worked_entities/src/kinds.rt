@@ -1,11 +1,11 @@
 //! JSON of each kind where each type is wanted (OData JSON Format 4.01, section 7).
 use crate::answer::answer;
 use csdl_schema::Schema;
-use std::alloc::Global;
+use std::alloc::{AllocError, Global};
 use std::test::Fail;
 
 /// JSON of each kind, and last no member at all.
-const KINDS: [&str; 16] = [
+const KINDS: &[&str] = &[
     "\"P\":null",
     "\"P\":true",
     "\"P\":0",
@@ -37,23 +37,33 @@ fn letter(told: &str) -> char {
     }
 }
 
-/// The letters of the answers to JSON of each kind, where `P` is declared so.
-fn letters(alloc: Global, declared: &str) -> Result<String, Fail> {
+/// A schema with the entity type `N.A`, where `P` is declared so.
+fn schema_of(alloc: Global, declared: &str) -> Result<Schema, Fail> {
     let document = format!(in alloc;
         "{{\"$Version\":\"4.01\",\"N\":{{\"Flags\":{{\"$Kind\":\"EnumType\",\"$IsFlags\":true,\"Red\":1}},\"Plain\":{{\"$Kind\":\"EnumType\",\"Red\":1}},\"Empty\":{{\"$Kind\":\"ComplexType\"}},\"A\":{{\"$Kind\":\"EntityType\",\"P\":{{{declared}}}}}}}}}"
     )?;
-    let schema = Schema::read(alloc, document.as_bytes())?;
+    Ok(Schema::read(alloc, document.as_bytes())?)
+}
+
+/// The letter of the answer to a row of these members.
+fn letter_of(alloc: Global, schema: &Schema, members: &str) -> Result<char, AllocError> {
+    let row = format!(in alloc; "{{{members}}}")?;
+    let told = answer(alloc, schema, "N.A", row.as_str())?;
+    Ok(letter(told.as_str()))
+}
+
+/// The letters of the answers to JSON of each kind, where `P` is declared so.
+fn letters(alloc: Global, declared: &str) -> Result<String, Fail> {
+    let schema = schema_of(alloc, declared)?;
     let mut found = String::new(alloc);
-    for member in KINDS {
-        let row = format!(in alloc; "{{{member}}}")?;
-        let told = answer(alloc, &schema, "N.A", row.as_str())?;
-        found.push(letter(told.as_str()))?;
+    for &members in KINDS {
+        found.push(letter_of(alloc, &schema, members)?)?;
     }
     Ok(found)
 }
 
 /// A declaration of a property, and the letters of the answers to JSON of each kind.
-const CELLS: [(&str, &str); 22] = [
+const CELLS: &[(&str, &str)] = &[
     ("\"$Type\":\"Edm.Boolean\"", "N.WWWWWWWWWWWWWM"),
     ("\"$Type\":\"Edm.Byte\"", "NW.OWWOOWWWWWWWM"),
     ("\"$Type\":\"Edm.SByte\"", "NW..WWOOWWWWWWWM"),
@@ -104,7 +114,7 @@ const CELLS: [(&str, &str); 22] = [
 
 #[test]
 fn each_type_by_each_kind(rt: HostRuntime) -> Result<(), Fail> {
-    for (declared, wanted) in CELLS {
+    for &(declared, wanted) in CELLS {
         let found = letters(rt.alloc(), declared)?;
         assert_eq!(rt; found.as_str(), wanted, "at {declared}");
     }
@@ -112,7 +122,7 @@ fn each_type_by_each_kind(rt: HostRuntime) -> Result<(), Fail> {
 }
 
 /// A declaration of a property, its JSON, and the answer's letter.
-const BOUNDS: [(&str, &str, char); 36] = [
+const BOUNDS: &[(&str, &str, char)] = &[
     ("\"$Type\":\"Edm.Byte\"", "255", '.'),
     ("\"$Type\":\"Edm.Byte\"", "256", 'O'),
     ("\"$Type\":\"Edm.Byte\"", "-1", 'O'),
@@ -169,14 +179,11 @@ const BOUNDS: [(&str, &str, char); 36] = [
 
 #[test]
 fn bounds(rt: HostRuntime) -> Result<(), Fail> {
-    for (declared, json, wanted) in BOUNDS {
-        let document = format!(in rt.alloc();
-            "{{\"$Version\":\"4.01\",\"N\":{{\"Flags\":{{\"$Kind\":\"EnumType\",\"$IsFlags\":true,\"Red\":1}},\"Plain\":{{\"$Kind\":\"EnumType\",\"Red\":1}},\"Empty\":{{\"$Kind\":\"ComplexType\"}},\"A\":{{\"$Kind\":\"EntityType\",\"P\":{{{declared}}}}}}}}}"
-        )?;
-        let schema = Schema::read(rt.alloc(), document.as_bytes())?;
-        let row = format!(in rt.alloc(); "{{\"P\":{json}}}")?;
-        let told = answer(rt.alloc(), &schema, "N.A", row.as_str())?;
-        assert_eq!(rt; letter(told.as_str()), wanted, "at {declared} {json}");
+    for &(declared, json, wanted) in BOUNDS {
+        let schema = schema_of(rt.alloc(), declared)?;
+        let members = format!(in rt.alloc(); "\"P\":{json}")?;
+        let found = letter_of(rt.alloc(), &schema, members.as_str())?;
+        assert_eq!(rt; found, wanted, "at {declared} {json}");
     }
     Ok(())
 }

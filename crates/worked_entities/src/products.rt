@@ -9,7 +9,7 @@ use std::alloc::{AllocError, Global};
 use std::test::Fail;
 
 /// What is written behind the product's members, of which the last of a name counts, and the answer.
-const CHANGED: [(&str, &str); 34] = [
+const CHANGED: &[(&str, &str)] = &[
     ("", "entity"),
     (",\"Color\":\"8\"", "entity"),
     (",\"Home\":null", "entity"),
@@ -77,7 +77,7 @@ const CHANGED: [(&str, &str); 34] = [
 fn changed_products(rt: HostRuntime) -> Result<(), Fail> {
     let schema = Schema::read(rt.alloc(), SHOP.as_bytes())?;
     let product = PRODUCT;
-    for (members, wanted) in CHANGED {
+    for &(members, wanted) in CHANGED {
         let row = format!(in rt.alloc(); "{product}{members}}}")?;
         let told = answer(rt.alloc(), &schema, "Shop.Product", row.as_str())?;
         assert_eq!(rt; told.as_str(), wanted, "at {members}");
@@ -85,16 +85,19 @@ fn changed_products(rt: HostRuntime) -> Result<(), Fail> {
     Ok(())
 }
 
+/// JSON that is no product, and the answer.
+const OTHER_ROWS: &[(&str, &str)] = &[
+    ("{}", "Missing Changed"),
+    ("[]", "NotObject"),
+    ("null", "NotObject"),
+    ("1.5", "NotObject"),
+    ("\"a\"", "NotObject"),
+];
+
 #[test]
 fn rows_of_another_kind(rt: HostRuntime) -> Result<(), Fail> {
     let schema = Schema::read(rt.alloc(), SHOP.as_bytes())?;
-    for (row, wanted) in [
-        ("{}", "Missing Changed"),
-        ("[]", "NotObject"),
-        ("null", "NotObject"),
-        ("1.5", "NotObject"),
-        ("\"a\"", "NotObject"),
-    ] {
+    for &(row, wanted) in OTHER_ROWS {
         let told = answer(rt.alloc(), &schema, "Shop.Product", row)?;
         assert_eq!(rt; told.as_str(), wanted, "at {row}");
     }
@@ -130,15 +133,20 @@ fn shown_slots(alloc: Global, value: &Value) -> Result<String, AllocError> {
     Ok(text)
 }
 
+/// The JSON of a product.
+fn product(alloc: Global) -> Result<Json, Fail> {
+    let product = PRODUCT;
+    let row = format!(in alloc; "{product}}}")?;
+    Ok(Json::from_str(alloc, row.as_str())?)
+}
+
 /// The opaque property is held as null.
 #[test]
 fn values_by_slot(rt: HostRuntime) -> Result<(), Fail> {
     let schema = Schema::read(rt.alloc(), SHOP.as_bytes())?;
     let id = schema.type_named("Shop.Product").ok_or("the type")?;
     assert!(rt; schema.holds(id));
-    let product = PRODUCT;
-    let row = format!(in rt.alloc(); "{product}}}")?;
-    let json = Json::from_str(rt.alloc(), row.as_str())?;
+    let json = product(rt.alloc())?;
     let entity = Entity::from_json(rt.alloc(), &schema, id, &json)?;
     assert!(rt; entity.type_id() == id && entity.schema().slots(id) == 13);
     let slots = shown_slots(rt.alloc(), entity.value())?;

@@ -1,97 +1,99 @@
 //! Bases of types, and the properties along their chains (CSDL JSON 4.01, sections 6.1, 7 and 9.1).
-use crate::told::{answer_to, document_of, json};
-use csdl_schema::Schema;
+use crate::told::{answer_to, schema_of};
 use std::alloc::{AllocError, Global};
 use std::test::Fail;
 
+/// Types with a base, and the answer.
+const SMALL_CHAINS: &[(&str, &str)] = &[
+    (
+        "'A':{'$Kind':'EntityType','$BaseType':'N.B'}",
+        "UnknownBase N.A",
+    ),
+    (
+        "'A':{'$Kind':'EntityType','$BaseType':'B'},'B':{'$Kind':'EntityType'}",
+        "UnknownBase N.A",
+    ),
+    (
+        "'A':{'$Kind':'EntityType','$BaseType':''}",
+        "UnknownBase N.A",
+    ),
+    (
+        "'A':{'$Kind':'EntityType','$BaseType':'Edm.Int32'}",
+        "UnknownBase N.A",
+    ),
+    (
+        "'A':{'$Kind':'EntityType','$BaseType':'N.B'},'B':{'$Kind':'ComplexType'}",
+        "UnknownBase N.A",
+    ),
+    (
+        "'A':{'$Kind':'ComplexType','$BaseType':'N.B'},'B':{'$Kind':'EntityType'}",
+        "UnknownBase N.A",
+    ),
+    (
+        "'A':{'$Kind':'EntityType','$BaseType':'N.B'},'B':{'$Kind':'EnumType'}",
+        "UnknownBase N.A",
+    ),
+    (
+        "'A':{'$Kind':'ComplexType','$BaseType':'N.B'},'B':{'$Kind':'TypeDefinition','$UnderlyingType':'N.C'},'C':{'$Kind':'ComplexType'}",
+        "UnknownBase N.A",
+    ),
+    (
+        "'A':{'$Kind':'EntityType','$BaseType':'N.B'},'B':{'$Kind':'EntityType'}",
+        "accepted",
+    ),
+    (
+        "'A':{'$Kind':'ComplexType','$BaseType':'N.B'},'B':{'$Kind':'ComplexType'}",
+        "accepted",
+    ),
+    (
+        "'$Alias':'S','A':{'$Kind':'ComplexType','$BaseType':'S.B'},'B':{'$Kind':'ComplexType'}",
+        "accepted",
+    ),
+    (
+        "'A':{'$Kind':'EntityType','$BaseType':'N.A'}",
+        "BaseCycle N.A",
+    ),
+    (
+        "'A':{'$Kind':'EntityType','$BaseType':'N.B'},'B':{'$Kind':'EntityType','$BaseType':'N.A'}",
+        "BaseCycle N.A",
+    ),
+    (
+        "'C':{'$Kind':'EntityType'},'A':{'$Kind':'EntityType','$BaseType':'N.B'},'B':{'$Kind':'EntityType','$BaseType':'N.B'}",
+        "BaseCycle N.A",
+    ),
+    (
+        "'A':{'$Kind':'EntityType'},'B':{'$Kind':'EntityType','$BaseType':'N.B'}",
+        "BaseCycle N.B",
+    ),
+    (
+        "'A':{'$Kind':'EntityType','P':{}},'B':{'$Kind':'EntityType','$BaseType':'N.A','P':{}}",
+        "PropertyTwice N.B P",
+    ),
+    (
+        "'B':{'$Kind':'EntityType','P':{}},'A':{'$Kind':'EntityType','$BaseType':'N.B','P':{}}",
+        "PropertyTwice N.A P",
+    ),
+    (
+        "'A':{'$Kind':'EntityType','P':{},'Q':{}},'B':{'$Kind':'EntityType','$BaseType':'N.A','Q':{},'P':{}}",
+        "PropertyTwice N.B P",
+    ),
+    (
+        "'A':{'$Kind':'EntityType','P':{}},'B':{'$Kind':'EntityType','$BaseType':'N.A'},'C':{'$Kind':'EntityType','$BaseType':'N.B','P':{}}",
+        "PropertyTwice N.C P",
+    ),
+    (
+        "'C':{'$Kind':'EntityType','P':{}},'B':{'$Kind':'EntityType','$BaseType':'N.C','P':{}},'A':{'$Kind':'EntityType','$BaseType':'N.B'}",
+        "PropertyTwice N.A P",
+    ),
+    (
+        "'A':{'$Kind':'EntityType','P':{}},'B':{'$Kind':'EntityType','$BaseType':'N.A','p':{}}",
+        "accepted",
+    ),
+];
+
 #[test]
 fn small_chains(rt: HostRuntime) -> Result<(), Fail> {
-    for (members, wanted) in [
-        (
-            "'A':{'$Kind':'EntityType','$BaseType':'N.B'}",
-            "UnknownBase N.A",
-        ),
-        (
-            "'A':{'$Kind':'EntityType','$BaseType':'B'},'B':{'$Kind':'EntityType'}",
-            "UnknownBase N.A",
-        ),
-        (
-            "'A':{'$Kind':'EntityType','$BaseType':''}",
-            "UnknownBase N.A",
-        ),
-        (
-            "'A':{'$Kind':'EntityType','$BaseType':'Edm.Int32'}",
-            "UnknownBase N.A",
-        ),
-        (
-            "'A':{'$Kind':'EntityType','$BaseType':'N.B'},'B':{'$Kind':'ComplexType'}",
-            "UnknownBase N.A",
-        ),
-        (
-            "'A':{'$Kind':'ComplexType','$BaseType':'N.B'},'B':{'$Kind':'EntityType'}",
-            "UnknownBase N.A",
-        ),
-        (
-            "'A':{'$Kind':'EntityType','$BaseType':'N.B'},'B':{'$Kind':'EnumType'}",
-            "UnknownBase N.A",
-        ),
-        (
-            "'A':{'$Kind':'ComplexType','$BaseType':'N.B'},'B':{'$Kind':'TypeDefinition','$UnderlyingType':'N.C'},'C':{'$Kind':'ComplexType'}",
-            "UnknownBase N.A",
-        ),
-        (
-            "'A':{'$Kind':'EntityType','$BaseType':'N.B'},'B':{'$Kind':'EntityType'}",
-            "accepted",
-        ),
-        (
-            "'A':{'$Kind':'ComplexType','$BaseType':'N.B'},'B':{'$Kind':'ComplexType'}",
-            "accepted",
-        ),
-        (
-            "'$Alias':'S','A':{'$Kind':'ComplexType','$BaseType':'S.B'},'B':{'$Kind':'ComplexType'}",
-            "accepted",
-        ),
-        (
-            "'A':{'$Kind':'EntityType','$BaseType':'N.A'}",
-            "BaseCycle N.A",
-        ),
-        (
-            "'A':{'$Kind':'EntityType','$BaseType':'N.B'},'B':{'$Kind':'EntityType','$BaseType':'N.A'}",
-            "BaseCycle N.A",
-        ),
-        (
-            "'C':{'$Kind':'EntityType'},'A':{'$Kind':'EntityType','$BaseType':'N.B'},'B':{'$Kind':'EntityType','$BaseType':'N.B'}",
-            "BaseCycle N.A",
-        ),
-        (
-            "'A':{'$Kind':'EntityType'},'B':{'$Kind':'EntityType','$BaseType':'N.B'}",
-            "BaseCycle N.B",
-        ),
-        (
-            "'A':{'$Kind':'EntityType','P':{}},'B':{'$Kind':'EntityType','$BaseType':'N.A','P':{}}",
-            "PropertyTwice N.B P",
-        ),
-        (
-            "'B':{'$Kind':'EntityType','P':{}},'A':{'$Kind':'EntityType','$BaseType':'N.B','P':{}}",
-            "PropertyTwice N.A P",
-        ),
-        (
-            "'A':{'$Kind':'EntityType','P':{},'Q':{}},'B':{'$Kind':'EntityType','$BaseType':'N.A','Q':{},'P':{}}",
-            "PropertyTwice N.B P",
-        ),
-        (
-            "'A':{'$Kind':'EntityType','P':{}},'B':{'$Kind':'EntityType','$BaseType':'N.A'},'C':{'$Kind':'EntityType','$BaseType':'N.B','P':{}}",
-            "PropertyTwice N.C P",
-        ),
-        (
-            "'C':{'$Kind':'EntityType','P':{}},'B':{'$Kind':'EntityType','$BaseType':'N.C','P':{}},'A':{'$Kind':'EntityType','$BaseType':'N.B'}",
-            "PropertyTwice N.A P",
-        ),
-        (
-            "'A':{'$Kind':'EntityType','P':{}},'B':{'$Kind':'EntityType','$BaseType':'N.A','p':{}}",
-            "accepted",
-        ),
-    ] {
+    for &(members, wanted) in SMALL_CHAINS {
         let told = answer_to(rt.alloc(), members)?;
         assert_eq!(rt; told.as_str(), wanted, "at {members}");
     }
@@ -112,21 +114,24 @@ pub(crate) fn chain(alloc: Global, types: usize, first: &str) -> Result<String, 
     Ok(text)
 }
 
+/// So many types in a chain, what the first has, and the answer.
+const LONG_CHAINS: &[(usize, &str, &str)] = &[
+    (1, "", "accepted"),
+    (2, "", "accepted"),
+    (64, "", "accepted"),
+    (65, "", "accepted"),
+    (66, "", "TooLarge"),
+    (1, ",'$BaseType':'N.T100'", "BaseCycle N.T100"),
+    (2, ",'$BaseType':'N.T101'", "BaseCycle N.T100"),
+    (3, ",'$BaseType':'N.T102'", "BaseCycle N.T100"),
+    (65, ",'$BaseType':'N.T164'", "BaseCycle N.T100"),
+    (70, ",'$BaseType':'N.T169'", "BaseCycle N.T100"),
+];
+
 /// 64 bases are read, and 65 are too many; a chain of any length that does not end is a cycle.
 #[test]
 fn long_chains(rt: HostRuntime) -> Result<(), Fail> {
-    for (types, first, wanted) in [
-        (1, "", "accepted"),
-        (2, "", "accepted"),
-        (64, "", "accepted"),
-        (65, "", "accepted"),
-        (66, "", "TooLarge"),
-        (1, ",'$BaseType':'N.T100'", "BaseCycle N.T100"),
-        (2, ",'$BaseType':'N.T101'", "BaseCycle N.T100"),
-        (3, ",'$BaseType':'N.T102'", "BaseCycle N.T100"),
-        (65, ",'$BaseType':'N.T164'", "BaseCycle N.T100"),
-        (70, ",'$BaseType':'N.T169'", "BaseCycle N.T100"),
-    ] {
+    for &(types, first, wanted) in LONG_CHAINS {
         let members = chain(rt.alloc(), types, first)?;
         let told = answer_to(rt.alloc(), members.as_str())?;
         assert_eq!(rt; told.as_str(), wanted, "{types} types, with {first}");
@@ -134,15 +139,18 @@ fn long_chains(rt: HostRuntime) -> Result<(), Fail> {
     Ok(())
 }
 
+/// Properties of the last type of a chain, and the answer.
+const OWNED: &[(&str, &str)] = &[
+    ("'Q':{}", "accepted"),
+    ("'P':{}", "PropertyTwice N.Last P"),
+    ("'P':{},'Q':{},'O':{}", "PropertyTwice N.Last O"),
+];
+
 /// A property that the uppermost of 64 bases has, and the type itself.
 #[test]
 fn owned_twice_far_apart(rt: HostRuntime) -> Result<(), Fail> {
     let above = chain(rt.alloc(), 64, ",'P':{},'O':{}")?;
-    for (own, wanted) in [
-        ("'Q':{}", "accepted"),
-        ("'P':{}", "PropertyTwice N.Last P"),
-        ("'P':{},'Q':{},'O':{}", "PropertyTwice N.Last O"),
-    ] {
+    for &(own, wanted) in OWNED {
         let members = format!(in rt.alloc();
             "{above},'Last':{{'$Kind':'ComplexType','$BaseType':'N.T163',{own}}}"
         )?;
@@ -152,22 +160,36 @@ fn owned_twice_far_apart(rt: HostRuntime) -> Result<(), Fail> {
     Ok(())
 }
 
+/// `N.A` with the base `N.B`, and this with the base `N.C`.
+const THREE_TYPES: &str =
+    "'A':{'$Kind':'EntityType','$BaseType':'N.B','a':{},'B':{}},'B':{'$Kind':'EntityType','$BaseType':'N.C'},'C':{'$Kind':'EntityType','Z':{},'Y':{'$Type':'Edm.Int32'}}";
+
+/// A slot of `N.A`, and the name of its property.
+const SLOTS: &[(usize, &str)] = &[(0, "Y"), (1, "Z"), (2, "B"), (3, "a")];
+
 /// The base's slots first, then the own ones in byte order, along three types.
 #[test]
 fn inherited_slots(rt: HostRuntime) -> Result<(), Fail> {
-    let members =
-        "'A':{'$Kind':'EntityType','$BaseType':'N.B','a':{},'B':{}},'B':{'$Kind':'EntityType','$BaseType':'N.C'},'C':{'$Kind':'EntityType','Z':{},'Y':{'$Type':'Edm.Int32'}}";
-    let document = document_of(rt.alloc(), members)?;
-    let text = json(rt.alloc(), document.as_str())?;
-    let schema = Schema::read(rt.alloc(), text.as_bytes())?;
+    let schema = schema_of(rt.alloc(), THREE_TYPES)?;
     let owner = schema.type_named("N.A").ok_or("the type")?;
     assert_eq!(rt; schema.slots(owner), 4);
-    for (slot, name) in [(0, "Y"), (1, "Z"), (2, "B"), (3, "a")] {
+    for &(slot, name) in SLOTS {
         assert_eq!(rt; schema.slot(owner, name), Some(slot));
         assert!(rt; slot < schema.slots(owner));
         assert!(rt; schema.slot_name(owner, slot) == name, "at {slot}");
     }
-    for name in ["b", "A", "y", ""] {
+    Ok(())
+}
+
+/// Names that no property of `N.A` has.
+const NO_SLOTS: &[&str] = &["b", "A", "y", ""];
+
+/// The base has no property of its heir.
+#[test]
+fn names_of_no_slot(rt: HostRuntime) -> Result<(), Fail> {
+    let schema = schema_of(rt.alloc(), THREE_TYPES)?;
+    let owner = schema.type_named("N.A").ok_or("the type")?;
+    for &name in NO_SLOTS {
         assert_eq!(rt; schema.slot(owner, name), None, "at {name}");
     }
     let above = schema.type_named("N.B").ok_or("its base")?;

@@ -14,29 +14,32 @@ fn many_types(alloc: Global, count: usize, kind: &str, others: &str) -> Result<S
     Ok(text)
 }
 
+/// So many types, their kind, what stands behind them, and the answer.
+const TYPES: &[(usize, &str, &str, &str)] = &[
+    (4_095, "ComplexType", "'Z':{'$Kind':'EnumType'}", "accepted"),
+    (4_096, "ComplexType", "'Z':{'$Kind':'EnumType'}", "TooLarge"),
+    (4_095, "EnumType", "'Z':{'$Kind':'EntityType'}", "accepted"),
+    (4_095, "EntityType", "'Z':{'$Kind':'Term'}", "accepted"),
+    (4_097, "Term", "'Z':{'$Kind':'EntityType'}", "accepted"),
+    (
+        4_096,
+        "TypeDefinition",
+        "'Z':{'$Kind':'EntityType'}",
+        "TooLarge",
+    ),
+    (
+        4_096,
+        "EntityType",
+        "'1':{'$Kind':'EntityType'}",
+        "TooLarge",
+    ),
+    (4_096, "EntityType", "'Z':5", "BadType N.Z"),
+];
+
 /// 4,096 types are read; the number of types goes before the faults of each, and kinds that are read over don't count.
 #[test]
 fn numbers_of_types(rt: HostRuntime) -> Result<(), Fail> {
-    for (count, kind, others, wanted) in [
-        (4_095, "ComplexType", "'Z':{'$Kind':'EnumType'}", "accepted"),
-        (4_096, "ComplexType", "'Z':{'$Kind':'EnumType'}", "TooLarge"),
-        (4_095, "EnumType", "'Z':{'$Kind':'EntityType'}", "accepted"),
-        (4_095, "EntityType", "'Z':{'$Kind':'Term'}", "accepted"),
-        (4_097, "Term", "'Z':{'$Kind':'EntityType'}", "accepted"),
-        (
-            4_096,
-            "TypeDefinition",
-            "'Z':{'$Kind':'EntityType'}",
-            "TooLarge",
-        ),
-        (
-            4_096,
-            "EntityType",
-            "'1':{'$Kind':'EntityType'}",
-            "TooLarge",
-        ),
-        (4_096, "EntityType", "'Z':5", "BadType N.Z"),
-    ] {
+    for &(count, kind, others, wanted) in TYPES {
         let members = many_types(rt.alloc(), count, kind, others)?;
         let told = answer_to(rt.alloc(), members.as_str())?;
         assert_eq!(rt; told.as_str(), wanted, "{count} of {kind}");
@@ -60,17 +63,20 @@ fn many_properties(alloc: Global, base: usize, own: usize) -> Result<String, All
     Ok(text)
 }
 
+/// So many inherited properties, so many own ones, and the answer.
+const PROPERTIES: &[(usize, usize, &str)] = &[
+    (1_024, 0, "accepted"),
+    (0, 1_024, "accepted"),
+    (1_000, 24, "accepted"),
+    (1_025, 0, "TooLarge"),
+    (0, 1_025, "TooLarge"),
+    (1_000, 25, "TooLarge"),
+];
+
 /// 1,024 properties are read, inherited ones counted.
 #[test]
 fn numbers_of_properties(rt: HostRuntime) -> Result<(), Fail> {
-    for (base, own, wanted) in [
-        (1_024, 0, "accepted"),
-        (0, 1_024, "accepted"),
-        (1_000, 24, "accepted"),
-        (1_025, 0, "TooLarge"),
-        (0, 1_025, "TooLarge"),
-        (1_000, 25, "TooLarge"),
-    ] {
+    for &(base, own, wanted) in PROPERTIES {
         let members = many_properties(rt.alloc(), base, own)?;
         let told = answer_to(rt.alloc(), members.as_str())?;
         assert_eq!(rt; told.as_str(), wanted, "{base} inherited, {own} own");
@@ -78,10 +84,13 @@ fn numbers_of_properties(rt: HostRuntime) -> Result<(), Fail> {
     Ok(())
 }
 
+/// What stands at the end of a text of 1,048,576 bytes, and the answer.
+const LAST: &[(&str, &str)] = &[("{'$Version':'4.01'}", "accepted"), ("{", "NotJson")];
+
 /// 1,048,576 bytes are read; the size goes before all else.
 #[test]
 fn sizes(rt: HostRuntime) -> Result<(), Fail> {
-    for (text, wanted) in [("{'$Version':'4.01'}", "accepted"), ("{", "NotJson")] {
+    for &(text, wanted) in LAST {
         let mut document = " ".repeat(rt.alloc(), 1_048_576_usize.saturating_sub(text.len()))?;
         document.push_str(text)?;
         let told = answer(rt.alloc(), document.as_str())?;

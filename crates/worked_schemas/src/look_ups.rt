@@ -1,5 +1,5 @@
 //! The look-ups of a schema of enumerations, complex types and an entity type.
-use crate::told::json;
+use crate::told::schema;
 use csdl_schema::{Property, PropertyKind, Schema, TypeId};
 use edm_values::Prim;
 use std::alloc::{AllocError, Global};
@@ -77,33 +77,45 @@ fn is_slot(
     Ok(found.as_str() == wanted)
 }
 
+/// A slot of a product, the name of its property, and this property.
+const SLOTS: &[(usize, &str, &str)] = &[
+    (0, "Active", "Boolean?"),
+    (1, "Changed", "DateTimeOffset"),
+    (2, "Code", "Guid"),
+    (3, "Color", "Shop.Color"),
+    (4, "Home", "Shop.Address?"),
+    (5, "ID", "Int32"),
+    (6, "Name", "String"),
+    (7, "Parts", "Shop.Part*"),
+    (8, "Price", "opaque"),
+    (9, "Rating", "Int16?"),
+    (10, "Released", "Date?"),
+    (11, "Stock", "Int64"),
+    (12, "Tags", "String*"),
+];
+
 #[test]
 fn slots_of_a_product(rt: HostRuntime) -> Result<(), Fail> {
-    let text = json(rt.alloc(), SHOP)?;
-    let schema = Schema::read(rt.alloc(), text.as_bytes())?;
+    let schema = schema(rt.alloc(), SHOP)?;
     let product = schema.type_named("S.Product").ok_or("the type")?;
     assert!(rt; schema.holds(product) && schema.is_entity(product));
     assert!(rt; schema.type_name(product) == Some("Shop.Product"));
     assert_eq!(rt; schema.slots(product), 13);
-    for (slot, name, wanted) in [
-        (0, "Active", "Boolean?"),
-        (1, "Changed", "DateTimeOffset"),
-        (2, "Code", "Guid"),
-        (3, "Color", "Shop.Color"),
-        (4, "Home", "Shop.Address?"),
-        (5, "ID", "Int32"),
-        (6, "Name", "String"),
-        (7, "Parts", "Shop.Part*"),
-        (8, "Price", "opaque"),
-        (9, "Rating", "Int16?"),
-        (10, "Released", "Date?"),
-        (11, "Stock", "Int64"),
-        (12, "Tags", "String*"),
-    ] {
+    for &(slot, name, wanted) in SLOTS {
         let is_there = is_slot(rt.alloc(), &schema, product, slot, name, wanted)?;
         assert!(rt; is_there, "at {slot}");
     }
-    for name in ["active", "$Key", "Qty", ""] {
+    Ok(())
+}
+
+/// Names that no property of a product has.
+const NO_SLOTS: &[&str] = &["active", "$Key", "Qty", ""];
+
+#[test]
+fn names_of_no_slot(rt: HostRuntime) -> Result<(), Fail> {
+    let schema = schema(rt.alloc(), SHOP)?;
+    let product = schema.type_named("S.Product").ok_or("the type")?;
+    for &name in NO_SLOTS {
         assert_eq!(rt; schema.slot(product, name), None, "at {name}");
     }
     Ok(())
@@ -112,8 +124,7 @@ fn slots_of_a_product(rt: HostRuntime) -> Result<(), Fail> {
 /// Complex types are held and are no entity types; a type may have values of its own type.
 #[test]
 fn slots_of_complex_types(rt: HostRuntime) -> Result<(), Fail> {
-    let text = json(rt.alloc(), SHOP)?;
-    let schema = Schema::read(rt.alloc(), text.as_bytes())?;
+    let schema = schema(rt.alloc(), SHOP)?;
     let part = schema.type_named("Shop.Part").ok_or("the type")?;
     assert!(rt; schema.holds(part) && !schema.is_entity(part));
     assert_eq!(rt; schema.slots(part), 3);
@@ -124,33 +135,44 @@ fn slots_of_complex_types(rt: HostRuntime) -> Result<(), Fail> {
     Ok(())
 }
 
+/// A text, and its value as a color.
+const VALUES: &[(&str, Option<i64>)] = &[
+    ("Red, Blue", Some(5)),
+    ("Red", Some(1)),
+    ("8", Some(8)),
+    ("-1", Some(-1)),
+    ("Red,,Blue", None),
+    ("", None),
+    ("red", None),
+    ("2147483648", None),
+    ("Red Blue", None),
+];
+
 /// Members by name, flags between commas, numbers; nothing else.
 #[test]
 fn values_of_colors(rt: HostRuntime) -> Result<(), Fail> {
-    let text = json(rt.alloc(), SHOP)?;
-    let schema = Schema::read(rt.alloc(), text.as_bytes())?;
+    let schema = schema(rt.alloc(), SHOP)?;
     let color = schema.enum_named("S.Color").ok_or("the enumeration")?;
     assert!(rt; schema.enum_name(color) == Some("Shop.Color"));
-    for (text, value) in [
-        ("Red, Blue", Some(5)),
-        ("Red", Some(1)),
-        ("8", Some(8)),
-        ("-1", Some(-1)),
-        ("Red,,Blue", None),
-        ("", None),
-        ("red", None),
-        ("2147483648", None),
-        ("Red Blue", None),
-    ] {
+    for &(text, value) in VALUES {
         assert!(rt; schema.enum_value(color, text) == value, "at {text}");
     }
-    for unknown in [
-        "Color",
-        "Shop.Product",
-        "S.Line",
-        "Shop.Colors",
-        "Edm.Int32",
-    ] {
+    Ok(())
+}
+
+/// Names of no enumeration.
+const NO_ENUMERATIONS: &[&str] = &[
+    "Color",
+    "Shop.Product",
+    "S.Line",
+    "Shop.Colors",
+    "Edm.Int32",
+];
+
+#[test]
+fn names_of_no_enumeration(rt: HostRuntime) -> Result<(), Fail> {
+    let schema = schema(rt.alloc(), SHOP)?;
+    for &unknown in NO_ENUMERATIONS {
         assert!(rt; schema.enum_named(unknown).is_none(), "at {unknown}");
     }
     assert!(rt; schema.type_named("Shop.Color").is_none());

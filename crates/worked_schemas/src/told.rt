@@ -1,15 +1,28 @@
 //! Documents with apostrophes in place of quotes, and the answers to them.
 use csdl_schema::Schema;
 use std::alloc::{AllocError, Global};
+use std::test::Fail;
 
 /// A JSON text, from one with apostrophes in place of quotes.
-pub(crate) fn json(alloc: Global, text: &str) -> Result<String, AllocError> {
+fn json(alloc: Global, text: &str) -> Result<String, AllocError> {
     text.replace(alloc, '\'', "\"")
 }
 
 /// The document that has just the namespace `N`, with these members.
-pub(crate) fn document_of(alloc: Global, members: &str) -> Result<String, AllocError> {
+fn document_of(alloc: Global, members: &str) -> Result<String, AllocError> {
     format!(in alloc; "{{'$Version':'4.01','N':{{{members}}}}}")
+}
+
+/// The schema of a document.
+pub(crate) fn schema(alloc: Global, document: &str) -> Result<Schema, Fail> {
+    let text = json(alloc, document)?;
+    Ok(Schema::read(alloc, text.as_bytes())?)
+}
+
+/// The schema of the document that has just the namespace `N`, with these members.
+pub(crate) fn schema_of(alloc: Global, members: &str) -> Result<Schema, Fail> {
+    let document = document_of(alloc, members)?;
+    schema(alloc, document.as_str())
 }
 
 /// `accepted`, or the refusal with its names.

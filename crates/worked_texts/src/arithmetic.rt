@@ -3,6 +3,7 @@ ghost use Rattle.std.specs.Prelude.{◌↔◌, IsTrue, IfSome};
 ghost use Rattle.edm_values.specs.NumberTypes.{IsNumberOf, IsNumberType};
 ghost use Rattle.odata_functions.specs.Promotion.{IsPromoted};
 
+use self::Number::{AboveLeast, BelowGreatest, Greatest, Just, Least};
 use edm_values::Prim;
 use odata_functions::ArithFault::{self, DivideByZero, Overflow};
 use odata_functions::ArithmeticOperator::{self, Add, Div, Mod, Mul, Sub};
@@ -11,10 +12,10 @@ use std::test::Fail;
 
 type Answer = Result<Option<i64>, ArithFault>;
 
-const OPERATORS: [ArithmeticOperator; 5] = [Add, Sub, Mul, Div, Mod];
+const OPERATORS: &[ArithmeticOperator] = &[Add, Sub, Mul, Div, Mod];
 
 /// The types in which numbers are computed, with their bounds.
-const TYPES: [(Prim, i64, i64); 3] = [
+const TYPES: &[(Prim, i64, i64)] = &[
     (Prim::Int16, -32_768, 32_767),
     (Prim::Int32, -2_147_483_648, 2_147_483_647),
     (Prim::Int64, i64::MIN, i64::MAX),
@@ -57,51 +58,89 @@ fn negated(kind: Prim, operand: Option<i64>) -> Result<Answer, Fail> {
     }
 }
 
+/// A number of a type: one of its ends, the one next to an end, or just that number.
+enum Number {
+    Least,
+    AboveLeast,
+    BelowGreatest,
+    Greatest,
+    Just(i64),
+}
+
+/// The number, in the type with these bounds.
+fn number_in(number: &Number, least: i64, greatest: i64) -> i64 {
+    match number {
+        Least => least,
+        AboveLeast => least.wrapping_add(1),
+        BelowGreatest => greatest.wrapping_sub(1),
+        Greatest => greatest,
+        Just(number) => *number,
+    }
+}
+
+/// The answer, in the type with these bounds.
+fn answer_in(answer: &Result<Number, ArithFault>, least: i64, greatest: i64) -> Answer {
+    match answer {
+        Ok(number) => Ok(Some(number_in(number, least, greatest))),
+        Err(fault) => Err(*fault),
+    }
+}
+
+/// Two operands with their operator, and the answer in each type.
+const BOUNDS: &[(
+    Number,
+    ArithmeticOperator,
+    Number,
+    Result<Number, ArithFault>,
+)] = &[
+    (Greatest, Add, Just(0), Ok(Greatest)),
+    (Greatest, Add, Just(1), Err(Overflow)),
+    (Greatest, Add, Just(-1), Ok(BelowGreatest)),
+    (Least, Add, Just(1), Ok(AboveLeast)),
+    (Least, Add, Just(-1), Err(Overflow)),
+    (Least, Add, Greatest, Ok(Just(-1))),
+    (Greatest, Add, Greatest, Err(Overflow)),
+    (Least, Add, Least, Err(Overflow)),
+    (Greatest, Sub, Just(-1), Err(Overflow)),
+    (Greatest, Sub, Greatest, Ok(Just(0))),
+    (Least, Sub, Just(1), Err(Overflow)),
+    (Least, Sub, Least, Ok(Just(0))),
+    (Just(0), Sub, Greatest, Ok(AboveLeast)),
+    (Just(0), Sub, Least, Err(Overflow)),
+    (Just(-1), Sub, Least, Ok(Greatest)),
+    (Greatest, Mul, Just(0), Ok(Just(0))),
+    (Greatest, Mul, Just(-1), Ok(AboveLeast)),
+    (Greatest, Mul, Just(2), Err(Overflow)),
+    (Least, Mul, Just(1), Ok(Least)),
+    (Least, Mul, Just(-1), Err(Overflow)),
+    (Just(-1), Mul, Least, Err(Overflow)),
+    (Least, Mul, Least, Err(Overflow)),
+    (Greatest, Div, Just(1), Ok(Greatest)),
+    (Greatest, Div, Just(-1), Ok(AboveLeast)),
+    (Least, Div, Just(1), Ok(Least)),
+    (Least, Div, Just(-1), Err(Overflow)),
+    (Least, Div, Least, Ok(Just(1))),
+    (Least, Div, Greatest, Ok(Just(-1))),
+    (Greatest, Div, Least, Ok(Just(0))),
+    (Greatest, Mod, Just(-1), Ok(Just(0))),
+    (Least, Mod, Just(1), Ok(Just(0))),
+    (Least, Mod, Just(-1), Ok(Just(0))),
+    (Least, Mod, Greatest, Ok(Just(-1))),
+    (Greatest, Mod, Least, Ok(Greatest)),
+    (Just(0), Div, Least, Ok(Just(0))),
+    (Just(0), Mod, Greatest, Ok(Just(0))),
+];
+
 /// The least and the greatest number of each type with 0, 1 and -1.
 #[test]
 fn bounds(rt: HostRuntime) -> Result<(), Fail> {
-    for (kind, least, greatest) in TYPES {
-        for (left, operator, right, answer) in [
-            (greatest, Add, 0, Ok(Some(greatest))),
-            (greatest, Add, 1, Err(Overflow)),
-            (greatest, Add, -1, Ok(Some(greatest.wrapping_sub(1)))),
-            (least, Add, 1, Ok(Some(least.wrapping_add(1)))),
-            (least, Add, -1, Err(Overflow)),
-            (least, Add, greatest, Ok(Some(-1))),
-            (greatest, Add, greatest, Err(Overflow)),
-            (least, Add, least, Err(Overflow)),
-            (greatest, Sub, -1, Err(Overflow)),
-            (greatest, Sub, greatest, Ok(Some(0))),
-            (least, Sub, 1, Err(Overflow)),
-            (least, Sub, least, Ok(Some(0))),
-            (0, Sub, greatest, Ok(Some(greatest.wrapping_neg()))),
-            (0, Sub, least, Err(Overflow)),
-            (-1, Sub, least, Ok(Some(greatest))),
-            (greatest, Mul, 0, Ok(Some(0))),
-            (greatest, Mul, -1, Ok(Some(greatest.wrapping_neg()))),
-            (greatest, Mul, 2, Err(Overflow)),
-            (least, Mul, 1, Ok(Some(least))),
-            (least, Mul, -1, Err(Overflow)),
-            (-1, Mul, least, Err(Overflow)),
-            (least, Mul, least, Err(Overflow)),
-            (greatest, Div, 1, Ok(Some(greatest))),
-            (greatest, Div, -1, Ok(Some(greatest.wrapping_neg()))),
-            (least, Div, 1, Ok(Some(least))),
-            (least, Div, -1, Err(Overflow)),
-            (least, Div, least, Ok(Some(1))),
-            (least, Div, greatest, Ok(Some(-1))),
-            (greatest, Div, least, Ok(Some(0))),
-            (greatest, Mod, -1, Ok(Some(0))),
-            (least, Mod, 1, Ok(Some(0))),
-            (least, Mod, -1, Ok(Some(0))),
-            (least, Mod, greatest, Ok(Some(-1))),
-            (greatest, Mod, least, Ok(Some(greatest))),
-            (0, Div, least, Ok(Some(0))),
-            (0, Mod, greatest, Ok(Some(0))),
-        ] {
+    for &(kind, least, greatest) in TYPES {
+        for (left, operator, right, answer) in BOUNDS {
+            let left = number_in(left, least, greatest);
+            let right = number_in(right, least, greatest);
             assert_eq!(rt;
-                made(operator, kind, Some(left), Some(right))?,
-                answer,
+                made(*operator, kind, Some(left), Some(right))?,
+                answer_in(answer, least, greatest),
                 "at {left} {operator:?} {right} in {kind:?}"
             );
         }
@@ -109,36 +148,39 @@ fn bounds(rt: HostRuntime) -> Result<(), Fail> {
     Ok(())
 }
 
+/// A type, two operands with their operator, and the answer.
+const PAST_THE_BOUNDS: &[(Prim, i64, ArithmeticOperator, i64, Answer)] = &[
+    (Prim::Int16, 32_767, Add, 1, Err(Overflow)),
+    (Prim::Int32, 32_767, Add, 1, Ok(Some(32_768))),
+    (Prim::Int16, 182, Mul, 182, Err(Overflow)),
+    (Prim::Int32, 182, Mul, 182, Ok(Some(33_124))),
+    (Prim::Int16, 181, Mul, 181, Ok(Some(32_761))),
+    (Prim::Int16, -32_768, Div, -1, Err(Overflow)),
+    (Prim::Int32, -32_768, Div, -1, Ok(Some(32_768))),
+    (Prim::Int32, 2_147_483_647, Sub, -1, Err(Overflow)),
+    (Prim::Int64, 2_147_483_647, Sub, -1, Ok(Some(2_147_483_648))),
+    (Prim::Int32, 65_536, Mul, 32_768, Err(Overflow)),
+    (Prim::Int32, 65_536, Mul, -32_768, Ok(Some(-2_147_483_648))),
+    (
+        Prim::Int64,
+        4_294_967_296,
+        Mul,
+        2_147_483_648,
+        Err(Overflow),
+    ),
+    (
+        Prim::Int64,
+        4_294_967_296,
+        Mul,
+        -2_147_483_648,
+        Ok(Some(i64::MIN)),
+    ),
+];
+
 /// A result past the bounds of a type lies within the next wider one.
 #[test]
 fn past_the_bounds(rt: HostRuntime) -> Result<(), Fail> {
-    for (kind, left, operator, right, answer) in [
-        (Prim::Int16, 32_767, Add, 1, Err(Overflow)),
-        (Prim::Int32, 32_767, Add, 1, Ok(Some(32_768))),
-        (Prim::Int16, 182, Mul, 182, Err(Overflow)),
-        (Prim::Int32, 182, Mul, 182, Ok(Some(33_124))),
-        (Prim::Int16, 181, Mul, 181, Ok(Some(32_761))),
-        (Prim::Int16, -32_768, Div, -1, Err(Overflow)),
-        (Prim::Int32, -32_768, Div, -1, Ok(Some(32_768))),
-        (Prim::Int32, 2_147_483_647, Sub, -1, Err(Overflow)),
-        (Prim::Int64, 2_147_483_647, Sub, -1, Ok(Some(2_147_483_648))),
-        (Prim::Int32, 65_536, Mul, 32_768, Err(Overflow)),
-        (Prim::Int32, 65_536, Mul, -32_768, Ok(Some(-2_147_483_648))),
-        (
-            Prim::Int64,
-            4_294_967_296,
-            Mul,
-            2_147_483_648,
-            Err(Overflow),
-        ),
-        (
-            Prim::Int64,
-            4_294_967_296,
-            Mul,
-            -2_147_483_648,
-            Ok(Some(i64::MIN)),
-        ),
-    ] {
+    for &(kind, left, operator, right, answer) in PAST_THE_BOUNDS {
         assert_eq!(rt;
             made(operator, kind, Some(left), Some(right))?,
             answer,
@@ -148,26 +190,29 @@ fn past_the_bounds(rt: HostRuntime) -> Result<(), Fail> {
     Ok(())
 }
 
+/// Two operands, their quotient and their remainder.
+const SIGNS: &[(i64, i64, i64, i64)] = &[
+    (7, 2, 3, 1),
+    (-7, 2, -3, -1),
+    (7, -2, -3, 1),
+    (-7, -2, 3, -1),
+    (6, 3, 2, 0),
+    (-6, 3, -2, 0),
+    (6, -3, -2, 0),
+    (-6, -3, 2, 0),
+    (1, 2, 0, 1),
+    (-1, 2, 0, -1),
+    (1, -2, 0, 1),
+    (-1, -2, 0, -1),
+    (0, 5, 0, 0),
+    (0, -5, 0, 0),
+];
+
 /// A quotient is cut toward zero, and a remainder has the sign of the left operand.
 #[test]
 fn signs(rt: HostRuntime) -> Result<(), Fail> {
-    for (left, right, quotient, remainder) in [
-        (7, 2, 3, 1),
-        (-7, 2, -3, -1),
-        (7, -2, -3, 1),
-        (-7, -2, 3, -1),
-        (6, 3, 2, 0),
-        (-6, 3, -2, 0),
-        (6, -3, -2, 0),
-        (-6, -3, 2, 0),
-        (1, 2, 0, 1),
-        (-1, 2, 0, -1),
-        (1, -2, 0, 1),
-        (-1, -2, 0, -1),
-        (0, 5, 0, 0),
-        (0, -5, 0, 0),
-    ] {
-        for (kind, _, _) in TYPES {
+    for &(left, right, quotient, remainder) in SIGNS {
+        for &(kind, _, _) in TYPES {
             assert_eq!(rt;
                 made(Div, kind, Some(left), Some(right))?,
                 Ok(Some(quotient)),
@@ -183,11 +228,15 @@ fn signs(rt: HostRuntime) -> Result<(), Fail> {
     Ok(())
 }
 
+/// Numbers of each type.
+const SOME: &[Number] = &[Least, Just(-1), Just(0), Just(1), Greatest];
+
 /// Division by zero is a fault, also of zero and of the least number.
 #[test]
 fn by_zero(rt: HostRuntime) -> Result<(), Fail> {
-    for (kind, least, greatest) in TYPES {
-        for left in [least, -1, 0, 1, greatest] {
+    for &(kind, least, greatest) in TYPES {
+        for number in SOME {
+            let left = number_in(number, least, greatest);
             assert_eq!(rt;
                 made(Div, kind, Some(left), Some(0))?,
                 Err(DivideByZero),
@@ -216,9 +265,10 @@ fn by_zero(rt: HostRuntime) -> Result<(), Fail> {
 /// Beside null every operator gives null, and there is no fault.
 #[test]
 fn beside_null(rt: HostRuntime) -> Result<(), Fail> {
-    for operator in OPERATORS {
-        for (kind, least, greatest) in TYPES {
-            for number in [least, -1, 0, 1, greatest] {
+    for &operator in OPERATORS {
+        for &(kind, least, greatest) in TYPES {
+            for number in SOME {
+                let number = number_in(number, least, greatest);
                 assert_eq!(rt;
                     made(operator, kind, None, Some(number))?,
                     Ok(None),
@@ -236,24 +286,28 @@ fn beside_null(rt: HostRuntime) -> Result<(), Fail> {
     Ok(())
 }
 
+/// A number, and its negation in each type.
+const NEGATIONS: &[(Number, Result<Number, ArithFault>)] = &[
+    (Least, Err(Overflow)),
+    (AboveLeast, Ok(Greatest)),
+    (Just(-1), Ok(Just(1))),
+    (Just(0), Ok(Just(0))),
+    (Just(1), Ok(Just(-1))),
+    (Greatest, Ok(AboveLeast)),
+];
+
 #[test]
 fn negations(rt: HostRuntime) -> Result<(), Fail> {
-    for (kind, least, greatest) in TYPES {
-        for (operand, answer) in [
-            (Some(least), Err(Overflow)),
-            (Some(least.wrapping_add(1)), Ok(Some(greatest))),
-            (Some(-1), Ok(Some(1))),
-            (Some(0), Ok(Some(0))),
-            (Some(1), Ok(Some(-1))),
-            (Some(greatest), Ok(Some(least.wrapping_add(1)))),
-            (None, Ok(None)),
-        ] {
+    for &(kind, least, greatest) in TYPES {
+        for (operand, answer) in NEGATIONS {
+            let operand = number_in(operand, least, greatest);
             assert_eq!(rt;
-                negated(kind, operand)?,
-                answer,
-                "at {operand:?} in {kind:?}"
+                negated(kind, Some(operand))?,
+                answer_in(answer, least, greatest),
+                "at {operand} in {kind:?}"
             );
         }
+        assert_eq!(rt; negated(kind, None)?, Ok(None), "at null in {kind:?}");
     }
     Ok(())
 }
@@ -283,37 +337,77 @@ fn promoted_alone(operand: Option<Prim>) -> Result<Option<Prim>, Fail> {
     }
 }
 
-/// Each two types of operands, in both orders; None is the type of null.
+const BYTE: Option<Prim> = Some(Prim::Byte);
+
+const SBYTE: Option<Prim> = Some(Prim::SByte);
+
+const SHORT: Option<Prim> = Some(Prim::Int16);
+
+const MIDDLE: Option<Prim> = Some(Prim::Int32);
+
+const LARGE: Option<Prim> = Some(Prim::Int64);
+
+/// Each two types of operands, in both orders, and the type of the result; None is the type of null.
+const PROMOTIONS: &[(Option<Prim>, Option<Prim>, Option<Prim>)] = &[
+    (None, None, None),
+    (None, BYTE, SHORT),
+    (None, SBYTE, SHORT),
+    (None, SHORT, SHORT),
+    (None, MIDDLE, MIDDLE),
+    (None, LARGE, LARGE),
+    (BYTE, None, SHORT),
+    (BYTE, BYTE, SHORT),
+    (BYTE, SBYTE, SHORT),
+    (BYTE, SHORT, SHORT),
+    (BYTE, MIDDLE, MIDDLE),
+    (BYTE, LARGE, LARGE),
+    (SBYTE, None, SHORT),
+    (SBYTE, BYTE, SHORT),
+    (SBYTE, SBYTE, SHORT),
+    (SBYTE, SHORT, SHORT),
+    (SBYTE, MIDDLE, MIDDLE),
+    (SBYTE, LARGE, LARGE),
+    (SHORT, None, SHORT),
+    (SHORT, BYTE, SHORT),
+    (SHORT, SBYTE, SHORT),
+    (SHORT, SHORT, SHORT),
+    (SHORT, MIDDLE, MIDDLE),
+    (SHORT, LARGE, LARGE),
+    (MIDDLE, None, MIDDLE),
+    (MIDDLE, BYTE, MIDDLE),
+    (MIDDLE, SBYTE, MIDDLE),
+    (MIDDLE, SHORT, MIDDLE),
+    (MIDDLE, MIDDLE, MIDDLE),
+    (MIDDLE, LARGE, LARGE),
+    (LARGE, None, LARGE),
+    (LARGE, BYTE, LARGE),
+    (LARGE, SBYTE, LARGE),
+    (LARGE, SHORT, LARGE),
+    (LARGE, MIDDLE, LARGE),
+    (LARGE, LARGE, LARGE),
+];
+
 #[test]
 fn promotions(rt: HostRuntime) -> Result<(), Fail> {
-    let small = [None, Some(Prim::Byte), Some(Prim::SByte), Some(Prim::Int16)];
-    for left in small {
-        for right in small {
-            let answer = if left.is_none() && right.is_none() {
-                None
-            } else {
-                Some(Prim::Int16)
-            };
-            assert_eq!(rt; promoted(left, right)?, answer, "at {left:?} and {right:?}");
-        }
-        for wide in [Some(Prim::Int32), Some(Prim::Int64)] {
-            assert_eq!(rt; promoted(left, wide)?, wide, "at {left:?}");
-            assert_eq!(rt; promoted(wide, left)?, wide, "at {left:?}");
-        }
+    for &(left, right, answer) in PROMOTIONS {
+        assert_eq!(rt; promoted(left, right)?, answer, "at {left:?} and {right:?}");
     }
-    let (middle, large) = (Some(Prim::Int32), Some(Prim::Int64));
-    assert_eq!(rt; promoted(middle, middle)?, middle);
-    assert_eq!(rt; promoted(middle, large)?, large);
-    assert_eq!(rt; promoted(large, middle)?, large);
-    assert_eq!(rt; promoted(large, large)?, large);
-    for (operand, answer) in [
-        (None, None),
-        (Some(Prim::Byte), Some(Prim::Int16)),
-        (Some(Prim::SByte), Some(Prim::Int16)),
-        (Some(Prim::Int16), Some(Prim::Int16)),
-        (middle, middle),
-        (large, large),
-    ] {
+    Ok(())
+}
+
+/// A type of an operand, and the type of its negation.
+const PROMOTIONS_ALONE: &[(Option<Prim>, Option<Prim>)] = &[
+    (None, None),
+    (BYTE, SHORT),
+    (SBYTE, SHORT),
+    (SHORT, SHORT),
+    (MIDDLE, MIDDLE),
+    (LARGE, LARGE),
+];
+
+#[test]
+fn promotions_alone(rt: HostRuntime) -> Result<(), Fail> {
+    for &(operand, answer) in PROMOTIONS_ALONE {
         assert_eq!(rt; promoted_alone(operand)?, answer, "at {operand:?}");
     }
     Ok(())

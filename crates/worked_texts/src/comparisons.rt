@@ -1,10 +1,10 @@
 //! Comparisons of values of each kind, at equal and unequal ones and beside null.
-use edm_values::{Datum, Moment, read_guid, read_moment};
-use jiff::civil;
+use edm_values::{Datum, Moment, read_date, read_guid, read_moment};
 use odata_functions::ComparisonOperator::{self, Eq, Ge, Gt, Le, Lt, Ne};
 use odata_functions::{comparable, compare};
 use std::borrow::CowStr;
 use std::cmp::Ordering;
+use std::process::Abort;
 use std::test::Fail;
 
 /// What the operator answers, where it compares the values.
@@ -41,6 +41,9 @@ fn ordered(order: Ordering) -> [Option<bool>; 6] {
     }
 }
 
+/// Two nulls: `eq`, `ge` and `le` are true.
+const NULLS: [Option<bool>; 6] = [YES, NO, NO, YES, NO, YES];
+
 /// A value that is not null beside null, on either side.
 const BESIDE_NULL: [Option<bool>; 6] = [NO, YES, NO, NO, NO, NO];
 
@@ -49,8 +52,18 @@ const EQUAL: [Option<bool>; 6] = [YES, NO, None, None, None, None];
 
 const UNEQUAL: [Option<bool>; 6] = [NO, YES, None, None, None, None];
 
-fn text(content: &str) -> Datum<'_> {
-    Datum::Text(CowStr::Borrowed(content))
+/// A value, or the text that it is read of.
+enum Sample {
+    Null,
+    Bool(bool),
+    Int(i64),
+    Text(&'static str),
+    Date(&'static str),
+    Moment(&'static str),
+    Guid(&'static str),
+    Enum(i64),
+    Record,
+    List,
 }
 
 fn moment(spelling: &str) -> Result<Moment, Fail> {
@@ -58,195 +71,215 @@ fn moment(spelling: &str) -> Result<Moment, Fail> {
     Ok(moment)
 }
 
-/// For each kind and each kind: `o` where all six operators compare them, `e` where `eq` and `ne` alone do.
-const KINDS: [&str; 10] = [
-    "ooooooeee.",
-    "oo........",
-    "o.o.......",
-    "o..o......",
-    "o...o.....",
-    "o....o....",
-    "e.....e...",
-    "e......e..",
-    "e.........",
-    "..........",
+/// The value of a sample.
+fn datum(sample: &Sample) -> Result<Datum<'static>, Fail> {
+    Ok(match sample {
+        Sample::Null => Datum::Null,
+        Sample::Bool(truth) => Datum::Bool(*truth),
+        Sample::Int(number) => Datum::Int(*number),
+        Sample::Text(content) => Datum::Text(CowStr::Borrowed(content)),
+        Sample::Date(spelling) => Datum::Date(read_date(spelling).ok_or("no date")?),
+        Sample::Moment(spelling) => Datum::Moment(moment(spelling)?),
+        Sample::Guid(spelling) => Datum::Guid(read_guid(spelling).ok_or("no Guid")?),
+        Sample::Enum(number) => Datum::Enum(*number),
+        Sample::Record => Datum::Record(&[]),
+        Sample::List => Datum::List(&[]),
+    })
+}
+
+/// `o` where all six operators compare the two, `e` where `eq` and `ne` alone do, `.` where none does.
+fn compared(left: &Datum<'_>, right: &Datum<'_>) -> char {
+    let by_equality = comparable(Eq, left, right);
+    let by_order = comparable(Gt, left, right);
+    if comparable(Ne, left, right) != by_equality
+        || comparable(Ge, left, right) != by_order
+        || comparable(Lt, left, right) != by_order
+        || comparable(Le, left, right) != by_order
+    {
+        return '?';
+    }
+    match (by_equality, by_order) {
+        (true, true) => 'o',
+        (true, false) => 'e',
+        (false, false) => '.',
+        (false, true) => '?',
+    }
+}
+
+/// A value of each kind, and how it is compared with each of these.
+const KINDS: &[(Sample, &str)] = &[
+    (Sample::Null, "ooooooeee."),
+    (Sample::Bool(true), "oo........"),
+    (Sample::Int(1), "o.o......."),
+    (Sample::Text("1"), "o..o......"),
+    (Sample::Date("2020-01-01"), "o...o....."),
+    (Sample::Moment("2020-01-01T00:00:00Z"), "o....o...."),
+    (
+        Sample::Guid("01234567-89ab-cdef-0123-456789abcdef"),
+        "e.....e...",
+    ),
+    (Sample::Enum(1), "e......e.."),
+    (Sample::Record, "e........."),
+    (Sample::List, ".........."),
 ];
 
 #[test]
 fn kinds(rt: HostRuntime) -> Result<(), Fail> {
-    let guid = read_guid("01234567-89ab-cdef-0123-456789abcdef").ok_or("no Guid")?;
-    let values = [
-        Datum::Null,
-        Datum::Bool(true),
-        Datum::Int(1),
-        text("1"),
-        Datum::Date(civil::date(2020, 1, 1)),
-        Datum::Moment(moment("2020-01-01T00:00:00Z")?),
-        Datum::Guid(guid),
-        Datum::Enum(1),
-        Datum::Record(&[]),
-        Datum::List(&[]),
-    ];
-    for (left, row) in values.iter().zip(KINDS) {
-        for (right, cell) in values.iter().zip(row.chars()) {
-            for operator in [Eq, Ne] {
-                assert_eq!(rt;
-                    comparable(operator, left, right),
-                    cell != '.',
-                    "at {row} {cell}"
-                );
-            }
-            for operator in [Gt, Ge, Lt, Le] {
-                assert_eq!(rt;
-                    comparable(operator, left, right),
-                    cell == 'o',
-                    "at {row} {cell}"
-                );
-            }
+    for (sample, row) in KINDS {
+        let left = datum(sample)?;
+        for (other, cell) in KINDS.iter().zip(row.chars()) {
+            let right = datum(&other.0)?;
+            assert_eq!(rt; compared(&left, &right), cell, "at {row} {cell}");
         }
     }
     Ok(())
 }
+
+/// A value, and the answers for it beside null.
+const WITH_NULL: &[(Sample, [Option<bool>; 6])] = &[
+    (Sample::Null, NULLS),
+    (Sample::Bool(false), BESIDE_NULL),
+    (Sample::Bool(true), BESIDE_NULL),
+    (Sample::Int(i64::MIN), BESIDE_NULL),
+    (Sample::Int(0), BESIDE_NULL),
+    (Sample::Text(""), BESIDE_NULL),
+    (Sample::Date("0001-01-01"), BESIDE_NULL),
+    (Sample::Moment("0001-01-01T00:00:00+23:59"), BESIDE_NULL),
+    (Sample::Enum(0), UNEQUAL),
+    (Sample::Record, UNEQUAL),
+];
 
 /// Null equals itself; `ge` and `le` of two nulls are true.
 #[test]
 fn null(rt: HostRuntime) -> Result<(), Fail> {
-    assert_eq!(rt;
-        outcomes(&Datum::Null, &Datum::Null),
-        [YES, NO, NO, YES, NO, YES]
-    );
-    for value in [
-        Datum::Bool(false),
-        Datum::Bool(true),
-        Datum::Int(i64::MIN),
-        Datum::Int(0),
-        text(""),
-        Datum::Date(civil::date(1, 1, 1)),
-        Datum::Moment(moment("0001-01-01T00:00:00+23:59")?),
-    ] {
-        assert_eq!(rt; outcomes(&Datum::Null, &value), BESIDE_NULL);
-        assert_eq!(rt; outcomes(&value, &Datum::Null), BESIDE_NULL);
-    }
-    for value in [Datum::Enum(0), Datum::Record(&[])] {
-        assert_eq!(rt; outcomes(&Datum::Null, &value), UNEQUAL);
-        assert_eq!(rt; outcomes(&value, &Datum::Null), UNEQUAL);
+    for (sample, wanted) in WITH_NULL {
+        let value = datum(sample)?;
+        assert_eq!(rt; outcomes(&Datum::Null, &value), *wanted);
+        assert_eq!(rt; outcomes(&value, &Datum::Null), *wanted);
     }
     Ok(())
 }
 
-/// Each value against each of a list that goes up.
-#[test]
-fn in_order(rt: HostRuntime) {
-    for (i, left) in [false, true].iter().enumerate() {
-        for (j, right) in [false, true].iter().enumerate() {
-            let told = outcomes(&Datum::Bool(*left), &Datum::Bool(*right));
-            assert_eq!(rt; told, ordered(i.cmp(&j)), "at {left} and {right}");
+/// Each value of a list that goes up, against each of it.
+fn goes_up(rt: &impl Abort, samples: &[Sample]) -> Result<(), Fail> {
+    for (i, left) in samples.iter().enumerate() {
+        for (j, right) in samples.iter().enumerate() {
+            let told = outcomes(&datum(left)?, &datum(right)?);
+            assert_eq!(rt; told, ordered(i.cmp(&j)), "at {i} and {j}");
         }
     }
-    let numbers = [i64::MIN, -2_147_483_649, -1, 0, 1, 255, 256, i64::MAX];
-    for (i, left) in numbers.iter().enumerate() {
-        for (j, right) in numbers.iter().enumerate() {
-            let told = outcomes(&Datum::Int(*left), &Datum::Int(*right));
-            assert_eq!(rt; told, ordered(i.cmp(&j)), "at {left} and {right}");
-        }
-    }
-    let dates = [
-        civil::date(1, 1, 1),
-        civil::date(1969, 12, 31),
-        civil::date(1970, 1, 1),
-        civil::date(2020, 2, 29),
-        civil::date(2020, 3, 1),
-        civil::date(9999, 12, 31),
-    ];
-    for (i, left) in dates.iter().enumerate() {
-        for (j, right) in dates.iter().enumerate() {
-            let told = outcomes(&Datum::Date(*left), &Datum::Date(*right));
-            assert_eq!(rt; told, ordered(i.cmp(&j)), "at {left} and {right}");
-        }
-    }
+    Ok(())
 }
+
+/// Lists that go up.
+const RISING: &[&[Sample]] = &[
+    &[Sample::Bool(false), Sample::Bool(true)],
+    &[
+        Sample::Int(i64::MIN),
+        Sample::Int(-2_147_483_649),
+        Sample::Int(-1),
+        Sample::Int(0),
+        Sample::Int(1),
+        Sample::Int(255),
+        Sample::Int(256),
+        Sample::Int(i64::MAX),
+    ],
+    &[
+        Sample::Date("0001-01-01"),
+        Sample::Date("1969-12-31"),
+        Sample::Date("1970-01-01"),
+        Sample::Date("2020-02-29"),
+        Sample::Date("2020-03-01"),
+        Sample::Date("9999-12-31"),
+    ],
+];
+
+#[test]
+fn in_order(rt: HostRuntime) -> Result<(), Fail> {
+    for samples in RISING {
+        goes_up(&rt, samples)?;
+    }
+    Ok(())
+}
+
+/// Texts that go up.
+const TEXTS: &[Sample] = &[
+    Sample::Text(""),
+    Sample::Text("\u{0}"),
+    Sample::Text(" "),
+    Sample::Text("10"),
+    Sample::Text("9"),
+    Sample::Text("A"),
+    Sample::Text("Z"),
+    Sample::Text("a"),
+    Sample::Text("aa"),
+    Sample::Text("ab"),
+    Sample::Text("ab\u{0}"),
+    Sample::Text("b"),
+    Sample::Text("e\u{301}"),
+    Sample::Text("\u{7f}"),
+    Sample::Text("\u{80}"),
+    Sample::Text("é"),
+    Sample::Text("\u{7ff}"),
+    Sample::Text("\u{800}"),
+    Sample::Text("\u{d7ff}"),
+    Sample::Text("\u{e000}"),
+    Sample::Text("\u{ffff}"),
+    Sample::Text("\u{10000}"),
+    Sample::Text("😀"),
+    Sample::Text("\u{10ffff}"),
+    Sample::Text("\u{10ffff}a"),
+];
 
 /// Texts by the scalar values of their characters, and not by length, by letters or by units of UTF-16.
 #[test]
-fn texts(rt: HostRuntime) {
-    let texts = [
-        "",
-        "\u{0}",
-        " ",
-        "10",
-        "9",
-        "A",
-        "Z",
-        "a",
-        "aa",
-        "ab",
-        "ab\u{0}",
-        "b",
-        "e\u{301}",
-        "\u{7f}",
-        "\u{80}",
-        "é",
-        "\u{7ff}",
-        "\u{800}",
-        "\u{d7ff}",
-        "\u{e000}",
-        "\u{ffff}",
-        "\u{10000}",
-        "😀",
-        "\u{10ffff}",
-        "\u{10ffff}a",
-    ];
-    for (i, left) in texts.iter().enumerate() {
-        for (j, right) in texts.iter().enumerate() {
-            assert_eq!(rt;
-                outcomes(&text(left), &text(right)),
-                ordered(i.cmp(&j)),
-                "at {left:?} and {right:?}"
-            );
-        }
-    }
+fn texts(rt: HostRuntime) -> Result<(), Fail> {
+    goes_up(&rt, TEXTS)
 }
+
+/// Two moments, and the order of their instants.
+const MOMENTS: &[(&str, &str, Ordering)] = &[
+    (
+        "2020-01-01T01:00:00+01:00",
+        "2020-01-01T00:00:00Z",
+        Ordering::Equal,
+    ),
+    (
+        "2019-12-31T23:00:00-01:00",
+        "2020-01-01T05:30:00+05:30",
+        Ordering::Equal,
+    ),
+    (
+        "2020-01-01T01:00:00+02:00",
+        "2020-01-01T00:00:00Z",
+        Ordering::Less,
+    ),
+    (
+        "2020-01-01T00:00:00-00:01",
+        "2020-01-01T00:00:59.999999999Z",
+        Ordering::Greater,
+    ),
+    (
+        "2020-01-01T00:00:00.000000001Z",
+        "2020-01-01T00:00:00Z",
+        Ordering::Greater,
+    ),
+    (
+        "0001-01-01T00:00:00+23:59",
+        "0001-01-01T00:00:00Z",
+        Ordering::Less,
+    ),
+    (
+        "9999-12-31T23:59:59-23:59",
+        "9999-12-31T23:59:59Z",
+        Ordering::Greater,
+    ),
+];
 
 /// Moments by their instants, whatever their clocks show.
 #[test]
 fn moments(rt: HostRuntime) -> Result<(), Fail> {
-    for (left, right, order) in [
-        (
-            "2020-01-01T01:00:00+01:00",
-            "2020-01-01T00:00:00Z",
-            Ordering::Equal,
-        ),
-        (
-            "2019-12-31T23:00:00-01:00",
-            "2020-01-01T05:30:00+05:30",
-            Ordering::Equal,
-        ),
-        (
-            "2020-01-01T01:00:00+02:00",
-            "2020-01-01T00:00:00Z",
-            Ordering::Less,
-        ),
-        (
-            "2020-01-01T00:00:00-00:01",
-            "2020-01-01T00:00:59.999999999Z",
-            Ordering::Greater,
-        ),
-        (
-            "2020-01-01T00:00:00.000000001Z",
-            "2020-01-01T00:00:00Z",
-            Ordering::Greater,
-        ),
-        (
-            "0001-01-01T00:00:00+23:59",
-            "0001-01-01T00:00:00Z",
-            Ordering::Less,
-        ),
-        (
-            "9999-12-31T23:59:59-23:59",
-            "9999-12-31T23:59:59Z",
-            Ordering::Greater,
-        ),
-    ] {
+    for &(left, right, order) in MOMENTS {
         let (l, r) = (Datum::Moment(moment(left)?), Datum::Moment(moment(right)?));
         assert_eq!(rt; outcomes(&l, &r), ordered(order), "at {left} and {right}");
         assert_eq!(rt;
@@ -258,16 +291,29 @@ fn moments(rt: HostRuntime) -> Result<(), Fail> {
     Ok(())
 }
 
+/// Two values that equality alone compares, and whether they are equal.
+const BY_EQUALITY: &[(Sample, Sample, bool)] = &[
+    (
+        Sample::Guid("01234567-89ab-cdef-0123-456789abcdef"),
+        Sample::Guid("01234567-89AB-CDEF-0123-456789ABCDEF"),
+        true,
+    ),
+    (
+        Sample::Guid("01234567-89ab-cdef-0123-456789abcdef"),
+        Sample::Guid("01234567-89ab-cdef-0123-456789abcdee"),
+        false,
+    ),
+    (Sample::Enum(5), Sample::Enum(5), true),
+    (Sample::Enum(5), Sample::Enum(4), false),
+    (Sample::Enum(-1), Sample::Enum(i64::MAX), false),
+];
+
 /// Guids by their bytes and enumeration values by their numbers, by equality alone.
 #[test]
 fn equality_alone(rt: HostRuntime) -> Result<(), Fail> {
-    let guid = read_guid("01234567-89ab-cdef-0123-456789abcdef").ok_or("no Guid")?;
-    let same = read_guid("01234567-89AB-CDEF-0123-456789ABCDEF").ok_or("no Guid")?;
-    let other = read_guid("01234567-89ab-cdef-0123-456789abcdee").ok_or("no Guid")?;
-    assert_eq!(rt; outcomes(&Datum::Guid(guid), &Datum::Guid(same)), EQUAL);
-    assert_eq!(rt; outcomes(&Datum::Guid(guid), &Datum::Guid(other)), UNEQUAL);
-    assert_eq!(rt; outcomes(&Datum::Enum(5), &Datum::Enum(5)), EQUAL);
-    assert_eq!(rt; outcomes(&Datum::Enum(5), &Datum::Enum(4)), UNEQUAL);
-    assert_eq!(rt; outcomes(&Datum::Enum(-1), &Datum::Enum(i64::MAX)), UNEQUAL);
+    for (left, right, is_equal) in BY_EQUALITY {
+        let wanted = if *is_equal { EQUAL } else { UNEQUAL };
+        assert_eq!(rt; outcomes(&datum(left)?, &datum(right)?), wanted);
+    }
     Ok(())
 }

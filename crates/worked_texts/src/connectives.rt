@@ -6,7 +6,7 @@ const TRUE: Option<bool> = Some(true);
 const FALSE: Option<bool> = Some(false);
 
 /// Two operands, then what `and` and what `or` make of them.
-const TABLE: [(Option<bool>, Option<bool>, Option<bool>, Option<bool>); 9] = [
+const TABLE: &[(Option<bool>, Option<bool>, Option<bool>, Option<bool>)] = &[
     (TRUE, TRUE, TRUE, TRUE),
     (TRUE, FALSE, FALSE, TRUE),
     (TRUE, None, None, TRUE),
@@ -18,13 +18,16 @@ const TABLE: [(Option<bool>, Option<bool>, Option<bool>, Option<bool>); 9] = [
     (None, None, None, None),
 ];
 
+/// An operand, and what `not` makes of it.
+const OPPOSITES: &[(Option<bool>, Option<bool>)] = &[(TRUE, FALSE), (FALSE, TRUE), (None, None)];
+
 #[test]
 fn tables(rt: HostRuntime) {
-    for (left, right, both, either) in TABLE {
+    for &(left, right, both, either) in TABLE {
         assert_eq!(rt; and3(left, right), both, "at {left:?} and {right:?}");
         assert_eq!(rt; or3(left, right), either, "at {left:?} or {right:?}");
     }
-    for (operand, opposite) in [(TRUE, FALSE), (FALSE, TRUE), (None, None)] {
+    for &(operand, opposite) in OPPOSITES {
         assert_eq!(rt; not3(operand), opposite, "at {operand:?}");
     }
 }

@@ -2,14 +2,17 @@
 use edm_values::{read_date, write_date};
 use std::test::Fail;
 
+/// A text, and the year, the month and the day of its date.
+const DATES: &[(&str, i16, i8, i8)] = &[
+    ("2020-02-29", 2020, 2, 29),
+    ("2000-02-29", 2000, 2, 29),
+    ("0001-01-01", 1, 1, 1),
+    ("9999-12-31", 9999, 12, 31),
+];
+
 #[test]
 fn dates(rt: HostRuntime) -> Result<(), Fail> {
-    for (text, year, month, day) in [
-        ("2020-02-29", 2020, 2, 29),
-        ("2000-02-29", 2000, 2, 29),
-        ("0001-01-01", 1, 1, 1),
-        ("9999-12-31", 9999, 12, 31),
-    ] {
+    for &(text, year, month, day) in DATES {
         let read = read_date(text).ok_or("no date")?;
         let mut out = String::from_str(rt.alloc(), "d=")?;
         assert!(rt; (1..=9999).contains(&read.year()));
@@ -20,22 +23,25 @@ fn dates(rt: HostRuntime) -> Result<(), Fail> {
     Ok(())
 }
 
+/// Texts that spell no date.
+const WITHOUT_DATE: &[&str] = &[
+    "2021-02-29",
+    "1900-02-29",
+    "0000-01-01",
+    "2020-00-01",
+    "2020-13-01",
+    "2020-01-00",
+    "2020-04-31",
+    "2020-1-01",
+    "20200101",
+    "+2020-01-01",
+    "2020-01-01 ",
+    "",
+];
+
 #[test]
 fn texts_without_date(rt: HostRuntime) {
-    for text in [
-        "2021-02-29",
-        "1900-02-29",
-        "0000-01-01",
-        "2020-00-01",
-        "2020-13-01",
-        "2020-01-00",
-        "2020-04-31",
-        "2020-1-01",
-        "20200101",
-        "+2020-01-01",
-        "2020-01-01 ",
-        "",
-    ] {
+    for &text in WITHOUT_DATE {
         assert!(rt; read_date(text).is_none(), "at {text}");
     }
 }

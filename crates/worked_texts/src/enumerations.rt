@@ -35,143 +35,133 @@ fn enumeration(
     Ok(made)
 }
 
+const COLORS: &[(&str, i64)] = &[
+    ("Red", 1),
+    ("Green", 2),
+    ("Blue", 4),
+    ("All", 7),
+    ("Sky", 4),
+];
+
+/// A text, and its value as flags of these colors.
+const FLAGS: &[(&str, Option<i64>)] = &[
+    ("Red", Some(1)),
+    ("Red, Blue", Some(5)),
+    ("Red,Blue", Some(5)),
+    ("  Red  ,  Blue  ", Some(5)),
+    ("Blue,Sky,Blue", Some(4)),
+    ("All,Red", Some(7)),
+    ("8", Some(8)),
+    ("+08, Red", Some(9)),
+    ("-1,Red", Some(-1)),
+    ("-2,Red", Some(-1)),
+    ("-8,Blue", Some(-4)),
+    ("0", Some(0)),
+    ("-2147483648,2147483647", Some(-1)),
+    ("2147483648", None),
+    ("-2147483649,Red", None),
+    ("", None),
+    (" ", None),
+    (",", None),
+    ("Red,", None),
+    (",Red", None),
+    ("Red,,Blue", None),
+    ("Red, ,Blue", None),
+    ("red", None),
+    ("Re d", None),
+    ("Red Blue", None),
+    ("Purple", None),
+    ("Red,Purple", None),
+    ("Purple,Red", None),
+    ("\tRed", None),
+    ("Red,\tBlue", None),
+    ("Red\n", None),
+    ("\u{a0}Red", None),
+    ("Red\u{2003}", None),
+    ("1.0", None),
+    ("0x1", None),
+    ("- 1", None),
+    ("'Red'", None),
+];
+
 /// Pieces between commas, with spaces and nothing else round them.
 #[test]
 fn values_of_flags(rt: HostRuntime) -> Result<(), Fail> {
-    let color = enumeration(
-        rt.alloc(),
-        Prim::Int32,
-        true,
-        &[
-            ("Red", 1),
-            ("Green", 2),
-            ("Blue", 4),
-            ("All", 7),
-            ("Sky", 4),
-        ],
-    )?;
-    for (text, value) in [
-        ("Red", Some(1)),
-        ("Red, Blue", Some(5)),
-        ("Red,Blue", Some(5)),
-        ("  Red  ,  Blue  ", Some(5)),
-        ("Blue,Sky,Blue", Some(4)),
-        ("All,Red", Some(7)),
-        ("8", Some(8)),
-        ("+08, Red", Some(9)),
-        ("-1,Red", Some(-1)),
-        ("-2,Red", Some(-1)),
-        ("-8,Blue", Some(-4)),
-        ("0", Some(0)),
-        ("-2147483648,2147483647", Some(-1)),
-        ("2147483648", None),
-        ("-2147483649,Red", None),
-        ("", None),
-        (" ", None),
-        (",", None),
-        ("Red,", None),
-        (",Red", None),
-        ("Red,,Blue", None),
-        ("Red, ,Blue", None),
-        ("red", None),
-        ("Re d", None),
-        ("Red Blue", None),
-        ("Purple", None),
-        ("Red,Purple", None),
-        ("Purple,Red", None),
-        ("\tRed", None),
-        ("Red,\tBlue", None),
-        ("Red\n", None),
-        ("\u{a0}Red", None),
-        ("Red\u{2003}", None),
-        ("1.0", None),
-        ("0x1", None),
-        ("- 1", None),
-        ("'Red'", None),
-    ] {
+    let color = enumeration(rt.alloc(), Prim::Int32, true, COLORS)?;
+    for &(text, value) in FLAGS {
         assert_eq!(rt; color.value_of(text), value, "at {text}");
     }
     Ok(())
 }
 
+const SIZES: &[(&str, i64)] = &[("Small", 1), ("Größe", 2)];
+
+/// A text, and its value as one of these sizes.
+const ONE_SIZE: &[(&str, Option<i64>)] = &[
+    ("Small", Some(1)),
+    (" Small ", Some(1)),
+    ("Größe", Some(2)),
+    ("3", Some(3)),
+    ("Small,Small", None),
+    ("Small,", None),
+    ("1,2", None),
+    ("", None),
+    ("32768", None),
+    ("-32768", Some(-32768)),
+];
+
 /// One piece where there are no flags.
 #[test]
 fn values_without_flags(rt: HostRuntime) -> Result<(), Fail> {
-    let size = enumeration(
-        rt.alloc(),
-        Prim::Int16,
-        false,
-        &[("Small", 1), ("Größe", 2)],
-    )?;
-    for (text, value) in [
-        ("Small", Some(1)),
-        (" Small ", Some(1)),
-        ("Größe", Some(2)),
-        ("3", Some(3)),
-        ("Small,Small", None),
-        ("Small,", None),
-        ("1,2", None),
-        ("", None),
-        ("32768", None),
-        ("-32768", Some(-32768)),
-    ] {
+    let size = enumeration(rt.alloc(), Prim::Int16, false, SIZES)?;
+    for &(text, value) in ONE_SIZE {
         assert_eq!(rt; size.value_of(text), value, "at {text}");
     }
     Ok(())
 }
 
-/// A number at each bound of its type, and one past it.
+/// A number type, one of its bounds, and the number past it.
+const BOUNDS: &[(Prim, &str, &str)] = &[
+    (Prim::Byte, "0", "-1"),
+    (Prim::Byte, "255", "256"),
+    (Prim::SByte, "-128", "-129"),
+    (Prim::SByte, "127", "128"),
+    (Prim::Int16, "-32768", "-32769"),
+    (Prim::Int16, "32767", "32768"),
+    (Prim::Int32, "-2147483648", "-2147483649"),
+    (Prim::Int32, "2147483647", "2147483648"),
+    (Prim::Int64, "-9223372036854775808", "-9223372036854775809"),
+    (Prim::Int64, "9223372036854775807", "9223372036854775808"),
+];
+
 #[test]
 fn bounds(rt: HostRuntime) -> Result<(), Fail> {
-    for (underlying, least, below, greatest, above) in [
-        (Prim::Byte, "0", "-1", "255", "256"),
-        (Prim::SByte, "-128", "-129", "127", "128"),
-        (Prim::Int16, "-32768", "-32769", "32767", "32768"),
-        (
-            Prim::Int32,
-            "-2147483648",
-            "-2147483649",
-            "2147483647",
-            "2147483648",
-        ),
-        (
-            Prim::Int64,
-            "-9223372036854775808",
-            "-9223372036854775809",
-            "9223372036854775807",
-            "9223372036854775808",
-        ),
-    ] {
+    for &(underlying, bound, past) in BOUNDS {
         let none = without_members(rt.alloc(), underlying, false).ok_or("no number type")?;
-        for (text, is_value) in [
-            (least, true),
-            (below, false),
-            (greatest, true),
-            (above, false),
-        ] {
-            assert_eq!(rt;
-                none.value_of(text).is_some(),
-                is_value,
-                "at {underlying:?} {text}"
-            );
-        }
+        assert!(rt; none.value_of(bound).is_some(), "at {underlying:?} {bound}");
+        assert!(rt; none.value_of(past).is_none(), "at {underlying:?} {past}");
     }
     Ok(())
 }
 
-/// The first of two members of one name stays, and a name goes before a number that is spelled alike.
+/// Two members of one name, and one that is named like a number.
+const ODD: &[(&str, i64)] = &[("A", 1), ("A", 2), ("5", 7)];
+
+/// The first of two members of one name stays.
 #[test]
 fn members_by_name(rt: HostRuntime) -> Result<(), Fail> {
-    let odd = enumeration(
-        rt.alloc(),
-        Prim::Byte,
-        true,
-        &[("A", 1), ("A", 2), ("5", 7)],
-    )?;
+    let odd = enumeration(rt.alloc(), Prim::Byte, true, ODD)?;
     assert_eq!(rt; odd.underlying(), Prim::Byte);
     assert!(rt; odd.is_flags());
     assert_eq!(rt; odd.number_of("A"), Some(1));
     assert_eq!(rt; odd.number_of("B"), None);
+    Ok(())
+}
+
+/// A name goes before a number that is spelled alike.
+#[test]
+fn names_before_numbers(rt: HostRuntime) -> Result<(), Fail> {
+    let odd = enumeration(rt.alloc(), Prim::Byte, true, ODD)?;
     assert_eq!(rt; odd.value_of("5"), Some(7));
     assert_eq!(rt; odd.value_of("05"), Some(5));
     Ok(())

@@ -11,14 +11,17 @@ fn repeated(alloc: Global, piece: &str, times: usize, last: &str) -> Result<Stri
     Ok(text)
 }
 
+/// A piece, how many times it stands, what stands behind, and how many tokens these are.
+const LONGEST: &[(&str, usize, &str, usize)] = &[
+    (" ", 16_384, "", 0),
+    (" ", 16_383, "1", 1),
+    ("a ", 4_096, "", 4_096),
+    ("a ", 4_095, "1", 4_096),
+];
+
 #[test]
 fn longest_texts(rt: HostRuntime) -> Result<(), Fail> {
-    for (piece, times, last, count) in [
-        (" ", 16_384, "", 0),
-        (" ", 16_383, "1", 1),
-        ("a ", 4_096, "", 4_096),
-        ("a ", 4_095, "1", 4_096),
-    ] {
+    for &(piece, times, last, count) in LONGEST {
         let text = repeated(rt.alloc(), piece, times, last)?;
         let found = tokens(rt.alloc(), text.as_str())?;
         assert_eq!(rt; found.len(), count, "{times} of {piece}");
@@ -26,19 +29,22 @@ fn longest_texts(rt: HostRuntime) -> Result<(), Fail> {
     Ok(())
 }
 
+/// A piece, how many times it stands, what stands behind, and the fault.
+const TOO_LONG: &[(&str, usize, &str, &str)] = &[
+    (" ", 16_385, "", "TooLong 0..16385"),
+    ("'", 16_385, "", "TooLong 0..16385"),
+    ("'", 16_384, "€", "TooLong 0..16387"),
+    (",", 4_097, "", "TooLong 4096..4097"),
+    (",", 4_098, "€", "TooLong 4096..4097"),
+    ("a ", 4_095, "1a", "RunOn 8190..8192"),
+    ("a ", 4_096, "1", "TooLong 8192..8193"),
+    ("a ", 4_096, "1a", "RunOn 8192..8194"),
+];
+
 /// The length of the text goes before all faults; a fault of a token itself goes before the number of tokens.
 #[test]
 fn texts_too_long(rt: HostRuntime) -> Result<(), Fail> {
-    for (piece, times, last, wanted) in [
-        (" ", 16_385, "", "TooLong 0..16385"),
-        ("'", 16_385, "", "TooLong 0..16385"),
-        ("'", 16_384, "€", "TooLong 0..16387"),
-        (",", 4_097, "", "TooLong 4096..4097"),
-        (",", 4_098, "€", "TooLong 4096..4097"),
-        ("a ", 4_095, "1a", "RunOn 8190..8192"),
-        ("a ", 4_096, "1", "TooLong 8192..8193"),
-        ("a ", 4_096, "1a", "RunOn 8192..8194"),
-    ] {
+    for &(piece, times, last, wanted) in TOO_LONG {
         let text = repeated(rt.alloc(), piece, times, last)?;
         assert!(rt;
             is_told(rt.alloc(), text.as_str(), wanted),

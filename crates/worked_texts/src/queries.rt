@@ -19,66 +19,76 @@ fn fault_of(alloc: Global, query: &str) -> Option<QueryFault> {
     }
 }
 
+/// A query, and the filter that it asks for, if any.
+const FILTERS: &[(&str, Option<&str>)] = &[
+    ("", None),
+    ("x=1", None),
+    ("&&filter=", Some("")),
+    ("$filter", Some("")),
+    ("$filter=a%2Bb%26c", Some("a+b&c")),
+    ("$filter=ID%20eq%201", Some("ID eq 1")),
+    ("%24FILTER=Active=1", Some("Active=1")),
+    ("fil%74er=%C3%A9", Some("é")),
+    ("filter=a+b", Some("a+b")),
+    ("=&=x&filter=1&", Some("1")),
+    ("%2524filter=x", None),
+    ("filters=x&%C3%A9=%C3%A9", None),
+    (
+        "$filter=Changed%20eq%202020-01-01T01:00:00%2B01:00",
+        Some("Changed eq 2020-01-01T01:00:00+01:00"),
+    ),
+    (
+        "$filter=Changed%20eq%202020-01-01T01:00:00+01:00",
+        Some("Changed eq 2020-01-01T01:00:00+01:00"),
+    ),
+];
+
 #[test]
 fn filters(rt: HostRuntime) {
-    for (query, filter) in [
-        ("", None),
-        ("x=1", None),
-        ("&&filter=", Some("")),
-        ("$filter", Some("")),
-        ("$filter=a%2Bb%26c", Some("a+b&c")),
-        ("%24FILTER=Active=1", Some("Active=1")),
-        ("fil%74er=%C3%A9", Some("é")),
-        ("filter=a+b", Some("a+b")),
-        ("=&=x&filter=1&", Some("1")),
-        ("%2524filter=x", None),
-        ("filters=x&%C3%A9=%C3%A9", None),
-        (
-            "$filter=Changed%20eq%202020-01-01T01:00:00%2B01:00",
-            Some("Changed eq 2020-01-01T01:00:00+01:00"),
-        ),
-        (
-            "$filter=Changed%20eq%202020-01-01T01:00:00+01:00",
-            Some("Changed eq 2020-01-01T01:00:00+01:00"),
-        ),
-    ] {
+    for &(query, filter) in FILTERS {
         assert!(rt; asks(rt.alloc(), query, filter), "at {query}");
     }
 }
 
+/// A query, and its fault.
+const ESCAPES: &[(&str, QueryFault)] = &[
+    ("$filter=Name%2", QueryFault::BadEscape { place: 12 }),
+    ("x=%zz", QueryFault::BadEscape { place: 2 }),
+    ("%", QueryFault::BadEscape { place: 0 }),
+    ("a%4=1", QueryFault::BadEscape { place: 1 }),
+    ("&a=%%41", QueryFault::BadEscape { place: 3 }),
+    ("x=%FF", QueryFault::NotUtf8 { option: 0 }),
+    ("&&%C3=1", QueryFault::NotUtf8 { option: 2 }),
+    ("%zz=%zz", QueryFault::BadEscape { place: 0 }),
+    ("%FF=%zz", QueryFault::NotUtf8 { option: 0 }),
+    ("a=%FF%zz", QueryFault::BadEscape { place: 5 }),
+    ("a=%FF&%zz", QueryFault::NotUtf8 { option: 0 }),
+];
+
 #[test]
 fn escapes_and_texts(rt: HostRuntime) {
-    for (query, fault) in [
-        ("$filter=Name%2", QueryFault::BadEscape { place: 12 }),
-        ("x=%zz", QueryFault::BadEscape { place: 2 }),
-        ("%", QueryFault::BadEscape { place: 0 }),
-        ("a%4=1", QueryFault::BadEscape { place: 1 }),
-        ("&a=%%41", QueryFault::BadEscape { place: 3 }),
-        ("x=%FF", QueryFault::NotUtf8 { option: 0 }),
-        ("&&%C3=1", QueryFault::NotUtf8 { option: 2 }),
-        ("%zz=%zz", QueryFault::BadEscape { place: 0 }),
-        ("%FF=%zz", QueryFault::NotUtf8 { option: 0 }),
-        ("a=%FF%zz", QueryFault::BadEscape { place: 5 }),
-        ("a=%FF&%zz", QueryFault::NotUtf8 { option: 0 }),
-    ] {
+    for &(query, fault) in ESCAPES {
         assert!(rt; fault_of(rt.alloc(), query) == Some(fault), "at {query}");
     }
 }
 
+/// A query, and the number of its first option that is refused.
+const OTHER_OPTIONS: &[(&str, usize)] = &[
+    ("$top=5&$filter=Active", 0),
+    ("a=1&Skip=1", 1),
+    ("&&$top", 2),
+    ("$", 0),
+    ("@", 0),
+    ("@p=1", 0),
+    ("%40p=1", 0),
+    ("$deltatoken=1", 0),
+    ("$filters=1", 0),
+    ("filter=a&$top=1&filter=b", 1),
+];
+
 #[test]
 fn other_options(rt: HostRuntime) {
-    for (query, option) in [
-        ("$top=5&$filter=Active", 0),
-        ("a=1&Skip=1", 1),
-        ("&&$top", 2),
-        ("$", 0),
-        ("@", 0),
-        ("@p=1", 0),
-        ("%40p=1", 0),
-        ("$deltatoken=1", 0),
-        ("$filters=1", 0),
-        ("filter=a&$top=1&filter=b", 1),
-    ] {
+    for &(query, option) in OTHER_OPTIONS {
         assert!(rt;
             fault_of(rt.alloc(), query) == Some(QueryFault::OtherOption { option }),
             "at {query}"
@@ -86,27 +96,30 @@ fn other_options(rt: HostRuntime) {
     }
 }
 
+/// A query with a second filter or another fault beside it, and the fault.
+const SECOND_FILTERS: &[(&str, QueryFault)] = &[
+    (
+        "$filter=Active&$FILTER=Active",
+        QueryFault::Repeated { option: 1 },
+    ),
+    ("filter=a&&Filter=b", QueryFault::Repeated { option: 2 }),
+    (
+        "filter=a&filter=b&$top=1",
+        QueryFault::Repeated { option: 1 },
+    ),
+    ("filter=a&filter=%FF", QueryFault::NotUtf8 { option: 1 }),
+    ("$top=%zz", QueryFault::BadEscape { place: 5 }),
+];
+
 #[test]
 fn second_filters(rt: HostRuntime) {
-    for (query, fault) in [
-        (
-            "$filter=Active&$FILTER=Active",
-            QueryFault::Repeated { option: 1 },
-        ),
-        ("filter=a&&Filter=b", QueryFault::Repeated { option: 2 }),
-        (
-            "filter=a&filter=b&$top=1",
-            QueryFault::Repeated { option: 1 },
-        ),
-        ("filter=a&filter=%FF", QueryFault::NotUtf8 { option: 1 }),
-        ("$top=%zz", QueryFault::BadEscape { place: 5 }),
-    ] {
+    for &(query, fault) in SECOND_FILTERS {
         assert!(rt; fault_of(rt.alloc(), query) == Some(fault), "at {query}");
     }
 }
 
 /// Each name that is refused without a `$`, in three cases.
-const REFUSED_NAMES: [&str; 33] = [
+const REFUSED_NAMES: &[&str] = &[
     "apply",
     "APPLY",
     "aPPly",
@@ -144,7 +157,7 @@ const REFUSED_NAMES: [&str; 33] = [
 
 #[test]
 fn refused_names_in_three_cases(rt: HostRuntime) {
-    for name in REFUSED_NAMES {
+    for &name in REFUSED_NAMES {
         assert!(rt;
             fault_of(rt.alloc(), name) == Some(QueryFault::OtherOption { option: 0 }),
             "at {name}"
@@ -153,28 +166,30 @@ fn refused_names_in_three_cases(rt: HostRuntime) {
 }
 
 /// Each other name that the standard gives an option, and the filter's own, in three cases.
+const OTHER_NAMES: &[(&str, Option<&str>)] = &[
+    ("deltatoken", None),
+    ("DELTATOKEN", None),
+    ("deltaToken", None),
+    ("id", None),
+    ("ID", None),
+    ("Id", None),
+    ("index", None),
+    ("INDEX", None),
+    ("inDex", None),
+    ("skiptoken", None),
+    ("SKIPTOKEN", None),
+    ("skipToken", None),
+    ("filter", Some("")),
+    ("FILTER", Some("")),
+    ("Filter", Some("")),
+    ("$filter", Some("")),
+    ("$FILTER", Some("")),
+    ("$fILTER", Some("")),
+];
+
 #[test]
 fn other_names_in_three_cases(rt: HostRuntime) {
-    for (name, filter) in [
-        ("deltatoken", None),
-        ("DELTATOKEN", None),
-        ("deltaToken", None),
-        ("id", None),
-        ("ID", None),
-        ("Id", None),
-        ("index", None),
-        ("INDEX", None),
-        ("inDex", None),
-        ("skiptoken", None),
-        ("SKIPTOKEN", None),
-        ("skipToken", None),
-        ("filter", Some("")),
-        ("FILTER", Some("")),
-        ("Filter", Some("")),
-        ("$filter", Some("")),
-        ("$FILTER", Some("")),
-        ("$fILTER", Some("")),
-    ] {
+    for &(name, filter) in OTHER_NAMES {
         assert!(rt; asks(rt.alloc(), name, filter), "at {name}");
     }
 }

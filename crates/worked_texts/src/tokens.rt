@@ -3,45 +3,52 @@ use crate::told::is_told;
 use odata_text::{TokenKind, tokens};
 use std::alloc::Global;
 
+/// A text with white space, and its tokens.
+const SPACED: &[(&str, &str)] = &[
+    ("", ""),
+    (" \t ", ""),
+    ("ID eq 1", "Word 0..2, Word 3..5, Int 6..7"),
+    (
+        "Active and ID eq 1 and Name eq 'a'",
+        "Word 0..6, Word 7..10, Word 11..13, Word 14..16, Int 17..18, Word 19..22, Word 23..27, Word 28..30, Str 31..34",
+    ),
+    ("\tID\teq  -1 ", "Word 1..3, Word 4..6, Int 8..10"),
+];
+
 #[test]
 fn tokens_and_white_space(rt: HostRuntime) {
-    for (text, wanted) in [
-        ("", ""),
-        (" \t ", ""),
-        (
-            "Active and ID eq 1 and Name eq 'a'",
-            "Word 0..6, Word 7..10, Word 11..13, Word 14..16, Int 17..18, Word 19..22, Word 23..27, Word 28..30, Str 31..34",
-        ),
-        ("\tID\teq  -1 ", "Word 1..3, Word 4..6, Int 8..10"),
-    ] {
+    for &(text, wanted) in SPACED {
         assert!(rt; is_told(rt.alloc(), text, wanted), "at {text}");
     }
 }
 
+/// A text of tokens without white space between them, and these.
+const SIDE_BY_SIDE: &[(&str, &str)] = &[
+    (
+        "_1-2+3'O''é'a",
+        "Word 0..2, Int 2..4, Int 4..6, Str 6..13, Word 13..14",
+    ),
+    (
+        "a.b'x'-1 -b",
+        "EnumLit 0..6, Int 6..8, Minus 9..10, Word 10..11",
+    ),
+    ("a'x'", "Word 0..1, Str 1..4"),
+    ("2020-01-01-1", "Date 0..10, Int 10..12"),
+    (
+        "a/any(p:$it,--3)",
+        "Word 0..1, Slash 1..2, Word 2..5, Open 5..6, Word 6..7, Colon 7..8, Dollar 8..11, Comma 11..12, Minus 12..13, Int 13..15, Close 15..16",
+    ),
+];
+
 #[test]
 fn tokens_side_by_side(rt: HostRuntime) {
-    for (text, wanted) in [
-        (
-            "_1-2+3'O''é'a",
-            "Word 0..2, Int 2..4, Int 4..6, Str 6..13, Word 13..14",
-        ),
-        (
-            "a.b'x'-1 -b",
-            "EnumLit 0..6, Int 6..8, Minus 9..10, Word 10..11",
-        ),
-        ("a'x'", "Word 0..1, Str 1..4"),
-        ("2020-01-01-1", "Date 0..10, Int 10..12"),
-        (
-            "a/any(p:$it,--3)",
-            "Word 0..1, Slash 1..2, Word 2..5, Open 5..6, Word 6..7, Colon 7..8, Dollar 8..11, Comma 11..12, Minus 12..13, Int 13..15, Close 15..16",
-        ),
-    ] {
+    for &(text, wanted) in SIDE_BY_SIDE {
         assert!(rt; is_told(rt.alloc(), text, wanted), "at {text}");
     }
 }
 
 /// Texts that are one token.
-const SINGLE: [(&str, TokenKind); 31] = [
+const SINGLE: &[(&str, TokenKind)] = &[
     ("a", TokenKind::Word),
     ("a.b_1.c", TokenKind::Word),
     ("duration", TokenKind::Word),
@@ -93,7 +100,7 @@ fn is_one(alloc: Global, text: &str, kind: TokenKind) -> bool {
 
 #[test]
 fn single_tokens(rt: HostRuntime) {
-    for (text, kind) in SINGLE {
+    for &(text, kind) in SINGLE {
         assert!(rt; is_one(rt.alloc(), text, kind), "at {text}");
     }
 }

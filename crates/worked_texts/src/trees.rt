@@ -4,43 +4,46 @@ use odata_syntax::{BinaryOperator, LiteralKind, Node};
 use odata_text::Span;
 use std::test::Fail;
 
+/// A text, and its fault.
+const WITHOUT_TREE: &[(&str, &str)] = &[
+    ("", "Unexpected 0..0"),
+    ("  ", "Unexpected 2..2"),
+    ("Name eq", "Unexpected 7..7"),
+    ("Name eq  ", "Unexpected 9..9"),
+    ("  NOT   ", "Unexpected 8..8"),
+    ("- ", "Unexpected 2..2"),
+    ("a b", "Unexpected 2..3"),
+    ("a eq b and", "Unexpected 10..10"),
+    ("(a", "Unexpected 2..2"),
+    ("a)", "Unexpected 1..2"),
+    ("()", "Unexpected 1..2"),
+    ("(a)/b", "Unexpected 3..4"),
+    ("a//b", "Unexpected 2..3"),
+    ("a/1", "Unexpected 2..3"),
+    ("a/b(1)", "Unexpected 3..4"),
+    ("$it(1)", "Unexpected 3..4"),
+    ("true(1)", "Unexpected 4..5"),
+    ("true/a", "Unexpected 4..5"),
+    ("a/$count/b", "Unexpected 8..9"),
+    ("a/any()/b", "Unexpected 7..8"),
+    ("a/any(x)", "Unexpected 7..8"),
+    ("a/all()", "Unexpected 6..7"),
+    ("a/any(b.c:d)", "Unexpected 6..9"),
+    ("$top", "Unexpected 0..4"),
+    ("f(,a)", "Unexpected 2..3"),
+    ("f(a,)", "Unexpected 4..5"),
+    ("a in (1,)", "Unexpected 8..9"),
+    ("a in 1", "Unexpected 5..6"),
+    ("a in null", "Unexpected 5..9"),
+    ("a in f(1)", "Unexpected 6..7"),
+    ("a has - 1", "Unexpected 6..7"),
+    ("a has not b", "Unexpected 6..9"),
+];
+
 /// What stands where something else has to stand, or the end of the text with its white space.
 #[test]
 fn texts_without_a_tree(rt: HostRuntime) -> Result<(), Fail> {
-    for (text, wanted) in [
-        ("", "Unexpected 0..0"),
-        ("  ", "Unexpected 2..2"),
-        ("Name eq", "Unexpected 7..7"),
-        ("Name eq  ", "Unexpected 9..9"),
-        ("  NOT   ", "Unexpected 8..8"),
-        ("- ", "Unexpected 2..2"),
-        ("a b", "Unexpected 2..3"),
-        ("a eq b and", "Unexpected 10..10"),
-        ("(a", "Unexpected 2..2"),
-        ("a)", "Unexpected 1..2"),
-        ("()", "Unexpected 1..2"),
-        ("(a)/b", "Unexpected 3..4"),
-        ("a//b", "Unexpected 2..3"),
-        ("a/1", "Unexpected 2..3"),
-        ("a/b(1)", "Unexpected 3..4"),
-        ("$it(1)", "Unexpected 3..4"),
-        ("true(1)", "Unexpected 4..5"),
-        ("true/a", "Unexpected 4..5"),
-        ("a/$count/b", "Unexpected 8..9"),
-        ("a/any()/b", "Unexpected 7..8"),
-        ("a/any(x)", "Unexpected 7..8"),
-        ("a/all()", "Unexpected 6..7"),
-        ("a/any(b.c:d)", "Unexpected 6..9"),
-        ("$top", "Unexpected 0..4"),
-        ("f(,a)", "Unexpected 2..3"),
-        ("f(a,)", "Unexpected 4..5"),
-        ("a in (1,)", "Unexpected 8..9"),
-        ("a in 1", "Unexpected 5..6"),
-        ("a in null", "Unexpected 5..9"),
-        ("a in f(1)", "Unexpected 6..7"),
-        ("a has - 1", "Unexpected 6..7"),
-        ("a has not b", "Unexpected 6..9"),
-    ] {
+    for &(text, wanted) in WITHOUT_TREE {
         assert_eq!(rt; told_tree(rt.alloc(), text)?.as_str(), wanted, "{text}");
     }
     Ok(())

@@ -8,7 +8,7 @@ use std::test::Fail;
 
 /// The tokens of a filter; at each place between them whether those before it are an expression (`+`) or begin one
 /// (`-`); and at each place a token that may not stand there.
-const PLACES: [(&str, &str, &str); 17] = [
+const PLACES: &[(&str, &str, &str)] = &[
     ("null", "-+", ": ("),
     ("a.b'c'", "-+", ") /"),
     ("a eq b", "-+-+", ") b , )"),
@@ -36,35 +36,41 @@ fn unexpected(alloc: Global, text: &str) -> Result<Option<Span>, Fail> {
     }
 }
 
+/// Whether this is an expression (`+`), or its end is unexpected (`-`).
+fn ends_so(alloc: Global, text: &str, end: char) -> Result<bool, Fail> {
+    if end == '+' {
+        return Ok(parsed(alloc, text)?.is_ok());
+    }
+    let stop = text.len();
+    Ok(unexpected(alloc, text)? == Some(Span { start: stop, stop }))
+}
+
 /// A text and a token behind it.
 fn with_token(alloc: Global, front: &str, token: &str) -> Result<String, AllocError> {
     format!(in alloc; "{front}{token}")
 }
 
+/// Whether a token is unexpected behind this text.
+fn is_wrong(alloc: Global, front: &str, token: &str) -> Result<bool, Fail> {
+    let text = with_token(alloc, front, token)?;
+    let place = Span {
+        start: front.len(),
+        stop: text.len(),
+    };
+    Ok(unexpected(alloc, text.as_str())? == Some(place))
+}
+
 #[test]
 fn tokens_at_each_place(rt: HostRuntime) -> Result<(), Fail> {
-    for (text, ends, wrongs) in PLACES {
+    for &(text, ends, wrongs) in PLACES {
         let mut front = String::new(rt.alloc());
         let mut tokens = text.split_whitespace();
         assert_eq!(rt; wrongs.split_whitespace().count(), ends.len(), "{text}");
         for (end, wrong) in ends.chars().zip(wrongs.split_whitespace()) {
-            let start = front.len();
-            if end == '+' {
-                assert!(rt; parsed(rt.alloc(), front.as_str())?.is_ok(), "{front}");
-            } else {
-                let stop = start;
-                let wanted = Some(Span { start, stop });
-                assert!(rt;
-                    unexpected(rt.alloc(), front.as_str())? == wanted,
-                    "{front}"
-                );
-            }
-            let refused = with_token(rt.alloc(), front.as_str(), wrong)?;
-            let stop = refused.len();
-            let wanted = Some(Span { start, stop });
+            assert!(rt; ends_so(rt.alloc(), front.as_str(), end)?, "{front}");
             assert!(rt;
-                unexpected(rt.alloc(), refused.as_str())? == wanted,
-                "{refused}"
+                is_wrong(rt.alloc(), front.as_str(), wrong)?,
+                "{front}{wrong}"
             );
             front = with_token(rt.alloc(), front.as_str(), tokens.next().unwrap_or(""))?;
             front.push(' ')?;
