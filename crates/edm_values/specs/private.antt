@@ -1,2 +1,3 @@
 pub mod BetweenQuotes
 pub mod Clock
+pub mod Seconds

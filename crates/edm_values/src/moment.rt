@@ -1,11 +1,15 @@
 ghost use Rattle.std.specs.Prelude.{◌≡◌, IfSome, IsSome, ◌↔◌};
+ghost use Rattle.std.proofs.Common.{sym};
 ghost use Rattle.edm_values.specs.MomentParts.{MomentParts, IsMoment, IsFourDigitYear, IsOffset};
 ghost use Rattle.edm_values.specs.Instant.{instant};
+ghost use Rattle.edm_values.specs.private.Seconds.{IsTimed, instant_seconds};
 
 use jiff::civil::DateTime;
 use std::marker::Model;
 
-const NANOS_PER_MINUTE: i128 = 60_000_000_000;
+const SECONDS_PER_MINUTE: i64 = 60;
+
+const NANOS_PER_SECOND: i128 = 1_000_000_000;
 
 /// The years of a moment have four digits, and year 0 is none of them.
 const FIRST_YEAR: i16 = 1;
@@ -20,16 +24,33 @@ const MAX_OFFSET_MINUTES: i16 = 1439;
 pub struct Moment {
     civil: DateTime,
     offset_minutes: i16,
+    /// Whole seconds from 1970-01-01T00:00:00Z, the fraction left out: read once, for all comparisons.
+    seconds: i64,
 }
+
+/// A moment takes no more bytes than this, so that values take no more than their texts need.
+const MOMENT_LIMIT: usize = 24;
+
+const _: () = prove!(std::mem::size_of::<Moment>() <= MOMENT_LIMIT);
 
 impl Model for Moment {
     ghost Value = { MomentParts };
 
     ghost view = { λ m. record { civil = m.civil; offset_minutes = m.offset_minutes } };
 
-    ghost invariant = { λ m. IsMoment m.civil m.offset_minutes };
+    ghost invariant = { λ m. IsTimed m.civil m.offset_minutes m.seconds };
 
-    ghost inverse = { λ p. record { civil = p.civil; offset_minutes = p.offset_minutes } };
+    ghost inverse = { λ p. record {
+      civil = p.civil;
+      offset_minutes = p.offset_minutes;
+      seconds = instant_seconds p.civil p.offset_minutes;
+    } };
+
+    ghost inverse_ok = { λ m h i. record {
+      civil = m.civil;
+      offset_minutes = m.offset_minutes;
+      seconds = sym h.counted i;
+    } };
 }
 
 impl Moment {
@@ -44,9 +65,11 @@ impl Moment {
         if (FIRST_YEAR..=LAST_YEAR).contains(&year)
             && (-MAX_OFFSET_MINUTES..=MAX_OFFSET_MINUTES).contains(&offset_minutes)
         {
+            let on_clock = civil.to_plain().to_second();
             return Some(Moment {
                 civil,
                 offset_minutes,
+                seconds: on_clock - i64::from(offset_minutes) * SECONDS_PER_MINUTE,
             });
         }
         None
@@ -72,7 +95,6 @@ impl Moment {
     pub fn instant_nanos(&self) -> i128
         ensures { result ≡ instant self.now }
     {
-        let on_clock = self.civil.to_plain().to_nanosecond();
-        on_clock - i128::from(self.offset_minutes) * NANOS_PER_MINUTE
+        i128::from(self.seconds) * NANOS_PER_SECOND + i128::from(self.civil.subsec_nanosecond())
     }
 }
