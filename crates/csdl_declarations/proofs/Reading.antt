@@ -11,7 +11,7 @@ use Rattle.std.proofs.lemmas.Cmp.{nat_list_cmp_total}
 use Rattle.std.proofs.lemmas.Slice.Eq.{bytes_eq-Decides}
 use Rattle.std.proofs.lemmas.Map.Text.{is_eq-slice_cmp}
 use Rattle.std.proofs.lemmas.Map.Lookups.{exact_bytes}
-use Rattle.serde_json.specs.Data.{Data, Members}
+use Rattle.serde_json.specs.Data.{Data, Members, member}
 use Rattle.serde_json.specs.View.{members_view}
 use Rattle.serde_json.proofs.Views.{Entry}
 use Rattle.csdl_declarations.specs.declared.declaration.Declaration.{Declaration}
@@ -48,6 +48,12 @@ pub declared_in_order : (es : List Entry) → IsStrictlySortedBy string_cmp (key
 unfolding IsStrictlySortedBy
 declared_in_order [] h = tt
 declared_in_order (e ∷ es) h = declared_first (is_read_over (string_bytes e.0)) _ _ _ (below_declared (string_bytes e.0) es h.0) (declared_in_order es h.1)
+
+-- a member whose name is not read over is declared before the others
+pub declared_kept : (name k : List ℕ) (d : Data) (ms : Members) → name ≡ k → is_read_over name ≡ false → declared_among (member k d ms) ≡ (name, d) ∷ declared_among ms
+declared_kept name k d ms same kept =
+    ap (λ b. if b then declared_among ms else ((k, d) ∷ declared_among ms)) (ap is_read_over (sym same) ∙ kept)
+    ∙ ap (λ n. (n, d) ∷ declared_among ms) (sym same)
 
 -- ---- faults
 

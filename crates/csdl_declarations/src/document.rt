@@ -45,7 +45,7 @@ pub fn declared_types<'d>(
         return Err(SchemaFault::TooLarge);
     }
     let ordered = in_name_order(alloc, &declarations)?;
-    Ok(read_types(alloc, &ordered)?)
+    Ok(read_types(alloc, ordered)?)
 }
 
 /// How many of the declarations say that they are of one of the four kinds.

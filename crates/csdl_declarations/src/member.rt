@@ -1,5 +1,5 @@
 //! Members of the document's objects, and what they are by themselves.
-ghost use Rattle.std.specs.Prelude.{◌≡◌, IfOk, OnOk, option_map};
+ghost use Rattle.std.specs.Prelude.{◌≡◌, IfOk, OnOk, length, option_map};
 ghost use Rattle.serde_json.specs.Find.{get};
 ghost use Rattle.serde_json.specs.View.{view, members_view};
 ghost use Rattle.csdl_declarations.specs.Members.{declared_in, declared_among, text_at, is_text, is_text_if_given, is_truth_if_given, is_true_at};
@@ -37,7 +37,7 @@ fn declared_among<'d>(
     ensures members { IfOk result (λ ms. members_of ms.items ≡ declared_among (members_view members.now.entries)) }
     ensures ordered { OnOk result (AreNamesInOrder (declared_among (members_view members.now.entries))) }
 {
-    let mut found = Vec::with_capacity(alloc, members.len())?;
+    let mut found = Vec::with_capacity(alloc, count_declared(members))?;
     for (key, value) in members.iter() {
         let name = key.as_str();
         if !is_read_over(name) {
@@ -45,6 +45,19 @@ fn declared_among<'d>(
         }
     }
     Ok(found)
+}
+
+/// How many members declare something.
+pub(crate) fn count_declared(members: &Map<String, Value>) -> usize
+    ensures { result ≡ length (declared_among (members_view members.now.entries)) }
+{
+    let mut count = 0;
+    for (key, _) in members.iter() {
+        if !is_read_over(key.as_str()) {
+            count += 1;
+        }
+    }
+    count
 }
 
 /// The text of that member, if it is there and a text.

@@ -1,19 +1,21 @@
 //! Enumerations as they are declared (CSDL JSON 4.01, section 10).
 ghost use Rattle.std.specs.Prelude.{◌≡◌, codes, IfSome, map};
 ghost use Rattle.std.specs.List.{flat_map};
-ghost use Rattle.serde_json.specs.View.{view};
+ghost use Rattle.serde_json.specs.View.{view, members_view};
 ghost use Rattle.edm_values.specs.NumberTypes.{IsNumberType, IsNumberOf};
 ghost use Rattle.csdl_declarations.specs.EnumerationDeclaration.{declared_enumeration, declared_member, enumeration_faults, member_faults, member_number, number_of, number_type_named, underlying_at};
 ghost use Rattle.csdl_declarations.specs.FaultView.{Reads};
-ghost use Rattle.csdl_declarations.specs.private.DocumentView.{member_view, members_of, AreNamesInOrder};
+ghost use Rattle.csdl_declarations.specs.Members.{declared_among};
+ghost use Rattle.csdl_declarations.specs.private.DocumentView.{member_view};
 
 use super::fault::SchemaFault;
-use super::member::{Member, declared_members, is_true_at, is_truth_if_given};
+use super::member::{Member, count_declared, is_true_at, is_truth_if_given};
+use super::names::is_read_over;
 use super::refusals::{bad_enum_member, bad_type};
 use edm_enumerations::Enumeration;
 use edm_values::Prim;
 use odata_text::is_identifier;
-use serde_json::Value;
+use serde_json::{Map, Value};
 use std::alloc::Global;
 
 fn number_type_named(name: &str) -> Option<Prim>
@@ -78,29 +80,33 @@ fn member_number(underlying: Prim, member: Member<'_>) -> Option<i64>
     }
 }
 
-/// The enumeration of these members, or `BadEnumMember` of the first that is none.
+/// The enumeration of the members that declare something, or `BadEnumMember` of the first that is none.
 fn read_members(
     alloc: Global,
     owner: &str,
     underlying: Prim,
     is_flags: bool,
-    members: &[Member<'_>],
+    members: &Map<String, Value>,
 ) -> Result<Enumeration, SchemaFault>
-    requires number { IsNumberType underlying }
-    requires ordered { AreNamesInOrder (members_of members.now) }
-    ensures { Reads result (flat_map (member_faults owner.now underlying) (members_of members.now))
+    requires { IsNumberType underlying }
+    ensures { Reads result
+        (flat_map (member_faults owner.now underlying) (declared_among (members_view members.now.entries)))
         (λ e. e ≡ record {
           underlying = underlying;
           is_flags = is_flags;
-          members = map (declared_member underlying) (members_of members.now);
+          members = map (declared_member underlying) (declared_among (members_view members.now.entries));
         }) }
 {
-    let mut enumeration = Enumeration::with_capacity(alloc, underlying, is_flags, members.len())?;
-    for member in members {
-        let Some(number) = member_number(underlying, *member) else {
-            return Err(bad_enum_member(alloc, owner, member.name));
-        };
-        enumeration.add_member(member.name.to_owned(alloc)?, number)?;
+    let declared = count_declared(members);
+    let mut enumeration = Enumeration::with_capacity(alloc, underlying, is_flags, declared)?;
+    for (key, value) in members.iter() {
+        let name = key.as_str();
+        if !is_read_over(name) {
+            let Some(number) = member_number(underlying, Member { name, value }) else {
+                return Err(bad_enum_member(alloc, owner, name));
+            };
+            enumeration.add_member(name.to_owned(alloc)?, number)?;
+        }
     }
     Ok(enumeration)
 }
@@ -119,9 +125,11 @@ pub(crate) fn read_enumeration(
             if !is_truth_if_given(value, "$IsFlags") {
                 return Err(bad_type(alloc, owner));
             }
-            let members = declared_members(alloc, value)?;
             let is_flags = is_true_at(value, "$IsFlags");
-            read_members(alloc, owner, underlying, is_flags, &members)
+            match value.as_object() {
+                Some(members) => read_members(alloc, owner, underlying, is_flags, members),
+                None => Ok(Enumeration::new(alloc, underlying, is_flags)),
+            }
         }
         None => Err(bad_type(alloc, owner)),
     }

@@ -82,7 +82,7 @@ pub(crate) fn read_properties<'d>(
     ensures { Reads result (flat_map (property_faults owner.now) (members_of members.now))
         (λ read. map property_view read.items ≡ map declared_property (members_of members.now)) }
 {
-    let mut properties = Vec::new(alloc);
+    let mut properties = Vec::with_capacity(alloc, members.len())?;
     for member in members {
         if !is_property(*member) {
             return Err(bad_property(alloc, owner, member.name));

@@ -1,5 +1,5 @@
 //! Types in the byte order of their names, each read by itself (CSDL JSON 4.01, sections 6 and 9 to 11).
-ghost use Rattle.std.specs.Prelude.{◌≡◌, map, IfOk, IfErr};
+ghost use Rattle.std.specs.Prelude.{◌≡◌, map, IfOk, IfErr, string_bytes};
 ghost use Rattle.std.specs.List.{AllByRecursion, flat_map};
 ghost use Rattle.serde_json.specs.View.{view};
 ghost use Rattle.csdl_declarations.specs.Declarations.{full_name, in_name_order};
@@ -100,20 +100,20 @@ fn read_body<'d>(alloc: Global, owner: &str, value: &'d Value) -> Result<TypeBod
 /// A type with its names, or the first fault in its shape or among its members.
 fn read_type<'d>(
     alloc: Global,
-    name: &str,
+    name: String,
     declaration: &Declaration<'d>,
 ) -> Result<DeclaredType<'d>, SchemaFault>
-    requires { name.now ≡ full_name (declaration_view declaration.now) }
+    requires { string_bytes name ≡ full_name (declaration_view declaration.now) }
     ensures read { Reads result (type_faults (declaration_view declaration.now))
         (λ t. type_view t ≡ declared_type (declaration_view declaration.now)) }
     ensures ordered { IfOk result (λ t. IsBodyInOrder (type_view t).body) }
 {
     if !is_identifier(declaration.name) {
-        return Err(bad_type(alloc, name));
+        return Err(bad_type(alloc, name.as_str()));
     }
-    let body = read_body(alloc, name, declaration.body)?;
+    let body = read_body(alloc, name.as_str(), declaration.body)?;
     Ok(DeclaredType {
-        name: name.to_owned(alloc)?,
+        name,
         alias_name: declaration.full_alias_name(alloc)?,
         body,
     })
@@ -122,16 +122,16 @@ fn read_type<'d>(
 /// Each type by itself, in the order of names.
 pub(crate) fn read_types<'d>(
     alloc: Global,
-    ordered: &BTreeMap<String, Declaration<'d>>,
+    ordered: BTreeMap<String, Declaration<'d>>,
 ) -> Result<Vec<DeclaredType<'d>>, SchemaFault>
-    requires { AreNamed ordered.now.entries }
-    ensures read { Reads result (flat_map type_faults (types_of ordered.now.entries))
-        (λ ts. types_view ts.items ≡ map declared_type (types_of ordered.now.entries)) }
+    requires { AreNamed ordered.entries }
+    ensures read { Reads result (flat_map type_faults (types_of ordered.entry.entries))
+        (λ ts. types_view ts.items ≡ map declared_type (types_of ordered.entry.entries)) }
     ensures ordered { IfOk result (λ ts. AllByRecursion (λ t. IsBodyInOrder t.body) (types_view ts.items)) }
 {
-    let mut types = Vec::new(alloc);
-    for (name, declaration) in ordered.iter() {
-        types.push(read_type(alloc, name.as_str(), declaration)?)?;
+    let mut types = Vec::with_capacity(alloc, ordered.len())?;
+    for (name, declaration) in ordered {
+        types.push(read_type(alloc, name, &declaration)?)?;
     }
     Ok(types)
 }

@@ -120,7 +120,7 @@ pub(crate) fn check_types(
         (λ chains. chains.items ≡ chains_from (placed_of types.now) 0 (placed_of types.now)) }
 {
     let firsts = first_names_again(alloc, types)?;
-    let mut chains = Vec::new(alloc);
+    let mut chains = Vec::with_capacity(alloc, types.len())?;
     for index in 0..types.len() {
         chains.push(check_type(alloc, types, &firsts, bases[index], &types[index], index)?)?;
     }

@@ -79,7 +79,7 @@ pub(crate) fn place_types(
     ensures placed { IfOk result (λ ts. placed_of ts.items
         ≡ types_with kinds.now (get_by_text index_by_name.now) bases.now (declaration.types_view types.entry.items)) }
 {
-    let mut placed = Vec::new(alloc);
+    let mut placed = Vec::with_capacity(alloc, types.len())?;
     let mut index = 0;
     for declared in types {
         let base = bases[index].index;

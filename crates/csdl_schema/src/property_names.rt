@@ -87,7 +87,7 @@ pub(crate) fn first_names_again(
     ensures firsts { IfOk result (λ os. map (option_map (λ s. s.now)) os.items
         ≡ firsts_from (placed_of types.now) 0 (placed_of types.now)) }
 {
-    let mut firsts = Vec::new(alloc);
+    let mut firsts = Vec::with_capacity(alloc, types.len())?;
     for index in 0..types.len() {
         firsts.push(first_again(alloc, types, index)?)?;
     }

@@ -93,7 +93,7 @@ pub(crate) fn find_bases(
     ensures bases { IfOk result (λ bs. bs.items
         ≡ map (λ t. found_base (types_view types.now) (get_by_text index_by_name.now) t.body) (types_view types.now)) }
 {
-    let mut bases = Vec::new(alloc);
+    let mut bases = Vec::with_capacity(alloc, types.len())?;
     for declared in types {
         bases.push(base_of(types, index_by_name, &declared.body))?;
     }

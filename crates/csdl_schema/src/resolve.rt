@@ -49,7 +49,7 @@ pub(crate) fn place_kinds(
     ensures refused { IfErr result (λ e. e ≡ SchemaFault.Memory) }
     ensures kinds { IfOk result (λ ks. ks.items ≡ kinds_from 0 (types_view types.now)) }
 {
-    let mut kinds = Vec::new(alloc);
+    let mut kinds = Vec::with_capacity(alloc, types.len())?;
     for index in 0..types.len() {
         kinds.push(place_kind(index, &types[index].body))?;
     }
@@ -108,7 +108,7 @@ pub(crate) fn resolve_properties(
     ensures resolved { IfOk result (λ m. map entry_view m.entries
         ≡ map (placed_property kinds.now (get_by_text index_by_name.now)) (map property_view declared.now)) }
 {
-    let mut properties = IndexMap::new(alloc);
+    let mut properties = IndexMap::with_capacity(alloc, declared.len())?;
     for property in declared {
         let name = property.name.to_owned(alloc)?;
         properties.insert(name, property_of(kinds, index_by_name, property))?;

@@ -18,7 +18,7 @@ pub(crate) fn index_types(
     ensures refused { IfErr result (λ e. e ≡ SchemaFault.Memory) }
     ensures indexed { IfOk result (λ m. IsIndexOf (types_view types.now) (get_by_text m)) }
 {
-    let mut index_by_name = IndexMap::new(alloc);
+    let mut index_by_name = IndexMap::with_capacity(alloc, types.len())?;
     let mut index = types.len();
     while index > 0 {
         index -= 1;

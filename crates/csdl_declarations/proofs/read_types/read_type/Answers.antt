@@ -14,4 +14,4 @@ returns-then-not-is_identifier-clause-read c =
     let e = c.bad_type.result in
     let P : List ℕ → Type 0 = λ name. TellsFault e (bad_type name) in
     first_of_more (fault_of e) _ (body_faults (full_name t) t.body)
-    (unless_first (is_identifier (chars t.name)) _ _ (sym c.is_identifier.ensures ∙ c.if-not-is_identifier.true) (subst P c.requires c.bad_type.ensures))
+    (unless_first (is_identifier (chars t.name)) _ _ (sym c.is_identifier.ensures ∙ c.if-not-is_identifier.true) (subst P (c.as_str.ensures.value ∙ c.requires) c.bad_type.ensures))

@@ -10,6 +10,6 @@ use Rattle.csdl_declarations.proofs.read_types.read_types.Given as goal
 abbrev pub invariant-loop-name : goal.invariant-loop-name
 invariant-loop-name l =
     AreNamed l.name-iterator
-    × (flat_map type_faults (types_of l.name-iterator) ≡ flat_map type_faults (types_of l.ordered.entries))
-    × (types_view l.types.items ++ map declared_type (types_of l.name-iterator) ≡ map declared_type (types_of l.ordered.entries))
+    × (flat_map type_faults (types_of l.name-iterator) ≡ flat_map type_faults (types_of l.fn.ordered.entries))
+    × (types_view l.types.items ++ map declared_type (types_of l.name-iterator) ≡ map declared_type (types_of l.fn.ordered.entries))
     × AllByRecursion (λ t. IsBodyInOrder t.body) (types_view l.types.items)
