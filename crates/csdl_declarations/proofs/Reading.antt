@@ -1,5 +1,5 @@
 -- Laws of the reading of documents, over lists alone.
-use Rattle.std.proofs.Common.{◌≡◌, ◌≢◌, ℕ, suc, ◌+◌, ◌<◌, List, [], ◌∷◌, ◌++◌, length, get_or, map, drop, String, Global, Option, Some, None, IfSome, Ordering, Less, Equal, Greater, Bool, true, false, cond, nat_eq, is_eq, refl, sym, ap, subst, ◌∙◌, string_bytes, add-one, string_cmp, codes, not, nat_lt, if◌then◌else◌}
+use Rattle.std.proofs.Common.{◌≡◌, ◌≢◌, ℕ, suc, ◌+◌, ◌<◌, List, [], ◌∷◌, ◌++◌, length, get_or, map, drop, Bor, String, Global, Option, Some, None, IfSome, Ordering, Less, Equal, Greater, Bool, true, false, cond, nat_eq, is_eq, refl, sym, ap, subst, ◌∙◌, string_bytes, add-one, string_cmp, codes, not, nat_lt, if◌then◌else◌}
 use Rattle.std.proofs.Math.Seq.{drop-cons}
 use Rattle.std.specs.Ordering.{nat_cmp, ordering_reverse, match_ordering}
 use Rattle.std.specs.List.{AllByRecursion, flat_map}
@@ -151,20 +151,20 @@ each_pushed P (y ∷ ys) x all last = (all.0, each_pushed P ys x all.1 last)
 -- ---- types by name
 
 abbrev pub Named : Type 0
-Named = String Global × Declaration
+Named = String Global × Bor Declaration
 
-abbrev pub insert_type : List Named → String Global → Declaration → List Named
+abbrev pub insert_type : List Named → String Global → Bor Declaration → List Named
 insert_type = tree.insert_entry string_cmp
 
-put_at : (o : Ordering) (e : Named) (es : List Named) (k : String Global) (v : Declaration) → slice_cmp nat_cmp (string_bytes k) (string_bytes e.0) ≡ o
-    → string_bytes k ≡ full_name (declaration_view v) → AreNamed (e ∷ es) → AreNamed (insert_type es k v)
+put_at : (o : Ordering) (e : Named) (es : List Named) (k : String Global) (v : Bor Declaration) → slice_cmp nat_cmp (string_bytes k) (string_bytes e.0) ≡ o
+    → string_bytes k ≡ full_name (declaration_view v.now) → AreNamed (e ∷ es) → AreNamed (insert_type es k v)
     → AreNamed (match_ordering o ((k, v) ∷ e ∷ es) ((e.0, v) ∷ es) (e ∷ insert_type es k v))
 put_at Less e es k v is named all later = (named, all)
 put_at Equal e es k v is named all later = (sym (exact_bytes (string_bytes k) (string_bytes e.0) is) ∙ named, all.1)
 put_at Greater e es k v is named all later = (all.0, later)
 
 -- an inserted declaration is kept by its whole name
-pub named_put : (es : List Named) (k : String Global) (v : Declaration) → string_bytes k ≡ full_name (declaration_view v) → AreNamed es → AreNamed (insert_type es k v)
+pub named_put : (es : List Named) (k : String Global) (v : Bor Declaration) → string_bytes k ≡ full_name (declaration_view v.now) → AreNamed es → AreNamed (insert_type es k v)
 named_put [] k v named all = (named, tt)
 named_put (e ∷ es) k v named all = put_at _ e es k v refl named all (named_put es k v named all.1)
 
@@ -174,13 +174,13 @@ types_match Equal a b c = refl
 types_match Greater a b c = refl
 
 -- an insertion is that of the definitions
-pub types_put : (es : List Named) (k : String Global) (v : Declaration) → string_bytes k ≡ full_name (declaration_view v) → AreNamed es
-    → types_of (insert_type es k v) ≡ put_type (declaration_view v) (types_of es)
+pub types_put : (es : List Named) (k : String Global) (v : Bor Declaration) → string_bytes k ≡ full_name (declaration_view v.now) → AreNamed es
+    → types_of (insert_type es k v) ≡ put_type (declaration_view v.now) (types_of es)
 types_put [] k v named all = refl
 types_put (e ∷ es) k v named all =
     types_match (slice_cmp nat_cmp (string_bytes k) (string_bytes e.0)) _ _ _
-    ∙ ap (λ rest. match_ordering (slice_cmp nat_cmp (string_bytes k) (string_bytes e.0)) (declaration_view v ∷ types_of (e ∷ es)) (declaration_view v ∷ types_of es) (declaration_view e.1 ∷ rest)) (types_put es k v named all.1)
-    ∙ (λ j. match_ordering (slice_cmp nat_cmp (named j) (all.0 j)) (declaration_view v ∷ types_of (e ∷ es)) (declaration_view v ∷ types_of es) (declaration_view e.1 ∷ put_type (declaration_view v) (types_of es)))
+    ∙ ap (λ rest. match_ordering (slice_cmp nat_cmp (string_bytes k) (string_bytes e.0)) (declaration_view v.now ∷ types_of (e ∷ es)) (declaration_view v.now ∷ types_of es) (declaration_view e.1.now ∷ rest)) (types_put es k v named all.1)
+    ∙ (λ j. match_ordering (slice_cmp nat_cmp (named j) (all.0 j)) (declaration_view v.now ∷ types_of (e ∷ es)) (declaration_view v.now ∷ types_of es) (declaration_view e.1.now ∷ put_type (declaration_view v.now) (types_of es)))
 
 -- ---- a document's faults, stage by stage
 

@@ -23,10 +23,10 @@ use std::alloc::Global;
 use std::collections::BTreeMap;
 
 /// The declarations in the byte order of whole names; of equal names the first stands.
-pub(crate) fn in_name_order<'d>(
+pub(crate) fn in_name_order<'t, 'd>(
     alloc: Global,
-    declarations: &[Declaration<'d>],
-) -> Result<BTreeMap<String, Declaration<'d>>, SchemaFault>
+    declarations: &'t [Declaration<'d>],
+) -> Result<BTreeMap<String, &'t Declaration<'d>>, SchemaFault>
     ensures refused { IfErr result (λ e. e ≡ SchemaFault.Memory) }
     ensures named { IfOk result (λ m. AreNamed m.entries) }
     ensures types { IfOk result (λ m. types_of m.entries ≡ in_name_order (declarations_of declarations.now)) }
@@ -35,7 +35,7 @@ pub(crate) fn in_name_order<'d>(
     let mut index = declarations.len();
     while index > 0 {
         index -= 1;
-        let declaration = declarations[index];
+        let declaration = &declarations[index];
         let name = declaration.full_name(alloc)?;
         ordered.insert(name, declaration)?;
     }
@@ -122,7 +122,7 @@ fn read_type<'d>(
 /// Each type by itself, in the order of names.
 pub(crate) fn read_types<'d>(
     alloc: Global,
-    ordered: BTreeMap<String, Declaration<'d>>,
+    ordered: BTreeMap<String, &Declaration<'d>>,
 ) -> Result<Vec<DeclaredType<'d>>, SchemaFault>
     requires { AreNamed ordered.entries }
     ensures read { Reads result (flat_map type_faults (types_of ordered.entry.entries))
@@ -131,7 +131,7 @@ pub(crate) fn read_types<'d>(
 {
     let mut types = Vec::with_capacity(alloc, ordered.len())?;
     for (name, declaration) in ordered {
-        types.push(read_type(alloc, name, &declaration)?)?;
+        types.push(read_type(alloc, name, declaration)?)?;
     }
     Ok(types)
 }

@@ -1,5 +1,6 @@
 -- The parts of a document that the code holds, as the definitions say them; for private clauses.
 use Rattle.std.specs.Prelude.{◌≡◌, ℕ, zero, suc, List, Bool, true, false, Option, Some, None, map, option_map, String, string_bytes}
+use Rattle.std.specs.Borrow.{Bor}
 use Rattle.std.specs.declared.alloc.Global.{Global}
 use Rattle.std.specs.Ordering.{nat_cmp}
 use Rattle.std.specs.Cmp.Lexicographic.{slice_cmp}
@@ -33,11 +34,11 @@ abbrev pub declarations_of : List Declaration → List TypeDeclaration
 declarations_of ts = map declaration_view ts
 
 -- declarations kept by their whole names
-abbrev pub types_of : List (String Global × Declaration) → List TypeDeclaration
-types_of es = map (λ e. declaration_view e.1) es
+abbrev pub types_of : List (String Global × Bor Declaration) → List TypeDeclaration
+types_of es = map (λ e. declaration_view e.1.now) es
 
-abbrev pub AreNamed : List (String Global × Declaration) → Type 0
-AreNamed es = AllByRecursion (λ e. string_bytes e.0 ≡ full_name (declaration_view e.1)) es
+abbrev pub AreNamed : List (String Global × Bor Declaration) → Type 0
+AreNamed es = AllByRecursion (λ e. string_bytes e.0 ≡ full_name (declaration_view e.1.now)) es
 
 -- of an alias that so many schemas have, whether there is more than one; nothing where there is none
 abbrev pub is_shared_count : ℕ → Option Bool

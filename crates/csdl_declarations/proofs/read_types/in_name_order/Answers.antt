@@ -16,11 +16,11 @@ loop-index-preserved c =
     let step : drop (p - 1) ds ≡ t ∷ drop p ds = at_index ds (p - 1) t within c.index-declarations-index.is ∙ ap (λ n. t ∷ drop n ds) past in
     record {
       within = omega (arith, c.loop-index.invariant.within);
-      named = subst AreNamed (sym c.in_ok-insert.ensures.entries) (named_put es k t c.in_ok-name.ensures c.loop-index.invariant.named);
+      named = subst AreNamed (sym c.in_ok-insert.ensures.entries) (named_put es k _ c.in_ok-name.ensures c.loop-index.invariant.named);
       ordered = c.in_ok-insert.ensures.ordered;
       types =
           ap types_of c.in_ok-insert.ensures.entries
-          ∙ types_put es k t c.in_ok-name.ensures c.loop-index.invariant.named
+          ∙ types_put es k _ c.in_ok-name.ensures c.loop-index.invariant.named
           ∙ ap (put_type (declaration_view t)) c.loop-index.invariant.types
           ∙ ap (λ rest. in_name_order (declarations_of rest)) (sym step);
     }
