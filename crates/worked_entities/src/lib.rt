@@ -9,6 +9,8 @@ mod kinds;
 #[cfg(test)]
 mod products;
 #[cfg(test)]
+mod refused;
+#[cfg(test)]
 mod shapes;
 #[cfg(test)]
 mod shop;
