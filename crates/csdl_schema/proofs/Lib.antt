@@ -6,6 +6,7 @@ pub mod Kept
 pub mod Joined
 pub mod LookUps
 pub mod SlotSteps
+pub mod Pieces
 pub mod Walks
 pub mod DeclaredSlots
 pub mod SchemaLaws

@@ -11,7 +11,7 @@ use Rattle.csdl_schema.specs.SchemaModel.{PropertyModel, SchemaModel, properties
 use Rattle.csdl_schema.specs.BaseFaults.{property_limit}
 use Rattle.csdl_schema.specs.private.Placed.{PlacedType, PlacedBody, placed_structured, placed_enumeration, placed_definition, placed_base, placed_own, own_of, base_at, own_at}
 use Rattle.csdl_schema.specs.private.SchemaView.{chain_in, model_of, names_of, property_model, inherited_properties, IsBaseBelow, IsChainedBody, AreChained}
-use Rattle.csdl_schema.specs.private.SlotWalk.{earlier, own_slot_in, structured_body, structured_in}
+use Rattle.csdl_schema.specs.private.SlotWalk.{earlier, own_slot_in, structured_body, structured_in, BeginsWith}
 use Rattle.csdl_schema.proofs.Placing.{length-map, position-map}
 
 -- how far up a chain may still go
@@ -178,7 +178,7 @@ module _ (types : List PlacedType) (chains : List Chain) (h : AreChained types c
 
   -- a slot below those of a type's own is one of its base
   pub record IsOfBase (n slot base : ℕ) : Type 0 where
-    pub same : slice_get (properties_at M base) slot ≡ slice_get (properties_at M n) slot
+    pub front : BeginsWith (properties_at M n) (properties_at M base)
     pub within : slot < length (properties_at M base)
     pub below : (chain_in chains base).bases < (chain_in chains n).bases
 
@@ -191,7 +191,7 @@ module _ (types : List PlacedType) (chains : List Chain) (h : AreChained types c
           let within : slot < length (properties_at M base) = omega (arith, inherits, many) in
           let whole : properties_at M n ≡ properties_at M base ++ own_models n = joined n ∙ ap (λ o. inherited_properties M o ++ own_models n) is in
           record {
-            same = sym (ap (λ ps. slice_get ps slot) whole ∙ in_front (properties_at M base) (own_models n) slot within);
+            front = (own_models n, whole);
             within = within;
             below = subst (λ o. IsBaseBelow chains n o) is heir.below;
           }

@@ -1,5 +1,5 @@
 -- A property of the code, as the model says it.
-use Rattle.std.specs.Prelude.{◌≡◌, ℕ, List, Bool, Some}
+use Rattle.std.specs.Prelude.{◌≡◌, ℕ, [], ◌∷◌, List, Bool, Some}
 use Rattle.csdl_schema.specs.declared.property.Property.{Property}
 use Rattle.csdl_schema.specs.declared.property.PropertyKind.{PropertyKind}
 use Rattle.csdl_schema.specs.declared.property.PropertyKind.TheVariants.{Prim, Enum, Complex, Opaque, Navigation}
@@ -33,3 +33,9 @@ pub record IsReadAs (schema : SchemaModel) (declaration : PropertyModel) (p : Pr
   pub there : PointsWithin schema p.kind
   pub many : p.many ≡ declaration.many
   pub nullable : p.nullable ≡ declaration.nullable
+
+-- these names with properties of the code are the first of the declared ones, in their order
+abbrev pub AreFirstOf : SchemaModel → List PropertyModel → List (List ℕ × Property) → Type 0
+AreFirstOf schema declarations [] = Unit {0}
+AreFirstOf schema [] (e ∷ es) = ⊥
+AreFirstOf schema (p ∷ ps) (e ∷ es) = (p.name ≡ e.0) × IsReadAs schema p e.1 × AreFirstOf schema ps es

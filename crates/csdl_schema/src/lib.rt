@@ -10,6 +10,7 @@ mod place_types;
 mod primitive_name;
 mod property;
 mod property_names;
+mod property_piece;
 mod read;
 mod read_bases;
 mod refusals;
@@ -23,4 +24,5 @@ pub use csdl_declarations::{SchemaFault, declared_in_order, numbers_of_their_typ
 pub use ids::{EnumId, TypeId};
 pub use laws::{bases_end, names_as_declared, one_answer, slots_as_declared, worked_documents};
 pub use property::{Property, PropertyKind};
+pub use property_piece::PropertyPiece;
 pub use schema::Schema;

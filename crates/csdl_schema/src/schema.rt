@@ -1,13 +1,14 @@
-ghost use Rattle.std.specs.Prelude.{ℤ, ◌≡◌, ◌<◌, ◌↔◌, length, map, slice_get, Some, IsTrue, IfSome, option_map};
+ghost use Rattle.std.specs.Prelude.{ℤ, ◌≡◌, ◌<◌, ◌↔◌, drop, length, map, slice_get, Some, IsTrue, IfSome, option_map};
 ghost use Rattle.csdl_schema.specs.SchemaModel.{enumeration_at, enumeration_named, index_named, is_enumeration, is_structured, name_of_kind, properties_at, slot_named, AreSlotsInOrder, HasDistinctNames, HoldsType, IsEntityAt, IsEnumerationByName, IsOneByName};
-ghost use Rattle.csdl_schema.specs.PropertyView.{IsReadAs};
+ghost use Rattle.csdl_schema.specs.PropertyView.{AreFirstOf, IsReadAs};
 ghost use Rattle.csdl_schema.specs.EnumerationText.{IsValueIn, IsWithin};
 
 use super::chain::Chain;
 use super::ids::{EnumId, TypeId};
 use super::named_type::NamedType;
 use super::property::Property;
-use super::slots::{count_slots, entry_at, find_slot};
+use super::property_piece::PropertyPiece;
+use super::slots::{count_slots, entries_from, entry_at, find_slot};
 use super::type_at::{
     enumeration_at, enumeration_name, is_entity_at, is_enumeration_at, is_structured_at,
     structured_name,
@@ -145,5 +146,14 @@ impl Schema {
     {
         let (_, property) = entry_at(&self.types, &self.chains, id.index(), slot);
         property
+    }
+
+    /// The properties at the slots from one on, as far as one type of the chain has them itself; none past the last
+    /// slot. Piece after piece from slot 0 they are those of the whole type, and nothing is copied.
+    pub fn properties_from(&self, id: TypeId, slot: usize) -> PropertyPiece<'_>
+        ensures first { AreFirstOf self.now (drop slot (properties_at self.now id)) result }
+        ensures some { slot < length (properties_at self.now id) → 0 < length result }
+    {
+        PropertyPiece::from_entries(entries_from(&self.types, &self.chains, id.index(), slot))
     }
 }

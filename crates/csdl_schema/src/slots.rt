@@ -1,14 +1,16 @@
 //! The slots of types: those of the base first, then the own ones.
-ghost use Rattle.std.specs.Prelude.{◌≡◌, ◌<◌, ◌≤◌, length, option_map, slice_get, Some, string_bytes};
-ghost use Rattle.csdl_schema.specs.PropertyView.{PointsWithin};
+ghost use Rattle.std.specs.Prelude.{◌≡◌, ◌<◌, ◌≤◌, drop, length, map, option_map, slice_get, Some, string_bytes};
+ghost use Rattle.csdl_schema.specs.PropertyView.{AreFirstOf, PointsWithin};
 ghost use Rattle.csdl_schema.specs.SchemaModel.{name_in, properties_at, slot_named};
+ghost use Rattle.csdl_schema.specs.private.Placed.{entry_view};
 ghost use Rattle.csdl_schema.specs.private.PlacedView.{placed_of, structured_view};
 ghost use Rattle.csdl_schema.specs.private.SchemaView.{chain_in, model_of, names_of, property_model, AreChained};
-ghost use Rattle.csdl_schema.specs.private.SlotWalk.{earlier, own_slot_in, structured_in};
+ghost use Rattle.csdl_schema.specs.private.SlotWalk.{earlier, own_slot_in, structured_in, BeginsWith};
 
 use super::chain::{Chain, base_at};
 use super::named_type::{NamedBody, NamedType, StructuredType};
 use super::property::Property;
+use indexmap::map::Slice;
 
 fn structured_at(types: &[NamedType], index: usize) -> Option<&StructuredType>
     ensures { option_map (λ s. structured_view s.now) result ≡ structured_in (placed_of types.now) index }
@@ -89,8 +91,8 @@ pub(crate) fn find_slot(
 fn owner_of(types: &[NamedType], chains: &[Chain], index: usize, slot: usize) -> usize
     requires chained { AreChained (placed_of types.now) chains.now }
     requires within { slot < length (properties_at (model_of (placed_of types.now)) index) }
-    ensures same { slice_get (properties_at (model_of (placed_of types.now)) result) slot
-        ≡ slice_get (properties_at (model_of (placed_of types.now)) index) slot }
+    ensures front { BeginsWith (properties_at (model_of (placed_of types.now)) index)
+        (properties_at (model_of (placed_of types.now)) result) }
     ensures own { (chain_in chains.now result).inherited ≤ slot }
     ensures within { slot < length (properties_at (model_of (placed_of types.now)) result) }
 {
@@ -126,6 +128,35 @@ pub(crate) fn entry_at<'t>(
             Some(entry) => entry,
             None => unreachable!(),
         },
+        None => unreachable!(),
+    }
+}
+
+/// The properties at the slots from one on, as far as one type of the chain has them itself.
+pub(crate) fn entries_from<'t>(
+    types: &'t [NamedType],
+    chains: &[Chain],
+    index: usize,
+    slot: usize,
+) -> Slice<'t, String, Property>
+    requires chained { AreChained (placed_of types.now) chains.now }
+    ensures first { AreFirstOf (model_of (placed_of types.now))
+        (drop slot (properties_at (model_of (placed_of types.now)) index)) (map entry_view result) }
+    ensures some { slot < length (properties_at (model_of (placed_of types.now)) index)
+        → 0 < length (map entry_view result) }
+{
+    if slot >= count_slots(types, chains, index) {
+        return Slice::new();
+    }
+    let owner = owner_of(types, chains, index, slot);
+    match structured_at(types, owner) {
+        Some(structured) => {
+            structured
+                .properties
+                .as_slice()
+                .split_at(slot - inherited_at(chains, owner))
+                .1
+        }
         None => unreachable!(),
     }
 }

@@ -4,6 +4,7 @@ pub mod EntitySlots
 pub mod FaultsBelow
 pub mod FoundWalk
 pub mod ItemWalk
+pub mod LentSlots
 pub mod ReadEntities
 pub mod RowTold
 pub mod SlotWalk

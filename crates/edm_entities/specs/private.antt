@@ -1,4 +1,5 @@
 -- Definitions that private clauses alone cite.
 pub mod Faults
+pub mod Lent
 pub mod Scalars
 pub mod Walk

@@ -6,6 +6,7 @@ mod fault;
 mod flaw;
 mod laws;
 mod leaf;
+mod lent_piece;
 mod scalar;
 mod walk;
 mod wanted;

@@ -14,6 +14,7 @@ ghost use Rattle.edm_entities.specs.private.Walk.{FitSlots, FitList, single_of};
 
 use super::flaw::{ReadFault, ReadFlaw, fault_below, fault_here, fault_in_item};
 use super::leaf::{absent_value, leaf_read, null_value, read_member, read_primitive};
+use super::lent_piece::first_piece;
 use super::scalar::scalar_of;
 use super::wanted::{Wanted, wanted_as};
 use csdl_schema::{Property, Schema, TypeId};
@@ -42,14 +43,10 @@ pub(crate) fn read_slots(
     let Ok(mut values) = Vec::with_capacity(alloc, count) else {
         return Err(fault_here(ReadFlaw::Memory));
     };
+    let mut lent = first_piece(schema, type_id);
     for slot in 0..count {
-        let name = schema.slot_name(type_id, slot);
-        match read_property(
-            alloc,
-            schema,
-            *schema.property(type_id, slot),
-            json.get(name),
-        ) {
+        let (name, property) = lent.at(schema, type_id, slot);
+        match read_property(alloc, schema, *property, json.get(name)) {
             Ok(value) => {
                 if values.push(value).is_err() {
                     return Err(fault_here(ReadFlaw::Memory));

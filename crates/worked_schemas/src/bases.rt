@@ -197,3 +197,30 @@ fn names_of_no_slot(rt: HostRuntime) -> Result<(), Fail> {
     assert_eq!(rt; schema.slot(above, "B"), None);
     Ok(())
 }
+
+/// A slot of `N.A`, how many the piece from there has, and the name of its first.
+const PIECES: &[(usize, usize, &str)] = &[
+    (0, 2, "Y"),
+    (1, 1, "Z"),
+    (2, 2, "B"),
+    (3, 1, "a"),
+    (4, 0, ""),
+    (9, 0, ""),
+];
+
+/// A piece goes on as far as one type of the chain has the properties itself; past the last slot it is empty.
+#[test]
+fn inherited_pieces(rt: HostRuntime) -> Result<(), Fail> {
+    let schema = schema_of(rt.alloc(), THREE_TYPES)?;
+    let owner = schema.type_named("N.A").ok_or("the type")?;
+    for &(slot, count, wanted) in PIECES {
+        let piece = schema.properties_from(owner, slot);
+        assert_eq!(rt; piece.len(), count, "from {slot}");
+        if slot < schema.slots(owner) && 0 < piece.len() {
+            let (name, property) = piece.entry(0);
+            assert!(rt; name == wanted, "from {slot}");
+            assert!(rt; *property == *schema.property(owner, slot), "from {slot}");
+        }
+    }
+    Ok(())
+}

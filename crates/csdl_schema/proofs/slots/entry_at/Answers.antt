@@ -7,6 +7,7 @@ use Rattle.csdl_schema.specs.private.PlacedView.{placed_of, structured_view}
 use Rattle.csdl_schema.specs.private.SchemaView.{chain_in, model_of, names_of, property_model}
 use Rattle.csdl_schema.specs.private.SlotWalk.{structured_in}
 use Rattle.csdl_schema.proofs.Kept.{each_at}
+use Rattle.csdl_schema.proofs.Pieces.{same_in_front}
 use Rattle.csdl_schema.proofs.SlotSteps.{of_structured, own_slot_is}
 use Rattle.csdl_schema.proofs.slots.entry_at.Goals as goal
 
@@ -21,7 +22,7 @@ returns-clause-entry c =
     let is : structured_in ps owner ≡ Some (structured_view c.in-Some.structured.now) = sym c.structured_at.ensures ∙ ap (option_map (λ s. structured_view s.now)) c.in-Some.is in
     let own : own_at ps owner ≡ map entry_view es = (of_structured ps chains c.requires.chained owner _ is).1 in
     let split : c.args.slot ≡ (chain_in chains owner).inherited + k = omega (arith, c.inherited_at.ensures, c.owner_of-owner.ensures.own) in
-    sym c.owner_of-owner.ensures.same
+    sym (same_in_front _ _ c.args.slot c.owner_of-owner.ensures.front c.owner_of-owner.ensures.within)
     ∙ own_slot_is ps chains c.requires.chained owner c.args.slot k c.owner_of-owner.ensures.within split
     ∙ ap (λ es. slice_get (map model es) k) own
     ∙ slice_get-map model (map entry_view es) k

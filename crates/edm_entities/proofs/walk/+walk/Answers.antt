@@ -26,24 +26,25 @@ use Rattle.edm_entities.proofs.walk.+walk.Goals as goal
 pub read_slots-read_property-requires : goal.read_slots-read_property-requires
 read_slots-read_property-requires t c =
     let smaller : found_measure (option_map (λ j. view j.now) c.get.result) < 4 * depth (view c.args.json.now) + 1 =
-    found_less c.slot_name-name.result.now (view c.args.json.now) (option_map (λ j. view j.now) c.get.result) c.get.ensures in
+    found_less c.at.result.0.now (view c.args.json.now) (option_map (λ j. view j.now) c.get.result) c.get.ensures in
     search rules
 
 pub read_slots-loop-slot-preserved : goal.read_slots-loop-slot-preserved
 read_slots-loop-slot-preserved t c =
     let l = c.loop-slot in
     let pushed : c.push.new.self.items ≡ l.values.items ++ c.in-Ok-read_property.value ∷ [] = grind (arith, common_steps) in
-    rw (pushed, add-one) (slot_pushed c.args.schema.now c.args.type_id l.slot (view c.args.json.now) l.values.items c.slot_name-name.result.now c.property.result.now
-    c.slot_name-name.ensures c.property.ensures l.invariant c.in-Ok-read_property.value
-    (subst (λ (o : Option Data). FitsProperty (slots_of c.args.schema.now) c.property.result.now.nullable (property_type c.args.schema.now c.property.result.now) o
-    (field_of (slots_of c.args.schema.now) (property_type c.args.schema.now c.property.result.now) (val_of c.in-Ok-read_property.value))) c.get.ensures c.in-Ok-read_property.ensures.fits))
+    let read = slot_pushed c.args.schema.now c.args.type_id l.slot (view c.args.json.now) l.values.items c.at.result.0.now c.at.result.1.now
+    c.at.ensures.name c.at.ensures.property l.invariant.0 c.in-Ok-read_property.value
+    (subst (λ (o : Option Data). FitsProperty (slots_of c.args.schema.now) c.at.result.1.now.nullable (property_type c.args.schema.now c.at.result.1.now) o
+    (field_of (slots_of c.args.schema.now) (property_type c.args.schema.now c.at.result.1.now) (val_of c.in-Ok-read_property.value))) c.get.ensures c.in-Ok-read_property.ensures.fits) in
+    rw (pushed, add-one) (read, c.at.ensures.lent)
 
 pub read_slots-returns-in-Err-clause-fault : goal.read_slots-returns-in-Err-clause-fault
 read_slots-returns-in-Err-clause-fault t c =
     let l = c.loop-slot in
-    slots_fault c.args.schema.now c.args.type_id l.slot (view c.args.json.now) l.values.items c.slot_name-name.result.now c.property.result.now
-    c.slot_name-name.ensures c.property.ensures l.invariant false c.in-Err.fault c.fault_below.result (sym c.is_object.ensures ∙ c.if-not-is_object.false) c.fault_below.ensures
-    (subst (λ (o : Option Data). IsFaultOf (IsPropertyFault (slots_of c.args.schema.now) c.property.result.now.nullable (property_type c.args.schema.now c.property.result.now) o) c.in-Err.fault)
+    slots_fault c.args.schema.now c.args.type_id l.slot (view c.args.json.now) l.values.items c.at.result.0.now c.at.result.1.now
+    c.at.ensures.name c.at.ensures.property l.invariant.0 false c.in-Err.fault c.fault_below.result (sym c.is_object.ensures ∙ c.if-not-is_object.false) c.fault_below.ensures
+    (subst (λ (o : Option Data). IsFaultOf (IsPropertyFault (slots_of c.args.schema.now) c.at.result.1.now.nullable (property_type c.args.schema.now c.at.result.1.now) o) c.in-Err.fault)
     c.get.ensures c.in-Err.ensures.fault)
 
 pub read_slots-returns-then-not-is_object-clause-fault : goal.read_slots-returns-then-not-is_object-clause-fault

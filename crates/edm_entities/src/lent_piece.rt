@@ -1,0 +1,54 @@
+//! The piece of a type's properties at hand, so that a type is looked up once for each piece and not for each slot.
+ghost use Rattle.std.specs.Prelude.{◌≡◌, ◌+◌, ◌<◌, ◌≤◌, ◌↔◌, length, map, slice_get, Some, IfSome, IsTrue};
+ghost use Rattle.csdl_schema.specs.PropertyView.{IsReadAs};
+ghost use Rattle.csdl_schema.specs.SchemaModel.{properties_at};
+ghost use Rattle.edm_entities.specs.private.Lent.{IsLent};
+
+use csdl_schema::{Property, PropertyPiece, Schema, TypeId};
+
+/// The piece of a type's properties that was lent last, and the slot of the first of them.
+#[derive(Drop)]
+pub(crate) struct LentPiece<'s> {
+    pub(crate) first: usize,
+    pub(crate) piece: PropertyPiece<'s>,
+}
+
+/// The first piece of a type.
+pub(crate) fn first_piece(schema: &Schema, type_id: TypeId) -> LentPiece<'_>
+    ensures { IsLent schema.now type_id result }
+{
+    LentPiece {
+        first: 0,
+        piece: schema.properties_from(type_id, 0),
+    }
+}
+
+impl<'s> LentPiece<'s> {
+    fn has(&self, slot: usize) -> bool
+        ensures { IsTrue result ↔ ((self.now.first ≤ slot) × (slot < self.now.first + length self.now.piece)) }
+    {
+        self.first <= slot && slot - self.first < self.piece.len()
+    }
+
+    /// The name and the property at a slot; the piece that has it is lent first, where it is not the one at hand.
+    pub(crate) fn at(
+        &mut self,
+        schema: &'s Schema,
+        type_id: TypeId,
+        slot: usize,
+    ) -> (&'s str, &'s Property)
+        requires lent { IsLent schema.now type_id self.old }
+        requires within { slot < length (properties_at schema.now type_id) }
+        ensures lent { IsLent schema.now type_id self.new }
+        ensures name { slice_get (map (λ p. p.name) (properties_at schema.now type_id)) slot ≡ Some result.0.now }
+        ensures property { IfSome (slice_get (properties_at schema.now type_id) slot)
+            (λ p. IsReadAs schema.now p result.1.now) }
+    {
+        if self.has(slot) {
+            return self.piece.entry(slot - self.first);
+        }
+        self.first = slot;
+        self.piece = schema.properties_from(type_id, slot);
+        self.piece.entry(0)
+    }
+}
