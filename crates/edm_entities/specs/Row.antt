@@ -64,6 +64,10 @@ pub record Row : Type 0 where
   pub type_id : ℕ
   pub value : Value
 
+-- the row of a type with these values by slot
+abbrev pub row_of : SchemaModel → ℕ → Vec Value Global → Row
+row_of schema id values = record { schema = schema; type_id = id; value = Record values }
+
 abbrev pub value_of : Row → Val
 value_of row = val_of row.value (slots_of row.schema) (single (structured (type_name_at row.schema row.type_id)))
 

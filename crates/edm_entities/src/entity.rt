@@ -35,7 +35,7 @@ impl<'s> Entity<'s> {
     ghost use Rattle.csdl_schema.specs.SchemaModel.{HoldsType, slots_of, type_name_at};
     ghost use Rattle.edm_values.specs.Val.{Val};
     ghost use Rattle.edm_entities.specs.Fits.{Fits};
-    ghost use Rattle.edm_entities.specs.Row.{value_of, IsEntity};
+    ghost use Rattle.edm_entities.specs.Row.{row_of, value_of, IsEntity};
     ghost use Rattle.edm_entities.specs.RowFaults.{IsRowFault, IsMemory};
 
     /// Reads a JSON object as an entity of that type. Members that the type does not declare say nothing, nor do those
@@ -56,12 +56,32 @@ impl<'s> Entity<'s> {
             → IsRowFault (slots_of schema.now) (type_name_at schema.now type_id) (view row.now) fault) }
     {
         match read_slots(alloc, schema, type_id, row) {
-            Ok(values) => Ok(Entity {
-                schema,
-                type_id,
-                value: Value::Record(values),
-            }),
+            Ok(values) => Ok(Entity::from_values(schema, type_id, values)),
             Err(fault) => Err(row_fault(fault)),
+        }
+    }
+
+    /// The entity of that type with these values by slot.
+    pub fn from_values(schema: &'s Schema, type_id: TypeId, values: Vec<Value>) -> Entity<'s>
+        requires { IsEntity (row_of schema.now type_id values) }
+        ensures { result ≡ row_of schema.now type_id values }
+    {
+        Entity {
+            schema,
+            type_id,
+            value: Value::Record(values),
+        }
+    }
+
+    /// Its values by slot, given back.
+    pub fn into_values(self) -> Vec<Value>
+        ensures values { self.entry ≡ row_of self.entry.schema self.entry.type_id result }
+        ensures entity { IsEntity self.entry }
+    {
+        let value = self.value;
+        match value {
+            Value::Record(values) => values,
+            _ => unreachable!(),
         }
     }
 

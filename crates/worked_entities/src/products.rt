@@ -1,4 +1,6 @@
 //! Rows of one type with properties of every kind, and their values by slot.
+ghost use Rattle.std.specs.Prelude.{◌≡◌};
+
 use crate::answer::answer;
 use crate::shop::{PRODUCT, SHOP};
 use csdl_schema::Schema;
@@ -140,6 +142,14 @@ fn product(alloc: Global) -> Result<Json, Fail> {
     Ok(Json::from_str(alloc, row.as_str())?)
 }
 
+/// The entity that is made of the values which an entity gives back.
+fn made_again(entity: Entity<'_>) -> Entity<'_>
+    ensures { result ≡ entity.entry }
+{
+    let (schema, type_id) = (entity.schema(), entity.type_id());
+    Entity::from_values(schema, type_id, entity.into_values())
+}
+
 /// The opaque property is held as null.
 #[test]
 fn values_by_slot(rt: HostRuntime) -> Result<(), Fail> {
@@ -154,5 +164,7 @@ fn values_by_slot(rt: HostRuntime) -> Result<(), Fail> {
         slots.as_str(),
         "true; moment; guid; member 5; record; 1; text; list; null; 3; date; 10; list; "
     );
+    let again = shown_slots(rt.alloc(), made_again(entity).value())?;
+    assert_eq!(rt; again.as_str(), slots.as_str());
     Ok(())
 }

@@ -6,7 +6,7 @@ use Rattle.edm_values.specs.declared.value.Value.{Value, Record, List as ListOf,
 use Rattle.csdl_schema.specs.ExprType.{ExprType, single, structured}
 use Rattle.csdl_schema.specs.SchemaModel.{SchemaModel, Slots, HasDistinctNames, slots_of, type_name_at, properties_at}
 use Rattle.edm_entities.specs.Fits.{Fits, FitsType}
-use Rattle.edm_entities.specs.Row.{Row, IsEntity, val_of, record_of, list_of, value_of}
+use Rattle.edm_entities.specs.Row.{IsEntity, row_of, val_of, record_of, list_of, value_of}
 use Rattle.edm_entities.specs.private.Walk.{FitsSlot, FitSlots}
 use Rattle.edm_entities.proofs.SlotLemmas.SlotsByName.{record_fits, as_many}
 
@@ -15,9 +15,6 @@ val_of-Record slots type v = search (rules, the_lemmas)
 
 pub val_of-List : (slots : Slots) (type : ExprType) (v : Vec Value Global) → val_of (ListOf v) slots type ≡ list_of slots type (map val_of v.items)
 val_of-List slots type v = search (rules, the_lemmas)
-
-abbrev row_of : SchemaModel → ℕ → Vec Value Global → Row
-row_of schema id values = record { schema = schema; type_id = id; value = Record values }
 
 -- the values of a type's slots, as a record
 pub slots_fit : (schema : SchemaModel) (id : ℕ) (nullable : Bool) (json : Data) (values : Vec Value Global) → HasDistinctNames (properties_at schema id) → IsSome (as_object json)

@@ -1,7 +1,7 @@
 use Rattle.std.proofs.Common.{◌≡◌, ◌<◌, ◌≤◌, ◌+◌, ◌*◌, ◌++◌, [], ◌∷◌, Bool, true, false, Option, Some, None, option_map, IfErr, sym, ap, ◌∙◌, subst, rules, arith, add-one}
 use Rattle.std.proofs.lemmas.Grind.{common_steps}
 use Rattle.serde_json.specs.Data.{Data, depth, items_depth}
-use Rattle.serde_json.specs.Find.{get, as_object, as_array}
+use Rattle.serde_json.specs.Find.{as_object}
 use Rattle.serde_json.specs.View.{view, items_view}
 use Rattle.csdl_schema.specs.ExprType.{single, primitive, enumeration, structured}
 use Rattle.csdl_schema.specs.PropertyView.{property_type}

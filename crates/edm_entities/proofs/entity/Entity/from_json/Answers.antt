@@ -1,17 +1,21 @@
+use Rattle.std.proofs.Common.{sym, subst}
 use Rattle.serde_json.specs.View.{view}
 use Rattle.csdl_schema.specs.SchemaModel.{slots_of, type_name_at}
+use Rattle.edm_entities.specs.Fits.{Fits}
+use Rattle.edm_entities.specs.Row.{Row, value_of}
 use Rattle.edm_entities.proofs.FitLemmas.RowFaultRefuses.{fault_refuses}
 use Rattle.edm_entities.proofs.SlotLemmas.ReadEntities.{entity_fits, is_entity}
 use Rattle.edm_entities.proofs.SlotLemmas.RowTold.{row_told}
 use Rattle.edm_entities.proofs.entity.Entity.from_json.Goals as goal
 
-pub invariant_of-result : goal.invariant_of-result
-invariant_of-result c =
+pub from_values-requires : goal.from_values-requires
+from_values-requires c =
     is_entity c.args.schema.now c.args.type_id (view c.args.row.now) c.in-Ok.values c.in-Ok.ensures.distinct c.in-Ok.ensures.object c.in-Ok.ensures.fits
 
 pub returns-in-Ok-clause-fits : goal.returns-in-Ok-clause-fits
 returns-in-Ok-clause-fits c =
-    entity_fits c.args.schema.now c.args.type_id (view c.args.row.now) c.in-Ok.values c.in-Ok.ensures.distinct c.in-Ok.ensures.object c.in-Ok.ensures.fits
+    subst (λ (e : Row). Fits (slots_of c.args.schema.now) (type_name_at c.args.schema.now c.args.type_id) (view c.args.row.now) (value_of e)) (sym c.from_values.ensures)
+    (entity_fits c.args.schema.now c.args.type_id (view c.args.row.now) c.in-Ok.values c.in-Ok.ensures.distinct c.in-Ok.ensures.object c.in-Ok.ensures.fits)
 
 pub returns-in-Err-clause-none_fits : goal.returns-in-Err-clause-none_fits
 returns-in-Err-clause-none_fits c some =
