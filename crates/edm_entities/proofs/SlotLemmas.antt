@@ -5,6 +5,7 @@ pub mod FaultsBelow
 pub mod FoundWalk
 pub mod ItemWalk
 pub mod LentSlots
+pub mod ObjectMembers
 pub mod ReadEntities
 pub mod RowTold
 pub mod SlotWalk

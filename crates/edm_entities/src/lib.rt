@@ -7,6 +7,7 @@ mod flaw;
 mod laws;
 mod leaf;
 mod lent_piece;
+mod member_walk;
 mod scalar;
 mod walk;
 mod wanted;

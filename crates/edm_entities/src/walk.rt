@@ -15,6 +15,7 @@ ghost use Rattle.edm_entities.specs.private.Walk.{FitSlots, FitList, single_of};
 use super::flaw::{ReadFault, ReadFlaw, fault_below, fault_here, fault_in_item};
 use super::leaf::{absent_value, leaf_read, null_value, read_member, read_primitive};
 use super::lent_piece::first_piece;
+use super::member_walk::members_of;
 use super::scalar::scalar_of;
 use super::wanted::{Wanted, wanted_as};
 use csdl_schema::{Property, Schema, TypeId};
@@ -36,9 +37,9 @@ pub(crate) fn read_slots(
     ensures fault { IfErr result (IsFaultOf (λ path flaw. IsTypeFault (slots_of schema.now) false path
         (single (structured (type_name_at schema.now type_id))) (view json.now) flaw)) }
 {
-    if !json.is_object() {
+    let Some(mut members) = members_of(json) else {
         return Err(fault_here(ReadFlaw::WrongKind));
-    }
+    };
     let count = schema.slots(type_id);
     let Ok(mut values) = Vec::with_capacity(alloc, count) else {
         return Err(fault_here(ReadFlaw::Memory));
@@ -46,7 +47,7 @@ pub(crate) fn read_slots(
     let mut lent = first_piece(schema, type_id);
     for slot in 0..count {
         let (name, property) = lent.at(schema, type_id, slot);
-        match read_property(alloc, schema, *property, json.get(name)) {
+        match read_property(alloc, schema, *property, members.find(json, name)) {
             Ok(value) => {
                 if values.push(value).is_err() {
                     return Err(fault_here(ReadFlaw::Memory));

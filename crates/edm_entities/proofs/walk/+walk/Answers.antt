@@ -1,4 +1,4 @@
-use Rattle.std.proofs.Common.{◌≡◌, ◌<◌, ◌≤◌, ◌+◌, ◌*◌, ◌++◌, [], ◌∷◌, Bool, true, false, Option, Some, None, option_map, IfErr, sym, ap, ◌∙◌, subst, rules, arith, add-one}
+use Rattle.std.proofs.Common.{◌≡◌, ◌<◌, ◌≤◌, ◌+◌, ◌*◌, ◌++◌, [], ◌∷◌, Bool, true, false, is_some, Option, Some, None, option_map, IfErr, sym, ap, ◌∙◌, subst, rules, arith, add-one}
 use Rattle.std.proofs.lemmas.Grind.{common_steps}
 use Rattle.serde_json.specs.Data.{Data, depth, items_depth}
 use Rattle.serde_json.specs.Find.{as_object}
@@ -25,8 +25,8 @@ use Rattle.edm_entities.proofs.walk.+walk.Goals as goal
 
 pub read_slots-read_property-requires : goal.read_slots-read_property-requires
 read_slots-read_property-requires t c =
-    let smaller : found_measure (option_map (λ j. view j.now) c.get.result) < 4 * depth (view c.args.json.now) + 1 =
-    found_less c.at.result.0.now (view c.args.json.now) (option_map (λ j. view j.now) c.get.result) c.get.ensures in
+    let smaller : found_measure (option_map (λ j. view j.now) c.find.result) < 4 * depth (view c.args.json.now) + 1 =
+    found_less c.at.result.0.now (view c.args.json.now) (option_map (λ j. view j.now) c.find.result) c.find.ensures.found in
     search rules
 
 pub read_slots-loop-slot-preserved : goal.read_slots-loop-slot-preserved
@@ -36,22 +36,22 @@ read_slots-loop-slot-preserved t c =
     let read = slot_pushed c.args.schema.now c.args.type_id l.slot (view c.args.json.now) l.values.items c.at.result.0.now c.at.result.1.now
     c.at.ensures.name c.at.ensures.property l.invariant.0 c.in-Ok-read_property.value
     (subst (λ (o : Option Data). FitsProperty (slots_of c.args.schema.now) c.at.result.1.now.nullable (property_type c.args.schema.now c.at.result.1.now) o
-    (field_of (slots_of c.args.schema.now) (property_type c.args.schema.now c.at.result.1.now) (val_of c.in-Ok-read_property.value))) c.get.ensures c.in-Ok-read_property.ensures.fits) in
-    rw (pushed, add-one) (read, c.at.ensures.lent)
+    (field_of (slots_of c.args.schema.now) (property_type c.args.schema.now c.at.result.1.now) (val_of c.in-Ok-read_property.value))) c.find.ensures.found c.in-Ok-read_property.ensures.fits) in
+    rw (pushed, add-one) (read, c.at.ensures.lent, c.find.ensures.walk)
 
 pub read_slots-returns-in-Err-clause-fault : goal.read_slots-returns-in-Err-clause-fault
 read_slots-returns-in-Err-clause-fault t c =
     let l = c.loop-slot in
     slots_fault c.args.schema.now c.args.type_id l.slot (view c.args.json.now) l.values.items c.at.result.0.now c.at.result.1.now
-    c.at.ensures.name c.at.ensures.property l.invariant.0 false c.in-Err.fault c.fault_below.result (sym c.is_object.ensures ∙ c.if-not-is_object.false) c.fault_below.ensures
+    c.at.ensures.name c.at.ensures.property l.invariant.0 false c.in-Err.fault c.fault_below.result (sym c.members_of.ensures.object ∙ ap is_some c.in-Some.is) c.fault_below.ensures
     (subst (λ (o : Option Data). IsFaultOf (IsPropertyFault (slots_of c.args.schema.now) c.at.result.1.now.nullable (property_type c.args.schema.now c.at.result.1.now) o) c.in-Err.fault)
-    c.get.ensures c.in-Err.ensures.fault)
+    c.find.ensures.found c.in-Err.ensures.fault)
 
-pub read_slots-returns-then-not-is_object-clause-fault : goal.read_slots-returns-then-not-is_object-clause-fault
-read_slots-returns-then-not-is_object-clause-fault t c =
+pub read_slots-returns-in_default-clause-fault : goal.read_slots-returns-in_default-clause-fault
+read_slots-returns-in_default-clause-fault t c =
     told_here (λ path flaw. IsTypeFault (slots_of c.args.schema.now) false path (single (structured (type_name_at c.args.schema.now c.args.type_id))) (view c.args.json.now) flaw)
     c.fault_here.result code.WrongKind c.fault_here.ensures.flaw c.fault_here.ensures.here
-    (none_of (as_object (view c.args.json.now)) c.is_object.result c.is_object.ensures (grind (arith, common_steps)))
+    (none_of (as_object (view c.args.json.now)) (is_some c.members_of.result) c.members_of.ensures.object (ap is_some c.in_default.is))
 
 pub read_property-read_items-requires : goal.read_property-read_items-requires
 read_property-read_items-requires t c =

@@ -3,6 +3,7 @@ use Rattle.serde_json.specs.Data.{depth, items_depth}
 use Rattle.serde_json.specs.View.{view, items_view}
 use Rattle.csdl_schema.specs.SchemaModel.{properties_at, slots_of}
 use Rattle.edm_entities.specs.private.Lent.{IsLent}
+use Rattle.edm_entities.specs.private.Members.{IsWalkOf}
 use Rattle.edm_entities.specs.private.Walk.{FitSlots, FitList, single_of}
 use Rattle.edm_entities.proofs.SlotLemmas.Depth.{found_measure}
 use Rattle.edm_entities.proofs.walk.+walk.Given as goal
@@ -26,11 +27,12 @@ decreases-read_items l = 4 * depth (view l.json.now) + 3
 abbrev pub decreases-read_list : goal.decreases-read_list
 decreases-read_list l = 4 * items_depth (items_view l.items.now) + 4
 
--- the values so far fit the slots so far, and the piece at hand is one of the type
+-- the values so far fit the slots so far, the piece at hand is one of the type, and the members are the object's
 abbrev pub invariant-read_slots-loop-slot : goal.invariant-read_slots-loop-slot
 invariant-read_slots-loop-slot l =
     FitSlots (slots_of l.schema) (view l.json) (take l.slot (properties_at l.schema l.type_id)) l.values.items
     × IsLent l.schema l.type_id l.lent
+    × IsWalkOf (view l.json) l.members
 
 -- the values so far fit the items so far
 abbrev pub invariant-read_list-loop-index : goal.invariant-read_list-loop-index
