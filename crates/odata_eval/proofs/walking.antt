@@ -1,4 +1,5 @@
 -- The walk of a filter's list: what stands in a place, and what is answered there.
+pub mod Compared
 pub mod Leaves
 pub mod MemberSteps
 pub mod OneReading

@@ -1,5 +1,6 @@
 -- Definitions that private clauses alone cite.
 pub mod DatumView
+pub mod KeptSides
 pub mod Operands
 pub mod Place
 pub mod WalkAnswer

@@ -26,13 +26,16 @@ pub(crate) fn datum_of(value: &Value) -> Datum<'_>
 }
 
 /// What a record has in a slot; null of null.
-pub(crate) fn step<'e>(base: Datum<'e>, slot: usize) -> Datum<'e>
-    requires { HasSlot base slot }
-    ensures { IsStepOf base.entry slot result }
+pub(crate) fn step<'e>(base: &Datum<'e>, slot: usize) -> Datum<'e>
+    requires { HasSlot base.now slot }
+    ensures { IsStepOf base.now slot result }
 {
     match base {
         Datum::Null => Datum::Null,
-        Datum::Record(fields) => datum_of(&fields[slot]),
+        Datum::Record(fields) => {
+            let fields = *fields;
+            datum_of(&fields[slot])
+        }
         _ => unreachable!(),
     }
 }

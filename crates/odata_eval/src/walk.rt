@@ -6,6 +6,7 @@ ghost use Rattle.edm_entities.specs.Row.{IsEntity};
 ghost use Rattle.odata_eval.specs.private.Place.{HasOperator, HasConnective, IsClassAt, PartStands, TruthStands};
 ghost use Rattle.odata_eval.specs.private.WalkAnswer.{AnswersDatum, AnswersTruth};
 
+use super::compared::kept_sides_at;
 use super::datum::{datum_of, datum_of_truth, step, truth_of};
 use super::fault::EvalFault;
 use super::laws::typed_trees_end_once_on_entities;
@@ -13,7 +14,7 @@ use super::operators::{applied, decides, join, negated};
 use super::part::{Part, WalkClass, node_at, part_at, right_of, spine_bottom};
 use edm_entities::Entity;
 use edm_values::{Datum, Moment};
-use odata_functions::{comparisons_are_decided, not3, operands_lie_within_promotion};
+use odata_functions::{compare, comparisons_are_decided, not3, operands_lie_within_promotion};
 use odata_syntax::BinaryOperator;
 use odata_typing::{Checked, Connective, NodeKind, OperatorClass, class_of, trees_have_one_type};
 
@@ -53,13 +54,40 @@ fn plain_truth_at<'e>(
     ensures { AnswersTruth entity.now now.now [] checked.now.list place result }
 {
     typed_trees_end_once_on_entities();
+    trees_have_one_type();
+    operands_lie_within_promotion();
+    comparisons_are_decided();
     match part_at(checked, entity, place) {
         Part::Leaf(value) => Ok(truth_of(&datum_of(value))),
         Part::Logical => unreachable!(),
-        Part::Eager => match eager_at(checked, entity, now, place) {
-            Ok(value) => Ok(truth_of(&value)),
-            Err(fault) => Err(fault),
+        Part::Eager => match kept_sides_at(checked, entity, place) {
+            Some(sides) => Ok(Some(compare(
+                sides.comparison,
+                &datum_of(sides.left),
+                &datum_of(sides.right),
+            ))),
+            None => made_truth_at(checked, entity, now, place),
         },
+    }
+}
+
+/// The same, of a node that takes the values of all its operands.
+#[cycle(evaluate)]
+fn made_truth_at<'e>(
+    checked: &'e Checked<'_>,
+    entity: &'e Entity<'_>,
+    now: &Moment,
+    place: usize,
+) -> Result<Option<bool>, EvalFault>
+    requires entity { IsEntity entity.now }
+    requires stands { TruthStands entity.now [] checked.now.list place }
+    requires eager { IsClassAt checked.now.list WalkClass.Eager place }
+    ensures { AnswersTruth entity.now now.now [] checked.now.list place result }
+{
+    typed_trees_end_once_on_entities();
+    match &eager_at(checked, entity, now, place) {
+        Ok(value) => Ok(truth_of(value)),
+        Err(fault) => Err(*fault),
     }
 }
 
@@ -160,7 +188,7 @@ fn eager_at<'e>(
     let mut at = bottom;
     while place < at {
         at -= 1;
-        answer = made_at(checked, entity, now, at, answer);
+        answer = made_at(checked, entity, now, at, &answer);
     }
     answer
 }
@@ -172,12 +200,12 @@ fn made_at<'e>(
     entity: &'e Entity<'_>,
     now: &Moment,
     place: usize,
-    first: Result<Datum<'e>, EvalFault>,
+    first: &Result<Datum<'e>, EvalFault>,
 ) -> Result<Datum<'e>, EvalFault>
     requires entity { IsEntity entity.now }
     requires stands { PartStands entity.now [] checked.now.list place }
     requires eager { IsClassAt checked.now.list WalkClass.Eager place }
-    requires first { AnswersDatum entity.now now.now [] checked.now.list (place + 1) first }
+    requires first { AnswersDatum entity.now now.now [] checked.now.list (place + 1) first.now }
     ensures { AnswersDatum entity.now now.now [] checked.now.list place result }
 {
     typed_trees_end_once_on_entities();
@@ -185,12 +213,12 @@ fn made_at<'e>(
     operands_lie_within_promotion();
     let first = match first {
         Ok(first) => first,
-        Err(before) => return Err(before),
+        Err(before) => return Err(*before),
     };
     let node = node_at(checked, place);
     match node.kind {
         NodeKind::Member { slot } => Ok(step(first, slot)),
-        NodeKind::Neg => negated(node.edm_type, &first),
+        NodeKind::Neg => negated(node.edm_type, first),
         NodeKind::Binary { operator } => {
             applied_at(checked, entity, now, place, operator, first)
         }
@@ -206,21 +234,26 @@ fn applied_at<'e>(
     now: &Moment,
     place: usize,
     operator: BinaryOperator,
-    left: Datum<'e>,
+    left: &Datum<'_>,
 ) -> Result<Datum<'e>, EvalFault>
     requires entity { IsEntity entity.now }
     requires stands { PartStands entity.now [] checked.now.list place }
     requires eager { IsClassAt checked.now.list WalkClass.Eager place }
     requires operator { HasOperator checked.now.list place operator }
-    requires left { AnswersDatum entity.now now.now [] checked.now.list (place + 1) (Ok left) }
+    requires left { AnswersDatum entity.now now.now [] checked.now.list (place + 1) (Ok left.now) }
     ensures { AnswersDatum entity.now now.now [] checked.now.list place result }
 {
     typed_trees_end_once_on_entities();
     trees_have_one_type();
     operands_lie_within_promotion();
     comparisons_are_decided();
-    match operand_at(checked, entity, now, right_of(checked, place)) {
-        Ok(right) => applied(operator, node_at(checked, place).edm_type, &left, &right),
-        Err(behind) => Err(behind),
+    let right_place = right_of(checked, place);
+    let edm_type = node_at(checked, place).edm_type;
+    if let Part::Leaf(value) = part_at(checked, entity, right_place) {
+        return applied(operator, edm_type, left, &datum_of(value));
+    }
+    match &operand_at(checked, entity, now, right_place) {
+        Ok(right) => applied(operator, edm_type, left, right),
+        Err(behind) => Err(*behind),
     }
 }

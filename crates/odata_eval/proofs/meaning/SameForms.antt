@@ -1,5 +1,5 @@
 -- A tree, its normal form and the tree of its printed text have the same outcomes.
-use Rattle.std.proofs.Common.{◌≡◌, ◌∙◌, ◌↔◌, ℕ, List, sym, subst}
+use Rattle.std.proofs.Common.{◌≡◌, ◌↔◌, ℕ, List, sym, subst}
 use Rattle.edm_values.specs.MomentParts.{MomentParts}
 use Rattle.edm_values.specs.Val.{Val}
 use Rattle.csdl_schema.specs.ExprType.{ExprType}
@@ -15,14 +15,12 @@ use Rattle.odata_syntax.specs.ReadBack.{IsReadBack}
 use Rattle.odata_syntax.specs.Tree.{Shape, Tree, any_item, binary, call, count, has, in_list, in_path, it, lambda, literal, logical_not, member, name, negation, node}
 use Rattle.odata_syntax.specs.declared.node.BinaryOperator.{BinaryOperator}
 use Rattle.odata_syntax.specs.declared.node.LiteralKind.{LiteralKind}
-use Rattle.odata_typing.specs.HasTyping.{HasTree}
 use Rattle.odata_typing.specs.LiteralValue.{LiteralValue}
 use Rattle.odata_typing.specs.OperatorClass.{class_of}
 use Rattle.odata_typing.specs.OperatorTyped.{NegationTyped}
 use Rattle.odata_typing.specs.Typed.{OperandTyped, OperandsTyped, Scope, Typed}
 use Rattle.odata_eval.specs.CalculationGives.{NegatedGives}
 use Rattle.odata_eval.specs.Environment.{Environment, scope_of}
-use Rattle.odata_eval.specs.LeftFirst.{After}
 use Rattle.odata_eval.specs.Means.{Means, ShapeMeans}
 use Rattle.odata_eval.specs.NameGives.{StepGives}
 use Rattle.odata_eval.specs.OperatorGives.{InType, OperatorGives}

@@ -1,5 +1,5 @@
 -- The combinators of outcomes give the same of operands with the same outcomes.
-use Rattle.std.proofs.Common.{◌↔◌, Bool, true, false, Option, Some, None}
+use Rattle.std.proofs.Common.{◌↔◌, true, false, Some, None}
 use Rattle.edm_values.specs.Val.{Val, null, boolean}
 use Rattle.csdl_schema.specs.ExprType.{ExprType}
 use Rattle.odata_typing.specs.Typed.{OperandTyped, OperandsTyped}

@@ -11,6 +11,7 @@ use Rattle.odata_eval.specs.private.WalkAnswer.{AnswersDatum, AnswersTruth}
 use Rattle.odata_eval.proofs.walking.Parts.{part_inside}
 use Rattle.odata_eval.proofs.meaning.LawsBelow.{Promotes}
 use Rattle.odata_eval.proofs.walking.MemberSteps.{step_answers, step_slot}
+use Rattle.odata_eval.proofs.walking.Compared.{compared_truth, may_compare}
 use Rattle.odata_eval.proofs.walking.Shapes.{there_found}
 use Rattle.odata_eval.proofs.walking.Spines.{class_of_place, operator_of_connective, right_further, right_part, right_there, truth_part}
 use Rattle.odata_eval.proofs.walking.TruthSpines.{below_bottom, logical_truth, part_down, right_operand, truth_down}
@@ -45,14 +46,56 @@ plain_truth_at-returns-in-Leaf t c =
     (kept_datum c.args.entity.now c.args.now.now c.args.checked.now.list c.args.place c.in-Leaf.value.now c.datum_of.result (c.in-Leaf.ensures c.args.now.now) c.datum_of.ensures)
     c.truth_of.ensures
 
-pub plain_truth_at-truth_of-requires-in-Ok : goal.plain_truth_at-truth_of-requires-in-Ok
-plain_truth_at-truth_of-requires-in-Ok t c = λ reading.
-    truth_there c.typed_trees_end_once_on_entities.ensures c.args.entity.now c.args.now.now c.requires.entity c.args.checked.now.list c.args.place c.in-Ok.value c.requires.stands
-    c.in-Ok.ensures reading
+pub plain_truth_at-kept_sides_at-requires-clause-stands : goal.plain_truth_at-kept_sides_at-requires-clause-stands
+plain_truth_at-kept_sides_at-requires-clause-stands t c = truth_part c.args.entity.now [] c.args.checked.now.list c.args.place c.requires.stands
 
-pub plain_truth_at-returns-in-Ok : goal.plain_truth_at-returns-in-Ok
-plain_truth_at-returns-in-Ok t c =
-    datum_truth c.args.entity.now c.args.now.now c.args.checked.now.list c.args.place c.in-Ok.value c.truth_of-in-Ok.result c.in-Ok.ensures c.truth_of-in-Ok.ensures
+pub plain_truth_at-compare-requires : goal.plain_truth_at-compare-requires
+plain_truth_at-compare-requires t c =
+    let promotes : Promotes = record {
+      left = c.operands_lie_within_promotion.ensures.left;
+      right = c.operands_lie_within_promotion.ensures.right;
+      negation = c.operands_lie_within_promotion.ensures.negation;
+      three = c.operands_lie_within_promotion.ensures.three;
+    } in
+    may_compare c.args.entity.now c.args.now.now c.args.checked.now.list c.args.place c.in-Some.sides c.in-Some.ensures c.datum_of-in-Some.result c.datum_of-in-Some-2.result
+    c.datum_of-in-Some.ensures c.datum_of-in-Some-2.ensures c.typed_trees_end_once_on_entities.ensures c.requires.entity promotes c.comparisons_are_decided.ensures.any_reading
+    (truth_part c.args.entity.now [] c.args.checked.now.list c.args.place c.requires.stands)
+
+pub plain_truth_at-returns-in-Some : goal.plain_truth_at-returns-in-Some
+plain_truth_at-returns-in-Some t c =
+    let promotes : Promotes = record {
+      left = c.operands_lie_within_promotion.ensures.left;
+      right = c.operands_lie_within_promotion.ensures.right;
+      negation = c.operands_lie_within_promotion.ensures.negation;
+      three = c.operands_lie_within_promotion.ensures.three;
+    } in
+    let may = may_compare c.args.entity.now c.args.now.now c.args.checked.now.list c.args.place c.in-Some.sides c.in-Some.ensures c.datum_of-in-Some.result c.datum_of-in-Some-2.result
+    c.datum_of-in-Some.ensures c.datum_of-in-Some-2.ensures c.typed_trees_end_once_on_entities.ensures c.requires.entity promotes c.comparisons_are_decided.ensures.any_reading
+    (truth_part c.args.entity.now [] c.args.checked.now.list c.args.place c.requires.stands) in
+    compared_truth c.args.entity.now c.args.now.now c.args.checked.now.list c.args.place c.in-Some.sides c.in-Some.ensures c.datum_of-in-Some.result c.datum_of-in-Some-2.result
+    c.datum_of-in-Some.ensures c.datum_of-in-Some-2.ensures c.trees_have_one_type.ensures c.compare.result may c.compare.ensures
+
+pub plain_truth_at-made_truth_at-requires : goal.plain_truth_at-made_truth_at-requires
+plain_truth_at-made_truth_at-requires t c =
+    let smaller : 8 * (length c.args.checked.now.list.nodes - c.args.place) + 4 < 8 * (length c.args.checked.now.list.nodes - c.args.place) + 5 = omega arith in
+    search rules
+
+pub made_truth_at-eager_at-requires : goal.made_truth_at-eager_at-requires
+made_truth_at-eager_at-requires t c =
+    let smaller : 8 * (length c.args.checked.now.list.nodes - c.args.place) + 3 < 8 * (length c.args.checked.now.list.nodes - c.args.place) + 4 = omega arith in
+    let part = truth_part c.args.entity.now [] c.args.checked.now.list c.args.place c.requires.stands in
+    search rules
+
+pub made_truth_at-truth_of-requires : goal.made_truth_at-truth_of-requires
+made_truth_at-truth_of-requires t c = λ reading.
+    let answers = subst (λ (r : Result Datum EvalFault). AnswersDatum c.args.entity.now c.args.now.now [] c.args.checked.now.list c.args.place r) c.in-Ok.is c.eager_at.ensures in
+    truth_there c.typed_trees_end_once_on_entities.ensures c.args.entity.now c.args.now.now c.requires.entity c.args.checked.now.list c.args.place c.in-Ok.value c.requires.stands
+    answers reading
+
+pub made_truth_at-returns-in-Ok : goal.made_truth_at-returns-in-Ok
+made_truth_at-returns-in-Ok t c =
+    let answers = subst (λ (r : Result Datum EvalFault). AnswersDatum c.args.entity.now c.args.now.now [] c.args.checked.now.list c.args.place r) c.in-Ok.is c.eager_at.ensures in
+    datum_truth c.args.entity.now c.args.now.now c.args.checked.now.list c.args.place c.in-Ok.value c.truth_of.result answers c.truth_of.ensures
 
 pub operand_at-returns-in-Leaf : goal.operand_at-returns-in-Leaf
 operand_at-returns-in-Leaf t c =
@@ -65,7 +108,7 @@ operand_at-returns-in-Ok t c =
 pub truth_at-plain_truth_at-answer-requires : goal.truth_at-plain_truth_at-answer-requires
 truth_at-plain_truth_at-answer-requires t c =
     let below : c.args.place ≤ c.spine_bottom-bottom.result = c.spine_bottom-bottom.ensures.below in
-    let smaller : 7 * (length c.args.checked.now.list.nodes - c.spine_bottom-bottom.result) + 4 < 7 * (length c.args.checked.now.list.nodes - c.args.place) + 5 = omega arith in
+    let smaller : 8 * (length c.args.checked.now.list.nodes - c.spine_bottom-bottom.result) + 5 < 8 * (length c.args.checked.now.list.nodes - c.args.place) + 6 = omega arith in
     let stands = truth_down c.args.entity.now [] c.args.checked.now.list c.args.place c.spine_bottom-bottom.result below c.requires.stands c.spine_bottom-bottom.ensures.spine in
     search rules
 
@@ -74,7 +117,7 @@ truth_at-logical_at-answer-requires t c =
     let l = c.loop-at in
     let within : l.at ≤ c.spine_bottom-bottom.result = l.invariant.within in
     let above : c.args.place < l.at = omega arith in
-    let smaller : 7 * (length c.args.checked.now.list.nodes - (l.at - 1)) + 2 < 7 * (length c.args.checked.now.list.nodes - c.args.place) + 5 = omega arith in
+    let smaller : 8 * (length c.args.checked.now.list.nodes - (l.at - 1)) + 2 < 8 * (length c.args.checked.now.list.nodes - c.args.place) + 6 = omega arith in
     let upper : (i : ℕ) → i < l.at - 1 → c.args.place ≤ i → IsClassAt c.args.checked.now.list WalkClass.Logical i =
     λ i before from. c.spine_bottom-bottom.ensures.spine i (omega arith) from in
     let stands : PartStands c.args.entity.now [] c.args.checked.now.list (l.at - 1) = truth_part c.args.entity.now [] c.args.checked.now.list (l.at - 1) (truth_down c.args.entity.now [] c.args.checked.now.list c.args.place (l.at - 1) (omega arith) c.requires.stands upper) in
@@ -89,7 +132,7 @@ eager_at-made_at-answer-requires t c =
     let l = c.loop-at in
     let within : l.at ≤ c.spine_bottom-bottom.result = l.invariant.within in
     let above : c.args.place < l.at = omega arith in
-    let smaller : 7 * (length c.args.checked.now.list.nodes - (l.at - 1)) + 2 < 7 * (length c.args.checked.now.list.nodes - c.args.place) + 3 = omega arith in
+    let smaller : 8 * (length c.args.checked.now.list.nodes - (l.at - 1)) + 2 < 8 * (length c.args.checked.now.list.nodes - c.args.place) + 3 = omega arith in
     let upper : (i : ℕ) → i < l.at - 1 → c.args.place ≤ i → IsClassAt c.args.checked.now.list WalkClass.Eager i =
     λ i before from. c.spine_bottom-bottom.ensures.spine i (omega arith) from in
     let stands : PartStands c.args.entity.now [] c.args.checked.now.list (l.at - 1) = part_down c.args.entity.now [] c.args.checked.now.list c.args.place (l.at - 1) (omega arith) c.requires.stands upper in
@@ -105,15 +148,19 @@ eager_at-operand_at-answer-requires t c =
     let below : c.args.place ≤ c.spine_bottom-bottom.result = c.spine_bottom-bottom.ensures.below in
     let behind : c.args.place < c.spine_bottom-bottom.result =
     below_bottom c.args.checked.now.list WalkClass.Eager c.args.place c.spine_bottom-bottom.result below c.requires.eager c.spine_bottom-bottom.ensures.bottom in
-    let smaller : 7 * (length c.args.checked.now.list.nodes - c.spine_bottom-bottom.result) + 6 < 7 * (length c.args.checked.now.list.nodes - c.args.place) + 3 = omega arith in
+    let smaller : 8 * (length c.args.checked.now.list.nodes - c.spine_bottom-bottom.result) + 7 < 8 * (length c.args.checked.now.list.nodes - c.args.place) + 3 = omega arith in
     let stands = part_down c.args.entity.now [] c.args.checked.now.list c.args.place c.spine_bottom-bottom.result below c.requires.stands c.spine_bottom-bottom.ensures.spine in
     search rules
 
 pub operand_at-truth_at-requires : goal.operand_at-truth_at-requires
 operand_at-truth_at-requires t c =
-    let smaller : 7 * (length c.args.checked.now.list.nodes - c.args.place) + 5 < 7 * (length c.args.checked.now.list.nodes - c.args.place) + 6 = omega arith in
+    let smaller : 8 * (length c.args.checked.now.list.nodes - c.args.place) + 6 < 8 * (length c.args.checked.now.list.nodes - c.args.place) + 7 = omega arith in
     let stands = logical_truth c.args.entity.now [] c.args.checked.now.list c.args.place c.requires.stands c.in-Logical.ensures in
     search rules
+
+pub made_truth_at-returns : goal.made_truth_at-returns
+made_truth_at-returns t c =
+    subst (λ (r : Result Datum EvalFault). AnswersDatum c.args.entity.now c.args.now.now [] c.args.checked.now.list c.args.place r) c.in-Err.is c.eager_at.ensures
 
 -- ---- a node of truth values
 
@@ -149,7 +196,7 @@ connected_at-truth_at-requires t c =
     let inside : c.args.place < length c.args.checked.now.list.nodes = part_inside c.args.entity.now [] c.args.checked.now.list c.args.place c.requires.stands in
     let behind : c.args.place < c.right_of.result =
     right_further c.args.entity.now [] c.args.checked.now.list c.args.place there.operator there.here c.requires.stands c.right_of.result c.right_of.ensures in
-    let smaller : 7 * (length c.args.checked.now.list.nodes - c.right_of.result) + 5 < 7 * (length c.args.checked.now.list.nodes - c.args.place) + 1 = omega arith in
+    let smaller : 8 * (length c.args.checked.now.list.nodes - c.right_of.result) + 6 < 8 * (length c.args.checked.now.list.nodes - c.args.place) + 1 = omega arith in
     let stands : TruthStands c.args.entity.now [] c.args.checked.now.list c.right_of.result =
     right_operand c.args.entity.now [] c.args.checked.now.list c.args.place c.requires.stands there.operator c.right_of.result (ap walk_of_operator there.class) there.here c.right_of.ensures in
     search rules
@@ -211,21 +258,15 @@ made_at-returns-in-Neg t c =
     negation_answers c.args.entity.now c.args.now.now c.args.checked.now.list c.args.place c.in-Ok.first c.node_at-node.result.now c.negated.result
     c.node_at-node.ensures here c.trees_have_one_type.ensures first c.negated.ensures
 
-pub applied_at-right_of-requires : goal.applied_at-right_of-requires
-applied_at-right_of-requires t c = right_there c.args.entity.now [] c.args.checked.now.list c.args.place c.args.operator c.requires.operator c.requires.stands
-
-pub applied_at-operand_at-requires : goal.applied_at-operand_at-requires
-applied_at-operand_at-requires t c =
-    let inside : c.args.place < length c.args.checked.now.list.nodes = part_inside c.args.entity.now [] c.args.checked.now.list c.args.place c.requires.stands in
-    let behind : c.args.place < c.right_of.result =
-    right_further c.args.entity.now [] c.args.checked.now.list c.args.place c.args.operator c.requires.operator c.requires.stands c.right_of.result c.right_of.ensures in
-    let smaller : 7 * (length c.args.checked.now.list.nodes - c.right_of.result) + 6 < 7 * (length c.args.checked.now.list.nodes - c.args.place) + 1 = omega arith in
-    let stands : PartStands c.args.entity.now [] c.args.checked.now.list c.right_of.result =
-    right_part c.args.entity.now [] c.args.checked.now.list c.args.place c.args.operator c.requires.operator c.requires.stands c.right_of.result c.right_of.ensures in
-    search rules
+pub applied_at-right_of-right_place-requires : goal.applied_at-right_of-right_place-requires
+applied_at-right_of-right_place-requires t c = right_there c.args.entity.now [] c.args.checked.now.list c.args.place c.args.operator c.requires.operator c.requires.stands
 
 pub applied_at-node_at-requires : goal.applied_at-node_at-requires
 applied_at-node_at-requires t c = part_inside c.args.entity.now [] c.args.checked.now.list c.args.place c.requires.stands
+
+pub applied_at-part_at-requires-clause-stands : goal.applied_at-part_at-requires-clause-stands
+applied_at-part_at-requires-clause-stands t c =
+    right_part c.args.entity.now [] c.args.checked.now.list c.args.place c.args.operator c.requires.operator c.requires.stands c.right_of-right_place.result c.right_of-right_place.ensures
 
 pub applied_at-applied-requires : goal.applied_at-applied-requires
 applied_at-applied-requires t c =
@@ -236,17 +277,52 @@ applied_at-applied-requires t c =
       three = c.operands_lie_within_promotion.ensures.three;
     } in
     let eager : walk_of_operator (class_of c.args.operator) ≡ WalkClass.Eager = class_of_place c.args.checked.now.list c.args.place WalkClass.Eager (NodeKind.Binary c.args.operator) c.requires.eager c.requires.operator in
-    may_apply_there c.args.entity.now c.args.now.now c.args.checked.now.list c.args.place c.args.operator c.requires.operator c.right_of.result c.right_of.ensures
-    c.typed_trees_end_once_on_entities.ensures c.requires.entity promotes c.comparisons_are_decided.ensures.any_reading c.args.left c.in-Ok.right c.node_at.result.now c.node_at.ensures
-    eager c.requires.stands c.requires.left c.in-Ok.ensures
+    may_apply_there c.args.entity.now c.args.now.now c.args.checked.now.list c.args.place c.args.operator c.requires.operator c.right_of-right_place.result c.right_of-right_place.ensures
+    c.typed_trees_end_once_on_entities.ensures c.requires.entity promotes c.comparisons_are_decided.ensures.any_reading c.args.left.now c.datum_of.result c.node_at.result.now c.node_at.ensures
+    eager c.requires.stands c.requires.left
+    (kept_datum c.args.entity.now c.args.now.now c.args.checked.now.list c.right_of-right_place.result c.in-Leaf.value.now c.datum_of.result (c.in-Leaf.ensures c.args.now.now) c.datum_of.ensures)
+
+pub applied_at-returns-in-Leaf : goal.applied_at-returns-in-Leaf
+applied_at-returns-in-Leaf t c =
+    eager_answers c.args.entity.now c.args.now.now c.args.checked.now.list c.args.place c.args.operator c.requires.operator c.right_of-right_place.result c.right_of-right_place.ensures
+    c.args.left.now c.datum_of.result c.node_at.result.now c.applied.result c.node_at.ensures c.trees_have_one_type.ensures c.requires.left
+    (kept_datum c.args.entity.now c.args.now.now c.args.checked.now.list c.right_of-right_place.result c.in-Leaf.value.now c.datum_of.result (c.in-Leaf.ensures c.args.now.now) c.datum_of.ensures)
+    c.applied.ensures
+
+pub applied_at-operand_at-requires : goal.applied_at-operand_at-requires
+applied_at-operand_at-requires t c =
+    let inside : c.args.place < length c.args.checked.now.list.nodes = part_inside c.args.entity.now [] c.args.checked.now.list c.args.place c.requires.stands in
+    let behind : c.args.place < c.right_of-right_place.result =
+    right_further c.args.entity.now [] c.args.checked.now.list c.args.place c.args.operator c.requires.operator c.requires.stands c.right_of-right_place.result c.right_of-right_place.ensures in
+    let smaller : 8 * (length c.args.checked.now.list.nodes - c.right_of-right_place.result) + 7 < 8 * (length c.args.checked.now.list.nodes - c.args.place) + 1 = omega arith in
+    let stands : PartStands c.args.entity.now [] c.args.checked.now.list c.right_of-right_place.result =
+    right_part c.args.entity.now [] c.args.checked.now.list c.args.place c.args.operator c.requires.operator c.requires.stands c.right_of-right_place.result c.right_of-right_place.ensures in
+    search rules
+
+pub applied_at-applied-requires-in-Ok : goal.applied_at-applied-requires-in-Ok
+applied_at-applied-requires-in-Ok t c =
+    let promotes : Promotes = record {
+      left = c.operands_lie_within_promotion.ensures.left;
+      right = c.operands_lie_within_promotion.ensures.right;
+      negation = c.operands_lie_within_promotion.ensures.negation;
+      three = c.operands_lie_within_promotion.ensures.three;
+    } in
+    let eager : walk_of_operator (class_of c.args.operator) ≡ WalkClass.Eager = class_of_place c.args.checked.now.list c.args.place WalkClass.Eager (NodeKind.Binary c.args.operator) c.requires.eager c.requires.operator in
+    may_apply_there c.args.entity.now c.args.now.now c.args.checked.now.list c.args.place c.args.operator c.requires.operator c.right_of-right_place.result c.right_of-right_place.ensures
+    c.typed_trees_end_once_on_entities.ensures c.requires.entity promotes c.comparisons_are_decided.ensures.any_reading c.args.left.now c.in-Ok.right c.node_at.result.now c.node_at.ensures
+    eager c.requires.stands c.requires.left
+    (subst (λ (r : Result Datum EvalFault). AnswersDatum c.args.entity.now c.args.now.now [] c.args.checked.now.list c.right_of-right_place.result r) c.in-Ok.is c.operand_at.ensures)
 
 pub applied_at-returns-in-Ok : goal.applied_at-returns-in-Ok
 applied_at-returns-in-Ok t c =
-    eager_answers c.args.entity.now c.args.now.now c.args.checked.now.list c.args.place c.args.operator c.requires.operator c.right_of.result c.right_of.ensures
-    c.args.left c.in-Ok.right c.node_at.result.now c.applied.result c.node_at.ensures c.trees_have_one_type.ensures c.requires.left c.in-Ok.ensures c.applied.ensures
+    eager_answers c.args.entity.now c.args.now.now c.args.checked.now.list c.args.place c.args.operator c.requires.operator c.right_of-right_place.result c.right_of-right_place.ensures
+    c.args.left.now c.in-Ok.right c.node_at.result.now c.applied-in-Ok.result c.node_at.ensures c.trees_have_one_type.ensures c.requires.left
+    (subst (λ (r : Result Datum EvalFault). AnswersDatum c.args.entity.now c.args.now.now [] c.args.checked.now.list c.right_of-right_place.result r) c.in-Ok.is c.operand_at.ensures)
+    c.applied-in-Ok.ensures
 
 pub applied_at-returns : goal.applied_at-returns
 applied_at-returns t c =
     let eager : walk_of_operator (class_of c.args.operator) ≡ WalkClass.Eager = class_of_place c.args.checked.now.list c.args.place WalkClass.Eager (NodeKind.Binary c.args.operator) c.requires.eager c.requires.operator in
-    eager_faults_answer c.args.entity.now c.args.now.now c.args.checked.now.list c.args.place c.args.operator c.requires.operator c.right_of.result c.right_of.ensures
-    c.args.left c.in-Err.behind eager c.requires.left c.in-Err.ensures
+    eager_faults_answer c.args.entity.now c.args.now.now c.args.checked.now.list c.args.place c.args.operator c.requires.operator c.right_of-right_place.result c.right_of-right_place.ensures
+    c.args.left.now c.in-Err.behind eager c.requires.left
+    (subst (λ (r : Result Datum EvalFault). AnswersDatum c.args.entity.now c.args.now.now [] c.args.checked.now.list c.right_of-right_place.result r) c.in-Err.is c.operand_at.ensures)

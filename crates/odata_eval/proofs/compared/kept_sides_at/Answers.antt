@@ -1,0 +1,50 @@
+use Rattle.std.proofs.Common.{◌≡◌, ◌∙◌, [], ap, sym, slice_get, arith}
+use Rattle.odata_typing.specs.declared.checked_node.CheckedNode.{CheckedNode}
+use Rattle.odata_typing.specs.declared.checked_node.NodeKind.{NodeKind}
+use Rattle.odata_typing.specs.declared.operator_class.OperatorClass.{OperatorClass}
+use Rattle.odata_typing.specs.OperatorClass.{class_of}
+use Rattle.odata_eval.specs.declared.part.WalkClass.{WalkClass}
+use Rattle.odata_eval.specs.private.WalkClass.{walk_of_operator}
+use Rattle.odata_eval.proofs.walking.Parts.{part_inside}
+use Rattle.odata_eval.proofs.walking.Shapes.{there_found}
+use Rattle.odata_eval.proofs.walking.Spines.{first_part, right_further, right_part, right_there}
+use Rattle.odata_eval.proofs.compared.kept_sides_at.Goals as goal
+
+pub node_at-requires : goal.node_at-requires
+node_at-requires c = part_inside c.args.entity.now [] c.args.checked.now.list c.args.place c.requires.stands
+
+pub right_of-right_place-requires : goal.right_of-right_place-requires
+right_of-right_place-requires c =
+    let here = there_found (λ (f : CheckedNode). f.kind ≡ NodeKind.Binary c.in-Binary.operator) (slice_get c.args.checked.now.list.nodes c.args.place) c.node_at.result.now c.node_at.ensures c.in-Binary.is in
+    right_there c.args.entity.now [] c.args.checked.now.list c.args.place c.in-Binary.operator here c.requires.stands
+
+pub overflow_add-place : goal.overflow_add-place
+overflow_add-place c =
+    let here = there_found (λ (f : CheckedNode). f.kind ≡ NodeKind.Binary c.in-Binary.operator) (slice_get c.args.checked.now.list.nodes c.args.place) c.node_at.result.now c.node_at.ensures c.in-Binary.is in
+    let behind = right_further c.args.entity.now [] c.args.checked.now.list c.args.place c.in-Binary.operator here c.requires.stands c.right_of-right_place.result c.right_of-right_place.ensures in
+    omega (arith, behind, c.right_of-right_place.type_inv)
+
+pub part_at-requires-clause-stands : goal.part_at-requires-clause-stands
+part_at-requires-clause-stands c =
+    let here = there_found (λ (f : CheckedNode). f.kind ≡ NodeKind.Binary c.in-Binary.operator) (slice_get c.args.checked.now.list.nodes c.args.place) c.node_at.result.now c.node_at.ensures c.in-Binary.is in
+    let class : class_of c.in-Binary.operator ≡ OperatorClass.Comparison c.in-Comparison.comparison = sym c.class_of-class.ensures ∙ c.in-Comparison.is in
+    first_part c.args.entity.now [] c.args.checked.now.list c.args.place (NodeKind.Binary c.in-Binary.operator)
+    (λ leaf. let e : WalkClass.Eager ≡ WalkClass.Leaf = sym (ap walk_of_operator class) ∙ leaf in cc) here c.requires.stands
+
+pub part_at-requires-2-clause-stands : goal.part_at-requires-2-clause-stands
+part_at-requires-2-clause-stands c =
+    let here = there_found (λ (f : CheckedNode). f.kind ≡ NodeKind.Binary c.in-Binary.operator) (slice_get c.args.checked.now.list.nodes c.args.place) c.node_at.result.now c.node_at.ensures c.in-Binary.is in
+    right_part c.args.entity.now [] c.args.checked.now.list c.args.place c.in-Binary.operator here c.requires.stands c.right_of-right_place.result c.right_of-right_place.ensures
+
+pub returns : goal.returns
+returns c = record {
+  found = c.node_at.result.now;
+  is_found = c.node_at.ensures;
+  operator = c.in-Binary.operator;
+  here = there_found (λ (f : CheckedNode). f.kind ≡ NodeKind.Binary c.in-Binary.operator) (slice_get c.args.checked.now.list.nodes c.args.place) c.node_at.result.now c.node_at.ensures c.in-Binary.is;
+  class = sym c.class_of-class.ensures ∙ c.in-Comparison.is;
+  right_place = c.right_of-right_place.result;
+  is_right = c.right_of-right_place.ensures;
+  left = c.in-Leaf.ensures;
+  right = c.in-Leaf-part_at.ensures;
+}
