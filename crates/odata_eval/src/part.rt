@@ -112,7 +112,7 @@ fn leaf_at<'e>(checked: &'e Checked<'_>, entity: &'e Entity<'_>, place: usize) -
 }
 
 /// Whether the walk takes the node in a place so. There is none past the end.
-fn is_class_at(checked: &Checked<'_>, place: usize, class: WalkClass) -> bool
+pub(crate) fn is_class_at(checked: &Checked<'_>, place: usize, class: WalkClass) -> bool
     ensures { IsTrue result ↔ IsClassAt checked.now.list class place }
 {
     match checked.nodes().get(place) {

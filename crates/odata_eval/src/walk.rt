@@ -11,7 +11,7 @@ use super::datum::{datum_of, datum_of_truth, step, truth_of};
 use super::fault::EvalFault;
 use super::laws::typed_trees_end_once_on_entities;
 use super::operators::{applied, decides, join, negated};
-use super::part::{Part, WalkClass, node_at, part_at, right_of, spine_bottom};
+use super::part::{Part, WalkClass, is_class_at, node_at, part_at, right_of, spine_bottom};
 use edm_entities::Entity;
 use edm_values::{Datum, Moment};
 use odata_functions::{compare, comparisons_are_decided, not3, operands_lie_within_promotion};
@@ -122,6 +122,24 @@ fn logical_at<'e>(
     }
 }
 
+/// The same as `truth_at`, where no chain is likely: a node that is none of truth values is taken at once.
+#[cycle(evaluate)]
+fn side_at<'e>(
+    checked: &'e Checked<'_>,
+    entity: &'e Entity<'_>,
+    now: &Moment,
+    place: usize,
+) -> Result<Option<bool>, EvalFault>
+    requires entity { IsEntity entity.now }
+    requires stands { TruthStands entity.now [] checked.now.list place }
+    ensures { AnswersTruth entity.now now.now [] checked.now.list place result }
+{
+    if is_class_at(checked, place, WalkClass::Logical) {
+        return truth_at(checked, entity, now, place);
+    }
+    plain_truth_at(checked, entity, now, place)
+}
+
 /// What a connective comes to. The right side of a decided one is left out.
 #[cycle(evaluate)]
 fn connected_at<'e>(
@@ -142,7 +160,7 @@ fn connected_at<'e>(
     if decides(connective, left) {
         return Ok(left);
     }
-    match truth_at(checked, entity, now, right_of(checked, place)) {
+    match side_at(checked, entity, now, right_of(checked, place)) {
         Ok(right) => Ok(join(connective, left, right)),
         Err(fault) => Err(fault),
     }

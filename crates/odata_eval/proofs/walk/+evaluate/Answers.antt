@@ -179,6 +179,17 @@ logical_at-returns-in-Not t c =
     subst (λ (r : Option Bool). AnswersTruth c.args.entity.now c.args.now.now [] c.args.checked.now.list c.args.place (Ok r)) (sym c.not3.ensures)
     (not_answers c.args.entity.now c.args.now.now c.args.checked.now.list c.args.place c.in-Ok.first here first)
 
+pub side_at-truth_at-requires : goal.side_at-truth_at-requires
+side_at-truth_at-requires t c =
+    let smaller : 8 * (length c.args.checked.now.list.nodes - c.args.place) + 6 < 8 * (length c.args.checked.now.list.nodes - c.args.place) + 7 = omega arith in
+    search rules
+
+pub side_at-plain_truth_at-requires : goal.side_at-plain_truth_at-requires
+side_at-plain_truth_at-requires t c =
+    let smaller : 8 * (length c.args.checked.now.list.nodes - c.args.place) + 5 < 8 * (length c.args.checked.now.list.nodes - c.args.place) + 7 = omega arith in
+    let plain : ¬ (IsClassAt c.args.checked.now.list WalkClass.Logical c.args.place) = λ logical. let e = c.is_class_at.ensures.1 logical in cc in
+    search rules
+
 pub connected_at-returns-then-decides : goal.connected_at-returns-then-decides
 connected_at-returns-then-decides t c =
     let there = operator_of_connective c.args.checked.now.list c.args.place c.args.connective c.requires.connective in
@@ -190,13 +201,13 @@ connected_at-right_of-requires t c =
     let there = operator_of_connective c.args.checked.now.list c.args.place c.args.connective c.requires.connective in
     right_there c.args.entity.now [] c.args.checked.now.list c.args.place there.operator there.here c.requires.stands
 
-pub connected_at-truth_at-requires : goal.connected_at-truth_at-requires
-connected_at-truth_at-requires t c =
+pub connected_at-side_at-requires : goal.connected_at-side_at-requires
+connected_at-side_at-requires t c =
     let there = operator_of_connective c.args.checked.now.list c.args.place c.args.connective c.requires.connective in
     let inside : c.args.place < length c.args.checked.now.list.nodes = part_inside c.args.entity.now [] c.args.checked.now.list c.args.place c.requires.stands in
     let behind : c.args.place < c.right_of.result =
     right_further c.args.entity.now [] c.args.checked.now.list c.args.place there.operator there.here c.requires.stands c.right_of.result c.right_of.ensures in
-    let smaller : 8 * (length c.args.checked.now.list.nodes - c.right_of.result) + 6 < 8 * (length c.args.checked.now.list.nodes - c.args.place) + 1 = omega arith in
+    let smaller : 8 * (length c.args.checked.now.list.nodes - c.right_of.result) + 7 < 8 * (length c.args.checked.now.list.nodes - c.args.place) + 1 = omega arith in
     let stands : TruthStands c.args.entity.now [] c.args.checked.now.list c.right_of.result =
     right_operand c.args.entity.now [] c.args.checked.now.list c.args.place c.requires.stands there.operator c.right_of.result (ap walk_of_operator there.class) there.here c.right_of.ensures in
     search rules

@@ -6,6 +6,9 @@ use Rattle.odata_eval.proofs.walk.+evaluate.Given as goal
 abbrev pub decreases-operand_at : goal.decreases-operand_at
 decreases-operand_at l = 8 * (length l.checked.now.list.nodes - l.place) + 7
 
+abbrev pub decreases-side_at : goal.decreases-side_at
+decreases-side_at l = 8 * (length l.checked.now.list.nodes - l.place) + 7
+
 abbrev pub decreases-truth_at : goal.decreases-truth_at
 decreases-truth_at l = 8 * (length l.checked.now.list.nodes - l.place) + 6
 
