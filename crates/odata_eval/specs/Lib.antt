@@ -17,8 +17,8 @@ pub use Rattle.odata_typing.specs.FlatTree
 pub use Rattle.odata_typing.specs.Levels
 pub use Rattle.odata_typing.specs.LiteralValue
 pub use Rattle.odata_typing.specs.NameKinds
-pub use Rattle.odata_typing.specs.OperatorClass
-pub use Rattle.odata_typing.specs.OperatorTyped
+pub use Rattle.odata_signatures.specs.OperatorClass
+pub use Rattle.odata_signatures.specs.OperatorTyped
 pub use Rattle.odata_typing.specs.Stands
 pub use Rattle.odata_typing.specs.Typed
 pub mod CalculationGives

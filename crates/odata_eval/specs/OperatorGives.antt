@@ -2,9 +2,9 @@
 use Rattle.edm_values.specs.Val.{Val}
 use Rattle.odata_syntax.specs.declared.node.BinaryOperator.{BinaryOperator}
 use Rattle.csdl_schema.specs.ExprType.{ExprType}
-use Rattle.odata_typing.specs.OperatorClass.{class_of}
-use Rattle.odata_typing.specs.declared.operator_class.OperatorClass.{OperatorClass}
-use Rattle.odata_typing.specs.declared.operator_class.OperatorClass.TheVariants.{Connective, Comparison, Arithmetic}
+use Rattle.odata_signatures.specs.OperatorClass.{class_of}
+use Rattle.odata_signatures.specs.declared.operator_class.OperatorClass.{OperatorClass}
+use Rattle.odata_signatures.specs.declared.operator_class.OperatorClass.TheVariants.{Connective, Comparison, Arithmetic}
 use Rattle.odata_eval.specs.CalculationGives.{CalculationGives}
 use Rattle.odata_eval.specs.CompareGives.{CompareGives}
 use Rattle.odata_eval.specs.LeftFirst.{After}

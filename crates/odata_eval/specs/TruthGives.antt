@@ -2,8 +2,8 @@
 use Rattle.std.specs.Prelude.{◌≡◌, Bool, true, false, Option, Some, None}
 use Rattle.edm_values.specs.Val.{Val, null, boolean}
 use Rattle.odata_functions.specs.Connectives.{and3, or3, not3}
-use Rattle.odata_typing.specs.declared.operator_class.Connective.{Connective}
-use Rattle.odata_typing.specs.declared.operator_class.Connective.TheVariants.{And, Or}
+use Rattle.odata_signatures.specs.declared.operator_class.Connective.{Connective}
+use Rattle.odata_signatures.specs.declared.operator_class.Connective.TheVariants.{And, Or}
 use Rattle.odata_eval.specs.LeftFirst.{After}
 use Rattle.odata_eval.specs.Outcome.{Outcome, gives}
 

@@ -7,7 +7,8 @@ use super::part::{Part, node_at, part_at, right_of};
 use edm_entities::Entity;
 use edm_values::Value;
 use odata_functions::ComparisonOperator;
-use odata_typing::{Checked, NodeKind, OperatorClass, class_of};
+use odata_signatures::{OperatorClass, class_of};
+use odata_typing::{Checked, NodeKind};
 
 /// A comparison with both its sides.
 #[derive(Clone, Copy)]

@@ -3,8 +3,8 @@ ghost use Rattle.std.specs.Prelude.{◌≡◌, ◌↔◌, Some, IsTrue, IsSomeAn
 ghost use Rattle.edm_values.specs.declared.primitive.PrimitiveType.{PrimitiveType};
 ghost use Rattle.csdl_schema.specs.SchemaModel.{SchemaModel};
 ghost use Rattle.odata_functions.specs.DatumVal.{Reading, datum_val};
-ghost use Rattle.odata_typing.specs.OperatorClass.{class_of};
-ghost use Rattle.odata_typing.specs.TypeView.{expr_type};
+ghost use Rattle.odata_signatures.specs.OperatorClass.{class_of};
+ghost use Rattle.odata_signatures.specs.TypeView.{expr_type};
 ghost use Rattle.odata_eval.specs.CalculationGives.{CalculationGives, NegatedGives, number_outcome};
 ghost use Rattle.odata_eval.specs.TruthGives.{joined, truth_val};
 ghost use Rattle.odata_eval.specs.private.DatumView.{datum_outcome};
@@ -16,8 +16,8 @@ use edm_values::{Datum, Prim};
 use odata_functions::{
     ArithFault, ArithmeticOperator, and3, arith, compare, comparisons_are_decided, negate, or3,
 };
+use odata_signatures::{Connective, EdmType, OperatorClass, ValueType, class_of};
 use odata_syntax::BinaryOperator;
-use odata_typing::{Connective, EdmType, OperatorClass, ValueType, class_of};
 
 /// Whether the left truth value alone decides.
 pub(crate) fn decides(connective: Connective, left: Option<bool>) -> bool

@@ -6,7 +6,8 @@ ghost use Rattle.edm_values.specs.MomentParts.{MomentParts};
 
 use edm_entities::Entity;
 use edm_values::Value;
-use odata_typing::{Checked, CheckedNode, NodeKind, OperatorClass, class_of};
+use odata_signatures::{OperatorClass, class_of};
+use odata_typing::{Checked, CheckedNode, NodeKind};
 
 /// How the walk takes a node: as a value that is there, by the truth values of its operands, or by their values.
 #[derive(Clone, Copy, PartialEq, Eq)]

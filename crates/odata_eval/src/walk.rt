@@ -15,8 +15,9 @@ use super::part::{Part, WalkClass, is_class_at, node_at, part_at, right_of, spin
 use edm_entities::Entity;
 use edm_values::{Datum, Moment};
 use odata_functions::{compare, comparisons_are_decided, not3, operands_lie_within_promotion};
+use odata_signatures::{Connective, OperatorClass, class_of};
 use odata_syntax::BinaryOperator;
-use odata_typing::{Checked, Connective, NodeKind, OperatorClass, class_of, trees_have_one_type};
+use odata_typing::{Checked, NodeKind, trees_have_one_type};
 
 /// What a node of type Boolean or Null comes to on an entity of the filtered type.
 #[cycle(evaluate)]

@@ -4,4 +4,3 @@ pub mod Examples
 pub mod Literals
 pub mod OneType
 pub mod OneValue
-pub mod Operators

@@ -7,7 +7,7 @@ use Rattle.csdl_schema.specs.SchemaModel.{PropertyModel, PropertyType, declared,
 use Rattle.odata_typing.specs.declared.refusal.TypeFault.{TypeFault}
 use Rattle.odata_typing.specs.declared.refusal.TypeFaultCode.{TypeFaultCode}
 use Rattle.odata_typing.specs.Considered.{IsConsidered, ChildrenTyped}
-use Rattle.odata_typing.specs.ExprTypes.{IsBooleanOrNull}
+use Rattle.odata_signatures.specs.ExprTypes.{IsBooleanOrNull}
 use Rattle.odata_typing.specs.Typed.{Scope, Typed, IsUntyped, property_named}
 
 -- why a property has no type

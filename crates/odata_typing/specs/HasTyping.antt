@@ -9,7 +9,7 @@ use Rattle.csdl_schema.specs.ExprType.{ExprType}
 use Rattle.csdl_schema.specs.SchemaModel.{Slots}
 use Rattle.odata_typing.specs.declared.refusal.Refusal.{Refusal}
 use Rattle.odata_typing.specs.declared.refusal.TypeFault.{TypeFault}
-use Rattle.odata_typing.specs.ExprTypes.{IsBooleanOrNull}
+use Rattle.odata_signatures.specs.ExprTypes.{IsBooleanOrNull}
 use Rattle.odata_typing.specs.FirstUntypable.{IsTypeFault}
 use Rattle.odata_typing.specs.Typed.{Typed}
 

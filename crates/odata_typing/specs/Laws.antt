@@ -11,9 +11,9 @@ use Rattle.csdl_schema.specs.ExprType.{ExprType, single, primitive}
 use Rattle.csdl_schema.specs.SchemaModel.{PropertyModel, SchemaModel, Slots, declared}
 use Rattle.odata_typing.specs.declared.checked_node.CheckedNode.{CheckedNode}
 use Rattle.odata_typing.specs.declared.checked_node.NodeKind.{NodeKind}
-use Rattle.odata_typing.specs.declared.edm_type.EdmType.{EdmType}
-use Rattle.odata_typing.specs.declared.edm_type.ValueType.{ValueType}
-use Rattle.odata_typing.specs.ExprTypes.{boolean_type}
+use Rattle.odata_signatures.specs.declared.edm_type.EdmType.{EdmType}
+use Rattle.odata_signatures.specs.declared.edm_type.ValueType.{ValueType}
+use Rattle.odata_signatures.specs.ExprTypes.{boolean_type}
 use Rattle.odata_syntax.specs.Parse.{IsExpression}
 use Rattle.odata_typing.specs.FirstUntypable.{IsUntypable}
 use Rattle.odata_typing.specs.HasTyping.{HasNoTyping, IsRefusal}

@@ -17,7 +17,7 @@ use Rattle.odata_syntax.specs.declared.node.LiteralKind.{LiteralKind}
 use Rattle.csdl_schema.specs.EnumerationText.{IsValueIn, IsWithin}
 use Rattle.csdl_schema.specs.ExprType.{ExprType, null_type, single, primitive, enumeration}
 use Rattle.csdl_schema.specs.SchemaModel.{Slots}
-use Rattle.odata_typing.specs.ExprTypes.{boolean_type, string_type}
+use Rattle.odata_signatures.specs.ExprTypes.{boolean_type, string_type}
 
 -- the words of the two truth values, read in any ASCII case
 abbrev pub truth_word : Bool → List ℕ

@@ -13,7 +13,7 @@ use Rattle.odata_typing.specs.FlatTree.{FlatTree}
 use Rattle.odata_typing.specs.Levels.{level_named}
 use Rattle.odata_typing.specs.LiteralValue.{LiteralValue}
 use Rattle.odata_typing.specs.Typed.{Scope, Typed}
-use Rattle.odata_typing.specs.TypeView.{expr_type}
+use Rattle.odata_signatures.specs.TypeView.{expr_type}
 
 -- the names of a scope's variables
 abbrev pub names_of : Scope → List (List ℕ)

@@ -7,7 +7,7 @@ use Rattle.odata_syntax.specs.declared.node.BinaryOperator.{BinaryOperator}
 use Rattle.csdl_schema.specs.ExprType.{ExprType, single, structured}
 use Rattle.csdl_schema.specs.SchemaModel.{PropertyModel, Slots, declared}
 use Rattle.odata_typing.specs.LiteralValue.{LiteralTyped}
-use Rattle.odata_typing.specs.OperatorTyped.{OperatorTyped, NegationTyped, NotTyped}
+use Rattle.odata_signatures.specs.OperatorTyped.{OperatorTyped, NegationTyped, NotTyped}
 
 -- the range variables that may be named, each with its type, the innermost first
 abbrev pub Scope : Type 0

@@ -4,5 +4,4 @@ pub mod CanonicalWalk
 pub mod EarlierFault
 pub mod Judged
 pub mod ListGrowth
-pub mod ManyValues
 pub mod StepFound

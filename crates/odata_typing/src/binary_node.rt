@@ -3,17 +3,17 @@ ghost use Rattle.std.specs.Prelude.{◌≡◌, ◌<◌, ◌≤◌, [], ℕ, leng
 ghost use Rattle.odata_syntax.specs.Tree.{Tree, node, binary};
 ghost use Rattle.csdl_schema.specs.SchemaModel.{SchemaModel};
 ghost use Rattle.odata_typing.specs.FlatTree.{FlatTree};
-ghost use Rattle.odata_typing.specs.private.Answer.{IsAnswer, IsTypeThere, IsWalked};
+ghost use Rattle.odata_signatures.specs.TypeThere.{IsTypeThere};
+ghost use Rattle.odata_typing.specs.private.Answer.{IsAnswer, IsWalked};
 ghost use Rattle.odata_typing.specs.private.ListGrowth.{IsOpened};
 
 use super::checked_node::NodeKind;
-use super::edm_type::EdmType;
 use super::node::open_node;
 use super::node_list::NodeList;
-use super::operator::made_type;
 use super::refusal::{TypeFault, TypeFaultCode};
 use super::untyped::{Untyped, earlier};
 use csdl_schema::Schema;
+use odata_signatures::{EdmType, made_type};
 use odata_syntax::BinaryOperator;
 use odata_text::Span;
 use std::alloc::Global;

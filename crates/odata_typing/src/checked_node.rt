@@ -1,4 +1,4 @@
-use super::edm_type::EdmType;
+use odata_signatures::EdmType;
 use odata_syntax::{BinaryOperator, LiteralKind};
 use odata_text::Span;
 

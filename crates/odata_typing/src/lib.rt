@@ -7,16 +7,12 @@ mod canonical_text;
 mod checked;
 mod checked_node;
 mod checker;
-mod comparison;
-mod edm_type;
 mod enumeration_literal;
 mod laws;
 mod literal;
 mod node;
 mod node_list;
 mod normal_form_laws;
-mod operator;
-mod operator_class;
 mod path_node;
 mod property;
 mod reading;
@@ -28,12 +24,11 @@ mod untyped_form;
 pub use checked::Checked;
 pub use checked_node::{CheckedNode, NodeKind};
 pub use checker::check;
-pub use edm_type::{EdmType, ValueType};
 pub use laws::{
     a_filter_of_items_is_boolean, a_list_is_read_as_its_tree, a_list_stands_for_one_tree,
     a_number_is_no_text, literals_have_one_value, texts_have_one_refusal, trees_have_one_type,
     typed_trees_are_clear, untypable_nodes_start_apart,
 };
 pub use normal_form_laws::{canonical_texts_keep_types, normal_forms_keep_types};
-pub use operator_class::{Connective, OperatorClass, class_of};
+pub use odata_signatures::{EdmType, ValueType};
 pub use refusal::{Refusal, TypeFault, TypeFaultCode};

@@ -1,18 +1,19 @@
 ghost use Rattle.std.specs.Prelude.{◌≡◌, ◌≤◌, ℕ, length, IfOk};
 ghost use Rattle.odata_syntax.specs.Tree.{node, literal};
 ghost use Rattle.csdl_schema.specs.SchemaModel.{SchemaModel};
-ghost use Rattle.odata_typing.specs.private.Answer.{IsAnswer, IsReading, IsTypeThere};
+ghost use Rattle.odata_signatures.specs.TypeThere.{IsTypeThere};
+ghost use Rattle.odata_typing.specs.private.Answer.{IsAnswer, IsReading};
 ghost use Rattle.odata_typing.specs.FirstUntypable.{LiteralReason};
 ghost use Rattle.odata_typing.specs.Typed.{Scope};
 
 use super::checked_node::NodeKind;
-use super::edm_type::EdmType;
 use super::node_list::NodeList;
 use super::reading::{Reading, read_literal};
 use super::refusal::{TypeFault, TypeFaultCode};
 use super::untyped::Untyped;
 use csdl_schema::Schema;
 use edm_values::LitFault;
+use odata_signatures::EdmType;
 use odata_syntax::LiteralKind;
 use odata_text::Span;
 use std::alloc::Global;

@@ -1,11 +1,11 @@
 ghost use Rattle.std.specs.Prelude.{◌≡◌, ◌≤◌, [], length, string_bytes, IfOk, IfErr};
 ghost use Rattle.odata_syntax.specs.TreeView.{tree_of};
-ghost use Rattle.odata_typing.specs.private.Answer.{IsAnswer, IsTypeThere};
+ghost use Rattle.odata_signatures.specs.TypeThere.{IsTypeThere};
+ghost use Rattle.odata_typing.specs.private.Answer.{IsAnswer};
 ghost use Rattle.odata_typing.specs.private.ListGrowth.{IsOpened};
 
 use super::binary_node::{close_binary, open_operator};
 use super::checked_node::NodeKind;
-use super::edm_type::{BOOLEAN, EdmType};
 use super::literal::checked_literal;
 use super::node_list::NodeList;
 use super::path_node::{checked_it, checked_member};
@@ -14,6 +14,7 @@ use super::unary_node::{checked_negation, checked_not};
 use super::untyped::Untyped;
 use super::untyped_form::untyped_form;
 use csdl_schema::{Schema, TypeId};
+use odata_signatures::{BOOLEAN, EdmType};
 use odata_syntax::Node;
 use odata_text::Span;
 use std::alloc::Global;

@@ -2,9 +2,9 @@ ghost use Rattle.std.specs.Prelude.{◌≡◌, ◌<◌, ◌+◌, [], Some, lengt
 ghost use Rattle.odata_typing.specs.private.ListGrowth.{with_node, with_value, node_put};
 
 use super::checked_node::{CheckedNode, NodeKind};
-use super::edm_type::EdmType;
 use super::untyped::Untyped;
 use edm_values::Value;
+use odata_signatures::EdmType;
 use odata_text::Span;
 use std::alloc::Global;
 use std::marker::Model;

@@ -4,17 +4,18 @@ ghost use Rattle.odata_syntax.specs.Tree.{node, name};
 ghost use Rattle.csdl_schema.specs.ExprType.{ExprType};
 ghost use Rattle.csdl_schema.specs.PropertyView.{PointsWithin, property_type};
 ghost use Rattle.csdl_schema.specs.SchemaModel.{SchemaModel, declared, properties_at, slot_named};
-ghost use Rattle.odata_typing.specs.private.Answer.{IsAnswer, IsTypeThere};
+ghost use Rattle.odata_signatures.specs.TypeThere.{IsTypeThere};
+ghost use Rattle.odata_typing.specs.private.Answer.{IsAnswer};
 ghost use Rattle.odata_typing.specs.FirstUntypable.{NameReason, PropertyReason};
-ghost use Rattle.odata_typing.specs.TypeView.{expr_type};
+ghost use Rattle.odata_signatures.specs.TypeView.{expr_type};
 ghost use Rattle.odata_typing.specs.Typed.{PropertyTyped};
 
 use super::checked_node::NodeKind;
-use super::edm_type::{EdmType, ValueType};
 use super::node_list::NodeList;
 use super::refusal::{TypeFault, TypeFaultCode};
 use super::untyped::Untyped;
 use csdl_schema::{Property, PropertyKind, Schema, TypeId};
+use odata_signatures::{EdmType, ValueType};
 use odata_text::Span;
 use std::alloc::Global;
 

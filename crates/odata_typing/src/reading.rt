@@ -4,12 +4,13 @@ ghost use Rattle.edm_values.specs.StringLiteral.{OnForm};
 ghost use Rattle.csdl_schema.specs.ExprType.{ExprType};
 ghost use Rattle.csdl_schema.specs.SchemaModel.{slots_of};
 ghost use Rattle.odata_typing.specs.LiteralValue.{BooleanValue, LiteralTyped};
-ghost use Rattle.odata_typing.specs.private.Answer.{IsReading, IsTypeThere};
+ghost use Rattle.odata_signatures.specs.TypeThere.{IsTypeThere};
+ghost use Rattle.odata_typing.specs.private.Answer.{IsReading};
 
-use super::edm_type::{EdmType, ValueType};
 use super::enumeration_literal::read_enumeration;
 use csdl_schema::Schema;
 use edm_values::{LitFault, Prim, Value, read_date, read_guid, read_int, read_moment, read_string};
+use odata_signatures::{EdmType, ValueType};
 use odata_syntax::LiteralKind;
 use std::alloc::Global;
 

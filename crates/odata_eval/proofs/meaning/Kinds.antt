@@ -8,8 +8,8 @@ use Rattle.csdl_schema.specs.SchemaModel.{Slots}
 use Rattle.edm_entities.specs.HasType.{HasType}
 use Rattle.odata_functions.specs.Comparable.{AreComparableBy, HaveEquality, HaveOrder}
 use Rattle.odata_functions.specs.declared.comparison.ComparisonOperator.{ComparisonOperator}
-use Rattle.odata_typing.specs.ComparableTypes.{AreAlikePrimitives, AreComparable, AreComparableSingles, AreComparedBy, AreOrdered, IsOrderedPrimitive, IsOrderedSingle}
-use Rattle.odata_typing.specs.ExprTypes.{boolean_type, IsBooleanOrNull}
+use Rattle.odata_signatures.specs.ComparableTypes.{AreAlikePrimitives, AreComparable, AreComparableSingles, AreComparedBy, AreOrdered, IsOrderedPrimitive, IsOrderedSingle}
+use Rattle.odata_signatures.specs.ExprTypes.{boolean_type, IsBooleanOrNull}
 
 -- the kinds of values without parts
 pub data ValueKind : Type 0 where

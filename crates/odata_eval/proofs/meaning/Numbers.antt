@@ -8,8 +8,8 @@ use Rattle.csdl_schema.specs.ExprType.{ExprType, null_type, single, collection, 
 use Rattle.csdl_schema.specs.SchemaModel.{Slots}
 use Rattle.edm_entities.specs.HasType.{HasType}
 use Rattle.odata_functions.specs.Promotion.{negation_type, promotion, wider_type}
-use Rattle.odata_typing.specs.ExprTypes.{IsNumberOrNull, number_or_null}
-use Rattle.odata_typing.specs.OperatorTyped.{ArithmeticTyped, NegationTyped}
+use Rattle.odata_signatures.specs.ExprTypes.{IsNumberOrNull, number_or_null}
+use Rattle.odata_signatures.specs.OperatorTyped.{ArithmeticTyped, NegationTyped}
 use Rattle.odata_eval.specs.private.Operands.{AreNumbers, IsOneNumber}
 use Rattle.odata_eval.proofs.meaning.LawsBelow.{Promotes}
 

@@ -6,8 +6,8 @@ use Rattle.odata_syntax.specs.Tree.{Tree, node, Shape, literal, it, name, member
 use Rattle.csdl_schema.specs.ExprType.{ExprType}
 use Rattle.csdl_schema.specs.SchemaModel.{Slots}
 use Rattle.odata_typing.specs.LiteralValue.{LiteralValue}
-use Rattle.odata_typing.specs.OperatorClass.{class_of}
-use Rattle.odata_typing.specs.OperatorTyped.{NegationTyped}
+use Rattle.odata_signatures.specs.OperatorClass.{class_of}
+use Rattle.odata_signatures.specs.OperatorTyped.{NegationTyped}
 use Rattle.odata_typing.specs.Typed.{OperandTyped, OperandsTyped, Typed}
 use Rattle.odata_eval.specs.CalculationGives.{NegatedGives}
 use Rattle.odata_eval.specs.Environment.{Environment, scope_of, variable_value}

@@ -16,8 +16,8 @@ use Rattle.odata_syntax.specs.Tree.{Shape, Tree, any_item, binary, call, count, 
 use Rattle.odata_syntax.specs.declared.node.BinaryOperator.{BinaryOperator}
 use Rattle.odata_syntax.specs.declared.node.LiteralKind.{LiteralKind}
 use Rattle.odata_typing.specs.LiteralValue.{LiteralValue}
-use Rattle.odata_typing.specs.OperatorClass.{class_of}
-use Rattle.odata_typing.specs.OperatorTyped.{NegationTyped}
+use Rattle.odata_signatures.specs.OperatorClass.{class_of}
+use Rattle.odata_signatures.specs.OperatorTyped.{NegationTyped}
 use Rattle.odata_typing.specs.Typed.{OperandTyped, OperandsTyped, Scope, Typed}
 use Rattle.odata_eval.specs.CalculationGives.{NegatedGives}
 use Rattle.odata_eval.specs.Environment.{Environment, scope_of}

@@ -18,7 +18,7 @@ use Rattle.odata_functions.specs.DatumVal.{datum_val}
 use Rattle.odata_typing.specs.declared.checked_node.NodeKind.{NodeKind}
 use Rattle.odata_typing.specs.FlatTree.{FlatTree}
 use Rattle.odata_typing.specs.Laws.{OneType}
-use Rattle.odata_typing.specs.TypeView.{expr_type}
+use Rattle.odata_signatures.specs.TypeView.{expr_type}
 use Rattle.odata_typing.specs.Typed.{PropertyTyped, StepTyped, property_named}
 use Rattle.odata_eval.specs.EndsOnce.{EndsOnceOnEntities}
 use Rattle.odata_eval.specs.NameGives.{FieldGives, StepGives}

@@ -10,9 +10,9 @@ use Rattle.csdl_schema.specs.SchemaModel.{SchemaModel}
 use Rattle.odata_functions.specs.DatumVal.{Reading, datum_val}
 use Rattle.odata_functions.specs.Promotion.{IsPromoted}
 use Rattle.odata_functions.specs.declared.arithmetic.ArithmeticOperator.{ArithmeticOperator}
-use Rattle.odata_typing.specs.TypeView.{expr_type}
-use Rattle.odata_typing.specs.declared.edm_type.EdmType.{EdmType}
-use Rattle.odata_typing.specs.declared.edm_type.ValueType.{ValueType}
+use Rattle.odata_signatures.specs.TypeView.{expr_type}
+use Rattle.odata_signatures.specs.declared.edm_type.EdmType.{EdmType}
+use Rattle.odata_signatures.specs.declared.edm_type.ValueType.{ValueType}
 use Rattle.odata_eval.specs.CalculationGives.{CalculationGives}
 use Rattle.odata_eval.specs.Outcome.{gives}
 use Rattle.odata_eval.specs.TruthGives.{truth_val}

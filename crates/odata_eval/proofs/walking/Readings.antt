@@ -6,9 +6,9 @@ use Rattle.edm_values.specs.declared.datum.Datum.TheVariants as datum
 use Rattle.csdl_schema.specs.ExprType.{ExprType}
 use Rattle.csdl_schema.specs.SchemaModel.{SchemaModel}
 use Rattle.odata_functions.specs.DatumVal.{Reading, datum_val}
-use Rattle.odata_typing.specs.TypeView.{expr_type}
-use Rattle.odata_typing.specs.declared.edm_type.EdmType.{EdmType}
-use Rattle.odata_typing.specs.declared.edm_type.ValueType.{ValueType}
+use Rattle.odata_signatures.specs.TypeView.{expr_type}
+use Rattle.odata_signatures.specs.declared.edm_type.EdmType.{EdmType}
+use Rattle.odata_signatures.specs.declared.edm_type.ValueType.{ValueType}
 use Rattle.odata_eval.specs.TruthGives.{truth_val}
 use Rattle.odata_eval.specs.private.Operands.{AreNumbers, IsOneNumber}
 use Rattle.odata_eval.proofs.meaning.Kinds.{IsOfKind, truths}

@@ -16,14 +16,14 @@ use Rattle.odata_functions.specs.DatumVal.{Reading, datum_val}
 use Rattle.odata_functions.specs.declared.comparison.ComparisonOperator.{ComparisonOperator}
 use Rattle.odata_typing.specs.declared.checked_node.CheckedNode.{CheckedNode}
 use Rattle.odata_typing.specs.declared.checked_node.NodeKind.{NodeKind}
-use Rattle.odata_typing.specs.declared.edm_type.EdmType.{EdmType}
-use Rattle.odata_typing.specs.declared.operator_class.Connective.{Connective}
-use Rattle.odata_typing.specs.declared.operator_class.OperatorClass.{OperatorClass}
+use Rattle.odata_signatures.specs.declared.edm_type.EdmType.{EdmType}
+use Rattle.odata_signatures.specs.declared.operator_class.Connective.{Connective}
+use Rattle.odata_signatures.specs.declared.operator_class.OperatorClass.{OperatorClass}
 use Rattle.odata_typing.specs.FlatTree.{FlatTree}
 use Rattle.odata_typing.specs.Laws.{OneType}
-use Rattle.odata_typing.specs.TypeView.{expr_type}
-use Rattle.odata_typing.specs.OperatorClass.{class_of}
-use Rattle.odata_typing.specs.OperatorTyped.{ClassTyped}
+use Rattle.odata_signatures.specs.TypeView.{expr_type}
+use Rattle.odata_signatures.specs.OperatorClass.{class_of}
+use Rattle.odata_signatures.specs.OperatorTyped.{ClassTyped}
 use Rattle.odata_eval.specs.declared.fault.EvalFault.{EvalFault}
 use Rattle.odata_eval.specs.declared.part.WalkClass.{WalkClass}
 use Rattle.odata_eval.specs.CalculationGives.{CalculationGives, NegatedGives}

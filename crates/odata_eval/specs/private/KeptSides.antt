@@ -5,8 +5,8 @@ use Rattle.edm_entities.specs.Row.{Row}
 use Rattle.odata_syntax.specs.declared.node.BinaryOperator.{BinaryOperator}
 use Rattle.odata_typing.specs.FlatTree.{FlatTree}
 use Rattle.odata_typing.specs.declared.checked_node.CheckedNode.{CheckedNode}
-use Rattle.odata_typing.specs.OperatorClass.{class_of}
-use Rattle.odata_typing.specs.declared.operator_class.OperatorClass.{OperatorClass}
+use Rattle.odata_signatures.specs.OperatorClass.{class_of}
+use Rattle.odata_signatures.specs.declared.operator_class.OperatorClass.{OperatorClass}
 use Rattle.odata_eval.specs.declared.compared.KeptSides.{KeptSides}
 use Rattle.odata_eval.specs.Environment.{Environment}
 use Rattle.odata_eval.specs.private.Place.{HasOperator, IsRightOf}

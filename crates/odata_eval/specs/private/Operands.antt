@@ -4,7 +4,7 @@ use Rattle.edm_values.specs.Val.{Val, null, whole}
 use Rattle.csdl_schema.specs.ExprType.{ExprType, single, primitive}
 use Rattle.odata_functions.specs.Comparable.{AreComparableBy}
 use Rattle.odata_functions.specs.Promotion.{IsPromoted}
-use Rattle.odata_typing.specs.declared.operator_class.OperatorClass.{OperatorClass}
+use Rattle.odata_signatures.specs.declared.operator_class.OperatorClass.{OperatorClass}
 use Rattle.odata_eval.specs.CalculationGives.{CalculationGives}
 use Rattle.odata_eval.specs.CompareGives.{CompareGives}
 use Rattle.odata_eval.specs.Outcome.{Outcome}

@@ -1,10 +1,10 @@
 -- For private clauses: how the walk takes a node.
 use Rattle.std.specs.Prelude.{true, false}
 use Rattle.edm_values.specs.Val.{Val, boolean}
-use Rattle.odata_typing.specs.OperatorClass.{class_of}
+use Rattle.odata_signatures.specs.OperatorClass.{class_of}
 use Rattle.odata_typing.specs.declared.checked_node.NodeKind.{NodeKind}
-use Rattle.odata_typing.specs.declared.operator_class.Connective.{Connective}
-use Rattle.odata_typing.specs.declared.operator_class.OperatorClass.{OperatorClass}
+use Rattle.odata_signatures.specs.declared.operator_class.Connective.{Connective}
+use Rattle.odata_signatures.specs.declared.operator_class.OperatorClass.{OperatorClass}
 use Rattle.odata_eval.specs.declared.part.WalkClass.{WalkClass}
 
 -- a connective takes truth values, any other operator the values of both sides

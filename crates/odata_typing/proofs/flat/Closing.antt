@@ -10,13 +10,13 @@ use Rattle.csdl_schema.specs.ExprType.{ExprType, single, structured}
 use Rattle.csdl_schema.specs.SchemaModel.{SchemaModel, Slots, properties_at, slot_named, slots_of, type_name_at}
 use Rattle.odata_typing.specs.declared.checked_node.CheckedNode.{CheckedNode}
 use Rattle.odata_typing.specs.declared.checked_node.NodeKind.{NodeKind}
-use Rattle.odata_typing.specs.declared.edm_type.EdmType.{EdmType}
-use Rattle.odata_typing.specs.declared.edm_type.ValueType.{ValueType}
+use Rattle.odata_signatures.specs.declared.edm_type.EdmType.{EdmType}
+use Rattle.odata_signatures.specs.declared.edm_type.ValueType.{ValueType}
 use Rattle.odata_typing.specs.FlatTree.{FlatTree}
-use Rattle.odata_typing.specs.OperatorTyped.{NegationTyped, NotTyped, OperatorTyped}
+use Rattle.odata_signatures.specs.OperatorTyped.{NegationTyped, NotTyped, OperatorTyped}
 use Rattle.odata_typing.specs.Stands.{ChildrenStand, IsKindOf, IsMemberNode, Stands, text_of_shape}
 use Rattle.odata_typing.specs.Typed.{PropertyTyped, Scope, StepTyped, Typed}
-use Rattle.odata_typing.specs.TypeView.{expr_type}
+use Rattle.odata_signatures.specs.TypeView.{expr_type}
 use Rattle.odata_typing.specs.private.Answer.{IsKept, IsReading, IsWalked}
 use Rattle.odata_typing.specs.private.StepFound.{IsStepSlot}
 use Rattle.odata_typing.specs.private.ListGrowth.{IsOpened, with_node, with_value, node_put}

@@ -17,7 +17,7 @@ use Rattle.odata_typing.specs.PreOrder.{pre_order, span_of_tree}
 use Rattle.odata_typing.specs.ScopedNodes.{ScopedNode, scoped_nodes}
 use Rattle.odata_typing.specs.Stands.{Stands, IsKindOf, names_of}
 use Rattle.odata_typing.specs.Typed.{Scope, Typed}
-use Rattle.odata_typing.specs.TypeView.{expr_type}
+use Rattle.odata_signatures.specs.TypeView.{expr_type}
 use Rattle.odata_typing.proofs.flat.Places.{found_within, same_found}
 use Rattle.odata_typing.proofs.flat.Parts.{IsPart, part_stands, parts_count, parts_of}
 use Rattle.odata_typing.proofs.flat.Standing.{stands_size}

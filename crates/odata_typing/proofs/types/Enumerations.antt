@@ -15,9 +15,9 @@ use Rattle.edm_values.specs.declared.value.Value as code
 use Rattle.csdl_schema.specs.EnumerationText.{IsValueIn, IsWithin}
 use Rattle.csdl_schema.specs.SchemaModel.{HoldsEnumeration, IsEnumerationByName, SchemaModel, enumeration_at, enumeration_named, is_enumeration, is_kind_at, place_if, slots_of, type_name_at}
 use Rattle.odata_syntax.specs.declared.node.LiteralKind.{LiteralKind}
-use Rattle.odata_typing.specs.declared.edm_type.EdmType.{EdmType}
+use Rattle.odata_signatures.specs.declared.edm_type.EdmType.{EdmType}
 use Rattle.odata_typing.specs.declared.enumeration_literal.EnumerationNumber.{EnumerationNumber}
-use Rattle.odata_typing.specs.declared.edm_type.ValueType.{ValueType}
+use Rattle.odata_signatures.specs.declared.edm_type.ValueType.{ValueType}
 use Rattle.odata_typing.specs.private.Answer.{IsReading}
 use Rattle.odata_typing.specs.LiteralValue.{EnumerationLiteral, IsNameAndText, NamesNumber}
 use Rattle.odata_typing.proofs.types.OneType.{one_name}
@@ -163,9 +163,3 @@ pub reads_member : (schema : SchemaModel) (spelling : List ℕ) (id : ℕ) (n : 
 reads_member schema spelling id n literal =
     let held : to_z w64 (of_z w64 n) ≡ n = to_z-of_z w64 n (within_fits ((slots_of schema).enumerations (type_name_at schema id)) n literal.names.within) in
     rw held (reads_enumeration schema spelling id n literal)
-
--- equal numbers have equal names, and equal names equal numbers
-pub same_id : (test : Bool) (left right : ℕ) (name : ℕ → List ℕ) → test ≡ eqb left right → (name left ≡ name right → left ≡ right)
-    → (IsTrue test → name left ≡ name right) × (name left ≡ name right → IsTrue test)
-same_id test left right name is only =
-    (λ holds. ap name (eqb-true left right (sym is ∙ holds)), λ same. is ∙ eq-eqb left right (only same))

@@ -7,8 +7,8 @@ use Rattle.edm_values.specs.IntLiteral.{IntValue}
 use Rattle.csdl_schema.specs.ExprType.{ExprType, single, primitive}
 use Rattle.edm_values.specs.declared.primitive.PrimitiveType.{PrimitiveType}
 use Rattle.csdl_schema.specs.SchemaModel.{declared}
-use Rattle.odata_typing.specs.ComparableTypes.{AreComparable}
-use Rattle.odata_typing.specs.ExprTypes.{boolean_type, string_type}
+use Rattle.odata_signatures.specs.ComparableTypes.{AreComparable}
+use Rattle.odata_signatures.specs.ExprTypes.{boolean_type, string_type}
 use Rattle.odata_typing.specs.Laws.{ItemFilterTyped, MixedFilterUntyped}
 
 -- Edm.Int32

@@ -10,11 +10,11 @@ use Rattle.odata_syntax.specs.Tree.{Tree, node, literal, it, name, member, negat
 use Rattle.odata_syntax.specs.declared.node.LiteralKind.{LiteralKind}
 use Rattle.csdl_schema.specs.ExprType.{ExprType, null_type, single, collection, primitive, enumeration, structured}
 use Rattle.csdl_schema.specs.SchemaModel.{PropertyModel, Slots, declared}
-use Rattle.odata_typing.specs.declared.operator_class.OperatorClass.{OperatorClass}
-use Rattle.odata_typing.specs.ExprTypes.{IsNumberOrNull, number_or_null}
+use Rattle.odata_signatures.specs.declared.operator_class.OperatorClass.{OperatorClass}
+use Rattle.odata_signatures.specs.ExprTypes.{IsNumberOrNull, number_or_null}
 use Rattle.odata_typing.specs.LiteralValue.{EnumerationLiteral, IntTyped, IsNameAndText, LiteralTyped}
-use Rattle.odata_typing.specs.OperatorClass.{class_of}
-use Rattle.odata_typing.specs.OperatorTyped.{ArithmeticTyped, ClassTyped, NegationTyped, OperatorTyped}
+use Rattle.odata_signatures.specs.OperatorClass.{class_of}
+use Rattle.odata_signatures.specs.OperatorTyped.{ArithmeticTyped, ClassTyped, NegationTyped, OperatorTyped}
 use Rattle.odata_typing.specs.Typed.{Scope, StepTyped, Typed, PropertyTyped, variable_type, property_named}
 
 -- an Int literal stands for one number at most

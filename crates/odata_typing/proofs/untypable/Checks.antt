@@ -4,19 +4,19 @@ use Rattle.odata_text.specs.Tokens.{token_limit}
 use Rattle.odata_syntax.specs.Tree.{Tree}
 use Rattle.csdl_schema.specs.ExprType.{ExprType}
 use Rattle.csdl_schema.specs.SchemaModel.{SchemaModel, Slots, slots_of, type_name_at}
-use Rattle.odata_typing.specs.declared.edm_type.EdmType.{EdmType}
+use Rattle.odata_signatures.specs.declared.edm_type.EdmType.{EdmType}
 use Rattle.odata_typing.specs.declared.refusal.Refusal.{Refusal}
 use Rattle.odata_typing.specs.declared.refusal.TypeFault.{TypeFault}
 use Rattle.odata_typing.specs.declared.refusal.TypeFaultCode.{TypeFaultCode}
 use Rattle.odata_typing.specs.private.Answer.{HasNoTree, IsWalked, IsWhole}
-use Rattle.odata_typing.specs.ExprTypes.{IsBooleanOrNull}
+use Rattle.odata_signatures.specs.ExprTypes.{IsBooleanOrNull}
 use Rattle.odata_typing.specs.FirstUntypable.{IsFirstUntypable}
 use Rattle.odata_typing.specs.HasTyping.{HasTree, HasTypeFault, HasTyping, HasNoTyping, UnlessMemory}
 use Rattle.odata_typing.specs.FlatTree.{FlatTree, tree_of_nodes}
 use Rattle.odata_typing.specs.PreOrder.{pre_order}
 use Rattle.odata_typing.specs.Stands.{Stands}
 use Rattle.odata_typing.specs.Typed.{Typed}
-use Rattle.odata_typing.specs.TypeView.{expr_type}
+use Rattle.odata_signatures.specs.TypeView.{expr_type}
 use Rattle.odata_typing.proofs.flat.Forests.{whole_tree}
 use Rattle.odata_typing.proofs.types.OneType.{Typed-one}
 use Rattle.odata_typing.proofs.pre_orders.Sizes.{few_nodes}

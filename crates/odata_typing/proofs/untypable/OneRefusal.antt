@@ -15,7 +15,7 @@ use Rattle.csdl_schema.specs.SchemaModel.{PropertyModel, PropertyType, Slots, de
 use Rattle.odata_typing.specs.declared.refusal.Refusal.{Refusal}
 use Rattle.odata_typing.specs.declared.refusal.TypeFault.{TypeFault}
 use Rattle.odata_typing.specs.declared.refusal.TypeFaultCode.{TypeFaultCode}
-use Rattle.odata_typing.specs.ExprTypes.{IsBooleanOrNull}
+use Rattle.odata_signatures.specs.ExprTypes.{IsBooleanOrNull}
 use Rattle.odata_typing.specs.FirstUntypable.{IsFirstUntypable, IsNotBoolean, IsReason, IsTypeFault, LiteralReason, PropertyReason, StepReason}
 use Rattle.odata_typing.specs.HasTyping.{HasNoTyping, HasTree, HasTypeFault, IsRefusal}
 use Rattle.odata_typing.specs.Laws.{OneUntypableStart}

@@ -9,7 +9,7 @@ use Rattle.odata_syntax.specs.declared.node.Node.{Node}
 use Rattle.odata_text.specs.declared.span.Span.{Span}
 use Rattle.csdl_schema.specs.ExprType.{ExprType}
 use Rattle.csdl_schema.specs.SchemaModel.{SchemaModel, Slots, slots_of, type_name_at}
-use Rattle.odata_typing.specs.declared.edm_type.EdmType.{EdmType}
+use Rattle.odata_signatures.specs.declared.edm_type.EdmType.{EdmType}
 use Rattle.odata_typing.specs.declared.refusal.TypeFaultCode.{TypeFaultCode}
 use Rattle.odata_typing.specs.declared.untyped.Untyped.{Untyped}
 use Rattle.odata_typing.specs.Considered.{children_in_scope}
@@ -19,9 +19,9 @@ use Rattle.odata_typing.specs.private.Judged.{HasFaultAmong, IsToldOf, IsUnruled
 use Rattle.odata_typing.specs.FirstUntypable.{IsFirstUntypable, IsReason, LiteralReason, StepReason}
 use Rattle.odata_typing.specs.FlatTree.{FlatTree}
 use Rattle.odata_typing.specs.LiteralValue.{LiteralTyped}
-use Rattle.odata_typing.specs.OperatorTyped.{NegationTyped, NotTyped, OperatorTyped}
+use Rattle.odata_signatures.specs.OperatorTyped.{NegationTyped, NotTyped, OperatorTyped}
 use Rattle.odata_typing.specs.Typed.{IsTyped, OperandTyped, Scope, StepTyped, Typed}
-use Rattle.odata_typing.specs.TypeView.{expr_type}
+use Rattle.odata_signatures.specs.TypeView.{expr_type}
 use Rattle.odata_typing.proofs.types.OneType.{Typed-one}
 use Rattle.odata_typing.proofs.untypable.Untypable.{all_typed, first_below, first_in_back, first_in_front, first_itself, first_of_both, one_of, typed_start}
 

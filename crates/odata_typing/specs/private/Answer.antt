@@ -7,8 +7,8 @@ use Rattle.odata_text.specs.declared.fault.TextFault.{TextFault}
 use Rattle.odata_syntax.specs.declared.syntax_fault.SyntaxFault.{SyntaxFault}
 use Rattle.csdl_schema.specs.SchemaModel.{SchemaModel, HoldsEnumeration, slots_of, type_name_at}
 use Rattle.odata_typing.specs.declared.checked_node.CheckedNode.{CheckedNode}
-use Rattle.odata_typing.specs.declared.edm_type.EdmType.{EdmType}
-use Rattle.odata_typing.specs.declared.edm_type.ValueType.{ValueType}
+use Rattle.odata_signatures.specs.declared.edm_type.EdmType.{EdmType}
+use Rattle.odata_signatures.specs.declared.edm_type.ValueType.{ValueType}
 use Rattle.odata_typing.specs.declared.refusal.Refusal.{Refusal}
 use Rattle.odata_typing.specs.declared.untyped.Untyped.{Untyped}
 use Rattle.odata_typing.specs.FirstUntypable.{IsFirstUntypable}
@@ -17,19 +17,7 @@ use Rattle.odata_typing.specs.HasTyping.{HasTree}
 use Rattle.odata_typing.specs.LiteralValue.{LiteralTyped}
 use Rattle.odata_typing.specs.Stands.{IsValueOf, Stands}
 use Rattle.odata_typing.specs.Typed.{Scope, Typed}
-use Rattle.odata_typing.specs.TypeView.{expr_type}
-
--- the schema has the enumeration that the type is of, if it is of one
-abbrev pub IsThere : SchemaModel → ValueType → Type 0
-IsThere schema (ValueType.Prim p) = Unit {0}
-IsThere schema (ValueType.Enum id) = HoldsEnumeration schema id
-IsThere schema (ValueType.Structured id) = Unit {0}
-
--- the same of the type of an expression
-abbrev pub IsTypeThere : SchemaModel → EdmType → Type 0
-IsTypeThere schema EdmType.Null = Unit {0}
-IsTypeThere schema (EdmType.Single s) = IsThere schema s
-IsTypeThere schema (EdmType.Collection s) = IsThere schema s
+use Rattle.odata_signatures.specs.TypeView.{expr_type}
 
 -- a literal with its value and its type
 pub record IsReading (schema : SchemaModel) (kind : LiteralKind) (spelling : List ℕ) (value : Value) (type : EdmType) : Type 0 where

@@ -1,8 +1,8 @@
 use Rattle.std.proofs.Common.{◌≡◌, ◌∙◌, [], ap, sym, slice_get, arith}
 use Rattle.odata_typing.specs.declared.checked_node.CheckedNode.{CheckedNode}
 use Rattle.odata_typing.specs.declared.checked_node.NodeKind.{NodeKind}
-use Rattle.odata_typing.specs.declared.operator_class.OperatorClass.{OperatorClass}
-use Rattle.odata_typing.specs.OperatorClass.{class_of}
+use Rattle.odata_signatures.specs.declared.operator_class.OperatorClass.{OperatorClass}
+use Rattle.odata_signatures.specs.OperatorClass.{class_of}
 use Rattle.odata_eval.specs.declared.part.WalkClass.{WalkClass}
 use Rattle.odata_eval.specs.private.WalkClass.{walk_of_operator}
 use Rattle.odata_eval.proofs.walking.Parts.{part_inside}

@@ -1,8 +1,8 @@
 use Rattle.std.proofs.Common.{◌≡◌, ◌∙◌, sym, subst}
 use Rattle.std.specs.Prelude.{IsSomeAnd}
 use Rattle.odata_functions.specs.DatumVal.{datum_val}
-use Rattle.odata_typing.specs.TypeView.{expr_type}
-use Rattle.odata_typing.specs.declared.operator_class.OperatorClass.{OperatorClass}
+use Rattle.odata_signatures.specs.TypeView.{expr_type}
+use Rattle.odata_signatures.specs.declared.operator_class.OperatorClass.{OperatorClass}
 use Rattle.odata_eval.specs.Outcome.{gives}
 use Rattle.edm_values.specs.Val.{boolean}
 use Rattle.odata_eval.specs.private.DatumView.{datum_outcome}

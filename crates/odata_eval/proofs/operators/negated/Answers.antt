@@ -4,8 +4,8 @@ use Rattle.edm_values.specs.NumberTypes.{IsNumberOf}
 use Rattle.edm_values.specs.declared.datum.Datum.{Datum}
 use Rattle.edm_values.specs.declared.datum.Datum.TheVariants as datum
 use Rattle.odata_functions.specs.DatumVal.{datum_val}
-use Rattle.odata_typing.specs.TypeView.{expr_type}
-use Rattle.odata_typing.specs.declared.edm_type.EdmType.{EdmType}
+use Rattle.odata_signatures.specs.TypeView.{expr_type}
+use Rattle.odata_signatures.specs.declared.edm_type.EdmType.{EdmType}
 use Rattle.odata_eval.specs.private.Operands.{IsOneNumber}
 use Rattle.odata_eval.proofs.walking.OneReading.{NumberIn, kind_promoted, kind_within, no_other_number, number_in_type, one_reading, one_schema}
 use Rattle.odata_eval.proofs.operators.negated.Goals as goal

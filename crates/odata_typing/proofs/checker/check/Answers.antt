@@ -3,7 +3,7 @@ use Rattle.odata_syntax.specs.TreeView.{tree_of}
 use Rattle.csdl_schema.specs.SchemaModel.{slots_of, type_name_at}
 use Rattle.odata_typing.specs.Filter.{Filter, tree_of_filter}
 use Rattle.odata_typing.specs.HasTyping.{HasTyping}
-use Rattle.odata_typing.specs.TypeView.{expr_type}
+use Rattle.odata_signatures.specs.TypeView.{expr_type}
 use Rattle.odata_typing.proofs.untypable.Checks.{UnlessMemory-map, treeless, few_whole, is_whole, not_boolean, whole_typing, untypable_refuses, other_refuses}
 use Rattle.odata_typing.proofs.checker.check.Goals as goal
 

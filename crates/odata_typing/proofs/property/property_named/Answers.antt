@@ -1,7 +1,7 @@
 use Rattle.std.proofs.Common.{sym}
 use Rattle.csdl_schema.specs.PropertyView.{property_type}
 use Rattle.csdl_schema.specs.SchemaModel.{properties_at}
-use Rattle.odata_typing.specs.TypeView.{expr_type}
+use Rattle.odata_signatures.specs.TypeView.{expr_type}
 use Rattle.odata_typing.proofs.untypable.Names.{found_at, points_within, property_typed, refused_reason, refused_untyped, unknown_reason, unknown_untyped}
 use Rattle.odata_typing.proofs.property.property_named.Goals as goal
 

@@ -18,7 +18,7 @@ pub enum OperatorClass {
     Arithmetic(ArithmeticOperator),
 }
 
-ghost use Rattle.odata_typing.specs.OperatorClass.{class_of};
+ghost use Rattle.odata_signatures.specs.OperatorClass.{class_of};
 
 /// What the operator takes.
 pub fn class_of(operator: BinaryOperator) -> OperatorClass

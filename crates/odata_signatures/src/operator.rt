@@ -2,9 +2,9 @@
 ghost use Rattle.std.specs.Prelude.{IfSome, IfNone};
 ghost use Rattle.csdl_schema.specs.ExprType.{ExprType};
 ghost use Rattle.csdl_schema.specs.SchemaModel.{SchemaModel};
-ghost use Rattle.odata_typing.specs.OperatorTyped.{ArithmeticTyped, NegationTyped, NotTyped, OperatorTyped};
-ghost use Rattle.odata_typing.specs.TypeView.{expr_type};
-ghost use Rattle.odata_typing.specs.private.Answer.{IsTypeThere};
+ghost use Rattle.odata_signatures.specs.OperatorTyped.{ArithmeticTyped, NegationTyped, NotTyped, OperatorTyped};
+ghost use Rattle.odata_signatures.specs.TypeView.{expr_type};
+ghost use Rattle.odata_signatures.specs.TypeThere.{IsTypeThere};
 
 use super::comparison::are_compared;
 use super::edm_type::{BOOLEAN, EdmType};
@@ -14,7 +14,7 @@ use odata_functions::{negation_type, promotion};
 use odata_syntax::BinaryOperator;
 
 /// The type that the operator makes. `None` where it takes no operands of these types.
-pub(crate) fn made_type(
+pub fn made_type(
     schema: &Schema,
     operator: BinaryOperator,
     left: &EdmType,
@@ -63,7 +63,7 @@ fn promoted_type(left: &EdmType, right: &EdmType) -> Option<EdmType>
 }
 
 /// The type of the negation of an operand of this type. `None` where it is no number or null.
-pub(crate) fn negated_type(operand: &EdmType) -> Option<EdmType>
+pub fn negated_type(operand: &EdmType) -> Option<EdmType>
     ensures typed { (schema : SchemaModel) → IfSome result
         (λ t. NegationTyped (expr_type schema operand.now) (expr_type schema t)) }
     ensures there { (schema : SchemaModel) → IfSome result (IsTypeThere schema) }
@@ -77,7 +77,7 @@ pub(crate) fn negated_type(operand: &EdmType) -> Option<EdmType>
 }
 
 /// The type of `not` before an operand of this type. `None` where it is no truth value or null.
-pub(crate) fn opposite_type(operand: &EdmType) -> Option<EdmType>
+pub fn opposite_type(operand: &EdmType) -> Option<EdmType>
     ensures typed { (schema : SchemaModel) → IfSome result
         (λ t. NotTyped (expr_type schema operand.now) (expr_type schema t)) }
     ensures there { (schema : SchemaModel) → IfSome result (IsTypeThere schema) }

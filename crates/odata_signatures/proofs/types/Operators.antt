@@ -4,11 +4,11 @@ use Rattle.odata_functions.specs.declared.arithmetic.ArithmeticOperator.{Arithme
 use Rattle.odata_syntax.specs.declared.node.BinaryOperator.{BinaryOperator}
 use Rattle.csdl_schema.specs.ExprType.{ExprType}
 use Rattle.csdl_schema.specs.SchemaModel.{SchemaModel}
-use Rattle.odata_typing.specs.declared.edm_type.EdmType.{EdmType}
-use Rattle.odata_typing.specs.declared.operator_class.OperatorClass.{OperatorClass}
-use Rattle.odata_typing.specs.OperatorClass.{class_of}
-use Rattle.odata_typing.specs.OperatorTyped.{ArithmeticTyped, ClassTyped, OperatorTyped}
-use Rattle.odata_typing.specs.TypeView.{expr_type}
+use Rattle.odata_signatures.specs.declared.edm_type.EdmType.{EdmType}
+use Rattle.odata_signatures.specs.declared.operator_class.OperatorClass.{OperatorClass}
+use Rattle.odata_signatures.specs.OperatorClass.{class_of}
+use Rattle.odata_signatures.specs.OperatorTyped.{ArithmeticTyped, ClassTyped, OperatorTyped}
+use Rattle.odata_signatures.specs.TypeView.{expr_type}
 
 made : (operator : BinaryOperator) (a : ArithmeticOperator) (l r t : ExprType) → class_of operator ≡ OperatorClass.Arithmetic a
     → ArithmeticTyped l r t → OperatorTyped operator l r t

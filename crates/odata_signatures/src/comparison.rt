@@ -1,9 +1,9 @@
 //! Which types a comparison takes on its two sides.
 ghost use Rattle.std.specs.Prelude.{◌≡◌, ◌↔◌, IsTrue};
 ghost use Rattle.csdl_schema.specs.SchemaModel.{SchemaModel, HoldsEnumeration, type_name_at};
-ghost use Rattle.odata_typing.specs.ComparableTypes.{AreAlikePrimitives, AreComparable, AreComparableSingles, AreComparedBy, AreOrdered, IsOrderedPrimitive, IsOrderedSingle};
-ghost use Rattle.odata_typing.specs.TypeView.{expr_type, single_type};
-ghost use Rattle.odata_typing.specs.private.Answer.{IsThere, IsTypeThere};
+ghost use Rattle.odata_signatures.specs.ComparableTypes.{AreAlikePrimitives, AreComparable, AreComparableSingles, AreComparedBy, AreOrdered, IsOrderedPrimitive, IsOrderedSingle};
+ghost use Rattle.odata_signatures.specs.TypeView.{expr_type, single_type};
+ghost use Rattle.odata_signatures.specs.TypeThere.{IsThere, IsTypeThere};
 
 use super::edm_type::{EdmType, ValueType};
 use csdl_schema::{EnumId, Schema};

@@ -2,9 +2,9 @@
 use Rattle.odata_functions.specs.declared.arithmetic.ArithmeticOperator.{ArithmeticOperator}
 use Rattle.odata_functions.specs.declared.comparison.ComparisonOperator.{ComparisonOperator}
 use Rattle.odata_syntax.specs.declared.node.BinaryOperator.{BinaryOperator}
-use Rattle.odata_typing.specs.declared.operator_class.Connective.{Connective}
-use Rattle.odata_typing.specs.declared.operator_class.OperatorClass.{OperatorClass}
-use Rattle.odata_typing.specs.declared.operator_class.OperatorClass.TheVariants as class
+use Rattle.odata_signatures.specs.declared.operator_class.Connective.{Connective}
+use Rattle.odata_signatures.specs.declared.operator_class.OperatorClass.{OperatorClass}
+use Rattle.odata_signatures.specs.declared.operator_class.OperatorClass.TheVariants as class
 
 -- a connective of truth values, a comparison of values, or arithmetic on numbers
 abbrev pub class_of : BinaryOperator → OperatorClass

@@ -4,11 +4,11 @@ use Rattle.edm_values.specs.declared.primitive.PrimitiveType.{PrimitiveType}
 use Rattle.csdl_schema.specs.ExprType.{ExprType}
 use Rattle.odata_functions.specs.Promotion.{promotion, negation_type}
 use Rattle.odata_syntax.specs.declared.node.BinaryOperator.{BinaryOperator}
-use Rattle.odata_typing.specs.declared.operator_class.OperatorClass.{OperatorClass}
-use Rattle.odata_typing.specs.declared.operator_class.OperatorClass.TheVariants.{Connective, Comparison, Arithmetic}
-use Rattle.odata_typing.specs.ComparableTypes.{AreComparedBy}
-use Rattle.odata_typing.specs.ExprTypes.{boolean_type, IsBooleanOrNull, IsNumberOrNull, number_or_null}
-use Rattle.odata_typing.specs.OperatorClass.{class_of}
+use Rattle.odata_signatures.specs.declared.operator_class.OperatorClass.{OperatorClass}
+use Rattle.odata_signatures.specs.declared.operator_class.OperatorClass.TheVariants.{Connective, Comparison, Arithmetic}
+use Rattle.odata_signatures.specs.ComparableTypes.{AreComparedBy}
+use Rattle.odata_signatures.specs.ExprTypes.{boolean_type, IsBooleanOrNull, IsNumberOrNull, number_or_null}
+use Rattle.odata_signatures.specs.OperatorClass.{class_of}
 
 -- arithmetic of two numbers or nulls has the type to which these are promoted, that of two nulls type Null
 pub record ArithmeticTyped (left right type : ExprType) : Type 0 where

@@ -2,9 +2,9 @@ ghost use Rattle.std.specs.Prelude.{◌≡◌, ◌↔◌, Option, IsTrue, IfSome
 ghost use Rattle.edm_values.specs.NumberTypes.{IsNumberType};
 ghost use Rattle.edm_values.specs.declared.primitive.PrimitiveType.{PrimitiveType};
 ghost use Rattle.csdl_schema.specs.SchemaModel.{SchemaModel};
-ghost use Rattle.odata_typing.specs.ExprTypes.{boolean_type, IsBooleanOrNull, IsNumberOrNull, number_or_null};
-ghost use Rattle.odata_typing.specs.TypeView.{expr_type};
-ghost use Rattle.odata_typing.specs.private.Answer.{IsTypeThere};
+ghost use Rattle.odata_signatures.specs.ExprTypes.{boolean_type, IsBooleanOrNull, IsNumberOrNull, number_or_null};
+ghost use Rattle.odata_signatures.specs.TypeView.{expr_type};
+ghost use Rattle.odata_signatures.specs.TypeThere.{IsTypeThere};
 
 use csdl_schema::{EnumId, TypeId};
 use edm_values::Prim;
@@ -27,13 +27,13 @@ pub enum EdmType {
 }
 
 /// The type of the literals `true` and `false`, and of what the logical operators and comparisons give.
-pub(crate) const BOOLEAN: EdmType = EdmType::Single(ValueType::Prim(Prim::Bool));
+pub const BOOLEAN: EdmType = EdmType::Single(ValueType::Prim(Prim::Bool));
 
-ghost use Rattle.odata_typing.specs.private.ManyValues.{type_of_many};
+ghost use Rattle.odata_signatures.specs.ManyValues.{type_of_many};
 
 impl EdmType {
     /// Whether a filter, or an operand of a logical operator, may have the type.
-    pub(crate) fn is_truth(&self) -> bool
+    pub fn is_truth(&self) -> bool
         ensures { (schema : SchemaModel) → IsTrue result ↔ IsBooleanOrNull (expr_type schema self.now) }
     {
         match self {
@@ -81,7 +81,7 @@ impl EdmType {
     }
 
     /// The type of one such value, or of a collection of them.
-    pub(crate) fn of_values(value_type: ValueType, many: bool) -> EdmType
+    pub fn of_values(value_type: ValueType, many: bool) -> EdmType
         ensures { result ≡ type_of_many value_type many }
     {
         if many {

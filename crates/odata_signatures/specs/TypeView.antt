@@ -2,8 +2,8 @@
 use Rattle.csdl_schema.specs.ExprType.{SingleType, primitive, enumeration, structured}
 use Rattle.csdl_schema.specs.ExprType.{ExprType, null_type, single, collection}
 use Rattle.csdl_schema.specs.SchemaModel.{SchemaModel, type_name_at}
-use Rattle.odata_typing.specs.declared.edm_type.EdmType.{EdmType}
-use Rattle.odata_typing.specs.declared.edm_type.ValueType.{ValueType}
+use Rattle.odata_signatures.specs.declared.edm_type.EdmType.{EdmType}
+use Rattle.odata_signatures.specs.declared.edm_type.ValueType.{ValueType}
 
 -- of one value: enumerations and structured types by their qualified names
 abbrev pub single_type : SchemaModel → ValueType → SingleType

@@ -1,7 +1,7 @@
 use Rattle.std.proofs.Common.{sym, ◌∙◌}
-use Rattle.odata_typing.specs.TypeView.{expr_type}
-use Rattle.odata_typing.proofs.types.Operators.{arithmetic_none, arithmetic_some}
-use Rattle.odata_typing.proofs.operator.made_type.Goals as goal
+use Rattle.odata_signatures.specs.TypeView.{expr_type}
+use Rattle.odata_signatures.proofs.types.Operators.{arithmetic_none, arithmetic_some}
+use Rattle.odata_signatures.proofs.operator.made_type.Goals as goal
 
 pub returns-in-Arithmetic-clause-typed : goal.returns-in-Arithmetic-clause-typed
 returns-in-Arithmetic-clause-typed c =

@@ -1,7 +1,7 @@
 use Rattle.std.proofs.Common.{sym}
 use Rattle.csdl_schema.specs.SchemaModel.{type_name_at}
-use Rattle.odata_typing.proofs.types.Enumerations.{same_id}
-use Rattle.odata_typing.proofs.comparison.is_same_enumeration.Goals as goal
+use Rattle.odata_signatures.proofs.types.OneEnumeration.{same_id}
+use Rattle.odata_signatures.proofs.comparison.is_same_enumeration.Goals as goal
 
 pub returns : goal.returns
 returns c =

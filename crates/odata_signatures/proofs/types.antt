@@ -1,0 +1,3 @@
+-- Which types operators make.
+pub mod OneEnumeration
+pub mod Operators

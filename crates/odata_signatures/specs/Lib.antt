@@ -1,0 +1,11 @@
+pub use Rattle.csdl_schema.specs.ExprType
+pub use Rattle.csdl_schema.specs.SchemaModel
+pub use Rattle.edm_values.specs.NumberTypes
+pub use Rattle.odata_functions.specs.Promotion
+pub mod ExprTypes
+pub mod ComparableTypes
+pub mod OperatorClass
+pub mod OperatorTyped
+pub mod TypeView
+pub mod ManyValues
+pub mod TypeThere
