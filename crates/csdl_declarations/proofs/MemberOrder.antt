@@ -12,7 +12,7 @@ use Rattle.serde_json.specs.Read.{number_of, of_json, of_items, of_members, max_
 use Rattle.csdl_declarations.specs.declared.type_kind.TypeKind.{TypeKind}
 use Rattle.csdl_declarations.specs.declared.type_kind.TypeKind.TheVariants as kind
 use Rattle.csdl_declarations.specs.Members.{is_read_over, declared_among, declared_in, DeclaresInOrder}
-use Rattle.csdl_declarations.specs.TypeKind.{is_other_kind, kind_of}
+use Rattle.csdl_declarations.specs.TypeKind.{is_other_kind, type_kind_in}
 use Rattle.csdl_declarations.specs.Declarations.{TypeDeclaration, full_name, type_in, types_among, types_in, types_declared, put_type, in_name_order, types_in_order}
 use Rattle.csdl_declarations.specs.DeclaredType.{body_of_kind, declared_type, declared_types, IsBodyInOrder, AreInOrder}
 use Rattle.csdl_declarations.specs.private.DocumentView.{AreNamesInOrder}
@@ -205,7 +205,7 @@ body_ordered d None h = tt
 
 bodies_ordered : (ts : List TypeDeclaration) → AreTypesOrdered ts → AllByRecursion (λ t. IsBodyInOrder t.body) (map declared_type ts)
 bodies_ordered [] all = tt
-bodies_ordered (t ∷ ts) all = (body_ordered t.body (kind_of t.body) all.0, bodies_ordered ts all.1)
+bodies_ordered (t ∷ ts) all = (body_ordered t.body (type_kind_in t.body) all.0, bodies_ordered ts all.1)
 
 pub types_ordered : (text : List ℕ) (d : Data) → read text ≡ Some d → AreInOrder (declared_types d)
 types_ordered text d is = record {

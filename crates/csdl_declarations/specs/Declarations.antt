@@ -1,4 +1,5 @@
--- The types that the schemas of a document declare, in the order of their whole names (CSDL JSON 4.01, sections 2 to 6).
+-- The types that the schemas of a document declare, in the order of their whole names (CSDL JSON 4.01, sections 2
+-- to 6).
 use Rattle.std.specs.Prelude.{◌≡◌, ℕ, ◌++◌, [], ◌∷◌, List, Option, Some, None, is_some, option_map, if◌then◌else◌, codes, map, nat_eq, count_by}
 use Rattle.std.specs.Ordering.{nat_cmp, match_ordering}
 use Rattle.std.specs.List.{flat_map}
@@ -6,7 +7,7 @@ use Rattle.std.specs.List.Sorted.{IsStrictlySortedBy}
 use Rattle.std.specs.Cmp.Lexicographic.{pointwise, slice_cmp}
 use Rattle.serde_json.specs.Data.{Data}
 use Rattle.csdl_declarations.specs.Members.{declared_in, text_at}
-use Rattle.csdl_declarations.specs.TypeKind.{kind_of, is_other_kind}
+use Rattle.csdl_declarations.specs.TypeKind.{type_kind_in, is_other_kind}
 
 -- a type as a schema of the document declares it
 pub record TypeDeclaration : Type 0 where
@@ -42,7 +43,7 @@ types_declared document = flat_map types_in (declared_in document)
 
 -- how many of them say that they are of one of the four kinds
 abbrev pub type_count : Data → ℕ
-type_count document = count_by (λ t. is_some (kind_of t.body)) (types_declared document)
+type_count document = count_by (λ t. is_some (type_kind_in t.body)) (types_declared document)
 
 -- the first type of a whole name
 abbrev pub first_named : List TypeDeclaration → List ℕ → Option TypeDeclaration

@@ -9,7 +9,7 @@ use Rattle.edm_enumerations.specs.EnumerationModel.{EnumerationModel}
 use Rattle.csdl_declarations.specs.declared.type_kind.TypeKind.{TypeKind}
 use Rattle.csdl_declarations.specs.declared.type_kind.TypeKind.TheVariants as kind
 use Rattle.csdl_declarations.specs.Members.{declared_in, text_at, is_text, is_true_at}
-use Rattle.csdl_declarations.specs.TypeKind.{kind_of}
+use Rattle.csdl_declarations.specs.TypeKind.{type_kind_in}
 use Rattle.csdl_declarations.specs.Declarations.{TypeDeclaration, full_name, full_alias_name, types_in_order}
 use Rattle.csdl_declarations.specs.EnumerationDeclaration.{declared_enumeration}
 
@@ -51,7 +51,8 @@ declared_property m = record {
 
 -- own properties in the byte order of their names
 abbrev pub structured_body : Bool → Data → TypeBody
-structured_body is_entity d = structured is_entity (text_at (codes "$BaseType") d) (map declared_property (declared_in d))
+structured_body is_entity d =
+    structured is_entity (text_at (codes "$BaseType") d) (map declared_property (declared_in d))
 
 -- the type that a type definition is another name of (section 11.1)
 abbrev pub underlying_text : Data → List ℕ
@@ -66,7 +67,7 @@ body_of_kind (Some kind.Definition) d = definition (underlying_text d)
 body_of_kind None d = definition []
 
 abbrev pub declared_body : Data → TypeBody
-declared_body d = body_of_kind (kind_of d) d
+declared_body d = body_of_kind (type_kind_in d) d
 
 abbrev pub declared_type : TypeDeclaration → DeclaredType
 declared_type t = record { name = full_name t; alias_name = full_alias_name t; body = declared_body t.body }

@@ -85,8 +85,8 @@ declared_enumeration d = record {
 -- ---- faults
 
 -- a number type, and a truth value for flags (section 10.2)
-abbrev pub is_enumeration : Data → Bool
-is_enumeration d = is_some (underlying_at d) && is_truth_if_given (get (codes "$IsFlags") d)
+abbrev pub is_enumeration_object : Data → Bool
+is_enumeration_object d = is_some (underlying_at d) && is_truth_if_given (get (codes "$IsFlags") d)
 
 abbrev pub member_faults : List ℕ → PrimitiveType → List ℕ × Data → List Fault
 member_faults owner type m = unless (is_some (member_number type m)) (bad_enum_member owner m.0)
@@ -94,4 +94,4 @@ member_faults owner type m = unless (is_some (member_number type m)) (bad_enum_m
 -- an enumeration's own shape, then its members in the byte order of their names
 abbrev pub enumeration_faults : List ℕ → Data → List Fault
 enumeration_faults owner d =
-    unless (is_enumeration d) (bad_type owner) ++ flat_map (member_faults owner (underlying_of d)) (declared_in d)
+    unless (is_enumeration_object d) (bad_type owner) ++ flat_map (member_faults owner (underlying_of d)) (declared_in d)

@@ -9,7 +9,7 @@ use Rattle.csdl_declarations.specs.Fault.{Fault, not_object, version, bad_type, 
 use Rattle.csdl_declarations.specs.declared.type_kind.TypeKind.{TypeKind}
 use Rattle.csdl_declarations.specs.declared.type_kind.TypeKind.TheVariants as kind
 use Rattle.csdl_declarations.specs.Members.{declared_in, is_object, text_at, is_text, is_text_if_given, is_truth_if_given}
-use Rattle.csdl_declarations.specs.TypeKind.{kind_of}
+use Rattle.csdl_declarations.specs.TypeKind.{type_kind_in}
 use Rattle.csdl_declarations.specs.Declarations.{TypeDeclaration, full_name, types_in_order, type_count}
 use Rattle.csdl_declarations.specs.DeclaredType.{is_navigation}
 use Rattle.csdl_declarations.specs.EnumerationDeclaration.{enumeration_faults}
@@ -82,7 +82,7 @@ kind_faults (Some kind.Definition) owner d = definition_faults owner d
 kind_faults None owner d = bad_type owner ∷ []
 
 abbrev pub body_faults : List ℕ → Data → List Fault
-body_faults owner d = kind_faults (kind_of d) owner d
+body_faults owner d = kind_faults (type_kind_in d) owner d
 
 -- the name goes first
 abbrev pub type_faults : TypeDeclaration → List Fault

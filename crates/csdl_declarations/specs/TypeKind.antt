@@ -20,9 +20,9 @@ kind_of_text None = None
 kind_of_text (Some text) = kind_named text
 
 -- the kind that `$Kind` names
-abbrev pub kind_of : Data → Option TypeKind
-kind_of d = kind_of_text (text_at (codes "$Kind") d)
+abbrev pub type_kind_in : Data → Option TypeKind
+type_kind_in d = kind_of_text (text_at (codes "$Kind") d)
 
 -- what a schema reads over: arrays, and objects of another kind
 abbrev pub is_other_kind : Data → Bool
-is_other_kind d = is_some (as_array d) || (is_some (text_at (codes "$Kind") d) && not (is_some (kind_of d)))
+is_other_kind d = is_some (as_array d) || (is_some (text_at (codes "$Kind") d) && not (is_some (type_kind_in d)))

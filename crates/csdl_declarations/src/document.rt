@@ -1,7 +1,7 @@
 //! The types that a document declares.
 ghost use Rattle.std.specs.Prelude.{◌≡◌, IfOk, count_by, is_some};
 ghost use Rattle.serde_json.specs.View.{view};
-ghost use Rattle.csdl_declarations.specs.TypeKind.{kind_of};
+ghost use Rattle.csdl_declarations.specs.TypeKind.{type_kind_in};
 ghost use Rattle.csdl_declarations.specs.DeclaredType.{AreInOrder, declared_types};
 ghost use Rattle.csdl_declarations.specs.DeclaredTypeView.{types_view};
 ghost use Rattle.csdl_declarations.specs.Faults.{declaration_faults};
@@ -50,7 +50,7 @@ pub fn declared_types<'d>(
 
 /// How many of the declarations say that they are of one of the four kinds.
 fn count_types(declarations: &[Declaration<'_>]) -> usize
-    ensures { result ≡ count_by (λ t. is_some (kind_of t.body)) (declarations_of declarations.now) }
+    ensures { result ≡ count_by (λ t. is_some (type_kind_in t.body)) (declarations_of declarations.now) }
 {
     let mut count = 0;
     for declaration in declarations {

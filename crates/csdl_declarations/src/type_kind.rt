@@ -1,6 +1,6 @@
 ghost use Rattle.std.specs.Prelude.{◌≡◌};
 ghost use Rattle.serde_json.specs.View.{view};
-ghost use Rattle.csdl_declarations.specs.TypeKind.{kind_named, kind_of, is_other_kind};
+ghost use Rattle.csdl_declarations.specs.TypeKind.{kind_named, type_kind_in, is_other_kind};
 
 use super::member::text_at;
 use serde_json::Value;
@@ -32,7 +32,7 @@ fn kind_named(text: &str) -> Option<TypeKind>
 
 /// The kind that `$Kind` names.
 pub(crate) fn kind_of(value: &Value) -> Option<TypeKind>
-    ensures { result ≡ kind_of (view value.now) }
+    ensures { result ≡ type_kind_in (view value.now) }
 {
     match text_at(value, "$Kind") {
         Some(text) => kind_named(text),

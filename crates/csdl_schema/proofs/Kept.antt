@@ -15,10 +15,10 @@ use Rattle.csdl_schema.specs.declared.property.Property.{Property}
 use Rattle.csdl_schema.specs.declared.property.PropertyKind.TheVariants as kind
 use Rattle.csdl_schema.specs.PropertyView.{PointsWithin}
 use Rattle.csdl_schema.specs.SchemaModel as model
-use Rattle.csdl_schema.specs.SchemaModel.{PropertyModel, TypeModel, SchemaModel, type_called, type_properties, properties_within, properties_at, enumeration_of_body, name_in, passes, is_kind_at, is_structured, is_enumeration, HasDistinctNames, IsEnumerationByName, IsOneByName, IsInNameOrder}
+use Rattle.csdl_schema.specs.SchemaModel.{PropertyModel, TypeModel, SchemaModel, type_called, type_properties, properties_within, properties_at, enumeration_of_body, name_in, body_passes, is_kind_at, is_structured, is_enumeration, HasDistinctNames, IsEnumerationByName, IsOneByName, IsInNameOrder}
 use Rattle.csdl_schema.specs.Resolution.{primitive_named, property_of, base_of, body_model, type_model, schema_of}
 use Rattle.csdl_schema.specs.BaseFaults.{onto, bases_within, bases_of, own_properties, names_again, names_twice, lesser_name, first_name, twice_faults, property_count, is_base_known, base_limit, property_limit, chain_faults, inherited_faults, base_faults, all_base_faults}
-use Rattle.csdl_schema.specs.private.Placed.{Finder, IsIndexOf, PlacedType, base_place, body_with, kind_of_definition, place_kind, kinds_from, unless_primitive_kind, kind_named, placed_property, all_places, chain_at, chains_from, own_at, own_of}
+use Rattle.csdl_schema.specs.private.Placed.{Finder, IsIndexOf, PlacedType, base_place, body_with, kind_of_definition, place_kind, kinds_from, unless_primitive_kind, property_kind_named, placed_property, all_places, chain_at, chains_from, own_at, own_of}
 use Rattle.csdl_schema.specs.private.SchemaView.{property_model, names_of, model_of, chain_of, chain_in, inherited_properties, IsBaseBelow, IsChained, IsChainedBody, AreChained}
 use Rattle.csdl_schema.proofs.Placing.{IsBase, is_base, at_indexes, same_schema, same_names, same_properties, length-map, map-map, kinds_at}
 use Rattle.csdl_schema.proofs.Chains.{placed, placed_at, all_at, length_at, sum_at, count_is, own_is, both_empty, unless_holds, below, at_most}
@@ -187,18 +187,18 @@ module _ (ds : List DeclaredType) (find : Finder) (indexed : IsIndexOf ds find)
       ap (λ name. enumeration_of (type_called S.types name)) (name_there ds ds n t at) ∙ ap enumeration_of (called ds ds n t rising at) in
       here ∙ sym named
 
-  -- a type that passes a test is declared
-  held : (test : model.TypeBody → Bool) (n : ℕ) → IsTrue (is_kind_at test S n) → (t : DeclaredType) × (slice_get ds n ≡ Some t)
+  -- a type that body_passes a test is declared
+  held : (test : model.ModelBody → Bool) (n : ℕ) → IsTrue (is_kind_at test S n) → (t : DeclaredType) × (slice_get ds n ≡ Some t)
   held test n h = by (slice_get ds n) refl
     where
       by : (o : Option DeclaredType) → slice_get ds n ≡ o → (t : DeclaredType) × (slice_get ds n ≡ Some t)
       by (Some t) at = (t, at)
       by None at =
           let none : slice_get S.types n ≡ None = slice_get-map (type_model ds) ds n ∙ ap (option_map (type_model ds)) at in
-          let clash : false ≡ true = ap (passes test) (sym none) ∙ h in
+          let clash : false ≡ true = ap (body_passes test) (sym none) ∙ h in
           absurd (false≢true clash)
 
-  one_by_name : (test : model.TypeBody → Bool) (n : ℕ) → IsOneByName test S n
+  one_by_name : (test : model.ModelBody → Bool) (n : ℕ) → IsOneByName test S n
   one_by_name test n other here there same =
       let t = held test n here in
       let u = held test other there in
@@ -206,8 +206,8 @@ module _ (ds : List DeclaredType) (find : Finder) (indexed : IsIndexOf ds find)
 
   -- ---- types that kinds point to
 
-  passes_there : (test : model.TypeBody → Bool) (n : ℕ) (t : DeclaredType) → slice_get ds n ≡ Some t → is_kind_at test S n ≡ test (body_model ds t.body)
-  passes_there test n t at = ap (passes test) (slice_get-map (type_model ds) ds n ∙ ap (option_map (type_model ds)) at)
+  passes_there : (test : model.ModelBody → Bool) (n : ℕ) (t : DeclaredType) → slice_get ds n ≡ Some t → is_kind_at test S n ≡ test (body_model ds t.body)
+  passes_there test n t at = ap (body_passes test) (slice_get-map (type_model ds) ds n ∙ ap (option_map (type_model ds)) at)
 
   definition_points : (o : Option PrimitiveType) → PointsWithin S (kind_of_definition o)
   definition_points None = tt
@@ -234,7 +234,7 @@ module _ (ds : List DeclaredType) (find : Finder) (indexed : IsIndexOf ds find)
   name_points text None None = tt
   name_points text (Some n) None = place_points n
 
-  property_points : (p : PropertyDeclaration) (navigates : Bool) → PointsWithin S (if navigates then kind.Navigation else kind_named (kinds_from 0 ds) find p.type_name)
+  property_points : (p : PropertyDeclaration) (navigates : Bool) → PointsWithin S (if navigates then kind.Navigation else property_kind_named (kinds_from 0 ds) find p.type_name)
   property_points p true = tt
   property_points p false = name_points p.type_name (find p.type_name) (primitive_named p.type_name)
 

@@ -4,29 +4,29 @@ use Rattle.std.specs.Prelude.{option_and_then}
 use Rattle.std.proofs.lemmas.Option.{slice_get-map}
 use Rattle.csdl_schema.specs.declared.chain.Chain.{Chain}
 use Rattle.csdl_schema.specs.declared.property.Property.{Property}
-use Rattle.csdl_schema.specs.SchemaModel.{TypeBody, SchemaModel, is_structured, is_entity_type, is_enumeration, is_kind_at, is_named, index_of_kind, place_if, passes, name_if, name_of_kind, enumeration_of_body, enumeration_at, base_properties, slots_of, type_name_at, name_in, IsBodyOrder, IsSlotOrder, AreSlotsInOrder}
+use Rattle.csdl_schema.specs.SchemaModel.{ModelBody, SchemaModel, is_structured, is_entity_type, is_enumeration, is_kind_at, is_named, index_of_kind, place_if, body_passes, name_if, name_of_kind, enumeration_of_body, enumeration_at, base_properties, slots_of, type_name_at, name_in, IsBodyOrder, IsSlotOrder, AreSlotsInOrder}
 use Rattle.csdl_schema.specs.PropertyView.{type_of_kind, IsReadAs, PointsWithin}
 use Rattle.csdl_schema.specs.private.Placed.{PlacedType, PlacedBody, placed_structured, placed_enumeration, placed_definition, is_placed_structured, is_placed_entity, is_placed_enumeration, placed_passes, placed_name_if, enumeration_in_body}
 use Rattle.csdl_schema.specs.private.SchemaView.{body_model, type_model, names_of, model_of, property_model, inherited_properties, IsChainedBody, AreChained}
 use Rattle.csdl_schema.proofs.Placing.{map-map}
 
 -- the index of a name, by what stands there
-pub found_kind : (s : SchemaModel) (test : TypeBody → Bool) (name : List ℕ) (n : ℕ) (b : Bool) → position (λ t. is_named t name) s.types ≡ Some n → is_kind_at test s n ≡ b
+pub found_kind : (s : SchemaModel) (test : ModelBody → Bool) (name : List ℕ) (n : ℕ) (b : Bool) → position (λ t. is_named t name) s.types ≡ Some n → is_kind_at test s n ≡ b
     → index_of_kind test s name ≡ place_if b n
 found_kind s test name n b at is = ap (option_and_then (λ m. place_if (is_kind_at test s m) m)) at ∙ ap (λ v. place_if v n) is
 
-pub not_found : (s : SchemaModel) (test : TypeBody → Bool) (name : List ℕ) → position (λ t. is_named t name) s.types ≡ None → index_of_kind test s name ≡ None
+pub not_found : (s : SchemaModel) (test : ModelBody → Bool) (name : List ℕ) → position (λ t. is_named t name) s.types ≡ None → index_of_kind test s name ≡ None
 not_found s test name at = ap (option_and_then (λ m. place_if (is_kind_at test s m) m)) at
 
 module _ (types : List PlacedType) where
   at_model : (n : ℕ) → slice_get (model_of types).types n ≡ option_map (type_model (name_in (names_of types))) (slice_get types n)
   at_model n = slice_get-map (type_model (name_in (names_of types))) types n
 
-  kind_at : (test : TypeBody → Bool) (by_index : PlacedBody → Bool) → ((b : PlacedBody) → test (body_model (name_in (names_of types)) b) ≡ by_index b) → (n : ℕ)
+  kind_at : (test : ModelBody → Bool) (by_index : PlacedBody → Bool) → ((b : PlacedBody) → test (body_model (name_in (names_of types)) b) ≡ by_index b) → (n : ℕ)
       → placed_passes by_index (slice_get types n) ≡ is_kind_at test (model_of types) n
-  kind_at test by_index same n = by (slice_get types n) ∙ ap (passes test) (sym (at_model n))
+  kind_at test by_index same n = by (slice_get types n) ∙ ap (body_passes test) (sym (at_model n))
     where
-      by : (o : Option PlacedType) → placed_passes by_index o ≡ passes test (option_map (type_model (name_in (names_of types))) o)
+      by : (o : Option PlacedType) → placed_passes by_index o ≡ body_passes test (option_map (type_model (name_in (names_of types))) o)
       by None = refl
       by (Some t) = sym (same t.body)
 
@@ -54,7 +54,7 @@ module _ (types : List PlacedType) where
   pub an_enumeration_at : (n : ℕ) → placed_passes is_placed_enumeration (slice_get types n) ≡ is_kind_at is_enumeration (model_of types) n
   an_enumeration_at = kind_at is_enumeration is_placed_enumeration enumeration_same
 
-  name_at : (test : TypeBody → Bool) (by_index : PlacedBody → Bool) → ((b : PlacedBody) → test (body_model (name_in (names_of types)) b) ≡ by_index b) → (n : ℕ)
+  name_at : (test : ModelBody → Bool) (by_index : PlacedBody → Bool) → ((b : PlacedBody) → test (body_model (name_in (names_of types)) b) ≡ by_index b) → (n : ℕ)
       → option_and_then (placed_name_if by_index) (slice_get types n) ≡ name_of_kind test (model_of types) n
   name_at test by_index same n = by (slice_get types n) ∙ ap (option_and_then (name_if test)) (sym (at_model n))
     where

@@ -13,7 +13,7 @@ use Rattle.csdl_schema.specs.SchemaModel as schema
 use Rattle.csdl_schema.specs.SchemaModel.{PropertyModel, PropertyType, TypeModel, name_in}
 use Rattle.csdl_schema.specs.Resolution as declared
 use Rattle.csdl_schema.specs.Resolution.{goes_by, type_by_name, single_of, unless_primitive, type_of_single, property_type_of, property_of, primitive_named, is_structured_as, if_structured_as, base_named, base_of_body, base_of}
-use Rattle.csdl_schema.specs.private.Placed.{Finder, IsIndexOf, kinds_from, place_kind, kind_of_definition, kind_named, kind_of_property, unless_primitive_kind, placed_property, PlacedType, if_structured_at, base_place_named, base_place, found_base, body_with, type_with, types_with}
+use Rattle.csdl_schema.specs.private.Placed.{Finder, IsIndexOf, kinds_from, place_kind, kind_of_definition, property_kind_named, kind_of_property, unless_primitive_kind, placed_property, PlacedType, if_structured_at, base_place_named, base_place, found_base, body_with, type_with, types_with}
 use Rattle.csdl_schema.specs.private.SchemaView.{property_model, body_model, type_model, names_of, model_of}
 
 -- ---- lists
@@ -187,7 +187,7 @@ module _ (ds : List DeclaredType) (find : Finder) (indexed : IsIndexOf ds find) 
       by (Some t) at = kind_of_body n t.name t.body many (name_there ds n t at)
 
   kind_by_name : (many : Bool) (text : List ℕ)
-      → type_of_kind (name_in names) (kind_named kinds find text) many ≡ type_of_single (declared.single_named ds text) many
+      → type_of_kind (name_in names) (property_kind_named kinds find text) many ≡ type_of_single (declared.single_named ds text) many
   kind_by_name many text =
       by (primitive_named text) ∙ ap (λ o. type_of_single (unless_primitive (option_and_then (λ t. single_of t.name t.body) o) (primitive_named text)) many) (sym (by_index text))
     where
@@ -200,7 +200,7 @@ module _ (ds : List DeclaredType) (find : Finder) (indexed : IsIndexOf ds find) 
   property_type : (p : PropertyDeclaration) → type_of_kind (name_in names) (kind_of_property kinds find p) p.many ≡ property_type_of ds p
   property_type p = by p.navigates
     where
-      by : (b : Bool) → type_of_kind (name_in names) (cond b kind.Navigation (kind_named kinds find p.type_name)) p.many
+      by : (b : Bool) → type_of_kind (name_in names) (cond b kind.Navigation (property_kind_named kinds find p.type_name)) p.many
           ≡ cond b schema.navigation (type_of_single (declared.single_named ds p.type_name) p.many)
       by true = refl
       by false = kind_by_name p.many p.type_name

@@ -11,7 +11,7 @@ use Rattle.csdl_schema.specs.SchemaModel.{PropertyModel, SchemaModel, properties
 use Rattle.csdl_schema.specs.BaseFaults.{property_limit}
 use Rattle.csdl_schema.specs.private.Placed.{PlacedType, PlacedBody, placed_structured, placed_enumeration, placed_definition, placed_base, placed_own, own_of, base_at, own_at}
 use Rattle.csdl_schema.specs.private.SchemaView.{chain_in, model_of, names_of, property_model, inherited_properties, IsBaseBelow, IsChainedBody, AreChained}
-use Rattle.csdl_schema.specs.private.SlotWalk.{earlier, own_slot_in, structured_body, structured_in, BeginsWith}
+use Rattle.csdl_schema.specs.private.SlotWalk.{earlier, own_slot_in, if_structured, structured_in, BeginsWith}
 use Rattle.csdl_schema.proofs.Placing.{length-map, position-map}
 
 -- how far up a chain may still go
@@ -228,12 +228,12 @@ module _ (types : List PlacedType) (chains : List Chain) (h : AreChained types c
       ∙ length-append (inherited_properties M (base_at types n)) (own_models n)
       ∙ (λ j. sym heir.inherited j + length-map (property_model (name_in (names_of types))) (own_at types n) j)
 
-  in_body : (b c : PlacedBody) → structured_body b ≡ Some c → b ≡ c
+  in_body : (b c : PlacedBody) → if_structured b ≡ Some c → b ≡ c
   in_body (placed_structured is_entity base own) c is = let same : placed_structured is_entity base own ≡ c = cc in same
   in_body (placed_enumeration e) c is = absurd (cc)
   in_body (placed_definition p) c is = absurd (cc)
 
-  heir_of : (n : ℕ) (b c : PlacedBody) → structured_body b ≡ Some c → IsChainedBody types chains n b → base_at types n ≡ placed_base b → IsHeir n
+  heir_of : (n : ℕ) (b c : PlacedBody) → if_structured b ≡ Some c → IsChainedBody types chains n b → base_at types n ≡ placed_base b → IsHeir n
   heir_of n (placed_structured is_entity base own) c is chained of_base = record {
     inherited = chained.inherited ∙ ap (λ o. length (inherited_properties M o)) (sym of_base);
     below = subst (λ o. IsBaseBelow chains n o) (sym of_base) chained.below;
@@ -245,7 +245,7 @@ module _ (types : List PlacedType) (chains : List Chain) (h : AreChained types c
   pub of_structured : (n : ℕ) (b : PlacedBody) → structured_in types n ≡ Some b → IsHeir n × (own_at types n ≡ placed_own b)
   of_structured n b is = by (slice_get types n) refl is
     where
-      by : (o : Option PlacedType) → slice_get types n ≡ o → option_and_then (λ t. structured_body t.body) o ≡ Some b → IsHeir n × (own_at types n ≡ placed_own b)
+      by : (o : Option PlacedType) → slice_get types n ≡ o → option_and_then (λ t. if_structured t.body) o ≡ Some b → IsHeir n × (own_at types n ≡ placed_own b)
       by None at here = absurd (cc)
       by (Some t) at here = (
         heir_of n t.body b here (h.chained n t at) (ap (option_and_then (λ t. placed_base t.body)) at),

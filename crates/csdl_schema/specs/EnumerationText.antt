@@ -10,6 +10,6 @@ IsValueIn None text n = ⊥
 IsValueIn (Some e) text n = EnumerationValue e text n
 
 -- a number is of the enumeration's underlying type
-abbrev pub IsWithin : Option EnumerationModel → ℤ → Type 0
-IsWithin None n = ⊥
-IsWithin (Some e) n = IsNumberOf e.underlying n
+abbrev pub IsOfUnderlying : Option EnumerationModel → ℤ → Type 0
+IsOfUnderlying None n = ⊥
+IsOfUnderlying (Some e) n = IsNumberOf e.underlying n

@@ -23,7 +23,8 @@ primitive_named name =
     else (if pointwise nat_eq name (codes "Edm.Guid") then Some prim.Guid
     else None)))))))))
 
--- whether a type goes by the asked name: by its namespace or by the alias of it. Names of types hold no dot and no alias
+-- whether a type goes by the asked name: by its namespace or by the alias of it. Names of types hold no dot and no
+-- alias
 -- is a namespace, so a name goes by what stands before its last dot (section 3.3)
 abbrev pub goes_by : DeclaredType → List ℕ → Bool
 goes_by t asked = pointwise nat_eq t.name asked || is_text_of t.alias_name asked
@@ -89,9 +90,10 @@ base_of types t = base_of_body types t.body
 
 -- ---- schemas
 
-abbrev pub body_model : List DeclaredType → TypeBody → model.TypeBody
+abbrev pub body_model : List DeclaredType → TypeBody → model.ModelBody
 body_model types (structured is_entity base properties) =
-    model.structured_type is_entity (option_map (λ u. u.name) (base_of_body types (structured is_entity base properties)))
+    model.structured_type is_entity
+    (option_map (λ u. u.name) (base_of_body types (structured is_entity base properties)))
     (map (property_of types) properties)
 body_model types (enumeration e) = model.enumeration_type e
 body_model types (definition underlying) = model.type_definition (primitive_named underlying)

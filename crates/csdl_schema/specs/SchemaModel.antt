@@ -23,16 +23,16 @@ pub record PropertyModel : Type 0 where
 
 -- an entity or complex type, with its base's qualified name and its own properties in the byte order of names; an
 -- enumeration; or another name of a type, if that is a primitive one
-pub data TypeBody : Type 0 where
-  structured_type : (is_entity : Bool) → Option (List ℕ) → List PropertyModel → TypeBody
-  enumeration_type : EnumerationModel → TypeBody
-  type_definition : Option PrimitiveType → TypeBody
+pub data ModelBody : Type 0 where
+  structured_type : (is_entity : Bool) → Option (List ℕ) → List PropertyModel → ModelBody
+  enumeration_type : EnumerationModel → ModelBody
+  type_definition : Option PrimitiveType → ModelBody
 
 -- a type with its qualified name, and its name by the alias of its namespace, if that has one
 pub record TypeModel : Type 0 where
   pub name : List ℕ
   pub alias_name : Option (List ℕ)
-  pub body : TypeBody
+  pub body : ModelBody
 
 -- the types in the byte order of their qualified names
 pub record SchemaModel : Type 0 where
@@ -57,7 +57,7 @@ base_properties inherited None = []
 base_properties inherited (Some base) = inherited base
 
 -- the base's properties, then the own ones
-abbrev pub body_properties : (List ℕ → List PropertyModel) → TypeBody → List PropertyModel
+abbrev pub body_properties : (List ℕ → List PropertyModel) → ModelBody → List PropertyModel
 body_properties inherited (structured_type is_entity base own) = base_properties inherited base ++ own
 body_properties inherited (enumeration_type e) = []
 body_properties inherited (type_definition p) = []
@@ -75,7 +75,7 @@ properties_within (suc n) types asked = type_properties (properties_within n typ
 abbrev pub properties_in : List TypeModel → List ℕ → List PropertyModel
 properties_in types asked = properties_within (length types) types asked
 
-abbrev pub enumeration_of_body : TypeBody → Option EnumerationModel
+abbrev pub enumeration_of_body : ModelBody → Option EnumerationModel
 enumeration_of_body (structured_type is_entity base own) = None
 enumeration_of_body (enumeration_type e) = Some e
 enumeration_of_body (type_definition p) = None
@@ -103,28 +103,28 @@ is_text_of (Some text) asked = pointwise nat_eq text asked
 abbrev pub is_named : TypeModel → List ℕ → Bool
 is_named t asked = pointwise nat_eq t.name asked || is_text_of t.alias_name asked
 
-abbrev pub is_structured : TypeBody → Bool
+abbrev pub is_structured : ModelBody → Bool
 is_structured (structured_type is_entity base own) = true
 is_structured (enumeration_type e) = false
 is_structured (type_definition p) = false
 
-abbrev pub is_entity_type : TypeBody → Bool
+abbrev pub is_entity_type : ModelBody → Bool
 is_entity_type (structured_type is_entity base own) = is_entity
 is_entity_type (enumeration_type e) = false
 is_entity_type (type_definition p) = false
 
-abbrev pub is_enumeration : TypeBody → Bool
+abbrev pub is_enumeration : ModelBody → Bool
 is_enumeration (structured_type is_entity base own) = false
 is_enumeration (enumeration_type e) = true
 is_enumeration (type_definition p) = false
 
-abbrev pub passes : (TypeBody → Bool) → Option TypeModel → Bool
-passes test None = false
-passes test (Some t) = test t.body
+abbrev pub body_passes : (ModelBody → Bool) → Option TypeModel → Bool
+body_passes test None = false
+body_passes test (Some t) = test t.body
 
--- whether there is a type at the index, and it passes the test
-abbrev pub is_kind_at : (TypeBody → Bool) → SchemaModel → ℕ → Bool
-is_kind_at test schema n = passes test (slice_get schema.types n)
+-- whether there is a type at the index, and it body_passes the test
+abbrev pub is_kind_at : (ModelBody → Bool) → SchemaModel → ℕ → Bool
+is_kind_at test schema n = body_passes test (slice_get schema.types n)
 
 -- there is an entity or complex type at the index
 abbrev pub HoldsType : SchemaModel → ℕ → Type 0
@@ -139,7 +139,7 @@ abbrev pub HoldsEnumeration : SchemaModel → ℕ → Type 0
 HoldsEnumeration schema n = IsTrue (is_kind_at is_enumeration schema n)
 
 -- of the types that pass a test, the one at an index is the only one of its name
-abbrev pub IsOneByName : (TypeBody → Bool) → SchemaModel → ℕ → Type 0
+abbrev pub IsOneByName : (ModelBody → Bool) → SchemaModel → ℕ → Type 0
 IsOneByName test schema n =
     (other : ℕ) → IsTrue (is_kind_at test schema n) → IsTrue (is_kind_at test schema other)
     → type_name_at schema other ≡ type_name_at schema n → other ≡ n
@@ -148,8 +148,8 @@ abbrev pub place_if : Bool → ℕ → Option ℕ
 place_if true n = Some n
 place_if false n = None
 
--- the index of the first type of the asked name, if it passes the test
-abbrev pub index_of_kind : (TypeBody → Bool) → SchemaModel → List ℕ → Option ℕ
+-- the index of the first type of the asked name, if it body_passes the test
+abbrev pub index_of_kind : (ModelBody → Bool) → SchemaModel → List ℕ → Option ℕ
 index_of_kind test schema asked =
     option_and_then (λ n. place_if (is_kind_at test schema n) n) (position (λ t. is_named t asked) schema.types)
 
@@ -173,11 +173,11 @@ slots_of schema = record {
 abbrev pub properties_at : SchemaModel → ℕ → List PropertyModel
 properties_at schema n = (slots_of schema).properties (type_name_at schema n)
 
-abbrev pub name_if : (TypeBody → Bool) → TypeModel → Option (List ℕ)
+abbrev pub name_if : (ModelBody → Bool) → TypeModel → Option (List ℕ)
 name_if test t = if test t.body then Some t.name else None
 
--- the qualified name of the type at an index, if it passes the test
-abbrev pub name_of_kind : (TypeBody → Bool) → SchemaModel → ℕ → Option (List ℕ)
+-- the qualified name of the type at an index, if it body_passes the test
+abbrev pub name_of_kind : (ModelBody → Bool) → SchemaModel → ℕ → Option (List ℕ)
 name_of_kind test schema n = option_and_then (name_if test) (slice_get schema.types n)
 
 -- the enumeration at an index, if there is one
@@ -203,7 +203,7 @@ abbrev pub HasDistinctNames : List PropertyModel → Type 0
 HasDistinctNames [] = Unit {0}
 HasDistinctNames (p ∷ ps) = AllByRecursion (λ q. q.name ≢ p.name) ps × HasDistinctNames ps
 
-abbrev pub IsBodyOrder : SchemaModel → ℕ → TypeBody → Type 0
+abbrev pub IsBodyOrder : SchemaModel → ℕ → ModelBody → Type 0
 IsBodyOrder schema n (structured_type is_entity base own) =
     (properties_at schema n ≡ base_properties (slots_of schema).properties base ++ own) × IsInNameOrder own
 IsBodyOrder schema n (enumeration_type e) = properties_at schema n ≡ []

@@ -5,7 +5,7 @@ ghost use Rattle.indexmap.specs.IndexMap.{get_by_text};
 ghost use Rattle.csdl_declarations.specs.DeclaredType.{IsBodyInOrder};
 ghost use Rattle.csdl_declarations.specs.DeclaredTypeView as declaration;
 ghost use Rattle.csdl_schema.specs.private.Placed.{body_with, type_with, types_with};
-ghost use Rattle.csdl_schema.specs.private.PlacedView.{body_view, placed_of, placed_view};
+ghost use Rattle.csdl_schema.specs.private.PlacedView.{placed_body_view, placed_of, placed_view};
 
 use super::named_type::{NamedBody, NamedType, StructuredType};
 use super::primitive_name::primitive_named;
@@ -25,7 +25,7 @@ fn place_body(
 ) -> Result<NamedBody, SchemaFault>
     requires { IsBodyInOrder (declaration.body_view body) }
     ensures refused { IfErr result (λ e. e ≡ SchemaFault.Memory) }
-    ensures placed { IfOk result (λ b. body_view b
+    ensures placed { IfOk result (λ b. placed_body_view b
         ≡ body_with kinds.now (get_by_text index_by_name.now) base (declaration.body_view body.entry)) }
 {
     match body {

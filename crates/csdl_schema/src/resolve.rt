@@ -6,7 +6,7 @@ ghost use Rattle.std.specs.Cmp.Lexicographic.{slice_cmp};
 ghost use Rattle.indexmap.specs.IndexMap.{get_by_text};
 ghost use Rattle.csdl_declarations.specs.DeclaredTypeView.{body_view, property_view, types_view};
 ghost use Rattle.csdl_schema.specs.Resolution.{primitive_named};
-ghost use Rattle.csdl_schema.specs.private.Placed.{entry_view, kind_named, kind_of_definition, kind_of_property, kinds_from, place_kind, placed_property};
+ghost use Rattle.csdl_schema.specs.private.Placed.{entry_view, property_kind_named, kind_of_definition, kind_of_property, kinds_from, place_kind, placed_property};
 
 use super::ids::{EnumId, TypeId};
 use super::primitive_name::primitive_named;
@@ -62,7 +62,7 @@ fn kind_named(
     index_by_name: &IndexMap<String, usize>,
     name: &str,
 ) -> PropertyKind
-    ensures { result ≡ kind_named kinds.now (get_by_text index_by_name.now) name.now }
+    ensures { result ≡ property_kind_named kinds.now (get_by_text index_by_name.now) name.now }
 {
     match primitive_named(name) {
         Some(primitive) => PropertyKind::Prim(primitive),

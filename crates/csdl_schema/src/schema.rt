@@ -1,7 +1,7 @@
 ghost use Rattle.std.specs.Prelude.{ℤ, ◌≡◌, ◌<◌, ◌↔◌, drop, length, map, slice_get, Some, IsTrue, IfSome, option_map};
 ghost use Rattle.csdl_schema.specs.SchemaModel.{enumeration_at, enumeration_named, index_named, is_enumeration, is_structured, name_of_kind, properties_at, slot_named, AreSlotsInOrder, HasDistinctNames, HoldsType, IsEntityAt, IsEnumerationByName, IsOneByName};
 ghost use Rattle.csdl_schema.specs.PropertyView.{AreFirstOf, IsReadAs};
-ghost use Rattle.csdl_schema.specs.EnumerationText.{IsValueIn, IsWithin};
+ghost use Rattle.csdl_schema.specs.EnumerationText.{IsValueIn, IsOfUnderlying};
 
 use super::chain::Chain;
 use super::ids::{EnumId, TypeId};
@@ -105,7 +105,7 @@ impl Schema {
     pub fn enum_value(&self, id: EnumId, text: &str) -> Option<i64>
         ensures value { IfSome result (IsValueIn (enumeration_at self.now id) text.now) }
         ensures only { (n : ℤ) → IsValueIn (enumeration_at self.now id) text.now n → result ≡ Some n }
-        ensures within { IfSome result (IsWithin (enumeration_at self.now id)) }
+        ensures within { IfSome result (IsOfUnderlying (enumeration_at self.now id)) }
         ensures by_name { IsEnumerationByName self.now id }
     {
         match enumeration_at(&self.types, id.index()) {

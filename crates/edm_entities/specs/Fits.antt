@@ -23,7 +23,8 @@ FitsFound (Some json_null) takes value P = (takes ≡ true) × (value ≡ null)
 FitsFound (Some json) takes value P = P json
 
 -- an object, and a record that has of each of these properties what P says, and holds no other name
-pub record FitsRecord (properties : List PropertyModel) (json : Data) (f : List ℕ → FieldVal) (P : PropertyModel → Type 0) : Type 0 where
+pub record FitsRecord
+    (properties : List PropertyModel) (json : Data) (f : List ℕ → FieldVal) (P : PropertyModel → Type 0) : Type 0 where
   pub is_object : IsSome (as_object json)
   pub each_fits : AllByRecursion P properties
   pub others_absent : (name : List ℕ) → AllByRecursion (λ p. p.name ≢ name) properties → f name ≡ absent

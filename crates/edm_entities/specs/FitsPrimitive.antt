@@ -12,7 +12,7 @@ use Rattle.edm_values.specs.Val.{Val, boolean, whole, text, date, moment, guid, 
 use Rattle.edm_values.specs.declared.primitive.PrimitiveType.{PrimitiveType}
 use Rattle.edm_values.specs.declared.primitive.PrimitiveType.TheVariants.{Bool as EdmBoolean, Byte, SByte, Int16, Int32, Int64, String as EdmString, Date as EdmDate, DateTimeOffset as EdmDateTimeOffset, Guid as EdmGuid}
 use Rattle.edm_enumerations.specs.EnumerationModel.{EnumerationModel}
-use Rattle.csdl_schema.specs.EnumerationText.{IsValueIn, IsWithin}
+use Rattle.csdl_schema.specs.EnumerationText.{IsValueIn, IsOfUnderlying}
 
 -- the whole number as which a JSON number is held; none for a fraction (1.0 and 1e0 too) and for JSON of another kind
 abbrev pub whole_number : Data → Option ℤ
@@ -31,16 +31,16 @@ abbrev pub TextMeaning : Type 1
 TextMeaning = List ℕ → Val → Type 0
 
 -- a String stands for itself, a text of the other three types for the value of the literal that it spells
-abbrev pub IsTextOf : PrimitiveType → TextMeaning
-IsTextOf EdmString s value = value ≡ text s
-IsTextOf EdmDate s value = (d : civil.Date) × DateValue s d × (value ≡ date d)
-IsTextOf EdmDateTimeOffset s value = (m : MomentParts) × MomentValue s m × (value ≡ moment m)
-IsTextOf EdmGuid s value = (g : List ℕ) × GuidValue s g × (value ≡ guid g)
-IsTextOf _ s value = ⊥
+abbrev pub IsTextValue : PrimitiveType → TextMeaning
+IsTextValue EdmString s value = value ≡ text s
+IsTextValue EdmDate s value = (d : civil.Date) × DateValue s d × (value ≡ date d)
+IsTextValue EdmDateTimeOffset s value = (m : MomentParts) × MomentValue s m × (value ≡ moment m)
+IsTextValue EdmGuid s value = (g : List ℕ) × GuidValue s g × (value ≡ guid g)
+IsTextValue _ s value = ⊥
 
 -- in an enumeration: the number that stands between the quotes of a literal, within the underlying type
 abbrev pub IsMemberText : Option EnumerationModel → TextMeaning
-IsMemberText e s value = (n : ℤ) × IsValueIn e s n × IsWithin e n × (value ≡ member n)
+IsMemberText e s value = (n : ℤ) × IsValueIn e s n × IsOfUnderlying e n × (value ≡ member n)
 
 -- a text, and what it stands for
 abbrev pub FitsText : TextMeaning → Data → Val → Type 0
@@ -54,10 +54,10 @@ FitsPrimitive SByte json value = FitsNumber SByte json value
 FitsPrimitive Int16 json value = FitsNumber Int16 json value
 FitsPrimitive Int32 json value = FitsNumber Int32 json value
 FitsPrimitive Int64 json value = FitsNumber Int64 json value
-FitsPrimitive EdmString json value = FitsText (IsTextOf EdmString) json value
-FitsPrimitive EdmDate json value = FitsText (IsTextOf EdmDate) json value
-FitsPrimitive EdmDateTimeOffset json value = FitsText (IsTextOf EdmDateTimeOffset) json value
-FitsPrimitive EdmGuid json value = FitsText (IsTextOf EdmGuid) json value
+FitsPrimitive EdmString json value = FitsText (IsTextValue EdmString) json value
+FitsPrimitive EdmDate json value = FitsText (IsTextValue EdmDate) json value
+FitsPrimitive EdmDateTimeOffset json value = FitsText (IsTextValue EdmDateTimeOffset) json value
+FitsPrimitive EdmGuid json value = FitsText (IsTextValue EdmGuid) json value
 
 -- ---- what is wrong
 
@@ -94,7 +94,7 @@ IsPrimitiveFlaw SByte json flaw = IsNumberFlaw SByte json flaw
 IsPrimitiveFlaw Int16 json flaw = IsNumberFlaw Int16 json flaw
 IsPrimitiveFlaw Int32 json flaw = IsNumberFlaw Int32 json flaw
 IsPrimitiveFlaw Int64 json flaw = IsNumberFlaw Int64 json flaw
-IsPrimitiveFlaw EdmString json flaw = IsTextFlaw (IsTextOf EdmString) json flaw
-IsPrimitiveFlaw EdmDate json flaw = IsTextFlaw (IsTextOf EdmDate) json flaw
-IsPrimitiveFlaw EdmDateTimeOffset json flaw = IsTextFlaw (IsTextOf EdmDateTimeOffset) json flaw
-IsPrimitiveFlaw EdmGuid json flaw = IsTextFlaw (IsTextOf EdmGuid) json flaw
+IsPrimitiveFlaw EdmString json flaw = IsTextFlaw (IsTextValue EdmString) json flaw
+IsPrimitiveFlaw EdmDate json flaw = IsTextFlaw (IsTextValue EdmDate) json flaw
+IsPrimitiveFlaw EdmDateTimeOffset json flaw = IsTextFlaw (IsTextValue EdmDateTimeOffset) json flaw
+IsPrimitiveFlaw EdmGuid json flaw = IsTextFlaw (IsTextValue EdmGuid) json flaw

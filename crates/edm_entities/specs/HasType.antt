@@ -3,7 +3,7 @@ use Rattle.std.specs.List.{AllByRecursion}
 use Rattle.edm_values.specs.Val.{Val, null, boolean, whole, text, date, moment, guid, member, fields, items, FieldVal, absent, present, Vals, no_items, item}
 use Rattle.edm_values.specs.declared.primitive.PrimitiveType.{PrimitiveType}
 use Rattle.edm_values.specs.declared.primitive.PrimitiveType.TheVariants.{Bool as EdmBoolean, String as EdmString, Date as EdmDate, DateTimeOffset as EdmDateTimeOffset, Guid as EdmGuid}
-use Rattle.csdl_schema.specs.EnumerationText.{IsWithin}
+use Rattle.csdl_schema.specs.EnumerationText.{IsOfUnderlying}
 use Rattle.csdl_schema.specs.ExprType.{ExprType, single, collection, SingleType, primitive, enumeration, structured}
 use Rattle.csdl_schema.specs.SchemaModel.{Slots, PropertyType, declared, opaque, navigation}
 use Rattle.edm_values.specs.NumberTypes.{IsNumberOf}
@@ -26,7 +26,7 @@ abbrev mutual
   HasType slots (single (structured name)) (fields f) =
       AllByRecursion (λ p. HasPropertyType slots p.type_of (f p.name)) (slots.properties name)
   HasType slots (collection type) (items values) = AllHaveType slots type values
-  HasType slots (single (enumeration name)) (member n) = IsWithin (slots.enumerations name) n
+  HasType slots (single (enumeration name)) (member n) = IsOfUnderlying (slots.enumerations name) n
   HasType slots (single (primitive type)) value = IsPrimitiveValue value type
   HasType slots type value = ⊥
 

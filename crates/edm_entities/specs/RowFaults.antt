@@ -41,7 +41,9 @@ abbrev pub HasFitting : Slots → Data → PropertyModel → Type 0
 HasFitting slots json p = (held : FieldVal) × FitsProperty slots p.nullable p.type_of (get p.name json) held
 
 -- the first faulty property of an object, by the order of the properties: those before it have what fits
-pub record IsFirstProperty (slots : Slots) (properties : List PropertyModel) (json : Data) (step : List ℕ) (P : PropertyModel → Type 0) : Type 0 where
+pub record IsFirstProperty
+    (slots : Slots) (properties : List PropertyModel) (json : Data) (step : List ℕ) (P : PropertyModel → Type 0)
+    : Type 0 where
   pub is_object : IsSome (as_object json)
   pub before : List PropertyModel
   pub faulty : PropertyModel
@@ -57,7 +59,9 @@ HasFittingItem slots nullable type json =
     (value : Val) × FitsFound (Some json) nullable value (λ found. FitsType slots nullable (single type) found value)
 
 -- the first faulty item of an array: those before it fit
-pub record IsFirstItem (slots : Slots) (nullable : Bool) (type : SingleType) (json : Data) (step : List ℕ) (P : Data → Type 0) : Type 0 where
+pub record IsFirstItem
+    (slots : Slots) (nullable : Bool) (type : SingleType) (json : Data) (step : List ℕ) (P : Data → Type 0)
+    : Type 0 where
   pub jsons : Items
   pub is_array : as_array json ≡ Some jsons
   pub index : ℕ
@@ -69,28 +73,28 @@ pub record IsFirstItem (slots : Slots) (nullable : Bool) (type : SingleType) (js
   pub fault : P faulty
 
 -- the first fault in JSON, not null, where a type is wanted, and the way to it; by recursion on the way
-abbrev pub IsTypeFault : Slots → Bool → Path → ExprType → Data → Flaw → Type 0
-IsTypeFault slots nullable [] type json flaw = IsFlawHere slots type json flaw
-IsTypeFault slots nullable (step ∷ path) (single (structured name)) json flaw =
+abbrev pub IsValueFault : Slots → Bool → Path → ExprType → Data → Flaw → Type 0
+IsValueFault slots nullable [] type json flaw = IsFlawHere slots type json flaw
+IsValueFault slots nullable (step ∷ path) (single (structured name)) json flaw =
     IsFirstProperty slots (slots.properties name) json step (λ p. OnDeclared p.type_of (λ type.
     IsFoundFault (get p.name json) (takes_null type p.nullable) path flaw
-    (λ found. IsTypeFault slots p.nullable path type found flaw)))
-IsTypeFault slots nullable (step ∷ path) (collection type) json flaw =
+    (λ found. IsValueFault slots p.nullable path type found flaw)))
+IsValueFault slots nullable (step ∷ path) (collection type) json flaw =
     IsFirstItem slots nullable type json step (λ faulty. IsFoundFault (Some faulty) nullable path flaw
-    (λ found. IsTypeFault slots nullable path (single type) found flaw))
-IsTypeFault slots nullable (step ∷ path) type json flaw = ⊥
+    (λ found. IsValueFault slots nullable path (single type) found flaw))
+IsValueFault slots nullable (step ∷ path) type json flaw = ⊥
 
 -- the first fault in what an object has under a property's name
 abbrev pub IsPropertyFault : Slots → Bool → PropertyType → Option Data → Path → Flaw → Type 0
 IsPropertyFault slots nullable type found path flaw =
     OnDeclared type (λ wanted. IsFoundFault found (takes_null wanted nullable) path flaw
-    (λ json. IsTypeFault slots nullable path wanted json flaw))
+    (λ json. IsValueFault slots nullable path wanted json flaw))
 
 -- the first fault within a row of the type of that name; the row itself is an object
 abbrev pub IsFirstFault : Slots → List ℕ → Data → Path → Flaw → Type 0
 IsFirstFault slots type_name json [] flaw = ⊥
 IsFirstFault slots type_name json (step ∷ path) flaw =
-    IsTypeFault slots false (step ∷ path) (single (structured type_name)) json flaw
+    IsValueFault slots false (step ∷ path) (single (structured type_name)) json flaw
 
 -- the same, with the path as a text, its parts joined by slashes
 abbrev pub IsFirstFaultAt : Slots → List ℕ → Data → List ℕ → Flaw → Type 0

@@ -8,9 +8,9 @@ ghost use Rattle.csdl_schema.specs.PropertyView.{property_type};
 ghost use Rattle.csdl_schema.specs.SchemaModel.{HasDistinctNames, properties_at, slots_of, type_name_at};
 ghost use Rattle.edm_entities.specs.Fits.{FitsFound, FitsProperty, FitsType};
 ghost use Rattle.edm_entities.specs.Row.{field_of, val_of};
-ghost use Rattle.edm_entities.specs.RowFaults.{IsFoundFault, IsPropertyFault, IsTypeFault};
+ghost use Rattle.edm_entities.specs.RowFaults.{IsFoundFault, IsPropertyFault, IsValueFault};
 ghost use Rattle.edm_entities.specs.private.Faults.{IsFaultOf};
-ghost use Rattle.edm_entities.specs.private.Walk.{FitSlots, FitList, single_of};
+ghost use Rattle.edm_entities.specs.private.Walk.{FitSlots, FitList, wanted_single};
 
 use super::flaw::{ReadFault, ReadFlaw, fault_below, fault_here, fault_in_item};
 use super::leaf::{absent_value, leaf_read, null_value, read_member, read_primitive};
@@ -34,7 +34,7 @@ pub(crate) fn read_slots(
     ensures distinct { IfOk result (λ _. HasDistinctNames (properties_at schema.now type_id)) }
     ensures fits { IfOk result (λ values. FitSlots (slots_of schema.now) (view json.now)
         (properties_at schema.now type_id) values.items) }
-    ensures fault { IfErr result (IsFaultOf (λ path flaw. IsTypeFault (slots_of schema.now) false path
+    ensures fault { IfErr result (IsFaultOf (λ path flaw. IsValueFault (slots_of schema.now) false path
         (single (structured (type_name_at schema.now type_id))) (view json.now) flaw)) }
 {
     let Some(mut members) = members_of(json) else {
@@ -97,11 +97,11 @@ fn read_single(
     json: &serde_json::Value,
 ) -> Result<Value, ReadFault>
     ensures fits { IfOk result (λ v. FitsFound (Some (view json.now)) nullable
-        (val_of v (slots_of schema.now) (single (single_of schema.now wanted.now)))
-        (λ found. FitsType (slots_of schema.now) nullable (single (single_of schema.now wanted.now)) found
-        (val_of v (slots_of schema.now) (single (single_of schema.now wanted.now))))) }
+        (val_of v (slots_of schema.now) (single (wanted_single schema.now wanted.now)))
+        (λ found. FitsType (slots_of schema.now) nullable (single (wanted_single schema.now wanted.now)) found
+        (val_of v (slots_of schema.now) (single (wanted_single schema.now wanted.now))))) }
     ensures fault { IfErr result (IsFaultOf (λ path flaw. IsFoundFault (Some (view json.now)) nullable path flaw
-        (λ found. IsTypeFault (slots_of schema.now) nullable path (single (single_of schema.now wanted.now)) found flaw))) }
+        (λ found. IsValueFault (slots_of schema.now) nullable path (single (wanted_single schema.now wanted.now)) found flaw))) }
 {
     if json.is_null() {
         return null_value(nullable);
@@ -118,10 +118,10 @@ fn read_value(
     json: &serde_json::Value,
 ) -> Result<Value, ReadFault>
     ensures fits { (nullable : Bool) → IfOk result (λ v. FitsType (slots_of schema.now) nullable
-        (single (single_of schema.now wanted.now)) (view json.now)
-        (val_of v (slots_of schema.now) (single (single_of schema.now wanted.now)))) }
-    ensures fault { (nullable : Bool) → IfErr result (IsFaultOf (λ path flaw. IsTypeFault (slots_of schema.now) nullable
-        path (single (single_of schema.now wanted.now)) (view json.now) flaw)) }
+        (single (wanted_single schema.now wanted.now)) (view json.now)
+        (val_of v (slots_of schema.now) (single (wanted_single schema.now wanted.now)))) }
+    ensures fault { (nullable : Bool) → IfErr result (IsFaultOf (λ path flaw. IsValueFault (slots_of schema.now) nullable
+        path (single (wanted_single schema.now wanted.now)) (view json.now) flaw)) }
 {
     match *wanted {
         Wanted::Prim(prim) => leaf_read(read_primitive(alloc, prim, scalar_of(json))),
@@ -143,11 +143,11 @@ fn read_items(
     json: &serde_json::Value,
 ) -> Result<Value, ReadFault>
     ensures fits { IfOk result (λ v. FitsFound (Some (view json.now)) false
-        (val_of v (slots_of schema.now) (collection (single_of schema.now wanted.now)))
-        (λ found. FitsType (slots_of schema.now) nullable (collection (single_of schema.now wanted.now)) found
-        (val_of v (slots_of schema.now) (collection (single_of schema.now wanted.now))))) }
+        (val_of v (slots_of schema.now) (collection (wanted_single schema.now wanted.now)))
+        (λ found. FitsType (slots_of schema.now) nullable (collection (wanted_single schema.now wanted.now)) found
+        (val_of v (slots_of schema.now) (collection (wanted_single schema.now wanted.now))))) }
     ensures fault { IfErr result (IsFaultOf (λ path flaw. IsFoundFault (Some (view json.now)) false path flaw
-        (λ found. IsTypeFault (slots_of schema.now) nullable path (collection (single_of schema.now wanted.now)) found flaw))) }
+        (λ found. IsValueFault (slots_of schema.now) nullable path (collection (wanted_single schema.now wanted.now)) found flaw))) }
 {
     if json.is_null() {
         return Err(fault_here(ReadFlaw::NullNotAllowed));
@@ -170,10 +170,10 @@ fn read_list(
     nullable: bool,
     items: &[serde_json::Value],
 ) -> Result<Vec<Value>, ReadFault>
-    ensures fits { IfOk result (λ values. FitList (slots_of schema.now) nullable (single_of schema.now wanted.now)
+    ensures fits { IfOk result (λ values. FitList (slots_of schema.now) nullable (wanted_single schema.now wanted.now)
         (items_view items.now) values.items) }
-    ensures fault { IfErr result (IsFaultOf (λ path flaw. IsTypeFault (slots_of schema.now) nullable path
-        (collection (single_of schema.now wanted.now)) (array (items_view items.now)) flaw)) }
+    ensures fault { IfErr result (IsFaultOf (λ path flaw. IsValueFault (slots_of schema.now) nullable path
+        (collection (wanted_single schema.now wanted.now)) (array (items_view items.now)) flaw)) }
 {
     let Ok(mut values) = Vec::with_capacity(alloc, items.len()) else {
         return Err(fault_here(ReadFlaw::Memory));

@@ -2,7 +2,7 @@ ghost use Rattle.std.specs.Prelude.{◌≡◌, IfSome, IsSome, ◌↔◌};
 ghost use Rattle.std.proofs.Common.{sym};
 ghost use Rattle.edm_values.specs.MomentParts.{MomentParts, IsMoment, IsFourDigitYear, IsOffset};
 ghost use Rattle.edm_values.specs.Instant.{instant};
-ghost use Rattle.edm_values.specs.private.Seconds.{IsTimed, instant_seconds};
+ghost use Rattle.edm_values.specs.private.Seconds.{CountsSeconds, instant_seconds};
 
 use jiff::civil::DateTime;
 use std::marker::Model;
@@ -38,7 +38,7 @@ impl Model for Moment {
 
     ghost view = { λ m. record { civil = m.civil; offset_minutes = m.offset_minutes } };
 
-    ghost invariant = { λ m. IsTimed m.civil m.offset_minutes m.seconds };
+    ghost invariant = { λ m. CountsSeconds m.civil m.offset_minutes m.seconds };
 
     ghost inverse = { λ p. record {
       civil = p.civil;

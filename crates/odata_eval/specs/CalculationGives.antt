@@ -23,7 +23,8 @@ number_outcome (Err DivideByZero) = divides_by_zero
 -- two numbers, in the type in which they are computed
 abbrev pub ComputesTo : ArithmeticOperator → PrimitiveType → Option ℤ → Option ℤ → Outcome → Type 0
 ComputesTo operator p a b o =
-    (answer : Result (Option ℤ) ArithFault) × numbers.ArithmeticGives operator p a b answer × (o ≡ number_outcome answer)
+    (answer : Result (Option ℤ) ArithFault) × numbers.ArithmeticGives operator p a b answer
+    × (o ≡ number_outcome answer)
 
 -- null where an operand is null; two numbers in the type of the operator's node, to which their types are promoted
 abbrev pub CalculationGives : ArithmeticOperator → ExprType → Val → Val → Outcome → Type 0

@@ -37,6 +37,7 @@ abbrev mutual
   ShapeMeans slots root now entity environment (binary operator left right) =
       After (Means slots root now entity environment left)
       (λ l. OperatorGives operator
-      (OperandsTyped operator (Typed slots root (scope_of environment) left) (Typed slots root (scope_of environment) right))
+      (OperandsTyped operator (Typed slots root (scope_of environment) left)
+      (Typed slots root (scope_of environment) right))
       l (Means slots root now entity environment right))
   ShapeMeans slots root now entity environment shape = NoOutcome

@@ -181,9 +181,9 @@ Completes Check plan document streams = TellsFilter plan document streams
 Completes Explain plan document streams = ⊥
 
 -- nothing was written where there is no filter; to `check` that is an answer, which it writes
-abbrev pub Refuses : Verb → Streams → Type 0
-Refuses Check streams = Unit {0}
-Refuses verb streams = WroteNothing streams
+abbrev pub RefusalSays : Verb → Streams → Type 0
+RefusalSays Check streams = Unit {0}
+RefusalSays verb streams = WroteNothing streams
 
 -- a verb that reads rows stopped at one, or they were to be a collection and are none; another never does
 abbrev pub StopsAtRow : Verb → Plan → List ℕ → Streams → Type 0
@@ -200,7 +200,7 @@ LacksDevice verb plan document = HasCheckedFilter plan document
 -- entity type; a row is at fault; a device failed, and of rows nothing is said; nothing is said.
 abbrev pub StatusSays : Status → Verb → Plan → List ℕ → Streams → Type 0
 StatusSays complete verb plan document streams = Completes verb plan document streams
-StatusSays without_filter verb plan document streams = HasNoFilter plan document × Refuses verb streams
+StatusSays without_filter verb plan document streams = HasNoFilter plan document × RefusalSays verb streams
 StatusSays without_plan verb plan document streams =
     ((¬ IsPlanned plan) ⊎ HasNoOption plan document) × WroteNothing streams
 StatusSays without_type verb plan document streams = IsPlanned plan × (HasNoType plan document × WroteNothing streams)

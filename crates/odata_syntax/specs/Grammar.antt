@@ -189,7 +189,8 @@ mutual
         → IsA TokenKind.Close last
         → Derives path_level (bs ++ (slash ∷ t ∷ first ∷ last ∷ [])) (tree_to base last (any_item base))
     derives_lambda :
-        {quantifier : Quantifier} {bs ts : List TokenModel} {slash t first variable colon last : TokenModel} {base body : Tree}
+        {quantifier : Quantifier} {bs ts : List TokenModel} {slash t first variable colon last : TokenModel}
+        {base body : Tree}
         → Derives open_path_level bs base
         → IsA TokenKind.Slash slash
         → IsQuantifier quantifier t

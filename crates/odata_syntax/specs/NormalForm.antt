@@ -19,7 +19,8 @@ literal_token LiteralKind.EnumLit = TokenKind.EnumLit
 -- the second is the first with each literal in its canonical spelling, and all places kept
 abbrev mutual
   pub IsNormalForm : Tree → Tree → Type 0
-  IsNormalForm (node start stop shape) normal = (other : Shape) × IsNormalShape shape other × (normal ≡ node start stop other)
+  IsNormalForm (node start stop shape) normal =
+      (other : Shape) × IsNormalShape shape other × (normal ≡ node start stop other)
 
   pub IsNormalShape : Shape → Shape → Type 0
   IsNormalShape (literal kind text) other =

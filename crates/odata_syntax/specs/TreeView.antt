@@ -18,10 +18,13 @@ tree_step (Node-F.Binary span operator left right) = node span.start span.stop (
 tree_step (Node-F.Has span left right) = node span.start span.stop (has left.value right.value)
 tree_step (Node-F.InList span left items) = node span.start span.stop (in_list left.value (trees_of_list items.items))
 tree_step (Node-F.InPath span left path) = node span.start span.stop (in_path left.value path.value)
-tree_step (Node-F.Call span text arguments) = node span.start span.stop (call (string_bytes text) (trees_of_list arguments.items))
+tree_step (Node-F.Call span text arguments) =
+    node span.start span.stop (call (string_bytes text) (trees_of_list arguments.items))
 tree_step (Node-F.Any span base None) = node span.start span.stop (any_item base.value)
-tree_step (Node-F.Any span base (Some l)) = node span.start span.stop (lambda Quantifier.Any base.value (string_bytes l.0) l.1.value)
-tree_step (Node-F.All span base variable body) = node span.start span.stop (lambda Quantifier.All base.value (string_bytes variable) body.value)
+tree_step (Node-F.Any span base (Some l)) =
+    node span.start span.stop (lambda Quantifier.Any base.value (string_bytes l.0) l.1.value)
+tree_step (Node-F.All span base variable body) =
+    node span.start span.stop (lambda Quantifier.All base.value (string_bytes variable) body.value)
 
 abbrev pub tree_of : Node → Tree
 tree_of = fold-Node Tree tree_step

@@ -36,4 +36,5 @@ pub data IsConsidered (slots : Slots) (root : List ℕ) : Scope → Tree → Sco
 -- each considered child of a tree has a type
 abbrev pub ChildrenTyped : Slots → List ℕ → Scope → Tree → Type 0
 ChildrenTyped slots root scope tree =
-    (at : Scope) (child : Tree) → IsConsideredChild slots root scope (shape_of tree) at child → IsTyped slots root at child
+    (at : Scope) (child : Tree) → IsConsideredChild slots root scope (shape_of tree) at child
+    → IsTyped slots root at child

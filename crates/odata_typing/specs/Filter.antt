@@ -9,7 +9,7 @@ use Rattle.odata_signatures.specs.ExprTypes.{IsBooleanOrNull}
 use Rattle.odata_typing.specs.FlatTree.{FlatTree, tree_of_nodes}
 use Rattle.odata_typing.specs.PreOrder.{pre_order}
 use Rattle.odata_typing.specs.ScopedNodes.{scoped_nodes}
-use Rattle.odata_typing.specs.Stands.{Stands, names_of}
+use Rattle.odata_typing.specs.Stands.{Stands, variable_names}
 use Rattle.odata_typing.specs.Typed.{Scope, Typed}
 
 -- a filter of the n-th type of a schema, by the list of its nodes
@@ -38,7 +38,8 @@ pub record IsTypeAt (filter : Filter) (k : ℕ) (type : ExprType) : Type 0 where
   pub at : Scope
   pub part : Tree
   pub numbered :
-      slice_get (scoped_nodes [] (tree_of_filter filter)) k ≡ Some (record { variables = names_of at; part = part })
+      slice_get (scoped_nodes [] (tree_of_filter filter)) k ≡ Some (record { variables = variable_names at; part = part })
   pub considered :
-      IsConsidered (slots_of filter.schema) (type_name_at filter.schema filter.filtered) [] (tree_of_filter filter) at part
+      IsConsidered (slots_of filter.schema) (type_name_at filter.schema filter.filtered) []
+      (tree_of_filter filter) at part
   pub typed : Typed (slots_of filter.schema) (type_name_at filter.schema filter.filtered) at part type

@@ -67,7 +67,8 @@ OneRefusal =
 -- a text that is refused is no filter
 abbrev pub RefusedIsUntyped : Type 0
 RefusedIsUntyped =
-    (slots : Slots) (root text : List ℕ) (refusal : Refusal) → IsRefusal slots root text refusal → HasNoTyping slots root text
+    (slots : Slots) (root text : List ℕ) (refusal : Refusal) → IsRefusal slots root text refusal
+    → HasNoTyping slots root text
 
 -- one value of a primitive type, never null
 abbrev pub plain_property : List ℕ → PrimitiveType → PropertyModel

@@ -14,7 +14,7 @@ use Rattle.edm_values.specs.Val.{Val, null, boolean, whole, date, moment, guid, 
 use Rattle.edm_values.specs.Val as val
 use Rattle.edm_values.specs.declared.primitive.PrimitiveType.{PrimitiveType}
 use Rattle.odata_syntax.specs.declared.node.LiteralKind.{LiteralKind}
-use Rattle.csdl_schema.specs.EnumerationText.{IsValueIn, IsWithin}
+use Rattle.csdl_schema.specs.EnumerationText.{IsValueIn, IsOfUnderlying}
 use Rattle.csdl_schema.specs.ExprType.{ExprType, null_type, single, primitive, enumeration}
 use Rattle.csdl_schema.specs.SchemaModel.{Slots}
 use Rattle.odata_signatures.specs.ExprTypes.{boolean_type, string_type}
@@ -36,7 +36,7 @@ pub record IsNameAndText (spelling asked inner : List ℕ) : Type 0 where
 pub record NamesNumber (slots : Slots) (asked inner qualified : List ℕ) (n : ℤ) : Type 0 where
   pub named : slots.enumeration_names asked ≡ Some qualified
   pub value : IsValueIn (slots.enumerations qualified) inner n
-  pub within : IsWithin (slots.enumerations qualified) n
+  pub within : IsOfUnderlying (slots.enumerations qualified) n
 
 -- the literal's name and text do so
 pub record EnumerationLiteral (slots : Slots) (spelling qualified : List ℕ) (n : ℤ) : Type 0 where

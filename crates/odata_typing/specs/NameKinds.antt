@@ -7,14 +7,14 @@ use Rattle.odata_typing.specs.Considered.{IsConsidered}
 use Rattle.odata_typing.specs.Filter.{Filter, tree_of_filter}
 use Rattle.odata_typing.specs.Levels.{level_named}
 use Rattle.odata_typing.specs.ScopedNodes.{scoped_nodes}
-use Rattle.odata_typing.specs.Stands.{names_of}
+use Rattle.odata_typing.specs.Stands.{variable_names}
 use Rattle.odata_typing.specs.Typed.{Scope, Typed}
 
 -- the node names the property in the slot: a name that no variable in scope has names one of the filtered type, a step
 -- one of the type of what stands before its slash
 abbrev pub NamesSlot : Slots → List ℕ → Scope → Tree → ℕ → Type 0
 NamesSlot slots root scope (node start stop (name asked)) slot =
-    (level_named (names_of scope) asked ≡ None) × (slot_named (slots.properties root) asked ≡ Some slot)
+    (level_named (variable_names scope) asked ≡ None) × (slot_named (slots.properties root) asked ≡ Some slot)
 NamesSlot slots root scope (node start stop (member base asked)) slot =
     (owner : List ℕ) × Typed slots root scope base (single (structured owner))
     × (slot_named (slots.properties owner) asked ≡ Some slot)
@@ -30,9 +30,10 @@ pub record IsSlotAt (filter : Filter) (k slot : ℕ) : Type 0 where
   pub at : Scope
   pub part : Tree
   pub numbered :
-      slice_get (scoped_nodes [] (tree_of_filter filter)) k ≡ Some (record { variables = names_of at; part = part })
+      slice_get (scoped_nodes [] (tree_of_filter filter)) k ≡ Some (record { variables = variable_names at; part = part })
   pub considered :
-      IsConsidered (slots_of filter.schema) (type_name_at filter.schema filter.filtered) [] (tree_of_filter filter) at part
+      IsConsidered (slots_of filter.schema) (type_name_at filter.schema filter.filtered) []
+      (tree_of_filter filter) at part
   pub names : NamesSlot (slots_of filter.schema) (type_name_at filter.schema filter.filtered) at part slot
 
 -- the level of the variable that the filter's k-th node names

@@ -16,8 +16,8 @@ use Rattle.odata_typing.specs.Typed.{Scope, Typed}
 use Rattle.odata_signatures.specs.TypeView.{expr_type}
 
 -- the names of a scope's variables
-abbrev pub names_of : Scope → List (List ℕ)
-names_of scope = map (λ bound. bound.0) scope
+abbrev pub variable_names : Scope → List (List ℕ)
+variable_names scope = map (λ bound. bound.0) scope
 
 -- a value of the code that a literal of this kind and spelling stands for
 pub record IsValueOf (slots : Slots) (kind : LiteralKind) (spelling : List ℕ) (value : Value) : Type 0 where
@@ -49,7 +49,7 @@ IsMemberNode slots Base asked _ = ⊥
 abbrev pub IsKindOf : List Value → Slots → List ℕ → Scope → Shape → NodeKind → Type 0
 IsKindOf values slots root scope (literal kind spelling) k = IsLiteralNode slots values kind spelling k
 IsKindOf values slots root scope it k = k ≡ NodeKind.It
-IsKindOf values slots root scope (name asked) k = IsNameNode (slots.properties root) (names_of scope) asked k
+IsKindOf values slots root scope (name asked) k = IsNameNode (slots.properties root) (variable_names scope) asked k
 IsKindOf values slots root scope (member base asked) k = IsMemberNode slots (Typed slots root scope base) asked k
 IsKindOf values slots root scope (negation operand) k = k ≡ NodeKind.Neg
 IsKindOf values slots root scope (logical_not operand) k = k ≡ NodeKind.Not

@@ -1,4 +1,5 @@
--- Which type an expression has (OData URL Conventions 4.01, sections 5.1.1.1, 5.1.1.2, 5.1.1.13 to 5.1.1.15 and 5.1.1.18).
+-- Which type an expression has (OData URL Conventions 4.01, sections 5.1.1.1, 5.1.1.2, 5.1.1.13 to 5.1.1.15 and
+-- 5.1.1.18).
 use Rattle.std.specs.Prelude.{◌≡◌, ℕ, List, Option, IsSomeAnd, MatchOption, find, nat_eq}
 use Rattle.std.specs.Option.{option_map}
 use Rattle.std.specs.Cmp.Lexicographic.{pointwise}
@@ -36,7 +37,8 @@ StepTyped slots asked (single (structured owner)) type = PropertyTyped (slots.pr
 StepTyped slots asked _ type = ⊥
 
 -- the one operand has a type, and of this the node makes the type
-pub record OperandTyped (Operand : ExprType → Type 0) (Makes : ExprType → ExprType → Type 0) (type : ExprType) : Type 0 where
+pub record OperandTyped
+    (Operand : ExprType → Type 0) (Makes : ExprType → ExprType → Type 0) (type : ExprType) : Type 0 where
   pub operand : ExprType
   pub operand_typed : Operand operand
   pub makes : Makes operand type

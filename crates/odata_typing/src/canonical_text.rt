@@ -6,7 +6,7 @@ ghost use Rattle.odata_syntax.specs.Lexeme.{operator_word};
 ghost use Rattle.odata_typing.specs.FlatTree.{tree_of_nodes};
 ghost use Rattle.odata_typing.specs.private.CanonicalWalk.{HasTreeAt, IsBinaryAt, IsPieceOf, IsSignAt};
 ghost use Rattle.odata_typing.specs.private.CanonicalWalk.{IsSignPut, IsStepAdded, IsTextAdded, Piece, StandsThere};
-ghost use Rattle.odata_typing.specs.private.CanonicalWalk.{WritesPart, operands_of, step_of};
+ghost use Rattle.odata_typing.specs.private.CanonicalWalk.{WritesPart, operands_of, step_parts};
 
 use super::checked_node::NodeKind;
 use super::node_list::NodeList;
@@ -127,7 +127,7 @@ fn write_name(list: &NodeList, place: usize, text: &mut String) -> Result<(), Al
 /// Puts the step to a member on the stack, and on top what stands before the slash.
 fn put_step(list: &NodeList, place: usize, pending: &mut Vec<Part>) -> Result<(), AllocError>
     requires { place < length list.now.nodes }
-    ensures { OnOk result (pending.new.items ≡ pending.old.items ++ step_of place) }
+    ensures { OnOk result (pending.new.items ≡ pending.old.items ++ step_parts place) }
 {
     let count = list.nodes().len();
     prove!(place < count);

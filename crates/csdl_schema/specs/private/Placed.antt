@@ -44,12 +44,12 @@ abbrev pub unless_primitive_kind : PropertyKind → Option PrimitiveType → Pro
 unless_primitive_kind other None = other
 unless_primitive_kind other (Some p) = kind.Prim p
 
-abbrev pub kind_named : List PropertyKind → Finder → List ℕ → PropertyKind
-kind_named kinds find text =
+abbrev pub property_kind_named : List PropertyKind → Finder → List ℕ → PropertyKind
+property_kind_named kinds find text =
     unless_primitive_kind (unwrap_or (option_and_then (slice_get kinds) (find text)) kind.Opaque) (primitive_named text)
 
 abbrev pub kind_of_property : List PropertyKind → Finder → PropertyDeclaration → PropertyKind
-kind_of_property kinds find p = if p.navigates then kind.Navigation else kind_named kinds find p.type_name
+kind_of_property kinds find p = if p.navigates then kind.Navigation else property_kind_named kinds find p.type_name
 
 abbrev pub placed_property : List PropertyKind → Finder → PropertyDeclaration → List ℕ × Property
 placed_property kinds find p =

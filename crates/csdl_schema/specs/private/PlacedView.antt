@@ -9,16 +9,16 @@ use Rattle.csdl_schema.specs.private.Placed.{PlacedType, PlacedBody, placed_stru
 abbrev pub structured_view : StructuredType → PlacedBody
 structured_view s = placed_structured s.is_entity s.base (map entry_view s.properties.entries)
 
-abbrev pub body_view : NamedBody → PlacedBody
-body_view (code.Structured s) = structured_view s
-body_view (code.Enumeration e) = placed_enumeration e
-body_view (code.Definition p) = placed_definition p
+abbrev pub placed_body_view : NamedBody → PlacedBody
+placed_body_view (code.Structured s) = structured_view s
+placed_body_view (code.Enumeration e) = placed_enumeration e
+placed_body_view (code.Definition p) = placed_definition p
 
 abbrev pub placed_view : NamedType → PlacedType
 placed_view t = record {
   name = string_bytes t.name;
   alias_name = option_map string_bytes t.alias_name;
-  body = body_view t.body;
+  body = placed_body_view t.body;
 }
 
 abbrev pub placed_of : List NamedType → List PlacedType

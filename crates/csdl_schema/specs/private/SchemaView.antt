@@ -7,7 +7,7 @@ use Rattle.csdl_schema.specs.declared.property.Property.{Property}
 use Rattle.csdl_schema.specs.declared.schema.Schema.TheInside.{Inside}
 use Rattle.csdl_schema.specs.BaseFaults.{property_limit}
 use Rattle.csdl_schema.specs.PropertyView.{type_of_kind, PointsWithin}
-use Rattle.csdl_schema.specs.SchemaModel.{SchemaModel, PropertyModel, TypeModel, TypeBody, structured_type, enumeration_type, type_definition, name_in, is_named, properties_at, is_structured, is_enumeration, IsEnumerationByName, IsOneByName, IsInNameOrder, HasDistinctNames}
+use Rattle.csdl_schema.specs.SchemaModel.{SchemaModel, PropertyModel, TypeModel, ModelBody, structured_type, enumeration_type, type_definition, name_in, is_named, properties_at, is_structured, is_enumeration, IsEnumerationByName, IsOneByName, IsInNameOrder, HasDistinctNames}
 use Rattle.csdl_schema.specs.private.Placed.{PlacedType, PlacedBody, placed_structured, placed_enumeration, placed_definition, own_at}
 use Rattle.csdl_schema.specs.private.PlacedView.{placed_of}
 
@@ -21,7 +21,7 @@ property_model name_at e = record {
   nullable = e.1.nullable;
 }
 
-abbrev pub body_model : (ℕ → List ℕ) → PlacedBody → TypeBody
+abbrev pub body_model : (ℕ → List ℕ) → PlacedBody → ModelBody
 body_model name_at (placed_structured is_entity base own) =
     structured_type is_entity (option_map name_at base) (map (property_model name_at) own)
 body_model name_at (placed_enumeration e) = enumeration_type e
@@ -61,7 +61,8 @@ IsBaseBelow chains n None = Unit {0}
 IsBaseBelow chains n (Some base) = (chain_in chains base).bases < (chain_in chains n).bases
 
 -- the chain tells how many properties are inherited, and these go before the own ones
-pub record IsChained (schema : SchemaModel) (chains : List Chain) (n : ℕ) (base : Option ℕ) (own : List PropertyModel) : Type 0 where
+pub record IsChained
+    (schema : SchemaModel) (chains : List Chain) (n : ℕ) (base : Option ℕ) (own : List PropertyModel) : Type 0 where
   pub below : IsBaseBelow chains n base
   pub inherited : (chain_in chains n).inherited ≡ length (inherited_properties schema base)
   pub properties : properties_at schema n ≡ inherited_properties schema base ++ own

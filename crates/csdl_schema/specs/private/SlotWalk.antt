@@ -6,13 +6,13 @@ use Rattle.csdl_schema.specs.SchemaModel.{PropertyModel}
 use Rattle.csdl_schema.specs.private.Placed.{PlacedType, PlacedBody, placed_structured, placed_enumeration, placed_definition, own_at}
 use Rattle.csdl_schema.specs.private.SchemaView.{chain_in}
 
-abbrev pub structured_body : PlacedBody → Option PlacedBody
-structured_body (placed_structured is_entity base own) = Some (placed_structured is_entity base own)
-structured_body (placed_enumeration e) = None
-structured_body (placed_definition p) = None
+abbrev pub if_structured : PlacedBody → Option PlacedBody
+if_structured (placed_structured is_entity base own) = Some (placed_structured is_entity base own)
+if_structured (placed_enumeration e) = None
+if_structured (placed_definition p) = None
 
 abbrev pub structured_in : List PlacedType → ℕ → Option PlacedBody
-structured_in types n = option_and_then (λ t. structured_body t.body) (slice_get types n)
+structured_in types n = option_and_then (λ t. if_structured t.body) (slice_get types n)
 
 abbrev pub earlier : Option ℕ → Option ℕ → Option ℕ
 earlier None other = other

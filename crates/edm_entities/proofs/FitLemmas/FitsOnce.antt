@@ -18,7 +18,7 @@ use Rattle.edm_enumerations.specs.EnumerationValue.{EnumerationValue}
 use Rattle.csdl_schema.specs.ExprType.{ExprType, null_type, single, collection, SingleType, primitive, enumeration, structured}
 use Rattle.csdl_schema.specs.SchemaModel.{Slots, PropertyModel, PropertyType, declared, opaque, navigation}
 use Rattle.edm_entities.specs.Fits.{FitsFound, FitsRecord, FitsType, FitsProperty, FitItems, Fits}
-use Rattle.edm_entities.specs.FitsPrimitive.{FitsBoolean, FitsNumber, FitsText, FitsPrimitive, TextMeaning, IsTextOf, IsMemberText}
+use Rattle.edm_entities.specs.FitsPrimitive.{FitsBoolean, FitsNumber, FitsText, FitsPrimitive, TextMeaning, IsTextValue, IsMemberText}
 
 -- what the laws of literals say: a text has one value of each kind
 pub record TextsOnce : Type 0 where
@@ -73,7 +73,7 @@ module _ (f g : List ℕ → FieldVal) (P Q : PropertyModel → Type 0) (once : 
       by (inr none) = a.others_absent name none ∙ sym (b.others_absent name none)
 
 module _ (texts : TextsOnce) where
-  same_text_value : (type : PrimitiveType) (s : List ℕ) (v w : Val) → IsTextOf type s v → IsTextOf type s w → v ≡ w
+  same_text_value : (type : PrimitiveType) (s : List ℕ) (v w : Val) → IsTextValue type s v → IsTextValue type s w → v ≡ w
   same_text_value EdmString s v w a b = a ∙ sym b
   same_text_value EdmDate s v w a b = a.2 ∙ (ap date (texts.date s a.0 b.0 a.1 b.1) ∙ sym b.2)
   same_text_value EdmDateTimeOffset s v w a b = a.2 ∙ (ap moment (texts.moment s a.0 b.0 a.1 b.1) ∙ sym b.2)
@@ -96,10 +96,10 @@ module _ (texts : TextsOnce) where
   same_primitive Int16 json v w a b = same_number Int16 json v w a b
   same_primitive Int32 json v w a b = same_number Int32 json v w a b
   same_primitive Int64 json v w a b = same_number Int64 json v w a b
-  same_primitive EdmString json v w a b = same_in_text (IsTextOf EdmString) (same_text_value EdmString) json v w a b
-  same_primitive EdmDate json v w a b = same_in_text (IsTextOf EdmDate) (same_text_value EdmDate) json v w a b
-  same_primitive EdmDateTimeOffset json v w a b = same_in_text (IsTextOf EdmDateTimeOffset) (same_text_value EdmDateTimeOffset) json v w a b
-  same_primitive EdmGuid json v w a b = same_in_text (IsTextOf EdmGuid) (same_text_value EdmGuid) json v w a b
+  same_primitive EdmString json v w a b = same_in_text (IsTextValue EdmString) (same_text_value EdmString) json v w a b
+  same_primitive EdmDate json v w a b = same_in_text (IsTextValue EdmDate) (same_text_value EdmDate) json v w a b
+  same_primitive EdmDateTimeOffset json v w a b = same_in_text (IsTextValue EdmDateTimeOffset) (same_text_value EdmDateTimeOffset) json v w a b
+  same_primitive EdmGuid json v w a b = same_in_text (IsTextValue EdmGuid) (same_text_value EdmGuid) json v w a b
 
   mutual
     same_value : (slots : Slots) (nullable : Bool) (type : ExprType) (json : Data) (v w : Val) → FitsType slots nullable type json v → FitsType slots nullable type json w → v ≡ w

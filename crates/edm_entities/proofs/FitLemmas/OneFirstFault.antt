@@ -9,8 +9,8 @@ use Rattle.edm_values.specs.declared.primitive.PrimitiveType.{PrimitiveType}
 use Rattle.edm_values.specs.declared.primitive.PrimitiveType.TheVariants.{Bool as EdmBoolean, Byte, SByte, Int16, Int32, Int64, String as EdmString, Date as EdmDate, DateTimeOffset as EdmDateTimeOffset, Guid as EdmGuid}
 use Rattle.csdl_schema.specs.ExprType.{ExprType, null_type, single, collection, SingleType, primitive, enumeration, structured}
 use Rattle.csdl_schema.specs.SchemaModel.{Slots, PropertyModel, PropertyType, declared, opaque, navigation}
-use Rattle.edm_entities.specs.FitsPrimitive.{Flaw, wrong_kind, out_of_range, bad_text, TextMeaning, IsTextOf, IsMemberText, OnWrongKind, IsNumberFlaw, IsTextFlaw, IsPrimitiveFlaw}
-use Rattle.edm_entities.specs.RowFaults.{Path, IsFlawHere, IsFoundFault, HasFitting, HasFittingItem, IsFirstProperty, IsFirstItem, IsTypeFault, IsPropertyFault, IsFirstFault}
+use Rattle.edm_entities.specs.FitsPrimitive.{Flaw, wrong_kind, out_of_range, bad_text, TextMeaning, IsTextValue, IsMemberText, OnWrongKind, IsNumberFlaw, IsTextFlaw, IsPrimitiveFlaw}
+use Rattle.edm_entities.specs.RowFaults.{Path, IsFlawHere, IsFoundFault, HasFitting, HasFittingItem, IsFirstProperty, IsFirstItem, IsValueFault, IsPropertyFault, IsFirstFault}
 use Rattle.edm_entities.proofs.FitLemmas.RowFaultRefuses.{kind_clash, held_clash, item_clash, type_clash}
 
 kind_alone : (P : Type 0) (flaw : Flaw) → OnWrongKind flaw P → flaw ≡ wrong_kind
@@ -45,10 +45,10 @@ same_primitive_flaw SByte json a b is_a is_b = same_number_flaw SByte json a b i
 same_primitive_flaw Int16 json a b is_a is_b = same_number_flaw Int16 json a b is_a is_b
 same_primitive_flaw Int32 json a b is_a is_b = same_number_flaw Int32 json a b is_a is_b
 same_primitive_flaw Int64 json a b is_a is_b = same_number_flaw Int64 json a b is_a is_b
-same_primitive_flaw EdmString json a b is_a is_b = same_text_flaw (IsTextOf EdmString) json a b is_a is_b
-same_primitive_flaw EdmDate json a b is_a is_b = same_text_flaw (IsTextOf EdmDate) json a b is_a is_b
-same_primitive_flaw EdmDateTimeOffset json a b is_a is_b = same_text_flaw (IsTextOf EdmDateTimeOffset) json a b is_a is_b
-same_primitive_flaw EdmGuid json a b is_a is_b = same_text_flaw (IsTextOf EdmGuid) json a b is_a is_b
+same_primitive_flaw EdmString json a b is_a is_b = same_text_flaw (IsTextValue EdmString) json a b is_a is_b
+same_primitive_flaw EdmDate json a b is_a is_b = same_text_flaw (IsTextValue EdmDate) json a b is_a is_b
+same_primitive_flaw EdmDateTimeOffset json a b is_a is_b = same_text_flaw (IsTextValue EdmDateTimeOffset) json a b is_a is_b
+same_primitive_flaw EdmGuid json a b is_a is_b = same_text_flaw (IsTextValue EdmGuid) json a b is_a is_b
 
 same_here : (slots : Slots) (type : ExprType) (json : Data) (a b : Flaw) → IsFlawHere slots type json a → IsFlawHere slots type json b → a ≡ b
 same_here slots (single (primitive type)) json a b is_a is_b = same_primitive_flaw type json a b is_a is_b
@@ -65,7 +65,7 @@ pub record IsSame (r s : Path) (a b : Flaw) : Type 0 where
 -- the same, of what is wrong at the end of that way
 abbrev pub Once : Slots → Path → Flaw → Flaw → Type 0
 Once slots r a b =
-    (s : Path) (nullable : Bool) (type : ExprType) (json : Data) → IsTypeFault slots nullable r type json a → IsTypeFault slots nullable s type json b → IsSame r s a b
+    (s : Path) (nullable : Bool) (type : ExprType) (json : Data) → IsValueFault slots nullable r type json a → IsValueFault slots nullable s type json b → IsSame r s a b
 
 found_once : (found : Option Data) (takes : Bool) (r s : Path) (a b : Flaw) (P Q : Data → Type 0) → ((json : Data) → P json → Q json → IsSame r s a b)
     → IsFoundFault found takes r a P → IsFoundFault found takes s b Q → IsSame r s a b
@@ -112,7 +112,7 @@ module _ (slots : Slots) (r s : Path) (a b : Flaw) (once : Once slots r a b) whe
 
   module _ (nullable : Bool) (type : SingleType) where
     abbrev In : Path → Flaw → Data → Type 0
-    In path flaw json = IsFoundFault (Some json) nullable path flaw (λ found. IsTypeFault slots nullable path (single type) found flaw)
+    In path flaw json = IsFoundFault (Some json) nullable path flaw (λ found. IsValueFault slots nullable path (single type) found flaw)
 
     apart : (json : Data) (path : Path) (flaw : Flaw) → HasFittingItem slots nullable type json → ¬ (In path flaw json)
     apart json path flaw fits fault = item_clash slots nullable type json path flaw (type_clash path slots flaw) fits fault
@@ -141,7 +141,7 @@ module _ (slots : Slots) (r s : Path) (a b : Flaw) (once : Once slots r a b) whe
 
 -- a value that is itself at fault has no parts
 no_parts : (step : List ℕ) (path : Path) (slots : Slots) (nullable : Bool) (type : ExprType) (json : Data) (a b : Flaw)
-    → IsFlawHere slots type json a → ¬ (IsTypeFault slots nullable (step ∷ path) type json b)
+    → IsFlawHere slots type json a → ¬ (IsValueFault slots nullable (step ∷ path) type json b)
 no_parts step path slots nullable (single (structured name)) json a b here below = kind_clash (as_object json) a below.is_object here
 no_parts step path slots nullable (collection type) json a b here below =
     kind_clash (as_array json) a (let some : as_array json ≡ Some below.jsons = below.is_array in rw some refl) here

@@ -10,8 +10,8 @@ use Rattle.edm_values.specs.declared.primitive.PrimitiveType.TheVariants.{Bool a
 use Rattle.csdl_schema.specs.ExprType.{ExprType, null_type, single, collection, SingleType, primitive, enumeration, structured}
 use Rattle.csdl_schema.specs.SchemaModel.{Slots, PropertyModel, PropertyType, declared, opaque, navigation}
 use Rattle.edm_entities.specs.Fits.{FitsFound, FitsRecord, FitsType, FitsProperty, FitItems, Fits}
-use Rattle.edm_entities.specs.FitsPrimitive.{Flaw, missing, wrong_kind, null_not_allowed, out_of_range, bad_text, FitsNumber, FitsPrimitive, FitsText, TextMeaning, IsTextOf, IsMemberText, OnWrongKind, IsNumberFlaw, IsTextFlaw, IsPrimitiveFlaw}
-use Rattle.edm_entities.specs.RowFaults.{Path, IsFlawHere, IsFoundFault, HasFittingItem, IsFirstProperty, IsTypeFault, IsPropertyFault, IsFirstFault, IsFirstFaultAt, IsRowFault}
+use Rattle.edm_entities.specs.FitsPrimitive.{Flaw, missing, wrong_kind, null_not_allowed, out_of_range, bad_text, FitsNumber, FitsPrimitive, FitsText, TextMeaning, IsTextValue, IsMemberText, OnWrongKind, IsNumberFlaw, IsTextFlaw, IsPrimitiveFlaw}
+use Rattle.edm_entities.specs.RowFaults.{Path, IsFlawHere, IsFoundFault, HasFittingItem, IsFirstProperty, IsValueFault, IsPropertyFault, IsFirstFault, IsFirstFaultAt, IsRowFault}
 use Rattle.edm_entities.specs.declared.fault.RowFault.{RowFault}
 use Rattle.edm_entities.specs.declared.fault.RowFault.TheVariants.{NotObject, Missing, WrongKind, NullNotAllowed, OutOfRange, BadText, Memory}
 
@@ -48,10 +48,10 @@ primitive_clash SByte json v flaw fits other = number_clash SByte json v flaw fi
 primitive_clash Int16 json v flaw fits other = number_clash Int16 json v flaw fits other
 primitive_clash Int32 json v flaw fits other = number_clash Int32 json v flaw fits other
 primitive_clash Int64 json v flaw fits other = number_clash Int64 json v flaw fits other
-primitive_clash EdmString json v flaw fits other = text_clash (IsTextOf EdmString) json v flaw fits other
-primitive_clash EdmDate json v flaw fits other = text_clash (IsTextOf EdmDate) json v flaw fits other
-primitive_clash EdmDateTimeOffset json v flaw fits other = text_clash (IsTextOf EdmDateTimeOffset) json v flaw fits other
-primitive_clash EdmGuid json v flaw fits other = text_clash (IsTextOf EdmGuid) json v flaw fits other
+primitive_clash EdmString json v flaw fits other = text_clash (IsTextValue EdmString) json v flaw fits other
+primitive_clash EdmDate json v flaw fits other = text_clash (IsTextValue EdmDate) json v flaw fits other
+primitive_clash EdmDateTimeOffset json v flaw fits other = text_clash (IsTextValue EdmDateTimeOffset) json v flaw fits other
+primitive_clash EdmGuid json v flaw fits other = text_clash (IsTextValue EdmGuid) json v flaw fits other
 
 here_clash : (slots : Slots) (nullable : Bool) (type : ExprType) (json : Data) (v : Val) (flaw : Flaw) → FitsType slots nullable type json v → ¬ (IsFlawHere slots type json flaw)
 here_clash slots nullable (single (primitive type)) json v flaw fits other = primitive_clash type json v flaw fits other
@@ -89,7 +89,7 @@ item_at slots nullable type (json_item here jsons) (item v values) (suc n) json 
 
 -- what fits at the end of a way has no fault there
 abbrev pub Clash : Slots → Path → Flaw → Type 0
-Clash slots path flaw = (nullable : Bool) (type : ExprType) (json : Data) (v : Val) → FitsType slots nullable type json v → ¬ (IsTypeFault slots nullable path type json flaw)
+Clash slots path flaw = (nullable : Bool) (type : ExprType) (json : Data) (v : Val) → FitsType slots nullable type json v → ¬ (IsValueFault slots nullable path type json flaw)
 
 pub held_clash : (slots : Slots) (nullable : Bool) (type : PropertyType) (found : Option Data) (held : FieldVal) (path : Path) (flaw : Flaw) → Clash slots path flaw
     → FitsProperty slots nullable type found held → ¬ (IsPropertyFault slots nullable type found path flaw)
@@ -109,7 +109,7 @@ property_clash slots properties json f step path flaw clash fits other =
     other.fault
 
 pub item_clash : (slots : Slots) (nullable : Bool) (type : SingleType) (json : Data) (path : Path) (flaw : Flaw) → Clash slots path flaw → HasFittingItem slots nullable type json
-    → ¬ (IsFoundFault (Some json) nullable path flaw (λ found. IsTypeFault slots nullable path (single type) found flaw))
+    → ¬ (IsFoundFault (Some json) nullable path flaw (λ found. IsValueFault slots nullable path (single type) found flaw))
 item_clash slots nullable type json path flaw clash fits other =
     found_clash (Some json) nullable fits.0 path flaw _ _ (λ found here there. clash nullable (single type) found fits.0 here there) fits.1 other
 

@@ -7,7 +7,7 @@ use Rattle.serde_json.specs.Data.{Data, Num, unsigned, negative, float, null, bo
 use Rattle.serde_json.specs.Find.{as_bool, as_number, as_str, as_array, as_null, as_i64, as_u64, as_integer}
 use Rattle.edm_values.specs.Val.{Val, member}
 use Rattle.edm_enumerations.specs.EnumerationModel.{EnumerationModel}
-use Rattle.csdl_schema.specs.EnumerationText.{IsValueIn, IsWithin}
+use Rattle.csdl_schema.specs.EnumerationText.{IsValueIn, IsOfUnderlying}
 use Rattle.edm_entities.specs.FitsPrimitive.{FitsText, IsMemberText, IsTextFlaw, bad_text}
 use Rattle.edm_entities.specs.private.Scalars.{IsNumberAs, IsJsonNumber}
 use Rattle.edm_entities.specs.declared.scalar.JsonNumber.{JsonNumber}
@@ -93,10 +93,10 @@ number_there n json m there is = subst (IsJsonNumber n) (sym (number_is json m (
 
 -- ---- texts of enumerations
 
-pub member_read : (e named : Option EnumerationModel) (json : Data) (s : List ℕ) (n : ℤ) (v : Val) → e ≡ named → json ≡ string s → IsValueIn e s n → IsWithin e n → v ≡ member n
+pub member_read : (e named : Option EnumerationModel) (json : Data) (s : List ℕ) (n : ℤ) (v : Val) → e ≡ named → json ≡ string s → IsValueIn e s n → IsOfUnderlying e n → v ≡ member n
     → FitsText (IsMemberText named) json v
 member_read e named json s n v same is value within held =
-    (s, ap as_str is, (n, subst (λ (o : Option EnumerationModel). IsValueIn o s n) same value, subst (λ (o : Option EnumerationModel). IsWithin o n) same within, held))
+    (s, ap as_str is, (n, subst (λ (o : Option EnumerationModel). IsValueIn o s n) same value, subst (λ (o : Option EnumerationModel). IsOfUnderlying o n) same within, held))
 
 pub member_none : (e named : Option EnumerationModel) (json : Data) (s : List ℕ) → e ≡ named → json ≡ string s → ((n : ℤ) → ¬ (IsValueIn e s n))
     → IsTextFlaw (IsMemberText named) json bad_text

@@ -12,9 +12,9 @@ use Rattle.csdl_schema.specs.declared.property.PropertyKind.TheVariants as kind
 use Rattle.edm_entities.specs.Fits.{takes_null, FitsFound, FitsType, FitsProperty}
 use Rattle.edm_entities.specs.FitsPrimitive.{Flaw, missing, null_not_allowed}
 use Rattle.edm_entities.specs.Row.{ValAtType, field_of, val_of}
-use Rattle.edm_entities.specs.RowFaults.{Path, IsFoundFault, IsTypeFault, IsPropertyFault}
+use Rattle.edm_entities.specs.RowFaults.{Path, IsFoundFault, IsValueFault, IsPropertyFault}
 use Rattle.edm_entities.specs.private.Faults.{OnFlaw, IsFaultOf}
-use Rattle.edm_entities.specs.private.Walk.{wanted_as, single_of}
+use Rattle.edm_entities.specs.private.Walk.{wanted_as, wanted_single}
 use Rattle.edm_entities.specs.declared.flaw.ReadFlaw.{ReadFlaw}
 use Rattle.edm_entities.specs.declared.flaw.ReadFault.{ReadFault}
 use Rattle.edm_entities.specs.declared.wanted.Wanted.{Wanted}
@@ -77,8 +77,8 @@ null_flaw (object ms) takes P is may = absurd (cc)
 
 -- one value, or many
 abbrev pub type_wanted : SchemaModel → Wanted → Bool → ExprType
-type_wanted schema wanted true = collection (single_of schema wanted)
-type_wanted schema wanted false = single (single_of schema wanted)
+type_wanted schema wanted true = collection (wanted_single schema wanted)
+type_wanted schema wanted false = single (wanted_single schema wanted)
 
 pub wanted_type : (schema : SchemaModel) (of : PropertyKind) (many : Bool) (wanted : Wanted) → wanted_as of ≡ Some wanted
     → type_of_kind (type_name_at schema) of many ≡ declared (type_wanted schema wanted many)
@@ -105,7 +105,7 @@ module _ (slots : Slots) (nullable : Bool) (type : PropertyType) (wanted : ExprT
       → FitsProperty slots nullable type found (field_of slots type (val_of v))
   held_by v fits = subst (λ (t : PropertyType). FitsProperty slots nullable t found (field_of slots t (val_of v))) (sym is) fits
 
-  pub fault_held : (told : ReadFault) → IsFaultOf (λ path flaw. IsFoundFault found (takes_null wanted nullable) path flaw (λ json. IsTypeFault slots nullable path wanted json flaw)) told
+  pub fault_held : (told : ReadFault) → IsFaultOf (λ path flaw. IsFoundFault found (takes_null wanted nullable) path flaw (λ json. IsValueFault slots nullable path wanted json flaw)) told
       → IsFaultOf (IsPropertyFault slots nullable type found) told
   fault_held told fault = subst (λ (t : PropertyType). IsFaultOf (IsPropertyFault slots nullable t found) told) (sym is) fault
 
@@ -114,7 +114,7 @@ pub absent_fits : (schema : SchemaModel) (wanted : Wanted) (nullable many : Bool
     → FitsFound None (takes_null (type_wanted schema wanted many) nullable) (val_of v slots (type_wanted schema wanted many)) P
 absent_fits schema wanted nullable true slots v P one may same = absurd (cc)
 absent_fits schema wanted nullable false slots v P one may same =
-    (may, subst (λ (w : Value). val_of w slots (single (single_of schema wanted)) ≡ null) (sym same) (val_of-Null slots (single (single_of schema wanted))))
+    (may, subst (λ (w : Value). val_of w slots (single (wanted_single schema wanted)) ≡ null) (sym same) (val_of-Null slots (single (wanted_single schema wanted))))
 
 pub absent_flaw : (schema : SchemaModel) (wanted : Wanted) (nullable many : Bool) (P : Data → Type 0) → (many ≡ true) ⊎ (nullable ≡ false)
     → IsFoundFault None (takes_null (type_wanted schema wanted many) nullable) [] missing P

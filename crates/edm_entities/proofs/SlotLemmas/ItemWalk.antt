@@ -11,7 +11,7 @@ use Rattle.csdl_schema.specs.SchemaModel.{Slots}
 use Rattle.edm_entities.specs.Fits.{FitsFound, FitsType}
 use Rattle.edm_entities.specs.FitsPrimitive.{Flaw}
 use Rattle.edm_entities.specs.Row.{items_of, val_of}
-use Rattle.edm_entities.specs.RowFaults.{Path, IsFoundFault, IsTypeFault}
+use Rattle.edm_entities.specs.RowFaults.{Path, IsFoundFault, IsValueFault}
 use Rattle.edm_entities.specs.private.Faults.{IsFaultOf, IsBelow}
 use Rattle.edm_entities.specs.private.Walk.{FitList}
 use Rattle.edm_entities.specs.declared.flaw.ReadFault.{ReadFault}
@@ -51,8 +51,8 @@ module _ (slots : Slots) (nullable : Bool) (type : SingleType) where
   -- a fault of an item is the first of the array
   item_fault : (xs : List json.Value) (n : ℕ) (values : List Value) (x : json.Value) (path : Path) (flaw : Flaw) → slice_get xs n ≡ Some x
       → FitList slots nullable type (items_view (take n xs)) values
-      → IsFoundFault (Some (view x)) nullable path flaw (λ found. IsTypeFault slots nullable path (single type) found flaw)
-      → IsTypeFault slots nullable (decimal n ∷ path) (collection type) (array (items_view xs)) flaw
+      → IsFoundFault (Some (view x)) nullable path flaw (λ found. IsValueFault slots nullable path (single type) found flaw)
+      → IsValueFault slots nullable (decimal n ∷ path) (collection type) (array (items_view xs)) flaw
   item_fault xs n values x path flaw at fits fault =
       record {
         jsons = items_view xs;
@@ -68,9 +68,9 @@ module _ (slots : Slots) (nullable : Bool) (type : SingleType) where
 
   pub list_fault : (xs : List json.Value) (n : ℕ) (values : List Value) (x : json.Value) (told result : ReadFault) → slice_get xs n ≡ Some x
       → FitList slots nullable type (items_view (take n xs)) values → IsBelow (decimal n) told result
-      → IsFaultOf (λ path flaw. IsFoundFault (Some (view x)) nullable path flaw (λ found. IsTypeFault slots nullable path (single type) found flaw)) told
-      → IsFaultOf (λ path flaw. IsTypeFault slots nullable path (collection type) (array (items_view xs)) flaw) result
+      → IsFaultOf (λ path flaw. IsFoundFault (Some (view x)) nullable path flaw (λ found. IsValueFault slots nullable path (single type) found flaw)) told
+      → IsFaultOf (λ path flaw. IsValueFault slots nullable path (collection type) (array (items_view xs)) flaw) result
   list_fault xs n values x told result at fits below fault =
-      fault_below (λ path flaw. IsFoundFault (Some (view x)) nullable path flaw (λ found. IsTypeFault slots nullable path (single type) found flaw))
-      (λ path flaw. IsTypeFault slots nullable path (collection type) (array (items_view xs)) flaw) (decimal n) told result below
+      fault_below (λ path flaw. IsFoundFault (Some (view x)) nullable path flaw (λ found. IsValueFault slots nullable path (single type) found flaw))
+      (λ path flaw. IsValueFault slots nullable path (collection type) (array (items_view xs)) flaw) (decimal n) told result below
       (λ path flaw here. item_fault xs n values x path flaw at fits here) fault

@@ -5,7 +5,7 @@ use Rattle.serde_json.specs.Find.{as_object}
 use Rattle.csdl_schema.specs.ExprType.{single, structured}
 use Rattle.csdl_schema.specs.SchemaModel.{Slots}
 use Rattle.edm_entities.specs.FitsPrimitive.{Flaw, missing, wrong_kind, null_not_allowed, out_of_range, bad_text}
-use Rattle.edm_entities.specs.RowFaults.{Path, IsTypeFault, IsFirstFaultAt, IsRowFault, IsMemory}
+use Rattle.edm_entities.specs.RowFaults.{Path, IsValueFault, IsFirstFaultAt, IsRowFault, IsMemory}
 use Rattle.edm_entities.specs.private.Faults.{OnFlaw, IsPathText, IsFaultOf, IsToldAs}
 use Rattle.edm_entities.specs.declared.flaw.ReadFlaw.{ReadFlaw}
 use Rattle.edm_entities.specs.declared.flaw.ReadFlaw.TheVariants as code
@@ -15,7 +15,7 @@ use Rattle.edm_entities.specs.declared.fault.RowFault.TheVariants as fault
 
 module _ (slots : Slots) (name : List ℕ) (json : Data) where
   abbrev At : Path → Flaw → Type 0
-  At path flaw = IsTypeFault slots false path (single (structured name)) json flaw
+  At path flaw = IsValueFault slots false path (single (structured name)) json flaw
 
   -- a flaw at a path that has a text
   at_path : (flaw : Flaw) (told : String Global) (path : Path) → IsPathText path (Some told) → At path flaw → IsFirstFaultAt slots name json (string_bytes told) flaw

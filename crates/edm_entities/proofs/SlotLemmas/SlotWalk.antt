@@ -11,7 +11,7 @@ use Rattle.csdl_schema.specs.declared.property.Property.{Property}
 use Rattle.edm_entities.specs.Fits.{FitsProperty}
 use Rattle.edm_entities.specs.FitsPrimitive.{Flaw}
 use Rattle.edm_entities.specs.Row.{field_of, val_of}
-use Rattle.edm_entities.specs.RowFaults.{Path, HasFitting, IsPropertyFault, IsTypeFault}
+use Rattle.edm_entities.specs.RowFaults.{Path, HasFitting, IsPropertyFault, IsValueFault}
 use Rattle.edm_entities.specs.private.Faults.{IsFaultOf, IsBelow}
 use Rattle.edm_entities.specs.private.Walk.{HoldEach, FitsSlot, FitSlots}
 use Rattle.edm_entities.specs.declared.flaw.ReadFault.{ReadFault}
@@ -82,7 +82,7 @@ module _ (schema : SchemaModel) (id n : ℕ) (json : Data) (values : List Value)
   -- a fault of a property is the first of the object
   slot_fault : (nullable : Bool) (path : Path) (flaw : Flaw) → IsSome (as_object json)
       → IsPropertyFault (slots_of schema) property.nullable (property_type schema property) (get name json) path flaw
-      → IsTypeFault (slots_of schema) nullable (name ∷ path) (single (structured (type_name_at schema id))) json flaw
+      → IsValueFault (slots_of schema) nullable (name ∷ path) (single (structured (type_name_at schema id))) json flaw
   slot_fault nullable path flaw is_object fault =
       let by_type = subst (λ (t : PropertyType). IsPropertyFault (slots_of schema) property.nullable t (get name json) path flaw) slot.type_of fault in
       let by_null = subst (λ (b : Bool). IsPropertyFault (slots_of schema) b slot.model.type_of (get name json) path flaw) slot.nullable by_type in
@@ -100,8 +100,8 @@ module _ (schema : SchemaModel) (id n : ℕ) (json : Data) (values : List Value)
 
   pub slots_fault : (nullable : Bool) (told result : ReadFault) → IsSome (as_object json) → IsBelow name told result
       → IsFaultOf (IsPropertyFault (slots_of schema) property.nullable (property_type schema property) (get name json)) told
-      → IsFaultOf (λ path flaw. IsTypeFault (slots_of schema) nullable path (single (structured (type_name_at schema id))) json flaw) result
+      → IsFaultOf (λ path flaw. IsValueFault (slots_of schema) nullable path (single (structured (type_name_at schema id))) json flaw) result
   slots_fault nullable told result is_object below fault =
       fault_below (IsPropertyFault (slots_of schema) property.nullable (property_type schema property) (get name json))
-      (λ path flaw. IsTypeFault (slots_of schema) nullable path (single (structured (type_name_at schema id))) json flaw) name told result below
+      (λ path flaw. IsValueFault (slots_of schema) nullable path (single (structured (type_name_at schema id))) json flaw) name told result below
       (λ path flaw here. slot_fault nullable path flaw is_object here) fault

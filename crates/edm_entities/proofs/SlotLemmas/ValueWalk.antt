@@ -8,7 +8,7 @@ use Rattle.csdl_schema.specs.SchemaModel.{Slots}
 use Rattle.edm_entities.specs.Fits.{FitsFound, FitsType}
 use Rattle.edm_entities.specs.FitsPrimitive.{Flaw}
 use Rattle.edm_entities.specs.Row.{val_of}
-use Rattle.edm_entities.specs.RowFaults.{Path, IsFoundFault, IsTypeFault}
+use Rattle.edm_entities.specs.RowFaults.{Path, IsFoundFault, IsValueFault}
 use Rattle.edm_entities.specs.private.Faults.{OnFlaw, IsFaultOf}
 use Rattle.edm_entities.specs.private.Walk.{FitList}
 use Rattle.edm_entities.specs.declared.flaw.ReadFlaw.{ReadFlaw}
@@ -43,14 +43,14 @@ read_as slots nullable json type other result same fits =
 
 -- whether items may be null says nothing of one value
 single_alike : (slots : Slots) (a b : Bool) (name : List ℕ) (json : Data) (path : Path) (flaw : Flaw)
-    → IsTypeFault slots a path (single (structured name)) json flaw → IsTypeFault slots b path (single (structured name)) json flaw
+    → IsValueFault slots a path (single (structured name)) json flaw → IsValueFault slots b path (single (structured name)) json flaw
 single_alike slots a b name json [] flaw fault = fault
 single_alike slots a b name json (step ∷ path) flaw fault = fault
 
 pub record_fault : (slots : Slots) (a b : Bool) (name : List ℕ) (json : Data) (told : ReadFault)
-    → IsFaultOf (λ path flaw. IsTypeFault slots a path (single (structured name)) json flaw) told → IsFaultOf (λ path flaw. IsTypeFault slots b path (single (structured name)) json flaw) told
+    → IsFaultOf (λ path flaw. IsValueFault slots a path (single (structured name)) json flaw) told → IsFaultOf (λ path flaw. IsValueFault slots b path (single (structured name)) json flaw) told
 record_fault slots a b name json told fault =
-    fault_by (λ path flaw. IsTypeFault slots a path (single (structured name)) json flaw) (λ path flaw. IsTypeFault slots b path (single (structured name)) json flaw) told
+    fault_by (λ path flaw. IsValueFault slots a path (single (structured name)) json flaw) (λ path flaw. IsValueFault slots b path (single (structured name)) json flaw) told
     (λ path flaw here. single_alike slots a b name json path flaw here) fault
 
 -- ---- arrays
@@ -68,13 +68,13 @@ array_fits slots nullable type json jsons values is fits =
     (subst (FitsType slots nullable (collection type) json) (sym (val_of-List slots (collection type) values)) (jsons, is, fits))
 
 pub array_fault : (slots : Slots) (nullable : Bool) (type : SingleType) (json : Data) (jsons : Items) (told : ReadFault) → as_array json ≡ Some jsons
-    → IsFaultOf (λ path flaw. IsTypeFault slots nullable path (collection type) (array jsons) flaw) told
-    → IsFaultOf (λ path flaw. IsFoundFault (Some json) false path flaw (λ found. IsTypeFault slots nullable path (collection type) found flaw)) told
+    → IsFaultOf (λ path flaw. IsValueFault slots nullable path (collection type) (array jsons) flaw) told
+    → IsFaultOf (λ path flaw. IsFoundFault (Some json) false path flaw (λ found. IsValueFault slots nullable path (collection type) found flaw)) told
 array_fault slots nullable type json jsons told is fault =
-    fault_by (λ path flaw. IsTypeFault slots nullable path (collection type) (array jsons) flaw)
-    (λ path flaw. IsFoundFault (Some json) false path flaw (λ found. IsTypeFault slots nullable path (collection type) found flaw)) told
-    (λ path flaw here. other_fault json false path flaw (λ found. IsTypeFault slots nullable path (collection type) found flaw) (not_null json jsons is)
-    (subst (λ (d : Data). IsTypeFault slots nullable path (collection type) d flaw) (sym (array_is json jsons is)) here)) fault
+    fault_by (λ path flaw. IsValueFault slots nullable path (collection type) (array jsons) flaw)
+    (λ path flaw. IsFoundFault (Some json) false path flaw (λ found. IsValueFault slots nullable path (collection type) found flaw)) told
+    (λ path flaw here. other_fault json false path flaw (λ found. IsValueFault slots nullable path (collection type) found flaw) (not_null json jsons is)
+    (subst (λ (d : Data). IsValueFault slots nullable path (collection type) d flaw) (sym (array_is json jsons is)) here)) fault
 
 pub none_of : {X : Type 0} (o : Option X) (b : Bool) → b ≡ is_some o → b ≡ false → o ≡ None
 none_of (Some x) b is none = absurd (cc)

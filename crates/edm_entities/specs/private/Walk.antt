@@ -21,10 +21,10 @@ wanted_as kind.Opaque = None
 wanted_as kind.Navigation = None
 
 -- the type that is wanted of one value
-abbrev pub single_of : SchemaModel → Wanted → SingleType
-single_of schema (Prim p) = primitive p
-single_of schema (Enum e) = enumeration (type_name_at schema e)
-single_of schema (Complex t) = structured (type_name_at schema t)
+abbrev pub wanted_single : SchemaModel → Wanted → SingleType
+wanted_single schema (Prim p) = primitive p
+wanted_single schema (Enum e) = enumeration (type_name_at schema e)
+wanted_single schema (Complex t) = structured (type_name_at schema t)
 
 -- slots hold values, one each, and of each the relation holds
 abbrev pub HoldEach : (PropertyModel → Value → Type 0) → List PropertyModel → List Value → Type 0

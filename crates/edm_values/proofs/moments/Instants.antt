@@ -13,7 +13,7 @@ use Rattle.jiff.specs.Words.{civil_nanos, IsCivilNanos, civil_seconds}
 use Rattle.edm_values.specs.Instant.{instant, moment_cmp}
 use Rattle.edm_values.specs.MomentParts.{MomentParts, IsMoment}
 use Rattle.edm_values.specs.Civil.{DateTime, IsBetween}
-use Rattle.edm_values.specs.private.Seconds.{IsTimed, instant_seconds}
+use Rattle.edm_values.specs.private.Seconds.{CountsSeconds, instant_seconds}
 
 pub instant-civil_nanos : (m : MomentParts) → instant m ≡ civil_nanos m.civil -ℤ (m.offset_minutes *ℤ pos 60_000_000_000)
 unfolding instant civil_nanos
@@ -22,7 +22,7 @@ instant-civil_nanos m = omega (arith, ints)
 -- the seconds that the code counts with 64 bits
 pub seconds_computed : (civil : DateTime) (offset_minutes on_clock minutes : ℤ) → IsMoment civil offset_minutes
     → on_clock ≡ civil_seconds civil → IsCivilNanos (on_clock *ℤ pos 1_000_000_000) → minutes ≡ offset_minutes
-    → IsTimed civil offset_minutes (to_z w64 (of_z w64 (to_z w64 (of_z w64 on_clock) -ℤ to_z w64 (of_z w64 (to_z w64 (of_z w64 minutes) *ℤ pos 60)))))
+    → CountsSeconds civil offset_minutes (to_z w64 (of_z w64 (to_z w64 (of_z w64 on_clock) -ℤ to_z w64 (of_z w64 (to_z w64 (of_z w64 minutes) *ℤ pos 60)))))
 unfolding instant_seconds civil_seconds
 seconds_computed civil offset_minutes on_clock minutes within is_clock bound is_offset =
     let clock_fits : FitsSigned w64 on_clock = omega (arith, signed_arith) in
@@ -36,7 +36,7 @@ seconds_computed civil offset_minutes on_clock minutes within is_clock bound is_
     (record { within = within; counted = counted; few = few })
 
 -- the instant that it computes with 128 bits
-pub nanos_computed : (m : MomentParts) (seconds whole fraction : ℤ) → IsTimed m.civil m.offset_minutes seconds
+pub nanos_computed : (m : MomentParts) (seconds whole fraction : ℤ) → CountsSeconds m.civil m.offset_minutes seconds
     → whole ≡ to_z w64 (of_z w64 seconds) → fraction ≡ pos m.civil.time.subsec_nanosecond
     → to_z w128 (of_z w128 (to_z w128 (of_z w128 (to_z w128 (of_z w128 whole) *ℤ pos 1_000_000_000)) +ℤ to_z w128 (of_z w128 fraction))) ≡ instant m
 unfolding instant instant_seconds

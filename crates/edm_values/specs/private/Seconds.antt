@@ -10,7 +10,7 @@ instant_seconds civil offset_minutes =
     pos 86_400 *ℤ epoch_day civil.date +ℤ pos (second_of_day civil.time) -ℤ pos 60 *ℤ offset_minutes
 
 -- the parts of a moment, with the seconds of its instant, which are fewer than those of 20,000 years
-pub record IsTimed (civil : DateTime) (offset_minutes seconds : ℤ) : Type 0 where
+pub record CountsSeconds (civil : DateTime) (offset_minutes seconds : ℤ) : Type 0 where
   pub within : IsMoment civil offset_minutes
   pub counted : seconds ≡ instant_seconds civil offset_minutes
   pub few : IsBetween (neg_ℤ (pos 600_000_000_000)) (pos 600_000_000_000) seconds

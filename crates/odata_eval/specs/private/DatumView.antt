@@ -48,7 +48,8 @@ HasSlot _ slot = ⊥
 
 -- what stands for a kept value, at any type
 abbrev pub IsDatumOf : Value → Datum → Type 0
-IsDatumOf value made = (slots : Slots) (type : ExprType) → datum_val (reading_at slots type) made ≡ val_of value slots type
+IsDatumOf value made =
+    (slots : Slots) (type : ExprType) → datum_val (reading_at slots type) made ≡ val_of value slots type
 
 -- null of null; of a record what stands in its slot
 abbrev pub IsStepOf : Datum → ℕ → Datum → Type 0

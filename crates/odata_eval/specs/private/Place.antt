@@ -46,7 +46,8 @@ pub record IsConnective (connective : Connective) (kind : NodeKind) : Type 0 whe
   pub class : class_of operator ≡ OperatorClass.Connective connective
 
 abbrev pub HasConnective : FlatTree → ℕ → Connective → Type 0
-HasConnective list place connective = IsSomeAnd (slice_get list.nodes place) (λ found. IsConnective connective found.kind)
+HasConnective list place connective =
+    IsSomeAnd (slice_get list.nodes place) (λ found. IsConnective connective found.kind)
 
 -- the first operand of the node there stops where the second one stands
 abbrev pub IsRightOf : FlatTree → ℕ → ℕ → Type 0

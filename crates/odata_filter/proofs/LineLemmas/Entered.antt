@@ -1,5 +1,5 @@
 -- The subcommand that a command line entered, and its plan.
-use Rattle.std.proofs.Common.{◌≡◌, ◌∙◌, [], true, false, List, Bool, Option, None, Some, Result, Ok, Err, IfOk, MatchResult, refl, sym, subst, ap, codes, option_map, cond}
+use Rattle.std.proofs.Common.{◌≡◌, ◌∙◌, [], true, false, List, Option, None, Some, Result, Ok, Err, IfOk, MatchResult, refl, sym, subst, ap, codes, option_map, cond}
 use Rattle.std.specs.Box.{box_value}
 use Rattle.std.specs.Str.{bytes_eq}
 use Rattle.std.proofs.lemmas.Slice.Eq.{bytes_eq-Decides}

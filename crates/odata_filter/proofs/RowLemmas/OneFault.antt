@@ -1,8 +1,8 @@
 -- Of rows one fault is the first.
-use Rattle.std.proofs.Common.{◌≡◌, ℕ, ◌≤◌, List, refl, ap, subst, arith}
+use Rattle.std.proofs.Common.{◌≡◌, ℕ, List, refl, subst, arith}
 use Rattle.line_filter.specs.Kept.{StopsAt}
 use Rattle.line_filter.specs.LineItems.{LineJudge, IsFoundOf, lines}
-use Rattle.line_filter.specs.Once.{kind_of, IsFaulty, JudgesOnce}
+use Rattle.line_filter.specs.Once.{kind_of, IsFaulty}
 use Rattle.line_filter.specs.declared.finding.Finding.{Finding}
 use Rattle.line_filter.specs.declared.judge.Judgment.{Judgment}
 use Rattle.odata_filter.specs.declared.bad_row.BadRow.{BadRow}

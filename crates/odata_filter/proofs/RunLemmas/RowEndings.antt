@@ -16,7 +16,7 @@ use Rattle.odata_filter.specs.Collection.{IsNoCollection, OfCollection, StopsCol
 use Rattle.odata_filter.specs.RowJudgment.{rows_of}
 use Rattle.odata_filter.specs.RunStops.{run_stop, StopsBy}
 use Rattle.odata_filter.specs.Run.{BeginsAs, BeginsKept, ByFilter, FiltersAll, HoldsOfRows, IsFirstMoment, IsPlanFilter, OfRows, OverRows, Status, StatusSays, StopsAtFault, Streams, streams, without_device, without_memory}
-use Rattle.odata_filter.specs.private.RunFailures.{AnswerSays, IsUnwritten, IsWhole, StopsOver, status_of, status_of_rows}
+use Rattle.odata_filter.specs.private.RunFailures.{AnswerSays, IsUnwritten, IsReadWhole, StopsOver, status_of, status_of_rows}
 use Rattle.odata_filter.specs.declared.bad_row.BadRow.{BadRow}
 use Rattle.odata_filter.specs.declared.command.command_line.Plan.{Plan}
 use Rattle.odata_filter.specs.declared.command.command_line.Verb.{Verb}
@@ -62,12 +62,12 @@ over_from (Some (Some bytes)) old new P Q f (text, wrote, said) = (text, wrote, 
 
 -- of rows that were read whole
 over_whole : (rows : Option (Option (List ℕ))) (old new : Option (List ℕ)) (bytes : List ℕ) (P : List ℕ → List ℕ → Type 0)
-    → IsWhole rows bytes → Writes old new (P bytes) → OverRows (streams rows old new) P
+    → IsReadWhole rows bytes → Writes old new (P bytes) → OverRows (streams rows old new) P
 over_whole None old new bytes P whole wrote = absurd whole
 over_whole (Some None) old new bytes P whole wrote = tt
 over_whole (Some (Some all)) old new bytes P whole wrote = subst (λ (b : List ℕ). Writes old new (P b)) whole wrote
 
-whole_is : (rows : Option (Option (List ℕ))) (bytes : List ℕ) (P : List ℕ → Type 0) → IsWhole rows bytes → P bytes → IsSomeAnd rows (λ known. IfSome known P)
+whole_is : (rows : Option (Option (List ℕ))) (bytes : List ℕ) (P : List ℕ → Type 0) → IsReadWhole rows bytes → P bytes → IsSomeAnd rows (λ known. IfSome known P)
 whole_is None bytes P whole p = absurd whole
 whole_is (Some None) bytes P whole p = tt
 whole_is (Some (Some all)) bytes P whole p = subst P whole p
@@ -159,7 +159,7 @@ module _ (plan : Plan) (document : List ℕ) (filter : Filter) (now : MomentPart
 
   -- ---- the rows are a collection
 
-  module _ (is_collection : plan.collection ≡ true) (rows : Option (Option (List ℕ))) (old new : Option (List ℕ)) (bytes : List ℕ) (whole : IsWhole rows bytes) where
+  module _ (is_collection : plan.collection ≡ true) (rows : Option (Option (List ℕ))) (old new : Option (List ℕ)) (bytes : List ℕ) (whole : IsReadWhole rows bytes) where
     abbrev these : Streams
     these = streams rows old new
 

@@ -10,7 +10,7 @@ use Rattle.odata_text.specs.declared.query_fault.QueryFault.TheVariants as query
 use Rattle.line_filter.specs.Growth.{Writes}
 use Rattle.odata_filter.specs.declared.command.command_line.Verb.{Verb}
 use Rattle.odata_filter.specs.private.RunFailures.{AnswerSays, IsAnswerOfCheck, IsTold, IsUnwritten, LacksFilter, status_of, status_of_query, status_of_refusal}
-use Rattle.odata_filter.specs.Run.{Answers, BeginsAs, BeginsBy, BeginsKept, HoldsOfRows, Completes, IsAccepted, NamesType, AsksFor, IsPlanFilter, HasNoFilter, Refuses, Streams, streams, TellsFilter, WroteNothing, OverRows, OfRows, ByFilter, FiltersAll, StopsAtFault, StopsAtRow, Status, complete, without_filter, without_plan, without_type, at_fault, without_device, without_memory, status_number, StatusSays, Begins}
+use Rattle.odata_filter.specs.Run.{Answers, BeginsAs, BeginsBy, BeginsKept, HoldsOfRows, Completes, IsAccepted, NamesType, AsksFor, IsPlanFilter, HasNoFilter, RefusalSays, Streams, streams, TellsFilter, WroteNothing, OverRows, OfRows, ByFilter, FiltersAll, StopsAtFault, StopsAtRow, Status, complete, without_filter, without_plan, without_type, at_fault, without_device, without_memory, status_number, StatusSays, Begins}
 use Rattle.csdl_schema.specs.SchemaModel.{SchemaModel, slots_of, type_name_at}
 use Rattle.odata_filter.specs.declared.command.command_line.Plan.{Plan}
 use Rattle.odata_filter.specs.declared.command.failure.Failure.{Failure}
@@ -128,7 +128,7 @@ completes_kept Verb.Filter plan document rows a b c ends kept = by_filter_kept F
 completes_kept Verb.Check plan document rows a b c ends kept = told_kept plan document rows a b c ends kept
 completes_kept Verb.Explain plan document rows a b c ends kept = absurd ends
 
-refuses_kept : (verb : Verb) (rows : Option (Option (List ℕ))) (a b c : Option (List ℕ)) → Refuses verb (streams rows a b) → Keeps b c → Refuses verb (streams rows a c)
+refuses_kept : (verb : Verb) (rows : Option (Option (List ℕ))) (a b c : Option (List ℕ)) → RefusalSays verb (streams rows a b) → Keeps b c → RefusalSays verb (streams rows a c)
 refuses_kept Verb.Check rows a b c wrote kept = tt
 refuses_kept _ rows a b c wrote kept = Keeps-trans a b c wrote kept
 

@@ -15,10 +15,10 @@ pub record IsApp (app : App) (command : Command) : Type 0 where
   pub local : (out-Command command).has_globals ≡ false
 
 -- the fault that an error of `clap` becomes
-abbrev pub IsFaultOf : Error → PlanFault → Type 0
-IsFaultOf error (Clap e) = (e ≡ error) × (kind_of e ≡ OutOfMemory → ⊥)
-IsFaultOf error OneOf = ⊥
-IsFaultOf error Memory = kind_of error ≡ OutOfMemory
+abbrev pub IsClapFault : Error → PlanFault → Type 0
+IsClapFault error (Clap e) = (e ≡ error) × (kind_of e ≡ OutOfMemory → ⊥)
+IsClapFault error OneOf = ⊥
+IsClapFault error Memory = kind_of error ≡ OutOfMemory
 
 -- the one fault behind words that were taken
 abbrev pub IsNotOneFault : List Row → PlanFault → Type 0

@@ -57,8 +57,8 @@ StopsOver said (RowsFile name) streams = WroteNothing streams
 StopsOver said other streams = ⊥
 
 -- what is known of bytes that were read whole
-abbrev pub IsWhole : Option (Option (List ℕ)) → List ℕ → Type 0
-IsWhole rows bytes = IsSomeAnd rows (λ known. IfSome known (λ all. bytes ≡ all))
+abbrev pub IsReadWhole : Option (Option (List ℕ)) → List ℕ → Type 0
+IsReadWhole rows bytes = IsSomeAnd rows (λ known. IfSome known (λ all. bytes ≡ all))
 
 -- what an answer says of the plan, of the rows and of what was written
 abbrev pub AnswerSays : {X : Type 0} → Result X Failure → Verb → Plan → List ℕ → Streams → Type 0

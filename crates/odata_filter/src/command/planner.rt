@@ -4,7 +4,7 @@ ghost use Rattle.odata_filter.specs.Planned.{IsCarriedOut, IsPlanned};
 ghost use Rattle.odata_filter.specs.CommandLine.{HasValues, IsPlanOf, IsRefusedBy};
 ghost use Rattle.odata_filter.specs.CommandLine.{check_app, filter_app, flag_rule, is_flag_set, odfilter_app, option_value, text_rule};
 ghost use Rattle.odata_filter.specs.CommandLine.{verb_app};
-ghost use Rattle.odata_filter.specs.private.PlanSteps.{IsApp, IsFaultOf, IsNotOneFault};
+ghost use Rattle.odata_filter.specs.private.PlanSteps.{IsApp, IsClapFault, IsNotOneFault};
 
 use super::command_line::{Plan, PlanFault, Verb};
 use clap::error::ErrorKind;
@@ -129,7 +129,7 @@ fn command<'a>(alloc: Global) -> Result<Command<'a>, AllocError>
 }
 
 fn fault_of(error: Error) -> PlanFault
-    ensures { IsFaultOf error result }
+    ensures { IsClapFault error result }
 {
     match error.kind() {
         ErrorKind::OutOfMemory => PlanFault::Memory,

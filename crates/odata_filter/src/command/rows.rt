@@ -4,7 +4,7 @@ ghost use Rattle.line_filter.specs.Kept.{Filters};
 ghost use Rattle.odata_filter.specs.RowJudgment.{rows_of};
 ghost use Rattle.odata_filter.specs.Run.{BeginsAs, IsFirstMoment, IsPlanFilter, OverRows, streams};
 ghost use Rattle.odata_filter.specs.RunStops.{StopsBy};
-ghost use Rattle.odata_filter.specs.private.RunFailures.{AnswerSays, IsUnwritten, IsWhole, StopsOver, status_of};
+ghost use Rattle.odata_filter.specs.private.RunFailures.{AnswerSays, IsUnwritten, IsReadWhole, StopsOver, status_of};
 
 use super::command_line::{Plan, Verb};
 use super::failure::Failure;
@@ -94,7 +94,7 @@ fn whole_rows<'p, R: Read + Drop>(
     plan: &Plan<'p>,
     rows: Option<R>,
 ) -> Result<Vec<u8>, Failure<'p>>
-    ensures whole { IfOk result (λ bytes. IsWhole (option_map (λ r. R.remaining r) rows) bytes.items) }
+    ensures whole { IfOk result (λ bytes. IsReadWhole (option_map (λ r. R.remaining r) rows) bytes.items) }
     ensures unread { IfErr result (λ failure. IsUnwritten (status_of failure)) }
 {
     let mut reader = match rows {

@@ -6,7 +6,7 @@ use Rattle.odata_text.specs.Spelling.{IsWordSpelling, Spells}
 use Rattle.odata_text.specs.TokenModel.{TokenModel}
 use Rattle.odata_text.specs.declared.token.TokenKind.{TokenKind}
 use Rattle.odata_syntax.specs.CanonicalText.{tree_level}
-use Rattle.odata_syntax.specs.Grammar.{Derives, DerivesFurther, DerivesItems, Level, derives_any_item, derives_binary, derives_call, derives_count, derives_group, derives_has, derives_in_list, derives_in_path, derives_it, derives_lambda, derives_literal, derives_member, derives_name, derives_negation, derives_not, function_name, looser, no_further, no_items, one_further, open_path_level, operator_level, path_level, some_items}
+use Rattle.odata_syntax.specs.Grammar.{Derives, DerivesFurther, DerivesItems, Level, derives_any_item, derives_binary, derives_call, derives_count, derives_group, derives_has, derives_in_list, derives_in_path, derives_it, derives_lambda, derives_literal, derives_member, derives_name, derives_negation, derives_not, function_name, looser, no_further, no_items, one_further, open_path_level, path_level, some_items}
 use Rattle.odata_syntax.specs.Lexeme.{IsA, IsLiteral, IsName, IsVariable, reserved_words, same_word}
 use Rattle.odata_text.specs.TokenSequence.{AreTextTokens}
 use Rattle.odata_syntax.specs.Tree.{Shape, Tree, Trees, any_item, binary, call, count, has, in_list, in_path, it, lambda, literal, logical_not, member, more_trees, name, negation, no_trees, node, shape_of}

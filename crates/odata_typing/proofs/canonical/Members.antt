@@ -8,7 +8,7 @@ use Rattle.odata_typing.specs.declared.canonical_text.Part.TheVariants.{Operand}
 use Rattle.odata_typing.specs.declared.checked_node.CheckedNode.{CheckedNode}
 use Rattle.odata_typing.specs.declared.checked_node.NodeKind.{NodeKind}
 use Rattle.odata_typing.specs.FlatTree.{FlatTree}
-use Rattle.odata_typing.specs.private.CanonicalWalk.{ArePieceTexts, GoesOn, HasTreeAt, IsPieceOf, IsPieceText, Piece, StandsThere, WritesPart, behind_slash, between, closing, operand, step_of, stop_at}
+use Rattle.odata_typing.specs.private.CanonicalWalk.{ArePieceTexts, GoesOn, HasTreeAt, IsPieceOf, IsPieceText, Piece, StandsThere, WritesPart, behind_slash, between, closing, operand, step_parts, stop_at}
 use Rattle.odata_typing.proofs.canonical.Kinds.{shape_there}
 use Rattle.odata_typing.proofs.canonical.Leaves.{below, path_text, place_of, ungrouped}
 use Rattle.odata_typing.proofs.canonical.Signs.{HasChild, child_there}
@@ -37,7 +37,7 @@ step_text start stop base asked text level within are =
 
 goes_bare : (list : FlatTree) (i start stop : ℕ) (base : Tree) (asked : List ℕ) (level : Level) → level ≤ base_level
     → StandsThere list i (node start stop (member base asked))
-    → GoesOn list (step_of i) [] (operand level (node start stop (member base asked)))
+    → GoesOn list (step_parts i) [] (operand level (node start stop (member base asked)))
 goes_bare list i start stop base asked level within there =
     let child = child_of list i start stop base asked there in
     record {
@@ -53,19 +53,19 @@ goes_bare list i start stop base asked level within there =
     }
 
 module _ (list : FlatTree) (i needed slot : ℕ) (is : IsMemberAt list i slot) where
-  at_tree : (tree : Tree) → needed ≤ base_level → StandsThere list i tree → GoesOn list (step_of i) [] (operand needed tree)
+  at_tree : (tree : Tree) → needed ≤ base_level → StandsThere list i tree → GoesOn list (step_parts i) [] (operand needed tree)
   at_tree (node start stop shape) within there =
       let m = shape_there list i is.found (NodeKind.Member slot) start stop shape is.at is.is there in
-      let P : Shape → Type 0 = λ (s : Shape). StandsThere list i (node start stop s) → GoesOn list (step_of i) [] (operand needed (node start stop s)) in
+      let P : Shape → Type 0 = λ (s : Shape). StandsThere list i (node start stop s) → GoesOn list (step_parts i) [] (operand needed (node start stop s)) in
       subst P (sym m.2) (goes_bare list i start stop m.0 m.1 needed within) there
 
-  at_piece : (piece : Piece) → IsPieceOf list (Operand i needed) piece → GoesOn list (step_of i) [] piece
+  at_piece : (piece : Piece) → IsPieceOf list (Operand i needed) piece → GoesOn list (step_parts i) [] piece
   at_piece (between o) of = absurd of
   at_piece (behind_slash asked) of = absurd of
   at_piece closing of = absurd of
   at_piece (operand level tree) of =
       let within : needed ≤ base_level = subst (λ (n : ℕ). n ≤ base_level) (sym of.same) of.within in
-      subst (λ (n : ℕ). GoesOn list (step_of i) [] (operand n tree)) of.same (at_tree tree within of.there)
+      subst (λ (n : ℕ). GoesOn list (step_parts i) [] (operand n tree)) of.same (at_tree tree within of.there)
 
 light : (list : FlatTree) (i slot : ℕ) (tree : Tree) → IsMemberAt list i slot → StandsThere list i tree
     → 3 * (stop_at list (i + 1) - (i + 1)) + 2 < 3 * (stop_at list i - i)
@@ -77,12 +77,12 @@ light list i slot (node start stop shape) is there =
 
 pub member_written : (list : FlatTree) (i needed slot : ℕ) (found : CheckedNode) (text : List ℕ) (parts new : List Part)
     → HasTreeAt list i → slice_get list.nodes i ≡ Some found → found.kind ≡ NodeKind.Member slot
-    → new ≡ parts ++ step_of i → WritesPart list (Operand i needed) text text parts new
+    → new ≡ parts ++ step_parts i → WritesPart list (Operand i needed) text text parts new
 member_written list i needed slot found text parts new has at kind pushed =
     let is : IsMemberAt list i slot = record { found = found; at = at; is = kind } in
     let lighter : 3 * (stop_at list (i + 1) - (i + 1)) + 2 < 3 * (stop_at list i - i) = light list i slot has.0 is has.1 in
     record {
-      parts = step_of i;
+      parts = step_parts i;
       pushed = pushed;
       lighter = omega (arith, lighter);
       text = [];

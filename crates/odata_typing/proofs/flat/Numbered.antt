@@ -15,7 +15,7 @@ use Rattle.odata_typing.specs.Levels.{level_named}
 use Rattle.odata_typing.specs.NameKinds.{NamesSlot, IsSlotAt, level_of_node, level_at}
 use Rattle.odata_typing.specs.PreOrder.{pre_order, span_of_tree}
 use Rattle.odata_typing.specs.ScopedNodes.{ScopedNode, scoped_nodes}
-use Rattle.odata_typing.specs.Stands.{Stands, IsKindOf, names_of}
+use Rattle.odata_typing.specs.Stands.{Stands, IsKindOf, variable_names}
 use Rattle.odata_typing.specs.Typed.{Scope, Typed}
 use Rattle.odata_signatures.specs.TypeView.{expr_type}
 use Rattle.odata_typing.proofs.flat.Places.{found_within, same_found}
@@ -78,7 +78,7 @@ only_slot :
 only_slot list slots root scope start stop (name asked) (NodeKind.Property other) slot is names =
     same_slot (slot_named (slots.properties root) asked) other slot is.1 names.1
 only_slot list slots root scope start stop (name asked) (NodeKind.Variable level) slot is names =
-    absurd (none_some (level_named (names_of scope) asked) level is names.0)
+    absurd (none_some (level_named (variable_names scope) asked) level is names.0)
 only_slot list slots root scope start stop (name asked) _ slot is names = absurd is
 only_slot list slots root scope start stop (member base asked) (NodeKind.Member other) slot is names =
     let owner : is.0 ≡ names.0 =
@@ -91,7 +91,7 @@ only_slot list slots root scope start stop _ kind slot is names = absurd names
 level_of_top :
     (list : FlatTree) (slots : Slots) (root : List ℕ) (scope : Scope) (start stop : ℕ) (shape : Shape) (kind : NodeKind)
     → IsKindOf list.values slots root scope shape kind
-    → level_of_node (names_of scope) (node start stop shape) ≡ level_of_kind kind
+    → level_of_node (variable_names scope) (node start stop shape) ≡ level_of_kind kind
 level_of_top list slots root scope start stop (literal k spelling) (NodeKind.Literal l place) is = refl
 level_of_top list slots root scope start stop (literal k spelling) _ is = absurd is
 level_of_top list slots root scope start stop it kind is = rw is refl
@@ -205,13 +205,13 @@ slot_at filter k slot found is kind =
 same_scoped : (o : Option ScopedNode) (a b : ScopedNode) → o ≡ Some a → o ≡ Some b → a ≡ b
 same_scoped o a b x y = cc
 
-no_variables : (scope : Scope) → names_of scope ≡ [] → scope ≡ []
+no_variables : (scope : Scope) → variable_names scope ≡ [] → scope ≡ []
 no_variables [] none = refl
 no_variables (bound ∷ scope) none = cc
 
 pub no_other_slot : (filter : Filter) (k slot : ℕ) (found : CheckedNode) → IsNumbered filter k found → IsSlotAt filter k slot → slot_of_kind found.kind ≡ Some slot
 no_other_slot filter k slot found is other =
-    let named : ScopedNode = record { variables = names_of other.at; part = other.part } in
+    let named : ScopedNode = record { variables = variable_names other.at; part = other.part } in
     let here : ScopedNode = record { variables = []; part = is.at.part } in
     let same : named ≡ here = same_scoped (slice_get (scoped_nodes [] (tree_of_filter filter)) k) named here other.numbered is.unbound in
     let scope : other.at ≡ [] = no_variables other.at (ap (λ (x : ScopedNode). x.variables) same) in
@@ -225,7 +225,7 @@ level_found filter k found is = rw is.scoped is.says.levels
 
 pub no_slot_past : (filter : Filter) (k slot : ℕ) → IsFilter filter → length filter.list.nodes ≤ k → ¬ IsSlotAt filter k slot
 no_slot_past filter k slot is past names =
-    none-some (record { variables = names_of names.at; part = names.part }) (sym (past_scoped filter k is past) ∙ names.numbered)
+    none-some (record { variables = variable_names names.at; part = names.part }) (sym (past_scoped filter k is past) ∙ names.numbered)
 
 pub no_level_past : (filter : Filter) (k : ℕ) → IsFilter filter → length filter.list.nodes ≤ k → level_at filter k ≡ None
 no_level_past filter k is past = rw (past_scoped filter k is past) refl

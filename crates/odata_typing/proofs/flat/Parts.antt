@@ -8,7 +8,7 @@ use Rattle.odata_typing.specs.Considered.{IsConsidered, IsConsideredChild, consi
 use Rattle.odata_typing.specs.FlatTree.{FlatTree}
 use Rattle.odata_typing.specs.PreOrder.{nodes_among, nodes_below, pre_order}
 use Rattle.odata_typing.specs.ScopedNodes.{ScopedNode, scoped_among, scoped_below, scoped_nodes}
-use Rattle.odata_typing.specs.Stands.{Stands, names_of}
+use Rattle.odata_typing.specs.Stands.{Stands, variable_names}
 use Rattle.odata_typing.specs.Typed.{Scope}
 use Rattle.odata_typing.proofs.flat.Places.{get_parts}
 use Rattle.odata_typing.proofs.flat.Standing.{stands_size}
@@ -61,14 +61,14 @@ parts_count variables tree = sym (length-map (scoped_nodes variables tree) (λ (
 pub record IsPart (schema : SchemaModel) (n : ℕ) (scope : Scope) (list : FlatTree) (tree : Tree) (k : ℕ) (at : ScopedNode) : Type 0 where
   pub j : ℕ
   pub stands : Stands schema n scope list k j at.part
-  pub variables : at.variables ≡ names_of scope
+  pub variables : at.variables ≡ variable_names scope
   pub considered : IsConsidered (slots_of schema) (type_name_at schema n) scope tree scope at.part
 
 itself :
     (schema : SchemaModel) (n : ℕ) (scope : Scope) (list : FlatTree) (i j k : ℕ) (tree : Tree) (at : ScopedNode)
     → Stands schema n scope list i j tree
     → k ≡ i
-    → record { variables = names_of scope; part = tree } ≡ at
+    → record { variables = variable_names scope; part = tree } ≡ at
     → IsPart schema n scope list tree k at
 itself schema n scope list i j k tree at stands same is =
     let P : ℕ → Type 0 = λ (x : ℕ). IsPart schema n scope list tree x at in
@@ -104,11 +104,11 @@ first_of x y xs found = cc
 pub part_stands :
     (schema : SchemaModel) (n : ℕ) (scope : Scope) (list : FlatTree) (i j : ℕ) (tree : Tree) (k : ℕ) (at : ScopedNode)
     → Stands schema n scope list i j tree
-    → slice_get (scoped_nodes (names_of scope) tree) k ≡ Some at
+    → slice_get (scoped_nodes (variable_names scope) tree) k ≡ Some at
     → IsPart schema n scope list tree (i + k) at
 part_stands schema n scope list i j (node start stop shape) zero at stands found =
     itself schema n scope list i j (i + 0) (node start stop shape) at stands (omega arith)
-    (first_of (record { variables = names_of scope; part = node start stop shape }) at (scoped_below (names_of scope) shape) found)
+    (first_of (record { variables = variable_names scope; part = node start stop shape }) at (scoped_below (variable_names scope) shape) found)
 part_stands schema n scope list i j (node start stop (literal kind spelling)) (suc k) at stands found = absurd (none-some at found)
 part_stands schema n scope list i j (node start stop it) (suc k) at stands found = absurd (none-some at found)
 part_stands schema n scope list i j (node start stop (name asked)) (suc k) at stands found = absurd (none-some at found)
@@ -130,13 +130,13 @@ part_stands schema n scope list i j (node start stop (logical_not operand)) (suc
 part_stands schema n scope list i j (node start stop (binary operator left right)) (suc k) at stands found =
     let m = stands.children.middle in
     let P : ℕ → Type 0 = λ (x : ℕ). IsPart schema n scope list (node start stop (binary operator left right)) x at in
-    elim (get_parts (scoped_nodes (names_of scope) left) (scoped_nodes (names_of scope) right) k at found) [
+    elim (get_parts (scoped_nodes (variable_names scope) left) (scoped_nodes (variable_names scope) right) k at found) [
       | inl h ↦ let e : i + 1 + k ≡ i + suc k = omega arith in
           subst P e (of_left schema n scope list start stop operator left right (i + 1 + k) at (part_stands schema n scope list (i + 1) m left k at stands.children.left h))
       | inr h ↦
           let size : m ≡ i + 1 + length (pre_order left) = stands_size schema n scope list (i + 1) m left stands.children.left in
-          let count : length (scoped_nodes (names_of scope) left) ≡ length (pre_order left) = parts_count (names_of scope) left in
-          let past : k ≡ length (scoped_nodes (names_of scope) left) + h.0 = h.1.0 in
+          let count : length (scoped_nodes (variable_names scope) left) ≡ length (pre_order left) = parts_count (variable_names scope) left in
+          let past : k ≡ length (scoped_nodes (variable_names scope) left) + h.0 = h.1.0 in
           let e : m + h.0 ≡ i + suc k = omega arith in
           subst P e (of_right schema n scope list start stop operator left right (m + h.0) at (part_stands schema n scope list m j right h.0 at stands.children.right h.1.1))
     ]

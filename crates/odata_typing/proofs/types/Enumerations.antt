@@ -1,8 +1,7 @@
 -- Enumeration literals: their parts, and the enumeration that they name.
-use Rattle.std.proofs.Common.{◌≡◌, ◌≢◌, refl, sym, ap, ◌∙◌, subst, ℕ, ℤ, zero, suc, ◌<◌, Bool, true, false, IsTrue, FitsSigned, IfNone, IfSome, eqb, List, [], ◌∷◌, ◌++◌, Option, Some, None, get_or, length, option_map, arith}
+use Rattle.std.proofs.Common.{◌≡◌, ◌≢◌, refl, sym, ap, ◌∙◌, subst, ℕ, ℤ, zero, suc, ◌<◌, Bool, true, false, IsTrue, FitsSigned, IfNone, IfSome, List, [], ◌∷◌, ◌++◌, Option, Some, None, get_or, length, option_map, arith}
 use Rattle.std.specs.Int.{cast_signed as to_z, cast_unsigned as of_z, w64}
 use Rattle.std.proofs.lemmas.Int.{ints, to_z-of_z}
-use Rattle.std.proofs.lemmas.Bool.{eq-eqb, eqb-true}
 use Rattle.std.specs.Option.{option_and_then}
 use Rattle.std.specs.List.{AllByRecursion}
 use Rattle.edm_values.specs.StringLiteral.{quote}
@@ -12,7 +11,7 @@ use Rattle.edm_values.specs.declared.primitive.PrimitiveType.{PrimitiveType}
 use Rattle.edm_values.specs.declared.primitive.PrimitiveType.TheVariants as type
 use Rattle.edm_enumerations.specs.EnumerationModel.{EnumerationModel}
 use Rattle.edm_values.specs.declared.value.Value as code
-use Rattle.csdl_schema.specs.EnumerationText.{IsValueIn, IsWithin}
+use Rattle.csdl_schema.specs.EnumerationText.{IsValueIn, IsOfUnderlying}
 use Rattle.csdl_schema.specs.SchemaModel.{HoldsEnumeration, IsEnumerationByName, SchemaModel, enumeration_at, enumeration_named, is_enumeration, is_kind_at, place_if, slots_of, type_name_at}
 use Rattle.odata_syntax.specs.declared.node.LiteralKind.{LiteralKind}
 use Rattle.odata_signatures.specs.declared.edm_type.EdmType.{EdmType}
@@ -133,20 +132,20 @@ number_fits type.Int32 n is = omega (arith, ints)
 number_fits type.Int64 n is = is
 number_fits _ n is = absurd is
 
-within_fits : (e : Option EnumerationModel) (n : ℤ) → IsWithin e n → FitsSigned w64 n
+within_fits : (e : Option EnumerationModel) (n : ℤ) → IsOfUnderlying e n → FitsSigned w64 n
 within_fits None n is = absurd is
 within_fits (Some e) n is = number_fits e.underlying n is
 
 -- the number of a text in the enumeration that goes by a name, as the code holds it
 pub names_held : (schema : SchemaModel) (asked inner : List ℕ) (o : Option ℕ) (id : ℕ) (n : ℤ) → o ≡ enumeration_named schema asked → o ≡ Some id
-    → IsEnumerationByName schema id → IsValueIn (enumeration_at schema id) inner n → IsWithin (enumeration_at schema id) n
+    → IsEnumerationByName schema id → IsValueIn (enumeration_at schema id) inner n → IsOfUnderlying (enumeration_at schema id) n
     → NamesNumber (slots_of schema) asked inner (type_name_at schema id) (to_z w64 (of_z w64 n))
 names_held schema asked inner o id n named is same value within =
     let held : to_z w64 (of_z w64 n) ≡ n = to_z-of_z w64 n (within_fits (enumeration_at schema id) n within) in
     rw held (record {
       named = named_at schema asked o id named is;
       value = value_by_name schema id inner n same value;
-      within = subst (λ e. IsWithin e n) same within;
+      within = subst (λ e. IsOfUnderlying e n) same within;
     })
 
 -- a literal's number as the code holds it

@@ -5,10 +5,9 @@ use Rattle.odata_syntax.specs.Tree.{Tree}
 use Rattle.odata_syntax.specs.declared.node.LiteralKind.{LiteralKind}
 use Rattle.odata_text.specs.declared.fault.TextFault.{TextFault}
 use Rattle.odata_syntax.specs.declared.syntax_fault.SyntaxFault.{SyntaxFault}
-use Rattle.csdl_schema.specs.SchemaModel.{SchemaModel, HoldsEnumeration, slots_of, type_name_at}
+use Rattle.csdl_schema.specs.SchemaModel.{SchemaModel, slots_of, type_name_at}
 use Rattle.odata_typing.specs.declared.checked_node.CheckedNode.{CheckedNode}
 use Rattle.odata_signatures.specs.declared.edm_type.EdmType.{EdmType}
-use Rattle.odata_signatures.specs.declared.edm_type.ValueType.{ValueType}
 use Rattle.odata_typing.specs.declared.refusal.Refusal.{Refusal}
 use Rattle.odata_typing.specs.declared.untyped.Untyped.{Untyped}
 use Rattle.odata_typing.specs.FirstUntypable.{IsFirstUntypable}
@@ -20,7 +19,8 @@ use Rattle.odata_typing.specs.Typed.{Scope, Typed}
 use Rattle.odata_signatures.specs.TypeView.{expr_type}
 
 -- a literal with its value and its type
-pub record IsReading (schema : SchemaModel) (kind : LiteralKind) (spelling : List ℕ) (value : Value) (type : EdmType) : Type 0 where
+pub record IsReading
+    (schema : SchemaModel) (kind : LiteralKind) (spelling : List ℕ) (value : Value) (type : EdmType) : Type 0 where
   pub value_of : IsValueOf (slots_of schema) kind spelling value
   pub typed : LiteralTyped (slots_of schema) kind spelling (expr_type schema type)
 

@@ -62,14 +62,14 @@ pub record IsOperandOf (list : FlatTree) (place needed level : ℕ) (tree : Tree
   pub there : StandsThere list place tree
 
 -- a name stands beside a node
-pub record IsStepOf (list : FlatTree) (place : ℕ) (asked : List ℕ) : Type 0 where
+pub record HasNameBeside (list : FlatTree) (place : ℕ) (asked : List ℕ) : Type 0 where
   pub within : place < length list.nodes
   pub beside : slice_get list.texts place ≡ Some asked
 
 -- what a part of the code stands for
 abbrev pub IsPieceOf : FlatTree → Part → Piece → Type 0
 IsPieceOf list (Operator word) (between operator) = word ≡ operator
-IsPieceOf list (Step place) (behind_slash asked) = IsStepOf list place asked
+IsPieceOf list (Step place) (behind_slash asked) = HasNameBeside list place asked
 IsPieceOf list Close closing = Unit {0}
 IsPieceOf list (Operand place needed) (operand level tree) = IsOperandOf list place needed level tree
 IsPieceOf list _ _ = ⊥
@@ -119,8 +119,8 @@ operands_of list i operator =
     ∷ (Operator operator ∷ (Operand (i + 1) (operator_level operator) ∷ []))
 
 -- a step to a member, and what stands before its slash last
-abbrev pub step_of : ℕ → List Part
-step_of i = Step i ∷ (Operand (i + 1) 0 ∷ [])
+abbrev pub step_parts : ℕ → List Part
+step_parts i = Step i ∷ (Operand (i + 1) 0 ∷ [])
 
 -- the operand of a sign
 abbrev pub operand_of : ℕ → List Part

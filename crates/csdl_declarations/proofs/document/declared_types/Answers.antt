@@ -3,7 +3,7 @@ use Rattle.std.specs.List.{flat_map}
 use Rattle.std.proofs.lemmas.Bool.Decides.{nat_tests}
 use Rattle.serde_json.specs.View.{view}
 use Rattle.csdl_declarations.specs.Members.{declared_in}
-use Rattle.csdl_declarations.specs.TypeKind.{kind_of}
+use Rattle.csdl_declarations.specs.TypeKind.{type_kind_in}
 use Rattle.csdl_declarations.specs.Declarations.{types_in, types_declared, types_in_order, in_name_order, type_count}
 use Rattle.csdl_declarations.specs.DeclaredType.{declared_type, declared_types}
 use Rattle.csdl_declarations.specs.DeclaredTypeView.{types_view}
@@ -21,7 +21,7 @@ returns-then-count_types-gt-MAX_TYPES-clause-read c =
     let schemas_again : members_of c.deref-2.result.now ≡ declared_in d = ap members_of c.deref-2.ensures.value ∙ c.in_ok-schemas.ensures.members in
     let total : c.count_types.result ≡ type_count d =
     c.count_types.ensures
-    ∙ ap (count_by (λ t. is_some (kind_of t.body))) (ap declarations_of c.deref-3.ensures.value ∙ c.in_ok-declarations.ensures ∙ ap (flat_map types_in) schemas_again) in
+    ∙ ap (count_by (λ t. is_some (type_kind_in t.body))) (ap declarations_of c.deref-3.ensures.value ∙ c.in_ok-declarations.ensures ∙ ap (flat_map types_in) schemas_again) in
     let Many : ℕ → Type 0 = λ n. 4096 < n in
     let many : 4096 < type_count d = subst Many total c.if-count_types-gt-MAX_TYPES.true in
     let told : nat_lt 4096 (type_count d) ≡ true = grind (arith, nat_tests) in

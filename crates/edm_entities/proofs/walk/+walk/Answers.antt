@@ -9,9 +9,9 @@ use Rattle.csdl_schema.specs.SchemaModel.{slots_of, type_name_at, declared}
 use Rattle.edm_entities.specs.Fits.{FitsFound, FitsType, FitsProperty}
 use Rattle.edm_entities.specs.FitsPrimitive.{Flaw}
 use Rattle.edm_entities.specs.Row.{field_of, val_of}
-use Rattle.edm_entities.specs.RowFaults.{Path, IsFoundFault, IsTypeFault, IsPropertyFault}
+use Rattle.edm_entities.specs.RowFaults.{Path, IsFoundFault, IsValueFault, IsPropertyFault}
 use Rattle.edm_entities.specs.private.Faults.{IsFaultOf}
-use Rattle.edm_entities.specs.private.Walk.{single_of}
+use Rattle.edm_entities.specs.private.Walk.{wanted_single}
 use Rattle.edm_entities.specs.declared.flaw.ReadFlaw.TheVariants as code
 use Rattle.edm_values.specs.declared.value.Value.{Null, Record}
 use Rattle.edm_entities.proofs.SlotLemmas.Depth.{found_measure, found_less, item_within}
@@ -49,7 +49,7 @@ read_slots-returns-in-Err-clause-fault t c =
 
 pub read_slots-returns-in_default-clause-fault : goal.read_slots-returns-in_default-clause-fault
 read_slots-returns-in_default-clause-fault t c =
-    told_here (λ path flaw. IsTypeFault (slots_of c.args.schema.now) false path (single (structured (type_name_at c.args.schema.now c.args.type_id))) (view c.args.json.now) flaw)
+    told_here (λ path flaw. IsValueFault (slots_of c.args.schema.now) false path (single (structured (type_name_at c.args.schema.now c.args.type_id))) (view c.args.json.now) flaw)
     c.fault_here.result code.WrongKind c.fault_here.ensures.flaw c.fault_here.ensures.here
     (none_of (as_object (view c.args.json.now)) (is_some c.members_of.result) c.members_of.ensures.object (ap is_some c.in_default.is))
 
@@ -76,18 +76,18 @@ read_property-returns-else-property-clause-fault t c =
     let json : Data = view c.in-Some-found.json.now in
     let there : option_map (λ j. view j.now) c.args.found ≡ Some json = ap (option_map (λ j. view j.now)) c.in-Some-found.is in
     let typed = wanted_type schema c.args.property.kind c.args.property.many wanted (sym c.wanted_as.ensures ∙ c.in-Some.is) in
-    let one : property_type schema c.args.property ≡ declared (single (single_of schema wanted)) =
+    let one : property_type schema c.args.property ≡ declared (single (wanted_single schema wanted)) =
     typed ∙ ap (λ (many : Bool). declared (type_wanted schema wanted many)) c.if-property.false in
     subst (λ (o : Option Data). IfErr c.read_single.result (IsFaultOf (IsPropertyFault slots nullable (property_type schema c.args.property) o))) (sym there)
     (err_by c.read_single.result
-    (IsFaultOf (λ path flaw. IsFoundFault (Some json) nullable path flaw (λ found. IsTypeFault slots nullable path (single (single_of schema wanted)) found flaw)))
+    (IsFaultOf (λ path flaw. IsFoundFault (Some json) nullable path flaw (λ found. IsValueFault slots nullable path (single (wanted_single schema wanted)) found flaw)))
     (IsFaultOf (IsPropertyFault slots nullable (property_type schema c.args.property) (Some json)))
-    (λ told fault. fault_held slots nullable (property_type schema c.args.property) (single (single_of schema wanted)) (Some json) one told fault)
+    (λ told fault. fault_held slots nullable (property_type schema c.args.property) (single (wanted_single schema wanted)) (Some json) one told fault)
     c.read_single.ensures.fault)
 
 pub read_single-returns-then-is_null-clause-fits : goal.read_single-returns-then-is_null-clause-fits
 read_single-returns-then-is_null-clause-fits t c =
-    let type = single (single_of c.args.schema.now c.args.wanted.now) in
+    let type = single (wanted_single c.args.schema.now c.args.wanted.now) in
     ok_by c.null_value.result (λ v. (c.args.nullable ≡ true) × (v ≡ Null))
     (λ v. FitsFound (Some (view c.args.json.now)) c.args.nullable (val_of v (slots_of c.args.schema.now) type)
     (λ found. FitsType (slots_of c.args.schema.now) c.args.nullable type found (val_of v (slots_of c.args.schema.now) type)))
@@ -96,16 +96,16 @@ read_single-returns-then-is_null-clause-fits t c =
 
 pub read_single-returns-then-is_null-clause-fault : goal.read_single-returns-then-is_null-clause-fault
 read_single-returns-then-is_null-clause-fault t c =
-    let type = single (single_of c.args.schema.now c.args.wanted.now) in
+    let type = single (wanted_single c.args.schema.now c.args.wanted.now) in
     let P : (Path → Flaw → Type 0) = λ path flaw. IsFoundFault (Some (view c.args.json.now)) c.args.nullable path flaw
-    (λ found. IsTypeFault (slots_of c.args.schema.now) c.args.nullable path type found flaw) in
+    (λ found. IsValueFault (slots_of c.args.schema.now) c.args.nullable path type found flaw) in
     err_by c.null_value.result (λ fault. (c.args.nullable ≡ false) × (fault.path ≡ None) × (fault.flaw ≡ code.NullNotAllowed)) (IsFaultOf P)
     (λ fault is. told_here P fault code.NullNotAllowed is.2 is.1 (null_flaw (view c.args.json.now) c.args.nullable _ (sym c.is_null.ensures ∙ c.if-is_null.true) is.0))
     c.null_value.ensures.fault
 
 pub read_single-returns-clause-fits : goal.read_single-returns-clause-fits
 read_single-returns-clause-fits t c =
-    let type = single (single_of c.args.schema.now c.args.wanted.now) in
+    let type = single (wanted_single c.args.schema.now c.args.wanted.now) in
     ok_by c.read_value.result (λ v. FitsType (slots_of c.args.schema.now) c.args.nullable type (view c.args.json.now) (val_of v (slots_of c.args.schema.now) type))
     (λ v. FitsFound (Some (view c.args.json.now)) c.args.nullable (val_of v (slots_of c.args.schema.now) type)
     (λ found. FitsType (slots_of c.args.schema.now) c.args.nullable type found (val_of v (slots_of c.args.schema.now) type)))
@@ -114,10 +114,10 @@ read_single-returns-clause-fits t c =
 
 pub read_single-returns-clause-fault : goal.read_single-returns-clause-fault
 read_single-returns-clause-fault t c =
-    let type = single (single_of c.args.schema.now c.args.wanted.now) in
-    let Here : (Path → Flaw → Type 0) = λ path flaw. IsTypeFault (slots_of c.args.schema.now) c.args.nullable path type (view c.args.json.now) flaw in
+    let type = single (wanted_single c.args.schema.now c.args.wanted.now) in
+    let Here : (Path → Flaw → Type 0) = λ path flaw. IsValueFault (slots_of c.args.schema.now) c.args.nullable path type (view c.args.json.now) flaw in
     let P : (Path → Flaw → Type 0) = λ path flaw. IsFoundFault (Some (view c.args.json.now)) c.args.nullable path flaw
-    (λ found. IsTypeFault (slots_of c.args.schema.now) c.args.nullable path type found flaw) in
+    (λ found. IsValueFault (slots_of c.args.schema.now) c.args.nullable path type found flaw) in
     err_by c.read_value.result (IsFaultOf Here) (IsFaultOf P)
     (λ told fault. fault_by Here P told (λ path flaw here. other_fault (view c.args.json.now) c.args.nullable path flaw _ (sym c.is_null.ensures ∙ c.if-is_null.false) here) fault)
     (c.read_value.ensures.fault c.args.nullable)
@@ -125,22 +125,22 @@ read_single-returns-clause-fault t c =
 pub read_value-returns-in-Prim-clause-fits : goal.read_value-returns-in-Prim-clause-fits
 read_value-returns-in-Prim-clause-fits t c nullable =
     let type = single (primitive c.in-Prim.prim) in
-    read_as (slots_of c.args.schema.now) nullable (view c.args.json.now) (single_of c.args.schema.now c.args.wanted.now) (primitive c.in-Prim.prim) c.leaf_read.result
-    (ap (single_of c.args.schema.now) c.in-Prim.is)
+    read_as (slots_of c.args.schema.now) nullable (view c.args.json.now) (wanted_single c.args.schema.now c.args.wanted.now) (primitive c.in-Prim.prim) c.leaf_read.result
+    (ap (wanted_single c.args.schema.now) c.in-Prim.is)
     (leaf_fits c.read_primitive.result c.leaf_read.result (λ v. FitsType (slots_of c.args.schema.now) nullable type (view c.args.json.now) (val_of v (slots_of c.args.schema.now) type))
     c.leaf_read.ensures.value (c.read_primitive.ensures.fits (view c.args.json.now) (slots_of c.args.schema.now) type c.scalar_of.ensures))
 
 pub read_value-returns-in-Prim-clause-fault : goal.read_value-returns-in-Prim-clause-fault
 read_value-returns-in-Prim-clause-fault t c nullable =
     rw c.in-Prim.is (leaf_fault c.read_primitive.result c.leaf_read.result
-    (λ path flaw. IsTypeFault (slots_of c.args.schema.now) nullable path (single (primitive c.in-Prim.prim)) (view c.args.json.now) flaw)
+    (λ path flaw. IsValueFault (slots_of c.args.schema.now) nullable path (single (primitive c.in-Prim.prim)) (view c.args.json.now) flaw)
     c.leaf_read.ensures.fault (c.read_primitive.ensures.flaw (view c.args.json.now) c.scalar_of.ensures))
 
 pub read_value-returns-in-Enum-clause-fits : goal.read_value-returns-in-Enum-clause-fits
 read_value-returns-in-Enum-clause-fits t c nullable =
     let type = single (enumeration (type_name_at c.args.schema.now c.in-Enum.id)) in
-    read_as (slots_of c.args.schema.now) nullable (view c.args.json.now) (single_of c.args.schema.now c.args.wanted.now) (enumeration (type_name_at c.args.schema.now c.in-Enum.id))
-    c.leaf_read-in-Enum.result (ap (single_of c.args.schema.now) c.in-Enum.is)
+    read_as (slots_of c.args.schema.now) nullable (view c.args.json.now) (wanted_single c.args.schema.now c.args.wanted.now) (enumeration (type_name_at c.args.schema.now c.in-Enum.id))
+    c.leaf_read-in-Enum.result (ap (wanted_single c.args.schema.now) c.in-Enum.is)
     (leaf_fits c.read_member.result c.leaf_read-in-Enum.result
     (λ v. FitsType (slots_of c.args.schema.now) nullable type (view c.args.json.now) (val_of v (slots_of c.args.schema.now) type))
     c.leaf_read-in-Enum.ensures.value (c.read_member.ensures.fits (view c.args.json.now) (slots_of c.args.schema.now) type c.scalar_of-in-Enum.ensures))
@@ -149,13 +149,13 @@ pub read_value-returns-in-Enum-clause-fault : goal.read_value-returns-in-Enum-cl
 read_value-returns-in-Enum-clause-fault t c nullable =
     let type = single (enumeration (type_name_at c.args.schema.now c.in-Enum.id)) in
     rw c.in-Enum.is (leaf_fault c.read_member.result c.leaf_read-in-Enum.result
-    (λ path flaw. IsTypeFault (slots_of c.args.schema.now) nullable path type (view c.args.json.now) flaw)
+    (λ path flaw. IsValueFault (slots_of c.args.schema.now) nullable path type (view c.args.json.now) flaw)
     c.leaf_read-in-Enum.ensures.fault (c.read_member.ensures.flaw (view c.args.json.now) c.scalar_of-in-Enum.ensures))
 
 pub read_value-returns-in-Ok-clause-fits : goal.read_value-returns-in-Ok-clause-fits
 read_value-returns-in-Ok-clause-fits t c nullable =
-    value_as (slots_of c.args.schema.now) nullable (view c.args.json.now) (single_of c.args.schema.now c.args.wanted.now) (structured (type_name_at c.args.schema.now c.in-Complex.id))
-    (Record c.in-Ok.values) (ap (single_of c.args.schema.now) c.in-Complex.is)
+    value_as (slots_of c.args.schema.now) nullable (view c.args.json.now) (wanted_single c.args.schema.now c.args.wanted.now) (structured (type_name_at c.args.schema.now c.in-Complex.id))
+    (Record c.in-Ok.values) (ap (wanted_single c.args.schema.now) c.in-Complex.is)
     (slots_fit c.args.schema.now c.in-Complex.id nullable (view c.args.json.now) c.in-Ok.values c.in-Ok.ensures.distinct c.in-Ok.ensures.object c.in-Ok.ensures.fits)
 
 pub read_value-returns-in-Err-clause-fault : goal.read_value-returns-in-Err-clause-fault
@@ -164,12 +164,12 @@ read_value-returns-in-Err-clause-fault t c nullable =
 
 pub read_items-returns-in-Ok-clause-fits : goal.read_items-returns-in-Ok-clause-fits
 read_items-returns-in-Ok-clause-fits t c =
-    array_fits (slots_of c.args.schema.now) c.args.nullable (single_of c.args.schema.now c.args.wanted.now) (view c.args.json.now) (items_view c.in-Some.items.now.items) c.in-Ok.values
+    array_fits (slots_of c.args.schema.now) c.args.nullable (wanted_single c.args.schema.now c.args.wanted.now) (view c.args.json.now) (items_view c.in-Some.items.now.items) c.in-Ok.values
     (sym c.as_array.ensures ∙ ap (option_map (λ v. items_view v.now.items)) c.in-Some.is) (rw c.as_slice.ensures.value at c.in-Ok.ensures.fits)
 
 pub read_items-returns-in-Err-clause-fault : goal.read_items-returns-in-Err-clause-fault
 read_items-returns-in-Err-clause-fault t c =
-    array_fault (slots_of c.args.schema.now) c.args.nullable (single_of c.args.schema.now c.args.wanted.now) (view c.args.json.now) (items_view c.in-Some.items.now.items) c.in-Err.fault
+    array_fault (slots_of c.args.schema.now) c.args.nullable (wanted_single c.args.schema.now c.args.wanted.now) (view c.args.json.now) (items_view c.in-Some.items.now.items) c.in-Err.fault
     (sym c.as_array.ensures ∙ ap (option_map (λ v. items_view v.now.items)) c.in-Some.is) (rw c.as_slice.ensures.value at c.in-Err.ensures.fault)
 
 pub read_list-read_single-requires : goal.read_list-read_single-requires
@@ -186,7 +186,7 @@ read_list-loop-index-preserved t c =
     let x = c.index-items-index.result in
     let at = item_there c.args.items.now l.index x (omega arith) c.index-items-index.is in
     let pushed : c.push.new.self.items ≡ l.values.items ++ c.in-Ok-read_single.value ∷ [] = grind (arith, common_steps) in
-    rw (pushed, add-one) (list_push (slots_of c.args.schema.now) c.args.nullable (single_of c.args.schema.now c.args.wanted.now) c.args.items.now l.index l.values.items x c.in-Ok-read_single.value
+    rw (pushed, add-one) (list_push (slots_of c.args.schema.now) c.args.nullable (wanted_single c.args.schema.now c.args.wanted.now) c.args.items.now l.index l.values.items x c.in-Ok-read_single.value
     at l.invariant c.in-Ok-read_single.ensures.fits)
 
 pub read_list-returns-in-Err-clause-fault : goal.read_list-returns-in-Err-clause-fault
@@ -194,5 +194,5 @@ read_list-returns-in-Err-clause-fault t c =
     let l = c.loop-index in
     let x = c.index-items-index.result in
     let at = item_there c.args.items.now l.index x (omega arith) c.index-items-index.is in
-    list_fault (slots_of c.args.schema.now) c.args.nullable (single_of c.args.schema.now c.args.wanted.now) c.args.items.now l.index l.values.items x c.in-Err.fault c.fault_in_item.result
+    list_fault (slots_of c.args.schema.now) c.args.nullable (wanted_single c.args.schema.now c.args.wanted.now) c.args.items.now l.index l.values.items x c.in-Err.fault c.fault_in_item.result
     at l.invariant c.fault_in_item.ensures c.in-Err.ensures.fault

@@ -1,6 +1,3 @@
-use Rattle.std.proofs.Common.{ℕ, List}
-use Rattle.line_filter.specs.declared.judge.Judgment.{Judgment}
-use Rattle.odata_filter.specs.declared.bad_row.BadRow.{BadRow}
 use Rattle.odata_filter.specs.RowJudgment.{JudgesRow}
 use Rattle.odata_filter.proofs.RowLemmas.OneFault.{same_kind, faults_once, faults_never}
 use Rattle.odata_filter.proofs.RowLemmas.OneJudgment.{judged_once}

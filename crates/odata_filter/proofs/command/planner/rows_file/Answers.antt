@@ -1,6 +1,6 @@
 use Rattle.std.proofs.Common.{◌∙◌, sym, codes}
 use Rattle.clap.specs.Words.{found_of, rows_of}
-use Rattle.odata_filter.proofs.LineLemmas.PlanLemmas.{rows_of_check, rows_of_explain, rows_of_filter, text_found}
+use Rattle.odata_filter.proofs.LineLemmas.PlanLemmas.{rows_of_filter, text_found}
 use Rattle.odata_filter.proofs.command.planner.rows_file.Goals as goal
 
 pub returns-in-Filter : goal.returns-in-Filter
