@@ -1,2 +1,3 @@
 pub mod FitLemmas
+pub mod RowLemmas
 pub mod SlotLemmas

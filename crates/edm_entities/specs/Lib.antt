@@ -1,5 +1,6 @@
 pub use Rattle.csdl_schema.specs.EnumerationText
 pub use Rattle.csdl_schema.specs.ExprType
+pub use Rattle.csdl_schema.specs.JsonText
 pub use Rattle.csdl_schema.specs.PropertyView
 pub use Rattle.csdl_schema.specs.SchemaModel
 pub use Rattle.edm_enumerations.specs.EnumerationModel
@@ -20,5 +21,6 @@ pub mod FitsPrimitive
 pub mod HasType
 pub mod Row
 pub mod RowFaults
+pub mod RowReading
 pub mod SlotValue
 pub mod private

@@ -2,5 +2,7 @@
 pub mod Faults
 pub mod Lent
 pub mod Members
+pub mod RowTokens
 pub mod Scalars
+pub mod SlotsSoFar
 pub mod Walk

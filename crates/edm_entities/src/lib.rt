@@ -8,6 +8,12 @@ mod laws;
 mod leaf;
 mod lent_piece;
 mod member_walk;
+mod number_text;
+mod row_reader;
+mod row_skip;
+mod row_slots;
+mod row_token;
+mod row_walk;
 mod scalar;
 mod walk;
 mod wanted;
@@ -18,3 +24,4 @@ pub use laws::{
     a_slot_holds_its_property, example_rows, one_fault_is_first, one_value_fits,
     what_fits_has_its_type, what_has_a_fault_fits_nothing,
 };
+pub use row_reader::RowReader;

@@ -23,7 +23,7 @@ pub(crate) enum Scalar<'j> {
     Other,
 }
 
-fn json_number(held: &Number) -> JsonNumber
+pub(crate) fn json_number(held: &Number) -> JsonNumber
     ensures { IsJsonNumber result (number (number_view held.now)) }
 {
     match held.as_i64() {

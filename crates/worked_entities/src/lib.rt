@@ -7,6 +7,8 @@ mod answer;
 #[cfg(test)]
 mod kinds;
 #[cfg(test)]
+mod lines;
+#[cfg(test)]
 mod products;
 #[cfg(test)]
 mod refused;

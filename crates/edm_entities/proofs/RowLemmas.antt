@@ -1,0 +1,8 @@
+-- Lemmas on rows that are read without a tree.
+pub mod Leads
+pub mod Leaves
+pub mod NumberTexts
+pub mod Parts
+pub mod SlotNames
+pub mod SlotsRead
+pub mod Tokens

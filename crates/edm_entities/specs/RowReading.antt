@@ -1,0 +1,18 @@
+-- Which rows a line of JSON is for, read without a tree (OData JSON Format 4.01, sections 4.5 and 7; RFC 8259).
+use Rattle.std.specs.Prelude.{ℕ, List}
+use Rattle.serde_json.specs.Data.{Data}
+use Rattle.csdl_schema.specs.JsonText.{IsJsonOf}
+use Rattle.csdl_schema.specs.SchemaModel.{SchemaModel, slots_of, type_name_at}
+use Rattle.edm_entities.specs.Fits.{Fits}
+use Rattle.edm_entities.specs.Row.{Row, value_of}
+
+-- what a reader of rows is for, as contracts see it: a type of a schema
+pub record RowType : Type 0 where
+  pub schema : SchemaModel
+  pub type_id : ℕ
+
+-- the line is the text of a JSON value, and the row's value fits that
+pub record IsLineOf (line : List ℕ) (row : Row) : Type 0 where
+  pub json : Data
+  pub is_json : IsJsonOf line json
+  pub fits : Fits (slots_of row.schema) (type_name_at row.schema row.type_id) json (value_of row)

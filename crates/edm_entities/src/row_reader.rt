@@ -1,0 +1,99 @@
+ghost use Rattle.std.specs.Prelude.{◌≡◌, Some, IsSome, IfSome};
+ghost use Rattle.serde_json.specs.Data.{Data};
+ghost use Rattle.serde_json.specs.Find.{as_object};
+ghost use Rattle.serde_json.specs.Read.{read};
+ghost use Rattle.csdl_schema.specs.SchemaModel.{HasDistinctNames, properties_at, slots_of};
+ghost use Rattle.edm_entities.specs.RowReading.{IsLineOf};
+ghost use Rattle.edm_entities.specs.private.Walk.{FitSlots};
+
+use super::entity::Entity;
+use super::row_walk::take_members;
+use csdl_schema::{Schema, TypeId};
+use edm_values::Value;
+use json::{Reader, Scratch, Token};
+use std::alloc::Global;
+use std::marker::Model;
+
+/// How deep objects and arrays may nest in a row.
+const DEPTH: usize = 127;
+
+/// Reads lines of JSON as entities of one type, without a tree between them. It is kept from line to line.
+#[derive(Drop)]
+pub struct RowReader<'s> {
+    alloc: Global,
+    schema: &'s Schema,
+    type_id: TypeId,
+    scratch: Scratch,
+}
+
+impl<'s> Model for RowReader<'s> {
+    ghost use Rattle.edm_entities.specs.RowReading.{RowType};
+
+    ghost Value = { RowType };
+
+    ghost view = { λ r. record { schema = r.schema.now; type_id = r.type_id } };
+}
+
+impl<'s> RowReader<'s> {
+    /// A reader for an entity type of that schema.
+    pub fn new(alloc: Global, schema: &'s Schema, type_id: TypeId) -> RowReader<'s>
+        ensures schema { result.schema ≡ schema.now }
+        ensures type_id { result.type_id ≡ type_id }
+    {
+        RowReader {
+            alloc,
+            schema,
+            type_id,
+            scratch: Scratch::new(alloc),
+        }
+    }
+
+    /// Reads a line as an entity. Where it answers none, the line may still be one: `Entity::from_json` says what
+    /// is wrong with it, if anything is.
+    pub fn read(&mut self, line: &[u8]) -> Option<Entity<'s>>
+        ensures of_type { IfSome result (λ e. (e.schema ≡ self.old.schema) × (e.type_id ≡ self.old.type_id)) }
+        ensures row { IfSome result (IsLineOf line.now) }
+        ensures same { self.new ≡ self.old }
+    {
+        let Ok(text) = str::from_utf8(line) else {
+            return None;
+        };
+        match take_row(
+            self.alloc,
+            self.schema,
+            self.type_id,
+            text,
+            &mut self.scratch,
+        ) {
+            Some(values) => Some(Entity::from_values(self.schema, self.type_id, values)),
+            None => None,
+        }
+    }
+}
+
+/// The values by slot of a whole text.
+fn take_row(
+    alloc: Global,
+    schema: &Schema,
+    type_id: TypeId,
+    text: &str,
+    scratch: &mut Scratch,
+) -> Option<Vec<Value>>
+    ensures distinct { IfSome result (λ _. HasDistinctNames (properties_at schema.now type_id)) }
+    ensures fits { IfSome result (λ values. (json : Data) × (read text.now ≡ Some json) × IsSome (as_object json)
+        × FitSlots (slots_of schema.now) json (properties_at schema.now type_id) values.items) }
+{
+    let Ok(mut reader) = Reader::new(text, scratch) else {
+        return None;
+    };
+    let Some(Token::BeginObject) = reader.next() else {
+        return None;
+    };
+    let Some(values) = take_members(alloc, schema, type_id, &mut reader, DEPTH - 1) else {
+        return None;
+    };
+    match reader.next() {
+        Some(_) => None,
+        None => Some(values),
+    }
+}

@@ -1,0 +1,53 @@
+//! Passing over a value that nobody looks at. Each number in it has a value, as `serde_json` reads it.
+ghost use Rattle.std.specs.Prelude.{IsTrue};
+ghost use Rattle.edm_entities.specs.private.RowTokens.{Reads, ReadsItems, ReadsMembers};
+
+use super::row_token::scalar_of_token;
+use json::{Reader, Token};
+
+/// Passes over a value.
+#[cycle(skip)]
+pub(crate) fn skip_value(reader: &mut Reader<'_>, depth: usize) -> bool
+    ensures { IsTrue result → Reads depth reader.old reader.new (λ json. Unit {0}) }
+{
+    let Some(token) = reader.next() else {
+        return false;
+    };
+    match token {
+        Token::BeginObject => depth > 0 && skip_members(reader, depth - 1),
+        Token::BeginArray => depth > 0 && skip_items(reader, depth - 1),
+        Token::Null => true,
+        _ => scalar_of_token(token).is_some(),
+    }
+}
+
+/// Passes over an array's items and its closing bracket.
+#[cycle(skip)]
+fn skip_items(reader: &mut Reader<'_>, depth: usize) -> bool
+    ensures { IsTrue result → ReadsItems depth reader.old reader.new (λ jsons. Unit {0}) }
+{
+    'items: while !reader.take_end_array() {
+        if !skip_value(reader, depth) {
+            return false;
+        }
+    }
+    true
+}
+
+/// Passes over an object's members and its closing brace.
+#[cycle(skip)]
+fn skip_members(reader: &mut Reader<'_>, depth: usize) -> bool
+    ensures { IsTrue result → ReadsMembers depth reader.old reader.new (λ found. Unit {0}) }
+{
+    'members: loop {
+        let Ok(key) = reader.next_key() else {
+            return false;
+        };
+        let Some(_name) = key else {
+            return true;
+        };
+        if !skip_value(reader, depth) {
+            return false;
+        }
+    }
+}
