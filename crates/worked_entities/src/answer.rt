@@ -4,7 +4,12 @@ use serde_json::Value as Json;
 use std::alloc::{AllocError, Global};
 
 /// `entity`, or the fault with its path, of a row of the type of that name.
-pub fn answer(alloc: Global, schema: &Schema, name: &str, row: &str) -> Result<String, AllocError> {
+pub(crate) fn answer(
+    alloc: Global,
+    schema: &Schema,
+    name: &str,
+    row: &str,
+) -> Result<String, AllocError> {
     let Some(type_id) = schema.type_named(name) else {
         return "no type".to_owned(alloc);
     };
