@@ -2,6 +2,7 @@
 pub mod Compared
 pub mod Leaves
 pub mod MemberSteps
+pub mod NumberSpines
 pub mod OneReading
 pub mod Parts
 pub mod Readings

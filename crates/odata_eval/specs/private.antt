@@ -1,7 +1,7 @@
 -- Definitions that private clauses alone cite.
 pub mod DatumView
-pub mod KeptSides
 pub mod Operands
 pub mod Place
+pub mod Sides
 pub mod WalkAnswer
 pub mod WalkClass

@@ -1,6 +1,7 @@
 //! The values that operators take: those of literals and of the entity where they are kept.
-ghost use Rattle.std.specs.Prelude.{◌≡◌, Option, Bool};
+ghost use Rattle.std.specs.Prelude.{◌≡◌, ℤ, Option, Bool};
 ghost use Rattle.odata_functions.specs.DatumVal.{Reading, datum_val};
+ghost use Rattle.odata_eval.specs.CalculationGives.{number_val};
 ghost use Rattle.odata_eval.specs.TruthGives.{truth_val};
 ghost use Rattle.odata_eval.specs.private.DatumView.{HasSlot, IsDatumOf, IsStepOf};
 
@@ -8,6 +9,7 @@ use edm_values::{Datum, Value};
 use std::borrow::CowStr;
 
 /// A value that is kept. Its text, its fields or its items stay there.
+#[inline(always)]
 pub(crate) fn datum_of(value: &Value) -> Datum<'_>
     ensures { IsDatumOf value.now result }
 {
@@ -52,12 +54,34 @@ pub(crate) fn truth_of(value: &Datum<'_>) -> Option<bool>
     }
 }
 
-/// Null for None.
+/// A number, or None for null.
+pub(crate) fn number_of(value: &Datum<'_>) -> Option<i64>
+    requires { (reading : Reading) → (number : Option ℤ) × (datum_val reading value.now ≡ number_val number) }
+    ensures { (reading : Reading) → datum_val reading value.now ≡ number_val result }
+{
+    match value {
+        Datum::Int(n) => Some(*n),
+        Datum::Null => None,
+        _ => unreachable!(),
+    }
+}
+
+/// A truth value, null for None.
 pub(crate) fn datum_of_truth<'e>(truth: Option<bool>) -> Datum<'e>
     ensures { (reading : Reading) → datum_val reading result ≡ truth_val truth }
 {
     match truth {
         Some(b) => Datum::Bool(b),
+        None => Datum::Null,
+    }
+}
+
+/// A number, null for None.
+pub(crate) fn datum_of_number<'e>(number: Option<i64>) -> Datum<'e>
+    ensures { (reading : Reading) → datum_val reading result ≡ number_val number }
+{
+    match number {
+        Some(n) => Datum::Int(n),
         None => Datum::Null,
     }
 }

@@ -2,22 +2,20 @@
 ghost use Rattle.std.specs.Prelude.{◌≡◌, ◌↔◌, Some, IsTrue, IsSomeAnd};
 ghost use Rattle.edm_values.specs.declared.primitive.PrimitiveType.{PrimitiveType};
 ghost use Rattle.csdl_schema.specs.SchemaModel.{SchemaModel};
-ghost use Rattle.odata_functions.specs.DatumVal.{Reading, datum_val};
-ghost use Rattle.odata_signatures.specs.OperatorClass.{class_of};
+ghost use Rattle.odata_functions.specs.Comparison.{AreEqual, ComparesTrue, IsGreater};
 ghost use Rattle.odata_signatures.specs.TypeView.{expr_type};
-ghost use Rattle.odata_eval.specs.CalculationGives.{CalculationGives, NegatedGives, number_outcome};
+ghost use Rattle.odata_eval.specs.CalculationGives.{CalculationGives, NegatedGives, number_outcome, number_val};
 ghost use Rattle.odata_eval.specs.TruthGives.{joined, truth_val};
-ghost use Rattle.odata_eval.specs.private.DatumView.{datum_outcome};
-ghost use Rattle.odata_eval.specs.private.Operands.{AppliedGives, AreNumbers, IsOneNumber, MayApply};
+ghost use Rattle.odata_eval.specs.private.DatumView.{answer_outcome};
+ghost use Rattle.odata_eval.specs.private.Operands.{AreNumbers, IsOneNumber};
 ghost use Rattle.odata_eval.specs.private.WalkClass.{IsDecided};
 
 use super::fault::EvalFault;
-use edm_values::{Datum, Prim};
+use edm_values::Prim;
 use odata_functions::{
-    ArithFault, ArithmeticOperator, and3, arith, compare, comparisons_are_decided, negate, or3,
+    ArithFault, ArithmeticOperator, ComparisonOperator, and3, arith, negate, or3,
 };
-use odata_signatures::{Connective, EdmType, OperatorClass, ValueType, class_of};
-use odata_syntax::BinaryOperator;
+use odata_signatures::{Connective, EdmType, ValueType};
 
 /// Whether the left truth value alone decides.
 pub(crate) fn decides(connective: Connective, left: Option<bool>) -> bool
@@ -29,71 +27,89 @@ pub(crate) fn decides(connective: Connective, left: Option<bool>) -> bool
     }
 }
 
-/// What a connective makes of two truth values.
+/// What a connective makes of two truth values, the left one of which does not decide. A left one that is no null leaves
+/// the right one as it is.
 pub(crate) fn join(connective: Connective, left: Option<bool>, right: Option<bool>) -> Option<bool>
+    requires { ¬ IsDecided connective (truth_val left) }
     ensures { result ≡ joined connective left right }
 {
+    if left.is_some() {
+        return right;
+    }
     match connective {
-        Connective::And => and3(left, right),
-        Connective::Or => or3(left, right),
+        Connective::And => and3(None, right),
+        Connective::Or => or3(None, right),
     }
 }
 
-/// What any other operator makes of two values, where its node has that type.
-pub(crate) fn applied<'e>(
-    operator: BinaryOperator,
-    edm_type: EdmType,
-    left: &Datum<'_>,
-    right: &Datum<'_>,
-) -> Result<Datum<'e>, EvalFault>
-    requires { (schema : SchemaModel) (l r : Reading) → MayApply (class_of operator) (expr_type schema edm_type)
-        (datum_val l left.now) (datum_val r right.now) }
-    ensures { (schema : SchemaModel) (l r reading : Reading) → IsSomeAnd (datum_outcome reading result)
-        (AppliedGives (class_of operator) (expr_type schema edm_type)
-        (datum_val l left.now) (datum_val r right.now)) }
+/// Whether the comparison of two numbers or nulls is true.
+#[inline(always)]
+pub(crate) fn compare_numbers(
+    comparison: ComparisonOperator,
+    left: Option<i64>,
+    right: Option<i64>,
+) -> bool
+    ensures { IsTrue result ↔ ComparesTrue comparison (number_val left) (number_val right) }
 {
-    match class_of(operator) {
-        OperatorClass::Connective(_) => unreachable!(),
-        OperatorClass::Comparison(comparison) => {
-            comparisons_are_decided();
-            Ok(Datum::Bool(compare(comparison, left, right)))
-        }
-        OperatorClass::Arithmetic(arithmetic) => calculated(arithmetic, edm_type, left, right),
+    match comparison {
+        ComparisonOperator::Eq => are_equal(left, right),
+        ComparisonOperator::Ne => !are_equal(left, right),
+        ComparisonOperator::Gt => is_greater(left, right),
+        ComparisonOperator::Ge => is_greater(left, right) || are_equal(left, right),
+        ComparisonOperator::Lt => is_greater(right, left),
+        ComparisonOperator::Le => is_greater(right, left) || are_equal(left, right),
     }
 }
 
-/// What arithmetic makes of two numbers or nulls.
-fn calculated<'e>(
-    operator: ArithmeticOperator,
-    edm_type: EdmType,
-    left: &Datum<'_>,
-    right: &Datum<'_>,
-) -> Result<Datum<'e>, EvalFault>
-    requires { (schema : SchemaModel) (l r : Reading) → AreNumbers (expr_type schema edm_type)
-        (datum_val l left.now) (datum_val r right.now) }
-    ensures { (schema : SchemaModel) (l r reading : Reading) → IsSomeAnd (datum_outcome reading result)
-        (CalculationGives operator (expr_type schema edm_type) (datum_val l left.now) (datum_val r right.now)) }
+/// Whether they are equal. Null equals itself and nothing else.
+fn are_equal(left: Option<i64>, right: Option<i64>) -> bool
+    ensures { IsTrue result ↔ AreEqual (number_val left) (number_val right) }
 {
     match left {
-        Datum::Int(a) => match right {
-            Datum::Int(b) => told_number(arith(operator, prim_of(edm_type), Some(*a), Some(*b))),
-            _ => Ok(Datum::Null),
-        },
-        _ => Ok(Datum::Null),
+        Some(l) => matches!(right, Some(r) if l == r),
+        None => right.is_none(),
     }
 }
 
-/// The negation of a number or null.
-pub(crate) fn negated<'e>(edm_type: EdmType, operand: &Datum<'_>) -> Result<Datum<'e>, EvalFault>
-    requires { (schema : SchemaModel) (l : Reading)
-        → IsOneNumber (expr_type schema edm_type) (datum_val l operand.now) }
-    ensures { (schema : SchemaModel) (l reading : Reading) → IsSomeAnd (datum_outcome reading result)
-        (NegatedGives (expr_type schema edm_type) (datum_val l operand.now)) }
+/// Whether the left one is the greater. Null is greater than nothing, and nothing than null.
+fn is_greater(left: Option<i64>, right: Option<i64>) -> bool
+    ensures { IsTrue result ↔ IsGreater (number_val left) (number_val right) }
+{
+    match left {
+        Some(l) => matches!(right, Some(r) if l > r),
+        None => false,
+    }
+}
+
+/// What arithmetic makes of two numbers or nulls, where its node has that type.
+pub(crate) fn calculated(
+    operator: ArithmeticOperator,
+    edm_type: EdmType,
+    left: Option<i64>,
+    right: Option<i64>,
+) -> Result<Option<i64>, EvalFault>
+    requires { (schema : SchemaModel) → AreNumbers (expr_type schema edm_type) (number_val left) (number_val right) }
+    ensures { (schema : SchemaModel) → IsSomeAnd (answer_outcome number_val result)
+        (CalculationGives operator (expr_type schema edm_type) (number_val left) (number_val right)) }
+{
+    match left {
+        Some(a) => match right {
+            Some(b) => told_number(arith(operator, prim_of(edm_type), Some(a), Some(b))),
+            None => Ok(None),
+        },
+        None => Ok(None),
+    }
+}
+
+/// The negation of a number or null, where its node has that type.
+pub(crate) fn negated(edm_type: EdmType, operand: Option<i64>) -> Result<Option<i64>, EvalFault>
+    requires { (schema : SchemaModel) → IsOneNumber (expr_type schema edm_type) (number_val operand) }
+    ensures { (schema : SchemaModel) → IsSomeAnd (answer_outcome number_val result)
+        (NegatedGives (expr_type schema edm_type) (number_val operand)) }
 {
     match operand {
-        Datum::Int(n) => told_number(negate(prim_of(edm_type), Some(*n))),
-        Datum::Null => Ok(Datum::Null),
-        _ => unreachable!(),
+        Some(n) => told_number(negate(prim_of(edm_type), Some(n))),
+        None => Ok(None),
     }
 }
 
@@ -108,13 +124,12 @@ fn prim_of(edm_type: EdmType) -> Prim
     }
 }
 
-/// What came of numbers, as a value or a fault.
-fn told_number<'e>(answer: Result<Option<i64>, ArithFault>) -> Result<Datum<'e>, EvalFault>
-    ensures { (reading : Reading) → datum_outcome reading result ≡ Some (number_outcome answer) }
+/// What came of numbers, its fault as one of the evaluator's.
+fn told_number(answer: Result<Option<i64>, ArithFault>) -> Result<Option<i64>, EvalFault>
+    ensures { answer_outcome number_val result ≡ Some (number_outcome answer) }
 {
     match answer {
-        Ok(Some(n)) => Ok(Datum::Int(n)),
-        Ok(None) => Ok(Datum::Null),
+        Ok(number) => Ok(number),
         Err(ArithFault::Overflow) => Err(EvalFault::Overflow),
         Err(ArithFault::DivideByZero) => Err(EvalFault::DivideByZero),
     }

@@ -6,14 +6,16 @@ ghost use Rattle.edm_values.specs.MomentParts.{MomentParts};
 
 use edm_entities::Entity;
 use edm_values::Value;
-use odata_signatures::{OperatorClass, class_of};
+use odata_signatures::{EdmType, OperatorClass, ValueType, class_of};
 use odata_typing::{Checked, CheckedNode, NodeKind};
 
-/// How the walk takes a node: as a value that is there, by the truth values of its operands, or by their values.
+/// How the walk takes a node: as a value that is there, by the truth values of its operands, by their numbers, or by
+/// their values.
 #[derive(Clone, Copy, PartialEq, Eq)]
 pub(crate) enum WalkClass {
     Leaf,
     Logical,
+    Numeric,
     Eager,
 }
 
@@ -24,11 +26,13 @@ pub(crate) enum Part<'e> {
     Leaf(&'e Value),
     /// A node of truth values: a connective or `not`.
     Logical,
+    /// A node of numbers: an arithmetic operator or `-`.
+    Numeric,
     /// Any other node with operands.
     Eager,
 }
 
-ghost use Rattle.odata_eval.specs.private.Place.{IsClassAt, IsRightOf, PartStands};
+ghost use Rattle.odata_eval.specs.private.Place.{HasNumberType, IsClassAt, IsRightOf, PartStands};
 ghost use Rattle.odata_eval.specs.private.WalkAnswer.{AnswersKept, HoldsAt, IsPart};
 ghost use Rattle.odata_eval.specs.private.WalkClass.{walk_of_kind};
 
@@ -42,12 +46,12 @@ fn walk_of_kind(kind: NodeKind) -> WalkClass
         NodeKind::Property { .. } => WalkClass::Leaf,
         NodeKind::Variable { .. } => WalkClass::Leaf,
         NodeKind::Member { .. } => WalkClass::Eager,
-        NodeKind::Neg => WalkClass::Eager,
+        NodeKind::Neg => WalkClass::Numeric,
         NodeKind::Not => WalkClass::Logical,
         NodeKind::Binary { operator } => match class_of(operator) {
             OperatorClass::Connective(_) => WalkClass::Logical,
             OperatorClass::Comparison(_) => WalkClass::Eager,
-            OperatorClass::Arithmetic(_) => WalkClass::Eager,
+            OperatorClass::Arithmetic(_) => WalkClass::Numeric,
         },
     }
 }
@@ -93,6 +97,7 @@ pub(crate) fn part_at<'e>(
     match walk_of_kind(kind) {
         WalkClass::Leaf => Part::Leaf(leaf_at(checked, entity, place)),
         WalkClass::Logical => Part::Logical,
+        WalkClass::Numeric => Part::Numeric,
         WalkClass::Eager => Part::Eager,
     }
 }
@@ -119,6 +124,17 @@ pub(crate) fn is_class_at(checked: &Checked<'_>, place: usize, class: WalkClass)
     match checked.nodes().get(place) {
         Some(node) => walk_of_kind(node.kind) == class,
         None => false,
+    }
+}
+
+/// Whether the node in a place has a number type.
+pub(crate) fn has_number_type_at(checked: &Checked<'_>, place: usize) -> bool
+    requires { place < length checked.now.list.nodes }
+    ensures { IsTrue result → HasNumberType checked.now.list place }
+{
+    match node_at(checked, place).edm_type {
+        EdmType::Single(ValueType::Prim(prim)) => prim.is_number(),
+        _ => false,
     }
 }
 

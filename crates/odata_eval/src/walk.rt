@@ -1,22 +1,27 @@
 //! The walk of a filter's list: each function goes by the place of a node. A chain of nodes, each the first operand of
 //! the one before, lies in the list as nodes one behind another, so the walk goes down it to its first value and up again
 //! by counting, and long chains take no stack.
+//!
+//! What is asked at each node is marked to be inlined, so that an answer is not passed on through memory.
 ghost use Rattle.std.specs.Prelude.{◌+◌, [], Ok};
 ghost use Rattle.edm_entities.specs.Row.{IsEntity};
-ghost use Rattle.odata_eval.specs.private.Place.{HasOperator, HasConnective, IsClassAt, PartStands, TruthStands};
-ghost use Rattle.odata_eval.specs.private.WalkAnswer.{AnswersDatum, AnswersTruth};
+ghost use Rattle.odata_eval.specs.private.Place.{HasOperatorOf, IsClassAt, NumberStands, PartStands, TruthStands};
+ghost use Rattle.odata_eval.specs.private.Sides.{AreNumberSides};
+ghost use Rattle.odata_eval.specs.private.WalkAnswer.{AnswersDatum, AnswersNumber, AnswersTruth};
 
-use super::compared::kept_sides_at;
-use super::datum::{datum_of, datum_of_truth, step, truth_of};
+use super::compared::{NumberSides, Sides, sides_at};
+use super::datum::{datum_of, datum_of_number, datum_of_truth, number_of, step, truth_of};
 use super::fault::EvalFault;
 use super::laws::typed_trees_end_once_on_entities;
-use super::operators::{applied, decides, join, negated};
+use super::operators::{calculated, compare_numbers, decides, join, negated};
 use super::part::{Part, WalkClass, is_class_at, node_at, part_at, right_of, spine_bottom};
 use edm_entities::Entity;
 use edm_values::{Datum, Moment};
-use odata_functions::{compare, comparisons_are_decided, not3, operands_lie_within_promotion};
+use odata_functions::{
+    ArithmeticOperator, ComparisonOperator, compare, comparisons_are_decided, not3,
+    operands_lie_within_promotion,
+};
 use odata_signatures::{Connective, OperatorClass, class_of};
-use odata_syntax::BinaryOperator;
 use odata_typing::{Checked, NodeKind, trees_have_one_type};
 
 /// What a node of type Boolean or Null comes to on an entity of the filtered type.
@@ -43,6 +48,7 @@ pub(crate) fn truth_at<'e>(
 
 /// The same, of a node that is none of truth values.
 #[cycle(evaluate)]
+#[inline(always)]
 fn plain_truth_at<'e>(
     checked: &'e Checked<'_>,
     entity: &'e Entity<'_>,
@@ -55,20 +61,52 @@ fn plain_truth_at<'e>(
     ensures { AnswersTruth entity.now now.now [] checked.now.list place result }
 {
     typed_trees_end_once_on_entities();
-    trees_have_one_type();
     operands_lie_within_promotion();
     comparisons_are_decided();
     match part_at(checked, entity, place) {
         Part::Leaf(value) => Ok(truth_of(&datum_of(value))),
         Part::Logical => unreachable!(),
-        Part::Eager => match kept_sides_at(checked, entity, place) {
-            Some(sides) => Ok(Some(compare(
+        Part::Numeric => match number_at(checked, entity, now, place) {
+            Ok(number) => Ok(truth_of(&datum_of_number(number))),
+            Err(fault) => Err(fault),
+        },
+        Part::Eager => match sides_at(checked, entity, place) {
+            Sides::Kept(sides) => Ok(Some(compare(
                 sides.comparison,
                 &datum_of(sides.left),
                 &datum_of(sides.right),
             ))),
-            None => made_truth_at(checked, entity, now, place),
+            Sides::Numbers(sides) => numbers_truth_at(checked, entity, now, place, sides),
+            Sides::Others => made_truth_at(checked, entity, now, place),
         },
+    }
+}
+
+/// The same, of a comparison of numbers.
+#[cycle(evaluate)]
+#[inline(always)]
+fn numbers_truth_at<'e>(
+    checked: &'e Checked<'_>,
+    entity: &'e Entity<'_>,
+    now: &Moment,
+    place: usize,
+    sides: NumberSides,
+) -> Result<Option<bool>, EvalFault>
+    requires entity { IsEntity entity.now }
+    requires stands { PartStands entity.now [] checked.now.list place }
+    requires sides { AreNumberSides entity.now [] checked.now.list place sides }
+    ensures { AnswersTruth entity.now now.now [] checked.now.list place result }
+{
+    typed_trees_end_once_on_entities();
+    operands_lie_within_promotion();
+    comparisons_are_decided();
+    let left = match left_number_at(checked, entity, now, place + 1) {
+        Ok(left) => left,
+        Err(fault) => return Err(fault),
+    };
+    match number_operand_at(checked, entity, now, sides.right_place) {
+        Ok(right) => Ok(Some(compare_numbers(sides.comparison, left, right))),
+        Err(fault) => Err(fault),
     }
 }
 
@@ -153,7 +191,7 @@ fn connected_at<'e>(
 ) -> Result<Option<bool>, EvalFault>
     requires entity { IsEntity entity.now }
     requires stands { PartStands entity.now [] checked.now.list place }
-    requires connective { HasConnective checked.now.list place connective }
+    requires connective { HasOperatorOf checked.now.list place (OperatorClass.Connective connective) }
     requires left { AnswersTruth entity.now now.now [] checked.now.list (place + 1) (Ok left) }
     ensures { AnswersTruth entity.now now.now [] checked.now.list place result }
 {
@@ -163,6 +201,170 @@ fn connected_at<'e>(
     }
     match side_at(checked, entity, now, right_of(checked, place)) {
         Ok(right) => Ok(join(connective, left, right)),
+        Err(fault) => Err(fault),
+    }
+}
+
+/// What a node of numbers comes to.
+#[cycle(evaluate)]
+fn number_at<'e>(
+    checked: &'e Checked<'_>,
+    entity: &'e Entity<'_>,
+    now: &Moment,
+    place: usize,
+) -> Result<Option<i64>, EvalFault>
+    requires entity { IsEntity entity.now }
+    requires stands { PartStands entity.now [] checked.now.list place }
+    requires numeric { IsClassAt checked.now.list WalkClass.Numeric place }
+    ensures { AnswersNumber entity.now now.now [] checked.now.list place result }
+{
+    number_chain_at(checked, entity, now, place)
+}
+
+/// The same, for where most of these nodes stand.
+#[cycle(evaluate)]
+#[inline(always)]
+fn number_chain_at<'e>(
+    checked: &'e Checked<'_>,
+    entity: &'e Entity<'_>,
+    now: &Moment,
+    place: usize,
+) -> Result<Option<i64>, EvalFault>
+    requires entity { IsEntity entity.now }
+    requires stands { PartStands entity.now [] checked.now.list place }
+    requires numeric { IsClassAt checked.now.list WalkClass.Numeric place }
+    ensures { AnswersNumber entity.now now.now [] checked.now.list place result }
+{
+    let bottom = spine_bottom(checked, place, WalkClass::Numeric);
+    let mut answer = number_operand_at(checked, entity, now, bottom);
+    let mut at = bottom;
+    while place < at {
+        at -= 1;
+        answer = numeric_at(checked, entity, now, at, answer);
+    }
+    answer
+}
+
+/// What a node of a number type or Null comes to, where a chain is likely.
+#[cycle(evaluate)]
+#[inline(always)]
+fn left_number_at<'e>(
+    checked: &'e Checked<'_>,
+    entity: &'e Entity<'_>,
+    now: &Moment,
+    place: usize,
+) -> Result<Option<i64>, EvalFault>
+    requires entity { IsEntity entity.now }
+    requires stands { NumberStands entity.now [] checked.now.list place }
+    ensures { AnswersNumber entity.now now.now [] checked.now.list place result }
+{
+    if is_class_at(checked, place, WalkClass::Numeric) {
+        return number_chain_at(checked, entity, now, place);
+    }
+    number_operand_at(checked, entity, now, place)
+}
+
+/// The same, where a value is likely that is kept.
+#[cycle(evaluate)]
+#[inline(always)]
+fn number_operand_at<'e>(
+    checked: &'e Checked<'_>,
+    entity: &'e Entity<'_>,
+    now: &Moment,
+    place: usize,
+) -> Result<Option<i64>, EvalFault>
+    requires entity { IsEntity entity.now }
+    requires stands { NumberStands entity.now [] checked.now.list place }
+    ensures { AnswersNumber entity.now now.now [] checked.now.list place result }
+{
+    typed_trees_end_once_on_entities();
+    match part_at(checked, entity, place) {
+        Part::Leaf(value) => Ok(number_of(&datum_of(value))),
+        _ => made_number_at(checked, entity, now, place),
+    }
+}
+
+/// The same, of a node whose value is made.
+#[cycle(evaluate)]
+fn made_number_at<'e>(
+    checked: &'e Checked<'_>,
+    entity: &'e Entity<'_>,
+    now: &Moment,
+    place: usize,
+) -> Result<Option<i64>, EvalFault>
+    requires entity { IsEntity entity.now }
+    requires stands { NumberStands entity.now [] checked.now.list place }
+    ensures { AnswersNumber entity.now now.now [] checked.now.list place result }
+{
+    typed_trees_end_once_on_entities();
+    if is_class_at(checked, place, WalkClass::Numeric) {
+        return number_at(checked, entity, now, place);
+    }
+    match &operand_at(checked, entity, now, place) {
+        Ok(value) => Ok(number_of(value)),
+        Err(fault) => Err(*fault),
+    }
+}
+
+/// What a node of numbers comes to, whose first operand has been answered.
+#[cycle(evaluate)]
+#[inline(always)]
+fn numeric_at<'e>(
+    checked: &'e Checked<'_>,
+    entity: &'e Entity<'_>,
+    now: &Moment,
+    place: usize,
+    first: Result<Option<i64>, EvalFault>,
+) -> Result<Option<i64>, EvalFault>
+    requires entity { IsEntity entity.now }
+    requires stands { PartStands entity.now [] checked.now.list place }
+    requires numeric { IsClassAt checked.now.list WalkClass.Numeric place }
+    requires first { AnswersNumber entity.now now.now [] checked.now.list (place + 1) first }
+    ensures { AnswersNumber entity.now now.now [] checked.now.list place result }
+{
+    typed_trees_end_once_on_entities();
+    trees_have_one_type();
+    operands_lie_within_promotion();
+    let first = match first {
+        Ok(first) => first,
+        Err(fault) => return Err(fault),
+    };
+    let node = node_at(checked, place);
+    match node.kind {
+        NodeKind::Neg => negated(node.edm_type, first),
+        NodeKind::Binary { operator } => match class_of(operator) {
+            OperatorClass::Arithmetic(arithmetic) => {
+                calculated_at(checked, entity, now, place, arithmetic, first)
+            }
+            _ => unreachable!(),
+        },
+        _ => unreachable!(),
+    }
+}
+
+/// What an arithmetic operator comes to.
+#[cycle(evaluate)]
+#[inline(always)]
+fn calculated_at<'e>(
+    checked: &'e Checked<'_>,
+    entity: &'e Entity<'_>,
+    now: &Moment,
+    place: usize,
+    arithmetic: ArithmeticOperator,
+    left: Option<i64>,
+) -> Result<Option<i64>, EvalFault>
+    requires entity { IsEntity entity.now }
+    requires stands { PartStands entity.now [] checked.now.list place }
+    requires arithmetic { HasOperatorOf checked.now.list place (OperatorClass.Arithmetic arithmetic) }
+    requires left { AnswersNumber entity.now now.now [] checked.now.list (place + 1) (Ok left) }
+    ensures { AnswersNumber entity.now now.now [] checked.now.list place result }
+{
+    typed_trees_end_once_on_entities();
+    trees_have_one_type();
+    operands_lie_within_promotion();
+    let edm_type = node_at(checked, place).edm_type;
+    match number_operand_at(checked, entity, now, right_of(checked, place)) {
+        Ok(right) => calculated(arithmetic, edm_type, left, right),
         Err(fault) => Err(fault),
     }
 }
@@ -183,6 +385,10 @@ fn operand_at<'e>(
         Part::Leaf(value) => Ok(datum_of(value)),
         Part::Logical => match truth_at(checked, entity, now, place) {
             Ok(truth) => Ok(datum_of_truth(truth)),
+            Err(fault) => Err(fault),
+        },
+        Part::Numeric => match number_at(checked, entity, now, place) {
+            Ok(number) => Ok(datum_of_number(number)),
             Err(fault) => Err(fault),
         },
         Part::Eager => eager_at(checked, entity, now, place),
@@ -229,50 +435,47 @@ fn made_at<'e>(
 {
     typed_trees_end_once_on_entities();
     trees_have_one_type();
-    operands_lie_within_promotion();
     let first = match first {
         Ok(first) => first,
         Err(before) => return Err(*before),
     };
-    let node = node_at(checked, place);
-    match node.kind {
+    match node_at(checked, place).kind {
         NodeKind::Member { slot } => Ok(step(first, slot)),
-        NodeKind::Neg => negated(node.edm_type, first),
-        NodeKind::Binary { operator } => {
-            applied_at(checked, entity, now, place, operator, first)
-        }
+        NodeKind::Binary { operator } => match class_of(operator) {
+            OperatorClass::Comparison(comparison) => {
+                compared_at(checked, entity, now, place, comparison, first)
+            }
+            _ => unreachable!(),
+        },
         _ => unreachable!(),
     }
 }
 
-/// What an operator comes to that takes the values of both sides.
+/// What a comparison comes to.
 #[cycle(evaluate)]
-fn applied_at<'e>(
+fn compared_at<'e>(
     checked: &'e Checked<'_>,
     entity: &'e Entity<'_>,
     now: &Moment,
     place: usize,
-    operator: BinaryOperator,
+    comparison: ComparisonOperator,
     left: &Datum<'_>,
 ) -> Result<Datum<'e>, EvalFault>
     requires entity { IsEntity entity.now }
     requires stands { PartStands entity.now [] checked.now.list place }
-    requires eager { IsClassAt checked.now.list WalkClass.Eager place }
-    requires operator { HasOperator checked.now.list place operator }
+    requires comparison { HasOperatorOf checked.now.list place (OperatorClass.Comparison comparison) }
     requires left { AnswersDatum entity.now now.now [] checked.now.list (place + 1) (Ok left.now) }
     ensures { AnswersDatum entity.now now.now [] checked.now.list place result }
 {
     typed_trees_end_once_on_entities();
-    trees_have_one_type();
     operands_lie_within_promotion();
     comparisons_are_decided();
     let right_place = right_of(checked, place);
-    let edm_type = node_at(checked, place).edm_type;
     if let Part::Leaf(value) = part_at(checked, entity, right_place) {
-        return applied(operator, edm_type, left, &datum_of(value));
+        return Ok(Datum::Bool(compare(comparison, left, &datum_of(value))));
     }
     match &operand_at(checked, entity, now, right_place) {
-        Ok(right) => applied(operator, edm_type, left, right),
+        Ok(right) => Ok(Datum::Bool(compare(comparison, left, right))),
         Err(behind) => Err(*behind),
     }
 }

@@ -13,11 +13,11 @@ use Rattle.odata_functions.specs.declared.arithmetic.ArithmeticOperator.{Arithme
 use Rattle.odata_signatures.specs.TypeView.{expr_type}
 use Rattle.odata_signatures.specs.declared.edm_type.EdmType.{EdmType}
 use Rattle.odata_signatures.specs.declared.edm_type.ValueType.{ValueType}
-use Rattle.odata_eval.specs.CalculationGives.{CalculationGives}
+use Rattle.odata_eval.specs.CalculationGives.{CalculationGives, number_val}
 use Rattle.odata_eval.specs.Outcome.{gives}
 use Rattle.odata_eval.specs.TruthGives.{truth_val}
 use Rattle.odata_eval.specs.private.Operands.{AreNumbers, IsOneNumber}
-use Rattle.odata_eval.proofs.meaning.Kinds.{IsOfKind, truths}
+use Rattle.odata_eval.proofs.meaning.Kinds.{IsOfKind, truths, wholes}
 
 -- a reading and a schema, for facts of all of them
 pub one_reading : Reading
@@ -82,29 +82,25 @@ kind_promoted type n p number is = let same : number.kind ≡ p = cc in subst Is
 pub kind_within : (type : EdmType) (n : ℤ) (p : PrimitiveType) → NumberIn type n → type ≡ EdmType.Single (ValueType.Prim p) → IsNumberOf p n
 kind_within type n p number is = let same : number.kind ≡ p = cc in subst (λ (q : PrimitiveType). IsNumberOf q n) same number.within
 
--- a number or null is no other value
-pub no_other_number : (reading : Reading) (type : ExprType) (made : Datum) → IsOneNumber type (datum_val reading made)
+-- ---- no number
+
+number_kind : (number : Option ℤ) → IsOfKind wholes (number_val number)
+number_kind (Some n) = tt
+number_kind None = tt
+
+numbers_alone : (reading : Reading) (made : Datum) → IsOfKind wholes (datum_val reading made)
     → (made ≡ datum.Null → ⊥) → ((n : ℤ) → made ≡ datum.Int n → ⊥) → ⊥
-no_other_number reading type datum.Null is not_null not_int = not_null refl
-no_other_number reading type (datum.Int n) is not_null not_int = not_int n refl
-no_other_number reading type _ is not_null not_int = absurd is
+numbers_alone reading datum.Null is not_null not_int = not_null refl
+numbers_alone reading (datum.Int n) is not_null not_int = not_int n refl
+numbers_alone reading _ is not_null not_int = absurd is
 
--- ---- two numbers
+-- a number or null is no other value
+pub no_other_number : (reading : Reading) (made : Datum) (number : Option ℤ) → datum_val reading made ≡ number_val number
+    → (made ≡ datum.Null → ⊥) → ((n : ℤ) → made ≡ datum.Int n → ⊥) → ⊥
+no_other_number reading made number is not_null not_int =
+    numbers_alone reading made (subst (IsOfKind wholes) (sym is) (number_kind number)) not_null not_int
 
--- beside what is no number the operator gives null
-pub left_null : (operator : ArithmeticOperator) (type : ExprType) (l r : Reading) (left right : Datum) → AreNumbers type (datum_val l left) (datum_val r right)
-    → ((n : ℤ) → left ≡ datum.Int n → ⊥) → CalculationGives operator type (datum_val l left) (datum_val r right) (gives null)
-left_null operator type l r datum.Null datum.Null are not_int = refl
-left_null operator type l r datum.Null (datum.Int b) are not_int = refl
-left_null operator type l r (datum.Int a) right are not_int = absurd (not_int a refl)
-left_null operator type l r datum.Null _ are not_int = absurd are
-left_null operator type l r _ right are not_int = absurd are
-
-pub right_null : (operator : ArithmeticOperator) (type : ExprType) (l r : Reading) (left right : Datum) → AreNumbers type (datum_val l left) (datum_val r right)
-    → ((n : ℤ) → right ≡ datum.Int n → ⊥) → CalculationGives operator type (datum_val l left) (datum_val r right) (gives null)
-right_null operator type l r datum.Null datum.Null are not_int = refl
-right_null operator type l r (datum.Int a) datum.Null are not_int = refl
-right_null operator type l r left (datum.Int b) are not_int = absurd (not_int b refl)
-right_null operator type l r datum.Null _ are not_int = absurd are
-right_null operator type l r (datum.Int a) _ are not_int = absurd are
-right_null operator type l r _ right are not_int = absurd are
+-- behind null the operator gives null
+pub null_left : (operator : ArithmeticOperator) (type : ExprType) (right : Option ℤ) → CalculationGives operator type null (number_val right) (gives null)
+null_left operator type (Some b) = refl
+null_left operator type None = refl

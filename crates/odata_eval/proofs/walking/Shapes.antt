@@ -86,3 +86,8 @@ found_there P None x is holds = absurd holds
 
 pub there_found : {X : Type 0} (P : X → Type 0) (held : Option X) (x : X) → held ≡ Some x → P x → IsSomeAnd held P
 there_found {X = X} P held x is holds = subst (λ (o : Option X). IsSomeAnd o P) (sym is) holds
+
+-- what holds of something there holds of some thing there
+pub some_there : {X : Type 0} (P : X → Type 0) (held : Option X) → IsSomeAnd held P → (x : X) × (held ≡ Some x)
+some_there P (Some x) holds = (x, refl)
+some_there P None holds = absurd holds

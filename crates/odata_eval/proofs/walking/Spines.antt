@@ -1,15 +1,15 @@
 -- What stands behind an operator, and down a chain of them.
-use Rattle.std.proofs.Common.{◌≡◌, ◌≢◌, ◌∙◌, ℕ, ◌<◌, ◌+◌, Option, Some, None, slice_get, refl, sym, subst, arith}
+use Rattle.std.proofs.Common.{◌≡◌, ◌≢◌, ◌∙◌, ℕ, ◌<◌, ◌+◌, Option, Some, None, slice_get, ap, refl, sym, subst, arith}
 use Rattle.std.specs.Prelude.{IsSomeAnd}
 use Rattle.odata_syntax.specs.Tree.{Tree, node, literal, it, name, member, negation, logical_not, binary}
 use Rattle.odata_syntax.specs.declared.node.BinaryOperator.{BinaryOperator}
+use Rattle.csdl_schema.specs.ExprType.{ExprType}
 use Rattle.edm_entities.specs.Row.{Row}
 use Rattle.odata_eval.specs.declared.part.WalkClass.{WalkClass}
-use Rattle.odata_eval.specs.private.WalkClass.{walk_of_kind}
-use Rattle.odata_eval.specs.private.Place.{HasConnective, IsClassAt, IsConnective, IsRightOf, PartStands, TruthStands}
+use Rattle.odata_eval.specs.private.WalkClass.{walk_of_kind, walk_of_operator}
+use Rattle.odata_eval.specs.private.Place.{HasOperatorOf, IsClassAt, IsOperatorOf, IsRightOf, PartStands, TypedStands}
 use Rattle.odata_typing.specs.declared.checked_node.CheckedNode.{CheckedNode}
 use Rattle.odata_typing.specs.declared.checked_node.NodeKind.{NodeKind}
-use Rattle.odata_signatures.specs.declared.operator_class.Connective.{Connective}
 use Rattle.odata_signatures.specs.declared.operator_class.OperatorClass.{OperatorClass}
 use Rattle.odata_typing.specs.FlatTree.{FlatTree}
 use Rattle.odata_signatures.specs.OperatorClass.{class_of}
@@ -34,33 +34,33 @@ kind_of_class list place class is =
     let found = there class (slice_get list.nodes place) is in
     record { kind = found.0; here = found.1.0; walk = found.1.1 }
 
--- the class of a place is that of the kind that is there
-same_class : (class : WalkClass) (kind : NodeKind) (held : Option CheckedNode) → IsSomeAnd held (λ found. walk_of_kind found.kind ≡ class)
-    → IsSomeAnd held (λ found. found.kind ≡ kind) → walk_of_kind kind ≡ class
-same_class class kind (Some found) walk is = subst (λ (k : NodeKind). walk_of_kind k ≡ class) is walk
-same_class class kind None walk is = absurd walk
-
-pub class_of_place : (list : FlatTree) (place : ℕ) (class : WalkClass) (kind : NodeKind) → IsClassAt list class place → HasKind list place kind → walk_of_kind kind ≡ class
-class_of_place list place class kind is here = same_class class kind (slice_get list.nodes place) is here
-
--- which operator a connective is
-pub record OperatorThere (list : FlatTree) (place : ℕ) (connective : Connective) : Type 0 where
+-- which operator of the class it is
+pub record OperatorThere (list : FlatTree) (place : ℕ) (class : OperatorClass) : Type 0 where
   pub operator : BinaryOperator
   pub here : HasKind list place (NodeKind.Binary operator)
-  pub class : class_of operator ≡ OperatorClass.Connective connective
+  pub class_is : class_of operator ≡ class
 
-connective_in : (connective : Connective) (held : Option CheckedNode) → IsSomeAnd held (λ found. IsConnective connective found.kind)
-    → (operator : BinaryOperator) × (IsSomeAnd held (λ found. found.kind ≡ NodeKind.Binary operator) × (class_of operator ≡ OperatorClass.Connective connective))
-connective_in connective (Some found) is = (is.operator, (is.kind_is, is.class))
-connective_in connective None is = absurd is
+operator_in : (class : OperatorClass) (held : Option CheckedNode) → IsSomeAnd held (λ found. IsOperatorOf class found.kind)
+    → (operator : BinaryOperator) × (IsSomeAnd held (λ found. found.kind ≡ NodeKind.Binary operator) × (class_of operator ≡ class))
+operator_in class (Some found) is = (is.operator, (is.kind_is, is.class_is))
+operator_in class None is = absurd is
 
-pub operator_of_connective : (list : FlatTree) (place : ℕ) (connective : Connective) → HasConnective list place connective → OperatorThere list place connective
-operator_of_connective list place connective is =
-    let there = connective_in connective (slice_get list.nodes place) is in
-    record { operator = there.0; here = there.1.0; class = there.1.1 }
+class_in : (class : OperatorClass) (held : Option CheckedNode) → IsSomeAnd held (λ found. IsOperatorOf class found.kind)
+    → IsSomeAnd held (λ found. walk_of_kind found.kind ≡ walk_of_operator class)
+class_in class (Some found) is = ap walk_of_kind is.kind_is ∙ ap walk_of_operator is.class_is
+class_in class None is = absurd is
 
-pub truth_part : (row : Row) (scope : Scope) (list : FlatTree) (place : ℕ) → TruthStands row scope list place → PartStands row scope list place
-truth_part row scope list place truth = record { stop = truth.stop; tree = truth.tree; stands = truth.stands }
+pub operator_of_class : (list : FlatTree) (place : ℕ) (class : OperatorClass) → HasOperatorOf list place class → OperatorThere list place class
+operator_of_class list place class is =
+    let there = operator_in class (slice_get list.nodes place) is in
+    record { operator = there.0; here = there.1.0; class_is = there.1.1 }
+
+-- the walk takes it by its class
+pub class_there : (list : FlatTree) (place : ℕ) (class : OperatorClass) → HasOperatorOf list place class → IsClassAt list (walk_of_operator class) place
+class_there list place class is = class_in class (slice_get list.nodes place) is
+
+pub typed_part : (row : Row) (scope : Scope) (list : FlatTree) (place : ℕ) (Allowed : ExprType → Type 0) → TypedStands row scope list place Allowed → PartStands row scope list place
+typed_part row scope list place Allowed typed = record { stop = typed.stop; tree = typed.tree; stands = typed.stands }
 
 module _ (row : Row) (scope : Scope) (list : FlatTree) where
   pub further : (i j : ℕ) (tree : Tree) → Stands row.schema row.type_id scope list i j tree → i < j

@@ -11,8 +11,9 @@ use Rattle.odata_eval.specs.declared.fault.EvalFault.{EvalFault}
 use Rattle.odata_eval.specs.EndsOnce.{EndsOnceOnEntities}
 use Rattle.odata_eval.specs.MeansOn.{IsTheOutcome}
 use Rattle.odata_eval.specs.Outcome.{Outcome}
+use Rattle.odata_eval.specs.TruthGives.{truth_val}
 use Rattle.odata_eval.specs.VerdictView.{fault_outcome}
-use Rattle.odata_eval.specs.private.DatumView.{truth_outcome}
+use Rattle.odata_eval.specs.private.DatumView.{answer_outcome}
 use Rattle.odata_eval.specs.private.Place.{TruthStands}
 use Rattle.odata_eval.specs.private.WalkAnswer.{AnswersTruth}
 use Rattle.odata_eval.proofs.walking.WalkValues.{MeansAt}
@@ -36,7 +37,7 @@ module _ (filter : Filter) (row : Row) (right : IsFilter filter) (one_schema : f
     stands = whole_stands;
     type_of = right.type_of;
     typed = whole_typed;
-    truth = right.truth;
+    allowed = right.truth;
   }
 
   only_told : EndsOnceOnEntities → IsEntity row → (now : MomentParts) (told : Option Outcome)
@@ -57,6 +58,6 @@ module _ (filter : Filter) (row : Row) (right : IsFilter filter) (one_schema : f
 
   -- what the walk answers of it is the filter's one outcome
   pub top_outcome : EndsOnceOnEntities → IsEntity row → (now : MomentParts) (answer : Result (Option Bool) EvalFault)
-      → AnswersTruth row now [] filter.list 0 answer → IfSome (truth_outcome answer) (IsTheOutcome row now (tree_of_filter filter))
+      → AnswersTruth row now [] filter.list 0 answer → IfSome (answer_outcome truth_val answer) (IsTheOutcome row now (tree_of_filter filter))
   top_outcome ends entity now answer answers =
-      only_told ends entity now (truth_outcome answer) (answers.of_tree (length filter.list.nodes) (tree_of_filter filter) right.type_of whole_stands whole_typed)
+      only_told ends entity now (answer_outcome truth_val answer) (answers.of_tree (length filter.list.nodes) (tree_of_filter filter) right.type_of whole_stands whole_typed)

@@ -17,7 +17,7 @@ use Rattle.odata_eval.specs.declared.part.WalkClass.{WalkClass}
 use Rattle.odata_eval.specs.private.Place.{IsClassAt, IsRightOf, PartStands, TruthStands}
 use Rattle.odata_eval.specs.private.WalkClass.{walk_of_kind, walk_of_operator}
 use Rattle.odata_eval.proofs.walking.Parts.{HasKind, by_not, by_operator}
-use Rattle.odata_eval.proofs.walking.Spines.{first_part, kind_of_class, right_stands, truth_part}
+use Rattle.odata_eval.proofs.walking.Spines.{first_part, kind_of_class, right_stands, typed_part}
 
 -- what a connective takes and gives
 pub record TakesTruths (left right type : ExprType) : Type 0 where
@@ -39,7 +39,7 @@ module _ (row : Row) (scope : Scope) (list : FlatTree) (place : ℕ) (part : Par
         stands = stands.children;
         type_of = stands.top.typed.operand;
         typed = stands.top.typed.operand_typed;
-        truth = stands.top.typed.makes.0;
+        allowed = stands.top.typed.makes.0;
       })
       part.stop part.tree part.stands
 
@@ -51,7 +51,7 @@ module _ (row : Row) (scope : Scope) (list : FlatTree) (place : ℕ) (part : Par
         stands = stands.children.left;
         type_of = stands.top.typed.left;
         typed = stands.top.typed.left_typed;
-        truth = (takes_truths (class_of operator) stands.top.typed.left stands.top.typed.right _ logical stands.top.typed.operator_typed).left_truth;
+        allowed = (takes_truths (class_of operator) stands.top.typed.left stands.top.typed.right _ logical stands.top.typed.operator_typed).left_truth;
       })
       part.stop part.tree part.stands
 
@@ -64,7 +64,7 @@ module _ (row : Row) (scope : Scope) (list : FlatTree) (place : ℕ) (part : Par
         stands = right_stands row scope list place right_place stop from to operator left right is_right stands;
         type_of = stands.top.typed.right;
         typed = stands.top.typed.right_typed;
-        truth = (takes_truths (class_of operator) stands.top.typed.left stands.top.typed.right _ logical stands.top.typed.operator_typed).right_truth;
+        allowed = (takes_truths (class_of operator) stands.top.typed.left stands.top.typed.right _ logical stands.top.typed.operator_typed).right_truth;
       })
       part.stop part.tree part.stands
 
@@ -88,7 +88,7 @@ module _ (row : Row) (scope : Scope) (list : FlatTree) (place : ℕ) (part : Par
         stands = stands;
         type_of = expr_type row.schema stands.top.found.edm_type;
         typed = stands.top.typed;
-        truth = inl stands.top.typed.makes.1;
+        allowed = inl stands.top.typed.makes.1;
       })
       part.stop part.tree part.stands
   itself_truth (NodeKind.Binary operator) logical here = by_operator row scope list place (λ stop tree. TruthStands row scope list place) operator here
@@ -98,7 +98,7 @@ module _ (row : Row) (scope : Scope) (list : FlatTree) (place : ℕ) (part : Par
         stands = stands;
         type_of = expr_type row.schema stands.top.found.edm_type;
         typed = stands.top.typed;
-        truth = inl (takes_truths (class_of operator) stands.top.typed.left stands.top.typed.right _ logical stands.top.typed.operator_typed).gives_truth;
+        allowed = inl (takes_truths (class_of operator) stands.top.typed.left stands.top.typed.right _ logical stands.top.typed.operator_typed).gives_truth;
       })
       part.stop part.tree part.stands
   itself_truth (NodeKind.Literal kind value) logical here = absurd (cc)
@@ -114,10 +114,10 @@ module _ (row : Row) (scope : Scope) (list : FlatTree) (place : ℕ) (part : Par
   truth_step : IsClassAt list WalkClass.Logical place → TruthStands row scope list (place + 1)
   truth_step is = let there = kind_of_class list place WalkClass.Logical is in first_truth there.kind there.walk there.here
 
-  eager_step : IsClassAt list WalkClass.Eager place → PartStands row scope list (place + 1)
-  eager_step is =
-      let there = kind_of_class list place WalkClass.Eager is in
-      first_part row scope list place there.kind (λ leaf. let e : WalkClass.Eager ≡ WalkClass.Leaf = sym there.walk ∙ leaf in cc) there.here part
+  inner_step : (class : WalkClass) → ¬ (class ≡ WalkClass.Leaf) → IsClassAt list class place → PartStands row scope list (place + 1)
+  inner_step class inner is =
+      let there = kind_of_class list place class is in
+      first_part row scope list place there.kind (λ leaf. inner (sym there.walk ∙ leaf)) there.here part
 
 -- what goes on from each place to the next goes down a chain
 down : (P Q : ℕ → Type 0) → ((i : ℕ) → P i → Q i → P (i + 1)) → (top d k : ℕ) → k ≡ top + d → P top → ((i : ℕ) → i < k → top ≤ i → Q i) → P k
@@ -130,12 +130,12 @@ pub truth_down : (row : Row) (scope : Scope) (list : FlatTree) (top k : ℕ) →
     → ((i : ℕ) → i < k → top ≤ i → IsClassAt list WalkClass.Logical i) → TruthStands row scope list k
 truth_down row scope list top k below first all =
     down (TruthStands row scope list) (IsClassAt list WalkClass.Logical)
-    (λ i truth is. truth_step row scope list i (truth_part row scope list i truth) is) top (k - top) k (omega arith) first all
+    (λ i truth is. truth_step row scope list i (typed_part row scope list i IsBooleanOrNull truth) is) top (k - top) k (omega arith) first all
 
-pub part_down : (row : Row) (scope : Scope) (list : FlatTree) (top k : ℕ) → top ≤ k → PartStands row scope list top
-    → ((i : ℕ) → i < k → top ≤ i → IsClassAt list WalkClass.Eager i) → PartStands row scope list k
-part_down row scope list top k below first all =
-    down (PartStands row scope list) (IsClassAt list WalkClass.Eager) (λ i part is. eager_step row scope list i part is) top (k - top) k (omega arith) first all
+pub part_down : (row : Row) (scope : Scope) (list : FlatTree) (class : WalkClass) → ¬ (class ≡ WalkClass.Leaf) → (top k : ℕ) → top ≤ k → PartStands row scope list top
+    → ((i : ℕ) → i < k → top ≤ i → IsClassAt list class i) → PartStands row scope list k
+part_down row scope list class inner top k below first all =
+    down (PartStands row scope list) (IsClassAt list class) (λ i part is. inner_step row scope list i part class inner is) top (k - top) k (omega arith) first all
 
 -- a chain that begins at a place of a class ends behind it
 pub below_bottom : (list : FlatTree) (class : WalkClass) (place bottom : ℕ) → place ≤ bottom → IsClassAt list class place

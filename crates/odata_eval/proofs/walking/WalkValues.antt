@@ -1,5 +1,5 @@
 -- What the walk answers at a node, from what it found of the operands.
-use Rattle.std.proofs.Common.{◌≡◌, ℕ, [], Bool, Option, Ok, refl, sym, subst}
+use Rattle.std.proofs.Common.{◌≡◌, ℕ, ℤ, [], Bool, Option, Some, Ok, refl, sym, subst}
 use Rattle.std.specs.Prelude.{IsSomeAnd}
 use Rattle.edm_values.specs.MomentParts.{MomentParts}
 use Rattle.edm_values.specs.Val.{Val}
@@ -14,6 +14,7 @@ use Rattle.odata_functions.specs.DatumVal.{Reading, datum_val}
 use Rattle.odata_typing.specs.FlatTree.{FlatTree}
 use Rattle.odata_typing.specs.Typed.{Typed}
 use Rattle.odata_eval.specs.declared.fault.EvalFault.{EvalFault}
+use Rattle.odata_eval.specs.CalculationGives.{number_val}
 use Rattle.odata_eval.specs.EndsOnce.{EndsOnceOnEntities, IsOutcomeOf}
 use Rattle.odata_eval.specs.LeftFirst.{After}
 use Rattle.odata_eval.specs.Means.{Means}
@@ -21,10 +22,11 @@ use Rattle.odata_eval.specs.Outcome.{Outcome, gives, overflow, divides_by_zero}
 use Rattle.odata_eval.specs.TruthGives.{truth_val}
 use Rattle.odata_eval.specs.VerdictView.{fault_outcome}
 use Rattle.odata_eval.specs.private.DatumView.{IsDatumOf, reading_at}
-use Rattle.odata_eval.specs.private.Place.{TruthStands}
-use Rattle.odata_eval.specs.private.WalkAnswer.{AnswersDatum, AnswersKept, AnswersTruth}
+use Rattle.odata_eval.specs.private.Place.{NumberStands, TruthStands}
+use Rattle.odata_eval.specs.private.WalkAnswer.{AnswersAtPlace, AnswersDatum, AnswersKept}
 use Rattle.odata_eval.proofs.meaning.Kinds.{truth_of}
-use Rattle.odata_eval.proofs.walking.Readings.{some_truth, truth_read}
+use Rattle.odata_eval.proofs.meaning.Numbers.{number_in}
+use Rattle.odata_eval.proofs.walking.Readings.{number_plain, some_number, some_truth, truth_plain, value_read}
 
 -- what a tree comes to on an entity, and its type
 abbrev pub MeansAt : Row → MomentParts → Tree → Outcome → Type 0
@@ -48,19 +50,19 @@ kept_datum row now list place value made kept same = record {
       subst (λ (v : Val). MeansAt row now tree (gives v)) (sym (same (slots_of row.schema) type)) (kept.of_tree stop tree type stands typed);
 }
 
--- a value that is a truth value, and back
-pub datum_truth : (row : Row) (now : MomentParts) (list : FlatTree) (place : ℕ) (made : Datum) (truth : Option Bool)
-    → AnswersDatum row now [] list place (Ok made) → ((reading : Reading) → datum_val reading made ≡ truth_val truth) → AnswersTruth row now [] list place (Ok truth)
-datum_truth row now list place made truth answers same = record {
+-- what is made stands for one value under each reading, and back
+pub read_value : (row : Row) (now : MomentParts) (list : FlatTree) (place : ℕ) (made : Datum) (v : Val)
+    → AnswersDatum row now [] list place (Ok made) → ((reading : Reading) → datum_val reading made ≡ v) → AnswersAtPlace row now [] list place (λ type. Some (gives v))
+read_value row now list place made v answers same = record {
   of_tree = λ stop tree type stands typed.
-      subst (λ (v : Val). MeansAt row now tree (gives v)) (same (reading_at (slots_of row.schema) type)) (answers.of_tree stop tree type stands typed);
+      subst (λ (w : Val). MeansAt row now tree (gives w)) (same (reading_at (slots_of row.schema) type)) (answers.of_tree stop tree type stands typed);
 }
 
-pub truth_datum : (row : Row) (now : MomentParts) (list : FlatTree) (place : ℕ) (made : Datum) (truth : Option Bool)
-    → AnswersTruth row now [] list place (Ok truth) → ((reading : Reading) → datum_val reading made ≡ truth_val truth) → AnswersDatum row now [] list place (Ok made)
-truth_datum row now list place made truth answers same = record {
+pub made_value : (row : Row) (now : MomentParts) (list : FlatTree) (place : ℕ) (made : Datum) (v : Val)
+    → AnswersAtPlace row now [] list place (λ type. Some (gives v)) → ((reading : Reading) → datum_val reading made ≡ v) → AnswersDatum row now [] list place (Ok made)
+made_value row now list place made v answers same = record {
   of_tree = λ stop tree type stands typed.
-      subst (λ (v : Val). MeansAt row now tree (gives v)) (sym (same (reading_at (slots_of row.schema) type))) (answers.of_tree stop tree type stands typed);
+      subst (λ (w : Val). MeansAt row now tree (gives w)) (sym (same (reading_at (slots_of row.schema) type))) (answers.of_tree stop tree type stands typed);
 }
 
 module _ (ends : EndsOnceOnEntities) (row : Row) (now : MomentParts) (entity : IsEntity row) where
@@ -77,5 +79,15 @@ module _ (ends : EndsOnceOnEntities) (row : Row) (now : MomentParts) (entity : I
       let slots = slots_of row.schema in
       let v = datum_val (reading_at slots stands.type_of) made in
       let has = value_has stands.tree stands.type_of v stands.typed (answers.of_tree stands.stop stands.tree stands.type_of stands.stands stands.typed) in
-      let truth = some_truth v (truth_of slots stands.type_of v stands.truth has) in
-      (truth.0, truth_read (reading_at slots stands.type_of) reading made truth.0 truth.1)
+      let truth = some_truth v (truth_of slots stands.type_of v stands.allowed has) in
+      (truth.0, value_read (reading_at slots stands.type_of) reading made (truth_val truth.0) (truth_plain truth.0) truth.1)
+
+  -- and of one of a number type or Null a number or null
+  pub number_there : (list : FlatTree) (place : ℕ) (made : Datum) → NumberStands row [] list place → AnswersDatum row now [] list place (Ok made)
+      → (reading : Reading) → (number : Option ℤ) × (datum_val reading made ≡ number_val number)
+  number_there list place made stands answers reading =
+      let slots = slots_of row.schema in
+      let v = datum_val (reading_at slots stands.type_of) made in
+      let has = value_has stands.tree stands.type_of v stands.typed (answers.of_tree stands.stop stands.tree stands.type_of stands.stands stands.typed) in
+      let number = some_number stands.allowed.0 v (number_in slots stands.type_of stands.allowed.0 v stands.allowed.1 has) in
+      (number.0, value_read (reading_at slots stands.type_of) reading made (number_val number.0) (number_plain number.0) number.1)

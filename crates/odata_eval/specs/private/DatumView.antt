@@ -1,6 +1,6 @@
 -- For private clauses: what the evaluator's values stand for.
-use Rattle.std.specs.Prelude.{ℕ, ◌≡◌, ◌<◌, List, map, length, slice_get, Option, Some, Result, Ok, Err, IsSomeAnd, Bool}
-use Rattle.edm_values.specs.Val.{FieldVal, absent, Vals, no_items}
+use Rattle.std.specs.Prelude.{ℕ, ◌≡◌, ◌<◌, List, map, length, slice_get, Option, Some, Result, Ok, Err, IsSomeAnd}
+use Rattle.edm_values.specs.Val.{Val, FieldVal, absent, Vals, no_items}
 use Rattle.edm_values.specs.declared.datum.Datum.{Datum}
 use Rattle.edm_values.specs.declared.datum.Datum.TheVariants as datum
 use Rattle.edm_values.specs.declared.value.Value.{Value}
@@ -10,7 +10,6 @@ use Rattle.edm_entities.specs.Row.{ValAtType, field_by_name, items_of, val_of}
 use Rattle.odata_functions.specs.DatumVal.{Reading, datum_val}
 use Rattle.odata_eval.specs.declared.fault.EvalFault.{EvalFault}
 use Rattle.odata_eval.specs.Outcome.{Outcome, gives}
-use Rattle.odata_eval.specs.TruthGives.{truth_val}
 use Rattle.odata_eval.specs.VerdictView.{fault_outcome}
 
 -- what slots hold by name, at the type of their record
@@ -30,15 +29,10 @@ reading_at slots type = record {
   items_of = λ held. items_at slots type (map val_of held);
 }
 
--- the outcome that an answer tells, records and lists being read so; none for want of memory
-abbrev pub datum_outcome : Reading → Result Datum EvalFault → Option Outcome
-datum_outcome reading (Ok made) = Some (gives (datum_val reading made))
-datum_outcome reading (Err fault) = fault_outcome fault
-
--- the same of a truth value
-abbrev pub truth_outcome : Result (Option Bool) EvalFault → Option Outcome
-truth_outcome (Ok truth) = Some (gives (truth_val truth))
-truth_outcome (Err fault) = fault_outcome fault
+-- the outcome that an answer tells, what it holds standing for such a value; none for want of memory
+abbrev pub answer_outcome : {Held : Type 0} → (Held → Val) → Result Held EvalFault → Option Outcome
+answer_outcome stands_for (Ok held) = Some (gives (stands_for held))
+answer_outcome stands_for (Err fault) = fault_outcome fault
 
 -- it is null, or a record that has the slot
 abbrev pub HasSlot : Datum → ℕ → Type 0

@@ -1,15 +1,18 @@
 -- For private clauses: what stands in a place of a filter's list, seen from an entity of the filtered type.
-use Rattle.std.specs.Prelude.{◌≡◌, ℕ, ◌+◌, IsSomeAnd, slice_get}
+use Rattle.std.specs.Prelude.{◌≡◌, ℕ, ◌+◌, Option, IsSomeAnd, slice_get}
+use Rattle.edm_values.specs.NumberTypes.{IsNumberType}
+use Rattle.edm_values.specs.declared.primitive.PrimitiveType.{PrimitiveType}
 use Rattle.odata_syntax.specs.Tree.{Tree}
 use Rattle.odata_syntax.specs.declared.node.BinaryOperator.{BinaryOperator}
 use Rattle.csdl_schema.specs.ExprType.{ExprType}
 use Rattle.csdl_schema.specs.SchemaModel.{slots_of, type_name_at}
 use Rattle.edm_entities.specs.Row.{Row}
 use Rattle.odata_typing.specs.declared.checked_node.NodeKind.{NodeKind}
-use Rattle.odata_signatures.specs.declared.operator_class.Connective.{Connective}
+use Rattle.odata_signatures.specs.declared.edm_type.EdmType.{EdmType}
+use Rattle.odata_signatures.specs.declared.edm_type.ValueType.{ValueType}
 use Rattle.odata_signatures.specs.declared.operator_class.OperatorClass.{OperatorClass}
 use Rattle.odata_signatures.specs.OperatorClass.{class_of}
-use Rattle.odata_signatures.specs.ExprTypes.{IsBooleanOrNull}
+use Rattle.odata_signatures.specs.ExprTypes.{IsBooleanOrNull, IsNumberOrNull}
 use Rattle.odata_typing.specs.FlatTree.{FlatTree}
 use Rattle.odata_typing.specs.Stands.{Stands}
 use Rattle.odata_typing.specs.Typed.{Scope, Typed}
@@ -22,32 +25,48 @@ pub record PartStands (row : Row) (scope : Scope) (list : FlatTree) (place : ℕ
   pub tree : Tree
   pub stands : Stands row.schema row.type_id scope list place stop tree
 
--- and it has type Boolean or Null
-pub record TruthStands (row : Row) (scope : Scope) (list : FlatTree) (place : ℕ) : Type 0 where
+-- and it has a type that is allowed there
+pub record TypedStands
+    (row : Row) (scope : Scope) (list : FlatTree) (place : ℕ) (Allowed : ExprType → Type 0) : Type 0 where
   pub stop : ℕ
   pub tree : Tree
   pub stands : Stands row.schema row.type_id scope list place stop tree
   pub type_of : ExprType
   pub typed : Typed (slots_of row.schema) (type_name_at row.schema row.type_id) scope tree type_of
-  pub truth : IsBooleanOrNull type_of
+  pub allowed : Allowed type_of
+
+-- Boolean or Null
+abbrev pub TruthStands : Row → Scope → FlatTree → ℕ → Type 0
+TruthStands row scope list place = TypedStands row scope list place IsBooleanOrNull
+
+-- a number type or Null
+abbrev pub IsNumberOperand : ExprType → Type 0
+IsNumberOperand type = (number : Option PrimitiveType) × IsNumberOrNull type number
+
+abbrev pub NumberStands : Row → Scope → FlatTree → ℕ → Type 0
+NumberStands row scope list place = TypedStands row scope list place IsNumberOperand
 
 -- the walk takes the node there so
 abbrev pub IsClassAt : FlatTree → WalkClass → ℕ → Type 0
 IsClassAt list class place = IsSomeAnd (slice_get list.nodes place) (λ found. walk_of_kind found.kind ≡ class)
 
--- the node there is this operator, or this connective
-abbrev pub HasOperator : FlatTree → ℕ → BinaryOperator → Type 0
-HasOperator list place operator =
-    IsSomeAnd (slice_get list.nodes place) (λ found. found.kind ≡ NodeKind.Binary operator)
-
-pub record IsConnective (connective : Connective) (kind : NodeKind) : Type 0 where
+-- the node there is an operator with two operands, of that class
+pub record IsOperatorOf (class : OperatorClass) (kind : NodeKind) : Type 0 where
   pub operator : BinaryOperator
   pub kind_is : kind ≡ NodeKind.Binary operator
-  pub class : class_of operator ≡ OperatorClass.Connective connective
+  pub class_is : class_of operator ≡ class
 
-abbrev pub HasConnective : FlatTree → ℕ → Connective → Type 0
-HasConnective list place connective =
-    IsSomeAnd (slice_get list.nodes place) (λ found. IsConnective connective found.kind)
+abbrev pub HasOperatorOf : FlatTree → ℕ → OperatorClass → Type 0
+HasOperatorOf list place class = IsSomeAnd (slice_get list.nodes place) (λ found. IsOperatorOf class found.kind)
+
+-- the node there is of a number type
+pub record IsNumberEdmType (type : EdmType) : Type 0 where
+  pub number : PrimitiveType
+  pub type_is : type ≡ EdmType.Single (ValueType.Prim number)
+  pub is_number : IsNumberType number
+
+abbrev pub HasNumberType : FlatTree → ℕ → Type 0
+HasNumberType list place = IsSomeAnd (slice_get list.nodes place) (λ found. IsNumberEdmType found.edm_type)
 
 -- the first operand of the node there stops where the second one stands
 abbrev pub IsRightOf : FlatTree → ℕ → ℕ → Type 0

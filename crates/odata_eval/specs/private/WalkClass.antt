@@ -7,20 +7,20 @@ use Rattle.odata_signatures.specs.declared.operator_class.Connective.{Connective
 use Rattle.odata_signatures.specs.declared.operator_class.OperatorClass.{OperatorClass}
 use Rattle.odata_eval.specs.declared.part.WalkClass.{WalkClass}
 
--- a connective takes truth values, any other operator the values of both sides
+-- a connective takes truth values, arithmetic numbers, a comparison the values of both sides
 abbrev pub walk_of_operator : OperatorClass → WalkClass
 walk_of_operator (OperatorClass.Connective connective) = WalkClass.Logical
 walk_of_operator (OperatorClass.Comparison comparison) = WalkClass.Eager
-walk_of_operator (OperatorClass.Arithmetic arithmetic) = WalkClass.Eager
+walk_of_operator (OperatorClass.Arithmetic arithmetic) = WalkClass.Numeric
 
--- `not` takes a truth value, `-` and a step any value; the others have no operand
+-- `not` takes a truth value, `-` a number, a step a record; the others have no operand
 abbrev pub walk_of_kind : NodeKind → WalkClass
 walk_of_kind (NodeKind.Literal kind value) = WalkClass.Leaf
 walk_of_kind NodeKind.It = WalkClass.Leaf
 walk_of_kind (NodeKind.Property slot) = WalkClass.Leaf
 walk_of_kind (NodeKind.Variable level) = WalkClass.Leaf
 walk_of_kind (NodeKind.Member slot) = WalkClass.Eager
-walk_of_kind NodeKind.Neg = WalkClass.Eager
+walk_of_kind NodeKind.Neg = WalkClass.Numeric
 walk_of_kind NodeKind.Not = WalkClass.Logical
 walk_of_kind (NodeKind.Binary operator) = walk_of_operator (class_of operator)
 
