@@ -24,6 +24,7 @@ pub(crate) fn first_piece(schema: &Schema, type_id: TypeId) -> LentPiece<'_>
 }
 
 impl<'s> LentPiece<'s> {
+    #[inline(always)]
     fn has(&self, slot: usize) -> bool
         ensures { IsTrue result ↔ ((self.now.first ≤ slot) × (slot < self.now.first + length self.now.piece)) }
     {
@@ -31,6 +32,7 @@ impl<'s> LentPiece<'s> {
     }
 
     /// The name and the property at a slot; the piece that has it is lent first, where it is not the one at hand.
+    #[inline(always)]
     pub(crate) fn at(
         &mut self,
         schema: &'s Schema,

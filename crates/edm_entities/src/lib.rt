@@ -9,12 +9,14 @@ mod leaf;
 mod lent_piece;
 mod member_walk;
 mod number_text;
+mod row_cache;
 mod row_reader;
 mod row_skip;
 mod row_slots;
 mod row_token;
 mod row_walk;
 mod scalar;
+mod slot_order;
 mod walk;
 mod wanted;
 

@@ -7,6 +7,7 @@ use fast_float::Numeral;
 use serde_json::Number;
 
 /// The number that a token writes; none where it is too large for a float.
+#[inline(always)]
 pub(crate) fn number_of_text(text: &str) -> Option<Number>
     ensures { option_map number_view result ≡ number_of text.now }
 {
@@ -18,6 +19,7 @@ pub(crate) fn number_of_text(text: &str) -> Option<Number>
     }
 }
 
+#[inline(always)]
 fn has_minus(bytes: &[u8]) -> bool
     ensures value { result ≡ (slice_index bytes.now 0 == 45) }
     ensures some { IsTrue result → 0 < length bytes.now }
@@ -25,6 +27,7 @@ fn has_minus(bytes: &[u8]) -> bool
     !bytes.is_empty() && bytes[0] == b'-'
 }
 
+#[inline(always)]
 fn number_without_sign(numeral: &Numeral<'_>) -> Option<Number>
     ensures { option_map number_view result ≡ number_from false numeral.now }
 {
@@ -34,6 +37,7 @@ fn number_without_sign(numeral: &Numeral<'_>) -> Option<Number>
     }
 }
 
+#[inline(always)]
 fn number_below_zero(numeral: &Numeral<'_>) -> Option<Number>
     ensures { option_map number_view result ≡ number_from true numeral.now }
 {
@@ -45,6 +49,7 @@ fn number_below_zero(numeral: &Numeral<'_>) -> Option<Number>
     nearest_number(true, numeral)
 }
 
+#[cold]
 fn nearest_number(negative: bool, numeral: &Numeral<'_>) -> Option<Number>
     ensures { option_map number_view result ≡ float_of negative numeral.now }
 {

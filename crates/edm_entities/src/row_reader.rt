@@ -7,6 +7,7 @@ ghost use Rattle.edm_entities.specs.RowReading.{IsLineOf};
 ghost use Rattle.edm_entities.specs.private.Walk.{FitSlots};
 
 use super::entity::Entity;
+use super::row_cache::RowCache;
 use super::row_walk::take_members;
 use csdl_schema::{Schema, TypeId};
 use edm_values::Value;
@@ -20,10 +21,10 @@ const DEPTH: usize = 127;
 /// Reads lines of JSON as entities of one type, without a tree between them. It is kept from line to line.
 #[derive(Drop)]
 pub struct RowReader<'s> {
-    alloc: Global,
     schema: &'s Schema,
     type_id: TypeId,
     scratch: Scratch,
+    cache: RowCache,
 }
 
 impl<'s> Model for RowReader<'s> {
@@ -41,10 +42,10 @@ impl<'s> RowReader<'s> {
         ensures type_id { result.type_id ≡ type_id }
     {
         RowReader {
-            alloc,
             schema,
             type_id,
             scratch: Scratch::new(alloc),
+            cache: RowCache::new(alloc),
         }
     }
 
@@ -59,7 +60,7 @@ impl<'s> RowReader<'s> {
             return None;
         };
         match take_row(
-            self.alloc,
+            &mut self.cache,
             self.schema,
             self.type_id,
             text,
@@ -69,11 +70,19 @@ impl<'s> RowReader<'s> {
             None => None,
         }
     }
+
+    /// Takes back an entity whose row is done with: its texts and lists are filled again by the rows to come. It says
+    /// nothing of them, and any entity will do.
+    pub fn take_back(&mut self, entity: Entity<'_>)
+        ensures { self.new ≡ self.old }
+    {
+        self.cache.store_list(entity.into_values(), DEPTH);
+    }
 }
 
 /// The values by slot of a whole text.
 fn take_row(
-    alloc: Global,
+    cache: &mut RowCache,
     schema: &Schema,
     type_id: TypeId,
     text: &str,
@@ -89,7 +98,7 @@ fn take_row(
     let Some(Token::BeginObject) = reader.next() else {
         return None;
     };
-    let Some(values) = take_members(alloc, schema, type_id, &mut reader, DEPTH - 1) else {
+    let Some(values) = take_members(cache, schema, type_id, &mut reader, DEPTH - 1) else {
         return None;
     };
     match reader.next() {

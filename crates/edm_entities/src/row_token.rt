@@ -1,23 +1,27 @@
 //! Values without parts, from a row's tokens.
-ghost use Rattle.std.specs.Prelude.{◌≡◌, Ok, IfSome};
+ghost use Rattle.std.specs.Prelude.{◌≡◌, Ok, IfSome, IsTrue};
 ghost use Rattle.json.specs.Reads.{token_of};
-ghost use Rattle.csdl_schema.specs.ExprType.{single};
-ghost use Rattle.csdl_schema.specs.SchemaModel.{slots_of};
+ghost use Rattle.serde_json.specs.Data.{Data, string};
+ghost use Rattle.csdl_schema.specs.ExprType.{ExprType, single};
+ghost use Rattle.csdl_schema.specs.SchemaModel.{Slots, slots_of};
+ghost use Rattle.edm_entities.specs.FitsPrimitive.{FitsPrimitive};
+ghost use Rattle.edm_entities.specs.Row.{val_of};
 ghost use Rattle.edm_entities.specs.private.RowTokens.{ReadsToken, FitsHoweverNullable};
-ghost use Rattle.edm_entities.specs.private.Scalars.{IsScalar};
+ghost use Rattle.edm_entities.specs.private.Scalars.{IsJsonNumber, IsScalar};
 ghost use Rattle.edm_entities.specs.private.Walk.{wanted_single};
 
 use super::flaw::ReadFlaw;
 use super::leaf::{read_member, read_primitive};
 use super::number_text::number_of_text;
-use super::scalar::{Scalar, json_number};
+use super::row_cache::RowCache;
+use super::scalar::{JsonNumber, Scalar, json_number};
 use super::wanted::Wanted;
 use csdl_schema::Schema;
-use edm_values::Value;
+use edm_values::{Prim, Value};
 use json::Token;
-use std::alloc::Global;
 
 /// The truth value, number or text that a token is; none for a number too large for a float.
+#[inline(always)]
 pub(crate) fn scalar_of_token(token: Token<'_>) -> Option<Scalar<'_>>
     ensures { IfSome result (λ scalar. ReadsToken (token_of token.entry) (IsScalar scalar)) }
 {
@@ -32,31 +36,79 @@ pub(crate) fn scalar_of_token(token: Token<'_>) -> Option<Scalar<'_>>
     }
 }
 
-/// The value that a token is where a type without parts is wanted.
+/// Puts the value that a token is, where a type without parts is wanted, into its place.
 pub(crate) fn take_leaf(
-    alloc: Global,
+    cache: &mut RowCache,
     schema: &Schema,
     wanted: &Wanted,
     token: Token<'_>,
-) -> Option<Value>
-    ensures { IfSome result (λ v. ReadsToken (token_of token.entry)
-        (FitsHoweverNullable (slots_of schema.now) (single (wanted_single schema.now wanted.now)) v)) }
+    place: &mut Value,
+) -> bool
+    ensures { IsTrue result → ReadsToken (token_of token.entry)
+        (FitsHoweverNullable (slots_of schema.now) (single (wanted_single schema.now wanted.now)) place.new) }
 {
     let Some(scalar) = scalar_of_token(token) else {
-        return None;
+        return false;
     };
     match *wanted {
-        Wanted::Prim(prim) => value_read(read_primitive(alloc, prim, scalar)),
-        Wanted::Enum(id) => value_read(read_member(schema, id, scalar)),
-        Wanted::Complex(_) => None,
+        Wanted::Prim(prim) => take_primitive(cache, prim, scalar, place),
+        Wanted::Enum(id) => put_read(read_member(schema, id, scalar), place),
+        Wanted::Complex(_) => false,
     }
 }
 
-fn value_read(read: Result<Value, ReadFlaw>) -> Option<Value>
-    ensures { IfSome result (λ v. read ≡ Ok v) }
+/// The same of a primitive type. A text fills one of an earlier row.
+fn take_primitive(cache: &mut RowCache, wanted: Prim, scalar: Scalar<'_>, place: &mut Value) -> bool
+    ensures { (json : Data) (slots : Slots) (type : ExprType) → IsScalar scalar.entry json
+        → IsTrue result → FitsPrimitive wanted json (val_of place.new slots type) }
+{
+    match scalar {
+        Scalar::Number(number) => take_number(wanted, number, place),
+        Scalar::Text(text) => match wanted {
+            Prim::String => take_text(cache, text, place),
+            _ => put_read(read_primitive(cache.alloc, wanted, scalar), place),
+        },
+        _ => put_read(read_primitive(cache.alloc, wanted, scalar), place),
+    }
+}
+
+#[inline(always)]
+fn take_number(wanted: Prim, number: JsonNumber, place: &mut Value) -> bool
+    ensures { (json : Data) (slots : Slots) (type : ExprType) → IsJsonNumber number json
+        → IsTrue result → FitsPrimitive wanted json (val_of place.new slots type) }
+{
+    let JsonNumber::Whole(n) = number else {
+        return false;
+    };
+    if !wanted.is_number() || !wanted.holds_number(n) {
+        return false;
+    }
+    *place = Value::Int(n);
+    true
+}
+
+#[inline(always)]
+fn take_text(cache: &mut RowCache, text: &str, place: &mut Value) -> bool
+    ensures { (slots : Slots) (type : ExprType)
+        → IsTrue result → FitsPrimitive Prim.String (string text.now) (val_of place.new slots type) }
+{
+    match cache.text(text) {
+        Some(copy) => {
+            *place = Value::Text(copy);
+            true
+        }
+        None => false,
+    }
+}
+
+fn put_read(read: Result<Value, ReadFlaw>, place: &mut Value) -> bool
+    ensures { IsTrue result → read ≡ Ok place.new }
 {
     match read {
-        Ok(value) => Some(value),
-        Err(_) => None,
+        Ok(value) => {
+            *place = value;
+            true
+        }
+        Err(_) => false,
     }
 }

@@ -8,10 +8,13 @@ ghost use Rattle.csdl_schema.specs.PropertyView.{property_type};
 ghost use Rattle.csdl_schema.specs.SchemaModel.{HasDistinctNames, properties_at, slots_of};
 ghost use Rattle.edm_entities.specs.Fits.{FitsProperty};
 ghost use Rattle.edm_entities.specs.Row.{field_of, val_of};
+ghost use Rattle.edm_entities.specs.private.Lent.{IsLent};
 ghost use Rattle.edm_entities.specs.private.RowTokens.{Reads, ReadsItems, ReadsMembers, FitsNullable, FitsHoweverNullable};
 ghost use Rattle.edm_entities.specs.private.SlotsSoFar.{SlotsSoFar};
 ghost use Rattle.edm_entities.specs.private.Walk.{FitList, FitSlots, wanted_single};
 
+use super::lent_piece::{LentPiece, first_piece};
+use super::row_cache::RowCache;
 use super::row_skip::skip_value;
 use super::row_slots::{if_filled, null_slots, slot_of_name};
 use super::row_token::take_leaf;
@@ -19,12 +22,11 @@ use super::wanted::{Wanted, wanted_as};
 use csdl_schema::{Property, Schema, TypeId};
 use edm_values::Value;
 use json::{Reader, Token};
-use std::alloc::Global;
 
 /// The values of the properties of a type in slot order, from an object's members and its closing brace.
 #[cycle(row)]
 pub(crate) fn take_members(
-    alloc: Global,
+    cache: &mut RowCache,
     schema: &Schema,
     type_id: TypeId,
     reader: &mut Reader<'_>,
@@ -34,17 +36,28 @@ pub(crate) fn take_members(
     ensures fits { IfSome result (λ values. ReadsMembers depth reader.old reader.new
         (λ found. FitSlots (slots_of schema.now) (object found) (properties_at schema.now type_id) values.items)) }
 {
-    let Some(mut values) = null_slots(alloc, schema.slots(type_id)) else {
+    let Some(mut values) = null_slots(cache, schema.slots(type_id)) else {
         return None;
     };
+    cache.order.begin(values.len());
+    let mut lent = first_piece(schema, type_id);
     'members: loop {
         let Ok(key) = reader.next_key() else {
             return None;
         };
         let Some(name) = key else {
-            return if_filled(schema, type_id, values);
+            return if_filled(&mut lent, schema, type_id, values);
         };
-        if !take_member(alloc, schema, type_id, name, reader, depth, &mut values) {
+        if !take_member(
+            cache,
+            &mut lent,
+            schema,
+            type_id,
+            name,
+            reader,
+            depth,
+            &mut values,
+        ) {
             return None;
         }
     }
@@ -52,152 +65,169 @@ pub(crate) fn take_members(
 
 /// Reads a member's value into the slot of its name, if there is one.
 #[cycle(row)]
-fn take_member(
-    alloc: Global,
-    schema: &Schema,
+fn take_member<'s>(
+    cache: &mut RowCache,
+    lent: &mut LentPiece<'s>,
+    schema: &'s Schema,
     type_id: TypeId,
     name: &str,
     reader: &mut Reader<'_>,
     depth: usize,
     values: &mut Vec<Value>,
 ) -> bool
-    requires { length values.old.items ≡ length (properties_at schema.now type_id) }
-    ensures { IsTrue result → Reads depth reader.old reader.new (λ json. (found : Members)
+    requires lent { IsLent schema.now type_id lent.old }
+    requires count { length values.old.items ≡ length (properties_at schema.now type_id) }
+    ensures lent { IsLent schema.now type_id lent.new }
+    ensures read { IsTrue result → Reads depth reader.old reader.new (λ json. (found : Members)
         → HasDistinctNames (properties_at schema.now type_id) → SlotsSoFar schema.now type_id found values.old.items
         → SlotsSoFar schema.now type_id (put name.now json found) values.new.items) }
 {
-    match slot_of_name(schema, type_id, name) {
-        Some(slot) => {
-            let property = schema.property(type_id, slot);
-            match take_property(alloc, schema, *property, reader, depth) {
-                Some(value) => {
-                    values[slot] = value;
-                    true
-                }
-                None => false,
+    match slot_of_name(&cache.order, lent, schema, type_id, values.len(), name) {
+        Some((slot, property)) => {
+            cache.order.note(slot);
+            if !take_property(cache, schema, *property, reader, depth, &mut values[slot]) {
+                return false;
             }
+            cache.order.pass(values.len(), slot);
+            true
         }
         None => skip_value(reader, depth),
     }
 }
 
-/// The value of a property. One that is not looked at is held as null.
+/// Puts the value of a property into its place. One that is not looked at leaves what stands there.
 #[cycle(row)]
 fn take_property(
-    alloc: Global,
+    cache: &mut RowCache,
     schema: &Schema,
     property: Property,
     reader: &mut Reader<'_>,
     depth: usize,
-) -> Option<Value>
-    ensures { IfSome result (λ v. Reads depth reader.old reader.new (λ json. FitsProperty (slots_of schema.now)
+    place: &mut Value,
+) -> bool
+    ensures { IsTrue result → Reads depth reader.old reader.new (λ json. FitsProperty (slots_of schema.now)
         property.nullable (property_type schema.now property) (Some json)
-        (field_of (slots_of schema.now) (property_type schema.now property) (val_of v)))) }
+        (field_of (slots_of schema.now) (property_type schema.now property) (val_of place.new))) }
 {
     let Some(wanted) = wanted_as(property.kind) else {
-        return skipped(reader, depth);
+        return skip_value(reader, depth);
     };
     if property.many {
-        take_array(alloc, schema, &wanted, property.nullable, reader, depth)
+        take_array(
+            cache,
+            schema,
+            &wanted,
+            property.nullable,
+            reader,
+            depth,
+            place,
+        )
     } else {
-        take_single(alloc, schema, &wanted, property.nullable, reader, depth)
+        take_single(
+            cache,
+            schema,
+            &wanted,
+            property.nullable,
+            reader,
+            depth,
+            place,
+        )
     }
 }
 
-/// Null, for a value that is passed over.
-fn skipped(reader: &mut Reader<'_>, depth: usize) -> Option<Value>
-    ensures { IfSome result (λ v. Reads depth reader.old reader.new (λ json. Unit {0})) }
-{
-    if skip_value(reader, depth) {
-        Some(Value::Null)
-    } else {
-        None
-    }
-}
-
-/// A single value, or an item; null, if it may be.
+/// Puts a single value, or an item, into its place; null, if it may be.
 #[cycle(row)]
 fn take_single(
-    alloc: Global,
+    cache: &mut RowCache,
     schema: &Schema,
     wanted: &Wanted,
     nullable: bool,
     reader: &mut Reader<'_>,
     depth: usize,
-) -> Option<Value>
-    ensures { IfSome result (λ v. Reads depth reader.old reader.new
-        (FitsNullable (slots_of schema.now) nullable nullable (single (wanted_single schema.now wanted.now)) v)) }
+    place: &mut Value,
+) -> bool
+    ensures { IsTrue result → Reads depth reader.old reader.new (FitsNullable (slots_of schema.now) nullable nullable
+        (single (wanted_single schema.now wanted.now)) place.new) }
 {
     let Some(token) = reader.next() else {
-        return None;
+        return false;
     };
     match token {
-        Token::Null => null_if(nullable),
-        Token::BeginObject => take_record(alloc, schema, wanted, reader, depth),
-        _ => take_leaf(alloc, schema, wanted, token),
+        Token::Null => put_null(nullable, place),
+        Token::BeginObject => take_record(cache, schema, wanted, reader, depth, place),
+        _ => take_leaf(cache, schema, wanted, token, place),
     }
 }
 
 /// A null that may be.
-fn null_if(nullable: bool) -> Option<Value>
-    ensures { IfSome result (λ v. (nullable ≡ true) × (v ≡ Value.Null)) }
+fn put_null(nullable: bool, place: &mut Value) -> bool
+    ensures { IsTrue result → (nullable ≡ true) × (place.new ≡ Value.Null) }
 {
-    if nullable { Some(Value::Null) } else { None }
+    *place = Value::Null;
+    nullable
 }
 
-/// A value of a complex type, behind its opening brace.
+/// Puts a value of a complex type, behind its opening brace, into its place.
 #[cycle(row)]
 fn take_record(
-    alloc: Global,
+    cache: &mut RowCache,
     schema: &Schema,
     wanted: &Wanted,
     reader: &mut Reader<'_>,
     depth: usize,
-) -> Option<Value>
-    ensures { IfSome result (λ v. Reads depth (begin_object ∷ reader.old) reader.new
-        (FitsHoweverNullable (slots_of schema.now) (single (wanted_single schema.now wanted.now)) v)) }
+    place: &mut Value,
+) -> bool
+    ensures { IsTrue result → Reads depth (begin_object ∷ reader.old) reader.new
+        (FitsHoweverNullable (slots_of schema.now) (single (wanted_single schema.now wanted.now)) place.new) }
 {
     if depth == 0 {
-        return None;
+        return false;
     }
     let Wanted::Complex(id) = *wanted else {
-        return None;
+        return false;
     };
-    match take_members(alloc, schema, id, reader, depth - 1) {
-        Some(values) => Some(Value::Record(values)),
-        None => None,
+    match take_members(cache, schema, id, reader, depth - 1) {
+        Some(values) => {
+            *place = Value::Record(values);
+            true
+        }
+        None => false,
     }
 }
 
-/// The value of an array.
+/// Puts the value of an array into its place.
 #[cycle(row)]
 fn take_array(
-    alloc: Global,
+    cache: &mut RowCache,
     schema: &Schema,
     wanted: &Wanted,
     nullable: bool,
     reader: &mut Reader<'_>,
     depth: usize,
-) -> Option<Value>
-    ensures { IfSome result (λ v. Reads depth reader.old reader.new
-        (FitsNullable (slots_of schema.now) false nullable (collection (wanted_single schema.now wanted.now)) v)) }
+    place: &mut Value,
+) -> bool
+    ensures { IsTrue result → Reads depth reader.old reader.new (FitsNullable (slots_of schema.now) false nullable
+        (collection (wanted_single schema.now wanted.now)) place.new) }
 {
     let Some(Token::BeginArray) = reader.next() else {
-        return None;
+        return false;
     };
     if depth == 0 {
-        return None;
+        return false;
     }
-    match take_items(alloc, schema, wanted, nullable, reader, depth - 1) {
-        Some(values) => Some(Value::List(values)),
-        None => None,
+    match take_items(cache, schema, wanted, nullable, reader, depth - 1) {
+        Some(values) => {
+            *place = Value::List(values);
+            true
+        }
+        None => false,
     }
 }
 
 /// The values of an array's items, in order.
 #[cycle(row)]
 fn take_items(
-    alloc: Global,
+    cache: &mut RowCache,
     schema: &Schema,
     wanted: &Wanted,
     nullable: bool,
@@ -207,12 +237,13 @@ fn take_items(
     ensures { IfSome result (λ values. ReadsItems depth reader.old reader.new
         (λ jsons. FitList (slots_of schema.now) nullable (wanted_single schema.now wanted.now) jsons values.items)) }
 {
-    let mut values = Vec::new(alloc);
+    let mut values = cache.list();
     'items: while !reader.take_end_array() {
-        let Some(value) = take_single(alloc, schema, wanted, nullable, reader, depth) else {
+        let mut item = Value::Null;
+        if !take_single(cache, schema, wanted, nullable, reader, depth, &mut item) {
             return None;
-        };
-        if values.push(value).is_err() {
+        }
+        if values.push(item).is_err() {
             return None;
         }
     }

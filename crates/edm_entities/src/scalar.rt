@@ -23,6 +23,7 @@ pub(crate) enum Scalar<'j> {
     Other,
 }
 
+#[inline(always)]
 pub(crate) fn json_number(held: &Number) -> JsonNumber
     ensures { IsJsonNumber result (number (number_view held.now)) }
 {

@@ -101,7 +101,8 @@ fn read_single(
         (λ found. FitsType (slots_of schema.now) nullable (single (wanted_single schema.now wanted.now)) found
         (val_of v (slots_of schema.now) (single (wanted_single schema.now wanted.now))))) }
     ensures fault { IfErr result (IsFaultOf (λ path flaw. IsFoundFault (Some (view json.now)) nullable path flaw
-        (λ found. IsValueFault (slots_of schema.now) nullable path (single (wanted_single schema.now wanted.now)) found flaw))) }
+        (λ found. IsValueFault (slots_of schema.now) nullable path
+        (single (wanted_single schema.now wanted.now)) found flaw))) }
 {
     if json.is_null() {
         return null_value(nullable);
@@ -120,8 +121,8 @@ fn read_value(
     ensures fits { (nullable : Bool) → IfOk result (λ v. FitsType (slots_of schema.now) nullable
         (single (wanted_single schema.now wanted.now)) (view json.now)
         (val_of v (slots_of schema.now) (single (wanted_single schema.now wanted.now)))) }
-    ensures fault { (nullable : Bool) → IfErr result (IsFaultOf (λ path flaw. IsValueFault (slots_of schema.now) nullable
-        path (single (wanted_single schema.now wanted.now)) (view json.now) flaw)) }
+    ensures fault { (nullable : Bool) → IfErr result (IsFaultOf (λ path flaw. IsValueFault (slots_of schema.now)
+        nullable path (single (wanted_single schema.now wanted.now)) (view json.now) flaw)) }
 {
     match *wanted {
         Wanted::Prim(prim) => leaf_read(read_primitive(alloc, prim, scalar_of(json))),
@@ -147,7 +148,8 @@ fn read_items(
         (λ found. FitsType (slots_of schema.now) nullable (collection (wanted_single schema.now wanted.now)) found
         (val_of v (slots_of schema.now) (collection (wanted_single schema.now wanted.now))))) }
     ensures fault { IfErr result (IsFaultOf (λ path flaw. IsFoundFault (Some (view json.now)) false path flaw
-        (λ found. IsValueFault (slots_of schema.now) nullable path (collection (wanted_single schema.now wanted.now)) found flaw))) }
+        (λ found. IsValueFault (slots_of schema.now) nullable path
+        (collection (wanted_single schema.now wanted.now)) found flaw))) }
 {
     if json.is_null() {
         return Err(fault_here(ReadFlaw::NullNotAllowed));

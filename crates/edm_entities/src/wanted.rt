@@ -13,6 +13,7 @@ pub(crate) enum Wanted {
 }
 
 /// What a property of that kind is read as; one that is not looked at as nothing.
+#[inline(always)]
 pub(crate) fn wanted_as(kind: PropertyKind) -> Option<Wanted>
     ensures { result ≡ wanted_as kind }
 {

@@ -1,4 +1,5 @@
 pub mod Collections
+pub mod RowLineJudges
 pub mod OneFault
 pub mod OneJudgment
 pub mod Renamed

@@ -1,5 +1,6 @@
 -- Definitions that private clauses alone cite.
 pub mod DocumentFaults
+pub mod FilterNow
 pub mod PlanSteps
 pub mod RunFailures
 pub mod Verdicts

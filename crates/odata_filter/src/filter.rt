@@ -4,7 +4,7 @@ ghost use Rattle.line_filter.specs.Kept.{Filters};
 ghost use Rattle.odata_filter.specs.RowJudgment.{rows_of};
 ghost use Rattle.odata_filter.specs.RunStops.{StopsBy};
 
-use crate::row_judge::RowJudge;
+use crate::row_line_judge::RowLineJudge;
 use crate::run_fault::{RunFault, run_fault};
 use edm_values::Moment;
 use line_filter::{Tally, filter_bytes, filter_reader};
@@ -32,11 +32,7 @@ pub fn filter_lines<R: Read + Drop, W: Write>(
         Writes (W.contents out.old) (W.contents out.new)
         (λ text. StopsBy (rows_of checked.now now.now bytes) text fault))) }
 {
-    let mut judge = RowJudge {
-        alloc,
-        checked,
-        moment: now,
-    };
+    let mut judge = RowLineJudge::new(alloc, checked, now);
     match filter_reader(alloc, &mut judge, rows, out) {
         Ok(tally) => Ok(tally),
         Err(stop) => Err(run_fault(stop)),
@@ -57,11 +53,7 @@ pub fn filter_slice(
         (λ text. StopsBy (rows_of checked.now now.now rows.now) text fault)) }
     ensures unread { IfErr result (λ fault. (line : ℕ) → fault ≢ RunFault.Read line) }
 {
-    let mut judge = RowJudge {
-        alloc,
-        checked,
-        moment: now,
-    };
+    let mut judge = RowLineJudge::new(alloc, checked, now);
     match filter_bytes(alloc, &mut judge, rows, out) {
         Ok(tally) => Ok(tally),
         Err(stop) => Err(run_fault(stop)),

@@ -9,7 +9,7 @@ ghost use Rattle.odata_filter.specs.RowJudgment.{JudgesRow, rows_of};
 ghost use Rattle.odata_filter.specs.RowsOnce.{AreSameFault, AreSameJudgment, IsOfRow};
 ghost use Rattle.odata_filter.specs.RunStops.{StopsBy};
 
-use crate::row_judge::RowJudge;
+use crate::row_line_judge::RowLineJudge;
 use edm_entities::{one_fault_is_first, one_value_fits, what_has_a_fault_fits_nothing};
 use edm_values::Moment;
 use line_filter::lines_stop_once;
@@ -34,10 +34,6 @@ pub fn rows_stop_once(alloc: Global, checked: &Checked<'_>, now: &Moment)
     one_value_fits();
     what_has_a_fault_fits_nothing();
     one_fault_is_first();
-    let judge = RowJudge {
-        alloc,
-        checked,
-        moment: now,
-    };
+    let judge = RowLineJudge::new(alloc, checked, now);
     lines_stop_once(&judge);
 }

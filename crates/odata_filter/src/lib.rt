@@ -7,6 +7,7 @@ mod command;
 mod filter;
 mod laws;
 mod row_judge;
+mod row_line_judge;
 mod run_fault;
 
 pub use bad_row::BadRow;

@@ -1,12 +1,16 @@
 ghost use Rattle.std.specs.Prelude.{◌≡◌, ◌≢◌, IfOk};
+ghost use Rattle.serde_json.specs.Data.{Data};
 ghost use Rattle.serde_json.specs.View.{view};
+ghost use Rattle.csdl_schema.specs.SchemaModel.{slots_of, type_name_at};
+ghost use Rattle.edm_entities.specs.Fits.{Fits};
+ghost use Rattle.edm_entities.specs.Row.{value_of};
 ghost use Rattle.odata_filter.specs.RowJudgment.{JudgesValue, JudgesRow};
 ghost use Rattle.odata_filter.specs.private.Verdicts.{judgment_of};
 
 use crate::bad_row::BadRow;
 use edm_entities::{Entity, RowFault};
 use edm_values::Moment;
-use line_filter::{Judge, Judgment};
+use line_filter::Judgment;
 use odata_eval::{EvalFault, Verdict, evaluate};
 use odata_typing::Checked;
 use serde_json::Value;
@@ -26,14 +30,40 @@ impl RowJudge<'_, '_> {
         ensures { IfOk result (JudgesValue self.now.checked.now self.now.moment.now (view json.now)) }
     {
         let (schema, type_id) = (self.checked.schema(), self.checked.filtered_type());
-        let entity = match Entity::from_json(self.alloc, schema, type_id, json) {
-            Ok(entity) => entity,
-            Err(RowFault::Memory) => return Err(AllocError),
-            Err(fault) => return Ok(Judgment::Fault(BadRow::NoEntity(fault))),
-        };
-        match evaluate(self.alloc, self.checked, &entity, self.moment) {
+        match Entity::from_json(self.alloc, schema, type_id, json) {
+            Ok(entity) => self.judge_entity(&entity),
+            Err(RowFault::Memory) => Err(AllocError),
+            Err(fault) => Ok(Judgment::Fault(BadRow::NoEntity(fault))),
+        }
+    }
+
+    /// Judges an entity of the filter's type.
+    pub(crate) fn judge_entity(&self, entity: &Entity<'_>) -> Result<Judgment<BadRow>, AllocError>
+        requires schema { entity.now.schema ≡ self.now.checked.now.schema }
+        requires type_id { entity.now.type_id ≡ self.now.checked.now.filtered }
+        ensures { (json : Data) → Fits (slots_of entity.now.schema)
+            (type_name_at entity.now.schema entity.now.type_id) json (value_of entity.now)
+            → IfOk result (JudgesValue self.now.checked.now self.now.moment.now json) }
+    {
+        match evaluate(self.alloc, self.checked, entity, self.moment) {
             Ok(verdict) => Ok(judgment_of(verdict)),
             Err(fault) => judgment_of_fault(fault),
+        }
+    }
+
+    /// Judges a line by way of a tree.
+    pub(crate) fn judge_line(&self, line: &[u8]) -> Result<Judgment<BadRow>, AllocError>
+        ensures { IfOk result (JudgesRow self.now.checked.now self.now.moment.now line.now) }
+    {
+        match Value::from_slice(self.alloc, line) {
+            Ok(json) => self.judge_value(&json),
+            Err(error) => {
+                if error.is_memory() {
+                    Err(AllocError)
+                } else {
+                    Ok(Judgment::Fault(BadRow::NotJson))
+                }
+            }
         }
     }
 }
@@ -57,25 +87,6 @@ fn judgment_of_fault(fault: EvalFault) -> Result<Judgment<BadRow>, AllocError>
         EvalFault::Memory => Err(AllocError),
         EvalFault::Overflow | EvalFault::DivideByZero => {
             Ok(Judgment::Fault(BadRow::NoValue(fault)))
-        }
-    }
-}
-
-impl Judge for RowJudge<'_, '_> {
-    type Fault = BadRow;
-
-    ghost says = { λ judge. JudgesRow judge.checked.now judge.moment.now };
-
-    fn judge(&mut self, line: &[u8]) -> Result<Judgment<BadRow>, AllocError> {
-        match Value::from_slice(self.alloc, line) {
-            Ok(json) => self.judge_value(&json),
-            Err(error) => {
-                if error.is_memory() {
-                    Err(AllocError)
-                } else {
-                    Ok(Judgment::Fault(BadRow::NotJson))
-                }
-            }
         }
     }
 }

@@ -1,9 +1,10 @@
-use csdl_schema::Schema;
-use edm_entities::Entity;
+use csdl_schema::{Schema, TypeId};
+use edm_entities::{Entity, RowReader};
 use serde_json::Value as Json;
 use std::alloc::{AllocError, Global};
 
-/// `entity`, or the fault with its path, of a row of the type of that name.
+/// `entity`, or the fault with its path, of a row of the type of that name. The row is read without a tree too, and
+/// where that does not agree, this is told.
 pub(crate) fn answer(
     alloc: Global,
     schema: &Schema,
@@ -20,7 +21,39 @@ pub(crate) fn answer(
         return "no JSON".to_owned(alloc);
     };
     match Entity::from_json(alloc, schema, type_id, &json) {
-        Ok(_) => "entity".to_owned(alloc),
-        Err(fault) => format!(in alloc; "{fault}"),
+        Ok(entity) => {
+            let value = entity.value();
+            let by_tree = format!(in alloc; "{value:?}")?;
+            without_tree(alloc, schema, type_id, row, by_tree.as_str())
+        }
+        Err(fault) => {
+            let told = format!(in alloc; "{fault}")?;
+            match RowReader::new(alloc, schema, type_id).read(row.as_bytes()) {
+                Some(_) => format!(in alloc; "{told}, but an entity without a tree"),
+                None => Ok(told),
+            }
+        }
+    }
+}
+
+/// `entity` where the row is one of that value without a tree too.
+fn without_tree(
+    alloc: Global,
+    schema: &Schema,
+    type_id: TypeId,
+    row: &str,
+    by_tree: &str,
+) -> Result<String, AllocError> {
+    match RowReader::new(alloc, schema, type_id).read(row.as_bytes()) {
+        Some(entity) => {
+            let value = entity.value();
+            let by_tokens = format!(in alloc; "{value:?}")?;
+            if by_tokens.as_str() == by_tree {
+                "entity".to_owned(alloc)
+            } else {
+                format!(in alloc; "{by_tokens} without a tree, {by_tree} with one")
+            }
+        }
+        None => "entity by the tree alone".to_owned(alloc),
     }
 }

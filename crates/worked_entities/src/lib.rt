@@ -5,6 +5,8 @@
 #[cfg(test)]
 mod answer;
 #[cfg(test)]
+mod drawn;
+#[cfg(test)]
 mod kinds;
 #[cfg(test)]
 mod lines;

@@ -28,19 +28,21 @@ fn by_tree(
     }
 }
 
-/// The same, without a tree.
+/// The same, without a tree. What the row took is given back for the rows to come.
 fn by_tokens(alloc: Global, reader: &mut RowReader<'_>, line: &[u8]) -> Result<String, AllocError> {
     match reader.read(line) {
         Some(entity) => {
             let value = entity.value();
-            format!(in alloc; "{value:?}")
+            let told = format!(in alloc; "{value:?}")?;
+            reader.take_back(entity);
+            Ok(told)
         }
         None => "".to_owned(alloc),
     }
 }
 
 /// Whether both ways answer alike, and whether that is an entity; told as a text, to be compared.
-fn both_ways(
+pub(crate) fn both_ways(
     alloc: Global,
     schema: &Schema,
     type_id: TypeId,
@@ -130,7 +132,8 @@ fn products(rt: HostRuntime) -> Result<(), Fail> {
     Ok(())
 }
 
-const ITEMS: &str =
+/// A type of items that may hold one another, and their schema.
+pub(crate) const ITEMS: &str =
     "{\"$Version\":\"4.01\",\"N\":{\"T\":{\"$Kind\":\"ComplexType\",\"T\":{\"$Type\":\"N.T\",\"$Nullable\":true}},\"A\":{\"$Kind\":\"EntityType\",\"ID\":{\"$Type\":\"Edm.Int32\"},\"Name\":{},\"Active\":{\"$Type\":\"Edm.Boolean\",\"$Nullable\":true},\"T\":{\"$Type\":\"N.T\",\"$Nullable\":true}}}}";
 
 /// A line of `N.A`, and the answer.
@@ -238,7 +241,7 @@ fn depths(rt: HostRuntime) -> Result<(), Fail> {
 }
 
 /// The next number of a fixed row of them.
-fn drawn(last: u64) -> u64 {
+pub(crate) fn drawn(last: u64) -> u64 {
     last.wrapping_mul(6_364_136_223_846_793_005)
         .wrapping_add(1_442_695_040_888_963_407)
 }

@@ -24,7 +24,7 @@ const CHANGED: &[(&str, &str)] = &[
         "entity",
     ),
     (",\"Price\":null", "entity"),
-    (",\"Rating\":40000,\"Rating\":4", "entity"),
+    (",\"Rating\":40000,\"Rating\":4", "entity by the tree alone"),
     (",\"Changed\":\"2020-01-01\"", "BadText Changed"),
     (",\"Color\":\"Red,,Blue\"", "BadText Color"),
     (",\"Color\":1", "WrongKind Color"),

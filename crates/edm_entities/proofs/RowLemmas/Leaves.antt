@@ -47,20 +47,21 @@ pub some_by : {V : Type 0} (r : Option V) (P Q : V → Type 0) → ((v : V) → 
 some_by (Some v) P Q by holds = by v holds
 some_by None P Q by holds = tt
 
-module _ (slots : Slots) (type : SingleType) (token : Token) (S : Data → Type 0) (read : Result Value ReadFlaw) where
-  pub leaf_taken : (result : Option Value) → ReadsToken token S
-      → ((json : Data) (nullable : Bool) → S json → IfOk read (λ v. FitsType slots nullable (single type) json (val_of v slots (single type))))
-      → IfSome result (λ v. read ≡ Result.Ok v) → IfSome result (λ v. ReadsToken token (FitsHoweverNullable slots (single type) v))
-  leaf_taken None reads fits is = tt
-  leaf_taken (Some v) reads fits is =
-      record {
-        json = reads.json;
-        is_read = reads.is_read;
-        no_null = reads.no_null;
-        holds = λ nullable.
-            let here = subst (λ (r : Result Value ReadFlaw). IfOk r (λ w. FitsType slots nullable (single type) reads.json (val_of w slots (single type)))) is (fits reads.json nullable reads.holds) in
-            other_fits reads.json nullable (val_of v slots (single type)) (λ found. FitsType slots nullable (single type) found (val_of v slots (single type))) reads.no_null here;
-      }
+pub value_of_read : (read : Result Value ReadFlaw) (P : Value → Type 0) (v : Value) → IfOk read P → read ≡ Result.Ok v → P v
+value_of_read read P v ok is = subst (λ (r : Result Value ReadFlaw). IfOk r P) is ok
+
+pub leaf_taken : (slots : Slots) (type : SingleType) (token : Token) (S : Data → Type 0) (v : Value) → ReadsToken token S
+    → ((json : Data) (nullable : Bool) → S json → FitsType slots nullable (single type) json (val_of v slots (single type)))
+    → ReadsToken token (FitsHoweverNullable slots (single type) v)
+leaf_taken slots type token S v reads fits =
+    record {
+      json = reads.json;
+      is_read = reads.is_read;
+      no_null = reads.no_null;
+      holds = λ nullable.
+          other_fits reads.json nullable (val_of v slots (single type)) (λ found. FitsType slots nullable (single type) found (val_of v slots (single type))) reads.no_null
+          (fits reads.json nullable reads.holds);
+    }
 
 pub null_reads : (depth : ℕ) (tokens rest : List Token) (P : Data → Type 0) → tokens ≡ Token.null ∷ rest → P null → Reads depth tokens rest P
 null_reads depth tokens rest P is holds =

@@ -1,5 +1,5 @@
 -- Slots by the names of their properties.
-use Rattle.std.proofs.Common.{◌≡◌, ◌≢◌, ℕ, suc, ◌+◌, List, [], ◌∷◌, map, Option, Some, None, MatchOption, slice_get, Bool, true, false, nat_eq, refl, sym, ap, ◌∙◌, arith}
+use Rattle.std.proofs.Common.{◌≡◌, ◌≢◌, ℕ, suc, ◌+◌, List, [], ◌∷◌, map, Some, None, slice_get, Bool, true, false, nat_eq, refl, sym, ap, ◌∙◌, arith}
 use Rattle.std.specs.Cmp.Lexicographic.{pointwise, same_text}
 use Rattle.std.specs.List.{AllByRecursion, position_from}
 use Rattle.std.proofs.lemmas.Cmp.{nat_list_eq_equiv}
@@ -40,16 +40,11 @@ module _ (name : List ℕ) where
           let rest : position_from has_name (k + 1) ps ≡ None = rw (← e) at is in
           (λ same. differ (e ∙ ap (pointwise nat_eq name) same ∙ nat_list_eq_equiv.refl name), further rest)
 
-slot_is_named : (name : List ℕ) (ps : List PropertyModel) (n : ℕ) → Some n ≡ slot_named ps name → slice_get (map (λ p. p.name) ps) n ≡ Some name
+pub slot_is_named : (name : List ℕ) (ps : List PropertyModel) (n : ℕ) → Some n ≡ slot_named ps name → slice_get (map (λ p. p.name) ps) n ≡ Some name
 slot_is_named name ps n is =
     let found = some_from name 0 n ps (sym (position_from-zero (has_name name) ps) ∙ sym is) in
     let same : n ≡ found.0 = omega (arith, found.1) in
     ap (slice_get (map (λ p. p.name) ps)) same ∙ found.2
 
-no_slot_is_named : (name : List ℕ) (ps : List PropertyModel) → None ≡ slot_named ps name → AllByRecursion (λ p. p.name ≢ name) ps
+pub no_slot_is_named : (name : List ℕ) (ps : List PropertyModel) → None ≡ slot_named ps name → AllByRecursion (λ p. p.name ≢ name) ps
 no_slot_is_named name ps is = none_from name 0 ps (sym (position_from-zero (has_name name) ps) ∙ sym is)
-
-pub slot_by_name : (name : List ℕ) (ps : List PropertyModel) (o : Option ℕ) → o ≡ slot_named ps name
-    → MatchOption o (AllByRecursion (λ p. p.name ≢ name) ps) (λ slot. slice_get (map (λ p. p.name) ps) slot ≡ Some name)
-slot_by_name name ps None is = no_slot_is_named name ps is
-slot_by_name name ps (Some n) is = slot_is_named name ps n is

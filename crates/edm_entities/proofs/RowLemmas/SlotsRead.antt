@@ -1,5 +1,5 @@
 -- The slots of a type, while the members of an object are read into them.
-use Rattle.std.proofs.Common.{◌≡◌, ◌≢◌, ◌⊎◌, inl, inr, ℕ, zero, suc, List, [], ◌∷◌, length, map, replicate, slice_set, take, ◌<◌, Bool, true, Option, Some, None, slice_get, get_or, IfSome, refl, sym, ap, ◌∙◌, subst, arith}
+use Rattle.std.proofs.Common.{◌≡◌, ◌≢◌, inl, inr, ℕ, zero, suc, List, [], ◌∷◌, length, map, replicate, slice_set, take, ◌<◌, Bool, true, Option, Some, None, slice_get, get_or, IfSome, refl, sym, ap, ◌∙◌, subst, arith}
 use Rattle.std.specs.List.{AllByRecursion}
 use Rattle.serde_json.specs.Data.{Data, Members, no_members, object, put}
 use Rattle.serde_json.specs.Find.{get_member}
@@ -107,17 +107,17 @@ value_at [] n v within is = absurd (omega arith)
 value_at (w ∷ values) zero v within is = ap Some (sym is)
 value_at (w ∷ values) (suc n) v within is = value_at values n v (omega arith) is
 
+-- a value of a property that may be absent is filled
+pub absent_filled : (schema : SchemaModel) (o : Option PropertyModel) (property : Property) (v : Value) → IfSome o (λ p. IsReadAs schema p property)
+    → may_be_absent (property_type schema property) property.nullable ≡ true → IfSome o (λ p. IsFilled p v)
+absent_filled schema None property v is may = tt
+absent_filled schema (Some p) property v is may =
+    inl (subst (λ (b : Bool). may_be_absent p.type_of b ≡ true) is.nullable (subst (λ (type : PropertyType). may_be_absent type property.nullable ≡ true) is.type_of may))
+
 -- a slot that is filled, after those before it
-pub fill_next : (schema : SchemaModel) (ps : List PropertyModel) (n : ℕ) (values : List Value) (v : Value) (property : Property) → n < length ps
-    → IfSome (slice_get ps n) (λ p. IsReadAs schema p property) → slice_get values n ≡ Some v
-    → (may_be_absent (property_type schema property) property.nullable ≡ true) ⊎ (v ≢ Null)
+pub fill_next : (ps : List PropertyModel) (n : ℕ) (values : List Value) (v : Value) → n < length ps → slice_get values n ≡ Some v → IfSome (slice_get ps n) (λ p. IsFilled p v)
     → HoldEach IsFilled (take n ps) (take n values) → HoldEach IsFilled (take (suc n) ps) (take (suc n) values)
-fill_next schema [] n values v property within is at filled hold = absurd (omega arith)
-fill_next schema (p ∷ ps) n [] v property within is at filled hold = absurd (cc)
-fill_next schema (p ∷ ps) zero (w ∷ values) v property within is at filled hold =
-    let same : w ≡ v = cc in (subst (λ (x : Value). IsFilled p x) (sym same) (by filled), tt)
-  where
-    by : (may_be_absent (property_type schema property) property.nullable ≡ true) ⊎ (v ≢ Null) → IsFilled p v
-    by (inl may) = inl (subst (λ (b : Bool). may_be_absent p.type_of b ≡ true) is.nullable (subst (λ (type : PropertyType). may_be_absent type property.nullable ≡ true) is.type_of may))
-    by (inr some) = inr some
-fill_next schema (p ∷ ps) (suc n) (w ∷ values) v property within is at filled hold = (hold.0, fill_next schema ps n values v property (omega arith) is at filled hold.1)
+fill_next [] n values v within at filled hold = absurd (omega arith)
+fill_next (p ∷ ps) n [] v within at filled hold = absurd (cc)
+fill_next (p ∷ ps) zero (w ∷ values) v within at filled hold = let same : w ≡ v = cc in (subst (λ (x : Value). IsFilled p x) (sym same) filled, tt)
+fill_next (p ∷ ps) (suc n) (w ∷ values) v within at filled hold = (hold.0, fill_next ps n values v (omega arith) at filled hold.1)

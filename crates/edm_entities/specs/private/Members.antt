@@ -22,5 +22,5 @@ count_of None = 0
 count_of (Some x) = 1
 
 -- how many members it has before it
-abbrev pub left_of : MemberWalk → ℕ
-left_of walk = count_of walk.at_hand + length walk.rest
+abbrev pub members_left : MemberWalk → ℕ
+members_left walk = count_of walk.at_hand + length walk.rest

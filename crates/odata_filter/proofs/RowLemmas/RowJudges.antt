@@ -38,6 +38,13 @@ row_of_filter filter json row s n of_schema of_type schema_is type_is fits =
       fits = subst Place type_is (subst Schema schema_is fits);
     }
 
+-- it fits by its own schema and type
+pub fits_of_row : (json : Data) (row : Row) (s : SchemaModel) (n : ℕ) → row.schema ≡ s → row.type_id ≡ n → Fits (slots_of s) (type_name_at s n) json (value_of row)
+    → Fits (slots_of row.schema) (type_name_at row.schema row.type_id) json (value_of row)
+fits_of_row json row s n of_schema of_type fits =
+    subst (λ n'. Fits (slots_of row.schema) (type_name_at row.schema n') json (value_of row)) (sym of_type)
+    (subst (λ s'. Fits (slots_of s') (type_name_at s' n) json (value_of row)) (sym of_schema) fits)
+
 -- the outcome on the entity is that of the JSON
 pub outcome_of_row : (filter : Filter) (now : MomentParts) (json : Data) (row : Row) (outcome : Outcome)
     → IsRowOf filter json row → IsTheOutcome row now (tree_of_filter filter) outcome → HasOutcome filter now json outcome

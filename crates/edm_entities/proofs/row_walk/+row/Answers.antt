@@ -1,4 +1,4 @@
-use Rattle.std.proofs.Common.{◌≡◌, ◌<◌, ◌∷◌, ◌++◌, [], true, false, length, Some, None, replicate, slice_get, slice_set, sym, ap, ◌∙◌, subst, rules, arith}
+use Rattle.std.proofs.Common.{◌≡◌, ◌<◌, ◌∷◌, ◌++◌, [], false, length, Some, None, replicate, slice_get, slice_set, sym, ap, ◌∙◌, subst, rules, arith}
 use Rattle.std.proofs.lemmas.Grind.{common_steps}
 use Rattle.json.specs.Token.{Token}
 use Rattle.json.specs.Json.{after_end_array, read_key}
@@ -24,7 +24,7 @@ use Rattle.edm_entities.proofs.SlotLemmas.SlotsByName.{as_many}
 use Rattle.edm_entities.proofs.row_walk.+row.Goals as goal
 
 pub take_array-returns-in-Some : goal.take_array-returns-in-Some
-take_array-returns-in-Some t c =
+take_array-returns-in-Some t c done =
     let slots = slots_of c.args.schema.now in
     let type = wanted_single c.args.schema.now c.args.wanted.now in
     let values = c.in-Some.values in
@@ -39,15 +39,15 @@ pub take_items-items-init : goal.take_items-items-init
 take_items-items-init t c =
     let slots = slots_of c.args.schema.now in
     let type = wanted_single c.args.schema.now c.args.wanted.now in
-    items_start c.args.depth c.args.reader.now (λ jsons. FitList slots c.args.nullable type jsons c.new-values.result.items)
-    (subst (λ vs. FitList slots c.args.nullable type no_items vs) (sym c.new-values.ensures.items) tt)
+    items_start c.args.depth c.args.reader.now (λ jsons. FitList slots c.args.nullable type jsons c.list-values.result.items)
+    (subst (λ vs. FitList slots c.args.nullable type no_items vs) (sym c.list-values.ensures) tt)
 
 pub take_items-items-smaller : goal.take_items-items-smaller
 take_items-items-smaller t c =
     let l = c.items in
-    let Q : (Data → Type 0) = FitsNullable (slots_of c.args.schema.now) c.args.nullable c.args.nullable (single (wanted_single c.args.schema.now c.args.wanted.now)) c.in-Some.value in
+    let Q : (Data → Type 0) = FitsNullable (slots_of c.args.schema.now) c.args.nullable c.args.nullable (single (wanted_single c.args.schema.now c.args.wanted.now)) c.take_single.new.place in
     let going : (after_end_array l.reader ≡ None) × (c.take_end_array.new.self ≡ l.reader) = grind arith in
-    let read : Reads c.args.depth l.reader c.take_single.new.reader Q = subst (λ ts. Reads c.args.depth ts c.take_single.new.reader Q) going.1 c.in-Some.ensures in
+    let read : Reads c.args.depth l.reader c.take_single.new.reader Q = subst (λ ts. Reads c.args.depth ts c.take_single.new.reader Q) going.1 (c.take_single.ensures c.if-not-take_single.false) in
     let less : length c.take_single.new.reader < length l.reader = read_shorter c.args.depth l.reader c.take_single.new.reader Q read in
     omega arith
 
@@ -57,10 +57,10 @@ take_items-items-preserved t c =
     let slots = slots_of c.args.schema.now in
     let type = wanted_single c.args.schema.now c.args.wanted.now in
     let nullable = c.args.nullable in
-    let v = c.in-Some.value in
+    let v = c.take_single.new.place in
     let Q : (Data → Type 0) = FitsNullable slots nullable nullable (single type) v in
     let going : (after_end_array l.reader ≡ None) × (c.take_end_array.new.self ≡ l.reader) = grind arith in
-    let read : Reads c.args.depth l.reader c.take_single.new.reader Q = subst (λ ts. Reads c.args.depth ts c.take_single.new.reader Q) going.1 c.in-Some.ensures in
+    let read : Reads c.args.depth l.reader c.take_single.new.reader Q = subst (λ ts. Reads c.args.depth ts c.take_single.new.reader Q) going.1 (c.take_single.ensures c.if-not-take_single.false) in
     let pushed : c.push.new.self.items ≡ l.values.items ++ v ∷ [] = grind (arith, common_steps) in
     item_more c.args.depth c.args.reader.now l.reader c.take_single.new.reader (λ jsons. FitList slots nullable type jsons l.values.items) Q
     (λ jsons. FitList slots nullable type jsons c.push.new.self.items) going.0
@@ -74,47 +74,49 @@ take_items-returns t c =
     items_over c.args.depth c.args.reader.now l.reader c.take_end_array.new.self
     (λ jsons. FitList (slots_of c.args.schema.now) c.args.nullable (wanted_single c.args.schema.now c.args.wanted.now) jsons l.values.items) closed l.invariant
 
-pub take_member-returns-in-Some-take_property : goal.take_member-returns-in-Some-take_property
-take_member-returns-in-Some-take_property t c done =
+pub take_member-returns-else-not-take_property-clause-read : goal.take_member-returns-else-not-take_property-clause-read
+take_member-returns-else-not-take_property-clause-read t c done =
     let schema = c.args.schema.now in
     let slots = slots_of schema in
     let ps = properties_at schema c.args.type_id in
     let name = c.args.name.now in
     let values = c.args.values.now.items in
-    let property = c.property-property.result.now in
+    let property = c.in-Some.property.now in
     let slot = c.in-Some.slot in
-    let v = c.in-Some-take_property.value in
+    let v = c.take_property.new.place in
     reads_as c.args.depth c.args.reader.now c.take_property.new.reader
     (λ json. FitsProperty slots property.nullable (property_type schema property) (Some json) (field_of slots (property_type schema property) (val_of v)))
     (λ json. (found : Members) → HasDistinctNames ps → SlotsSoFar schema c.args.type_id found values → SlotsSoFar schema c.args.type_id (put name json found) (slice_set values slot v))
-    (λ json fits found distinct so_far. slot_set slots found name json ps values slot v distinct c.in-Some.ensures
-    (property_fits schema slots (slice_get ps slot) property json v c.property-property.ensures fits) so_far)
-    c.in-Some-take_property.ensures
+    (λ json fits found distinct so_far. slot_set slots found name json ps values slot v distinct c.in-Some.ensures.slot.0
+    (property_fits schema slots (slice_get ps slot) property json v c.in-Some.ensures.slot.1 fits) so_far)
+    (c.take_property.ensures c.if-not-take_property.false)
 
-pub take_member-returns-in-None : goal.take_member-returns-in-None
-take_member-returns-in-None t c done =
+pub take_member-returns-in-None-clause-read : goal.take_member-returns-in-None-clause-read
+take_member-returns-in-None-clause-read t c done =
     let schema = c.args.schema.now in
     let name = c.args.name.now in
     let ps = properties_at schema c.args.type_id in
     let values = c.args.values.now.items in
     reads_as c.args.depth c.args.reader.now c.skip_value.new.reader (λ json. Unit {0})
     (λ json. (found : Members) → HasDistinctNames ps → SlotsSoFar schema c.args.type_id found values → SlotsSoFar schema c.args.type_id (put name json found) values)
-    (λ json _ found _ so_far. others_hold (slots_of schema) found name json ps values c.in-None.ensures so_far)
+    (λ json _ found _ so_far. others_hold (slots_of schema) found name json ps values c.in-None.ensures.slot so_far)
     (c.skip_value.ensures done)
 
 pub take_members-members-init : goal.take_members-members-init
 take_members-members-init t c =
     let schema = c.args.schema.now in
-    let values = c.in-Some.values.items in
-    members_start c.args.depth c.args.reader.now (λ found. SlotsSoFar schema c.args.type_id found values)
-    (slots_start schema c.args.type_id values (c.in-Some.ensures ∙ ap (λ n. replicate n Null) c.slots.ensures.count))
+    let values = c.in-Some.values.items in (
+      members_start c.args.depth c.args.reader.now (λ found. SlotsSoFar schema c.args.type_id found values)
+          (slots_start schema c.args.type_id values (c.in-Some.ensures ∙ ap (λ n. replicate n Null) c.slots.ensures.count)),
+      c.first_piece-lent.ensures,
+    )
 
 pub take_members-take_member-requires : goal.take_members-take_member-requires
 take_members-take_member-requires t c =
     let l = c.members in
     let schema = c.args.schema.now in
     let long : length l.values.items ≡ length (properties_at schema c.args.type_id) =
-    as_many (HoldsSoFar (slots_of schema) (λ name. get_member name l.invariant.found)) (properties_at schema c.args.type_id) l.values.items l.invariant.holds in
+    as_many (HoldsSoFar (slots_of schema) (λ name. get_member name l.invariant.0.found)) (properties_at schema c.args.type_id) l.values.items l.invariant.0.holds in
     search rules
 
 pub take_members-members-smaller : goal.take_members-members-smaller
@@ -127,7 +129,7 @@ take_members-members-smaller t c =
     let less : length c.take_member.new.reader < length c.next_key.new.self =
     read_shorter c.args.depth c.next_key.new.self c.take_member.new.reader
     (λ json. (found : Members) → HasDistinctNames (properties_at schema c.args.type_id) → SlotsSoFar schema c.args.type_id found l.values.items → SlotsSoFar schema c.args.type_id (put name json found) c.take_member.new.values.items)
-    (c.take_member.ensures c.if-not-take_member.false) in
+    (c.take_member.ensures.read c.if-not-take_member.false) in
     omega arith
 
 pub take_members-members-preserved : goal.take_members-members-preserved
@@ -135,18 +137,20 @@ take_members-members-preserved t c =
     let l = c.members in
     let schema = c.args.schema.now in
     let name = c.in-Some-key.name.now in
-    let named : read_key l.reader ≡ Some (Some name, c.next_key.new.self) = rw c.in-Some-key.is at c.in-Ok.ensures.value in
-    member_more c.args.depth c.args.reader.now l.reader c.next_key.new.self c.take_member.new.reader name
-    (λ found. SlotsSoFar schema c.args.type_id found l.values.items)
-    (λ json. (found : Members) → HasDistinctNames (properties_at schema c.args.type_id) → SlotsSoFar schema c.args.type_id found l.values.items → SlotsSoFar schema c.args.type_id (put name json found) c.take_member.new.values.items)
-    (λ found. SlotsSoFar schema c.args.type_id found c.take_member.new.values.items)
-    named (λ found json so_far more. more found c.slots.ensures.distinct so_far) (c.take_member.ensures c.if-not-take_member.false) l.invariant
+    let named : read_key l.reader ≡ Some (Some name, c.next_key.new.self) = rw c.in-Some-key.is at c.in-Ok.ensures.value in (
+      member_more c.args.depth c.args.reader.now l.reader c.next_key.new.self c.take_member.new.reader name
+          (λ found. SlotsSoFar schema c.args.type_id found l.values.items)
+          (λ json. (found : Members) → HasDistinctNames (properties_at schema c.args.type_id) → SlotsSoFar schema c.args.type_id found l.values.items → SlotsSoFar schema c.args.type_id (put name json found) c.take_member.new.values.items)
+          (λ found. SlotsSoFar schema c.args.type_id found c.take_member.new.values.items)
+          named (λ found json so_far more. more found c.slots.ensures.distinct so_far) (c.take_member.ensures.read c.if-not-take_member.false) l.invariant.0,
+      c.take_member.ensures.lent,
+    )
 
-pub take_members-if_filled-requires : goal.take_members-if_filled-requires
-take_members-if_filled-requires t c =
+pub take_members-if_filled-requires-clause-count : goal.take_members-if_filled-requires-clause-count
+take_members-if_filled-requires-clause-count t c =
     let l = c.members in
     let schema = c.args.schema.now in
-    as_many (HoldsSoFar (slots_of schema) (λ name. get_member name l.invariant.found)) (properties_at schema c.args.type_id) l.values.items l.invariant.holds
+    as_many (HoldsSoFar (slots_of schema) (λ name. get_member name l.invariant.0.found)) (properties_at schema c.args.type_id) l.values.items l.invariant.0.holds
 
 pub take_members-returns-in_default-key-clause-fits : goal.take_members-returns-in_default-key-clause-fits
 take_members-returns-in_default-key-clause-fits t c =
@@ -158,11 +162,11 @@ take_members-returns-in_default-key-clause-fits t c =
     (λ v. ReadsMembers c.args.depth c.args.reader.now c.next_key.new.self (λ found. FitSlots (slots_of schema) (object found) ps v.items))
     (λ v is. members_over c.args.depth c.args.reader.now l.reader c.next_key.new.self (λ found. SlotsSoFar schema c.args.type_id found l.values.items)
     (λ found. FitSlots (slots_of schema) (object found) ps v.items) closed
-    (λ found so_far. slots_over schema c.args.type_id found v.items is.1 (subst (λ w. SlotsSoFar schema c.args.type_id found w.items) (sym is.0) so_far)) l.invariant)
+    (λ found so_far. slots_over schema c.args.type_id found v.items is.1 (subst (λ w. SlotsSoFar schema c.args.type_id found w.items) (sym is.0) so_far)) l.invariant.0)
     c.if_filled.ensures
 
 pub take_record-returns-in-Some : goal.take_record-returns-in-Some
-take_record-returns-in-Some t c =
+take_record-returns-in-Some t c done =
     let schema = c.args.schema.now in
     let slots = slots_of schema in
     let id = c.in-Complex.id in
@@ -175,10 +179,9 @@ take_record-returns-in-Some t c =
     (λ found fits. record_held schema id values found c.in-Some.ensures.distinct fits) c.in-Some.ensures.fits)
 
 pub take_single-returns-in-Null : goal.take_single-returns-in-Null
-take_single-returns-in-Null t c =
+take_single-returns-in-Null t c done =
     let slots = slots_of c.args.schema.now in
     let type = wanted_single c.args.schema.now c.args.wanted.now in
     let first : c.args.reader.now ≡ Token.null ∷ c.next.new.self = c.in-Some.ensures.value ∙ ap (λ k. token_of k ∷ c.next.new.self) c.in-Null.is in
-    some_by c.null_if.result (λ v. (c.args.nullable ≡ true) × (v ≡ Null))
-    (λ v. Reads c.args.depth c.args.reader.now c.next.new.self (FitsNullable slots c.args.nullable c.args.nullable (single type) v))
-    (λ v is. null_taken slots c.args.nullable type c.args.depth c.args.reader.now c.next.new.self v first is.0 is.1) c.null_if.ensures
+    let is = c.put_null.ensures done in
+    null_taken slots c.args.nullable type c.args.depth c.args.reader.now c.next.new.self c.put_null.new.place first is.0 is.1

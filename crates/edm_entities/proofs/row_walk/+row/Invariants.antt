@@ -1,5 +1,6 @@
 use Rattle.std.proofs.Common.{◌+◌, ◌*◌, length}
 use Rattle.csdl_schema.specs.SchemaModel.{slots_of}
+use Rattle.edm_entities.specs.private.Lent.{IsLent}
 use Rattle.edm_entities.specs.private.RowTokens.{MembersLead, ItemsLead}
 use Rattle.edm_entities.specs.private.SlotsSoFar.{SlotsSoFar}
 use Rattle.edm_entities.specs.private.Walk.{FitList, wanted_single}
@@ -27,10 +28,11 @@ decreases-take_array l = 8 * l.depth + 1
 abbrev pub decreases-take_items : goal.decreases-take_items
 decreases-take_items l = 8 * l.depth + 2
 
--- the slots hold what was found among the members so far
+-- the slots hold what was found among the members so far, and the piece at hand is one of the type
 abbrev pub invariant-take_members-members : goal.invariant-take_members-members
 invariant-take_members-members l =
     MembersLead l.depth l.initial.reader l.reader (λ found. SlotsSoFar l.schema l.type_id found l.values.items)
+    × IsLent l.schema l.type_id l.lent
 
 abbrev pub decreases-take_members-members : goal.decreases-take_members-members
 decreases-take_members-members l = length l.reader
