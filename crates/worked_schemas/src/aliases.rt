@@ -1,5 +1,6 @@
 //! Aliases of namespaces (CSDL JSON 4.01, section 4).
-use crate::told::{answer, schema};
+use crate::found::{enumerations_go_by, has_slots, types_go_by};
+use crate::told::{answers, schema};
 use std::test::Fail;
 
 /// Schemas with an alias, and the answer.
@@ -25,51 +26,49 @@ const ALIASES: &[(&str, &str)] = &[
 
 #[test]
 fn aliases_of_their_own(rt: HostRuntime) -> Result<(), Fail> {
-    for &(schemas, wanted) in ALIASES {
-        let document = format!(in rt.alloc(); "{{'$Version':'4.0',{schemas}}}")?;
-        let told = answer(rt.alloc(), document.as_str())?;
-        assert_eq!(rt; told.as_str(), wanted, "at {schemas}");
-    }
-    Ok(())
+    answers(rt.alloc(), "{'$Version':'4.0',", ALIASES, "}")
 }
 
 const TWO_SCHEMAS: &str =
     "{'$Version':'4.0','A.B':{'$Alias':'S','T':{'$Kind':'EntityType','$BaseType':'R.U','P':{'$Type':'R.C'}}},'C':{'$Alias':'R','U':{'$Kind':'EntityType','Q':{}},'C':{'$Kind':'EnumType'}}}";
 
+/// Names, and the whole name of the entity or complex type that goes by each.
+const TYPES: &[(&str, Option<&str>)] = &[
+    ("S.T", Some("A.B.T")),
+    ("A.B.T", Some("A.B.T")),
+    ("T", None),
+    ("B.T", None),
+    ("A.T", None),
+    ("S.U", None),
+    ("R.T", None),
+    ("s.T", None),
+    (".T", None),
+    ("S.", None),
+    ("", None),
+    ("C.C", None),
+];
+
+/// Names, and the whole name of the enumeration that goes by each.
+const ENUMERATIONS: &[(&str, Option<&str>)] = &[
+    ("R.C", Some("C.C")),
+    ("C.C", Some("C.C")),
+    ("S.T", None),
+];
+
 /// A type goes by its namespace and by the alias of it.
 #[test]
 fn names_by_alias(rt: HostRuntime) -> Result<(), Fail> {
     let schema = schema(rt.alloc(), TWO_SCHEMAS)?;
-    let found = schema.type_named("S.T").ok_or("by alias")?;
-    assert!(rt; schema.type_named("A.B.T") == Some(found));
-    assert!(rt; schema.type_name(found) == Some("A.B.T"));
-    let color = schema.enum_named("R.C").ok_or("the enumeration")?;
-    assert!(rt; schema.enum_named("C.C") == Some(color) && schema.enum_name(color) == Some("C.C"));
-    Ok(())
+    types_go_by(&schema, TYPES)?;
+    enumerations_go_by(&schema, ENUMERATIONS)
 }
+
+/// The slots of `S.T`, which has a base.
+const SLOTS: &[(&str, &str)] = &[("Q", "String"), ("P", "C.C")];
 
 /// Each schema may name the other's types by alias.
 #[test]
 fn bases_by_alias(rt: HostRuntime) -> Result<(), Fail> {
     let schema = schema(rt.alloc(), TWO_SCHEMAS)?;
-    let found = schema.type_named("S.T").ok_or("by alias")?;
-    assert_eq!(rt; schema.slots(found), 2);
-    assert_eq!(rt; schema.slot(found, "Q"), Some(0));
-    assert_eq!(rt; schema.slot(found, "P"), Some(1));
-    Ok(())
-}
-
-/// Names of no entity or complex type.
-const NO_TYPES: &[&str] = &[
-    "T", "B.T", "A.T", "S.U", "R.T", "s.T", ".T", "S.", "", "C.C",
-];
-
-#[test]
-fn names_of_no_type(rt: HostRuntime) -> Result<(), Fail> {
-    let schema = schema(rt.alloc(), TWO_SCHEMAS)?;
-    for &unknown in NO_TYPES {
-        assert!(rt; schema.type_named(unknown).is_none(), "at {unknown}");
-    }
-    assert!(rt; schema.enum_named("S.T").is_none());
-    Ok(())
+    has_slots(rt.alloc(), &schema, "S.T", SLOTS)
 }

@@ -1,5 +1,7 @@
 //! Bases of types, and the properties along their chains (CSDL JSON 4.01, sections 6.1, 7 and 9.1).
-use crate::told::{answer_to, schema_of};
+use crate::found::{has_no_slots, has_slots};
+use crate::told::{CLOSED, OPENED, answer_to, answers, schema};
+use csdl_schema::{Schema, TypeId};
 use std::alloc::{AllocError, Global};
 use std::test::Fail;
 
@@ -93,11 +95,7 @@ const SMALL_CHAINS: &[(&str, &str)] = &[
 
 #[test]
 fn small_chains(rt: HostRuntime) -> Result<(), Fail> {
-    for &(members, wanted) in SMALL_CHAINS {
-        let told = answer_to(rt.alloc(), members)?;
-        assert_eq!(rt; told.as_str(), wanted, "at {members}");
-    }
-    Ok(())
+    answers(rt.alloc(), OPENED, SMALL_CHAINS, CLOSED)
 }
 
 /// So many complex types, `T100` and on: the first with `first` in it, each other with the one before it as its base.
@@ -133,8 +131,10 @@ const LONG_CHAINS: &[(usize, &str, &str)] = &[
 fn long_chains(rt: HostRuntime) -> Result<(), Fail> {
     for &(types, first, wanted) in LONG_CHAINS {
         let members = chain(rt.alloc(), types, first)?;
-        let told = answer_to(rt.alloc(), members.as_str())?;
-        assert_eq!(rt; told.as_str(), wanted, "{types} types, with {first}");
+        let told = answer_to(rt.alloc(), OPENED, members.as_str(), CLOSED)?;
+        if told.as_str() != wanted {
+            return Err(Fail::new(format_args!("{told}: {types} types, with {first}")));
+        }
     }
     Ok(())
 }
@@ -150,52 +150,44 @@ const OWNED: &[(&str, &str)] = &[
 #[test]
 fn owned_twice_far_apart(rt: HostRuntime) -> Result<(), Fail> {
     let above = chain(rt.alloc(), 64, ",'P':{},'O':{}")?;
-    for &(own, wanted) in OWNED {
-        let members = format!(in rt.alloc();
-            "{above},'Last':{{'$Kind':'ComplexType','$BaseType':'N.T163',{own}}}"
-        )?;
-        let told = answer_to(rt.alloc(), members.as_str())?;
-        assert_eq!(rt; told.as_str(), wanted, "at {own}");
-    }
-    Ok(())
+    let before = format!(in rt.alloc();
+        "{OPENED}{above},'Last':{{'$Kind':'ComplexType','$BaseType':'N.T163',"
+    )?;
+    answers(rt.alloc(), before.as_str(), OWNED, "}}}")
 }
 
 /// `N.A` with the base `N.B`, and this with the base `N.C`.
 const THREE_TYPES: &str =
-    "'A':{'$Kind':'EntityType','$BaseType':'N.B','a':{},'B':{}},'B':{'$Kind':'EntityType','$BaseType':'N.C'},'C':{'$Kind':'EntityType','Z':{},'Y':{'$Type':'Edm.Int32'}}";
+    "{'$Version':'4.01','N':{'A':{'$Kind':'EntityType','$BaseType':'N.B','a':{},'B':{}},'B':{'$Kind':'EntityType','$BaseType':'N.C'},'C':{'$Kind':'EntityType','Z':{},'Y':{'$Type':'Edm.Int32'}}}}";
 
-/// A slot of `N.A`, and the name of its property.
-const SLOTS: &[(usize, &str)] = &[(0, "Y"), (1, "Z"), (2, "B"), (3, "a")];
-
-/// The base's slots first, then the own ones in byte order, along three types.
-#[test]
-fn inherited_slots(rt: HostRuntime) -> Result<(), Fail> {
-    let schema = schema_of(rt.alloc(), THREE_TYPES)?;
-    let owner = schema.type_named("N.A").ok_or("the type")?;
-    assert_eq!(rt; schema.slots(owner), 4);
-    for &(slot, name) in SLOTS {
-        assert_eq!(rt; schema.slot(owner, name), Some(slot));
-        assert!(rt; slot < schema.slots(owner));
-        assert!(rt; schema.slot_name(owner, slot) == name, "at {slot}");
-    }
-    Ok(())
-}
+/// The slots of `N.A`.
+const SLOTS: &[(&str, &str)] = &[
+    ("Y", "Int32"),
+    ("Z", "String"),
+    ("B", "String"),
+    ("a", "String"),
+];
 
 /// Names that no property of `N.A` has.
 const NO_SLOTS: &[&str] = &["b", "A", "y", ""];
 
+/// The base's slots first, then the own ones in byte order, along three types.
+#[test]
+fn inherited_slots(rt: HostRuntime) -> Result<(), Fail> {
+    let schema = schema(rt.alloc(), THREE_TYPES)?;
+    has_no_slots(&schema, "N.A", NO_SLOTS)?;
+    has_slots(rt.alloc(), &schema, "N.A", SLOTS)
+}
+
+/// The slots of `N.B`.
+const BASE_SLOTS: &[(&str, &str)] = &[("Y", "Int32"), ("Z", "String")];
+
 /// The base has no property of its heir.
 #[test]
-fn names_of_no_slot(rt: HostRuntime) -> Result<(), Fail> {
-    let schema = schema_of(rt.alloc(), THREE_TYPES)?;
-    let owner = schema.type_named("N.A").ok_or("the type")?;
-    for &name in NO_SLOTS {
-        assert_eq!(rt; schema.slot(owner, name), None, "at {name}");
-    }
-    let above = schema.type_named("N.B").ok_or("its base")?;
-    assert_eq!(rt; schema.slots(above), 2);
-    assert_eq!(rt; schema.slot(above, "B"), None);
-    Ok(())
+fn slots_of_the_base(rt: HostRuntime) -> Result<(), Fail> {
+    let schema = schema(rt.alloc(), THREE_TYPES)?;
+    has_no_slots(&schema, "N.B", &["B"])?;
+    has_slots(rt.alloc(), &schema, "N.B", BASE_SLOTS)
 }
 
 /// A slot of `N.A`, how many the piece from there has, and the name of its first.
@@ -208,19 +200,27 @@ const PIECES: &[(usize, usize, &str)] = &[
     (9, 0, ""),
 ];
 
+/// Whether the piece from that slot has so many properties, and its first that name.
+fn is_piece(schema: &Schema, id: TypeId, slot: usize, count: usize, wanted: &str) -> bool {
+    let piece = schema.properties_from(id, slot);
+    if piece.len() != count {
+        return false;
+    }
+    if slot < schema.slots(id) && 0 < piece.len() {
+        let (name, property) = piece.entry(0);
+        name == wanted && *property == *schema.property(id, slot)
+    } else {
+        wanted.is_empty()
+    }
+}
+
 /// A piece goes on as far as one type of the chain has the properties itself; past the last slot it is empty.
 #[test]
 fn inherited_pieces(rt: HostRuntime) -> Result<(), Fail> {
-    let schema = schema_of(rt.alloc(), THREE_TYPES)?;
+    let schema = schema(rt.alloc(), THREE_TYPES)?;
     let owner = schema.type_named("N.A").ok_or("the type")?;
     for &(slot, count, wanted) in PIECES {
-        let piece = schema.properties_from(owner, slot);
-        assert_eq!(rt; piece.len(), count, "from {slot}");
-        if slot < schema.slots(owner) && 0 < piece.len() {
-            let (name, property) = piece.entry(0);
-            assert!(rt; name == wanted, "from {slot}");
-            assert!(rt; *property == *schema.property(owner, slot), "from {slot}");
-        }
+        assert!(rt; is_piece(&schema, owner, slot, count, wanted), "{slot}");
     }
     Ok(())
 }

@@ -1,5 +1,5 @@
 //! Whole documents: their size, version and namespaces (CSDL JSON 4.01, sections 2 to 4).
-use crate::told::{answer, answer_to};
+use crate::told::{CLOSED, OPENED, answers};
 use std::test::Fail;
 
 /// A document, and the answer.
@@ -32,11 +32,7 @@ const DOCUMENTS: &[(&str, &str)] = &[
 
 #[test]
 fn whole_documents(rt: HostRuntime) -> Result<(), Fail> {
-    for &(document, wanted) in DOCUMENTS {
-        let told = answer(rt.alloc(), document)?;
-        assert_eq!(rt; told.as_str(), wanted, "at {document}");
-    }
-    Ok(())
+    answers(rt.alloc(), "", DOCUMENTS, "")
 }
 
 /// Members of a namespace, and the answer.
@@ -76,9 +72,5 @@ const MEMBERS: &[(&str, &str)] = &[
 /// What a namespace may have beside types, and what it may not.
 #[test]
 fn members_of_a_namespace(rt: HostRuntime) -> Result<(), Fail> {
-    for &(members, wanted) in MEMBERS {
-        let told = answer_to(rt.alloc(), members)?;
-        assert_eq!(rt; told.as_str(), wanted, "at {members}");
-    }
-    Ok(())
+    answers(rt.alloc(), OPENED, MEMBERS, CLOSED)
 }

@@ -1,7 +1,11 @@
 //! Enumerations and type definitions (CSDL JSON 4.01, sections 10 and 11).
-use crate::told::{answer_to, schema_of};
+use crate::found::has_values;
+use crate::told::{answers, schema};
 use std::alloc::{AllocError, Global};
 use std::test::Fail;
+
+/// What begins a document of one enumeration, up to its kind.
+const ENUMERATION: &str = "{'$Version':'4.01','N':{'E':{'$Kind':'EnumType'";
 
 /// A number type, one of its bounds, and the number past it.
 const BOUNDS: &[(&str, &str, &str)] = &[
@@ -17,25 +21,17 @@ const BOUNDS: &[(&str, &str, &str)] = &[
     ("Int64", "9223372036854775807", "9223372036854775808"),
 ];
 
-/// The answer to an enumeration of this number type with a member of that number.
-fn answer_to_number(alloc: Global, underlying: &str, number: &str) -> Result<String, AllocError> {
-    let members = format!(in alloc;
-        "'E':{{'$Kind':'EnumType','$UnderlyingType':'Edm.{underlying}','X':{number}}}"
-    )?;
-    answer_to(alloc, members.as_str())
+/// Fails if the enumeration of this number type with a member of that number is not answered so.
+fn number_answers(alloc: Global, underlying: &str, number: &str, wanted: &str) -> Result<(), Fail> {
+    let body = format!(in alloc; ",'$UnderlyingType':'Edm.{underlying}','X':{number}")?;
+    answers(alloc, ENUMERATION, &[(body.as_str(), wanted)], "}}}")
 }
 
 #[test]
 fn bounds_of_numbers(rt: HostRuntime) -> Result<(), Fail> {
     for &(underlying, bound, past) in BOUNDS {
-        let told = answer_to_number(rt.alloc(), underlying, bound)?;
-        assert_eq!(rt; told.as_str(), "accepted", "{bound} of {underlying}");
-        let told = answer_to_number(rt.alloc(), underlying, past)?;
-        assert_eq!(rt;
-            told.as_str(),
-            "BadEnumMember N.E X",
-            "{past} of {underlying}"
-        );
+        number_answers(rt.alloc(), underlying, bound, "accepted")?;
+        number_answers(rt.alloc(), underlying, past, "BadEnumMember N.E X")?;
     }
     Ok(())
 }
@@ -73,12 +69,7 @@ const ENUMERATIONS: &[(&str, &str)] = &[
 
 #[test]
 fn declared_enumerations(rt: HostRuntime) -> Result<(), Fail> {
-    for &(body, wanted) in ENUMERATIONS {
-        let members = format!(in rt.alloc(); "'E':{{'$Kind':'EnumType'{body}}}")?;
-        let told = answer_to(rt.alloc(), members.as_str())?;
-        assert_eq!(rt; told.as_str(), wanted, "at {body}");
-    }
-    Ok(())
+    answers(rt.alloc(), ENUMERATION, ENUMERATIONS, "}}}")
 }
 
 /// What a type definition has beside its kind, and the answer.
@@ -97,32 +88,28 @@ const DEFINITIONS: &[(&str, &str)] = &[
 
 #[test]
 fn declared_definitions(rt: HostRuntime) -> Result<(), Fail> {
-    for &(body, wanted) in DEFINITIONS {
-        let members = format!(in rt.alloc(); "'D':{{'$Kind':'TypeDefinition'{body}}}")?;
-        let told = answer_to(rt.alloc(), members.as_str())?;
-        assert_eq!(rt; told.as_str(), wanted, "at {body}");
-    }
-    Ok(())
+    let before = "{'$Version':'4.01','N':{'D':{'$Kind':'TypeDefinition'";
+    answers(rt.alloc(), before, DEFINITIONS, "}}}")
 }
 
-/// An enumeration of so many members.
+/// A document of one enumeration of so many members.
 fn with_members(alloc: Global, count: usize) -> Result<String, AllocError> {
-    let mut text = "'E':{'$Kind':'EnumType'".to_owned(alloc)?;
+    let mut text = ENUMERATION.to_owned(alloc)?;
     for number in 0..count {
         let member = format!(in alloc; ",'M{number}':{number}")?;
         text.push_str(member.as_str())?;
     }
-    text.push('}')?;
+    text.push_str("}}}")?;
     Ok(text)
 }
+
+/// The last of 40,000 members, and one that is not there.
+const LAST: &[(&str, Option<i64>)] = &[("M39999", Some(39_999)), ("M40000", None)];
 
 /// An enumeration of 40,000 members: the last one has its number.
 #[test]
 fn many_members(rt: HostRuntime) -> Result<(), Fail> {
-    let members = with_members(rt.alloc(), 40_000)?;
-    let schema = schema_of(rt.alloc(), members.as_str())?;
-    let found = schema.enum_named("N.E").ok_or("the enumeration")?;
-    assert_eq!(rt; schema.enum_value(found, "M39999"), Some(39_999));
-    assert_eq!(rt; schema.enum_value(found, "M40000"), None);
-    Ok(())
+    let document = with_members(rt.alloc(), 40_000)?;
+    let schema = schema(rt.alloc(), document.as_str())?;
+    has_values(&schema, "N.E", LAST)
 }

@@ -1,57 +1,74 @@
 //! Which of two faults is told: all faults of types by themselves go before those of their bases, and within each of
 //! the two the order is that of the types' names.
 use crate::bases::chain;
-use crate::told::{answer, answer_to};
+use crate::limits::push_properties;
+use crate::told::{CLOSED, OPENED, answers};
 use std::alloc::{AllocError, Global};
 use std::test::Fail;
 
-/// Types with one fault each: `?` stands for the name; what is told; and whether it is a fault of bases.
-const FAULTY: &[(&str, &str, bool)] = &[
-    ("'?':5", "BadType N.?", false),
+/// Types `A` with one fault of their own, and what is told.
+const FAULTY_A: &[(&str, &str)] = &[
+    ("'A':5", "BadType N.A"),
+    ("'A':{'$Kind':'EntityType','$BaseType':5}", "BadType N.A"),
+    ("'A':{'$Kind':'EnumType','$IsFlags':5}", "BadType N.A"),
+    ("'A':{'$Kind':'ComplexType','P':5}", "BadProperty N.A P"),
+    ("'A':{'$Kind':'EnumType','X':1.5}", "BadEnumMember N.A X"),
+];
+
+/// The same types, named `B`.
+const FAULTY_B: &[(&str, &str)] = &[
+    ("'B':5", "BadType N.B"),
+    ("'B':{'$Kind':'EntityType','$BaseType':5}", "BadType N.B"),
+    ("'B':{'$Kind':'EnumType','$IsFlags':5}", "BadType N.B"),
+    ("'B':{'$Kind':'ComplexType','P':5}", "BadProperty N.B P"),
+    ("'B':{'$Kind':'EnumType','X':1.5}", "BadEnumMember N.B X"),
+];
+
+/// Types `A` with a fault of their bases, and what is told.
+const WRONG_BASES_A: &[(&str, &str)] = &[
     (
-        "'?':{'$Kind':'EntityType','$BaseType':5}",
-        "BadType N.?",
-        false,
+        "'A':{'$Kind':'ComplexType','$BaseType':'N.None'}",
+        "UnknownBase N.A",
     ),
     (
-        "'?':{'$Kind':'EnumType','$IsFlags':5}",
-        "BadType N.?",
-        false,
+        "'A':{'$Kind':'ComplexType','$BaseType':'N.A'}",
+        "BaseCycle N.A",
     ),
     (
-        "'?':{'$Kind':'ComplexType','P':5}",
-        "BadProperty N.? P",
-        false,
-    ),
-    (
-        "'?':{'$Kind':'EnumType','X':1.5}",
-        "BadEnumMember N.? X",
-        false,
-    ),
-    (
-        "'?':{'$Kind':'ComplexType','$BaseType':'N.None'}",
-        "UnknownBase N.?",
-        true,
-    ),
-    (
-        "'?':{'$Kind':'ComplexType','$BaseType':'N.?'}",
-        "BaseCycle N.?",
-        true,
-    ),
-    (
-        "'?':{'$Kind':'ComplexType','$BaseType':'N.T164'}",
+        "'A':{'$Kind':'ComplexType','$BaseType':'N.T164'}",
         "TooLarge",
-        true,
     ),
     (
-        "'?':{'$Kind':'ComplexType','$BaseType':'N.T100','P':{}}",
-        "PropertyTwice N.? P",
-        true,
+        "'A':{'$Kind':'ComplexType','$BaseType':'N.T100','P':{}}",
+        "PropertyTwice N.A P",
     ),
     (
-        "'?':{'$Kind':'ComplexType','$BaseType':'N.U','Q':{}}",
+        "'A':{'$Kind':'ComplexType','$BaseType':'N.U','Q':{}}",
         "TooLarge",
-        true,
+    ),
+];
+
+/// The same types, named `B`.
+const WRONG_BASES_B: &[(&str, &str)] = &[
+    (
+        "'B':{'$Kind':'ComplexType','$BaseType':'N.None'}",
+        "UnknownBase N.B",
+    ),
+    (
+        "'B':{'$Kind':'ComplexType','$BaseType':'N.B'}",
+        "BaseCycle N.B",
+    ),
+    (
+        "'B':{'$Kind':'ComplexType','$BaseType':'N.T164'}",
+        "TooLarge",
+    ),
+    (
+        "'B':{'$Kind':'ComplexType','$BaseType':'N.T100','P':{}}",
+        "PropertyTwice N.B P",
+    ),
+    (
+        "'B':{'$Kind':'ComplexType','$BaseType':'N.U','Q':{}}",
+        "TooLarge",
     ),
 ];
 
@@ -59,78 +76,71 @@ const FAULTY: &[(&str, &str, bool)] = &[
 fn bases(alloc: Global) -> Result<String, AllocError> {
     let mut text = chain(alloc, 65, ",'P':{}")?;
     text.push_str(",'U':{'$Kind':'ComplexType'")?;
-    for number in 0..1024_usize {
-        let property = format!(in alloc; ",'P{number}':{{}}")?;
-        text.push_str(property.as_str())?;
-    }
+    push_properties(&mut text, 'P', 1024)?;
     text.push_str("}")?;
     Ok(text)
 }
 
-/// Those of the bases that some types name.
-fn bases_of(alloc: Global, types: &str) -> Result<String, AllocError> {
-    let mut text = if types.contains("N.U") {
-        bases(alloc)?
+/// Those of the bases that two types name.
+fn bases_of(alloc: Global, first: &str, second: &str) -> Result<String, AllocError> {
+    if first.contains("N.U") || second.contains("N.U") {
+        bases(alloc)
+    } else if first.contains("N.T1") || second.contains("N.T1") {
+        chain(alloc, 65, ",'P':{}")
     } else {
-        chain(alloc, 65, ",'P':{}")?
-    };
-    if !types.contains("N.T1") && !types.contains("N.U") {
-        text.clear();
-        text.push_str("'U':{'$Kind':'ComplexType'}")?;
+        "'U':{'$Kind':'ComplexType'}".to_owned(alloc)
     }
-    Ok(text)
+}
+
+/// What ends a document behind a type that may name the bases.
+fn behind(alloc: Global) -> Result<String, AllocError> {
+    let bases = bases(alloc)?;
+    format!(in alloc; ",{bases}}}}}")
 }
 
 /// Each fault alone.
 #[test]
 fn one_fault(rt: HostRuntime) -> Result<(), Fail> {
     let bases = bases(rt.alloc())?;
-    let told = answer_to(rt.alloc(), bases.as_str())?;
-    assert_eq!(rt; told.as_str(), "accepted");
-    for &(body, fault, _) in FAULTY {
-        let body = body.replace(rt.alloc(), '?', "A")?;
-        let wanted = fault.replace(rt.alloc(), '?', "A")?;
-        let members = format!(in rt.alloc(); "{body},{bases}")?;
-        let told = answer_to(rt.alloc(), members.as_str())?;
-        assert_eq!(rt; told.as_str(), wanted.as_str(), "at {body}");
-    }
-    Ok(())
+    answers(rt.alloc(), OPENED, &[(bases.as_str(), "accepted")], CLOSED)?;
+    let behind = behind(rt.alloc())?;
+    answers(rt.alloc(), OPENED, FAULTY_A, behind.as_str())?;
+    answers(rt.alloc(), OPENED, WRONG_BASES_A, behind.as_str())
 }
 
-/// What is told of a type `A` with the first fault and a type `B` with the second.
-fn told_of_two(
+/// Fails if a document of two types and their bases, in both orders of place, is not answered so.
+fn two_answer(alloc: Global, first: &str, second: &str, wanted: &str) -> Result<(), Fail> {
+    let bases = bases_of(alloc, first, second)?;
+    let here = format!(in alloc; "{first},{second},{bases}")?;
+    let there = format!(in alloc; "{bases},{second},{first}")?;
+    let rows = [(here.as_str(), wanted), (there.as_str(), wanted)];
+    answers(alloc, OPENED, &rows, CLOSED)
+}
+
+/// Fails if of each of the first types with each of the second ones another fault is told than that of the first, or than
+/// that of the second where `is_second`.
+fn all_answer(
     alloc: Global,
-    first: (&str, bool),
-    second: (&str, bool),
-) -> Result<String, AllocError> {
-    let ((first, first_of_bases), (second, second_of_bases)) = (first, second);
-    if first_of_bases && !second_of_bases {
-        second.replace(alloc, '?', "B")
-    } else {
-        first.replace(alloc, '?', "A")
+    first_types: &[(&str, &str)],
+    second_types: &[(&str, &str)],
+    is_second: bool,
+) -> Result<(), Fail> {
+    for &(first, first_fault) in first_types {
+        for &(second, second_fault) in second_types {
+            let wanted = if is_second { second_fault } else { first_fault };
+            two_answer(alloc, first, second, wanted)?;
+        }
     }
+    Ok(())
 }
 
 /// Each fault of a type `A` with each of a type `B`, in both orders of place.
 #[test]
 fn two_faults(rt: HostRuntime) -> Result<(), Fail> {
-    for &(first, first_fault, first_of_bases) in FAULTY {
-        let first = first.replace(rt.alloc(), '?', "A")?;
-        for &(second, second_fault, second_of_bases) in FAULTY {
-            let second = second.replace(rt.alloc(), '?', "B")?;
-            let second_fault = (second_fault, second_of_bases);
-            let wanted = told_of_two(rt.alloc(), (first_fault, first_of_bases), second_fault)?;
-            let both = format!(in rt.alloc(); "{first},{second}")?;
-            let bases = bases_of(rt.alloc(), both.as_str())?;
-            let here = format!(in rt.alloc(); "{both},{bases}")?;
-            let told = answer_to(rt.alloc(), here.as_str())?;
-            assert_eq!(rt; told.as_str(), wanted.as_str(), "at {first}, {second}");
-            let there = format!(in rt.alloc(); "{bases},{second},{first}")?;
-            let told = answer_to(rt.alloc(), there.as_str())?;
-            assert_eq!(rt; told.as_str(), wanted.as_str(), "at {second}, {first}");
-        }
-    }
-    Ok(())
+    all_answer(rt.alloc(), FAULTY_A, FAULTY_B, false)?;
+    all_answer(rt.alloc(), FAULTY_A, WRONG_BASES_B, false)?;
+    all_answer(rt.alloc(), WRONG_BASES_A, FAULTY_B, true)?;
+    all_answer(rt.alloc(), WRONG_BASES_A, WRONG_BASES_B, false)
 }
 
 /// A type with two faults, and the one that is told.
@@ -169,13 +179,8 @@ const OF_ONE_TYPE: &[(&str, &str)] = &[
 /// Two faults of one type.
 #[test]
 fn faults_of_one_type(rt: HostRuntime) -> Result<(), Fail> {
-    let bases = bases(rt.alloc())?;
-    for &(body, wanted) in OF_ONE_TYPE {
-        let members = format!(in rt.alloc(); "{body},{bases}")?;
-        let told = answer_to(rt.alloc(), members.as_str())?;
-        assert_eq!(rt; told.as_str(), wanted, "at {body}");
-    }
-    Ok(())
+    let behind = behind(rt.alloc())?;
+    answers(rt.alloc(), OPENED, OF_ONE_TYPE, behind.as_str())
 }
 
 /// A document with two faults, and the one that is told.
@@ -198,9 +203,5 @@ const OF_DOCUMENTS: &[(&str, &str)] = &[
 /// Faults of the document, then of namespaces in byte order, then of types.
 #[test]
 fn faults_of_documents(rt: HostRuntime) -> Result<(), Fail> {
-    for &(document, wanted) in OF_DOCUMENTS {
-        let told = answer(rt.alloc(), document)?;
-        assert_eq!(rt; told.as_str(), wanted, "at {document}");
-    }
-    Ok(())
+    answers(rt.alloc(), "", OF_DOCUMENTS, "")
 }

@@ -1,69 +1,66 @@
 //! Properties: what they may have, and the kind that each type makes them (CSDL JSON 4.01, sections 7 to 9 and 11).
-use crate::told::{answer_to, schema_of};
-use csdl_schema::PropertyKind;
-use edm_values::Prim;
+use crate::found::is_slot;
+use crate::told::{answers, schema};
+use std::alloc::Global;
 use std::test::Fail;
 
-/// The kinds of types that have properties.
-const STRUCTURED: &[&str] = &["EntityType", "ComplexType"];
+/// What begins a document of the entity type `N.A`, up to its kind.
+const ENTITY_TYPE: &str = "{'$Version':'4.01','N':{'A':{'$Kind':'EntityType'";
 
-/// A property, and the answer to a type that has it.
+/// What begins a document of the complex type `N.A`, up to its kind.
+const COMPLEX_TYPE: &str = "{'$Version':'4.01','N':{'A':{'$Kind':'ComplexType'";
+
+/// A property with the comma before it, and the answer to a type that has it.
 const PROPERTIES: &[(&str, &str)] = &[
-    ("'P':{}", "accepted"),
+    (",'P':{}", "accepted"),
     (
-        "'P':{'$Kind':'Property','$Type':'Edm.Int32','$Collection':false,'$Nullable':false}",
+        ",'P':{'$Kind':'Property','$Type':'Edm.Int32','$Collection':false,'$Nullable':false}",
         "accepted",
     ),
     (
-        "'P':{'$Kind':'NavigationProperty','$Type':'N.A','$Partner':'Q','$ContainsTarget':true}",
+        ",'P':{'$Kind':'NavigationProperty','$Type':'N.A','$Partner':'Q','$ContainsTarget':true}",
         "accepted",
     ),
     (
-        "'P':{'$MaxLength':5,'$Precision':3,'$Scale':'variable','$SRID':0,'$Unicode':false}",
+        ",'P':{'$MaxLength':5,'$Precision':3,'$Scale':'variable','$SRID':0,'$Unicode':false}",
         "accepted",
     ),
     (
-        "'P':{'$DefaultValue':null,'@Core.Description':'a','X':5,'$ReferentialConstraint':{'a':'b'}}",
+        ",'P':{'$DefaultValue':null,'@Core.Description':'a','X':5,'$ReferentialConstraint':{'a':'b'}}",
         "accepted",
     ),
-    ("'P@Core.X':5,'$P':5,'@P':5", "accepted"),
-    ("'P':null", "BadProperty N.A P"),
-    ("'P':5", "BadProperty N.A P"),
-    ("'P':'Edm.Int32'", "BadProperty N.A P"),
-    ("'P':[]", "BadProperty N.A P"),
-    ("'P':true", "BadProperty N.A P"),
-    ("'P':{'$Kind':null}", "BadProperty N.A P"),
-    ("'P':{'$Kind':5}", "BadProperty N.A P"),
-    ("'P':{'$Kind':'Term'}", "BadProperty N.A P"),
-    ("'P':{'$Kind':'property'}", "BadProperty N.A P"),
-    ("'P':{'$Kind':'NavigationProperty'}", "BadProperty N.A P"),
+    (",'P@Core.X':5,'$P':5,'@P':5", "accepted"),
+    (",'P':null", "BadProperty N.A P"),
+    (",'P':5", "BadProperty N.A P"),
+    (",'P':'Edm.Int32'", "BadProperty N.A P"),
+    (",'P':[]", "BadProperty N.A P"),
+    (",'P':true", "BadProperty N.A P"),
+    (",'P':{'$Kind':null}", "BadProperty N.A P"),
+    (",'P':{'$Kind':5}", "BadProperty N.A P"),
+    (",'P':{'$Kind':'Term'}", "BadProperty N.A P"),
+    (",'P':{'$Kind':'property'}", "BadProperty N.A P"),
+    (",'P':{'$Kind':'NavigationProperty'}", "BadProperty N.A P"),
     (
-        "'P':{'$Kind':'NavigationProperty','$Type':null}",
+        ",'P':{'$Kind':'NavigationProperty','$Type':null}",
         "BadProperty N.A P",
     ),
-    ("'P':{'$Type':null}", "BadProperty N.A P"),
-    ("'P':{'$Type':5}", "BadProperty N.A P"),
-    ("'P':{'$Type':['Edm.Int32']}", "BadProperty N.A P"),
-    ("'P':{'$Collection':null}", "BadProperty N.A P"),
-    ("'P':{'$Collection':'true'}", "BadProperty N.A P"),
-    ("'P':{'$Nullable':null}", "BadProperty N.A P"),
-    ("'P':{'$Nullable':1}", "BadProperty N.A P"),
-    ("'1':{}", "BadProperty N.A 1"),
-    ("'':{}", "BadProperty N.A "),
-    ("'A.B':{}", "BadProperty N.A A.B"),
-    ("'Q':5,'P':5", "BadProperty N.A P"),
+    (",'P':{'$Type':null}", "BadProperty N.A P"),
+    (",'P':{'$Type':5}", "BadProperty N.A P"),
+    (",'P':{'$Type':['Edm.Int32']}", "BadProperty N.A P"),
+    (",'P':{'$Collection':null}", "BadProperty N.A P"),
+    (",'P':{'$Collection':'true'}", "BadProperty N.A P"),
+    (",'P':{'$Nullable':null}", "BadProperty N.A P"),
+    (",'P':{'$Nullable':1}", "BadProperty N.A P"),
+    (",'1':{}", "BadProperty N.A 1"),
+    (",'':{}", "BadProperty N.A "),
+    (",'A.B':{}", "BadProperty N.A A.B"),
+    (",'Q':5,'P':5", "BadProperty N.A P"),
 ];
 
 #[test]
 fn declared_properties(rt: HostRuntime) -> Result<(), Fail> {
-    for &(property, wanted) in PROPERTIES {
-        for &kind in STRUCTURED {
-            let members = format!(in rt.alloc(); "'A':{{'$Kind':'{kind}',{property}}}")?;
-            let told = answer_to(rt.alloc(), members.as_str())?;
-            assert_eq!(rt; told.as_str(), wanted, "{kind} with {property}");
-        }
-    }
-    Ok(())
+    answers(rt.alloc(), ENTITY_TYPE, PROPERTIES, "}}}")?;
+    answers(rt.alloc(), COMPLEX_TYPE, PROPERTIES, "}}}")
 }
 
 /// What a type has beside its kind, and the answer.
@@ -81,41 +78,21 @@ const BODIES: &[(&str, &str)] = &[
 /// What a type itself may have, and what it may not.
 #[test]
 fn declared_types(rt: HostRuntime) -> Result<(), Fail> {
-    for &(body, wanted) in BODIES {
-        for &kind in STRUCTURED {
-            let members = format!(in rt.alloc(); "'A':{{'$Kind':'{kind}'{body}}}")?;
-            let told = answer_to(rt.alloc(), members.as_str())?;
-            assert_eq!(rt; told.as_str(), wanted, "{kind} with {body}");
-        }
-    }
-    Ok(())
+    answers(rt.alloc(), ENTITY_TYPE, BODIES, "}}}")?;
+    answers(rt.alloc(), COMPLEX_TYPE, BODIES, "}}}")
 }
 
-const TYPES: &str =
-    "'A':{'$Kind':'EntityType'},'C':{'$Kind':'ComplexType'},'E':{'$Kind':'EnumType'},'I':{'$Kind':'TypeDefinition','$UnderlyingType':'Edm.Int32'},'DE':{'$Kind':'TypeDefinition','$UnderlyingType':'N.E'},'DI':{'$Kind':'TypeDefinition','$UnderlyingType':'N.I'},'DD':{'$Kind':'TypeDefinition','$UnderlyingType':'Edm.Decimal'}";
-
-/// `opaque`, `enumeration`, and so on.
-fn kind_name(kind: PropertyKind) -> &'static str {
-    match kind {
-        PropertyKind::Prim(Prim::Bool) => "Boolean",
-        PropertyKind::Prim(Prim::Int32) => "Int32",
-        PropertyKind::Prim(Prim::String) => "String",
-        PropertyKind::Prim(Prim::Guid) => "Guid",
-        PropertyKind::Prim(_) => "primitive",
-        PropertyKind::Enum(_) => "enumeration",
-        PropertyKind::Complex(_) => "complex",
-        PropertyKind::Opaque => "opaque",
-        PropertyKind::Navigation => "navigation",
-    }
-}
+/// What begins a document with types of each kind and a property `E` of `N.T`.
+const KINDS_BEFORE: &str =
+    "{'$Version':'4.01','N':{'$Alias':'S','A':{'$Kind':'EntityType'},'C':{'$Kind':'ComplexType'},'E':{'$Kind':'EnumType'},'I':{'$Kind':'TypeDefinition','$UnderlyingType':'Edm.Int32'},'DE':{'$Kind':'TypeDefinition','$UnderlyingType':'N.E'},'DI':{'$Kind':'TypeDefinition','$UnderlyingType':'N.I'},'DD':{'$Kind':'TypeDefinition','$UnderlyingType':'Edm.Decimal'},'T':{'$Kind':'EntityType','E':{";
 
 /// What a property has, and its kind.
 const KINDS: &[(&str, &str)] = &[
     ("", "String"),
     ("'$Type':'Edm.Boolean'", "Boolean"),
     ("'$Type':'Edm.Int32'", "Int32"),
-    ("'$Type':'Edm.Byte'", "primitive"),
-    ("'$Type':'Edm.DateTimeOffset'", "primitive"),
+    ("'$Type':'Edm.Byte'", "Byte"),
+    ("'$Type':'Edm.DateTimeOffset'", "DateTimeOffset"),
     ("'$Type':'Edm.Guid'", "Guid"),
     ("'$Type':'Edm.Decimal'", "opaque"),
     ("'$Type':'Edm.Duration'", "opaque"),
@@ -123,10 +100,10 @@ const KINDS: &[(&str, &str)] = &[
     ("'$Type':'N.None'", "opaque"),
     ("'$Type':''", "opaque"),
     ("'$Type':'N.A'", "opaque"),
-    ("'$Type':'N.C'", "complex"),
-    ("'$Type':'S.C'", "complex"),
-    ("'$Type':'N.E'", "enumeration"),
-    ("'$Type':'S.E'", "enumeration"),
+    ("'$Type':'N.C'", "N.C"),
+    ("'$Type':'S.C'", "N.C"),
+    ("'$Type':'N.E'", "N.E"),
+    ("'$Type':'S.E'", "N.E"),
     ("'$Type':'N.I'", "Int32"),
     ("'$Type':'S.I'", "Int32"),
     ("'$Type':'N.DE'", "opaque"),
@@ -139,54 +116,51 @@ const KINDS: &[(&str, &str)] = &[
     ),
 ];
 
-/// The kind of a property of each type, as it stands and by alias.
-#[test]
-fn kinds_of_properties(rt: HostRuntime) -> Result<(), Fail> {
-    for &(property, wanted) in KINDS {
-        let members = format!(in rt.alloc();
-            "'$Alias':'S',{TYPES},'T':{{'$Kind':'EntityType','E':{{{property}}}}}"
-        )?;
-        let schema = schema_of(rt.alloc(), members.as_str())?;
-        let owner = schema.type_named("N.T").ok_or("the type")?;
-        assert!(rt; schema.slots(owner) == 1);
-        let found = schema.property(owner, 0);
-        assert_eq!(rt; kind_name(found.kind), wanted, "at {property}");
-        assert!(rt; !found.many && !found.nullable);
+/// Whether `N.T` has one property, of that name and shown so.
+fn is_shown(alloc: Global, document: &str, row: (&str, &str)) -> Result<bool, Fail> {
+    let schema = schema(alloc, document)?;
+    match schema.type_named("N.T") {
+        Some(id) => Ok(schema.slots(id) == 1 && is_slot(alloc, &schema, id, 0, row)?),
+        None => Ok(false),
+    }
+}
+
+/// Fails at the first property that, between `before` and the end of a document, is not shown so.
+fn shows(alloc: Global, before: &str, name: &str, rows: &[(&str, &str)]) -> Result<(), Fail> {
+    for &(property, wanted) in rows {
+        let document = format!(in alloc; "{before}{property}}}}}}}}}")?;
+        if !is_shown(alloc, document.as_str(), (name, wanted))? {
+            return Err(Fail::new(format_args!("not {wanted}: {property}")));
+        }
     }
     Ok(())
 }
 
-/// What a property has, whether it has many values, and whether it may be null.
-const MANY_AND_NULLABLE: &[(&str, bool, bool)] = &[
-    ("", false, false),
-    ("'$Nullable':true", false, true),
-    ("'$Collection':true", true, false),
-    ("'$Collection':true,'$Nullable':true", true, true),
+/// The kind of a property of each type, as it stands and by alias.
+#[test]
+fn kinds_of_properties(rt: HostRuntime) -> Result<(), Fail> {
+    shows(rt.alloc(), KINDS_BEFORE, "E", KINDS)
+}
+
+/// What a property has, and how it is shown: `?` behind its kind if it is nullable, and `*` if there are many.
+const MANY_AND_NULLABLE: &[(&str, &str)] = &[
+    ("", "String"),
+    ("'$Nullable':true", "String?"),
+    ("'$Collection':true", "String*"),
+    ("'$Collection':true,'$Nullable':true", "String?*"),
     (
         "'$Type':'Edm.Decimal','$Collection':true,'$Nullable':true",
-        true,
-        true,
+        "opaque?*",
     ),
     (
         "'$Kind':'NavigationProperty','$Type':'N.T','$Collection':true",
-        true,
-        false,
+        "navigation*",
     ),
 ];
 
 /// One value or many, null or not.
 #[test]
 fn many_and_nullable(rt: HostRuntime) -> Result<(), Fail> {
-    for &(property, many, nullable) in MANY_AND_NULLABLE {
-        let members = format!(in rt.alloc(); "'T':{{'$Kind':'ComplexType','P':{{{property}}}}}")?;
-        let schema = schema_of(rt.alloc(), members.as_str())?;
-        let owner = schema.type_named("N.T").ok_or("the type")?;
-        assert!(rt; schema.slots(owner) == 1);
-        let found = schema.property(owner, 0);
-        assert!(rt;
-            found.many == many && found.nullable == nullable,
-            "at {property}"
-        );
-    }
-    Ok(())
+    let before = "{'$Version':'4.01','N':{'T':{'$Kind':'ComplexType','P':{";
+    shows(rt.alloc(), before, "P", MANY_AND_NULLABLE)
 }

@@ -12,6 +12,8 @@ mod enumerations;
 #[cfg(test)]
 mod fault_order;
 #[cfg(test)]
+mod found;
+#[cfg(test)]
 mod kinds;
 #[cfg(test)]
 mod limits;

@@ -1,5 +1,5 @@
 //! The limits of a document and of a type, and what lies next to them.
-use crate::told::{answer, answer_to};
+use crate::told::{CLOSED, OPENED, answer_to};
 use std::alloc::{AllocError, Global};
 use std::test::Fail;
 
@@ -41,8 +41,22 @@ const TYPES: &[(usize, &str, &str, &str)] = &[
 fn numbers_of_types(rt: HostRuntime) -> Result<(), Fail> {
     for &(count, kind, others, wanted) in TYPES {
         let members = many_types(rt.alloc(), count, kind, others)?;
-        let told = answer_to(rt.alloc(), members.as_str())?;
-        assert_eq!(rt; told.as_str(), wanted, "{count} of {kind}");
+        let told = answer_to(rt.alloc(), OPENED, members.as_str(), CLOSED)?;
+        if told.as_str() != wanted {
+            return Err(Fail::new(format_args!("{told}: {count} of {kind}")));
+        }
+    }
+    Ok(())
+}
+
+/// Appends so many properties, whose names begin so.
+pub(crate) fn push_properties(
+    text: &mut String,
+    letter: char,
+    count: usize,
+) -> Result<(), AllocError> {
+    for number in 0..count {
+        write!(text, ",'{letter}{number}':{{}}")?;
     }
     Ok(())
 }
@@ -50,15 +64,9 @@ fn numbers_of_types(rt: HostRuntime) -> Result<(), Fail> {
 /// A type of so many properties of its own, and an heir with so many.
 fn many_properties(alloc: Global, base: usize, own: usize) -> Result<String, AllocError> {
     let mut text = "'B':{'$Kind':'ComplexType'".to_owned(alloc)?;
-    for number in 0..base {
-        let property = format!(in alloc; ",'B{number}':{{}}")?;
-        text.push_str(property.as_str())?;
-    }
+    push_properties(&mut text, 'B', base)?;
     text.push_str("},'A':{'$Kind':'ComplexType','$BaseType':'N.B'")?;
-    for number in 0..own {
-        let property = format!(in alloc; ",'A{number}':{{}}")?;
-        text.push_str(property.as_str())?;
-    }
+    push_properties(&mut text, 'A', own)?;
     text.push_str("}")?;
     Ok(text)
 }
@@ -78,26 +86,31 @@ const PROPERTIES: &[(usize, usize, &str)] = &[
 fn numbers_of_properties(rt: HostRuntime) -> Result<(), Fail> {
     for &(base, own, wanted) in PROPERTIES {
         let members = many_properties(rt.alloc(), base, own)?;
-        let told = answer_to(rt.alloc(), members.as_str())?;
-        assert_eq!(rt; told.as_str(), wanted, "{base} inherited, {own} own");
+        let told = answer_to(rt.alloc(), OPENED, members.as_str(), CLOSED)?;
+        if told.as_str() != wanted {
+            return Err(Fail::new(format_args!("{told}: {base} inherited, {own} own")));
+        }
     }
     Ok(())
 }
 
-/// What stands at the end of a text of 1,048,576 bytes, and the answer.
-const LAST: &[(&str, &str)] = &[("{'$Version':'4.01'}", "accepted"), ("{", "NotJson")];
+/// What stands at the end of a text of 1,048,576 bytes, what stands behind that, and the answer.
+const LAST: &[(&str, &str, &str)] = &[
+    ("{'$Version':'4.01'}", "", "accepted"),
+    ("{'$Version':'4.01'}", " ", "TooLarge"),
+    ("{", "", "NotJson"),
+    ("{", " ", "TooLarge"),
+];
 
 /// 1,048,576 bytes are read; the size goes before all else.
 #[test]
 fn sizes(rt: HostRuntime) -> Result<(), Fail> {
-    for &(text, wanted) in LAST {
-        let mut document = " ".repeat(rt.alloc(), 1_048_576_usize.saturating_sub(text.len()))?;
-        document.push_str(text)?;
-        let told = answer(rt.alloc(), document.as_str())?;
-        assert_eq!(rt; told.as_str(), wanted, "at {text}");
-        document.push_str(" ")?;
-        let told = answer(rt.alloc(), document.as_str())?;
-        assert_eq!(rt; told.as_str(), "TooLarge", "at {text}");
+    for &(text, behind, wanted) in LAST {
+        let blanks = " ".repeat(rt.alloc(), 1_048_576_usize.saturating_sub(text.len()))?;
+        let told = answer_to(rt.alloc(), blanks.as_str(), text, behind)?;
+        if told.as_str() != wanted {
+            return Err(Fail::new(format_args!("{told}, not {wanted}: {text}")));
+        }
     }
     Ok(())
 }

@@ -1,8 +1,7 @@
 //! The look-ups of a schema of enumerations, complex types and an entity type.
+use crate::found::{enumerations_go_by, has_no_slots, has_slots, has_values, types_go_by};
 use crate::told::schema;
-use csdl_schema::{Property, PropertyKind, Schema, TypeId};
-use edm_values::Prim;
-use std::alloc::{AllocError, Global};
+use csdl_schema::{PropertyKind, Schema};
 use std::test::Fail;
 
 const SHOP: &str = "{'$Version':'4.01','Shop':{'$Alias':'S',
@@ -17,122 +16,85 @@ const SHOP: &str = "{'$Version':'4.01','Shop':{'$Alias':'S',
 'Tags':{'$Collection':true},'Price':{'$Type':'Edm.Decimal'},
 'Home':{'$Type':'Shop.Address','$Nullable':true},'Parts':{'$Type':'Shop.Part','$Collection':true}}}}";
 
-fn prim_name(prim: Prim) -> &'static str {
-    match prim {
-        Prim::Bool => "Boolean",
-        Prim::Int16 => "Int16",
-        Prim::Int32 => "Int32",
-        Prim::Int64 => "Int64",
-        Prim::String => "String",
-        Prim::Date => "Date",
-        Prim::DateTimeOffset => "DateTimeOffset",
-        Prim::Guid => "Guid",
-        Prim::Byte | Prim::SByte => "another",
-    }
-}
-
-/// A name, if there is one.
-fn push_name(text: &mut String, name: Option<&str>) -> Result<(), AllocError> {
-    match name {
-        Some(name) => text.push_str(name),
-        None => text.push_str("none"),
-    }
-}
-
-/// A property's kind, by names; `?` behind it if it is nullable, and `*` if there are many.
-fn shown(alloc: Global, schema: &Schema, found: &Property) -> Result<String, AllocError> {
-    let mut text = String::new(alloc);
-    match found.kind {
-        PropertyKind::Prim(prim) => text.push_str(prim_name(prim))?,
-        PropertyKind::Enum(color) => push_name(&mut text, schema.enum_name(color))?,
-        PropertyKind::Complex(part) => push_name(&mut text, schema.type_name(part))?,
-        PropertyKind::Opaque => text.push_str("opaque")?,
-        PropertyKind::Navigation => text.push_str("navigation")?,
-    }
-    if found.nullable {
-        text.push_str("?")?;
-    }
-    if found.many {
-        text.push_str("*")?;
-    }
-    Ok(text)
-}
-
-/// Whether the type has a property of that name at that slot, shown so.
-fn is_slot(
-    alloc: Global,
-    schema: &Schema,
-    id: TypeId,
-    slot: usize,
-    name: &str,
-    wanted: &str,
-) -> Result<bool, AllocError> {
-    if slot >= schema.slots(id) {
-        return Ok(false);
-    }
-    if schema.slot(id, name) != Some(slot) || schema.slot_name(id, slot) != name {
-        return Ok(false);
-    }
-    let found = shown(alloc, schema, schema.property(id, slot))?;
-    Ok(found.as_str() == wanted)
-}
-
-/// A slot of a product, the name of its property, and this property.
-const SLOTS: &[(usize, &str, &str)] = &[
-    (0, "Active", "Boolean?"),
-    (1, "Changed", "DateTimeOffset"),
-    (2, "Code", "Guid"),
-    (3, "Color", "Shop.Color"),
-    (4, "Home", "Shop.Address?"),
-    (5, "ID", "Int32"),
-    (6, "Name", "String"),
-    (7, "Parts", "Shop.Part*"),
-    (8, "Price", "opaque"),
-    (9, "Rating", "Int16?"),
-    (10, "Released", "Date?"),
-    (11, "Stock", "Int64"),
-    (12, "Tags", "String*"),
+/// The slots of a product.
+const SLOTS: &[(&str, &str)] = &[
+    ("Active", "Boolean?"),
+    ("Changed", "DateTimeOffset"),
+    ("Code", "Guid"),
+    ("Color", "Shop.Color"),
+    ("Home", "Shop.Address?"),
+    ("ID", "Int32"),
+    ("Name", "String"),
+    ("Parts", "Shop.Part*"),
+    ("Price", "opaque"),
+    ("Rating", "Int16?"),
+    ("Released", "Date?"),
+    ("Stock", "Int64"),
+    ("Tags", "String*"),
 ];
-
-#[test]
-fn slots_of_a_product(rt: HostRuntime) -> Result<(), Fail> {
-    let schema = schema(rt.alloc(), SHOP)?;
-    let product = schema.type_named("S.Product").ok_or("the type")?;
-    assert!(rt; schema.holds(product) && schema.is_entity(product));
-    assert!(rt; schema.type_name(product) == Some("Shop.Product"));
-    assert_eq!(rt; schema.slots(product), 13);
-    for &(slot, name, wanted) in SLOTS {
-        let is_there = is_slot(rt.alloc(), &schema, product, slot, name, wanted)?;
-        assert!(rt; is_there, "at {slot}");
-    }
-    Ok(())
-}
 
 /// Names that no property of a product has.
 const NO_SLOTS: &[&str] = &["active", "$Key", "Qty", ""];
 
 #[test]
-fn names_of_no_slot(rt: HostRuntime) -> Result<(), Fail> {
+fn slots_of_a_product(rt: HostRuntime) -> Result<(), Fail> {
     let schema = schema(rt.alloc(), SHOP)?;
-    let product = schema.type_named("S.Product").ok_or("the type")?;
-    for &name in NO_SLOTS {
-        assert_eq!(rt; schema.slot(product, name), None, "at {name}");
+    has_no_slots(&schema, "S.Product", NO_SLOTS)?;
+    has_slots(rt.alloc(), &schema, "S.Product", SLOTS)
+}
+
+/// The slots of a part.
+const PART_SLOTS: &[(&str, &str)] = &[("Name", "String"), ("Qty", "Int32"), ("Sub", "Shop.Part*")];
+
+/// Whether `Shop.Part` is held, is no entity type, and has values of its own type at its last slot.
+fn has_parts_of_parts(schema: &Schema) -> bool {
+    match schema.type_named("Shop.Part") {
+        Some(part) if schema.holds(part) && !schema.is_entity(part) && 2 < schema.slots(part) => {
+            schema.property(part, 2).kind == PropertyKind::Complex(part)
+        }
+        _ => false,
     }
-    Ok(())
 }
 
 /// Complex types are held and are no entity types; a type may have values of its own type.
 #[test]
 fn slots_of_complex_types(rt: HostRuntime) -> Result<(), Fail> {
     let schema = schema(rt.alloc(), SHOP)?;
-    let part = schema.type_named("Shop.Part").ok_or("the type")?;
-    assert!(rt; schema.holds(part) && !schema.is_entity(part));
-    assert_eq!(rt; schema.slots(part), 3);
-    assert_eq!(rt; schema.slot(part, "Sub"), Some(2));
-    assert!(rt; 2 < schema.slots(part));
-    let sub = schema.property(part, 2);
-    assert!(rt; sub.kind == PropertyKind::Complex(part) && sub.many && !sub.nullable);
-    Ok(())
+    assert!(rt; has_parts_of_parts(&schema));
+    has_slots(rt.alloc(), &schema, "Shop.Part", PART_SLOTS)
+}
+
+/// Whether a product is held and is an entity type.
+fn has_entities(schema: &Schema) -> bool {
+    match schema.type_named("S.Product") {
+        Some(product) => schema.holds(product) && schema.is_entity(product),
+        None => false,
+    }
+}
+
+/// Names, and the whole name of the entity or complex type that goes by each.
+const TYPES: &[(&str, Option<&str>)] = &[
+    ("S.Product", Some("Shop.Product")),
+    ("Shop.Part", Some("Shop.Part")),
+    ("Shop.Color", None),
+];
+
+/// Names, and the whole name of the enumeration that goes by each.
+const ENUMERATIONS: &[(&str, Option<&str>)] = &[
+    ("S.Color", Some("Shop.Color")),
+    ("Color", None),
+    ("Shop.Product", None),
+    ("S.Line", None),
+    ("Shop.Colors", None),
+    ("Edm.Int32", None),
+];
+
+#[test]
+fn names_of_types(rt: HostRuntime) -> Result<(), Fail> {
+    let schema = schema(rt.alloc(), SHOP)?;
+    assert!(rt; has_entities(&schema));
+    types_go_by(&schema, TYPES)?;
+    enumerations_go_by(&schema, ENUMERATIONS)
 }
 
 /// A text, and its value as a color.
@@ -152,29 +114,5 @@ const VALUES: &[(&str, Option<i64>)] = &[
 #[test]
 fn values_of_colors(rt: HostRuntime) -> Result<(), Fail> {
     let schema = schema(rt.alloc(), SHOP)?;
-    let color = schema.enum_named("S.Color").ok_or("the enumeration")?;
-    assert!(rt; schema.enum_name(color) == Some("Shop.Color"));
-    for &(text, value) in VALUES {
-        assert!(rt; schema.enum_value(color, text) == value, "at {text}");
-    }
-    Ok(())
-}
-
-/// Names of no enumeration.
-const NO_ENUMERATIONS: &[&str] = &[
-    "Color",
-    "Shop.Product",
-    "S.Line",
-    "Shop.Colors",
-    "Edm.Int32",
-];
-
-#[test]
-fn names_of_no_enumeration(rt: HostRuntime) -> Result<(), Fail> {
-    let schema = schema(rt.alloc(), SHOP)?;
-    for &unknown in NO_ENUMERATIONS {
-        assert!(rt; schema.enum_named(unknown).is_none(), "at {unknown}");
-    }
-    assert!(rt; schema.type_named("Shop.Color").is_none());
-    Ok(())
+    has_values(&schema, "S.Color", VALUES)
 }

@@ -1,27 +1,14 @@
 //! Names of types, members and properties: which are identifiers, and their order.
-use crate::told::{answer, answer_to, schema_of};
+use crate::found::{has_slots, has_values};
+use crate::told::{CLOSED, OPENED, answers, schema};
+use std::alloc::Global;
 use std::test::Fail;
 
-/// Names with characters of 1 to 4 bytes, and whether they are identifiers.
-const NAMES: &[(&str, bool)] = &[
-    ("a", true),
-    ("_", true),
-    ("a1", true),
-    ("é", true),
-    ("名", true),
-    ("𝒜b", true),
-    ("aé名𝒜", true),
-    ("1a", false),
-    ("٣", false),
-    ("a٣", true),
-    ("‿a", false),
-    ("a‿", true),
-    ("€", false),
-    ("a€", false),
-    ("😀", false),
-    ("a-b", false),
-    ("a b", false),
-];
+/// Names with characters of 1 to 4 bytes that are identifiers.
+const IDENTIFIERS: &[&str] = &["a", "_", "a1", "é", "名", "𝒜b", "aé名𝒜", "a٣", "a‿"];
+
+/// Those that are none.
+const NO_IDENTIFIERS: &[&str] = &["1a", "٣", "‿a", "€", "a€", "😀", "a-b", "a b"];
 
 /// A type, a property and a member of an enumeration of the name that stands for `?`, and the fault without one.
 const NAMED: &[(&str, &str)] = &[
@@ -30,16 +17,22 @@ const NAMED: &[(&str, &str)] = &[
     ("'A':{'$Kind':'EnumType','?':1}", "BadEnumMember N.A ?"),
 ];
 
+/// Fails at the first name that, in the place of `?`, is not answered so.
+fn names_answer(alloc: Global, names: &[&str], form: &str, wanted: &str) -> Result<(), Fail> {
+    for name in names {
+        let members = form.replace(alloc, '?', name)?;
+        let wanted = wanted.replace(alloc, '?', name)?;
+        let row = (members.as_str(), wanted.as_str());
+        answers(alloc, OPENED, &[row], CLOSED)?;
+    }
+    Ok(())
+}
+
 #[test]
 fn identifiers(rt: HostRuntime) -> Result<(), Fail> {
-    for &(name, is_name) in NAMES {
-        for &(form, fault) in NAMED {
-            let members = form.replace(rt.alloc(), '?', name)?;
-            let told = answer_to(rt.alloc(), members.as_str())?;
-            let answer = if is_name { "accepted" } else { fault };
-            let wanted = answer.replace(rt.alloc(), '?', name)?;
-            assert_eq!(rt; told.as_str(), wanted.as_str(), "at {members}");
-        }
+    for &(form, fault) in NAMED {
+        names_answer(rt.alloc(), IDENTIFIERS, form, "accepted")?;
+        names_answer(rt.alloc(), NO_IDENTIFIERS, form, fault)?;
     }
     Ok(())
 }
@@ -57,33 +50,22 @@ const BYTE_ORDER: &[(&str, &str)] = &[
 /// `A-b.T` goes before `A.T`, though the namespace `A` goes before `A-b`: a fault of the former is told first.
 #[test]
 fn whole_names_in_byte_order(rt: HostRuntime) -> Result<(), Fail> {
-    for &(schemas, wanted) in BYTE_ORDER {
-        let document = format!(in rt.alloc(); "{{'$Version':'4.0',{schemas}}}")?;
-        let told = answer(rt.alloc(), document.as_str())?;
-        assert_eq!(rt; told.as_str(), wanted, "at {schemas}");
-    }
-    Ok(())
+    answers(rt.alloc(), "{'$Version':'4.0',", BYTE_ORDER, "}")
 }
 
 /// A property that is named as a type, and a type that is named as a property's.
 const TWO_THINGS: &str =
-    "'T':{'$Kind':'EntityType','T':{'$Type':'N.C'},'C':{'$Type':'N.T'},'N':{}},'C':{'$Kind':'EnumType','C':3,'N':4}";
+    "{'$Version':'4.01','N':{'T':{'$Kind':'EntityType','T':{'$Type':'N.C'},'C':{'$Type':'N.T'},'N':{}},'C':{'$Kind':'EnumType','C':3,'N':4}}}";
 
-/// A name, its slot in `N.T`, and its number in `N.C`.
-const OF_TWO_THINGS: &[(&str, usize, Option<i64>)] = &[
-    ("C", 0, Some(3)),
-    ("N", 1, Some(4)),
-    ("T", 2, None),
-];
+/// The slots of `N.T`.
+const SLOTS: &[(&str, &str)] = &[("C", "opaque"), ("N", "String"), ("T", "N.C")];
+
+/// Texts, and their values by `N.C`.
+const VALUES: &[(&str, Option<i64>)] = &[("C", Some(3)), ("N", Some(4)), ("T", None)];
 
 #[test]
 fn names_of_two_things(rt: HostRuntime) -> Result<(), Fail> {
-    let schema = schema_of(rt.alloc(), TWO_THINGS)?;
-    let owner = schema.type_named("N.T").ok_or("the type")?;
-    let color = schema.enum_named("N.C").ok_or("the enumeration")?;
-    for &(name, slot, number) in OF_TWO_THINGS {
-        assert_eq!(rt; schema.slot(owner, name), Some(slot));
-        assert_eq!(rt; schema.enum_value(color, name), number);
-    }
-    Ok(())
+    let schema = schema(rt.alloc(), TWO_THINGS)?;
+    has_slots(rt.alloc(), &schema, "N.T", SLOTS)?;
+    has_values(&schema, "N.C", VALUES)
 }
