@@ -36,25 +36,32 @@ fn lies_within(kind: Prim, operand: Option<i64>) -> bool
     }
 }
 
-/// What the operator makes of operands of the type.
-fn made(
+/// Fails if the operator makes something else of operands of the type.
+fn gives(
     operator: ArithmeticOperator,
     kind: Prim,
     left: Option<i64>,
     right: Option<i64>,
-) -> Result<Answer, Fail> {
-    if is_computed_in(kind) && lies_within(kind, left) && lies_within(kind, right) {
-        Ok(arith(operator, kind, left, right))
+    wanted: Answer,
+) -> Result<(), Fail> {
+    if is_computed_in(kind)
+        && lies_within(kind, left)
+        && lies_within(kind, right)
+        && arith(operator, kind, left, right) == wanted
+    {
+        Ok(())
     } else {
-        Err(Fail::from("an operand outside of the type"))
+        let operands = format_args!("{left:?} {operator:?} {right:?} in {kind:?}");
+        Err(Fail::new(operands))
     }
 }
 
-fn negated(kind: Prim, operand: Option<i64>) -> Result<Answer, Fail> {
-    if is_computed_in(kind) && lies_within(kind, operand) {
-        Ok(negate(kind, operand))
+/// Fails if the negation of a number of the type is another.
+fn negates(kind: Prim, operand: Option<i64>, wanted: Answer) -> Result<(), Fail> {
+    if is_computed_in(kind) && lies_within(kind, operand) && negate(kind, operand) == wanted {
+        Ok(())
     } else {
-        Err(Fail::from("an operand outside of the type"))
+        Err(Fail::new(format_args!("negation of {operand:?} in {kind:?}")))
     }
 }
 
@@ -133,16 +140,13 @@ const BOUNDS: &[(
 
 /// The least and the greatest number of each type with 0, 1 and -1.
 #[test]
-fn bounds(rt: HostRuntime) -> Result<(), Fail> {
+fn bounds() -> Result<(), Fail> {
     for &(kind, least, greatest) in TYPES {
         for (left, operator, right, answer) in BOUNDS {
             let left = number_in(left, least, greatest);
             let right = number_in(right, least, greatest);
-            assert_eq!(rt;
-                made(*operator, kind, Some(left), Some(right))?,
-                answer_in(answer, least, greatest),
-                "at {left} {operator:?} {right} in {kind:?}"
-            );
+            let wanted = answer_in(answer, least, greatest);
+            gives(*operator, kind, Some(left), Some(right), wanted)?;
         }
     }
     Ok(())
@@ -179,13 +183,9 @@ const PAST_THE_BOUNDS: &[(Prim, i64, ArithmeticOperator, i64, Answer)] = &[
 
 /// A result past the bounds of a type lies within the next wider one.
 #[test]
-fn past_the_bounds(rt: HostRuntime) -> Result<(), Fail> {
+fn past_the_bounds() -> Result<(), Fail> {
     for &(kind, left, operator, right, answer) in PAST_THE_BOUNDS {
-        assert_eq!(rt;
-            made(operator, kind, Some(left), Some(right))?,
-            answer,
-            "at {left} {operator:?} {right} in {kind:?}"
-        );
+        gives(operator, kind, Some(left), Some(right), answer)?;
     }
     Ok(())
 }
@@ -210,19 +210,11 @@ const SIGNS: &[(i64, i64, i64, i64)] = &[
 
 /// A quotient is cut toward zero, and a remainder has the sign of the left operand.
 #[test]
-fn signs(rt: HostRuntime) -> Result<(), Fail> {
+fn signs() -> Result<(), Fail> {
     for &(left, right, quotient, remainder) in SIGNS {
         for &(kind, _, _) in TYPES {
-            assert_eq!(rt;
-                made(Div, kind, Some(left), Some(right))?,
-                Ok(Some(quotient)),
-                "at {left} div {right}"
-            );
-            assert_eq!(rt;
-                made(Mod, kind, Some(left), Some(right))?,
-                Ok(Some(remainder)),
-                "at {left} mod {right}"
-            );
+            gives(Div, kind, Some(left), Some(right), Ok(Some(quotient)))?;
+            gives(Mod, kind, Some(left), Some(right), Ok(Some(remainder)))?;
         }
     }
     Ok(())
@@ -233,54 +225,34 @@ const SOME: &[Number] = &[Least, Just(-1), Just(0), Just(1), Greatest];
 
 /// Division by zero is a fault, also of zero and of the least number.
 #[test]
-fn by_zero(rt: HostRuntime) -> Result<(), Fail> {
+fn by_zero() -> Result<(), Fail> {
     for &(kind, least, greatest) in TYPES {
         for number in SOME {
-            let left = number_in(number, least, greatest);
-            assert_eq!(rt;
-                made(Div, kind, Some(left), Some(0))?,
-                Err(DivideByZero),
-                "at {left}"
-            );
-            assert_eq!(rt;
-                made(Mod, kind, Some(left), Some(0))?,
-                Err(DivideByZero),
-                "at {left}"
-            );
-            assert_eq!(rt;
-                made(Mul, kind, Some(left), Some(0))?,
-                Ok(Some(0)),
-                "at {left}"
-            );
-            assert_eq!(rt;
-                made(Sub, kind, Some(left), Some(0))?,
-                Ok(Some(left)),
-                "at {left}"
-            );
+            let left = Some(number_in(number, least, greatest));
+            gives(Div, kind, left, Some(0), Err(DivideByZero))?;
+            gives(Mod, kind, left, Some(0), Err(DivideByZero))?;
+            gives(Mul, kind, left, Some(0), Ok(Some(0)))?;
+            gives(Sub, kind, left, Some(0), Ok(left))?;
         }
     }
     Ok(())
 }
 
+/// Fails if the operator makes something else than null of null beside a number of the type or null.
+fn gives_null(operator: ArithmeticOperator, kind: Prim, number: Option<i64>) -> Result<(), Fail> {
+    gives(operator, kind, None, number, Ok(None))?;
+    gives(operator, kind, number, None, Ok(None))
+}
+
 /// Beside null every operator gives null, and there is no fault.
 #[test]
-fn beside_null(rt: HostRuntime) -> Result<(), Fail> {
+fn beside_null() -> Result<(), Fail> {
     for &operator in OPERATORS {
         for &(kind, least, greatest) in TYPES {
+            gives_null(operator, kind, None)?;
             for number in SOME {
-                let number = number_in(number, least, greatest);
-                assert_eq!(rt;
-                    made(operator, kind, None, Some(number))?,
-                    Ok(None),
-                    "at {number}"
-                );
-                assert_eq!(rt;
-                    made(operator, kind, Some(number), None)?,
-                    Ok(None),
-                    "at {number}"
-                );
+                gives_null(operator, kind, Some(number_in(number, least, greatest)))?;
             }
-            assert_eq!(rt; made(operator, kind, None, None)?, Ok(None));
         }
     }
     Ok(())
@@ -297,17 +269,13 @@ const NEGATIONS: &[(Number, Result<Number, ArithFault>)] = &[
 ];
 
 #[test]
-fn negations(rt: HostRuntime) -> Result<(), Fail> {
+fn negations() -> Result<(), Fail> {
     for &(kind, least, greatest) in TYPES {
+        negates(kind, None, Ok(None))?;
         for (operand, answer) in NEGATIONS {
             let operand = number_in(operand, least, greatest);
-            assert_eq!(rt;
-                negated(kind, Some(operand))?,
-                answer_in(answer, least, greatest),
-                "at {operand} in {kind:?}"
-            );
+            negates(kind, Some(operand), answer_in(answer, least, greatest))?;
         }
-        assert_eq!(rt; negated(kind, None)?, Ok(None), "at null in {kind:?}");
     }
     Ok(())
 }
@@ -321,20 +289,14 @@ fn is_number_or_null(kind: Option<Prim>) -> bool
     }
 }
 
-fn promoted(left: Option<Prim>, right: Option<Prim>) -> Result<Option<Prim>, Fail> {
-    if is_number_or_null(left) && is_number_or_null(right) {
-        Ok(promotion(left, right))
-    } else {
-        Err(Fail::from("no number type"))
-    }
+/// Whether operands of these types make a result of this type.
+fn is_promoted(left: Option<Prim>, right: Option<Prim>, wanted: Option<Prim>) -> bool {
+    is_number_or_null(left) && is_number_or_null(right) && promotion(left, right) == wanted
 }
 
-fn promoted_alone(operand: Option<Prim>) -> Result<Option<Prim>, Fail> {
-    if is_number_or_null(operand) {
-        Ok(negation_type(operand))
-    } else {
-        Err(Fail::from("no number type"))
-    }
+/// Whether an operand of this type has a negation of that type.
+fn is_promoted_alone(operand: Option<Prim>, wanted: Option<Prim>) -> bool {
+    is_number_or_null(operand) && negation_type(operand) == wanted
 }
 
 const BYTE: Option<Prim> = Some(Prim::Byte);
@@ -388,9 +350,11 @@ const PROMOTIONS: &[(Option<Prim>, Option<Prim>, Option<Prim>)] = &[
 ];
 
 #[test]
-fn promotions(rt: HostRuntime) -> Result<(), Fail> {
+fn promotions() -> Result<(), Fail> {
     for &(left, right, answer) in PROMOTIONS {
-        assert_eq!(rt; promoted(left, right)?, answer, "at {left:?} and {right:?}");
+        if !is_promoted(left, right, answer) {
+            return Err(Fail::new(format_args!("{left:?} and {right:?}")));
+        }
     }
     Ok(())
 }
@@ -406,9 +370,11 @@ const PROMOTIONS_ALONE: &[(Option<Prim>, Option<Prim>)] = &[
 ];
 
 #[test]
-fn promotions_alone(rt: HostRuntime) -> Result<(), Fail> {
+fn promotions_alone() -> Result<(), Fail> {
     for &(operand, answer) in PROMOTIONS_ALONE {
-        assert_eq!(rt; promoted_alone(operand)?, answer, "at {operand:?}");
+        if !is_promoted_alone(operand, answer) {
+            return Err(Fail::new(format_args!("{operand:?}")));
+        }
     }
     Ok(())
 }

@@ -1,7 +1,8 @@
 //! Canonical texts and normal forms (OData URL Conventions 4.01, section 5.1.1; OData ABNF 4.01, section 7).
+use crate::limits::repeated;
 use crate::told_trees::parsed;
 use odata_syntax::{normal, print};
-use std::alloc::{AllocError, Global};
+use std::alloc::Global;
 use std::test::Fail;
 
 /// The canonical text of a filter.
@@ -91,40 +92,30 @@ const TEXTS: &[(&str, &str)] = &[
     ("((1 has 2) in (3)) has 4", "1 has 2 in (3) has 4"),
 ];
 
-#[test]
-fn texts_in_canonical_form(rt: HostRuntime) -> Result<(), Fail> {
-    for &(text, wanted) in TEXTS {
-        assert!(rt;
-            canonical(rt.alloc(), text)?.as_str() == wanted,
-            "at {text}"
-        );
+/// Fails if a text has another canonical text, or another by way of the normal form.
+fn is_canonical(alloc: Global, text: &str, wanted: &str) -> Result<(), Fail> {
+    let told = canonical(alloc, text)?;
+    let of_normal = canonical_of_normal(alloc, text)?;
+    if told.as_str() == wanted && of_normal.as_str() == wanted {
+        Ok(())
+    } else {
+        Err(Fail::new(format_args!("{told}, {of_normal}, not {wanted}: {text}")))
     }
-    Ok(())
 }
 
 #[test]
-fn texts_of_normal_forms(rt: HostRuntime) -> Result<(), Fail> {
+fn canonical_texts(rt: HostRuntime) -> Result<(), Fail> {
     for &(text, wanted) in TEXTS {
-        assert!(rt;
-            canonical_of_normal(rt.alloc(), text)?.as_str() == wanted,
-            "at {text}"
-        );
+        is_canonical(rt.alloc(), text, wanted)?;
     }
     Ok(())
-}
-
-/// A sign 4,000 times, and a name behind.
-fn with_signs(alloc: Global, sign: &str) -> Result<String, AllocError> {
-    let mut text = sign.repeat(alloc, 4000)?;
-    text.push('a')?;
-    Ok(text)
 }
 
 /// A canonical text may be longer than the text that it comes from.
 #[test]
 fn longer_than_its_text(rt: HostRuntime) -> Result<(), Fail> {
-    let text = with_signs(rt.alloc(), "-")?;
-    let wanted = with_signs(rt.alloc(), "- ")?;
+    let text = repeated(rt.alloc(), "-", 4000, "a")?;
+    let wanted = repeated(rt.alloc(), "- ", 4000, "a")?;
     assert!(rt; canonical(rt.alloc(), text.as_str())?.as_str() == wanted.as_str());
     assert!(rt; canonical_of_normal(rt.alloc(), text.as_str())?.as_str() == wanted.as_str());
     Ok(())

@@ -4,7 +4,6 @@ use odata_functions::ComparisonOperator::{self, Eq, Ge, Gt, Le, Lt, Ne};
 use odata_functions::{comparable, compare};
 use std::borrow::CowStr;
 use std::cmp::Ordering;
-use std::process::Abort;
 use std::test::Fail;
 
 /// What the operator answers, where it compares the values.
@@ -53,6 +52,7 @@ const EQUAL: [Option<bool>; 6] = [YES, NO, None, None, None, None];
 const UNEQUAL: [Option<bool>; 6] = [NO, YES, None, None, None, None];
 
 /// A value, or the text that it is read of.
+#[derive(Clone, Copy)]
 enum Sample {
     Null,
     Bool(bool),
@@ -85,6 +85,11 @@ fn datum(sample: &Sample) -> Result<Datum<'static>, Fail> {
         Sample::Record => Datum::Record(&[]),
         Sample::List => Datum::List(&[]),
     })
+}
+
+/// The answers for two samples.
+fn outcomes_of(left: &Sample, right: &Sample) -> Result<[Option<bool>; 6], Fail> {
+    Ok(outcomes(&datum(left)?, &datum(right)?))
 }
 
 /// `o` where all six operators compare the two, `e` where `eq` and `ne` alone do, `.` where none does.
@@ -123,13 +128,18 @@ const KINDS: &[(Sample, &str)] = &[
     (Sample::List, ".........."),
 ];
 
+/// How two samples are compared.
+fn compared_of(left: &Sample, right: &Sample) -> Result<char, Fail> {
+    Ok(compared(&datum(left)?, &datum(right)?))
+}
+
 #[test]
-fn kinds(rt: HostRuntime) -> Result<(), Fail> {
+fn kinds() -> Result<(), Fail> {
     for (sample, row) in KINDS {
-        let left = datum(sample)?;
         for (other, cell) in KINDS.iter().zip(row.chars()) {
-            let right = datum(&other.0)?;
-            assert_eq!(rt; compared(&left, &right), cell, "at {row} {cell}");
+            if compared_of(sample, &other.0)? != cell {
+                return Err(Fail::new(format_args!("{row} {cell}")));
+            }
         }
     }
     Ok(())
@@ -151,21 +161,24 @@ const WITH_NULL: &[(Sample, [Option<bool>; 6])] = &[
 
 /// Null equals itself; `ge` and `le` of two nulls are true.
 #[test]
-fn null(rt: HostRuntime) -> Result<(), Fail> {
-    for (sample, wanted) in WITH_NULL {
-        let value = datum(sample)?;
-        assert_eq!(rt; outcomes(&Datum::Null, &value), *wanted);
-        assert_eq!(rt; outcomes(&value, &Datum::Null), *wanted);
+fn null() -> Result<(), Fail> {
+    for (place, (sample, wanted)) in WITH_NULL.iter().enumerate() {
+        if outcomes_of(&Sample::Null, sample)? != *wanted
+            || outcomes_of(sample, &Sample::Null)? != *wanted
+        {
+            return Err(Fail::new(format_args!("null beside value {place}")));
+        }
     }
     Ok(())
 }
 
 /// Each value of a list that goes up, against each of it.
-fn goes_up(rt: &impl Abort, samples: &[Sample]) -> Result<(), Fail> {
+fn goes_up(samples: &[Sample]) -> Result<(), Fail> {
     for (i, left) in samples.iter().enumerate() {
         for (j, right) in samples.iter().enumerate() {
-            let told = outcomes(&datum(left)?, &datum(right)?);
-            assert_eq!(rt; told, ordered(i.cmp(&j)), "at {i} and {j}");
+            if outcomes_of(left, right)? != ordered(i.cmp(&j)) {
+                return Err(Fail::new(format_args!("at {i} and {j}")));
+            }
         }
     }
     Ok(())
@@ -195,9 +208,9 @@ const RISING: &[&[Sample]] = &[
 ];
 
 #[test]
-fn in_order(rt: HostRuntime) -> Result<(), Fail> {
+fn in_order() -> Result<(), Fail> {
     for samples in RISING {
-        goes_up(&rt, samples)?;
+        goes_up(samples)?;
     }
     Ok(())
 }
@@ -233,8 +246,8 @@ const TEXTS: &[Sample] = &[
 
 /// Texts by the scalar values of their characters, and not by length, by letters or by units of UTF-16.
 #[test]
-fn texts(rt: HostRuntime) -> Result<(), Fail> {
-    goes_up(&rt, TEXTS)
+fn texts() -> Result<(), Fail> {
+    goes_up(TEXTS)
 }
 
 /// Two moments, and the order of their instants.
@@ -278,15 +291,14 @@ const MOMENTS: &[(&str, &str, Ordering)] = &[
 
 /// Moments by their instants, whatever their clocks show.
 #[test]
-fn moments(rt: HostRuntime) -> Result<(), Fail> {
+fn moments() -> Result<(), Fail> {
     for &(left, right, order) in MOMENTS {
-        let (l, r) = (Datum::Moment(moment(left)?), Datum::Moment(moment(right)?));
-        assert_eq!(rt; outcomes(&l, &r), ordered(order), "at {left} and {right}");
-        assert_eq!(rt;
-            outcomes(&r, &l),
-            ordered(order.reverse()),
-            "at {right} and {left}"
-        );
+        let (first, second) = (Sample::Moment(left), Sample::Moment(right));
+        if outcomes_of(&first, &second)? != ordered(order)
+            || outcomes_of(&second, &first)? != ordered(order.reverse())
+        {
+            return Err(Fail::new(format_args!("not {order:?}: {left} {right}")));
+        }
     }
     Ok(())
 }
@@ -310,10 +322,12 @@ const BY_EQUALITY: &[(Sample, Sample, bool)] = &[
 
 /// Guids by their bytes and enumeration values by their numbers, by equality alone.
 #[test]
-fn equality_alone(rt: HostRuntime) -> Result<(), Fail> {
-    for (left, right, is_equal) in BY_EQUALITY {
+fn equality_alone() -> Result<(), Fail> {
+    for (place, (left, right, is_equal)) in BY_EQUALITY.iter().enumerate() {
         let wanted = if *is_equal { EQUAL } else { UNEQUAL };
-        assert_eq!(rt; outcomes(&datum(left)?, &datum(right)?), wanted);
+        if outcomes_of(left, right)? != wanted {
+            return Err(Fail::new(format_args!("at row {place}")));
+        }
     }
     Ok(())
 }

@@ -1,5 +1,7 @@
 //! 64 parentheses open at once, and the one that is too many.
-use crate::told_trees::{parsed, told_tree};
+use crate::limits::repeated;
+use crate::told_trees::{expr_of, is_tree};
+use std::alloc::Global;
 use std::test::Fail;
 
 /// What opens parentheses in each form that has them, how many times it opens 64, and where the 65th then stands.
@@ -13,21 +15,21 @@ const DEEPEST: &[(&str, usize, &str)] = &[
     ("(f(a in (a/any(x:", 16, "TooDeep 272..273"),
 ];
 
+/// What closes 64 parentheses, behind a name.
+const CLOSED: &str = "Active))))))))))))))))))))))))))))))))))))))))))))))))))))))))))))))))";
+
+/// Fails if 64 parentheses open at once have no tree, or the 65th is not told so.
+fn are_deepest(alloc: Global, front: &str, times: usize, wanted: &str) -> Result<(), Fail> {
+    let text = repeated(alloc, front, times, CLOSED)?;
+    expr_of(alloc, text.as_str())?;
+    let deeper = repeated(alloc, front, times, front)?;
+    is_tree(alloc, deeper.as_str(), wanted)
+}
+
 #[test]
 fn deepest_texts(rt: HostRuntime) -> Result<(), Fail> {
     for &(front, times, wanted) in DEEPEST {
-        let closing = ")".repeat(rt.alloc(), 64)?;
-        let mut text = front.repeat(rt.alloc(), times)?;
-        let mut deeper = text.clone()?;
-        text.push_str("Active")?;
-        text.push_str(closing.as_str())?;
-        assert!(rt; parsed(rt.alloc(), text.as_str())?.is_ok(), "{front}");
-        deeper.push_str(front)?;
-        assert_eq!(rt;
-            told_tree(rt.alloc(), deeper.as_str())?.as_str(),
-            wanted,
-            "{front}"
-        );
+        are_deepest(rt.alloc(), front, times, wanted)?;
     }
     Ok(())
 }
@@ -47,19 +49,14 @@ const BEHIND: &[(&str, &str)] = &[
 #[test]
 fn behind_the_deepest(rt: HostRuntime) -> Result<(), Fail> {
     for &(behind, wanted) in BEHIND {
-        let mut text = "(".repeat(rt.alloc(), 64)?;
-        text.push_str(behind)?;
-        assert_eq!(rt;
-            told_tree(rt.alloc(), text.as_str())?.as_str(),
-            wanted,
-            "{behind}"
-        );
+        let text = repeated(rt.alloc(), "(", 64, behind)?;
+        is_tree(rt.alloc(), text.as_str(), wanted)?;
     }
     Ok(())
 }
 
 /// Pieces that close each parenthesis that they open.
-const CLOSED: &[&str] = &[
+const CLOSED_PIECES: &[&str] = &[
     "(a) or ",
     "f(a) or ",
     "a in (1) or ",
@@ -70,10 +67,9 @@ const CLOSED: &[&str] = &[
 /// A parenthesis that was closed is not open.
 #[test]
 fn parentheses_side_by_side(rt: HostRuntime) -> Result<(), Fail> {
-    for &piece in CLOSED {
-        let mut text = piece.repeat(rt.alloc(), 200)?;
-        text.push_str("((a))")?;
-        assert!(rt; parsed(rt.alloc(), text.as_str())?.is_ok(), "{piece}");
+    for &piece in CLOSED_PIECES {
+        let text = repeated(rt.alloc(), piece, 200, "((a))")?;
+        expr_of(rt.alloc(), text.as_str())?;
     }
     Ok(())
 }

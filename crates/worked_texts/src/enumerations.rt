@@ -35,6 +35,16 @@ fn enumeration(
     Ok(made)
 }
 
+/// Fails at the first text with another value.
+fn has_values(made: &Enumeration, rows: &[(&str, Option<i64>)]) -> Result<(), Fail> {
+    for &(text, value) in rows {
+        if made.value_of(text) != value {
+            return Err(Fail::new(format_args!("not {value:?}: {text}")));
+        }
+    }
+    Ok(())
+}
+
 const COLORS: &[(&str, i64)] = &[
     ("Red", 1),
     ("Green", 2),
@@ -88,10 +98,7 @@ const FLAGS: &[(&str, Option<i64>)] = &[
 #[test]
 fn values_of_flags(rt: HostRuntime) -> Result<(), Fail> {
     let color = enumeration(rt.alloc(), Prim::Int32, true, COLORS)?;
-    for &(text, value) in FLAGS {
-        assert_eq!(rt; color.value_of(text), value, "at {text}");
-    }
-    Ok(())
+    has_values(&color, FLAGS)
 }
 
 const SIZES: &[(&str, i64)] = &[("Small", 1), ("Größe", 2)];
@@ -114,10 +121,7 @@ const ONE_SIZE: &[(&str, Option<i64>)] = &[
 #[test]
 fn values_without_flags(rt: HostRuntime) -> Result<(), Fail> {
     let size = enumeration(rt.alloc(), Prim::Int16, false, SIZES)?;
-    for &(text, value) in ONE_SIZE {
-        assert_eq!(rt; size.value_of(text), value, "at {text}");
-    }
-    Ok(())
+    has_values(&size, ONE_SIZE)
 }
 
 /// A number type, one of its bounds, and the number past it.
@@ -134,12 +138,20 @@ const BOUNDS: &[(Prim, &str, &str)] = &[
     (Prim::Int64, "9223372036854775807", "9223372036854775808"),
 ];
 
+/// Whether the first number is one of the type, and the other is past its bounds.
+fn is_bound(alloc: Global, underlying: Prim, bound: &str, past: &str) -> bool {
+    match without_members(alloc, underlying, false) {
+        Some(made) => made.value_of(bound).is_some() && made.value_of(past).is_none(),
+        None => false,
+    }
+}
+
 #[test]
 fn bounds(rt: HostRuntime) -> Result<(), Fail> {
     for &(underlying, bound, past) in BOUNDS {
-        let none = without_members(rt.alloc(), underlying, false).ok_or("no number type")?;
-        assert!(rt; none.value_of(bound).is_some(), "at {underlying:?} {bound}");
-        assert!(rt; none.value_of(past).is_none(), "at {underlying:?} {past}");
+        if !is_bound(rt.alloc(), underlying, bound, past) {
+            return Err(Fail::new(format_args!("{underlying:?} {bound}")));
+        }
     }
     Ok(())
 }
@@ -147,24 +159,23 @@ fn bounds(rt: HostRuntime) -> Result<(), Fail> {
 /// Two members of one name, and one that is named like a number.
 const ODD: &[(&str, i64)] = &[("A", 1), ("A", 2), ("5", 7)];
 
-/// The first of two members of one name stays.
+/// Texts, and their values in it.
+const ODD_VALUES: &[(&str, Option<i64>)] = &[("5", Some(7)), ("05", Some(5))];
+
+/// Whether its first member `A` is there, and no `B`.
+fn has_first_members(odd: &Enumeration) -> bool {
+    odd.underlying() == Prim::Byte
+        && odd.is_flags()
+        && odd.number_of("A") == Some(1)
+        && odd.number_of("B").is_none()
+}
+
+/// The first of two members of one name stays; a name goes before a number that is spelled alike.
 #[test]
 fn members_by_name(rt: HostRuntime) -> Result<(), Fail> {
     let odd = enumeration(rt.alloc(), Prim::Byte, true, ODD)?;
-    assert_eq!(rt; odd.underlying(), Prim::Byte);
-    assert!(rt; odd.is_flags());
-    assert_eq!(rt; odd.number_of("A"), Some(1));
-    assert_eq!(rt; odd.number_of("B"), None);
-    Ok(())
-}
-
-/// A name goes before a number that is spelled alike.
-#[test]
-fn names_before_numbers(rt: HostRuntime) -> Result<(), Fail> {
-    let odd = enumeration(rt.alloc(), Prim::Byte, true, ODD)?;
-    assert_eq!(rt; odd.value_of("5"), Some(7));
-    assert_eq!(rt; odd.value_of("05"), Some(5));
-    Ok(())
+    assert!(rt; has_first_members(&odd));
+    has_values(&odd, ODD_VALUES)
 }
 
 fn with_many_members(alloc: Global, count: i64) -> Result<Enumeration, Fail> {
@@ -175,14 +186,21 @@ fn with_many_members(alloc: Global, count: i64) -> Result<Enumeration, Fail> {
     Ok(made)
 }
 
+/// Fails at the first of so many members that has another number.
+fn has_many_members(alloc: Global, many: &Enumeration, count: i64) -> Result<(), Fail> {
+    for number in 0..count {
+        let name = format!(in alloc; "M{number}")?;
+        if many.value_of(name.as_str()) != Some(number) {
+            return Err(Fail::new(name));
+        }
+    }
+    Ok(())
+}
+
 /// Members are found by name and not one after another.
 #[test]
 fn many_members(rt: HostRuntime) -> Result<(), Fail> {
     let many = with_many_members(rt.alloc(), 40_000)?;
-    for number in 0..40_000 {
-        let name = format!(in rt.alloc(); "M{number}")?;
-        assert_eq!(rt; many.value_of(name.as_str()), Some(number));
-    }
-    assert_eq!(rt; many.value_of("M40000"), None);
-    Ok(())
+    has_values(&many, &[("M40000", None)])?;
+    has_many_members(rt.alloc(), &many, 40_000)
 }

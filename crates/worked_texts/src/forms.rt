@@ -1,6 +1,7 @@
 //! The forms of expressions, where their nodes stand, and which words they are read of (OData URL Conventions 4.01,
 //! section 5.1.1).
-use crate::told_trees::told_tree;
+use crate::told_trees::{all_trees, is_tree};
+use std::alloc::Global;
 use std::test::Fail;
 
 /// A text, and its nodes with their places.
@@ -59,10 +60,7 @@ const PLACES: &[(&str, &str)] = &[
 /// grouping that holds just this node.
 #[test]
 fn places_of_nodes(rt: HostRuntime) -> Result<(), Fail> {
-    for &(text, wanted) in PLACES {
-        assert_eq!(rt; told_tree(rt.alloc(), text)?.as_str(), wanted, "{text}");
-    }
-    Ok(())
+    all_trees(rt.alloc(), PLACES)
 }
 
 /// Words that are read in any ASCII case, in lower case and in mixed; in upper case they are read alike.
@@ -103,31 +101,18 @@ const WORDS: &[(&str, &str, &str)] = &[
     ("floor(1)", "fLooR(1)", "floor() 0..8, Int 6..7"),
 ];
 
-#[test]
-fn words_in_lower_case(rt: HostRuntime) -> Result<(), Fail> {
-    for &(text, _, wanted) in WORDS {
-        assert_eq!(rt; told_tree(rt.alloc(), text)?.as_str(), wanted, "{text}");
-    }
-    Ok(())
+/// Fails if a text is not told so, in lower, mixed and upper case.
+fn is_tree_in_any_case(alloc: Global, text: &str, mixed: &str, wanted: &str) -> Result<(), Fail> {
+    is_tree(alloc, text, wanted)?;
+    is_tree(alloc, mixed, wanted)?;
+    let upper = text.to_ascii_uppercase(alloc)?;
+    is_tree(alloc, upper.as_str(), wanted)
 }
 
 #[test]
-fn words_in_mixed_case(rt: HostRuntime) -> Result<(), Fail> {
-    for &(_, mixed, wanted) in WORDS {
-        assert_eq!(rt; told_tree(rt.alloc(), mixed)?.as_str(), wanted, "{mixed}");
-    }
-    Ok(())
-}
-
-#[test]
-fn words_in_upper_case(rt: HostRuntime) -> Result<(), Fail> {
-    for &(text, _, wanted) in WORDS {
-        let upper = text.to_ascii_uppercase(rt.alloc())?;
-        assert_eq!(rt;
-            told_tree(rt.alloc(), upper.as_str())?.as_str(),
-            wanted,
-            "{upper}"
-        );
+fn words_in_any_case(rt: HostRuntime) -> Result<(), Fail> {
+    for &(text, mixed, wanted) in WORDS {
+        is_tree_in_any_case(rt.alloc(), text, mixed, wanted)?;
     }
     Ok(())
 }
@@ -157,8 +142,5 @@ const NAMES: &[(&str, &str)] = &[
 /// Words that are names where an operand, a step, a function or a variable stands. Names keep their letters.
 #[test]
 fn words_as_names(rt: HostRuntime) -> Result<(), Fail> {
-    for &(text, wanted) in NAMES {
-        assert_eq!(rt; told_tree(rt.alloc(), text)?.as_str(), wanted, "{text}");
-    }
-    Ok(())
+    all_trees(rt.alloc(), NAMES)
 }

@@ -1,5 +1,6 @@
 //! Identifiers, by Unicode's general categories.
 use odata_text::is_identifier;
+use std::test::Fail;
 
 /// Texts that are identifiers.
 const IDENTIFIERS: &[&str] = &[
@@ -24,11 +25,19 @@ const IDENTIFIERS: &[&str] = &[
     "a\u{ad}b",
 ];
 
-#[test]
-fn identifiers(rt: HostRuntime) {
-    for &text in IDENTIFIERS {
-        assert!(rt; is_identifier(text), "at {text}");
+/// Fails at the first text that is an identifier, or is none, and should not be.
+fn are_identifiers(texts: &[&str], wanted: bool) -> Result<(), Fail> {
+    for text in texts {
+        if is_identifier(text) != wanted {
+            return Err(Fail::new(text));
+        }
     }
+    Ok(())
+}
+
+#[test]
+fn identifiers() -> Result<(), Fail> {
+    are_identifiers(IDENTIFIERS, true)
 }
 
 /// Texts that are none.
@@ -56,8 +65,6 @@ const NO_IDENTIFIERS: &[&str] = &[
 ];
 
 #[test]
-fn no_identifiers(rt: HostRuntime) {
-    for &text in NO_IDENTIFIERS {
-        assert!(rt; !is_identifier(text), "at {text}");
-    }
+fn no_identifiers() -> Result<(), Fail> {
+    are_identifiers(NO_IDENTIFIERS, false)
 }

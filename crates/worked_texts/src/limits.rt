@@ -1,11 +1,16 @@
 //! Texts of 16,384 bytes, of 4,096 tokens, and those next to them.
 use crate::told::is_told;
-use odata_text::tokens;
+use odata_text::{TextFault, tokens};
 use std::alloc::{AllocError, Global};
 use std::test::Fail;
 
 /// A piece so many times, and another behind it.
-fn repeated(alloc: Global, piece: &str, times: usize, last: &str) -> Result<String, AllocError> {
+pub(crate) fn repeated(
+    alloc: Global,
+    piece: &str,
+    times: usize,
+    last: &str,
+) -> Result<String, AllocError> {
     let mut text = piece.repeat(alloc, times)?;
     text.push_str(last)?;
     Ok(text)
@@ -19,12 +24,18 @@ const LONGEST: &[(&str, usize, &str, usize)] = &[
     ("a ", 4_095, "1", 4_096),
 ];
 
+/// How many tokens a text has.
+fn count(alloc: Global, text: &str) -> Result<usize, TextFault> {
+    Ok(tokens(alloc, text)?.len())
+}
+
 #[test]
 fn longest_texts(rt: HostRuntime) -> Result<(), Fail> {
-    for &(piece, times, last, count) in LONGEST {
+    for &(piece, times, last, wanted) in LONGEST {
         let text = repeated(rt.alloc(), piece, times, last)?;
-        let found = tokens(rt.alloc(), text.as_str())?;
-        assert_eq!(rt; found.len(), count, "{times} of {piece}");
+        if count(rt.alloc(), text.as_str())? != wanted {
+            return Err(Fail::new(format_args!("{times} of {piece}")));
+        }
     }
     Ok(())
 }
@@ -46,10 +57,7 @@ const TOO_LONG: &[(&str, usize, &str, &str)] = &[
 fn texts_too_long(rt: HostRuntime) -> Result<(), Fail> {
     for &(piece, times, last, wanted) in TOO_LONG {
         let text = repeated(rt.alloc(), piece, times, last)?;
-        assert!(rt;
-            is_told(rt.alloc(), text.as_str(), wanted),
-            "{times} of {piece}"
-        );
+        is_told(rt.alloc(), text.as_str(), wanted)?;
     }
     Ok(())
 }

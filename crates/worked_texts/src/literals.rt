@@ -1,5 +1,6 @@
 //! How far literals of numbers, dates and times reach, and what is read where they are spelled otherwise.
-use crate::told::is_told;
+use crate::told::all_told;
+use std::test::Fail;
 
 /// Texts of dates and near them, and what is told of them.
 const DATES: &[(&str, &str)] = &[
@@ -17,10 +18,8 @@ const DATES: &[(&str, &str)] = &[
 ];
 
 #[test]
-fn dates(rt: HostRuntime) {
-    for &(text, wanted) in DATES {
-        assert!(rt; is_told(rt.alloc(), text, wanted), "at {text}");
-    }
+fn dates(rt: HostRuntime) -> Result<(), Fail> {
+    all_told(rt.alloc(), DATES)
 }
 
 /// Texts of moments and near them, and what is told of them.
@@ -42,10 +41,8 @@ const MOMENTS: &[(&str, &str)] = &[
 ];
 
 #[test]
-fn moments(rt: HostRuntime) {
-    for &(text, wanted) in MOMENTS {
-        assert!(rt; is_told(rt.alloc(), text, wanted), "at {text}");
-    }
+fn moments(rt: HostRuntime) -> Result<(), Fail> {
+    all_told(rt.alloc(), MOMENTS)
 }
 
 /// Texts of Guids and near them, and what is told of them.
@@ -70,10 +67,8 @@ const GUIDS: &[(&str, &str)] = &[
 ];
 
 #[test]
-fn guids(rt: HostRuntime) {
-    for &(text, wanted) in GUIDS {
-        assert!(rt; is_told(rt.alloc(), text, wanted), "at {text}");
-    }
+fn guids(rt: HostRuntime) -> Result<(), Fail> {
+    all_told(rt.alloc(), GUIDS)
 }
 
 /// Texts of decimal numbers and near them, and what is told of them.
@@ -97,10 +92,8 @@ const DECIMALS: &[(&str, &str)] = &[
 
 /// With a fraction, an exponent or both: left out, with its own span whatever stands behind it.
 #[test]
-fn decimals(rt: HostRuntime) {
-    for &(text, wanted) in DECIMALS {
-        assert!(rt; is_told(rt.alloc(), text, wanted), "at {text}");
-    }
+fn decimals(rt: HostRuntime) -> Result<(), Fail> {
+    all_told(rt.alloc(), DECIMALS)
 }
 
 /// Texts of times of day and near them, and what is told of them.
@@ -118,8 +111,6 @@ const TIMES: &[(&str, &str)] = &[
 
 /// Left out, with its own span whatever stands behind it.
 #[test]
-fn times_of_day(rt: HostRuntime) {
-    for &(text, wanted) in TIMES {
-        assert!(rt; is_told(rt.alloc(), text, wanted), "at {text}");
-    }
+fn times_of_day(rt: HostRuntime) -> Result<(), Fail> {
+    all_told(rt.alloc(), TIMES)
 }

@@ -1,6 +1,7 @@
 //! Moments: their parts, their instants and their order.
 use edm_values::{Moment, read_moment, write_moment};
 use jiff::civil::DateTime;
+use std::alloc::Global;
 use std::cmp::Ordering;
 use std::test::Fail;
 
@@ -47,15 +48,27 @@ const MOMENTS: &[(&str, i16, i32, &str)] = &[
     ),
 ];
 
+/// Whether the text is read as a moment with this offset and nanosecond, and that is written so behind what is there.
+fn is_moment(
+    alloc: Global,
+    text: &str,
+    offset: i16,
+    nanosecond: i32,
+    written: &str,
+) -> Result<bool, Fail> {
+    let read = read_moment(text).ok_or("no moment")?;
+    let is_read = read.offset_minutes() == offset && read.civil().subsec_nanosecond() == nanosecond;
+    let mut out = String::from_str(alloc, "m=")?;
+    write_moment(&mut out, &read)?;
+    Ok(is_read && out.as_str().strip_prefix("m=") == Some(written))
+}
+
 #[test]
 fn moments(rt: HostRuntime) -> Result<(), Fail> {
     for &(text, offset, nanosecond, written) in MOMENTS {
-        let read = read_moment(text).ok_or("no moment")?;
-        assert_eq!(rt; read.offset_minutes(), offset, "at {text}");
-        assert_eq!(rt; read.civil().subsec_nanosecond(), nanosecond, "at {text}");
-        let mut out = String::from_str(rt.alloc(), "m=")?;
-        write_moment(&mut out, &read)?;
-        assert_eq!(rt; out.as_str().strip_prefix("m="), Some(written));
+        if !is_moment(rt.alloc(), text, offset, nanosecond, written)? {
+            return Err(Fail::new(text));
+        }
     }
     Ok(())
 }
@@ -79,11 +92,9 @@ const FRACTIONS: &[(&str, i32)] = &[
 fn fractions(rt: HostRuntime) -> Result<(), Fail> {
     for &(places, nanosecond) in FRACTIONS {
         let text = format!(in rt.alloc(); "2020-01-01T00:00:00.{places}Z")?;
-        let read = read_moment(text.as_str()).ok_or("no moment")?;
-        assert_eq!(rt; read.civil().subsec_nanosecond(), nanosecond, "at {places}");
-        let mut out = String::new(rt.alloc());
-        write_moment(&mut out, &read)?;
-        assert_eq!(rt; out.as_str(), text.as_str());
+        if !is_moment(rt.alloc(), text.as_str(), 0, nanosecond, text.as_str())? {
+            return Err(Fail::new(places));
+        }
     }
     Ok(())
 }
@@ -110,10 +121,13 @@ const WITHOUT_MOMENT: &[&str] = &[
 ];
 
 #[test]
-fn texts_without_moment(rt: HostRuntime) {
+fn texts_without_moment() -> Result<(), Fail> {
     for &text in WITHOUT_MOMENT {
-        assert!(rt; read_moment(text).is_none(), "at {text}");
+        if read_moment(text).is_some() {
+            return Err(Fail::new(text));
+        }
     }
+    Ok(())
 }
 
 /// A moment, and its instant: nanoseconds from the beginning of 1970 by UTC.
@@ -126,11 +140,19 @@ const INSTANTS: &[(&str, i128)] = &[
 ];
 
 /// Nanoseconds from the beginning of 1970 by UTC.
+fn instant_of(text: &str) -> Option<i128> {
+    match read_moment(text) {
+        Some(read) => Some(read.instant_nanos()),
+        None => None,
+    }
+}
+
 #[test]
-fn instants(rt: HostRuntime) -> Result<(), Fail> {
+fn instants() -> Result<(), Fail> {
     for &(text, nanos) in INSTANTS {
-        let read = read_moment(text).ok_or("no moment")?;
-        assert_eq!(rt; read.instant_nanos(), nanos, "at {text}");
+        if instant_of(text) != Some(nanos) {
+            return Err(Fail::new(text));
+        }
     }
     Ok(())
 }
@@ -154,15 +176,22 @@ const ORDERED: &[(&str, &str, Ordering)] = &[
     ),
 ];
 
+/// Whether two moments stand in that order, by all of their comparisons.
+fn are_ordered(left: &str, right: &str, ordering: Ordering) -> Result<bool, Fail> {
+    let first = read_moment(left).ok_or("no moment")?;
+    let second = read_moment(right).ok_or("no moment")?;
+    let is_equal = (first == second) == (ordering == Ordering::Equal);
+    let is_less = (first < second) == (ordering == Ordering::Less);
+    Ok(first.cmp(&second) == ordering && is_equal && is_less)
+}
+
 /// By instant, and where the instants are equal by offset.
 #[test]
-fn order(rt: HostRuntime) -> Result<(), Fail> {
+fn order() -> Result<(), Fail> {
     for &(left, right, ordering) in ORDERED {
-        let first = read_moment(left).ok_or("no moment")?;
-        let second = read_moment(right).ok_or("no moment")?;
-        assert_eq!(rt; first.cmp(&second), ordering, "at {left}");
-        assert_eq!(rt; first == second, ordering == Ordering::Equal, "at {left}");
-        assert_eq!(rt; first < second, ordering == Ordering::Less, "at {left}");
+        if !are_ordered(left, right, ordering)? {
+            return Err(Fail::new(format_args!("not {ordering:?}: {left}, {right}")));
+        }
     }
     Ok(())
 }
@@ -178,17 +207,20 @@ const PARTS: &[(i16, i16, bool)] = &[
     (2020, -1440, false),
 ];
 
+/// Whether the moment of these parts has them, or there is none.
+fn has_parts(year: i16, offset: i16, is_made: bool) -> Result<bool, Fail> {
+    let civil = DateTime::new(year, 1, 1, 0, 0, 0, 0).map_err(|_| "no civil")?;
+    match Moment::new(civil, offset) {
+        Some(made) => Ok(is_made && made.civil() == civil && made.offset_minutes() == offset),
+        None => Ok(!is_made),
+    }
+}
+
 #[test]
-fn moments_of_parts(rt: HostRuntime) -> Result<(), Fail> {
+fn moments_of_parts() -> Result<(), Fail> {
     for &(year, offset, is_made) in PARTS {
-        let civil = DateTime::new(year, 1, 1, 0, 0, 0, 0).map_err(|_| "no civil")?;
-        match Moment::new(civil, offset) {
-            Some(moment) => {
-                assert!(rt; is_made);
-                assert!(rt; moment.civil() == civil);
-                assert_eq!(rt; moment.offset_minutes(), offset);
-            }
-            None => assert!(rt; !is_made, "at {year} {offset}"),
+        if !has_parts(year, offset, is_made)? {
+            return Err(Fail::new(format_args!("{year} {offset}")));
         }
     }
     Ok(())

@@ -1,6 +1,7 @@
 //! Query strings: the filter that one asks for, or its first fault.
 use odata_text::{QueryFault, filter_of_query};
 use std::alloc::Global;
+use std::test::Fail;
 
 /// Whether the query asks for this filter, or for none.
 fn asks(alloc: Global, query: &str, wanted: Option<&str>) -> bool {
@@ -11,12 +12,30 @@ fn asks(alloc: Global, query: &str, wanted: Option<&str>) -> bool {
     }
 }
 
-/// The first fault of the query.
-fn fault_of(alloc: Global, query: &str) -> Option<QueryFault> {
-    match filter_of_query(alloc, query.as_bytes()) {
-        Ok(_) => None,
-        Err(fault) => Some(fault),
+/// Fails at the first query that does not ask for its filter, or for none.
+fn all_ask(alloc: Global, rows: &[(&str, Option<&str>)]) -> Result<(), Fail> {
+    for &(query, filter) in rows {
+        if !asks(alloc, query, filter) {
+            return Err(Fail::new(query));
+        }
     }
+    Ok(())
+}
+
+/// Fails if the query's first fault is another.
+fn is_refused(alloc: Global, query: &str, wanted: QueryFault) -> Result<(), Fail> {
+    match filter_of_query(alloc, query.as_bytes()) {
+        Err(fault) if fault == wanted => Ok(()),
+        _ => Err(Fail::new(query)),
+    }
+}
+
+/// Fails at the first query whose first fault is another.
+fn all_refused(alloc: Global, rows: &[(&str, QueryFault)]) -> Result<(), Fail> {
+    for &(query, fault) in rows {
+        is_refused(alloc, query, fault)?;
+    }
+    Ok(())
 }
 
 /// A query, and the filter that it asks for, if any.
@@ -44,10 +63,8 @@ const FILTERS: &[(&str, Option<&str>)] = &[
 ];
 
 #[test]
-fn filters(rt: HostRuntime) {
-    for &(query, filter) in FILTERS {
-        assert!(rt; asks(rt.alloc(), query, filter), "at {query}");
-    }
+fn filters(rt: HostRuntime) -> Result<(), Fail> {
+    all_ask(rt.alloc(), FILTERS)
 }
 
 /// A query, and its fault.
@@ -66,10 +83,8 @@ const ESCAPES: &[(&str, QueryFault)] = &[
 ];
 
 #[test]
-fn escapes_and_texts(rt: HostRuntime) {
-    for &(query, fault) in ESCAPES {
-        assert!(rt; fault_of(rt.alloc(), query) == Some(fault), "at {query}");
-    }
+fn escapes_and_texts(rt: HostRuntime) -> Result<(), Fail> {
+    all_refused(rt.alloc(), ESCAPES)
 }
 
 /// A query, and the number of its first option that is refused.
@@ -87,13 +102,11 @@ const OTHER_OPTIONS: &[(&str, usize)] = &[
 ];
 
 #[test]
-fn other_options(rt: HostRuntime) {
+fn other_options(rt: HostRuntime) -> Result<(), Fail> {
     for &(query, option) in OTHER_OPTIONS {
-        assert!(rt;
-            fault_of(rt.alloc(), query) == Some(QueryFault::OtherOption { option }),
-            "at {query}"
-        );
+        is_refused(rt.alloc(), query, QueryFault::OtherOption { option })?;
     }
+    Ok(())
 }
 
 /// A query with a second filter or another fault beside it, and the fault.
@@ -112,10 +125,8 @@ const SECOND_FILTERS: &[(&str, QueryFault)] = &[
 ];
 
 #[test]
-fn second_filters(rt: HostRuntime) {
-    for &(query, fault) in SECOND_FILTERS {
-        assert!(rt; fault_of(rt.alloc(), query) == Some(fault), "at {query}");
-    }
+fn second_filters(rt: HostRuntime) -> Result<(), Fail> {
+    all_refused(rt.alloc(), SECOND_FILTERS)
 }
 
 /// Each name that is refused without a `$`, in three cases.
@@ -156,13 +167,11 @@ const REFUSED_NAMES: &[&str] = &[
 ];
 
 #[test]
-fn refused_names_in_three_cases(rt: HostRuntime) {
+fn refused_names_in_three_cases(rt: HostRuntime) -> Result<(), Fail> {
     for &name in REFUSED_NAMES {
-        assert!(rt;
-            fault_of(rt.alloc(), name) == Some(QueryFault::OtherOption { option: 0 }),
-            "at {name}"
-        );
+        is_refused(rt.alloc(), name, QueryFault::OtherOption { option: 0 })?;
     }
+    Ok(())
 }
 
 /// Each other name that the standard gives an option, and the filter's own, in three cases.
@@ -188,8 +197,6 @@ const OTHER_NAMES: &[(&str, Option<&str>)] = &[
 ];
 
 #[test]
-fn other_names_in_three_cases(rt: HostRuntime) {
-    for &(name, filter) in OTHER_NAMES {
-        assert!(rt; asks(rt.alloc(), name, filter), "at {name}");
-    }
+fn other_names_in_three_cases(rt: HostRuntime) -> Result<(), Fail> {
+    all_ask(rt.alloc(), OTHER_NAMES)
 }

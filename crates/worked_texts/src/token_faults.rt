@@ -1,5 +1,6 @@
 //! The first fault of a text that has no tokens.
-use crate::told::is_told;
+use crate::told::all_told;
+use std::test::Fail;
 
 /// A text with a quote that nothing closes, and its fault.
 const UNCLOSED: &[(&str, &str)] = &[
@@ -13,10 +14,8 @@ const UNCLOSED: &[(&str, &str)] = &[
 ];
 
 #[test]
-fn unclosed_texts(rt: HostRuntime) {
-    for &(text, wanted) in UNCLOSED {
-        assert!(rt; is_told(rt.alloc(), text, wanted), "at {text}");
-    }
+fn unclosed_texts(rt: HostRuntime) -> Result<(), Fail> {
+    all_told(rt.alloc(), UNCLOSED)
 }
 
 /// A text with a character that no token has there, and its fault.
@@ -36,10 +35,8 @@ const STRAY: &[(&str, &str)] = &[
 ];
 
 #[test]
-fn characters_of_no_token(rt: HostRuntime) {
-    for &(text, wanted) in STRAY {
-        assert!(rt; is_told(rt.alloc(), text, wanted), "at {text}");
-    }
+fn characters_of_no_token(rt: HostRuntime) -> Result<(), Fail> {
+    all_told(rt.alloc(), STRAY)
 }
 
 /// A text with a literal of a kind that is left out, and its fault.
@@ -57,10 +54,8 @@ const LEFT_OUT: &[(&str, &str)] = &[
 ];
 
 #[test]
-fn left_out_literals(rt: HostRuntime) {
-    for &(text, wanted) in LEFT_OUT {
-        assert!(rt; is_told(rt.alloc(), text, wanted), "at {text}");
-    }
+fn left_out_literals(rt: HostRuntime) -> Result<(), Fail> {
+    all_told(rt.alloc(), LEFT_OUT)
 }
 
 /// A text with a literal that runs on, and its fault.
@@ -73,8 +68,6 @@ const RUN_ON: &[(&str, &str)] = &[
 ];
 
 #[test]
-fn run_on_literals(rt: HostRuntime) {
-    for &(text, wanted) in RUN_ON {
-        assert!(rt; is_told(rt.alloc(), text, wanted), "at {text}");
-    }
+fn run_on_literals(rt: HostRuntime) -> Result<(), Fail> {
+    all_told(rt.alloc(), RUN_ON)
 }

@@ -1,7 +1,8 @@
 //! Texts without a fault, and their tokens (OData ABNF 4.01).
-use crate::told::is_told;
+use crate::told::all_told;
 use odata_text::{TokenKind, tokens};
 use std::alloc::Global;
+use std::test::Fail;
 
 /// A text with white space, and its tokens.
 const SPACED: &[(&str, &str)] = &[
@@ -16,10 +17,8 @@ const SPACED: &[(&str, &str)] = &[
 ];
 
 #[test]
-fn tokens_and_white_space(rt: HostRuntime) {
-    for &(text, wanted) in SPACED {
-        assert!(rt; is_told(rt.alloc(), text, wanted), "at {text}");
-    }
+fn tokens_and_white_space(rt: HostRuntime) -> Result<(), Fail> {
+    all_told(rt.alloc(), SPACED)
 }
 
 /// A text of tokens without white space between them, and these.
@@ -41,10 +40,8 @@ const SIDE_BY_SIDE: &[(&str, &str)] = &[
 ];
 
 #[test]
-fn tokens_side_by_side(rt: HostRuntime) {
-    for &(text, wanted) in SIDE_BY_SIDE {
-        assert!(rt; is_told(rt.alloc(), text, wanted), "at {text}");
-    }
+fn tokens_side_by_side(rt: HostRuntime) -> Result<(), Fail> {
+    all_told(rt.alloc(), SIDE_BY_SIDE)
 }
 
 /// Texts that are one token.
@@ -99,8 +96,11 @@ fn is_one(alloc: Global, text: &str, kind: TokenKind) -> bool {
 }
 
 #[test]
-fn single_tokens(rt: HostRuntime) {
+fn single_tokens(rt: HostRuntime) -> Result<(), Fail> {
     for &(text, kind) in SINGLE {
-        assert!(rt; is_one(rt.alloc(), text, kind), "at {text}");
+        if !is_one(rt.alloc(), text, kind) {
+            return Err(Fail::new(format_args!("not {kind:?}: {text}")));
+        }
     }
+    Ok(())
 }

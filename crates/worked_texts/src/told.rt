@@ -1,6 +1,7 @@
 //! What is read of a text, in one line.
 use odata_text::{Span, TextFault, tokens};
 use std::alloc::{AllocError, Global};
+use std::test::Fail;
 
 /// A fault's name and its place.
 fn name_and_span(fault: TextFault) -> (&'static str, Span) {
@@ -15,7 +16,7 @@ fn name_and_span(fault: TextFault) -> (&'static str, Span) {
 }
 
 /// The tokens of a text, or its first fault, with their places in bytes: `Int 0..1, Word 2..4`, or `RunOn 0..2`.
-pub(crate) fn told(alloc: Global, text: &str) -> Result<String, AllocError> {
+fn told(alloc: Global, text: &str) -> Result<String, AllocError> {
     let found = match tokens(alloc, text) {
         Ok(found) => found,
         Err(fault) => {
@@ -34,10 +35,20 @@ pub(crate) fn told(alloc: Global, text: &str) -> Result<String, AllocError> {
     Ok(line)
 }
 
-/// Whether a text is told so.
-pub(crate) fn is_told(alloc: Global, text: &str, wanted: &str) -> bool {
-    match told(alloc, text) {
-        Ok(line) => line.as_str() == wanted,
-        Err(_) => false,
+/// Fails if a text is not told so.
+pub(crate) fn is_told(alloc: Global, text: &str, wanted: &str) -> Result<(), Fail> {
+    let line = told(alloc, text)?;
+    if line.as_str() == wanted {
+        Ok(())
+    } else {
+        Err(Fail::new(format_args!("{line}, not {wanted}: {text}")))
     }
+}
+
+/// Fails at the first text that is not told so.
+pub(crate) fn all_told(alloc: Global, rows: &[(&str, &str)]) -> Result<(), Fail> {
+    for &(text, wanted) in rows {
+        is_told(alloc, text, wanted)?;
+    }
+    Ok(())
 }

@@ -11,6 +11,14 @@ pub(crate) fn parsed(alloc: Global, text: &str) -> Result<Result<Expr, SyntaxFau
     Ok(parse(alloc, found.as_slice(), text.len()))
 }
 
+/// The tree of a text.
+pub(crate) fn expr_of(alloc: Global, text: &str) -> Result<Expr, Fail> {
+    match parsed(alloc, text)? {
+        Ok(expr) => Ok(expr),
+        Err(fault) => Err(Fail::new(format_args!("{fault:?}: {text}"))),
+    }
+}
+
 /// What a node is, with its name or its variable.
 fn label(alloc: Global, node: &Node) -> Result<String, AllocError> {
     match node {
@@ -104,7 +112,7 @@ fn told_fault(alloc: Global, fault: SyntaxFault) -> Result<String, AllocError> {
 }
 
 /// The nodes of the tree of a text, as `Eq 0..6, a 0..1, Int 5..6`, or its fault, as `Unexpected 0..1`.
-pub(crate) fn told_tree(alloc: Global, text: &str) -> Result<String, Fail> {
+fn told_tree(alloc: Global, text: &str) -> Result<String, Fail> {
     match parsed(alloc, text)? {
         Ok(expr) => {
             let mut line = String::new(alloc);
@@ -113,4 +121,22 @@ pub(crate) fn told_tree(alloc: Global, text: &str) -> Result<String, Fail> {
         }
         Err(fault) => Ok(told_fault(alloc, fault)?),
     }
+}
+
+/// Fails if the tree of a text is not told so.
+pub(crate) fn is_tree(alloc: Global, text: &str, wanted: &str) -> Result<(), Fail> {
+    let line = told_tree(alloc, text)?;
+    if line.as_str() == wanted {
+        Ok(())
+    } else {
+        Err(Fail::new(format_args!("{line}, not {wanted}: {text}")))
+    }
+}
+
+/// Fails at the first text whose tree is not told so.
+pub(crate) fn all_trees(alloc: Global, rows: &[(&str, &str)]) -> Result<(), Fail> {
+    for &(text, wanted) in rows {
+        is_tree(alloc, text, wanted)?;
+    }
+    Ok(())
 }

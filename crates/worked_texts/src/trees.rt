@@ -1,5 +1,6 @@
 //! From texts to trees (OData URL Conventions 4.01, section 5.1.1).
-use crate::told_trees::{parsed, told_tree};
+use crate::limits::repeated;
+use crate::told_trees::{all_trees, expr_of};
 use odata_syntax::{BinaryOperator, LiteralKind, Node};
 use odata_text::Span;
 use std::test::Fail;
@@ -43,10 +44,7 @@ const WITHOUT_TREE: &[(&str, &str)] = &[
 /// What stands where something else has to stand, or the end of the text with its white space.
 #[test]
 fn texts_without_a_tree(rt: HostRuntime) -> Result<(), Fail> {
-    for &(text, wanted) in WITHOUT_TREE {
-        assert_eq!(rt; told_tree(rt.alloc(), text)?.as_str(), wanted, "{text}");
-    }
-    Ok(())
+    all_trees(rt.alloc(), WITHOUT_TREE)
 }
 
 /// Whether this is the name with this place.
@@ -67,48 +65,57 @@ fn is_true(node: &Node, place: Span) -> bool {
     }
 }
 
-/// `eq EQ True`: a name, an operator and a literal with its spelling.
-#[test]
-fn nodes_of_a_tree(rt: HostRuntime) -> Result<(), Fail> {
-    let expr = parsed(rt.alloc(), "eq EQ True")??;
-    match expr.root() {
+/// Whether this is `eq EQ True`: a name, an operator and a literal with its spelling.
+fn is_name_eq_true(node: &Node) -> bool {
+    match node {
         Node::Binary {
             span,
             operator,
             left,
             right,
         } => {
-            assert!(rt; *operator == BinaryOperator::Eq);
-            assert!(rt; *span == Span { start: 0, stop: 10 });
-            assert!(rt; is_name(left, "eq", Span { start: 0, stop: 2 }));
-            assert!(rt; is_true(right, Span { start: 6, stop: 10 }));
+            *operator == BinaryOperator::Eq
+                && *span == Span { start: 0, stop: 10 }
+                && is_name(left, "eq", Span { start: 0, stop: 2 })
+                && is_true(right, Span { start: 6, stop: 10 })
         }
-        _ => assert!(rt; false),
+        _ => false,
     }
+}
+
+#[test]
+fn nodes_of_a_tree(rt: HostRuntime) -> Result<(), Fail> {
+    let expr = expr_of(rt.alloc(), "eq EQ True")?;
+    assert!(rt; is_name_eq_true(expr.root()));
     Ok(())
+}
+
+/// Whether this is an `and` from the first byte to the last of 16,384, of which the last four are its right operand.
+fn is_long_and(node: &Node) -> bool {
+    match node {
+        Node::Binary {
+            span,
+            operator,
+            right,
+            ..
+        } => {
+            *operator == BinaryOperator::And
+                && *span
+                    == Span {
+                        start: 0,
+                        stop: 16_384,
+                    }
+                && right.span().start == 16_380
+        }
+        _ => false,
+    }
 }
 
 /// `true` 1,821 times, joined by ` and `: as many tokens as fit a text of 16,384 bytes in this form.
 #[test]
 fn many_operands(rt: HostRuntime) -> Result<(), Fail> {
-    let mut text = "true and ".repeat(rt.alloc(), 1820)?;
-    text.push_str("true")?;
-    let expr = parsed(rt.alloc(), text.as_str())??;
-    let whole = Span {
-        start: 0,
-        stop: 16384,
-    };
-    assert!(rt; expr.root().span() == whole);
-    match expr.root() {
-        Node::Binary {
-            operator,
-            right,
-            ..
-        } => {
-            assert!(rt; *operator == BinaryOperator::And);
-            assert_eq!(rt; right.span().start, 16380);
-        }
-        _ => assert!(rt; false),
-    }
+    let text = repeated(rt.alloc(), "true and ", 1820, "true")?;
+    let expr = expr_of(rt.alloc(), text.as_str())?;
+    assert!(rt; is_long_and(expr.root()));
     Ok(())
 }

@@ -20,10 +20,13 @@ const READ: &[(&str, Option<i64>)] = &[
 ];
 
 #[test]
-fn whole_numbers_read(rt: HostRuntime) {
+fn whole_numbers_read() -> Result<(), Fail> {
     for &(text, value) in READ {
-        assert_eq!(rt; read_int(text), value, "at {text}");
+        if read_int(text) != value {
+            return Err(Fail::new(format_args!("not {value:?}: {text}")));
+        }
     }
+    Ok(())
 }
 
 /// A number, and `n=` with what is written behind it.
@@ -41,7 +44,9 @@ fn whole_numbers_written(rt: HostRuntime) -> Result<(), Fail> {
     for &(value, text) in WRITTEN {
         let mut out = String::from_str(rt.alloc(), "n=")?;
         write_int(&mut out, value)?;
-        assert_eq!(rt; out.as_str(), text);
+        if out.as_str() != text {
+            return Err(Fail::new(format_args!("{out}, not {text}")));
+        }
     }
     Ok(())
 }
@@ -65,11 +70,9 @@ const LONG: &[(usize, usize, Option<i64>)] = &[
 fn long_whole_numbers(rt: HostRuntime) -> Result<(), Fail> {
     for &(zeros, nines, value) in LONG {
         let text = zeros_and_nines(rt.alloc(), zeros, nines)?;
-        assert_eq!(rt;
-            read_int(text.as_str()),
-            value,
-            "{zeros} zeros, {nines} nines"
-        );
+        if read_int(text.as_str()) != value {
+            return Err(Fail::new(format_args!("{zeros} zeros, {nines} nines")));
+        }
     }
     Ok(())
 }

@@ -60,22 +60,35 @@ fn is_wrong(alloc: Global, front: &str, token: &str) -> Result<bool, Fail> {
     Ok(unexpected(alloc, text.as_str())? == Some(place))
 }
 
+/// Fails if what stands before a place ends otherwise, or the token is not unexpected there.
+fn is_place(alloc: Global, front: &str, end: char, wrong: &str) -> Result<(), Fail> {
+    if ends_so(alloc, front, end)? && is_wrong(alloc, front, wrong)? {
+        Ok(())
+    } else {
+        Err(Fail::new(format_args!("not {end}: {front}{wrong}")))
+    }
+}
+
+/// Fails at the first place of the text, between its tokens, that is another.
+fn has_places(alloc: Global, text: &str, ends: &str, wrongs: &str) -> Result<(), Fail> {
+    let mut front = String::new(alloc);
+    let mut tokens = text.split_whitespace();
+    for (end, wrong) in ends.chars().zip(wrongs.split_whitespace()) {
+        is_place(alloc, front.as_str(), end, wrong)?;
+        front.push_str(tokens.next().unwrap_or(""))?;
+        front.push(' ')?;
+    }
+    if tokens.next().is_none() && wrongs.split_whitespace().count() == ends.len() {
+        Ok(())
+    } else {
+        Err(Fail::new(format_args!("other places: {text}")))
+    }
+}
+
 #[test]
 fn tokens_at_each_place(rt: HostRuntime) -> Result<(), Fail> {
     for &(text, ends, wrongs) in PLACES {
-        let mut front = String::new(rt.alloc());
-        let mut tokens = text.split_whitespace();
-        assert_eq!(rt; wrongs.split_whitespace().count(), ends.len(), "{text}");
-        for (end, wrong) in ends.chars().zip(wrongs.split_whitespace()) {
-            assert!(rt; ends_so(rt.alloc(), front.as_str(), end)?, "{front}");
-            assert!(rt;
-                is_wrong(rt.alloc(), front.as_str(), wrong)?,
-                "{front}{wrong}"
-            );
-            front = with_token(rt.alloc(), front.as_str(), tokens.next().unwrap_or(""))?;
-            front.push(' ')?;
-        }
-        assert!(rt; tokens.next().is_none(), "{text}");
+        has_places(rt.alloc(), text, ends, wrongs)?;
     }
     Ok(())
 }
