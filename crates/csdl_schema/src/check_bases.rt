@@ -67,7 +67,8 @@ fn check_inherited(
     index: usize,
     bases: &[usize],
 ) -> Result<usize, SchemaFault>
-    requires firsts { map (option_map (λ s. s.now)) firsts.now ≡ firsts_from (placed_of types.now) 0 (placed_of types.now) }
+    requires firsts { map (option_map (λ s. s.now)) firsts.now
+        ≡ firsts_from (placed_of types.now) 0 (placed_of types.now) }
     requires found { slice_get types.now index ≡ Some found.now }
     ensures { Reads result (inherited_faults_at (placed_of types.now) (string_bytes found.now.name) index bases.now)
         (λ n. n ≡ count_at (placed_of types.now) bases.now) }
@@ -96,7 +97,8 @@ fn check_type(
     found: &NamedType,
     index: usize,
 ) -> Result<Chain, SchemaFault>
-    requires firsts { map (option_map (λ s. s.now)) firsts.now ≡ firsts_from (placed_of types.now) 0 (placed_of types.now) }
+    requires firsts { map (option_map (λ s. s.now)) firsts.now
+        ≡ firsts_from (placed_of types.now) 0 (placed_of types.now) }
     requires found { slice_get types.now index ≡ Some found.now }
     ensures { Reads result (base_faults_at (placed_of types.now) base (string_bytes found.now.name) index)
         (λ chain. chain ≡ chain_at (placed_of types.now) index) }

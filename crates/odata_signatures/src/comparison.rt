@@ -19,7 +19,8 @@ pub(crate) fn are_compared(
 ) -> bool
     requires left { IsTypeThere schema.now left.now }
     requires right { IsTypeThere schema.now right.now }
-    ensures { IsTrue result ↔ AreComparedBy comparison (expr_type schema.now left.now) (expr_type schema.now right.now) }
+    ensures { IsTrue result ↔ AreComparedBy comparison (expr_type schema.now left.now)
+        (expr_type schema.now right.now) }
 {
     match comparison {
         ComparisonOperator::Eq | ComparisonOperator::Ne => are_comparable(schema, left, right),
