@@ -1,13 +1,49 @@
 //! Numbers of JSON from their texts, as `serde_json` holds them.
-ghost use Rattle.std.specs.Prelude.{◌≡◌, ◌<◌, ◌==◌, length, slice_index, true, false, IsTrue, option_map};
+ghost use Rattle.std.specs.Prelude.{◌≡◌, ◌<◌, ◌==◌, length, slice_index, true, false, Some, IfSome, IsTrue, option_map};
+ghost use Rattle.std.specs.Str.Parse.{digits_value, IsNumeral};
+ghost use Rattle.serde_json.specs.Data.{Num};
+ghost use Rattle.serde_json.specs.Find.{as_integer};
 ghost use Rattle.serde_json.specs.Read.{number_of, number_from, float_of};
 ghost use Rattle.serde_json.specs.View.{number_view};
 
 use fast_float::Numeral;
 use serde_json::Number;
 
-/// The number that a token writes; none where it is too large for a float.
+/// The number that digits write, where they are some, of at most 18 places, and nothing else.
 #[inline(always)]
+fn number_of_digits(bytes: &[u8]) -> Option<u64>
+    ensures written { IfSome result (λ n. IsNumeral 10 bytes.now × (n ≡ digits_value 10 bytes.now)) }
+    ensures bound { IfSome result (λ n. n < 1000000000000000000) }
+{
+    if bytes.is_empty() {
+        return None;
+    }
+    let mut number = 0_u64;
+    for place in 0..bytes.len() {
+        let Some(digit) = (bytes[place] as char).to_digit(10) else {
+            return None;
+        };
+        if number >= 100_000_000_000_000_000 {
+            return None;
+        }
+        number = number * 10 + digit as u64;
+    }
+    Some(number)
+}
+
+/// The whole number that a text of digits alone writes, as most numbers are.
+#[inline(always)]
+pub(crate) fn whole_of_digits(text: &str) -> Option<i64>
+    ensures { IfSome result (λ n. (m : Num) × (number_of text.now ≡ Some m) × (as_integer m ≡ Some n)) }
+{
+    match number_of_digits(text.as_bytes()) {
+        Some(number) => Some(number as i64),
+        None => None,
+    }
+}
+
+/// The number that a token writes; none where it is too large for a float.
+#[inline(never)]
 pub(crate) fn number_of_text(text: &str) -> Option<Number>
     ensures { option_map number_view result ≡ number_of text.now }
 {

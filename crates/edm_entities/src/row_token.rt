@@ -1,6 +1,7 @@
 //! Values without parts, from a row's tokens.
 ghost use Rattle.std.specs.Prelude.{◌≡◌, Ok, IfSome, IsTrue};
 ghost use Rattle.json.specs.Reads.{token_of};
+ghost use Rattle.json.specs.Token.{number};
 ghost use Rattle.serde_json.specs.Data.{Data, string};
 ghost use Rattle.csdl_schema.specs.ExprType.{ExprType, single};
 ghost use Rattle.csdl_schema.specs.SchemaModel.{Slots, slots_of};
@@ -12,13 +13,22 @@ ghost use Rattle.edm_entities.specs.private.Walk.{wanted_single};
 
 use super::flaw::ReadFlaw;
 use super::leaf::{read_member, read_primitive};
-use super::number_text::number_of_text;
+use super::number_text::{number_of_text, whole_of_digits};
 use super::row_cache::RowCache;
 use super::scalar::{JsonNumber, Scalar, json_number};
 use super::wanted::Wanted;
 use csdl_schema::Schema;
 use edm_values::{Prim, Value};
 use json::Token;
+
+fn scalar_of_number(text: &str) -> Option<Scalar<'_>>
+    ensures { IfSome result (λ scalar. ReadsToken (number text.now) (IsScalar scalar)) }
+{
+    match number_of_text(text) {
+        Some(number) => Some(Scalar::Number(json_number(&number))),
+        None => None,
+    }
+}
 
 /// The truth value, number or text that a token is; none for a number too large for a float.
 #[inline(always)]
@@ -27,9 +37,9 @@ pub(crate) fn scalar_of_token(token: Token<'_>) -> Option<Scalar<'_>>
 {
     match token {
         Token::String(text) => Some(Scalar::Text(text)),
-        Token::Number(text) => match number_of_text(text) {
-            Some(number) => Some(Scalar::Number(json_number(&number))),
-            None => None,
+        Token::Number(text) => match whole_of_digits(text) {
+            Some(n) => Some(Scalar::Number(JsonNumber::Whole(n))),
+            None => scalar_of_number(text),
         },
         Token::Bool(truth) => Some(Scalar::Truth(truth)),
         _ => None,

@@ -1,5 +1,8 @@
-use Rattle.std.proofs.Common.{◌∙◌, option_map, sym, ap}
-use Rattle.serde_json.specs.View.{number_view}
+use Rattle.std.proofs.Common.{◌∙◌, ℤ, Some, refl, sym, ap, rules}
+use Rattle.std.proofs.lemmas.Int.{to_z-of_z}
+use Rattle.std.specs.Prelude.{FitsSigned}
+use Rattle.std.specs.Int.{w64}
+use Rattle.edm_entities.specs.declared.scalar.JsonNumber.TheVariants.{Whole}
 use Rattle.edm_entities.specs.declared.scalar.Scalar.TheVariants.{Truth, Text}
 use Rattle.edm_entities.proofs.RowLemmas.Leaves.{text_scalar, truth_scalar, number_scalar}
 use Rattle.edm_entities.proofs.row_token.scalar_of_token.Goals as goal
@@ -9,8 +12,10 @@ returns-in-String c = rw c.in-String.is (text_scalar c.in-String.text.now (Text 
 
 pub returns-in-Some : goal.returns-in-Some
 returns-in-Some c =
-    rw c.in-Number.is (number_scalar c.in-Number.text.now (number_view c.in-Some.number) c.json_number.result
-    (sym c.number_of_text.ensures ∙ ap (option_map number_view) c.in-Some.is) c.json_number.ensures)
+    let found = c.in-Some.ensures in
+    let fits : FitsSigned w64 c.in-Some.n = search rules in
+    let same = ap (λ (z : ℤ). Some z) (sym (to_z-of_z w64 c.in-Some.n fits)) in
+    rw c.in-Number.is (number_scalar c.in-Number.text.now found.0 (Whole _) found.1 (found.0, record { is_number = refl; holds = found.2 ∙ same }))
 
 pub returns-in-Bool : goal.returns-in-Bool
 returns-in-Bool c = rw c.in-Bool.is (truth_scalar c.in-Bool.truth (Truth c.in-Bool.truth) (λ json is. is))
