@@ -1,5 +1,6 @@
 -- The walk of a filter's list: what stands in a place, and what is answered there.
 pub mod Compared
+pub mod KeptValues
 pub mod Leaves
 pub mod MemberSteps
 pub mod NumberSpines

@@ -2,6 +2,5 @@
 pub mod DatumView
 pub mod Operands
 pub mod Place
-pub mod Sides
 pub mod WalkAnswer
 pub mod WalkClass

@@ -1,5 +1,6 @@
 //! The values that operators take: those of literals and of the entity where they are kept.
-ghost use Rattle.std.specs.Prelude.{◌≡◌, ℤ, Option, Bool};
+ghost use Rattle.std.specs.Prelude.{◌≡◌, ℤ, Option, Some, Bool};
+ghost use Rattle.edm_values.specs.PlainVal.{plain_val};
 ghost use Rattle.odata_functions.specs.DatumVal.{Reading, datum_val};
 ghost use Rattle.odata_eval.specs.CalculationGives.{number_val};
 ghost use Rattle.odata_eval.specs.TruthGives.{truth_val};
@@ -24,6 +25,30 @@ pub(crate) fn datum_of(value: &Value) -> Datum<'_>
         Value::Enum(n) => Datum::Enum(*n),
         Value::Record(fields) => Datum::Record(fields.as_slice()),
         Value::List(items) => Datum::List(items.as_slice()),
+    }
+}
+
+/// A number that is kept, or None for null.
+#[inline(always)]
+pub(crate) fn kept_number(value: &Value) -> Option<i64>
+    requires { (number : Option ℤ) × (plain_val value.now ≡ Some (number_val number)) }
+    ensures { plain_val value.now ≡ Some (number_val result) }
+{
+    match value {
+        Value::Int(n) => Some(*n),
+        _ => None,
+    }
+}
+
+/// A truth value that is kept, or None for null.
+#[inline(always)]
+pub(crate) fn kept_truth(value: &Value) -> Option<bool>
+    requires { (truth : Option Bool) × (plain_val value.now ≡ Some (truth_val truth)) }
+    ensures { plain_val value.now ≡ Some (truth_val result) }
+{
+    match value {
+        Value::Bool(b) => Some(*b),
+        _ => None,
     }
 }
 

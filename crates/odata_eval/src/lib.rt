@@ -1,7 +1,6 @@
 //! What a checked filter comes to on an entity (OData URL Conventions 4.01, section 5.1.1).
 #![tactic(auto)]
 
-mod compared;
 mod datum;
 mod evaluator;
 mod fault;

@@ -2,20 +2,61 @@
 ghost use Rattle.std.specs.Prelude.{◌≡◌, ◌↔◌, Some, IsTrue, IsSomeAnd};
 ghost use Rattle.edm_values.specs.declared.primitive.PrimitiveType.{PrimitiveType};
 ghost use Rattle.csdl_schema.specs.SchemaModel.{SchemaModel};
+ghost use Rattle.odata_functions.specs.Comparable.{AreComparableBy};
 ghost use Rattle.odata_functions.specs.Comparison.{AreEqual, ComparesTrue, IsGreater};
+ghost use Rattle.odata_functions.specs.KeptVal.{Contents, kept_val};
+ghost use Rattle.odata_signatures.specs.OperatorClass.{class_of};
 ghost use Rattle.odata_signatures.specs.TypeView.{expr_type};
 ghost use Rattle.odata_eval.specs.CalculationGives.{CalculationGives, NegatedGives, number_outcome, number_val};
 ghost use Rattle.odata_eval.specs.TruthGives.{joined, truth_val};
 ghost use Rattle.odata_eval.specs.private.DatumView.{answer_outcome};
 ghost use Rattle.odata_eval.specs.private.Operands.{AreNumbers, IsOneNumber};
-ghost use Rattle.odata_eval.specs.private.WalkClass.{IsDecided};
+ghost use Rattle.odata_eval.specs.declared.part.WalkClass.{WalkClass};
+ghost use Rattle.odata_eval.specs.private.WalkClass.{IsDecided, walk_of_operator};
 
 use super::fault::EvalFault;
-use edm_values::Prim;
+use edm_values::{Prim, Value};
 use odata_functions::{
-    ArithFault, ArithmeticOperator, ComparisonOperator, and3, arith, negate, or3,
+    ArithFault, ArithmeticOperator, ComparisonOperator, and3, arith, compare_values, negate, or3,
 };
-use odata_signatures::{Connective, EdmType, ValueType};
+use odata_signatures::{Connective, EdmType, OperatorClass, ValueType, class_of};
+use odata_syntax::BinaryOperator;
+
+/// Which connective the operator is.
+#[inline(always)]
+pub(crate) fn connective_of(operator: BinaryOperator) -> Connective
+    requires { walk_of_operator (class_of operator) ≡ WalkClass.Logical }
+    ensures { class_of operator ≡ OperatorClass.Connective result }
+{
+    match class_of(operator) {
+        OperatorClass::Connective(connective) => connective,
+        _ => unreachable!(),
+    }
+}
+
+/// Which comparison the operator is.
+#[inline(always)]
+pub(crate) fn comparison_of(operator: BinaryOperator) -> ComparisonOperator
+    requires { walk_of_operator (class_of operator) ≡ WalkClass.Eager }
+    ensures { class_of operator ≡ OperatorClass.Comparison result }
+{
+    match class_of(operator) {
+        OperatorClass::Comparison(comparison) => comparison,
+        _ => unreachable!(),
+    }
+}
+
+/// Which operator of arithmetic the operator is.
+#[inline(always)]
+pub(crate) fn arithmetic_of(operator: BinaryOperator) -> ArithmeticOperator
+    requires { walk_of_operator (class_of operator) ≡ WalkClass.Numeric }
+    ensures { class_of operator ≡ OperatorClass.Arithmetic result }
+{
+    match class_of(operator) {
+        OperatorClass::Arithmetic(arithmetic) => arithmetic,
+        _ => unreachable!(),
+    }
+}
 
 /// Whether the left truth value alone decides.
 pub(crate) fn decides(connective: Connective, left: Option<bool>) -> bool
@@ -40,6 +81,21 @@ pub(crate) fn join(connective: Connective, left: Option<bool>, right: Option<boo
         Connective::And => and3(None, right),
         Connective::Or => or3(None, right),
     }
+}
+
+/// Whether the comparison of two values that are kept is true. Numbers are compared at once.
+#[inline(always)]
+pub(crate) fn compare_kept(comparison: ComparisonOperator, left: &Value, right: &Value) -> bool
+    requires { (l r : Contents) → AreComparableBy comparison (kept_val l left.now) (kept_val r right.now) }
+    ensures { (l r : Contents)
+        → IsTrue result ↔ ComparesTrue comparison (kept_val l left.now) (kept_val r right.now) }
+{
+    if let Value::Int(l) = left {
+        if let Value::Int(r) = right {
+            return compare_numbers(comparison, Some(*l), Some(*r));
+        }
+    }
+    compare_values(comparison, left, right)
 }
 
 /// Whether the comparison of two numbers or nulls is true.
@@ -82,15 +138,16 @@ fn is_greater(left: Option<i64>, right: Option<i64>) -> bool
 }
 
 /// What arithmetic makes of two numbers or nulls, where its node has that type.
+#[inline(always)]
 pub(crate) fn calculated(
     operator: ArithmeticOperator,
-    edm_type: EdmType,
+    edm_type: &EdmType,
     left: Option<i64>,
     right: Option<i64>,
 ) -> Result<Option<i64>, EvalFault>
-    requires { (schema : SchemaModel) → AreNumbers (expr_type schema edm_type) (number_val left) (number_val right) }
+    requires { (schema : SchemaModel) → AreNumbers (expr_type schema edm_type.now) (number_val left) (number_val right) }
     ensures { (schema : SchemaModel) → IsSomeAnd (answer_outcome number_val result)
-        (CalculationGives operator (expr_type schema edm_type) (number_val left) (number_val right)) }
+        (CalculationGives operator (expr_type schema edm_type.now) (number_val left) (number_val right)) }
 {
     match left {
         Some(a) => match right {
@@ -102,10 +159,11 @@ pub(crate) fn calculated(
 }
 
 /// The negation of a number or null, where its node has that type.
-pub(crate) fn negated(edm_type: EdmType, operand: Option<i64>) -> Result<Option<i64>, EvalFault>
-    requires { (schema : SchemaModel) → IsOneNumber (expr_type schema edm_type) (number_val operand) }
+#[inline(always)]
+pub(crate) fn negated(edm_type: &EdmType, operand: Option<i64>) -> Result<Option<i64>, EvalFault>
+    requires { (schema : SchemaModel) → IsOneNumber (expr_type schema edm_type.now) (number_val operand) }
     ensures { (schema : SchemaModel) → IsSomeAnd (answer_outcome number_val result)
-        (NegatedGives (expr_type schema edm_type) (number_val operand)) }
+        (NegatedGives (expr_type schema edm_type.now) (number_val operand)) }
 {
     match operand {
         Some(n) => told_number(negate(prim_of(edm_type), Some(n))),
@@ -114,12 +172,12 @@ pub(crate) fn negated(edm_type: EdmType, operand: Option<i64>) -> Result<Option<
 }
 
 /// The primitive type of one value.
-fn prim_of(edm_type: EdmType) -> Prim
-    requires { (p : PrimitiveType) × (edm_type ≡ EdmType.Single (ValueType.Prim p)) }
-    ensures { edm_type ≡ EdmType.Single (ValueType.Prim result) }
+fn prim_of(edm_type: &EdmType) -> Prim
+    requires { (p : PrimitiveType) × (edm_type.now ≡ EdmType.Single (ValueType.Prim p)) }
+    ensures { edm_type.now ≡ EdmType.Single (ValueType.Prim result) }
 {
     match edm_type {
-        EdmType::Single(ValueType::Prim(prim)) => prim,
+        EdmType::Single(ValueType::Prim(prim)) => *prim,
         _ => unreachable!(),
     }
 }

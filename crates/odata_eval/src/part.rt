@@ -6,7 +6,7 @@ ghost use Rattle.edm_values.specs.MomentParts.{MomentParts};
 
 use edm_entities::Entity;
 use edm_values::Value;
-use odata_signatures::{EdmType, OperatorClass, ValueType, class_of};
+use odata_signatures::{OperatorClass, class_of};
 use odata_typing::{Checked, CheckedNode, NodeKind};
 
 /// How the walk takes a node: as a value that is there, by the truth values of its operands, by their numbers, or by
@@ -32,7 +32,7 @@ pub(crate) enum Part<'e> {
     Eager,
 }
 
-ghost use Rattle.odata_eval.specs.private.Place.{HasNumberType, IsClassAt, IsRightOf, PartStands};
+ghost use Rattle.odata_eval.specs.private.Place.{IsClassAt, IsRightOf, PartStands};
 ghost use Rattle.odata_eval.specs.private.WalkAnswer.{AnswersKept, HoldsAt, IsPart};
 ghost use Rattle.odata_eval.specs.private.WalkClass.{walk_of_kind};
 
@@ -83,7 +83,8 @@ fn literal_at<'e>(checked: &'e Checked<'_>, place: usize) -> &'e Value
     &checked.values()[place]
 }
 
-/// What stands in a place.
+/// What stands in a place. Most often it is a property or a literal.
+#[inline(always)]
 pub(crate) fn part_at<'e>(
     checked: &'e Checked<'_>,
     entity: &'e Entity<'_>,
@@ -94,6 +95,12 @@ pub(crate) fn part_at<'e>(
     ensures { IsPart entity.now [] checked.now.list place result }
 {
     let kind = node_at(checked, place).kind;
+    if let NodeKind::Property { slot } = kind {
+        return Part::Leaf(value_at(entity, slot));
+    }
+    if let NodeKind::Literal { value, .. } = kind {
+        return Part::Leaf(literal_at(checked, value));
+    }
     match walk_of_kind(kind) {
         WalkClass::Leaf => Part::Leaf(leaf_at(checked, entity, place)),
         WalkClass::Logical => Part::Logical,
@@ -117,6 +124,15 @@ fn leaf_at<'e>(checked: &'e Checked<'_>, entity: &'e Entity<'_>, place: usize) -
     }
 }
 
+/// How the walk takes the node in a place.
+#[inline(always)]
+pub(crate) fn class_at(checked: &Checked<'_>, place: usize) -> WalkClass
+    requires { place < length checked.now.list.nodes }
+    ensures { IsClassAt checked.now.list result place }
+{
+    walk_of_kind(node_at(checked, place).kind)
+}
+
 /// Whether the walk takes the node in a place so. There is none past the end.
 pub(crate) fn is_class_at(checked: &Checked<'_>, place: usize, class: WalkClass) -> bool
     ensures { IsTrue result ↔ IsClassAt checked.now.list class place }
@@ -124,17 +140,6 @@ pub(crate) fn is_class_at(checked: &Checked<'_>, place: usize, class: WalkClass)
     match checked.nodes().get(place) {
         Some(node) => walk_of_kind(node.kind) == class,
         None => false,
-    }
-}
-
-/// Whether the node in a place has a number type.
-pub(crate) fn has_number_type_at(checked: &Checked<'_>, place: usize) -> bool
-    requires { place < length checked.now.list.nodes }
-    ensures { IsTrue result → HasNumberType checked.now.list place }
-{
-    match node_at(checked, place).edm_type {
-        EdmType::Single(ValueType::Prim(prim)) => prim.is_number(),
-        _ => false,
     }
 }
 
@@ -159,8 +164,5 @@ pub(crate) fn right_of(checked: &Checked<'_>, place: usize) -> usize
     ensures { IsRightOf checked.now.list place result }
 {
     let nodes = checked.nodes();
-    match nodes.get(place + 1) {
-        Some(left) => left.stop,
-        None => unreachable!(),
-    }
+    nodes[place + 1].stop
 }

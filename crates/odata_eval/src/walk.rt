@@ -3,25 +3,32 @@
 //! by counting, and long chains take no stack.
 //!
 //! What is asked at each node is marked to be inlined, so that an answer is not passed on through memory.
-ghost use Rattle.std.specs.Prelude.{◌+◌, [], Ok};
+ghost use Rattle.std.specs.Prelude.{◌≡◌, ◌+◌, [], Ok};
 ghost use Rattle.edm_entities.specs.Row.{IsEntity};
-ghost use Rattle.odata_eval.specs.private.Place.{HasOperatorOf, IsClassAt, NumberStands, PartStands, TruthStands};
-ghost use Rattle.odata_eval.specs.private.Sides.{AreNumberSides};
+ghost use Rattle.odata_signatures.specs.OperatorClass.{class_of};
+ghost use Rattle.odata_eval.specs.private.Place.{HasOperator, HasOperatorOf, IsClassAt, NumberStands, PartStands, TruthStands};
+ghost use Rattle.odata_eval.specs.private.WalkClass.{walk_of_operator};
 ghost use Rattle.odata_eval.specs.private.WalkAnswer.{AnswersDatum, AnswersNumber, AnswersTruth};
 
-use super::compared::{NumberSides, Sides, sides_at};
-use super::datum::{datum_of, datum_of_number, datum_of_truth, number_of, step, truth_of};
+use super::datum::{
+    datum_of, datum_of_number, datum_of_truth, kept_number, kept_truth, number_of, step, truth_of,
+};
 use super::fault::EvalFault;
 use super::laws::typed_trees_end_once_on_entities;
-use super::operators::{calculated, compare_numbers, decides, join, negated};
-use super::part::{Part, WalkClass, is_class_at, node_at, part_at, right_of, spine_bottom};
-use edm_entities::Entity;
-use edm_values::{Datum, Moment};
-use odata_functions::{
-    ArithmeticOperator, ComparisonOperator, compare, comparisons_are_decided, not3,
-    operands_lie_within_promotion,
+use super::operators::{
+    arithmetic_of, calculated, compare_kept, compare_numbers, comparison_of, connective_of,
+    decides, join, negated,
 };
-use odata_signatures::{Connective, OperatorClass, class_of};
+use super::part::{
+    Part, WalkClass, class_at, is_class_at, node_at, part_at, right_of, spine_bottom,
+};
+use edm_entities::Entity;
+use edm_values::{Datum, Moment, Value};
+use odata_functions::{
+    ComparisonOperator, compare, comparisons_are_decided, not3, operands_lie_within_promotion,
+};
+use odata_signatures::{OperatorClass, class_of};
+use odata_syntax::BinaryOperator;
 use odata_typing::{Checked, NodeKind, trees_have_one_type};
 
 /// What a node of type Boolean or Null comes to on an entity of the filtered type.
@@ -61,28 +68,52 @@ fn plain_truth_at<'e>(
     ensures { AnswersTruth entity.now now.now [] checked.now.list place result }
 {
     typed_trees_end_once_on_entities();
-    operands_lie_within_promotion();
-    comparisons_are_decided();
+    if let NodeKind::Binary { operator } = node_at(checked, place).kind {
+        if let OperatorClass::Comparison(_) = class_of(operator) {
+            return compared_truth_at(checked, entity, now, place, operator);
+        }
+    }
     match part_at(checked, entity, place) {
-        Part::Leaf(value) => Ok(truth_of(&datum_of(value))),
+        Part::Leaf(value) => Ok(kept_truth(value)),
         Part::Logical => unreachable!(),
         Part::Numeric => match number_at(checked, entity, now, place) {
             Ok(number) => Ok(truth_of(&datum_of_number(number))),
             Err(fault) => Err(fault),
         },
-        Part::Eager => match sides_at(checked, entity, place) {
-            Sides::Kept(sides) => Ok(Some(compare(
-                sides.comparison,
-                &datum_of(sides.left),
-                &datum_of(sides.right),
-            ))),
-            Sides::Numbers(sides) => numbers_truth_at(checked, entity, now, place, sides),
-            Sides::Others => made_truth_at(checked, entity, now, place),
-        },
+        Part::Eager => made_truth_at(checked, entity, now, place),
     }
 }
 
-/// The same, of a comparison of numbers.
+/// The same, of a comparison.
+#[cycle(evaluate)]
+#[inline(always)]
+fn compared_truth_at<'e>(
+    checked: &'e Checked<'_>,
+    entity: &'e Entity<'_>,
+    now: &Moment,
+    place: usize,
+    operator: BinaryOperator,
+) -> Result<Option<bool>, EvalFault>
+    requires entity { IsEntity entity.now }
+    requires stands { TruthStands entity.now [] checked.now.list place }
+    requires here { HasOperator checked.now.list place operator }
+    requires comparison { walk_of_operator (class_of operator) ≡ WalkClass.Eager }
+    ensures { AnswersTruth entity.now now.now [] checked.now.list place result }
+{
+    typed_trees_end_once_on_entities();
+    comparisons_are_decided();
+    let right_place = right_of(checked, place);
+    match part_at(checked, entity, place + 1) {
+        Part::Leaf(left) => match part_at(checked, entity, right_place) {
+            Part::Leaf(right) => Ok(Some(compare_kept(comparison_of(operator), left, right))),
+            _ => made_truth_at(checked, entity, now, place),
+        },
+        Part::Numeric => numbers_truth_at(checked, entity, now, place, operator),
+        _ => made_truth_at(checked, entity, now, place),
+    }
+}
+
+/// The same, of a comparison whose left side is a node of numbers.
 #[cycle(evaluate)]
 #[inline(always)]
 fn numbers_truth_at<'e>(
@@ -90,23 +121,32 @@ fn numbers_truth_at<'e>(
     entity: &'e Entity<'_>,
     now: &Moment,
     place: usize,
-    sides: NumberSides,
+    operator: BinaryOperator,
 ) -> Result<Option<bool>, EvalFault>
     requires entity { IsEntity entity.now }
-    requires stands { PartStands entity.now [] checked.now.list place }
-    requires sides { AreNumberSides entity.now [] checked.now.list place sides }
+    requires stands { TruthStands entity.now [] checked.now.list place }
+    requires here { HasOperator checked.now.list place operator }
+    requires comparison { walk_of_operator (class_of operator) ≡ WalkClass.Eager }
+    requires numeric { IsClassAt checked.now.list WalkClass.Numeric (place + 1) }
     ensures { AnswersTruth entity.now now.now [] checked.now.list place result }
 {
-    typed_trees_end_once_on_entities();
-    operands_lie_within_promotion();
-    comparisons_are_decided();
-    let left = match left_number_at(checked, entity, now, place + 1) {
+    let right_place = right_of(checked, place);
+    let left = match number_chain_at(checked, entity, now, place + 1) {
         Ok(left) => left,
         Err(fault) => return Err(fault),
     };
-    match number_operand_at(checked, entity, now, sides.right_place) {
-        Ok(right) => Ok(Some(compare_numbers(sides.comparison, left, right))),
-        Err(fault) => Err(fault),
+    match part_at(checked, entity, right_place) {
+        Part::Leaf(value) => match value {
+            Value::Int(right) => {
+                Ok(Some(compare_numbers(comparison_of(operator), left, Some(*right))))
+            }
+            _ => made_truth_at(checked, entity, now, place),
+        },
+        Part::Numeric => match number_at(checked, entity, now, right_place) {
+            Ok(right) => Ok(Some(compare_numbers(comparison_of(operator), left, right))),
+            Err(fault) => Err(fault),
+        },
+        _ => made_truth_at(checked, entity, now, place),
     }
 }
 
@@ -150,14 +190,10 @@ fn logical_at<'e>(
         Err(fault) => return Err(fault),
     };
     match node_at(checked, place).kind {
-        NodeKind::Not => Ok(not3(first)),
-        NodeKind::Binary { operator } => match class_of(operator) {
-            OperatorClass::Connective(connective) => {
-                connected_at(checked, entity, now, place, connective, first)
-            }
-            _ => unreachable!(),
-        },
-        _ => unreachable!(),
+        NodeKind::Binary { operator } => {
+            connected_at(checked, entity, now, place, operator, first)
+        }
+        _ => Ok(not3(first)),
     }
 }
 
@@ -173,10 +209,10 @@ fn side_at<'e>(
     requires stands { TruthStands entity.now [] checked.now.list place }
     ensures { AnswersTruth entity.now now.now [] checked.now.list place result }
 {
-    if is_class_at(checked, place, WalkClass::Logical) {
-        return truth_at(checked, entity, now, place);
+    match class_at(checked, place) {
+        WalkClass::Logical => truth_at(checked, entity, now, place),
+        _ => plain_truth_at(checked, entity, now, place),
     }
-    plain_truth_at(checked, entity, now, place)
 }
 
 /// What a connective comes to. The right side of a decided one is left out.
@@ -186,16 +222,17 @@ fn connected_at<'e>(
     entity: &'e Entity<'_>,
     now: &Moment,
     place: usize,
-    connective: Connective,
+    operator: BinaryOperator,
     left: Option<bool>,
 ) -> Result<Option<bool>, EvalFault>
     requires entity { IsEntity entity.now }
     requires stands { PartStands entity.now [] checked.now.list place }
-    requires connective { HasOperatorOf checked.now.list place (OperatorClass.Connective connective) }
+    requires here { HasOperator checked.now.list place operator }
+    requires connective { walk_of_operator (class_of operator) ≡ WalkClass.Logical }
     requires left { AnswersTruth entity.now now.now [] checked.now.list (place + 1) (Ok left) }
     ensures { AnswersTruth entity.now now.now [] checked.now.list place result }
 {
-    typed_trees_end_once_on_entities();
+    let connective = connective_of(operator);
     if decides(connective, left) {
         return Ok(left);
     }
@@ -218,10 +255,17 @@ fn number_at<'e>(
     requires numeric { IsClassAt checked.now.list WalkClass.Numeric place }
     ensures { AnswersNumber entity.now now.now [] checked.now.list place result }
 {
-    number_chain_at(checked, entity, now, place)
+    let bottom = spine_bottom(checked, place, WalkClass::Numeric);
+    let mut answer = number_operand_at(checked, entity, now, bottom);
+    let mut at = bottom;
+    while place < at {
+        at -= 1;
+        answer = numeric_at(checked, entity, now, at, answer);
+    }
+    answer
 }
 
-/// The same, for where most of these nodes stand.
+/// The same, where most of these nodes stand: two of them on a kept value, or one, are taken at once.
 #[cycle(evaluate)]
 #[inline(always)]
 fn number_chain_at<'e>(
@@ -235,36 +279,39 @@ fn number_chain_at<'e>(
     requires numeric { IsClassAt checked.now.list WalkClass.Numeric place }
     ensures { AnswersNumber entity.now now.now [] checked.now.list place result }
 {
-    let bottom = spine_bottom(checked, place, WalkClass::Numeric);
-    let mut answer = number_operand_at(checked, entity, now, bottom);
-    let mut at = bottom;
-    while place < at {
-        at -= 1;
-        answer = numeric_at(checked, entity, now, at, answer);
+    let _nodes = checked.nodes();
+    match class_at(checked, place + 1) {
+        WalkClass::Numeric => {
+            let first = number_on_leaf_at(checked, entity, now, place + 1);
+            numeric_at(checked, entity, now, place, first)
+        }
+        _ => number_on_leaf_at(checked, entity, now, place),
     }
-    answer
 }
 
-/// What a node of a number type or Null comes to, where a chain is likely.
+/// The same, where the first operand is likely a value that is kept.
 #[cycle(evaluate)]
 #[inline(always)]
-fn left_number_at<'e>(
+fn number_on_leaf_at<'e>(
     checked: &'e Checked<'_>,
     entity: &'e Entity<'_>,
     now: &Moment,
     place: usize,
 ) -> Result<Option<i64>, EvalFault>
     requires entity { IsEntity entity.now }
-    requires stands { NumberStands entity.now [] checked.now.list place }
+    requires stands { PartStands entity.now [] checked.now.list place }
+    requires numeric { IsClassAt checked.now.list WalkClass.Numeric place }
     ensures { AnswersNumber entity.now now.now [] checked.now.list place result }
 {
-    if is_class_at(checked, place, WalkClass::Numeric) {
-        return number_chain_at(checked, entity, now, place);
+    typed_trees_end_once_on_entities();
+    let _nodes = checked.nodes();
+    match part_at(checked, entity, place + 1) {
+        Part::Leaf(first) => numeric_at(checked, entity, now, place, Ok(kept_number(first))),
+        _ => number_at(checked, entity, now, place),
     }
-    number_operand_at(checked, entity, now, place)
 }
 
-/// The same, where a value is likely that is kept.
+/// What a node of a number type or Null comes to, where a value is likely that is kept.
 #[cycle(evaluate)]
 #[inline(always)]
 fn number_operand_at<'e>(
@@ -279,7 +326,7 @@ fn number_operand_at<'e>(
 {
     typed_trees_end_once_on_entities();
     match part_at(checked, entity, place) {
-        Part::Leaf(value) => Ok(number_of(&datum_of(value))),
+        Part::Leaf(value) => Ok(kept_number(value)),
         _ => made_number_at(checked, entity, now, place),
     }
 }
@@ -331,14 +378,10 @@ fn numeric_at<'e>(
     };
     let node = node_at(checked, place);
     match node.kind {
-        NodeKind::Neg => negated(node.edm_type, first),
-        NodeKind::Binary { operator } => match class_of(operator) {
-            OperatorClass::Arithmetic(arithmetic) => {
-                calculated_at(checked, entity, now, place, arithmetic, first)
-            }
-            _ => unreachable!(),
-        },
-        _ => unreachable!(),
+        NodeKind::Binary { operator } => {
+            calculated_at(checked, entity, now, place, operator, first)
+        }
+        _ => negated(&node.edm_type, first),
     }
 }
 
@@ -350,21 +393,22 @@ fn calculated_at<'e>(
     entity: &'e Entity<'_>,
     now: &Moment,
     place: usize,
-    arithmetic: ArithmeticOperator,
+    operator: BinaryOperator,
     left: Option<i64>,
 ) -> Result<Option<i64>, EvalFault>
     requires entity { IsEntity entity.now }
     requires stands { PartStands entity.now [] checked.now.list place }
-    requires arithmetic { HasOperatorOf checked.now.list place (OperatorClass.Arithmetic arithmetic) }
+    requires here { HasOperator checked.now.list place operator }
+    requires arithmetic { walk_of_operator (class_of operator) ≡ WalkClass.Numeric }
     requires left { AnswersNumber entity.now now.now [] checked.now.list (place + 1) (Ok left) }
     ensures { AnswersNumber entity.now now.now [] checked.now.list place result }
 {
     typed_trees_end_once_on_entities();
     trees_have_one_type();
     operands_lie_within_promotion();
-    let edm_type = node_at(checked, place).edm_type;
+    let node = node_at(checked, place);
     match number_operand_at(checked, entity, now, right_of(checked, place)) {
-        Ok(right) => calculated(arithmetic, edm_type, left, right),
+        Ok(right) => calculated(arithmetic_of(operator), &node.edm_type, left, right),
         Err(fault) => Err(fault),
     }
 }

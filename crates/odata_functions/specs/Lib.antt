@@ -9,4 +9,5 @@ pub mod Comparison
 pub mod Connectives
 pub mod DatumVal
 pub mod Division
+pub mod KeptVal
 pub mod Promotion

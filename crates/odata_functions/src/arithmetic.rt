@@ -1,5 +1,5 @@
 //! Arithmetic on whole numbers, None being null.
-ghost use Rattle.std.specs.Prelude.{ℤ, IfSome, SomeIff, FitsSigned};
+ghost use Rattle.std.specs.Prelude.{◌↔◌, ℤ, IfSome, IsTrue, SomeIff, FitsSigned};
 ghost use Rattle.std.specs.Int.{w64};
 ghost use Rattle.edm_values.specs.NumberTypes.{IsNumberOf};
 ghost use Rattle.odata_functions.specs.Promotion.{IsPromoted};
@@ -30,6 +30,7 @@ ghost use Rattle.odata_functions.specs.Arithmetic.{ArithmeticGives, ComesWithin,
 ghost use Rattle.odata_functions.specs.declared.arithmetic.ArithmeticOperator.TheVariants.{Div, Mod};
 
 /// What the operator makes of two operands of a type, in that type; null where one is null.
+#[inline(always)]
 pub fn arith(
     operator: ArithmeticOperator,
     kind: Prim,
@@ -48,6 +49,7 @@ pub fn arith(
 }
 
 /// The negation of an operand of a type, in that type; null of null.
+#[inline(always)]
 pub fn negate(kind: Prim, operand: Option<i64>) -> Result<Option<i64>, ArithFault>
     requires promoted { IsPromoted kind }
     requires operand { IfSome operand (IsNumberOf kind) }
@@ -60,6 +62,7 @@ pub fn negate(kind: Prim, operand: Option<i64>) -> Result<Option<i64>, ArithFaul
 }
 
 /// What the operator makes of two numbers, in a type.
+#[inline(always)]
 fn of_numbers(
     operator: ArithmeticOperator,
     kind: Prim,
@@ -79,6 +82,7 @@ fn of_numbers(
 }
 
 /// The quotient, cut toward zero. That of the least number and -1 lies outside every type.
+#[inline(always)]
 fn quotient(kind: Prim, a: i64, b: i64) -> Result<Option<i64>, ArithFault>
     requires promoted { IsPromoted kind }
     ensures { NumbersGive Div kind a b result }
@@ -90,6 +94,7 @@ fn quotient(kind: Prim, a: i64, b: i64) -> Result<Option<i64>, ArithFault>
 }
 
 /// The remainder of that division: zero or of `a`'s sign. Beside -1 it is zero, whatever the quotient.
+#[inline(always)]
 fn remainder(kind: Prim, a: i64, b: i64) -> Result<Option<i64>, ArithFault>
     requires promoted { IsPromoted kind }
     ensures { NumbersGive Mod kind a b result }
@@ -101,12 +106,26 @@ fn remainder(kind: Prim, a: i64, b: i64) -> Result<Option<i64>, ArithFault>
 }
 
 /// The number, if it lies within the type. There is none where it is not even within `Edm.Int64`.
+#[inline(always)]
 fn within(kind: Prim, number: Option<i64>) -> Result<Option<i64>, ArithFault>
     requires promoted { IsPromoted kind }
     ensures { (n : ℤ) → SomeIff number (FitsSigned w64 n) n → ComesWithin kind n result }
 {
     match number {
-        Some(n) if kind.holds_number(n) => Ok(Some(n)),
+        Some(n) if holds(kind, n) => Ok(Some(n)),
         _ => Err(ArithFault::Overflow),
+    }
+}
+
+/// Whether a type in which numbers are computed has the number. `Edm.Int64` has each.
+#[inline(always)]
+fn holds(kind: Prim, n: i64) -> bool
+    requires promoted { IsPromoted kind }
+    ensures { IsTrue result ↔ IsNumberOf kind n }
+{
+    match kind {
+        Prim::Int16 => i16::try_from(n).is_ok(),
+        Prim::Int32 => i32::try_from(n).is_ok(),
+        _ => true,
     }
 }

@@ -3,8 +3,9 @@ ghost use Rattle.std.specs.Prelude.{◌≡◌, ◌↔◌, IsTrue};
 ghost use Rattle.std.specs.Str.{chars};
 ghost use Rattle.std.specs.declared.cmp.Ordering.TheVariants.{Greater};
 ghost use Rattle.odata_functions.specs.DatumVal.{Reading, datum_val};
+ghost use Rattle.odata_functions.specs.KeptVal.{Contents, kept_val};
 
-use edm_values::Datum;
+use edm_values::{Datum, Value};
 
 /// A comparison operator (sections 5.1.1.1.1 to 5.1.1.1.6).
 #[derive(Clone, Copy, Debug, PartialEq, Eq)]
@@ -67,6 +68,56 @@ fn is_greater(left: &Datum<'_>, right: &Datum<'_>) -> bool
         Datum::Moment(l) =>
             matches!(right, Datum::Moment(r) if l.instant_nanos() > r.instant_nanos()),
         Datum::Null | Datum::Guid(_) | Datum::Enum(_) | Datum::Record(_) | Datum::List(_) => false,
+    }
+}
+
+/// Whether the comparison of two values that are kept is true.
+pub fn compare_values(operator: ComparisonOperator, left: &Value, right: &Value) -> bool
+    requires { (l r : Contents) → AreComparableBy operator (kept_val l left.now) (kept_val r right.now) }
+    ensures { (l r : Contents)
+        → IsTrue result ↔ ComparesTrue operator (kept_val l left.now) (kept_val r right.now) }
+{
+    match operator {
+        ComparisonOperator::Eq => are_equal_values(left, right),
+        ComparisonOperator::Ne => !are_equal_values(left, right),
+        ComparisonOperator::Gt => is_greater_value(left, right),
+        ComparisonOperator::Ge => is_greater_value(left, right) || are_equal_values(left, right),
+        ComparisonOperator::Lt => is_greater_value(right, left),
+        ComparisonOperator::Le => is_greater_value(right, left) || are_equal_values(left, right),
+    }
+}
+
+/// The same as `are_equal`, of values that are kept.
+fn are_equal_values(left: &Value, right: &Value) -> bool
+    ensures { (l r : Contents) → IsTrue result ↔ AreEqual (kept_val l left.now) (kept_val r right.now) }
+{
+    match left {
+        Value::Null => matches!(right, Value::Null),
+        Value::Bool(l) => matches!(right, Value::Bool(r) if l == r),
+        Value::Int(l) => matches!(right, Value::Int(r) if l == r),
+        Value::Text(l) => matches!(right, Value::Text(r) if is_same_text(l.as_str(), r.as_str())),
+        Value::Date(l) => matches!(right, Value::Date(r) if l == r),
+        Value::Moment(l) =>
+            matches!(right, Value::Moment(r) if l.instant_nanos() == r.instant_nanos()),
+        Value::Guid(l) => matches!(right, Value::Guid(r) if l == r),
+        Value::Enum(l) => matches!(right, Value::Enum(r) if l == r),
+        Value::Record(_) | Value::List(_) => false,
+    }
+}
+
+/// The same as `is_greater`, of values that are kept.
+fn is_greater_value(left: &Value, right: &Value) -> bool
+    ensures { (l r : Contents) → IsTrue result ↔ IsGreater (kept_val l left.now) (kept_val r right.now) }
+{
+    match left {
+        Value::Bool(l) => matches!(right, Value::Bool(r) if *l && !*r),
+        Value::Int(l) => matches!(right, Value::Int(r) if l > r),
+        Value::Text(l) =>
+            matches!(right, Value::Text(r) if is_greater_text(l.as_str(), r.as_str())),
+        Value::Date(l) => matches!(right, Value::Date(r) if l > r),
+        Value::Moment(l) =>
+            matches!(right, Value::Moment(r) if l.instant_nanos() > r.instant_nanos()),
+        Value::Null | Value::Guid(_) | Value::Enum(_) | Value::Record(_) | Value::List(_) => false,
     }
 }
 

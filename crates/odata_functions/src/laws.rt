@@ -7,11 +7,13 @@ ghost use Rattle.edm_values.specs.NumberTypes.{IsNumberType, IsNumberOf};
 ghost use Rattle.edm_values.specs.declared.primitive.PrimitiveType.{PrimitiveType};
 ghost use Rattle.edm_values.specs.Val.{Val};
 ghost use Rattle.edm_values.specs.declared.datum.Datum.{Datum};
+ghost use Rattle.edm_values.specs.declared.value.Value.{Value};
 ghost use Rattle.odata_functions.specs.Arithmetic.{ArithmeticGives, NegationGives};
 ghost use Rattle.odata_functions.specs.Comparable.{AreComparableBy};
 ghost use Rattle.odata_functions.specs.Comparison.{ComparesTrue, text_cmp};
 ghost use Rattle.odata_functions.specs.DatumVal.{Reading, datum_val};
 ghost use Rattle.odata_functions.specs.Division.{IsDivision};
+ghost use Rattle.odata_functions.specs.KeptVal.{Contents, kept_val};
 ghost use Rattle.odata_functions.specs.Promotion.{promotion, negation_type, IsPromoted};
 ghost use Rattle.odata_functions.specs.declared.arithmetic.ArithFault.{ArithFault};
 ghost use Rattle.odata_functions.specs.declared.arithmetic.ArithmeticOperator.{ArithmeticOperator};
@@ -32,13 +34,16 @@ pub fn divisions_are_unique()
 {}
 
 /// A comparison is true or it is not, of any two values; and two values are comparable however the values of records and
-/// lists are read.
+/// lists are read, and whatever these hold.
 pub fn comparisons_are_decided()
     ensures decided { (operator : ComparisonOperator) (v w : Val)
         → (answer : Bool) × (IsTrue answer ↔ ComparesTrue operator v w) }
     ensures any_reading { (operator : ComparisonOperator) (left right : Datum) (l r k s : Reading)
         → AreComparableBy operator (datum_val l left) (datum_val r right)
         → AreComparableBy operator (datum_val k left) (datum_val s right) }
+    ensures any_contents { (operator : ComparisonOperator) (left right : Value) (l r k s : Contents)
+        → AreComparableBy operator (kept_val l left) (kept_val r right)
+        → AreComparableBy operator (kept_val k left) (kept_val s right) }
 {}
 
 /// An operator makes one thing of two operands, and a negation of one.

@@ -11,7 +11,7 @@ mod promoting;
 
 pub use arithmetic::{ArithFault, ArithmeticOperator, arith, negate};
 pub use comparability::comparable;
-pub use comparison::{ComparisonOperator, compare};
+pub use comparison::{ComparisonOperator, compare, compare_values};
 pub use connectives::{and3, not3, or3};
 pub use laws::{
     arithmetic_has_one_answer, comparisons_are_decided, divisions_are_unique,

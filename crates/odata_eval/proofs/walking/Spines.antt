@@ -55,6 +55,63 @@ operator_of_class list place class is =
     let there = operator_in class (slice_get list.nodes place) is in
     record { operator = there.0; here = there.1.0; class_is = there.1.1 }
 
+has_operator : (operator : BinaryOperator) (class : OperatorClass) (held : Option CheckedNode) → IsSomeAnd held (λ found. found.kind ≡ NodeKind.Binary operator)
+    → class_of operator ≡ class → IsSomeAnd held (λ found. IsOperatorOf class found.kind)
+has_operator operator class (Some found) is class_is = record { operator = operator; kind_is = is; class_is = class_is }
+has_operator operator class None is class_is = absurd is
+
+pub class_of_operator : (list : FlatTree) (place : ℕ) (operator : BinaryOperator) (class : OperatorClass) → HasKind list place (NodeKind.Binary operator)
+    → class_of operator ≡ class → HasOperatorOf list place class
+class_of_operator list place operator class here class_is = has_operator operator class (slice_get list.nodes place) here class_is
+
+-- one place has one class
+one_class : (held : Option CheckedNode) (a b : WalkClass) → IsSomeAnd held (λ found. walk_of_kind found.kind ≡ a) → IsSomeAnd held (λ found. walk_of_kind found.kind ≡ b) → a ≡ b
+one_class (Some found) a b is_a is_b = sym is_a ∙ is_b
+one_class None a b is_a is_b = absurd is_a
+
+pub same_class : (list : FlatTree) (place : ℕ) (a b : WalkClass) → IsClassAt list a place → IsClassAt list b place → a ≡ b
+same_class list place a b is_a is_b = one_class (slice_get list.nodes place) a b is_a is_b
+
+-- the operator there has the class that the walk takes the node by
+walk_in : (operator : BinaryOperator) (class : WalkClass) (held : Option CheckedNode) → IsSomeAnd held (λ found. found.kind ≡ NodeKind.Binary operator)
+    → IsSomeAnd held (λ found. walk_of_kind found.kind ≡ class) → walk_of_operator (class_of operator) ≡ class
+walk_in operator class (Some found) here is = sym (ap walk_of_kind here) ∙ is
+walk_in operator class None here is = absurd here
+
+pub walk_there : (list : FlatTree) (place : ℕ) (operator : BinaryOperator) (class : WalkClass) → HasKind list place (NodeKind.Binary operator) → IsClassAt list class place
+    → walk_of_operator (class_of operator) ≡ class
+walk_there list place operator class here is = walk_in operator class (slice_get list.nodes place) here is
+
+walks_in : (operator : BinaryOperator) (class : WalkClass) (held : Option CheckedNode) → IsSomeAnd held (λ found. found.kind ≡ NodeKind.Binary operator)
+    → walk_of_operator (class_of operator) ≡ class → IsSomeAnd held (λ found. walk_of_kind found.kind ≡ class)
+walks_in operator class (Some found) here is = ap walk_of_kind here ∙ is
+walks_in operator class None here is = absurd here
+
+pub walks_by : (list : FlatTree) (place : ℕ) (operator : BinaryOperator) (class : WalkClass) → HasKind list place (NodeKind.Binary operator)
+    → walk_of_operator (class_of operator) ≡ class → IsClassAt list class place
+walks_by list place operator class here is = walks_in operator class (slice_get list.nodes place) here is
+
+-- a node of truth values that is no operator is `not`, and one of numbers `-`
+pub only_not : (kind : NodeKind) → walk_of_kind kind ≡ WalkClass.Logical → ((operator : BinaryOperator) → kind ≡ NodeKind.Binary operator → ⊥) → kind ≡ NodeKind.Not
+only_not NodeKind.Not logical other = refl
+only_not (NodeKind.Binary operator) logical other = absurd (other operator refl)
+only_not (NodeKind.Literal kind value) logical other = absurd (cc)
+only_not NodeKind.It logical other = absurd (cc)
+only_not (NodeKind.Property slot) logical other = absurd (cc)
+only_not (NodeKind.Variable level) logical other = absurd (cc)
+only_not (NodeKind.Member slot) logical other = absurd (cc)
+only_not NodeKind.Neg logical other = absurd (cc)
+
+pub only_neg : (kind : NodeKind) → walk_of_kind kind ≡ WalkClass.Numeric → ((operator : BinaryOperator) → kind ≡ NodeKind.Binary operator → ⊥) → kind ≡ NodeKind.Neg
+only_neg NodeKind.Neg numeric other = refl
+only_neg (NodeKind.Binary operator) numeric other = absurd (other operator refl)
+only_neg (NodeKind.Literal kind value) numeric other = absurd (cc)
+only_neg NodeKind.It numeric other = absurd (cc)
+only_neg (NodeKind.Property slot) numeric other = absurd (cc)
+only_neg (NodeKind.Variable level) numeric other = absurd (cc)
+only_neg (NodeKind.Member slot) numeric other = absurd (cc)
+only_neg NodeKind.Not numeric other = absurd (cc)
+
 -- the walk takes it by its class
 pub class_there : (list : FlatTree) (place : ℕ) (class : OperatorClass) → HasOperatorOf list place class → IsClassAt list (walk_of_operator class) place
 class_there list place class is = class_in class (slice_get list.nodes place) is

@@ -114,7 +114,7 @@ module _ (row : Row) (scope : Scope) (list : FlatTree) (place : ℕ) (part : Par
   truth_step : IsClassAt list WalkClass.Logical place → TruthStands row scope list (place + 1)
   truth_step is = let there = kind_of_class list place WalkClass.Logical is in first_truth there.kind there.walk there.here
 
-  inner_step : (class : WalkClass) → ¬ (class ≡ WalkClass.Leaf) → IsClassAt list class place → PartStands row scope list (place + 1)
+  pub inner_step : (class : WalkClass) → ¬ (class ≡ WalkClass.Leaf) → IsClassAt list class place → PartStands row scope list (place + 1)
   inner_step class inner is =
       let there = kind_of_class list place class is in
       first_part row scope list place there.kind (λ leaf. inner (sym there.walk ∙ leaf)) there.here part

@@ -37,7 +37,7 @@ use Rattle.odata_eval.specs.private.DatumView.{answer_outcome}
 use Rattle.odata_eval.specs.private.Operands.{AreNumbers, IsOneNumber}
 use Rattle.odata_eval.specs.private.Place.{IsClassAt, IsRightOf, PartStands}
 use Rattle.odata_eval.specs.private.WalkAnswer.{AnswersAtPlace, AnswersNumber, AnswersTruth}
-use Rattle.odata_eval.specs.private.WalkClass.{IsDecided, walk_of_kind}
+use Rattle.odata_eval.specs.private.WalkClass.{IsDecided, walk_of_kind, walk_of_operator}
 use Rattle.odata_eval.proofs.meaning.LawsBelow.{Promotes}
 use Rattle.odata_eval.proofs.meaning.Numbers.{calculated_values, negated_value}
 use Rattle.odata_eval.proofs.walking.Parts.{HasKind, by_member, by_negation, by_not, by_operator}
@@ -89,6 +89,17 @@ undecided_faults connective left Right EvalFault.Memory undecided is = absurd is
 abbrev pub TakesBoth : OperatorClass → Type 0
 TakesBoth (OperatorClass.Connective connective) = ⊥
 TakesBoth _ = Unit {0}
+
+-- those do by whose values the walk goes, and by whose numbers
+pub values_taken : (class : OperatorClass) → walk_of_operator class ≡ WalkClass.Eager → TakesBoth class
+values_taken (OperatorClass.Comparison comparison) eager = tt
+values_taken (OperatorClass.Connective connective) eager = absurd (cc)
+values_taken (OperatorClass.Arithmetic arithmetic) eager = absurd (cc)
+
+pub numbers_taken : (class : OperatorClass) → walk_of_operator class ≡ WalkClass.Numeric → TakesBoth class
+numbers_taken (OperatorClass.Arithmetic arithmetic) numeric = tt
+numbers_taken (OperatorClass.Connective connective) numeric = absurd (cc)
+numbers_taken (OperatorClass.Comparison comparison) numeric = absurd (cc)
 
 both_fault : (class : OperatorClass) (NodeTyped : ExprType → Type 0) (l : Val) (Right : Outcome → Type 0) (fault : EvalFault)
     → TakesBoth class → IsSomeAnd (fault_outcome fault) Right → IsSomeAnd (fault_outcome fault) (ClassGives class NodeTyped l Right)

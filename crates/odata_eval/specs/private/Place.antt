@@ -1,6 +1,5 @@
 -- For private clauses: what stands in a place of a filter's list, seen from an entity of the filtered type.
 use Rattle.std.specs.Prelude.{◌≡◌, ℕ, ◌+◌, Option, IsSomeAnd, slice_get}
-use Rattle.edm_values.specs.NumberTypes.{IsNumberType}
 use Rattle.edm_values.specs.declared.primitive.PrimitiveType.{PrimitiveType}
 use Rattle.odata_syntax.specs.Tree.{Tree}
 use Rattle.odata_syntax.specs.declared.node.BinaryOperator.{BinaryOperator}
@@ -8,8 +7,6 @@ use Rattle.csdl_schema.specs.ExprType.{ExprType}
 use Rattle.csdl_schema.specs.SchemaModel.{slots_of, type_name_at}
 use Rattle.edm_entities.specs.Row.{Row}
 use Rattle.odata_typing.specs.declared.checked_node.NodeKind.{NodeKind}
-use Rattle.odata_signatures.specs.declared.edm_type.EdmType.{EdmType}
-use Rattle.odata_signatures.specs.declared.edm_type.ValueType.{ValueType}
 use Rattle.odata_signatures.specs.declared.operator_class.OperatorClass.{OperatorClass}
 use Rattle.odata_signatures.specs.OperatorClass.{class_of}
 use Rattle.odata_signatures.specs.ExprTypes.{IsBooleanOrNull, IsNumberOrNull}
@@ -50,6 +47,11 @@ NumberStands row scope list place = TypedStands row scope list place IsNumberOpe
 abbrev pub IsClassAt : FlatTree → WalkClass → ℕ → Type 0
 IsClassAt list class place = IsSomeAnd (slice_get list.nodes place) (λ found. walk_of_kind found.kind ≡ class)
 
+-- the node there is that operator
+abbrev pub HasOperator : FlatTree → ℕ → BinaryOperator → Type 0
+HasOperator list place operator =
+    IsSomeAnd (slice_get list.nodes place) (λ found. found.kind ≡ NodeKind.Binary operator)
+
 -- the node there is an operator with two operands, of that class
 pub record IsOperatorOf (class : OperatorClass) (kind : NodeKind) : Type 0 where
   pub operator : BinaryOperator
@@ -58,15 +60,6 @@ pub record IsOperatorOf (class : OperatorClass) (kind : NodeKind) : Type 0 where
 
 abbrev pub HasOperatorOf : FlatTree → ℕ → OperatorClass → Type 0
 HasOperatorOf list place class = IsSomeAnd (slice_get list.nodes place) (λ found. IsOperatorOf class found.kind)
-
--- the node there is of a number type
-pub record IsNumberEdmType (type : EdmType) : Type 0 where
-  pub number : PrimitiveType
-  pub type_is : type ≡ EdmType.Single (ValueType.Prim number)
-  pub is_number : IsNumberType number
-
-abbrev pub HasNumberType : FlatTree → ℕ → Type 0
-HasNumberType list place = IsSomeAnd (slice_get list.nodes place) (λ found. IsNumberEdmType found.edm_type)
 
 -- the first operand of the node there stops where the second one stands
 abbrev pub IsRightOf : FlatTree → ℕ → ℕ → Type 0

@@ -17,27 +17,27 @@ numbers_there type left right a b is_left is_right are =
 
 pub prim_of-requires : goal.prim_of-requires
 prim_of-requires c =
-    let are = numbers_there c.args.edm_type c.args.left c.args.right c.in-Some.a c.in-Some-right.b c.in-Some.is c.in-Some-right.is (c.requires one_schema) in
-    let number = left_in_type one_schema c.args.edm_type c.in-Some.a c.in-Some-right.b are in
+    let are = numbers_there c.args.edm_type.now c.args.left c.args.right c.in-Some.a c.in-Some-right.b c.in-Some.is c.in-Some-right.is (c.requires one_schema) in
+    let number = left_in_type one_schema c.args.edm_type.now c.in-Some.a c.in-Some-right.b are in
     (number.kind, number.is_of)
 
 pub arith-requires-clause-promoted : goal.arith-requires-clause-promoted
 arith-requires-clause-promoted c =
-    let are = numbers_there c.args.edm_type c.args.left c.args.right c.in-Some.a c.in-Some-right.b c.in-Some.is c.in-Some-right.is (c.requires one_schema) in
-    kind_promoted c.args.edm_type c.in-Some.a c.prim_of.result (left_in_type one_schema c.args.edm_type c.in-Some.a c.in-Some-right.b are) c.prim_of.ensures
+    let are = numbers_there c.args.edm_type.now c.args.left c.args.right c.in-Some.a c.in-Some-right.b c.in-Some.is c.in-Some-right.is (c.requires one_schema) in
+    kind_promoted c.args.edm_type.now c.in-Some.a c.prim_of.result (left_in_type one_schema c.args.edm_type.now c.in-Some.a c.in-Some-right.b are) c.prim_of.ensures
 
 pub arith-requires-clause-left : goal.arith-requires-clause-left
 arith-requires-clause-left c =
-    let are = numbers_there c.args.edm_type c.args.left c.args.right c.in-Some.a c.in-Some-right.b c.in-Some.is c.in-Some-right.is (c.requires one_schema) in
+    let are = numbers_there c.args.edm_type.now c.args.left c.args.right c.in-Some.a c.in-Some-right.b c.in-Some.is c.in-Some-right.is (c.requires one_schema) in
     let within : IsNumberOf c.prim_of.result c.in-Some.a =
-    kind_within c.args.edm_type c.in-Some.a c.prim_of.result (left_in_type one_schema c.args.edm_type c.in-Some.a c.in-Some-right.b are) c.prim_of.ensures in
+    kind_within c.args.edm_type.now c.in-Some.a c.prim_of.result (left_in_type one_schema c.args.edm_type.now c.in-Some.a c.in-Some-right.b are) c.prim_of.ensures in
     let fits : SFits w64 c.in-Some.a = search rules in
     simp to_z-of_z within
 
 pub arith-requires-clause-right : goal.arith-requires-clause-right
 arith-requires-clause-right c =
-    let are = numbers_there c.args.edm_type c.args.left c.args.right c.in-Some.a c.in-Some-right.b c.in-Some.is c.in-Some-right.is (c.requires one_schema) in
+    let are = numbers_there c.args.edm_type.now c.args.left c.args.right c.in-Some.a c.in-Some-right.b c.in-Some.is c.in-Some-right.is (c.requires one_schema) in
     let within : IsNumberOf c.prim_of.result c.in-Some-right.b =
-    kind_within c.args.edm_type c.in-Some-right.b c.prim_of.result (right_in_type one_schema c.args.edm_type c.in-Some.a c.in-Some-right.b are) c.prim_of.ensures in
+    kind_within c.args.edm_type.now c.in-Some-right.b c.prim_of.result (right_in_type one_schema c.args.edm_type.now c.in-Some.a c.in-Some-right.b are) c.prim_of.ensures in
     let fits : SFits w64 c.in-Some-right.b = search rules in
     simp to_z-of_z within

@@ -15,17 +15,17 @@ number_there type operand n is number =
 
 pub prim_of-requires : goal.prim_of-requires
 prim_of-requires c =
-    let number = number_there c.args.edm_type c.args.operand c.in-Some.n c.in-Some.is (c.requires one_schema) in
+    let number = number_there c.args.edm_type.now c.args.operand c.in-Some.n c.in-Some.is (c.requires one_schema) in
     (number.kind, number.is_of)
 
 pub negate-requires-clause-promoted : goal.negate-requires-clause-promoted
 negate-requires-clause-promoted c =
-    kind_promoted c.args.edm_type c.in-Some.n c.prim_of.result
-    (number_there c.args.edm_type c.args.operand c.in-Some.n c.in-Some.is (c.requires one_schema)) c.prim_of.ensures
+    kind_promoted c.args.edm_type.now c.in-Some.n c.prim_of.result
+    (number_there c.args.edm_type.now c.args.operand c.in-Some.n c.in-Some.is (c.requires one_schema)) c.prim_of.ensures
 
 pub negate-requires-clause-operand : goal.negate-requires-clause-operand
 negate-requires-clause-operand c =
-    let number = number_there c.args.edm_type c.args.operand c.in-Some.n c.in-Some.is (c.requires one_schema) in
-    let within : IsNumberOf c.prim_of.result c.in-Some.n = kind_within c.args.edm_type c.in-Some.n c.prim_of.result number c.prim_of.ensures in
+    let number = number_there c.args.edm_type.now c.args.operand c.in-Some.n c.in-Some.is (c.requires one_schema) in
+    let within : IsNumberOf c.prim_of.result c.in-Some.n = kind_within c.args.edm_type.now c.in-Some.n c.prim_of.result number c.prim_of.ensures in
     let fits : SFits w64 c.in-Some.n = search rules in
     simp to_z-of_z within

@@ -1,28 +1,34 @@
-use Rattle.std.proofs.Common.{◌≡◌, ◌<◌, ◌≤◌, ◌+◌, ◌-◌, ◌*◌, ℕ, ℤ, [], Bool, Option, Result, Ok, ap, sym, subst, slice_get, length, rules, arith}
+use Rattle.std.proofs.Common.{◌≡◌, ◌∙◌, ◌<◌, ◌≤◌, ◌+◌, ◌-◌, ◌*◌, ℕ, ℤ, [], Bool, Option, Some, Result, Ok, SFits, w64, ap, sym, subst, slice_get, length, rules, arith}
 use Rattle.edm_values.specs.declared.datum.Datum.{Datum}
+use Rattle.std.specs.Prelude.{◌↔◌, IsTrue}
+use Rattle.std.proofs.lemmas.Int.{to_z-of_z}
+use Rattle.edm_values.specs.PlainVal.{plain_val}
 use Rattle.csdl_schema.specs.SchemaModel.{slots_of}
+use Rattle.odata_functions.specs.Comparison.{ComparesTrue}
 use Rattle.odata_functions.specs.DatumVal.{datum_val}
 use Rattle.odata_typing.specs.declared.checked_node.CheckedNode.{CheckedNode}
 use Rattle.odata_typing.specs.declared.checked_node.NodeKind.{NodeKind}
 use Rattle.odata_signatures.specs.ExprTypes.{IsBooleanOrNull}
+use Rattle.odata_signatures.specs.OperatorClass.{class_of}
 use Rattle.odata_signatures.specs.declared.operator_class.OperatorClass.{OperatorClass}
 use Rattle.odata_eval.specs.declared.fault.EvalFault.{EvalFault}
 use Rattle.odata_eval.specs.declared.part.WalkClass.{WalkClass}
 use Rattle.odata_eval.specs.CalculationGives.{number_val}
 use Rattle.odata_eval.specs.TruthGives.{truth_val}
 use Rattle.odata_eval.specs.private.DatumView.{reading_at}
-use Rattle.odata_eval.specs.private.Place.{IsClassAt, IsNumberOperand, NumberStands, PartStands, TruthStands}
-use Rattle.odata_eval.specs.private.WalkClass.{walk_of_operator}
+use Rattle.odata_eval.specs.private.Place.{HasOperator, IsClassAt, IsNumberOperand, NumberStands, PartStands, TruthStands}
+use Rattle.odata_eval.specs.private.WalkClass.{walk_of_kind, walk_of_operator}
 use Rattle.odata_eval.specs.private.WalkAnswer.{AnswersDatum, AnswersNumber, AnswersTruth}
 use Rattle.odata_eval.proofs.walking.Parts.{part_inside}
 use Rattle.odata_eval.proofs.meaning.LawsBelow.{Promotes}
 use Rattle.odata_eval.proofs.walking.MemberSteps.{step_answers, step_slot}
-use Rattle.odata_eval.proofs.walking.Compared.{may_compare, numbers_compared, truth_compared, values_compared}
-use Rattle.odata_eval.proofs.walking.NumberSpines.{number_down, right_number}
-use Rattle.odata_eval.proofs.walking.Shapes.{there_found}
-use Rattle.odata_eval.proofs.walking.Spines.{class_there, operator_of_class, right_further, right_part, right_there, typed_part}
-use Rattle.odata_eval.proofs.walking.TruthSpines.{below_bottom, logical_truth, part_down, right_operand, truth_down}
-use Rattle.odata_eval.proofs.walking.WalkSteps.{TakesBoth, both_faults, calculation_answers, decided_answers, first_faults, joined_answers, joined_faults, negated_operand, negation_answers, not_answers, numbers_there}
+use Rattle.odata_eval.proofs.walking.Compared.{kept_compared, may_compare, may_compare_kept, numbers_compared, truth_compared}
+use Rattle.odata_eval.proofs.walking.KeptValues.{kept_value, number_kept, truth_kept}
+use Rattle.odata_eval.proofs.walking.NumberSpines.{number_down, number_step, right_number}
+use Rattle.odata_eval.proofs.walking.Shapes.{found_there, there_found}
+use Rattle.odata_eval.proofs.walking.Spines.{class_of_operator, operator_of_class, only_neg, only_not, right_further, right_part, right_there, typed_part, walks_by}
+use Rattle.odata_eval.proofs.walking.TruthSpines.{below_bottom, inner_step, logical_truth, part_down, right_operand, truth_down}
+use Rattle.odata_eval.proofs.walking.WalkSteps.{TakesBoth, both_faults, calculation_answers, decided_answers, first_faults, joined_answers, joined_faults, negated_operand, numbers_taken, negation_answers, not_answers, numbers_there, values_taken}
 use Rattle.odata_eval.proofs.walking.WalkValues.{kept_datum, made_value, number_there, read_value, truth_there}
 use Rattle.odata_eval.proofs.walk.+evaluate.Goals as goal
 
@@ -37,63 +43,6 @@ eager_at-returns t c =
     let l = c.loop-at in
     let e : l.at ≡ c.args.place = omega arith in
     subst (λ (k : ℕ). AnswersDatum c.args.entity.now c.args.now.now [] c.args.checked.now.list k l.answer) e l.invariant.answers
-
-pub plain_truth_at-unreachable-requires : goal.plain_truth_at-unreachable-requires
-plain_truth_at-unreachable-requires t c = c.requires.plain c.in-Logical.ensures
-
-pub plain_truth_at-truth_of-requires : goal.plain_truth_at-truth_of-requires
-plain_truth_at-truth_of-requires t c = λ reading.
-    truth_there c.typed_trees_end_once_on_entities.ensures c.args.entity.now c.args.now.now c.requires.entity c.args.checked.now.list c.args.place c.datum_of.result c.requires.stands (kept_datum c.args.entity.now c.args.now.now c.args.checked.now.list c.args.place c.in-Leaf.value.now c.datum_of.result (c.in-Leaf.ensures c.args.now.now) c.datum_of.ensures) reading
-
-pub plain_truth_at-returns-in-Leaf : goal.plain_truth_at-returns-in-Leaf
-plain_truth_at-returns-in-Leaf t c =
-    read_value c.args.entity.now c.args.now.now c.args.checked.now.list c.args.place c.datum_of.result (truth_val c.truth_of.result) (kept_datum c.args.entity.now c.args.now.now c.args.checked.now.list c.args.place c.in-Leaf.value.now c.datum_of.result (c.in-Leaf.ensures c.args.now.now) c.datum_of.ensures) c.truth_of.ensures
-
-pub plain_truth_at-number_at-requires : goal.plain_truth_at-number_at-requires
-plain_truth_at-number_at-requires t c =
-    let smaller : 16 * (length c.args.checked.now.list.nodes - c.args.place) + 8 < 16 * (length c.args.checked.now.list.nodes - c.args.place) + 10 = omega arith in
-    let part = typed_part c.args.entity.now [] c.args.checked.now.list c.args.place IsBooleanOrNull c.requires.stands in
-    search rules
-
-pub plain_truth_at-truth_of-requires-in-Ok : goal.plain_truth_at-truth_of-requires-in-Ok
-plain_truth_at-truth_of-requires-in-Ok t c =
-    λ reading. truth_there c.typed_trees_end_once_on_entities.ensures c.args.entity.now c.args.now.now c.requires.entity c.args.checked.now.list c.args.place c.datum_of_number.result c.requires.stands (made_value c.args.entity.now c.args.now.now c.args.checked.now.list c.args.place c.datum_of_number.result (number_val c.in-Ok.number) c.in-Ok.ensures c.datum_of_number.ensures) reading
-
-pub plain_truth_at-returns-in-Ok : goal.plain_truth_at-returns-in-Ok
-plain_truth_at-returns-in-Ok t c =
-    read_value c.args.entity.now c.args.now.now c.args.checked.now.list c.args.place c.datum_of_number.result (truth_val c.truth_of-in-Ok.result) (made_value c.args.entity.now c.args.now.now c.args.checked.now.list c.args.place c.datum_of_number.result (number_val c.in-Ok.number) c.in-Ok.ensures c.datum_of_number.ensures) c.truth_of-in-Ok.ensures
-
-pub plain_truth_at-sides_at-requires-clause-stands : goal.plain_truth_at-sides_at-requires-clause-stands
-plain_truth_at-sides_at-requires-clause-stands t c =
-    typed_part c.args.entity.now [] c.args.checked.now.list c.args.place IsBooleanOrNull c.requires.stands
-
-pub plain_truth_at-compare-requires : goal.plain_truth_at-compare-requires
-plain_truth_at-compare-requires t c =
-    may_compare c.args.entity.now c.args.now.now c.args.checked.now.list c.args.place c.in-Kept.sides.comparison c.in-Kept.ensures.here c.in-Kept.ensures.right_place c.in-Kept.ensures.is_right c.datum_of-in-Kept.result c.datum_of-in-Kept-2.result
-    (kept_datum c.args.entity.now c.args.now.now c.args.checked.now.list (c.args.place + 1) c.in-Kept.sides.left.now c.datum_of-in-Kept.result (c.in-Kept.ensures.left c.args.now.now) c.datum_of-in-Kept.ensures)
-    (kept_datum c.args.entity.now c.args.now.now c.args.checked.now.list c.in-Kept.ensures.right_place c.in-Kept.sides.right.now c.datum_of-in-Kept-2.result (c.in-Kept.ensures.right c.args.now.now) c.datum_of-in-Kept-2.ensures)
-    c.typed_trees_end_once_on_entities.ensures c.requires.entity c.comparisons_are_decided.ensures.any_reading (typed_part c.args.entity.now [] c.args.checked.now.list c.args.place IsBooleanOrNull c.requires.stands)
-
-pub plain_truth_at-returns-in-Kept : goal.plain_truth_at-returns-in-Kept
-plain_truth_at-returns-in-Kept t c =
-    let may = may_compare c.args.entity.now c.args.now.now c.args.checked.now.list c.args.place c.in-Kept.sides.comparison c.in-Kept.ensures.here c.in-Kept.ensures.right_place c.in-Kept.ensures.is_right c.datum_of-in-Kept.result c.datum_of-in-Kept-2.result
-    (kept_datum c.args.entity.now c.args.now.now c.args.checked.now.list (c.args.place + 1) c.in-Kept.sides.left.now c.datum_of-in-Kept.result (c.in-Kept.ensures.left c.args.now.now) c.datum_of-in-Kept.ensures)
-    (kept_datum c.args.entity.now c.args.now.now c.args.checked.now.list c.in-Kept.ensures.right_place c.in-Kept.sides.right.now c.datum_of-in-Kept-2.result (c.in-Kept.ensures.right c.args.now.now) c.datum_of-in-Kept-2.ensures)
-    c.typed_trees_end_once_on_entities.ensures c.requires.entity c.comparisons_are_decided.ensures.any_reading (typed_part c.args.entity.now [] c.args.checked.now.list c.args.place IsBooleanOrNull c.requires.stands) in
-    values_compared c.args.entity.now c.args.now.now c.args.checked.now.list c.args.place c.in-Kept.sides.comparison c.in-Kept.ensures.here c.in-Kept.ensures.right_place c.in-Kept.ensures.is_right c.datum_of-in-Kept.result c.datum_of-in-Kept-2.result
-    (kept_datum c.args.entity.now c.args.now.now c.args.checked.now.list (c.args.place + 1) c.in-Kept.sides.left.now c.datum_of-in-Kept.result (c.in-Kept.ensures.left c.args.now.now) c.datum_of-in-Kept.ensures)
-    (kept_datum c.args.entity.now c.args.now.now c.args.checked.now.list c.in-Kept.ensures.right_place c.in-Kept.sides.right.now c.datum_of-in-Kept-2.result (c.in-Kept.ensures.right c.args.now.now) c.datum_of-in-Kept-2.ensures) c.compare.result may c.compare.ensures
-
-pub plain_truth_at-numbers_truth_at-requires : goal.plain_truth_at-numbers_truth_at-requires
-plain_truth_at-numbers_truth_at-requires t c =
-    let smaller : 16 * (length c.args.checked.now.list.nodes - c.args.place) + 9 < 16 * (length c.args.checked.now.list.nodes - c.args.place) + 10 = omega arith in
-    let part = typed_part c.args.entity.now [] c.args.checked.now.list c.args.place IsBooleanOrNull c.requires.stands in
-    search rules
-
-pub plain_truth_at-made_truth_at-requires : goal.plain_truth_at-made_truth_at-requires
-plain_truth_at-made_truth_at-requires t c =
-    let smaller : 16 * (length c.args.checked.now.list.nodes - c.args.place) + 8 < 16 * (length c.args.checked.now.list.nodes - c.args.place) + 10 = omega arith in
-    search rules
 
 pub made_truth_at-eager_at-requires : goal.made_truth_at-eager_at-requires
 made_truth_at-eager_at-requires t c =
@@ -110,43 +59,6 @@ pub made_truth_at-returns-in-Ok : goal.made_truth_at-returns-in-Ok
 made_truth_at-returns-in-Ok t c =
     let answers = subst (λ (r : Result Datum EvalFault). AnswersDatum c.args.entity.now c.args.now.now [] c.args.checked.now.list c.args.place r) c.in-Ok.is c.eager_at.ensures in
     read_value c.args.entity.now c.args.now.now c.args.checked.now.list c.args.place c.in-Ok.value (truth_val c.truth_of.result) answers c.truth_of.ensures
-
-pub numbers_truth_at-overflow_add-place : goal.numbers_truth_at-overflow_add-place
-numbers_truth_at-overflow_add-place t c =
-    let there = operator_of_class c.args.checked.now.list c.args.place (OperatorClass.Comparison c.args.sides.comparison) c.requires.sides.here in
-    let inside : c.args.place < length c.args.checked.now.list.nodes = part_inside c.args.entity.now [] c.args.checked.now.list c.args.place c.requires.stands in
-    let behind : c.args.place < c.args.sides.right_place = right_further c.args.entity.now [] c.args.checked.now.list c.args.place there.operator there.here c.requires.stands c.args.sides.right_place c.requires.sides.is_right in
-    omega (arith, behind)
-
-pub numbers_truth_at-left_number_at-requires : goal.numbers_truth_at-left_number_at-requires
-numbers_truth_at-left_number_at-requires t c =
-    let inside : c.args.place < length c.args.checked.now.list.nodes = part_inside c.args.entity.now [] c.args.checked.now.list c.args.place c.requires.stands in
-    let smaller : 16 * (length c.args.checked.now.list.nodes - (c.args.place + 1)) + 15 < 16 * (length c.args.checked.now.list.nodes - c.args.place) + 9 = omega arith in
-    let left = c.requires.sides.left in
-    search rules
-
-pub numbers_truth_at-returns-in-Err : goal.numbers_truth_at-returns-in-Err
-numbers_truth_at-returns-in-Err t c =
-    let there = operator_of_class c.args.checked.now.list c.args.place (OperatorClass.Comparison c.args.sides.comparison) c.requires.sides.here in
-    first_faults c.args.entity.now c.args.now.now c.args.checked.now.list c.args.place WalkClass.Eager c.in-Err.fault (λ leaf. cc) (class_there c.args.checked.now.list c.args.place (OperatorClass.Comparison c.args.sides.comparison) c.requires.sides.here) c.in-Err.ensures
-
-pub numbers_truth_at-number_operand_at-requires : goal.numbers_truth_at-number_operand_at-requires
-numbers_truth_at-number_operand_at-requires t c =
-    let there = operator_of_class c.args.checked.now.list c.args.place (OperatorClass.Comparison c.args.sides.comparison) c.requires.sides.here in
-    let inside : c.args.place < length c.args.checked.now.list.nodes = part_inside c.args.entity.now [] c.args.checked.now.list c.args.place c.requires.stands in
-    let behind : c.args.place < c.args.sides.right_place = right_further c.args.entity.now [] c.args.checked.now.list c.args.place there.operator there.here c.requires.stands c.args.sides.right_place c.requires.sides.is_right in
-    let smaller : 16 * (length c.args.checked.now.list.nodes - c.args.sides.right_place) + 14 < 16 * (length c.args.checked.now.list.nodes - c.args.place) + 9 = omega arith in
-    let right = c.requires.sides.right in
-    search rules
-
-pub numbers_truth_at-returns-in-Ok-number_operand_at : goal.numbers_truth_at-returns-in-Ok-number_operand_at
-numbers_truth_at-returns-in-Ok-number_operand_at t c =
-    numbers_compared c.args.entity.now c.args.now.now c.args.checked.now.list c.args.place c.args.sides.comparison c.requires.sides.here c.args.sides.right_place c.requires.sides.is_right c.in-Ok.left c.in-Ok-number_operand_at.right c.compare_numbers.result c.in-Ok.ensures c.in-Ok-number_operand_at.ensures c.compare_numbers.ensures
-
-pub numbers_truth_at-returns-in-Err-number_operand_at : goal.numbers_truth_at-returns-in-Err-number_operand_at
-numbers_truth_at-returns-in-Err-number_operand_at t c =
-    let there = operator_of_class c.args.checked.now.list c.args.place (OperatorClass.Comparison c.args.sides.comparison) c.requires.sides.here in
-    both_faults c.args.entity.now c.args.now.now c.args.checked.now.list c.args.place there.operator there.here c.args.sides.right_place c.requires.sides.is_right (λ type. number_val c.in-Ok.left) c.in-Err-number_operand_at.fault (subst TakesBoth (sym there.class_is) tt) c.in-Ok.ensures c.in-Err-number_operand_at.ensures
 
 pub operand_at-returns-in-Leaf : goal.operand_at-returns-in-Leaf
 operand_at-returns-in-Leaf t c =
@@ -231,52 +143,29 @@ logical_at-returns-in-Err t c =
 pub logical_at-node_at-requires : goal.logical_at-node_at-requires
 logical_at-node_at-requires t c = part_inside c.args.entity.now [] c.args.checked.now.list c.args.place c.requires.stands
 
-pub logical_at-returns-in-Not : goal.logical_at-returns-in-Not
-logical_at-returns-in-Not t c =
-    let first = subst (λ (r : Result (Option Bool) EvalFault). AnswersTruth c.args.entity.now c.args.now.now [] c.args.checked.now.list (c.args.place + 1) r) c.in-Ok.is c.requires.first in
-    let here = there_found (λ (f : CheckedNode). f.kind ≡ NodeKind.Not) (slice_get c.args.checked.now.list.nodes c.args.place) c.node_at.result.now c.node_at.ensures c.in-Not.is in
-    subst (λ (r : Option Bool). AnswersTruth c.args.entity.now c.args.now.now [] c.args.checked.now.list c.args.place (Ok r)) (sym c.not3.ensures) (not_answers c.args.entity.now c.args.now.now c.args.checked.now.list c.args.place c.in-Ok.first here first)
-
-pub side_at-truth_at-requires : goal.side_at-truth_at-requires
-side_at-truth_at-requires t c =
-    let smaller : 16 * (length c.args.checked.now.list.nodes - c.args.place) + 11 < 16 * (length c.args.checked.now.list.nodes - c.args.place) + 12 = omega arith in
-    search rules
-
-pub side_at-plain_truth_at-requires : goal.side_at-plain_truth_at-requires
-side_at-plain_truth_at-requires t c =
-    let smaller : 16 * (length c.args.checked.now.list.nodes - c.args.place) + 10 < 16 * (length c.args.checked.now.list.nodes - c.args.place) + 12 = omega arith in
-    let plain : ¬ (IsClassAt c.args.checked.now.list WalkClass.Logical c.args.place) = λ logical. let e = c.is_class_at.ensures.1 logical in cc in
-    search rules
-
 pub connected_at-returns-then-decides : goal.connected_at-returns-then-decides
 connected_at-returns-then-decides t c =
-    let there = operator_of_class c.args.checked.now.list c.args.place (OperatorClass.Connective c.args.connective) c.requires.connective in
-    decided_answers c.args.entity.now c.args.now.now c.args.checked.now.list c.args.place there.operator there.here c.args.connective c.args.left there.class_is (c.decides.ensures.0 c.if-decides.true) c.requires.left
+    decided_answers c.args.entity.now c.args.now.now c.args.checked.now.list c.args.place c.args.operator c.requires.here c.connective_of-connective.result c.args.left c.connective_of-connective.ensures (c.decides.ensures.0 c.if-decides.true) c.requires.left
 
 pub connected_at-right_of-requires : goal.connected_at-right_of-requires
-connected_at-right_of-requires t c =
-    let there = operator_of_class c.args.checked.now.list c.args.place (OperatorClass.Connective c.args.connective) c.requires.connective in
-    right_there c.args.entity.now [] c.args.checked.now.list c.args.place there.operator there.here c.requires.stands
+connected_at-right_of-requires t c = right_there c.args.entity.now [] c.args.checked.now.list c.args.place c.args.operator c.requires.here c.requires.stands
 
 pub connected_at-side_at-requires : goal.connected_at-side_at-requires
 connected_at-side_at-requires t c =
-    let there = operator_of_class c.args.checked.now.list c.args.place (OperatorClass.Connective c.args.connective) c.requires.connective in
     let inside : c.args.place < length c.args.checked.now.list.nodes = part_inside c.args.entity.now [] c.args.checked.now.list c.args.place c.requires.stands in
-    let behind : c.args.place < c.right_of.result = right_further c.args.entity.now [] c.args.checked.now.list c.args.place there.operator there.here c.requires.stands c.right_of.result c.right_of.ensures in
+    let behind : c.args.place < c.right_of.result = right_further c.args.entity.now [] c.args.checked.now.list c.args.place c.args.operator c.requires.here c.requires.stands c.right_of.result c.right_of.ensures in
     let smaller : 16 * (length c.args.checked.now.list.nodes - c.right_of.result) + 12 < 16 * (length c.args.checked.now.list.nodes - c.args.place) + 3 = omega arith in
-    let stands : TruthStands c.args.entity.now [] c.args.checked.now.list c.right_of.result = right_operand c.args.entity.now [] c.args.checked.now.list c.args.place c.requires.stands there.operator c.right_of.result (ap walk_of_operator there.class_is) there.here c.right_of.ensures in
+    let stands : TruthStands c.args.entity.now [] c.args.checked.now.list c.right_of.result = right_operand c.args.entity.now [] c.args.checked.now.list c.args.place c.requires.stands c.args.operator c.right_of.result c.requires.connective c.requires.here c.right_of.ensures in
     search rules
 
 pub connected_at-returns-in-Ok : goal.connected_at-returns-in-Ok
 connected_at-returns-in-Ok t c =
-    let there = operator_of_class c.args.checked.now.list c.args.place (OperatorClass.Connective c.args.connective) c.requires.connective in
-    subst (λ (r : Option Bool). AnswersTruth c.args.entity.now c.args.now.now [] c.args.checked.now.list c.args.place (Ok r)) (sym c.join.ensures) (joined_answers c.args.entity.now c.args.now.now c.args.checked.now.list c.args.place there.operator there.here c.right_of.result c.right_of.ensures c.args.connective c.args.left c.in-Ok.right
-    there.class_is (λ decided. let e = c.decides.ensures.1 decided in cc) c.requires.left c.in-Ok.ensures)
+    subst (λ (r : Option Bool). AnswersTruth c.args.entity.now c.args.now.now [] c.args.checked.now.list c.args.place (Ok r)) (sym c.join.ensures) (joined_answers c.args.entity.now c.args.now.now c.args.checked.now.list c.args.place c.args.operator c.requires.here c.right_of.result c.right_of.ensures c.connective_of-connective.result c.args.left c.in-Ok.right
+    c.connective_of-connective.ensures (λ decided. let e = c.decides.ensures.1 decided in cc) c.requires.left c.in-Ok.ensures)
 
 pub connected_at-returns-in-Err : goal.connected_at-returns-in-Err
 connected_at-returns-in-Err t c =
-    let there = operator_of_class c.args.checked.now.list c.args.place (OperatorClass.Connective c.args.connective) c.requires.connective in
-    joined_faults c.args.entity.now c.args.now.now c.args.checked.now.list c.args.place there.operator there.here c.right_of.result c.right_of.ensures c.args.connective c.args.left c.in-Err.fault there.class_is (λ decided. let e = c.decides.ensures.1 decided in cc) c.requires.left c.in-Err.ensures
+    joined_faults c.args.entity.now c.args.now.now c.args.checked.now.list c.args.place c.args.operator c.requires.here c.right_of.result c.right_of.ensures c.connective_of-connective.result c.args.left c.in-Err.fault c.connective_of-connective.ensures (λ decided. let e = c.decides.ensures.1 decided in cc) c.requires.left c.in-Err.ensures
 
 -- ---- another node with operands
 
@@ -301,62 +190,9 @@ made_at-returns-in-Member t c =
 
 -- ---- a node of numbers
 
-pub number_at-number_chain_at-requires : goal.number_at-number_chain_at-requires
-number_at-number_chain_at-requires t c =
-    let smaller : 16 * (length c.args.checked.now.list.nodes - c.args.place) + 7 < 16 * (length c.args.checked.now.list.nodes - c.args.place) + 8 = omega arith in
-    search rules
-
-pub number_chain_at-returns : goal.number_chain_at-returns
-number_chain_at-returns t c =
-    let l = c.loop-at in
-    let e : l.at ≡ c.args.place = omega arith in
-    subst (λ (k : ℕ). AnswersNumber c.args.entity.now c.args.now.now [] c.args.checked.now.list k l.answer) e l.invariant.answers
-
-pub number_chain_at-number_operand_at-answer-requires : goal.number_chain_at-number_operand_at-answer-requires
-number_chain_at-number_operand_at-answer-requires t c =
-    let bottom = c.spine_bottom-bottom.result in
-    let inside : c.args.place < length c.args.checked.now.list.nodes = part_inside c.args.entity.now [] c.args.checked.now.list c.args.place c.requires.stands in
-    let below : c.args.place ≤ bottom = c.spine_bottom-bottom.ensures.below in
-    let behind : c.args.place < bottom = below_bottom c.args.checked.now.list WalkClass.Numeric c.args.place bottom below c.requires.numeric c.spine_bottom-bottom.ensures.bottom in
-    let smaller : 16 * (length c.args.checked.now.list.nodes - c.spine_bottom-bottom.result) + 14 < 16 * (length c.args.checked.now.list.nodes - c.args.place) + 7 = omega arith in
-    let stands : NumberStands c.args.entity.now [] c.args.checked.now.list bottom = number_down c.args.entity.now [] c.args.checked.now.list c.args.place bottom behind c.requires.stands c.spine_bottom-bottom.ensures.spine in
-    search rules
-
-pub number_chain_at-numeric_at-answer-requires : goal.number_chain_at-numeric_at-answer-requires
-number_chain_at-numeric_at-answer-requires t c =
-    let l = c.loop-at in
-    let within : l.at ≤ c.spine_bottom-bottom.result = l.invariant.within in
-    let above : c.args.place < l.at = omega arith in
-    let smaller : 16 * (length c.args.checked.now.list.nodes - (l.at - 1)) + 4 < 16 * (length c.args.checked.now.list.nodes - c.args.place) + 7 = omega arith in
-    let upper : (i : ℕ) → i < l.at - 1 → c.args.place ≤ i → IsClassAt c.args.checked.now.list WalkClass.Numeric i = λ i before from. c.spine_bottom-bottom.ensures.spine i (omega arith) from in
-    let stands : PartStands c.args.entity.now [] c.args.checked.now.list (l.at - 1) = part_down c.args.entity.now [] c.args.checked.now.list WalkClass.Numeric (λ leaf. cc) c.args.place (l.at - 1) (omega arith) c.requires.stands upper in
-    let numeric : IsClassAt c.args.checked.now.list WalkClass.Numeric (l.at - 1) = c.spine_bottom-bottom.ensures.spine (l.at - 1) (omega arith) (omega arith) in
-    let e : l.at ≡ l.at - 1 + 1 = omega arith in
-    let first : AnswersNumber c.args.entity.now c.args.now.now [] c.args.checked.now.list (l.at - 1 + 1) l.answer = subst (λ (k : ℕ). AnswersNumber c.args.entity.now c.args.now.now [] c.args.checked.now.list k l.answer) e l.invariant.answers in
-    search rules
-
 pub number_operand_at-part_at-requires-clause-stands : goal.number_operand_at-part_at-requires-clause-stands
 number_operand_at-part_at-requires-clause-stands t c =
     typed_part c.args.entity.now [] c.args.checked.now.list c.args.place IsNumberOperand c.requires.stands
-
-pub number_operand_at-number_of-requires : goal.number_operand_at-number_of-requires
-number_operand_at-number_of-requires t c =
-    λ reading. number_there c.typed_trees_end_once_on_entities.ensures c.args.entity.now c.args.now.now c.requires.entity c.args.checked.now.list c.args.place c.datum_of.result c.requires.stands (kept_datum c.args.entity.now c.args.now.now c.args.checked.now.list c.args.place c.in-Leaf.value.now c.datum_of.result (c.in-Leaf.ensures c.args.now.now) c.datum_of.ensures) reading
-
-pub number_operand_at-returns-in-Leaf : goal.number_operand_at-returns-in-Leaf
-number_operand_at-returns-in-Leaf t c =
-    read_value c.args.entity.now c.args.now.now c.args.checked.now.list c.args.place c.datum_of.result (number_val c.number_of.result) (kept_datum c.args.entity.now c.args.now.now c.args.checked.now.list c.args.place c.in-Leaf.value.now c.datum_of.result (c.in-Leaf.ensures c.args.now.now) c.datum_of.ensures) c.number_of.ensures
-
-pub left_number_at-number_chain_at-requires : goal.left_number_at-number_chain_at-requires
-left_number_at-number_chain_at-requires t c =
-    let smaller : 16 * (length c.args.checked.now.list.nodes - c.args.place) + 7 < 16 * (length c.args.checked.now.list.nodes - c.args.place) + 15 = omega arith in
-    let part = typed_part c.args.entity.now [] c.args.checked.now.list c.args.place IsNumberOperand c.requires.stands in
-    search rules
-
-pub left_number_at-number_operand_at-requires : goal.left_number_at-number_operand_at-requires
-left_number_at-number_operand_at-requires t c =
-    let smaller : 16 * (length c.args.checked.now.list.nodes - c.args.place) + 14 < 16 * (length c.args.checked.now.list.nodes - c.args.place) + 15 = omega arith in
-    search rules
 
 pub number_operand_at-made_number_at-requires : goal.number_operand_at-made_number_at-requires
 number_operand_at-made_number_at-requires t c =
@@ -398,52 +234,32 @@ pub numeric_at-node_at-node-requires : goal.numeric_at-node_at-node-requires
 numeric_at-node_at-node-requires t c =
     part_inside c.args.entity.now [] c.args.checked.now.list c.args.place c.requires.stands
 
-pub numeric_at-negated-requires : goal.numeric_at-negated-requires
-numeric_at-negated-requires t c =
-    let first = subst (λ (r : Result (Option ℤ) EvalFault). AnswersNumber c.args.entity.now c.args.now.now [] c.args.checked.now.list (c.args.place + 1) r) c.in-Ok.is c.requires.first in
-    let here = there_found (λ (f : CheckedNode). f.kind ≡ NodeKind.Neg) (slice_get c.args.checked.now.list.nodes c.args.place) c.node_at-node.result.now c.node_at-node.ensures c.in-Neg.is in
-    let promotes : Promotes = record { left = c.operands_lie_within_promotion.ensures.left; right = c.operands_lie_within_promotion.ensures.right; negation = c.operands_lie_within_promotion.ensures.negation; three = c.operands_lie_within_promotion.ensures.three } in
-    negated_operand c.args.entity.now c.args.now.now c.args.checked.now.list c.args.place c.typed_trees_end_once_on_entities.ensures c.requires.entity c.in-Ok.first c.node_at-node.result.now c.node_at-node.ensures here promotes c.requires.stands first
-
-pub numeric_at-returns-in-Neg : goal.numeric_at-returns-in-Neg
-numeric_at-returns-in-Neg t c =
-    let first = subst (λ (r : Result (Option ℤ) EvalFault). AnswersNumber c.args.entity.now c.args.now.now [] c.args.checked.now.list (c.args.place + 1) r) c.in-Ok.is c.requires.first in
-    let here = there_found (λ (f : CheckedNode). f.kind ≡ NodeKind.Neg) (slice_get c.args.checked.now.list.nodes c.args.place) c.node_at-node.result.now c.node_at-node.ensures c.in-Neg.is in
-    negation_answers c.args.entity.now c.args.now.now c.args.checked.now.list c.args.place c.in-Ok.first c.node_at-node.result.now c.negated.result c.node_at-node.ensures here c.trees_have_one_type.ensures first c.negated.ensures
-
-pub calculated_at-node_at-requires : goal.calculated_at-node_at-requires
-calculated_at-node_at-requires t c =
-    part_inside c.args.entity.now [] c.args.checked.now.list c.args.place c.requires.stands
+pub calculated_at-node_at-node-requires : goal.calculated_at-node_at-node-requires
+calculated_at-node_at-node-requires t c = part_inside c.args.entity.now [] c.args.checked.now.list c.args.place c.requires.stands
 
 pub calculated_at-right_of-requires : goal.calculated_at-right_of-requires
-calculated_at-right_of-requires t c =
-    let there = operator_of_class c.args.checked.now.list c.args.place (OperatorClass.Arithmetic c.args.arithmetic) c.requires.arithmetic in
-    right_there c.args.entity.now [] c.args.checked.now.list c.args.place there.operator there.here c.requires.stands
+calculated_at-right_of-requires t c = right_there c.args.entity.now [] c.args.checked.now.list c.args.place c.args.operator c.requires.here c.requires.stands
 
 pub calculated_at-number_operand_at-requires : goal.calculated_at-number_operand_at-requires
 calculated_at-number_operand_at-requires t c =
-    let there = operator_of_class c.args.checked.now.list c.args.place (OperatorClass.Arithmetic c.args.arithmetic) c.requires.arithmetic in
     let inside : c.args.place < length c.args.checked.now.list.nodes = part_inside c.args.entity.now [] c.args.checked.now.list c.args.place c.requires.stands in
-    let behind : c.args.place < c.right_of.result = right_further c.args.entity.now [] c.args.checked.now.list c.args.place there.operator there.here c.requires.stands c.right_of.result c.right_of.ensures in
+    let behind : c.args.place < c.right_of.result = right_further c.args.entity.now [] c.args.checked.now.list c.args.place c.args.operator c.requires.here c.requires.stands c.right_of.result c.right_of.ensures in
     let smaller : 16 * (length c.args.checked.now.list.nodes - c.right_of.result) + 14 < 16 * (length c.args.checked.now.list.nodes - c.args.place) + 3 = omega arith in
-    let stands : NumberStands c.args.entity.now [] c.args.checked.now.list c.right_of.result = right_number c.args.entity.now [] c.args.checked.now.list c.args.place c.requires.stands there.operator c.right_of.result (ap walk_of_operator there.class_is) there.here c.right_of.ensures in
+    let stands : NumberStands c.args.entity.now [] c.args.checked.now.list c.right_of.result = right_number c.args.entity.now [] c.args.checked.now.list c.args.place c.requires.stands c.args.operator c.right_of.result c.requires.arithmetic c.requires.here c.right_of.ensures in
     search rules
 
 pub calculated_at-calculated-requires : goal.calculated_at-calculated-requires
 calculated_at-calculated-requires t c =
-    let there = operator_of_class c.args.checked.now.list c.args.place (OperatorClass.Arithmetic c.args.arithmetic) c.requires.arithmetic in
     let promotes : Promotes = record { left = c.operands_lie_within_promotion.ensures.left; right = c.operands_lie_within_promotion.ensures.right; negation = c.operands_lie_within_promotion.ensures.negation; three = c.operands_lie_within_promotion.ensures.three } in
-    numbers_there c.args.entity.now c.args.now.now c.args.checked.now.list c.args.place there.operator there.here c.right_of.result c.right_of.ensures c.args.left c.in-Ok.right c.requires.left c.in-Ok.ensures c.args.arithmetic there.class_is c.node_at.result.now c.node_at.ensures c.typed_trees_end_once_on_entities.ensures c.requires.entity promotes c.requires.stands
+    numbers_there c.args.entity.now c.args.now.now c.args.checked.now.list c.args.place c.args.operator c.requires.here c.right_of.result c.right_of.ensures c.args.left c.in-Ok.right c.requires.left c.in-Ok.ensures c.arithmetic_of.result c.arithmetic_of.ensures c.node_at-node.result.now c.node_at-node.ensures c.typed_trees_end_once_on_entities.ensures c.requires.entity promotes c.requires.stands
 
 pub calculated_at-returns-in-Ok : goal.calculated_at-returns-in-Ok
 calculated_at-returns-in-Ok t c =
-    let there = operator_of_class c.args.checked.now.list c.args.place (OperatorClass.Arithmetic c.args.arithmetic) c.requires.arithmetic in
-    calculation_answers c.args.entity.now c.args.now.now c.args.checked.now.list c.args.place there.operator there.here c.right_of.result c.right_of.ensures c.args.left c.in-Ok.right c.requires.left c.in-Ok.ensures c.args.arithmetic there.class_is c.node_at.result.now c.node_at.ensures c.calculated.result c.trees_have_one_type.ensures c.calculated.ensures
+    calculation_answers c.args.entity.now c.args.now.now c.args.checked.now.list c.args.place c.args.operator c.requires.here c.right_of.result c.right_of.ensures c.args.left c.in-Ok.right c.requires.left c.in-Ok.ensures c.arithmetic_of.result c.arithmetic_of.ensures c.node_at-node.result.now c.node_at-node.ensures c.calculated.result c.trees_have_one_type.ensures c.calculated.ensures
 
 pub calculated_at-returns-in-Err : goal.calculated_at-returns-in-Err
 calculated_at-returns-in-Err t c =
-    let there = operator_of_class c.args.checked.now.list c.args.place (OperatorClass.Arithmetic c.args.arithmetic) c.requires.arithmetic in
-    both_faults c.args.entity.now c.args.now.now c.args.checked.now.list c.args.place there.operator there.here c.right_of.result c.right_of.ensures (λ type. number_val c.args.left) c.in-Err.fault (subst TakesBoth (sym there.class_is) tt) c.requires.left c.in-Err.ensures
+    both_faults c.args.entity.now c.args.now.now c.args.checked.now.list c.args.place c.args.operator c.requires.here c.right_of.result c.right_of.ensures (λ type. number_val c.args.left) c.in-Err.fault (numbers_taken (class_of c.args.operator) c.requires.arithmetic) c.requires.left c.in-Err.ensures
 
 -- ---- a comparison of values that are made
 
@@ -495,3 +311,217 @@ compared_at-returns t c =
     let there = operator_of_class c.args.checked.now.list c.args.place (OperatorClass.Comparison c.args.comparison) c.requires.comparison in
     both_faults c.args.entity.now c.args.now.now c.args.checked.now.list c.args.place there.operator there.here c.right_of-right_place.result c.right_of-right_place.ensures (λ type. datum_val (reading_at (slots_of c.args.entity.now.schema) type) c.args.left.now) c.in-Err.behind (subst TakesBoth (sym there.class_is) tt) c.requires.left
     (subst (λ (r : Result Datum EvalFault). AnswersDatum c.args.entity.now c.args.now.now [] c.args.checked.now.list c.right_of-right_place.result r) c.in-Err.is c.operand_at.ensures)
+
+-- ---- a node that is none of truth values
+
+pub plain_truth_at-node_at-requires : goal.plain_truth_at-node_at-requires
+plain_truth_at-node_at-requires t c =
+    part_inside c.args.entity.now [] c.args.checked.now.list c.args.place (typed_part c.args.entity.now [] c.args.checked.now.list c.args.place IsBooleanOrNull c.requires.stands)
+
+pub plain_truth_at-compared_truth_at-requires : goal.plain_truth_at-compared_truth_at-requires
+plain_truth_at-compared_truth_at-requires t c =
+    let smaller : 16 * (length c.args.checked.now.list.nodes - c.args.place) + 9 < 16 * (length c.args.checked.now.list.nodes - c.args.place) + 10 = omega arith in
+    let here : HasOperator c.args.checked.now.list c.args.place c.in-Binary.operator =
+    there_found (λ (f : CheckedNode). f.kind ≡ NodeKind.Binary c.in-Binary.operator) (slice_get c.args.checked.now.list.nodes c.args.place) c.node_at.result.now c.node_at.ensures c.in-Binary.is in
+    let comparison : walk_of_operator (class_of c.in-Binary.operator) ≡ WalkClass.Eager = ap walk_of_operator (sym c.class_of.ensures ∙ c.in-Comparison.is) in
+    search rules
+
+pub plain_truth_at-part_at-requires-clause-stands : goal.plain_truth_at-part_at-requires-clause-stands
+plain_truth_at-part_at-requires-clause-stands t c =
+    typed_part c.args.entity.now [] c.args.checked.now.list c.args.place IsBooleanOrNull c.requires.stands
+
+pub plain_truth_at-unreachable-requires : goal.plain_truth_at-unreachable-requires
+plain_truth_at-unreachable-requires t c = c.requires.plain c.in-Logical.ensures
+
+pub plain_truth_at-kept_truth-requires : goal.plain_truth_at-kept_truth-requires
+plain_truth_at-kept_truth-requires t c =
+    truth_kept c.args.entity.now c.args.now.now c.args.checked.now.list c.args.place c.in-Leaf.value.now (c.in-Leaf.ensures c.args.now.now) c.typed_trees_end_once_on_entities.ensures c.requires.entity c.requires.stands
+
+pub plain_truth_at-returns-in-Leaf : goal.plain_truth_at-returns-in-Leaf
+plain_truth_at-returns-in-Leaf t c =
+    kept_value c.args.entity.now c.args.now.now c.args.checked.now.list c.args.place c.in-Leaf.value.now (c.in-Leaf.ensures c.args.now.now) (truth_val c.kept_truth.result) c.kept_truth.ensures
+
+pub plain_truth_at-number_at-requires : goal.plain_truth_at-number_at-requires
+plain_truth_at-number_at-requires t c =
+    let smaller : 16 * (length c.args.checked.now.list.nodes - c.args.place) + 8 < 16 * (length c.args.checked.now.list.nodes - c.args.place) + 10 = omega arith in
+    let part = typed_part c.args.entity.now [] c.args.checked.now.list c.args.place IsBooleanOrNull c.requires.stands in
+    search rules
+
+pub plain_truth_at-truth_of-requires : goal.plain_truth_at-truth_of-requires
+plain_truth_at-truth_of-requires t c =
+    λ reading. truth_there c.typed_trees_end_once_on_entities.ensures c.args.entity.now c.args.now.now c.requires.entity c.args.checked.now.list c.args.place c.datum_of_number.result c.requires.stands (made_value c.args.entity.now c.args.now.now c.args.checked.now.list c.args.place c.datum_of_number.result (number_val c.in-Ok.number) c.in-Ok.ensures c.datum_of_number.ensures) reading
+
+pub plain_truth_at-returns-in-Ok : goal.plain_truth_at-returns-in-Ok
+plain_truth_at-returns-in-Ok t c =
+    read_value c.args.entity.now c.args.now.now c.args.checked.now.list c.args.place c.datum_of_number.result (truth_val c.truth_of.result) (made_value c.args.entity.now c.args.now.now c.args.checked.now.list c.args.place c.datum_of_number.result (number_val c.in-Ok.number) c.in-Ok.ensures c.datum_of_number.ensures) c.truth_of.ensures
+
+pub plain_truth_at-made_truth_at-requires : goal.plain_truth_at-made_truth_at-requires
+plain_truth_at-made_truth_at-requires t c =
+    let smaller : 16 * (length c.args.checked.now.list.nodes - c.args.place) + 7 < 16 * (length c.args.checked.now.list.nodes - c.args.place) + 10 = omega arith in
+    search rules
+
+-- ---- a comparison in place
+
+pub compared_truth_at-right_of-right_place-requires : goal.compared_truth_at-right_of-right_place-requires
+compared_truth_at-right_of-right_place-requires t c = right_there c.args.entity.now [] c.args.checked.now.list c.args.place c.args.operator c.requires.here (typed_part c.args.entity.now [] c.args.checked.now.list c.args.place IsBooleanOrNull c.requires.stands)
+
+pub compared_truth_at-overflow_add-place : goal.compared_truth_at-overflow_add-place
+compared_truth_at-overflow_add-place t c =
+    let behind = right_further c.args.entity.now [] c.args.checked.now.list c.args.place c.args.operator c.requires.here (typed_part c.args.entity.now [] c.args.checked.now.list c.args.place IsBooleanOrNull c.requires.stands) c.right_of-right_place.result c.right_of-right_place.ensures in
+    omega (arith, behind, c.right_of-right_place.type_inv)
+
+pub compared_truth_at-compare_kept-requires : goal.compared_truth_at-compare_kept-requires
+compared_truth_at-compare_kept-requires t c =
+    let here = class_of_operator c.args.checked.now.list c.args.place c.args.operator (OperatorClass.Comparison c.comparison_of.result) c.requires.here c.comparison_of.ensures in
+    may_compare_kept c.args.entity.now c.args.now.now c.args.checked.now.list c.args.place c.comparison_of.result here c.right_of-right_place.result c.right_of-right_place.ensures c.in-Leaf.left.now c.in-Leaf-part_at.right.now (c.in-Leaf.ensures c.args.now.now) (c.in-Leaf-part_at.ensures c.args.now.now)
+    c.typed_trees_end_once_on_entities.ensures c.requires.entity c.comparisons_are_decided.ensures.any_contents (typed_part c.args.entity.now [] c.args.checked.now.list c.args.place IsBooleanOrNull c.requires.stands)
+
+pub compared_truth_at-returns-in-Leaf-part_at : goal.compared_truth_at-returns-in-Leaf-part_at
+compared_truth_at-returns-in-Leaf-part_at t c =
+    let here = class_of_operator c.args.checked.now.list c.args.place c.args.operator (OperatorClass.Comparison c.comparison_of.result) c.requires.here c.comparison_of.ensures in
+    let may = may_compare_kept c.args.entity.now c.args.now.now c.args.checked.now.list c.args.place c.comparison_of.result here c.right_of-right_place.result c.right_of-right_place.ensures c.in-Leaf.left.now c.in-Leaf-part_at.right.now (c.in-Leaf.ensures c.args.now.now) (c.in-Leaf-part_at.ensures c.args.now.now)
+    c.typed_trees_end_once_on_entities.ensures c.requires.entity c.comparisons_are_decided.ensures.any_contents (typed_part c.args.entity.now [] c.args.checked.now.list c.args.place IsBooleanOrNull c.requires.stands) in
+    kept_compared c.args.entity.now c.args.now.now c.args.checked.now.list c.args.place c.comparison_of.result here c.right_of-right_place.result c.right_of-right_place.ensures c.in-Leaf.left.now c.in-Leaf-part_at.right.now (c.in-Leaf.ensures c.args.now.now) (c.in-Leaf-part_at.ensures c.args.now.now)
+    c.compare_kept.result may c.compare_kept.ensures
+
+pub numbers_truth_at-right_of-right_place-requires : goal.numbers_truth_at-right_of-right_place-requires
+numbers_truth_at-right_of-right_place-requires t c = right_there c.args.entity.now [] c.args.checked.now.list c.args.place c.args.operator c.requires.here (typed_part c.args.entity.now [] c.args.checked.now.list c.args.place IsBooleanOrNull c.requires.stands)
+
+pub numbers_truth_at-overflow_add-place : goal.numbers_truth_at-overflow_add-place
+numbers_truth_at-overflow_add-place t c =
+    let behind = right_further c.args.entity.now [] c.args.checked.now.list c.args.place c.args.operator c.requires.here (typed_part c.args.entity.now [] c.args.checked.now.list c.args.place IsBooleanOrNull c.requires.stands) c.right_of-right_place.result c.right_of-right_place.ensures in
+    omega (arith, behind, c.right_of-right_place.type_inv)
+
+pub numbers_truth_at-number_chain_at-requires : goal.numbers_truth_at-number_chain_at-requires
+numbers_truth_at-number_chain_at-requires t c =
+    let part = typed_part c.args.entity.now [] c.args.checked.now.list c.args.place IsBooleanOrNull c.requires.stands in
+    let inside : c.args.place < length c.args.checked.now.list.nodes = part_inside c.args.entity.now [] c.args.checked.now.list c.args.place part in
+    let smaller : 16 * (length c.args.checked.now.list.nodes - (c.args.place + 1)) + 10 < 16 * (length c.args.checked.now.list.nodes - c.args.place) + 8 = omega arith in
+    let left : PartStands c.args.entity.now [] c.args.checked.now.list (c.args.place + 1) = inner_step c.args.entity.now [] c.args.checked.now.list c.args.place part WalkClass.Eager (λ leaf. cc) (walks_by c.args.checked.now.list c.args.place c.args.operator WalkClass.Eager c.requires.here c.requires.comparison) in
+    search rules
+
+pub numbers_truth_at-returns-in-Err : goal.numbers_truth_at-returns-in-Err
+numbers_truth_at-returns-in-Err t c =
+    first_faults c.args.entity.now c.args.now.now c.args.checked.now.list c.args.place WalkClass.Eager c.in-Err.fault (λ leaf. cc) (walks_by c.args.checked.now.list c.args.place c.args.operator WalkClass.Eager c.requires.here c.requires.comparison) c.in-Err.ensures
+
+pub numbers_truth_at-number_at-requires : goal.numbers_truth_at-number_at-requires
+numbers_truth_at-number_at-requires t c =
+    let part = typed_part c.args.entity.now [] c.args.checked.now.list c.args.place IsBooleanOrNull c.requires.stands in
+    let inside : c.args.place < length c.args.checked.now.list.nodes = part_inside c.args.entity.now [] c.args.checked.now.list c.args.place part in
+    let behind : c.args.place < c.right_of-right_place.result = right_further c.args.entity.now [] c.args.checked.now.list c.args.place c.args.operator c.requires.here part c.right_of-right_place.result c.right_of-right_place.ensures in
+    let smaller : 16 * (length c.args.checked.now.list.nodes - c.right_of-right_place.result) + 8 < 16 * (length c.args.checked.now.list.nodes - c.args.place) + 8 = omega arith in
+    let right : PartStands c.args.entity.now [] c.args.checked.now.list c.right_of-right_place.result = right_part c.args.entity.now [] c.args.checked.now.list c.args.place c.args.operator c.requires.here part c.right_of-right_place.result c.right_of-right_place.ensures in
+    search rules
+
+pub numbers_truth_at-returns-in-Err-number_at : goal.numbers_truth_at-returns-in-Err-number_at
+numbers_truth_at-returns-in-Err-number_at t c =
+    both_faults c.args.entity.now c.args.now.now c.args.checked.now.list c.args.place c.args.operator c.requires.here c.right_of-right_place.result c.right_of-right_place.ensures (λ type. number_val c.in-Ok.left) c.in-Err-number_at.fault (values_taken (class_of c.args.operator) c.requires.comparison) c.in-Ok.ensures c.in-Err-number_at.ensures
+
+-- ---- `not`, and `-`
+
+pub logical_at-returns-in_default : goal.logical_at-returns-in_default
+logical_at-returns-in_default t c =
+    let first = subst (λ (r : Result (Option Bool) EvalFault). AnswersTruth c.args.entity.now c.args.now.now [] c.args.checked.now.list (c.args.place + 1) r) c.in-Ok.is c.requires.first in
+    let walk = found_there (λ (f : CheckedNode). walk_of_kind f.kind ≡ WalkClass.Logical) (slice_get c.args.checked.now.list.nodes c.args.place) c.node_at.result.now c.node_at.ensures c.requires.logical in
+    let here = there_found (λ (f : CheckedNode). f.kind ≡ NodeKind.Not) (slice_get c.args.checked.now.list.nodes c.args.place) c.node_at.result.now c.node_at.ensures (only_not c.node_at.result.now.kind walk c.in_default.not-Binary) in
+    subst (λ (r : Option Bool). AnswersTruth c.args.entity.now c.args.now.now [] c.args.checked.now.list c.args.place (Ok r)) (sym c.not3.ensures) (not_answers c.args.entity.now c.args.now.now c.args.checked.now.list c.args.place c.in-Ok.first here first)
+
+pub numeric_at-negated-requires : goal.numeric_at-negated-requires
+numeric_at-negated-requires t c =
+    let first = subst (λ (r : Result (Option ℤ) EvalFault). AnswersNumber c.args.entity.now c.args.now.now [] c.args.checked.now.list (c.args.place + 1) r) c.in-Ok.is c.requires.first in
+    let walk = found_there (λ (f : CheckedNode). walk_of_kind f.kind ≡ WalkClass.Numeric) (slice_get c.args.checked.now.list.nodes c.args.place) c.node_at-node.result.now c.node_at-node.ensures c.requires.numeric in
+    let here = there_found (λ (f : CheckedNode). f.kind ≡ NodeKind.Neg) (slice_get c.args.checked.now.list.nodes c.args.place) c.node_at-node.result.now c.node_at-node.ensures (only_neg c.node_at-node.result.now.kind walk c.in_default.not-Binary) in
+    let promotes : Promotes = record { left = c.operands_lie_within_promotion.ensures.left; right = c.operands_lie_within_promotion.ensures.right; negation = c.operands_lie_within_promotion.ensures.negation; three = c.operands_lie_within_promotion.ensures.three } in
+    negated_operand c.args.entity.now c.args.now.now c.args.checked.now.list c.args.place c.typed_trees_end_once_on_entities.ensures c.requires.entity c.in-Ok.first c.node_at-node.result.now c.node_at-node.ensures here promotes c.requires.stands first
+
+pub numeric_at-returns-in_default : goal.numeric_at-returns-in_default
+numeric_at-returns-in_default t c =
+    let first = subst (λ (r : Result (Option ℤ) EvalFault). AnswersNumber c.args.entity.now c.args.now.now [] c.args.checked.now.list (c.args.place + 1) r) c.in-Ok.is c.requires.first in
+    let walk = found_there (λ (f : CheckedNode). walk_of_kind f.kind ≡ WalkClass.Numeric) (slice_get c.args.checked.now.list.nodes c.args.place) c.node_at-node.result.now c.node_at-node.ensures c.requires.numeric in
+    let here = there_found (λ (f : CheckedNode). f.kind ≡ NodeKind.Neg) (slice_get c.args.checked.now.list.nodes c.args.place) c.node_at-node.result.now c.node_at-node.ensures (only_neg c.node_at-node.result.now.kind walk c.in_default.not-Binary) in
+    negation_answers c.args.entity.now c.args.now.now c.args.checked.now.list c.args.place c.in-Ok.first c.node_at-node.result.now c.negated.result c.node_at-node.ensures here c.trees_have_one_type.ensures first c.negated.ensures
+
+-- ---- chains of numbers
+
+pub number_at-returns : goal.number_at-returns
+number_at-returns t c =
+    let l = c.loop-at in
+    let e : l.at ≡ c.args.place = omega arith in
+    subst (λ (k : ℕ). AnswersNumber c.args.entity.now c.args.now.now [] c.args.checked.now.list k l.answer) e l.invariant.answers
+
+pub number_at-number_operand_at-answer-requires : goal.number_at-number_operand_at-answer-requires
+number_at-number_operand_at-answer-requires t c =
+    let bottom = c.spine_bottom-bottom.result in
+    let inside : c.args.place < length c.args.checked.now.list.nodes = part_inside c.args.entity.now [] c.args.checked.now.list c.args.place c.requires.stands in
+    let below : c.args.place ≤ bottom = c.spine_bottom-bottom.ensures.below in
+    let behind : c.args.place < bottom = below_bottom c.args.checked.now.list WalkClass.Numeric c.args.place bottom below c.requires.numeric c.spine_bottom-bottom.ensures.bottom in
+    let smaller : 16 * (length c.args.checked.now.list.nodes - c.spine_bottom-bottom.result) + 14 < 16 * (length c.args.checked.now.list.nodes - c.args.place) + 8 = omega arith in
+    let stands : NumberStands c.args.entity.now [] c.args.checked.now.list bottom = number_down c.args.entity.now [] c.args.checked.now.list c.args.place bottom behind c.requires.stands c.spine_bottom-bottom.ensures.spine in
+    search rules
+
+pub number_at-numeric_at-answer-requires : goal.number_at-numeric_at-answer-requires
+number_at-numeric_at-answer-requires t c =
+    let l = c.loop-at in
+    let within : l.at ≤ c.spine_bottom-bottom.result = l.invariant.within in
+    let above : c.args.place < l.at = omega arith in
+    let smaller : 16 * (length c.args.checked.now.list.nodes - (l.at - 1)) + 4 < 16 * (length c.args.checked.now.list.nodes - c.args.place) + 8 = omega arith in
+    let upper : (i : ℕ) → i < l.at - 1 → c.args.place ≤ i → IsClassAt c.args.checked.now.list WalkClass.Numeric i = λ i before from. c.spine_bottom-bottom.ensures.spine i (omega arith) from in
+    let stands : PartStands c.args.entity.now [] c.args.checked.now.list (l.at - 1) = part_down c.args.entity.now [] c.args.checked.now.list WalkClass.Numeric (λ leaf. cc) c.args.place (l.at - 1) (omega arith) c.requires.stands upper in
+    let numeric : IsClassAt c.args.checked.now.list WalkClass.Numeric (l.at - 1) = c.spine_bottom-bottom.ensures.spine (l.at - 1) (omega arith) (omega arith) in
+    let e : l.at ≡ l.at - 1 + 1 = omega arith in
+    let first : AnswersNumber c.args.entity.now c.args.now.now [] c.args.checked.now.list (l.at - 1 + 1) l.answer = subst (λ (k : ℕ). AnswersNumber c.args.entity.now c.args.now.now [] c.args.checked.now.list k l.answer) e l.invariant.answers in
+    search rules
+
+pub number_chain_at-overflow_add-place : goal.number_chain_at-overflow_add-place
+number_chain_at-overflow_add-place t c =
+    let inside : c.args.place < length c.args.checked.now.list.nodes = part_inside c.args.entity.now [] c.args.checked.now.list c.args.place c.requires.stands in
+    let within : c.args.place < length c.nodes-nodes.result.now = rw c.nodes-nodes.ensures.same inside in
+    search rules
+
+pub number_chain_at-class_at-requires : goal.number_chain_at-class_at-requires
+number_chain_at-class_at-requires t c =
+    part_inside c.args.entity.now [] c.args.checked.now.list (c.args.place + 1) (inner_step c.args.entity.now [] c.args.checked.now.list c.args.place c.requires.stands WalkClass.Numeric (λ leaf. cc) c.requires.numeric)
+
+pub number_chain_at-overflow_add-place-in-Numeric : goal.number_chain_at-overflow_add-place-in-Numeric
+number_chain_at-overflow_add-place-in-Numeric t c =
+    let inside : c.args.place < length c.args.checked.now.list.nodes = part_inside c.args.entity.now [] c.args.checked.now.list c.args.place c.requires.stands in
+    let within : c.args.place < length c.nodes-nodes.result.now = rw c.nodes-nodes.ensures.same inside in
+    search rules
+
+pub number_on_leaf_at-overflow_add-place : goal.number_on_leaf_at-overflow_add-place
+number_on_leaf_at-overflow_add-place t c =
+    let inside : c.args.place < length c.args.checked.now.list.nodes = part_inside c.args.entity.now [] c.args.checked.now.list c.args.place c.requires.stands in
+    let within : c.args.place < length c.nodes-nodes.result.now = rw c.nodes-nodes.ensures.same inside in
+    search rules
+
+pub number_on_leaf_at-kept_number-requires : goal.number_on_leaf_at-kept_number-requires
+number_on_leaf_at-kept_number-requires t c =
+    number_kept c.args.entity.now c.args.now.now c.args.checked.now.list (c.args.place + 1) c.in-Leaf.first.now (c.in-Leaf.ensures c.args.now.now) c.typed_trees_end_once_on_entities.ensures c.requires.entity (number_step c.args.entity.now [] c.args.checked.now.list c.args.place c.requires.stands c.requires.numeric)
+
+pub number_on_leaf_at-numeric_at-requires : goal.number_on_leaf_at-numeric_at-requires
+number_on_leaf_at-numeric_at-requires t c =
+    let smaller : 16 * (length c.args.checked.now.list.nodes - c.args.place) + 4 < 16 * (length c.args.checked.now.list.nodes - c.args.place) + 9 = omega arith in
+    let first : AnswersNumber c.args.entity.now c.args.now.now [] c.args.checked.now.list (c.args.place + 1) (Ok c.kept_number.result) = kept_value c.args.entity.now c.args.now.now c.args.checked.now.list (c.args.place + 1) c.in-Leaf.first.now (c.in-Leaf.ensures c.args.now.now) (number_val c.kept_number.result) c.kept_number.ensures in
+    search rules
+
+pub number_operand_at-kept_number-requires : goal.number_operand_at-kept_number-requires
+number_operand_at-kept_number-requires t c =
+    number_kept c.args.entity.now c.args.now.now c.args.checked.now.list c.args.place c.in-Leaf.value.now (c.in-Leaf.ensures c.args.now.now) c.typed_trees_end_once_on_entities.ensures c.requires.entity c.requires.stands
+
+pub number_operand_at-returns-in-Leaf : goal.number_operand_at-returns-in-Leaf
+number_operand_at-returns-in-Leaf t c =
+    kept_value c.args.entity.now c.args.now.now c.args.checked.now.list c.args.place c.in-Leaf.value.now (c.in-Leaf.ensures c.args.now.now) (number_val c.kept_number.result) c.kept_number.ensures
+
+pub numbers_truth_at-returns-in-Int : goal.numbers_truth_at-returns-in-Int
+numbers_truth_at-returns-in-Int t c =
+    let here = class_of_operator c.args.checked.now.list c.args.place c.args.operator (OperatorClass.Comparison c.comparison_of.result) c.requires.here c.comparison_of.ensures in
+    let right = kept_value c.args.entity.now c.args.now.now c.args.checked.now.list c.right_of-right_place.result c.in-Leaf.value.now (c.in-Leaf.ensures c.args.now.now) (number_val (Some c.in-Int.right)) (ap plain_val c.in-Int.is) in
+    let fits : SFits w64 c.in-Int.right = search rules in
+    let compared : IsTrue c.compare_numbers.result ↔ ComparesTrue c.comparison_of.result (number_val c.in-Ok.left) (number_val (Some c.in-Int.right)) =
+    subst (λ (n : ℤ). IsTrue c.compare_numbers.result ↔ ComparesTrue c.comparison_of.result (number_val c.in-Ok.left) (number_val (Some n))) (to_z-of_z w64 c.in-Int.right fits) c.compare_numbers.ensures in
+    numbers_compared c.args.entity.now c.args.now.now c.args.checked.now.list c.args.place c.comparison_of.result here c.right_of-right_place.result c.right_of-right_place.ensures c.in-Ok.left (Some c.in-Int.right) c.compare_numbers.result c.in-Ok.ensures right compared
+
+pub numbers_truth_at-returns-in-Ok-number_at : goal.numbers_truth_at-returns-in-Ok-number_at
+numbers_truth_at-returns-in-Ok-number_at t c =
+    let here = class_of_operator c.args.checked.now.list c.args.place c.args.operator (OperatorClass.Comparison c.comparison_of-in-Ok-number_at.result) c.requires.here c.comparison_of-in-Ok-number_at.ensures in
+    numbers_compared c.args.entity.now c.args.now.now c.args.checked.now.list c.args.place c.comparison_of-in-Ok-number_at.result here c.right_of-right_place.result c.right_of-right_place.ensures c.in-Ok.left c.in-Ok-number_at.right c.compare_numbers-in-Ok-number_at.result c.in-Ok.ensures c.in-Ok-number_at.ensures c.compare_numbers-in-Ok-number_at.ensures

@@ -3,9 +3,6 @@ use Rattle.odata_eval.specs.private.WalkAnswer.{AnswersDatum, AnswersNumber, Ans
 use Rattle.odata_eval.proofs.walk.+evaluate.Given as goal
 
 -- what is left of the list counts first, and in one place the order of the calls
-abbrev pub decreases-left_number_at : goal.decreases-left_number_at
-decreases-left_number_at l = 16 * (length l.checked.now.list.nodes - l.place) + 15
-
 abbrev pub decreases-number_operand_at : goal.decreases-number_operand_at
 decreases-number_operand_at l = 16 * (length l.checked.now.list.nodes - l.place) + 14
 
@@ -25,16 +22,22 @@ abbrev pub decreases-plain_truth_at : goal.decreases-plain_truth_at
 decreases-plain_truth_at l = 16 * (length l.checked.now.list.nodes - l.place) + 10
 
 abbrev pub decreases-numbers_truth_at : goal.decreases-numbers_truth_at
-decreases-numbers_truth_at l = 16 * (length l.checked.now.list.nodes - l.place) + 9
+decreases-numbers_truth_at l = 16 * (length l.checked.now.list.nodes - l.place) + 8
+
+abbrev pub decreases-compared_truth_at : goal.decreases-compared_truth_at
+decreases-compared_truth_at l = 16 * (length l.checked.now.list.nodes - l.place) + 9
 
 abbrev pub decreases-made_truth_at : goal.decreases-made_truth_at
-decreases-made_truth_at l = 16 * (length l.checked.now.list.nodes - l.place) + 8
+decreases-made_truth_at l = 16 * (length l.checked.now.list.nodes - l.place) + 7
 
 abbrev pub decreases-number_at : goal.decreases-number_at
 decreases-number_at l = 16 * (length l.checked.now.list.nodes - l.place) + 8
 
 abbrev pub decreases-number_chain_at : goal.decreases-number_chain_at
-decreases-number_chain_at l = 16 * (length l.checked.now.list.nodes - l.place) + 7
+decreases-number_chain_at l = 16 * (length l.checked.now.list.nodes - l.place) + 10
+
+abbrev pub decreases-number_on_leaf_at : goal.decreases-number_on_leaf_at
+decreases-number_on_leaf_at l = 16 * (length l.checked.now.list.nodes - l.place) + 9
 
 abbrev pub decreases-eager_at : goal.decreases-eager_at
 decreases-eager_at l = 16 * (length l.checked.now.list.nodes - l.place) + 5
@@ -67,15 +70,15 @@ invariant-truth_at-loop-at l = record {
 abbrev pub decreases-truth_at-loop-at : goal.decreases-truth_at-loop-at
 decreases-truth_at-loop-at l = l.at
 
-abbrev pub invariant-number_chain_at-loop-at : goal.invariant-number_chain_at-loop-at
-invariant-number_chain_at-loop-at l = record {
+abbrev pub invariant-number_at-loop-at : goal.invariant-number_at-loop-at
+invariant-number_at-loop-at l = record {
   above : l.place ≤ l.at;
   within : l.at ≤ l.bottom;
   answers : AnswersNumber l.entity l.now [] l.checked.list l.at l.answer;
 }
 
-abbrev pub decreases-number_chain_at-loop-at : goal.decreases-number_chain_at-loop-at
-decreases-number_chain_at-loop-at l = l.at
+abbrev pub decreases-number_at-loop-at : goal.decreases-number_at-loop-at
+decreases-number_at-loop-at l = l.at
 
 abbrev pub invariant-eager_at-loop-at : goal.invariant-eager_at-loop-at
 invariant-eager_at-loop-at l = record {
