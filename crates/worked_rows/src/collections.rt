@@ -1,10 +1,11 @@
 //! Collections of entities (OData JSON Format 4.01, section 13): which places are written, the line that is told, and the
 //! status.
 use crate::devices::{Cut, PIECES, Stumble, Stumbling};
-use crate::told::{FIRST, SCHEMA, Told, outcome_of, plan_of};
+use crate::told::{FIRST, SCHEMA, Told, ends, outcome_of, plan_of};
 use odata_filter::command_line::Plan;
 use odata_filter::run;
 use std::alloc::{AllocError, Global};
+use std::io::Read;
 use std::test::Fail;
 
 /// A collection, what is written of it, the line that is told, and the status.
@@ -93,15 +94,15 @@ fn collections(rt: HostRuntime) -> Result<(), Fail> {
     for &(short, out, line, status) in COLLECTIONS {
         let document = spelled(rt.alloc(), short)?;
         let told = run_of_collection(rt.alloc(), document.as_bytes());
-        assert!(rt; told.is(out, line, status), "at {short}");
+        ends(told, short, out, line, status)?;
     }
     Ok(())
 }
 
 #[test]
-fn bytes_that_are_no_text(rt: HostRuntime) {
+fn bytes_that_are_no_text(rt: HostRuntime) -> Result<(), Fail> {
     let told = run_of_collection(rt.alloc(), b"{\"value\":[],\"a\":\"\xff\"}");
-    assert!(rt; told.is("", "row NotACollection\n", 4));
+    ends(told, "no text", "", "row NotACollection\n", 4)
 }
 
 /// A collection of so many entities, of which every third is kept from the first on, and the places of those.
@@ -132,35 +133,38 @@ fn collections_of_many(rt: HostRuntime) -> Result<(), Fail> {
     for &count in COUNTS {
         let (document, places) = thirds(rt.alloc(), count)?;
         let told = run_of_collection(rt.alloc(), document.as_bytes());
-        assert!(rt; told.is(&places, "", 0), "at {count}");
+        ends(told, "as many places", &places, "", 0)?;
     }
     Ok(())
+}
+
+/// A run over a collection that a reader gives, from a file or from standard input.
+fn run_of_given<R: Read + Drop>(alloc: Global, named: Option<&str>, rows: R) -> Told {
+    let mut out = Vec::new(alloc);
+    let mut err = Vec::new(alloc);
+    let plan = plan_of_collection(named);
+    let status = run(
+        alloc,
+        &plan,
+        SCHEMA.as_bytes(),
+        Some(rows),
+        &mut out,
+        &mut err,
+    );
+    Told { out, err, status }
 }
 
 /// However the reader cuts them.
 #[test]
 fn collections_in_pieces(rt: HostRuntime) -> Result<(), Fail> {
     let document = spelled(rt.alloc(), "{\"value\":[A,B,A]}")?;
-    let plan = plan_of_collection(None);
     for &piece in PIECES {
-        let mut out = Vec::new(rt.alloc());
-        let mut err = Vec::new(rt.alloc());
         let rows = Cut {
             reader: document.as_bytes(),
             piece,
         };
-        let status = run(
-            rt.alloc(),
-            &plan,
-            SCHEMA.as_bytes(),
-            Some(rows),
-            &mut out,
-            &mut err,
-        );
-        assert!(rt;
-            status == 0 && out.as_slice() == "0\n2\n".as_bytes() && err.is_empty(),
-            "at {piece}"
-        );
+        let told = run_of_given(rt.alloc(), None, rows);
+        ends(told, "in pieces", "0\n2\n", "", 0)?;
     }
     Ok(())
 }
@@ -173,28 +177,19 @@ const NOT_READ: &[(Option<&str>, &str)] = &[
 
 /// A file is told by its name, and standard input by a line that has not come.
 #[test]
-fn collections_that_are_not_read(rt: HostRuntime) {
-    for &(rows, line) in NOT_READ {
-        let mut out = Vec::new(rt.alloc());
-        let mut err = Vec::new(rt.alloc());
-        let plan = plan_of_collection(rows);
-        let status = run(
-            rt.alloc(),
-            &plan,
-            SCHEMA.as_bytes(),
-            Some(Stumbling {
-                stumble: Some(Stumble::Fails),
-            }),
-            &mut out,
-            &mut err,
-        );
-        assert!(rt; status == 5 && out.is_empty() && err.as_slice() == line.as_bytes());
+fn collections_that_are_not_read(rt: HostRuntime) -> Result<(), Fail> {
+    for &(named, line) in NOT_READ {
+        let rows = Stumbling {
+            stumble: Some(Stumble::Fails),
+        };
+        ends(run_of_given(rt.alloc(), named, rows), line, "", line, 5)?;
     }
+    Ok(())
 }
 
 #[test]
-fn a_collection_that_cannot_be_opened(rt: HostRuntime) {
+fn a_collection_that_cannot_be_opened(rt: HostRuntime) -> Result<(), Fail> {
     let plan = plan_of_collection(Some("answer.json"));
     let told = outcome_of(rt.alloc(), SCHEMA, &plan, None);
-    assert!(rt; told.is("", "read answer.json\n", 5));
+    ends(told, "no rows", "", "read answer.json\n", 5)
 }

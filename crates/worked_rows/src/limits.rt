@@ -1,5 +1,5 @@
 //! The limits of texts, tokens and lines, and what lies next to them.
-use crate::told::{FIRST, run_of, run_of_reader};
+use crate::told::{FIRST, ends, run_of, run_of_reader};
 use std::alloc::{AllocError, Global};
 use std::io;
 use std::io::Read;
@@ -26,27 +26,32 @@ fn longest_filter(alloc: Global) -> Result<String, AllocError> {
 #[test]
 fn a_filter_of_16384_bytes_is_read(rt: HostRuntime) -> Result<(), Fail> {
     let filter = longest_filter(rt.alloc())?;
-    assert_eq!(rt; filter.len(), 16_384);
-    assert!(rt; run_of(rt.alloc(), filter.as_str(), A.as_bytes()).is(A, "", 0));
-    Ok(())
+    assert!(rt; filter.len() == 16_384);
+    let told = run_of(rt.alloc(), filter.as_str(), A.as_bytes());
+    ends(told, "16,384 bytes", A, "", 0)
 }
 
 #[test]
 fn a_filter_of_16385_bytes_is_too_long(rt: HostRuntime) -> Result<(), Fail> {
     let mut filter = longest_filter(rt.alloc())?;
     filter.push_str(" ")?;
-    assert!(rt;
-        run_of(rt.alloc(), filter.as_str(), A.as_bytes()).is("", "refused TooLong 0..16385\n", 1)
-    );
-    Ok(())
+    let told = run_of(rt.alloc(), filter.as_str(), A.as_bytes());
+    ends(told, "16,385 bytes", "", "refused TooLong 0..16385\n", 1)
 }
+
+/// How many tokens a filter has, and its refusal.
+const TOKENS: &[(usize, &str)] = &[
+    (4096, "refused Unexpected 2..3\n"),
+    (4097, "refused TooLong 8192..8193\n"),
+];
 
 #[test]
 fn a_filter_has_at_most_4096_tokens(rt: HostRuntime) -> Result<(), Fail> {
-    let most = repeated(rt.alloc(), "1 ", 4096)?;
-    assert!(rt; run_of(rt.alloc(), most.as_str(), b"").is("", "refused Unexpected 2..3\n", 1));
-    let over = repeated(rt.alloc(), "1 ", 4097)?;
-    assert!(rt; run_of(rt.alloc(), over.as_str(), b"").is("", "refused TooLong 8192..8193\n", 1));
+    for &(count, line) in TOKENS {
+        let filter = repeated(rt.alloc(), "1 ", count)?;
+        let told = run_of(rt.alloc(), filter.as_str(), b"");
+        ends(told, line, "", line, 1)?;
+    }
     Ok(())
 }
 
@@ -64,10 +69,20 @@ fn with_a_line_too_long(alloc: Global) -> Result<String, AllocError> {
 #[test]
 fn a_line_has_at_most_1048576_bytes(rt: HostRuntime) -> Result<(), Fail> {
     let blank = longest_line(rt.alloc())?;
-    assert!(rt; run_of(rt.alloc(), FIRST, blank.as_bytes()).is("", "", 0));
+    let told = run_of(rt.alloc(), FIRST, blank.as_bytes());
+    ends(told, "1,048,576 blanks", "", "", 0)
+}
+
+#[test]
+fn a_line_of_one_byte_more_is_too_long(rt: HostRuntime) -> Result<(), Fail> {
     let over = with_a_line_too_long(rt.alloc())?;
-    assert!(rt; run_of(rt.alloc(), FIRST, over.as_bytes()).is(A, "row 2 LineTooLong\n", 4));
+    let told = run_of(rt.alloc(), FIRST, over.as_bytes());
+    ends(told, "one byte more", A, "row 2 LineTooLong\n", 4)
+}
+
+#[test]
+fn a_line_without_end_is_too_long(rt: HostRuntime) -> Result<(), Fail> {
     let endless = A.as_bytes().chain(io::repeat(b' '));
-    assert!(rt; run_of_reader(rt.alloc(), endless).is(A, "row 2 LineTooLong\n", 4));
-    Ok(())
+    let told = run_of_reader(rt.alloc(), endless);
+    ends(told, "blanks without end", A, "row 2 LineTooLong\n", 4)
 }

@@ -1,8 +1,9 @@
 //! Runs over rows that come in pieces: what is told, what is read, and what has been written by then.
 use crate::devices::{Counting, Cut, PIECES, Watched};
 use crate::limits::repeated;
-use crate::told::{FIRST, SCHEMA, plan_of, run_of_reader};
+use crate::told::{FIRST, SCHEMA, ends, plan_of, run_of_reader};
 use odata_filter::run;
+use std::alloc::{AllocError, Global};
 use std::cell::Cell;
 use std::test::Fail;
 
@@ -30,72 +31,72 @@ const ROWS: &[(&str, &str, &str, u8)] = &[
 
 /// The answer does not depend on how the rows come.
 #[test]
-fn answers_however_rows_come(rt: HostRuntime) {
+fn answers_however_rows_come(rt: HostRuntime) -> Result<(), Fail> {
     for &(rows, out, line, status) in ROWS {
         for &piece in PIECES {
             let reader = Cut {
                 reader: rows.as_bytes(),
                 piece,
             };
-            assert!(rt;
-                run_of_reader(rt.alloc(), reader).is(out, line, status),
-                "{piece} bytes at a time of {rows}"
-            );
+            ends(run_of_reader(rt.alloc(), reader), rows, out, line, status)?;
         }
     }
+    Ok(())
 }
 
 /// A faulty line is told before anything behind it is read.
 #[test]
-fn nothing_is_read_behind_a_faulty_line(rt: HostRuntime) {
+fn nothing_is_read_behind_a_faulty_line(rt: HostRuntime) -> Result<(), Fail> {
     let mut left = b"{}\n{\"ID\":1,\"Name\":\"a\",\"Active\":true}\n\n".as_slice();
     let reader = Cut {
         reader: &mut left,
         piece: 1,
     };
-    assert!(rt; run_of_reader(rt.alloc(), reader).is("", "row 1 Missing Active\n", 4));
+    let told = run_of_reader(rt.alloc(), reader);
     assert!(rt; left == b"{\"ID\":1,\"Name\":\"a\",\"Active\":true}\n\n".as_slice());
+    ends(told, "one byte at a time", "", "row 1 Missing Active\n", 4)
 }
 
 /// So many bytes at a time, of so many rows.
 const KEPT: &[(usize, usize)] = &[(1, 20), (2, 20), (7, 200), (usize::MAX, 4000)];
 
+/// Whether a run over so many rows that are all kept, so many bytes at a time, writes them all, those that came before the
+/// next read and in one call, and is flushed once.
+fn writes_early(alloc: Global, count: usize, piece: usize) -> Result<bool, AllocError> {
+    let rows = repeated(alloc, A, count)?;
+    let written = Cell::new(0);
+    let cut = Cut {
+        reader: rows.as_bytes(),
+        piece,
+    };
+    let mut reader = Watched::new(cut, &written);
+    let mut out = Counting {
+        bytes: &written,
+        writes: 0,
+        flushes: 0,
+    };
+    let mut err = Vec::new(alloc);
+    let plan = plan_of("Mini.Item", FIRST);
+    let status = run(
+        alloc,
+        &plan,
+        SCHEMA.as_bytes(),
+        Some(&mut reader),
+        &mut out,
+        &mut err,
+    );
+    let is_late = reader.is_early || reader.most_asked > 65_536;
+    let is_often = out.writes > reader.reads || out.flushes != 1;
+    Ok(status == 0 && !is_late && !is_often && written.get() == rows.len())
+}
+
 /// What is kept of the lines that came is written before the next read, in one call, and flushed once at the end.
 #[test]
 fn kept_rows_are_written_before_the_next_read(rt: HostRuntime) -> Result<(), Fail> {
     for &(piece, count) in KEPT {
-        let rows = repeated(rt.alloc(), A, count)?;
-        let written = Cell::new(0);
-        let cut = Cut {
-            reader: rows.as_bytes(),
-            piece,
-        };
-        let mut reader = Watched::new(cut, &written);
-        let mut out = Counting {
-            bytes: &written,
-            writes: 0,
-            flushes: 0,
-        };
-        let mut err = Vec::new(rt.alloc());
-        let plan = plan_of("Mini.Item", FIRST);
-        let status = run(
-            rt.alloc(),
-            &plan,
-            SCHEMA.as_bytes(),
-            Some(&mut reader),
-            &mut out,
-            &mut err,
-        );
-        assert_eq!(rt; status, 0);
-        assert!(rt;
-            !reader.is_early && reader.most_asked <= 65_536,
-            "{piece} bytes at a time"
-        );
-        assert_eq!(rt; written.get(), rows.len());
-        assert!(rt;
-            out.writes <= reader.reads && out.flushes == 1,
-            "{piece} bytes at a time"
-        );
+        if !writes_early(rt.alloc(), count, piece)? {
+            return Err(Fail::new(format_args!("{piece} bytes at a time")));
+        }
     }
     Ok(())
 }

@@ -1,7 +1,7 @@
 //! Rows of a type with properties of every kind (OData JSON Format 4.01, section 7): which are kept, and the line that is
 //! told of the first fault.
-use crate::told::{outcome_of, plan_of};
-use std::alloc::{AllocError, Global};
+use crate::told::{ends, outcome_of, plan_of};
+use std::alloc::Global;
 use std::test::Fail;
 
 const SHOP: &str =
@@ -34,14 +34,8 @@ const CHANGED: &[(&str, &str)] = &[
     (",\"Tags\":[\"a\",1]", "row 1 WrongKind Tags/1\n"),
 ];
 
-/// Whether a run ends with that line and status, or keeps the row where there is none.
-fn is_told(
-    alloc: Global,
-    filter: &str,
-    members: &str,
-    line: &str,
-    failed: u8,
-) -> Result<bool, AllocError> {
+/// Fails if a run does not end with that line and status, or does not keep the row where there is no line.
+fn is_told(alloc: Global, filter: &str, members: &str, line: &str, failed: u8) -> Result<(), Fail> {
     let row = format!(in alloc; "{PRODUCT}{members}}}\n")?;
     let (out, status) = if line.is_empty() {
         (row.as_str(), 0)
@@ -50,16 +44,14 @@ fn is_told(
     };
     let plan = plan_of("S.Product", filter);
     let told = outcome_of(alloc, SHOP, &plan, Some(row.as_bytes()));
-    Ok(told.is(out, line, status))
+    let at = if members.is_empty() { filter } else { members };
+    ends(told, at, out, line, status)
 }
 
 #[test]
 fn changed_products(rt: HostRuntime) -> Result<(), Fail> {
     for &(members, line) in CHANGED {
-        assert!(rt;
-            is_told(rt.alloc(), "ID eq 1", members, line, 4)?,
-            "at {members}"
-        );
+        is_told(rt.alloc(), "ID eq 1", members, line, 4)?;
     }
     Ok(())
 }
@@ -72,12 +64,13 @@ const ANOTHER_KIND: &[(&str, &str)] = &[
 ];
 
 #[test]
-fn rows_of_another_kind(rt: HostRuntime) {
+fn rows_of_another_kind(rt: HostRuntime) -> Result<(), Fail> {
     let plan = plan_of("Shop.Product", "ID eq 1");
     for &(row, line) in ANOTHER_KIND {
         let told = outcome_of(rt.alloc(), SHOP, &plan, Some(row.as_bytes()));
-        assert!(rt; told.is("", line, 4), "at {row}");
+        ends(told, row, "", line, 4)?;
     }
+    Ok(())
 }
 
 /// Filters that name what they may, and what they may not, with the line that is told of these.
@@ -94,7 +87,7 @@ const FILTERS: &[(&str, &str)] = &[
 #[test]
 fn filters_of_products(rt: HostRuntime) -> Result<(), Fail> {
     for &(filter, line) in FILTERS {
-        assert!(rt; is_told(rt.alloc(), filter, "", line, 1)?, "at {filter}");
+        is_told(rt.alloc(), filter, "", line, 1)?;
     }
     Ok(())
 }
@@ -107,10 +100,11 @@ const OTHER_TYPES: &[(&str, &str)] = &[
 ];
 
 #[test]
-fn types_that_are_not_filtered(rt: HostRuntime) {
+fn types_that_are_not_filtered(rt: HostRuntime) -> Result<(), Fail> {
     for &(named, line) in OTHER_TYPES {
         let plan = plan_of(named, "ID eq 1");
-        let told = outcome_of(rt.alloc(), SHOP, &plan, Some("".as_bytes()));
-        assert!(rt; told.is("", line, 3), "at {named}");
+        let told = outcome_of(rt.alloc(), SHOP, &plan, Some(b""));
+        ends(told, named, "", line, 3)?;
     }
+    Ok(())
 }

@@ -1,6 +1,7 @@
 //! Query strings in place of a filter: what is written, what is told, and the status.
-use crate::told::{SCHEMA, Told, outcome_of, plan_of};
+use crate::told::{SCHEMA, Told, ends, outcome_of, plan_of};
 use std::alloc::Global;
+use std::test::Fail;
 
 const A: &str = "{\"ID\":1,\"Name\":\"a+b&c\",\"Active\":true}\n";
 
@@ -26,13 +27,11 @@ const FILTERS: &[(&str, &str)] = &[
 ];
 
 #[test]
-fn the_filter_of_a_query(rt: HostRuntime) {
+fn the_filter_of_a_query(rt: HostRuntime) -> Result<(), Fail> {
     for &(query, out) in FILTERS {
-        assert!(rt;
-            run_by_query(rt.alloc(), query).is(out, "", 0),
-            "at {query}"
-        );
+        ends(run_by_query(rt.alloc(), query), query, out, "", 0)?;
     }
+    Ok(())
 }
 
 /// A query, and the line of its refusal.
@@ -52,34 +51,30 @@ const REFUSED: &[(&str, &str)] = &[
 ];
 
 #[test]
-fn refused_queries(rt: HostRuntime) {
+fn refused_queries(rt: HostRuntime) -> Result<(), Fail> {
     for &(query, line) in REFUSED {
-        assert!(rt;
-            run_by_query(rt.alloc(), query).is("", line, 1),
-            "at {query}"
-        );
+        ends(run_by_query(rt.alloc(), query), query, "", line, 1)?;
     }
+    Ok(())
 }
 
 /// Queries that ask for no filter.
 const WITHOUT_FILTER: &[&str] = &["", "x=1", "&&", "deltatoken=1&id=$filter"];
 
 #[test]
-fn queries_without_a_filter(rt: HostRuntime) {
+fn queries_without_a_filter(rt: HostRuntime) -> Result<(), Fail> {
     for &query in WITHOUT_FILTER {
-        assert!(rt;
-            run_by_query(rt.alloc(), query).is("", "usage no filter option\n", 2),
-            "at {query}"
-        );
+        let told = run_by_query(rt.alloc(), query);
+        ends(told, query, "", "usage no filter option\n", 2)?;
     }
+    Ok(())
 }
 
 #[test]
-fn a_query_is_read_behind_the_type(rt: HostRuntime) {
+fn a_query_is_read_behind_the_type(rt: HostRuntime) -> Result<(), Fail> {
     let mut plan = plan_of("Mini.Thing", "");
     plan.filter = None;
     plan.query = Some("x=%zz");
-    assert!(rt;
-        outcome_of(rt.alloc(), SCHEMA, &plan, None).is("", "schema UnknownType Mini.Thing\n", 3)
-    );
+    let told = outcome_of(rt.alloc(), SCHEMA, &plan, None);
+    ends(told, "no type", "", "schema UnknownType Mini.Thing\n", 3)
 }

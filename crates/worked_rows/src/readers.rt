@@ -1,9 +1,10 @@
 //! Readers that fail.
 use crate::devices::{Cut, PIECES};
-use crate::told::{Told, run_of_reader};
+use crate::told::{Told, ends, run_of_reader};
 use std::alloc::Global;
 use std::io;
 use std::io::Read;
+use std::test::Fail;
 
 const A: &str = "{\"ID\":1,\"Name\":\"a\",\"Active\":true}\n";
 
@@ -32,12 +33,14 @@ fn run_of_failing(alloc: Global, text: &[u8], piece: usize) -> Told {
 
 /// Two whole lines and a beginning of a third come, and then the reader fails.
 #[test]
-fn complete_lines_are_judged_before_a_failed_read(rt: HostRuntime) {
+fn complete_lines_are_judged_before_a_failed_read(rt: HostRuntime) -> Result<(), Fail> {
     let text =
         b"{\"ID\":1,\"Name\":\"a\",\"Active\":true}\n{\"ID\":1,\"Name\":\"b\",\"Active\":true}\n{\"ID\":1,";
     for &piece in PIECES {
-        assert!(rt; run_of_failing(rt.alloc(), text, piece).is(A, "read rows 3\n", 5));
+        let told = run_of_failing(rt.alloc(), text, piece);
+        ends(told, "two lines and a half", A, "read rows 3\n", 5)?;
     }
+    Ok(())
 }
 
 /// What comes behind a kept row and before the failure, the line that is told, and the status.
@@ -52,25 +55,33 @@ const BEHIND: &[(&str, &str, u8)] = &[
 
 /// A fault of a complete line goes before the failed read; a line that is not complete is not judged.
 #[test]
-fn a_faulty_line_goes_before_a_failed_read(rt: HostRuntime) {
+fn a_faulty_line_goes_before_a_failed_read(rt: HostRuntime) -> Result<(), Fail> {
     for &(behind, line, status) in BEHIND {
-        let mut text = Vec::new(rt.alloc());
-        assert!(rt; text.extend_from_slice(A.as_bytes()).is_ok());
-        assert!(rt; text.extend_from_slice(behind.as_bytes()).is_ok());
-        assert!(rt;
-            run_of_failing(rt.alloc(), text.as_slice(), 5).is(A, line, status),
-            "behind {behind}"
-        );
+        let text = format!(in rt.alloc(); "{A}{behind}")?;
+        let told = run_of_failing(rt.alloc(), text.as_bytes(), 5);
+        ends(told, behind, A, line, status)?;
     }
+    Ok(())
 }
 
-/// A run over rows of which some come, then a read fails, and then the others would come, with what is left of these.
-fn run_of_interrupted<'a>(alloc: Global, first: &[u8], behind: &'a [u8]) -> (Told, &'a [u8]) {
-    let mut left = behind;
+/// Fails if a run over rows, of which some come, then a read fails, and then the others would come, is told otherwise, or
+/// reads of the others.
+fn ends_at_failure(
+    alloc: Global,
+    first: &str,
+    behind: &str,
+    wanted: (&str, &str, u8),
+) -> Result<(), Fail> {
+    let mut left = behind.as_bytes();
     let failure = FailsOnce { has_failed: false };
-    let rows = first.chain(failure).chain(&mut left);
+    let rows = first.as_bytes().chain(failure).chain(&mut left);
     let told = run_of_reader(alloc, rows);
-    (told, left)
+    let (out, line, status) = wanted;
+    if left == behind.as_bytes() {
+        ends(told, first, out, line, status)
+    } else {
+        Err(Fail::new(format_args!("read on behind {first}")))
+    }
 }
 
 /// What comes before the failure, what would come behind it, what is written, the line that is told, and the status.
@@ -91,10 +102,9 @@ const INTERRUPTED: &[(&str, &str, &str, &str, u8)] = &[
 
 /// A failed read is not tried again: what the reader would give behind it is not read.
 #[test]
-fn nothing_is_read_behind_a_failed_read(rt: HostRuntime) {
+fn nothing_is_read_behind_a_failed_read(rt: HostRuntime) -> Result<(), Fail> {
     for &(first, behind, out, line, status) in INTERRUPTED {
-        let (told, left) = run_of_interrupted(rt.alloc(), first.as_bytes(), behind.as_bytes());
-        assert!(rt; told.is(out, line, status), "behind {first}");
-        assert!(rt; left == behind.as_bytes(), "behind {first}");
+        ends_at_failure(rt.alloc(), first, behind, (out, line, status))?;
     }
+    Ok(())
 }

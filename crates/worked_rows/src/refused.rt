@@ -36,8 +36,11 @@ const THREE: &str =
 
 const BEHIND: &str = "\n{\"Name\":\"a\",\"On\":true}\n";
 
-fn told(is_refused: bool) -> &'static str {
-    if is_refused { "no memory" } else { "ample" }
+/// Prints whether a call was refused memory.
+fn tell(rt: &impl Print, call: &str, is_refused: bool) -> Result<(), Fail> {
+    let told = if is_refused { "no memory" } else { "ample" };
+    println!(rt; "{call} {told}")?;
+    Ok(())
 }
 
 fn schema_of(alloc: Global) -> Result<Schema, SchemaFault> {
@@ -100,8 +103,7 @@ fn schema_is_refused(alloc: Global) -> Result<bool, Fail> {
 #[test]
 fn schemas(rt: HostRuntime) -> Result<(), Fail> {
     let is_refused = schema_is_refused(rt.alloc())?;
-    println!(rt; "schema_read {}", told(is_refused))?;
-    Ok(())
+    tell(&rt, "schema_read", is_refused)
 }
 
 /// Whether a faulty document was refused memory; otherwise its fault is told.
@@ -122,18 +124,14 @@ fn faulty_schema_is_refused(alloc: Global) -> Result<bool, Fail> {
 #[test]
 fn faulty_schemas(rt: HostRuntime) -> Result<(), Fail> {
     let is_refused = faulty_schema_is_refused(rt.alloc())?;
-    println!(rt; "schema_read_of_fault {}", told(is_refused))?;
-    Ok(())
+    tell(&rt, "schema_read_of_fault", is_refused)
 }
 
 /// Whether a filter was refused memory; otherwise it has all its nodes.
-fn filter_is_refused(alloc: Global) -> Result<bool, Fail> {
-    let schema = schema_of(alloc)?;
-    let id = schema.type_named("N.T").ok_or("the type")?;
-    if !schema.holds(id) {
-        return Err(Fail::from("no type"));
-    }
-    match check(alloc, &schema, id, FILTER) {
+fn filter_is_refused(alloc: Global, schema: &Schema, id: TypeId) -> Result<bool, Fail>
+    requires { HoldsType schema.now id }
+{
+    match check(alloc, schema, id, FILTER) {
         Ok(checked) => {
             if checked.node_count() == 12 {
                 Ok(false)
@@ -146,21 +144,11 @@ fn filter_is_refused(alloc: Global) -> Result<bool, Fail> {
     }
 }
 
-#[test]
-fn filters(rt: HostRuntime) -> Result<(), Fail> {
-    let is_refused = filter_is_refused(rt.alloc())?;
-    println!(rt; "check {}", told(is_refused))?;
-    Ok(())
-}
-
 /// Whether an untypable filter was refused memory; otherwise its fault is told.
-fn untypable_filter_is_refused(alloc: Global) -> Result<bool, Fail> {
-    let schema = schema_of(alloc)?;
-    let id = schema.type_named("N.T").ok_or("the type")?;
-    if !schema.holds(id) {
-        return Err(Fail::from("no type"));
-    }
-    match check(alloc, &schema, id, "On and Name") {
+fn untypable_filter_is_refused(alloc: Global, schema: &Schema, id: TypeId) -> Result<bool, Fail>
+    requires { HoldsType schema.now id }
+{
+    match check(alloc, schema, id, "On and Name") {
         Err(Refusal::Memory) => Ok(true),
         Err(Refusal::Typing(TypeFault { code, span })) => {
             if code == TypeFaultCode::OperandTypes && span.start == 0 && span.stop == 11 {
@@ -171,13 +159,6 @@ fn untypable_filter_is_refused(alloc: Global) -> Result<bool, Fail> {
         }
         _ => Err(Fail::from("another answer")),
     }
-}
-
-#[test]
-fn untypable_filters(rt: HostRuntime) -> Result<(), Fail> {
-    let is_refused = untypable_filter_is_refused(rt.alloc())?;
-    println!(rt; "check_of_fault {}", told(is_refused))?;
-    Ok(())
 }
 
 fn is_kept_row(value: &Value) -> bool {
@@ -191,14 +172,11 @@ fn is_kept_row(value: &Value) -> bool {
 }
 
 /// Whether a row was refused memory; otherwise its values are there.
-fn row_is_refused(alloc: Global) -> Result<bool, Fail> {
-    let schema = schema_of(alloc)?;
-    let id = schema.type_named("N.T").ok_or("the type")?;
-    if !schema.holds(id) {
-        return Err(Fail::from("no type"));
-    }
+fn row_is_refused(alloc: Global, schema: &Schema, id: TypeId) -> Result<bool, Fail>
+    requires { HoldsType schema.now id }
+{
     let row = json_of(alloc, KEPT)?;
-    match Entity::from_json(alloc, &schema, id, &row) {
+    match Entity::from_json(alloc, schema, id, &row) {
         Ok(entity) => {
             if is_kept_row(entity.value()) {
                 Ok(false)
@@ -211,22 +189,12 @@ fn row_is_refused(alloc: Global) -> Result<bool, Fail> {
     }
 }
 
-#[test]
-fn entities(rt: HostRuntime) -> Result<(), Fail> {
-    let is_refused = row_is_refused(rt.alloc())?;
-    println!(rt; "from_json {}", told(is_refused))?;
-    Ok(())
-}
-
 /// Whether a faulty row was refused memory; otherwise its fault is told.
-fn faulty_row_is_refused(alloc: Global) -> Result<bool, Fail> {
-    let schema = schema_of(alloc)?;
-    let id = schema.type_named("N.T").ok_or("the type")?;
-    if !schema.holds(id) {
-        return Err(Fail::from("no type"));
-    }
+fn faulty_row_is_refused(alloc: Global, schema: &Schema, id: TypeId) -> Result<bool, Fail>
+    requires { HoldsType schema.now id }
+{
     let row = json_of(alloc, "{\"Name\":\"a\"}")?;
-    match Entity::from_json(alloc, &schema, id, &row) {
+    match Entity::from_json(alloc, schema, id, &row) {
         Err(RowFault::Memory) => Ok(true),
         Err(RowFault::Missing { path }) => {
             if path.as_str() == "On" {
@@ -239,38 +207,23 @@ fn faulty_row_is_refused(alloc: Global) -> Result<bool, Fail> {
     }
 }
 
-#[test]
-fn faulty_rows(rt: HostRuntime) -> Result<(), Fail> {
-    let is_refused = faulty_row_is_refused(rt.alloc())?;
-    println!(rt; "from_json_of_fault {}", told(is_refused))?;
-    Ok(())
-}
-
 /// The beginning of the year 1 by UTC.
 fn moment() -> Result<Moment, Fail> {
     let moment = Moment::new(civil::date(1, 1, 1).at(0, 0, 0, 0), 0).ok_or("a moment")?;
     Ok(moment)
 }
 
-/// What the filter says of the kept row.
-fn verdict_of(alloc: Global) -> Result<Verdict, Fail> {
-    let schema = schema_of(alloc)?;
-    let id = schema.type_named("N.T").ok_or("the type")?;
-    if !schema.holds(id) {
-        return Err(Fail::from("no type"));
-    }
-    let checked = filter_of(alloc, &schema, id)?;
+/// Whether the filter keeps the row, with ample memory.
+fn verdict_is_refused(alloc: Global, schema: &Schema, id: TypeId) -> Result<bool, Fail>
+    requires { HoldsType schema.now id }
+{
+    let checked = filter_of(alloc, schema, id)?;
     let row = json_of(alloc, KEPT)?;
-    let entity = entity_of(alloc, &schema, id, &row)?;
-    Ok(evaluate(alloc, &checked, &entity, &moment()?)?)
-}
-
-#[test]
-fn verdicts(rt: HostRuntime) -> Result<(), Fail> {
-    let verdict = verdict_of(rt.alloc())?;
-    assert!(rt; verdict == Verdict::True);
-    println!(rt; "evaluate ample")?;
-    Ok(())
+    let entity = entity_of(alloc, schema, id, &row)?;
+    match evaluate(alloc, &checked, &entity, &moment()?)? {
+        Verdict::True => Ok(false),
+        _ => Err(Fail::from("another verdict")),
+    }
 }
 
 /// What is written of the rows before a line: 1, 3 and 5 are kept, 2 is left out, and 4 is blank.
@@ -389,13 +342,10 @@ enum Run {
 }
 
 /// Whether this was refused memory.
-fn run_is_refused(alloc: Global, run: Run) -> Result<bool, Fail> {
-    let schema = schema_of(alloc)?;
-    let id = schema.type_named("N.T").ok_or("the type")?;
-    if !schema.holds(id) {
-        return Err(Fail::from("no type"));
-    }
-    let checked = filter_of(alloc, &schema, id)?;
+fn run_is_refused(alloc: Global, schema: &Schema, id: TypeId, run: Run) -> Result<bool, Fail>
+    requires { HoldsType schema.now id }
+{
+    let checked = filter_of(alloc, schema, id)?;
     match run {
         Run::Lines => lines_are_refused(alloc, &checked),
         Run::FaultyLines => faulty_lines_are_refused(alloc, &checked),
@@ -403,25 +353,86 @@ fn run_is_refused(alloc: Global, run: Run) -> Result<bool, Fail> {
     }
 }
 
+/// What is asked of a schema.
+#[derive(Clone, Copy)]
+enum Call {
+    Filter,
+    UntypableFilter,
+    Row,
+    FaultyRow,
+    Verdict,
+    Run(Run),
+}
+
+/// Whether the call was refused memory, of the schema's type.
+fn call_is_refused(alloc: Global, schema: &Schema, id: TypeId, call: Call) -> Result<bool, Fail>
+    requires { HoldsType schema.now id }
+{
+    match call {
+        Call::Filter => filter_is_refused(alloc, schema, id),
+        Call::UntypableFilter => untypable_filter_is_refused(alloc, schema, id),
+        Call::Row => row_is_refused(alloc, schema, id),
+        Call::FaultyRow => faulty_row_is_refused(alloc, schema, id),
+        Call::Verdict => verdict_is_refused(alloc, schema, id),
+        Call::Run(run) => run_is_refused(alloc, schema, id, run),
+    }
+}
+
+/// Whether the call was refused memory.
+fn is_refused(alloc: Global, call: Call) -> Result<bool, Fail> {
+    let schema = schema_of(alloc)?;
+    match schema.type_named("N.T") {
+        Some(id) if schema.holds(id) => call_is_refused(alloc, &schema, id, call),
+        _ => Err(Fail::from("no type")),
+    }
+}
+
+#[test]
+fn filters(rt: HostRuntime) -> Result<(), Fail> {
+    let is_refused = is_refused(rt.alloc(), Call::Filter)?;
+    tell(&rt, "check", is_refused)
+}
+
+#[test]
+fn untypable_filters(rt: HostRuntime) -> Result<(), Fail> {
+    let is_refused = is_refused(rt.alloc(), Call::UntypableFilter)?;
+    tell(&rt, "check_of_fault", is_refused)
+}
+
+#[test]
+fn entities(rt: HostRuntime) -> Result<(), Fail> {
+    let is_refused = is_refused(rt.alloc(), Call::Row)?;
+    tell(&rt, "from_json", is_refused)
+}
+
+#[test]
+fn faulty_rows(rt: HostRuntime) -> Result<(), Fail> {
+    let is_refused = is_refused(rt.alloc(), Call::FaultyRow)?;
+    tell(&rt, "from_json_of_fault", is_refused)
+}
+
+#[test]
+fn verdicts(rt: HostRuntime) -> Result<(), Fail> {
+    let is_refused = is_refused(rt.alloc(), Call::Verdict)?;
+    tell(&rt, "evaluate", is_refused)
+}
+
 /// The fourth line is so long that the buffer of what is read grows a second time.
 #[test]
 fn lines(rt: HostRuntime) -> Result<(), Fail> {
-    let is_refused = run_is_refused(rt.alloc(), Run::Lines)?;
-    println!(rt; "filter_lines {}", told(is_refused))?;
-    Ok(())
+    let is_refused = is_refused(rt.alloc(), Call::Run(Run::Lines))?;
+    tell(&rt, "filter_lines", is_refused)
 }
 
 /// The rows run on behind the faulty line, longer than the buffer of what is read: the line is judged before that grows.
 #[test]
 fn faulty_lines(rt: HostRuntime) -> Result<(), Fail> {
-    let is_refused = run_is_refused(rt.alloc(), Run::FaultyLines)?;
-    println!(rt; "filter_lines_of_fault {}", told(is_refused))?;
-    Ok(())
+    let is_refused = is_refused(rt.alloc(), Call::Run(Run::FaultyLines))?;
+    tell(&rt, "filter_lines_of_fault", is_refused)
 }
 
 #[test]
 fn collections(rt: HostRuntime) -> Result<(), Fail> {
-    let is_refused = run_is_refused(rt.alloc(), Run::Collection)?;
-    println!(rt; "filter_collection {}", told(is_refused))?;
-    Ok(())
+    let is_refused = is_refused(rt.alloc(), Call::Run(Run::Collection))?;
+    tell(&rt, "filter_collection", is_refused)
 }

@@ -1,23 +1,47 @@
 //! Filters and rows of one entity type: what is written, what is told, and the status.
-use crate::told::{FIRST, SCHEMA, outcome_of, plan_of, run_of};
+use crate::told::{FIRST, SCHEMA, ends, outcome_of, plan_of, run_of};
 use odata_filter::command_line::{Plan, Verb};
 use std::alloc::Global;
+use std::test::Fail;
 
 const A: &str = "{\"ID\":1,\"Name\":\"a\",\"Active\":true}\n";
 
 const B: &str = "{\"ID\":1,\"Name\":\"b\",\"Active\":true}\n";
 
-#[test]
-fn the_first_run(rt: HostRuntime) {
-    let rows =
-        b"{\"ID\":1,\"Name\":\"a\",\"Active\":true}\n{\"ID\":1,\"Name\":\"b\",\"Active\":true}\n{\"ID\":2,\"Name\":\"a\",\"Active\":false}\n";
-    assert!(rt; run_of(rt.alloc(), FIRST, rows).is(A, "", 0));
-}
+/// A filter, rows, what is written of them, the line that is told, and the status.
+const RUNS: &[(&str, &str, &str, &str, u8)] = &[
+    (
+        FIRST,
+        "{\"ID\":1,\"Name\":\"a\",\"Active\":true}\n{\"ID\":1,\"Name\":\"b\",\"Active\":true}\n{\"ID\":2,\"Name\":\"a\",\"Active\":false}\n",
+        A,
+        "",
+        0,
+    ),
+    (
+        "Name eq 'O''Neil'",
+        "{\"ID\":1,\"Name\":\"O'Neil\",\"Active\":true}\n",
+        "{\"ID\":1,\"Name\":\"O'Neil\",\"Active\":true}\n",
+        "",
+        0,
+    ),
+    (
+        FIRST,
+        "{\"ID\":1,\"Name\":\"a\",\"Active\":true}\n\n{}\n{\"ID\":1,\"Name\":\"a\",\"Active\":true}\n",
+        A,
+        "row 3 Missing Active\n",
+        4,
+    ),
+    ("Name eq 'b'", B, B, "", 0),
+];
 
+/// The first run; a doubled quote is one; kept lines before a fault stay.
 #[test]
-fn a_doubled_quote_is_one(rt: HostRuntime) {
-    let row = "{\"ID\":1,\"Name\":\"O'Neil\",\"Active\":true}\n";
-    assert!(rt; run_of(rt.alloc(), "Name eq 'O''Neil'", row.as_bytes()).is(row, "", 0));
+fn runs(rt: HostRuntime) -> Result<(), Fail> {
+    for &(filter, rows, out, line, status) in RUNS {
+        let told = run_of(rt.alloc(), filter, rows.as_bytes());
+        ends(told, rows, out, line, status)?;
+    }
+    Ok(())
 }
 
 /// Filters that are refused, with the line that is told.
@@ -54,11 +78,12 @@ const REFUSED: &[(&str, &str)] = &[
 ];
 
 #[test]
-fn refused_filters(rt: HostRuntime) {
+fn refused_filters(rt: HostRuntime) -> Result<(), Fail> {
     for &(filter, line) in REFUSED {
         let told = run_of(rt.alloc(), filter, A.as_bytes());
-        assert!(rt; told.is("", line, 1), "at {filter}");
+        ends(told, filter, "", line, 1)?;
     }
+    Ok(())
 }
 
 /// Filters that are accepted, and whether they keep the row.
@@ -79,12 +104,13 @@ const ACCEPTED: &[(&str, bool)] = &[
 ];
 
 #[test]
-fn accepted_filters(rt: HostRuntime) {
+fn accepted_filters(rt: HostRuntime) -> Result<(), Fail> {
     for &(filter, is_kept) in ACCEPTED {
         let out = if is_kept { A } else { "" };
         let told = run_of(rt.alloc(), filter, A.as_bytes());
-        assert!(rt; told.is(out, "", 0), "at {filter}");
+        ends(told, filter, out, "", 0)?;
     }
+    Ok(())
 }
 
 /// Rows at fault, with the line that is told.
@@ -104,13 +130,19 @@ const FAULTY: &[(&str, &str)] = &[
     ("\u{feff}{}", "row 1 Json\n"),
 ];
 
-#[test]
-fn faulty_rows(rt: HostRuntime) {
-    for &(row, line) in FAULTY {
-        let told = run_of(rt.alloc(), FIRST, row.as_bytes());
-        assert!(rt; told.is("", line, 4), "at {row}");
+/// Fails at the first row at fault of which another line is told.
+fn rows_fail(alloc: Global, rows: &[(&str, &str)]) -> Result<(), Fail> {
+    for &(row, line) in rows {
+        ends(run_of(alloc, FIRST, row.as_bytes()), row, "", line, 4)?;
     }
-    assert!(rt; run_of(rt.alloc(), FIRST, b"\xff\n").is("", "row 1 Json\n", 4));
+    Ok(())
+}
+
+#[test]
+fn faulty_rows(rt: HostRuntime) -> Result<(), Fail> {
+    let told = run_of(rt.alloc(), FIRST, b"\xff\n");
+    ends(told, "no text", "", "row 1 Json\n", 4)?;
+    rows_fail(rt.alloc(), FAULTY)
 }
 
 /// Rows whose number does not fit.
@@ -138,18 +170,8 @@ const FAULTY_NUMBERS: &[(&str, &str)] = &[
 ];
 
 #[test]
-fn faulty_numbers(rt: HostRuntime) {
-    for &(row, line) in FAULTY_NUMBERS {
-        let told = run_of(rt.alloc(), FIRST, row.as_bytes());
-        assert!(rt; told.is("", line, 4), "at {row}");
-    }
-}
-
-#[test]
-fn kept_lines_before_a_fault_stay(rt: HostRuntime) {
-    let rows =
-        b"{\"ID\":1,\"Name\":\"a\",\"Active\":true}\n\n{}\n{\"ID\":1,\"Name\":\"a\",\"Active\":true}\n";
-    assert!(rt; run_of(rt.alloc(), FIRST, rows).is(A, "row 3 Missing Active\n", 4));
+fn faulty_numbers(rt: HostRuntime) -> Result<(), Fail> {
+    rows_fail(rt.alloc(), FAULTY_NUMBERS)
 }
 
 /// Rows, and what is written of them.
@@ -172,12 +194,12 @@ const LINES: &[(&str, &str)] = &[
 ];
 
 #[test]
-fn lines_and_their_ends(rt: HostRuntime) {
+fn lines_and_their_ends(rt: HostRuntime) -> Result<(), Fail> {
     for &(rows, out) in LINES {
         let told = run_of(rt.alloc(), FIRST, rows.as_bytes());
-        assert!(rt; told.is(out, "", 0), "at {rows}");
+        ends(told, rows, out, "", 0)?;
     }
-    assert!(rt; run_of(rt.alloc(), "Name eq 'b'", B.as_bytes()).is(B, "", 0));
+    Ok(())
 }
 
 /// Documents that are no schema, or none with the type, and the line that is told.
@@ -213,36 +235,38 @@ const SCHEMAS: &[(&str, &str)] = &[
 ];
 
 #[test]
-fn schemas_types_and_files(rt: HostRuntime) {
+fn schemas(rt: HostRuntime) -> Result<(), Fail> {
     let plan = plan_of("Mini.Item", FIRST);
     for &(schema, line) in SCHEMAS {
         let told = outcome_of(rt.alloc(), schema, &plan, Some(A.as_bytes()));
-        assert!(rt; told.is("", line, 3), "at {schema}");
+        ends(told, schema, "", line, 3)?;
     }
-    let unknown = plan_of("Mini.Thing", FIRST);
-    assert!(rt;
-        outcome_of(rt.alloc(), SCHEMA, &unknown, Some(A.as_bytes())).is(
-            "",
-            "schema UnknownType Mini.Thing\n",
-            3
-        )
-    );
-    assert!(rt; outcome_of(rt.alloc(), SCHEMA, &plan, None).is("", "read rows.json\n", 5));
-}
-
-/// The line and status 2 of a plan that is none to filter rows by a filter's text.
-fn is_misused(alloc: Global, plan: &Plan<'_>, line: &str) -> bool {
-    outcome_of(alloc, SCHEMA, plan, Some(A.as_bytes())).is("", line, 2)
+    Ok(())
 }
 
 #[test]
-fn what_is_still_to_come(rt: HostRuntime) {
+fn types_and_files(rt: HostRuntime) -> Result<(), Fail> {
+    let unknown = plan_of("Mini.Thing", FIRST);
+    let told = outcome_of(rt.alloc(), SCHEMA, &unknown, Some(A.as_bytes()));
+    ends(told, "no type", "", "schema UnknownType Mini.Thing\n", 3)?;
+    let told = outcome_of(rt.alloc(), SCHEMA, &plan_of("Mini.Item", FIRST), None);
+    ends(told, "no rows", "", "read rows.json\n", 5)
+}
+
+/// Fails if another line or status than 2 is told of a plan that is none to filter rows by a filter's text.
+fn is_misused(alloc: Global, plan: &Plan<'_>, line: &str) -> Result<(), Fail> {
+    let told = outcome_of(alloc, SCHEMA, plan, Some(A.as_bytes()));
+    ends(told, line, "", line, 2)
+}
+
+#[test]
+fn what_is_still_to_come(rt: HostRuntime) -> Result<(), Fail> {
     let mut plan = plan_of("Mini.Item", FIRST);
     plan.verb = Verb::Explain;
-    assert!(rt; is_misused(rt.alloc(), &plan, "usage explain is still to come\n"));
+    is_misused(rt.alloc(), &plan, "usage explain is still to come\n")?;
     plan.verb = Verb::Filter;
     plan.now = Some("2020-01-01T00:00:00Z");
-    assert!(rt; is_misused(rt.alloc(), &plan, "usage now is still to come\n"));
+    is_misused(rt.alloc(), &plan, "usage now is still to come\n")
 }
 
 /// What `check` says of each filter, and its status.
@@ -261,69 +285,91 @@ const CHECKED: &[(&str, &str, u8)] = &[
     ("Name eq 'a", "refused UnclosedString 8..10\n", 1),
 ];
 
-/// Whether `check` says that, whether there are rows or not.
-fn is_checked(alloc: Global, filter: &str, line: &str, status: u8) -> bool {
+/// Fails if `check` says something else, where there are rows or where there are none.
+fn is_checked(alloc: Global, filter: &str, line: &str, status: u8) -> Result<(), Fail> {
     let mut plan = plan_of("Mini.Item", filter);
     plan.verb = Verb::Check;
     plan.rows = None;
-    outcome_of(alloc, SCHEMA, &plan, None).is(line, "", status)
-        && outcome_of(alloc, SCHEMA, &plan, Some(A.as_bytes())).is(line, "", status)
+    let without_rows = outcome_of(alloc, SCHEMA, &plan, None);
+    ends(without_rows, filter, line, "", status)?;
+    let with_rows = outcome_of(alloc, SCHEMA, &plan, Some(A.as_bytes()));
+    ends(with_rows, filter, line, "", status)
 }
 
 #[test]
-fn checks(rt: HostRuntime) {
+fn checks(rt: HostRuntime) -> Result<(), Fail> {
     for &(filter, line, status) in CHECKED {
-        assert!(rt; is_checked(rt.alloc(), filter, line, status), "of {filter}");
+        is_checked(rt.alloc(), filter, line, status)?;
     }
+    Ok(())
 }
 
-/// Checks by a type that is not there, and by queries.
+/// A query, what `check` says of it, the line that is told beside, and the status.
+const QUERIES: &[(&str, &str, &str, u8)] = &[
+    ("$filter=%zz", "refused query BadEscape 8\n", "", 1),
+    ("a=1", "", "usage no filter option\n", 2),
+];
+
+/// Checks by queries.
 #[test]
-fn checks_of_other_plans(rt: HostRuntime) {
+fn checks_of_queries(rt: HostRuntime) -> Result<(), Fail> {
+    for &(query, out, line, status) in QUERIES {
+        let mut plan = plan_of("Mini.Item", "");
+        plan.verb = Verb::Check;
+        plan.filter = None;
+        plan.query = Some(query);
+        ends(
+            outcome_of(rt.alloc(), SCHEMA, &plan, None),
+            query,
+            out,
+            line,
+            status,
+        )?;
+    }
+    Ok(())
+}
+
+/// A check by a type that is not there.
+#[test]
+fn a_check_by_no_type(rt: HostRuntime) -> Result<(), Fail> {
     let mut plan = plan_of("Mini.Other", FIRST);
     plan.verb = Verb::Check;
-    assert!(rt;
-        outcome_of(rt.alloc(), SCHEMA, &plan, None).is("", "schema UnknownType Mini.Other\n", 3)
-    );
-    plan.filter = None;
-    plan.query = Some("$filter=%zz");
-    plan.named = "Mini.Item";
-    assert!(rt;
-        outcome_of(rt.alloc(), SCHEMA, &plan, None).is("refused query BadEscape 8\n", "", 1)
-    );
-    plan.query = Some("a=1");
-    assert!(rt; outcome_of(rt.alloc(), SCHEMA, &plan, None).is("", "usage no filter option\n", 2));
+    let told = outcome_of(rt.alloc(), SCHEMA, &plan, None);
+    ends(told, "no type", "", "schema UnknownType Mini.Other\n", 3)
 }
 
 #[test]
-fn one_of_filter_and_query(rt: HostRuntime) {
+fn one_of_filter_and_query(rt: HostRuntime) -> Result<(), Fail> {
+    let line = "usage give one of filter and query\n";
     let mut plan = plan_of("Mini.Item", FIRST);
     plan.query = Some("$filter=true");
-    assert!(rt; is_misused(rt.alloc(), &plan, "usage give one of filter and query\n"));
-    let before_schema = outcome_of(rt.alloc(), "{", &plan, None);
-    assert!(rt; before_schema.is("", "usage give one of filter and query\n", 2));
+    is_misused(rt.alloc(), &plan, line)?;
+    ends(
+        outcome_of(rt.alloc(), "{", &plan, None),
+        "before the schema",
+        "",
+        line,
+        2,
+    )?;
     plan.query = None;
     plan.filter = None;
-    assert!(rt; is_misused(rt.alloc(), &plan, "usage give one of filter and query\n"));
+    is_misused(rt.alloc(), &plan, line)
 }
 
+/// Filters by the alias of the namespace, what is written, the line that is told, and the status.
+const BY_ALIAS: &[(&str, &str, &str, u8)] = &[
+    ("ID eq 1", "{\"ID\":1,\"Price\":1.5}\n", "", 0),
+    ("Price eq 1", "", "refused TypeLeftOut 0..5\n", 1),
+];
+
 #[test]
-fn an_alias_names_its_namespace(rt: HostRuntime) {
+fn an_alias_names_its_namespace(rt: HostRuntime) -> Result<(), Fail> {
     let schema =
         "{\"$Version\":\"4.0\",\"Mini\":{\"$Alias\":\"M\",\"Item\":{\"$Kind\":\"EntityType\",\"ID\":{\"$Type\":\"Edm.Int32\"},\"Price\":{\"$Type\":\"Edm.Decimal\"}}}}";
-    let row = "{\"ID\":1,\"Price\":1.5}\n";
-    let kept = outcome_of(
-        rt.alloc(),
-        schema,
-        &plan_of("M.Item", "ID eq 1"),
-        Some(row.as_bytes()),
-    );
-    assert!(rt; kept.is(row, "", 0));
-    let opaque = outcome_of(
-        rt.alloc(),
-        schema,
-        &plan_of("M.Item", "Price eq 1"),
-        Some(row.as_bytes()),
-    );
-    assert!(rt; opaque.is("", "refused TypeLeftOut 0..5\n", 1));
+    let row = b"{\"ID\":1,\"Price\":1.5}\n";
+    for &(filter, out, line, status) in BY_ALIAS {
+        let told = outcome_of(rt.alloc(), schema, &plan_of("M.Item", filter), Some(row));
+        ends(told, filter, out, line, status)?;
+    }
+    Ok(())
 }

@@ -3,6 +3,7 @@ use odata_filter::command_line::{Plan, Verb};
 use odata_filter::run;
 use std::alloc::Global;
 use std::io::Read;
+use std::test::Fail;
 
 pub const SCHEMA: &str =
     "{\"$Version\":\"4.01\",\"Mini\":{\"Item\":{\"$Kind\":\"EntityType\",\"ID\":{\"$Type\":\"Edm.Int32\"},\"Name\":{},\"Active\":{\"$Type\":\"Edm.Boolean\"}}}}";
@@ -71,4 +72,14 @@ pub(crate) fn run_of_reader<R: Read + Drop>(alloc: Global, rows: R) -> Told {
         &mut err,
     );
     Told { out, err, status }
+}
+
+/// Fails if a run told something else: `at` says which.
+pub(crate) fn ends(told: Told, at: &str, out: &str, err: &str, status: u8) -> Result<(), Fail> {
+    if told.is(out, err, status) {
+        Ok(())
+    } else {
+        let ended = told.status;
+        Err(Fail::new(format_args!("status {ended}, not {status} or other texts: {at}")))
+    }
 }

@@ -51,7 +51,7 @@ impl Write for FailingWriter {
     }
 }
 
-/// Whether a run over these rows tells this line and status, and the writer has got this text by then.
+/// Fails if a run over these rows tells another line or status, or the writer has got another text by then.
 fn is_written(
     alloc: Global,
     rows: &str,
@@ -59,7 +59,7 @@ fn is_written(
     out: &[u8],
     line: &str,
     status: u8,
-) -> bool {
+) -> Result<(), Fail> {
     let mut err = Vec::new(alloc);
     let plan = plan_of("Mini.Item", FIRST);
     let ended = run(
@@ -70,7 +70,14 @@ fn is_written(
         &mut writer,
         &mut err,
     );
-    ended == status && writer.taken.as_slice() == out && err.as_slice() == line.as_bytes()
+    let is_wanted = ended == status
+        && writer.taken.as_slice() == out
+        && err.as_slice() == line.as_bytes();
+    if is_wanted {
+        Ok(())
+    } else {
+        Err(Fail::new(format_args!("status {ended}: {line}")))
+    }
 }
 
 /// A writer's room, and what it does once this is filled.
@@ -95,10 +102,7 @@ fn a_failed_write_is_told(rt: HostRuntime) -> Result<(), Fail> {
             flush_fails: false,
         };
         let out = A_TWICE.as_bytes().get(..room).ok_or("the beginning")?;
-        assert!(rt;
-            is_written(rt.alloc(), THREE, writer, out, "write\n", 5),
-            "at {room}"
-        );
+        is_written(rt.alloc(), THREE, writer, out, "write\n", 5)?;
     }
     Ok(())
 }
@@ -108,7 +112,7 @@ const TAKEN: &[usize] = &[1, 33, 34, 100];
 
 /// The room of a writer is just what is written, and each call takes few bytes of it.
 #[test]
-fn a_writer_that_takes_little_gets_all(rt: HostRuntime) {
+fn a_writer_that_takes_little_gets_all(rt: HostRuntime) -> Result<(), Fail> {
     for &piece in TAKEN {
         let writer = FailingWriter {
             taken: Vec::new(rt.alloc()),
@@ -117,11 +121,9 @@ fn a_writer_that_takes_little_gets_all(rt: HostRuntime) {
             filled: Filled::Fails,
             flush_fails: false,
         };
-        assert!(rt;
-            is_written(rt.alloc(), THREE, writer, A_TWICE.as_bytes(), "", 0),
-            "at {piece}"
-        );
+        is_written(rt.alloc(), THREE, writer, A_TWICE.as_bytes(), "", 0)?;
     }
+    Ok(())
 }
 
 /// Rows, what is written of them, the line that is told, and the status.
@@ -135,7 +137,7 @@ const FLUSHED: &[(&str, &str, &str, u8)] = &[
 
 /// The flush that ends a run without a fault: what was written stays. Behind a fault it changes nothing of what is told.
 #[test]
-fn a_failed_flush_is_told(rt: HostRuntime) {
+fn a_failed_flush_is_told(rt: HostRuntime) -> Result<(), Fail> {
     for &(rows, out, line, status) in FLUSHED {
         let writer = FailingWriter {
             taken: Vec::new(rt.alloc()),
@@ -144,9 +146,7 @@ fn a_failed_flush_is_told(rt: HostRuntime) {
             filled: Filled::Fails,
             flush_fails: true,
         };
-        assert!(rt;
-            is_written(rt.alloc(), rows, writer, out.as_bytes(), line, status),
-            "at {rows}"
-        );
+        is_written(rt.alloc(), rows, writer, out.as_bytes(), line, status)?;
     }
+    Ok(())
 }
