@@ -2,6 +2,7 @@ use csdl_schema::{Schema, TypeId};
 use edm_entities::{Entity, RowReader};
 use serde_json::Value as Json;
 use std::alloc::{AllocError, Global};
+use std::test::Fail;
 
 /// `entity`, or the fault with its path, of a row of the type of that name. The row is read without a tree too, and
 /// where that does not agree, this is told.
@@ -55,5 +56,38 @@ fn without_tree(
             }
         }
         None => "entity by the tree alone".to_owned(alloc),
+    }
+}
+
+/// Fails at the first text that makes a row, between `before` and `behind`, with another answer, of the type of a document.
+pub(crate) fn answers(
+    alloc: Global,
+    document: &str,
+    name: &str,
+    pieces: (&str, &str),
+    rows: &[(&str, &str)],
+) -> Result<(), Fail> {
+    let schema = Schema::read(alloc, document.as_bytes())?;
+    let (before, behind) = pieces;
+    for &(piece, wanted) in rows {
+        let row = format!(in alloc; "{before}{piece}{behind}")?;
+        is_answered(alloc, &schema, name, row.as_str(), wanted)?;
+    }
+    Ok(())
+}
+
+/// Fails if the answer to a row is another.
+fn is_answered(
+    alloc: Global,
+    schema: &Schema,
+    name: &str,
+    row: &str,
+    wanted: &str,
+) -> Result<(), Fail> {
+    let told = answer(alloc, schema, name, row)?;
+    if told.as_str() == wanted {
+        Ok(())
+    } else {
+        Err(Fail::new(format_args!("{told}, not {wanted}: {row}")))
     }
 }

@@ -1,7 +1,5 @@
 //! Rows drawn by a fixed generator, read without a tree and with one: the same answer both ways.
-use crate::lines::{ITEMS, both_ways, drawn};
-use csdl_schema::Schema;
-use edm_entities::RowReader;
+use crate::lines::{ITEMS, Lines, change, drawn, entities};
 use std::alloc::{AllocError, Global};
 use std::test::Fail;
 
@@ -59,47 +57,43 @@ fn drawn_row(alloc: Global, from: u64) -> Result<(String, u64), AllocError> {
     Ok((format!(in alloc; "{row}}}")?, number))
 }
 
+/// So many rows, of which each reads alike both ways.
+fn drawn_lines(alloc: Global, count: usize) -> Result<Lines, AllocError> {
+    let mut lines = Vec::new(alloc);
+    let mut number = 7_u64;
+    for _ in 0..count {
+        let (row, next) = drawn_row(alloc, number)?;
+        number = next;
+        lines.push((row.into_bytes(), "entity or none"))?;
+    }
+    Ok(lines)
+}
+
 #[test]
 fn drawn_rows(rt: HostRuntime) -> Result<(), Fail> {
-    let schema = Schema::read(rt.alloc(), ITEMS.as_bytes())?;
-    let Some(type_id) = schema.type_named("N.A") else {
-        return Ok(());
-    };
-    let mut reader = RowReader::new(rt.alloc(), &schema, type_id);
-    let mut entities = 0_u64;
-    let mut number = 7_u64;
-    for _ in 0..10_000 {
-        let (row, next) = drawn_row(rt.alloc(), number)?;
-        number = next;
-        let line = row.as_str().as_bytes();
-        let told = both_ways(rt.alloc(), &schema, type_id, &mut reader, line)?;
-        assert!(rt; told == "entity" || told == "none", "{told} at {row}");
-        if told == "entity" {
-            entities = entities.wrapping_add(1);
-        }
-    }
-    assert_eq!(rt; entities, 7_486);
+    let lines = drawn_lines(rt.alloc(), 10_000)?;
+    let entities = entities(rt.alloc(), ITEMS, "N.A", &lines)?;
+    assert!(rt; entities == 7_486);
     Ok(())
+}
+
+/// So many rows with one byte changed, of which some may be entities by the tree alone.
+fn changed_lines(alloc: Global, count: usize) -> Result<Lines, AllocError> {
+    let mut lines = Vec::new(alloc);
+    let mut number = 7_u64;
+    for _ in 0..count {
+        let (row, next) = drawn_row(alloc, number)?;
+        number = drawn(next);
+        let mut line = row.into_bytes();
+        change(&mut line, number);
+        lines.push((line, "entity, none or by the tree alone"))?;
+    }
+    Ok(lines)
 }
 
 #[test]
 fn drawn_rows_with_one_byte_changed(rt: HostRuntime) -> Result<(), Fail> {
-    let schema = Schema::read(rt.alloc(), ITEMS.as_bytes())?;
-    let Some(type_id) = schema.type_named("N.A") else {
-        return Ok(());
-    };
-    let mut reader = RowReader::new(rt.alloc(), &schema, type_id);
-    let mut number = 7_u64;
-    for _ in 0..10_000 {
-        let (row, next) = drawn_row(rt.alloc(), number)?;
-        number = drawn(next);
-        let mut bytes = Vec::from_slice(rt.alloc(), row.as_str().as_bytes())?;
-        let place = ((number >> 33) % (bytes.len() as u64).max(1)) as usize;
-        if let Some(byte) = bytes.get_mut(place) {
-            *byte = ((number >> 20) % 256) as u8;
-        }
-        let told = both_ways(rt.alloc(), &schema, type_id, &mut reader, bytes.as_slice())?;
-        assert!(rt; told != "differs", "at {place} of {row}");
-    }
+    let lines = changed_lines(rt.alloc(), 10_000)?;
+    entities(rt.alloc(), ITEMS, "N.A", &lines)?;
     Ok(())
 }

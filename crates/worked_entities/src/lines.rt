@@ -1,5 +1,5 @@
 //! Lines read without a tree and with one: the same answer both ways.
-use crate::shop::{PRODUCT, SHOP};
+use crate::shop::{E0, PRODUCT, SHOP};
 use csdl_schema::{Schema, TypeId};
 use edm_entities::{Entity, RowReader};
 use serde_json::Value as Json;
@@ -42,7 +42,7 @@ fn by_tokens(alloc: Global, reader: &mut RowReader<'_>, line: &[u8]) -> Result<S
 }
 
 /// Whether both ways answer alike, and whether that is an entity; told as a text, to be compared.
-pub(crate) fn both_ways(
+fn both_ways(
     alloc: Global,
     schema: &Schema,
     type_id: TypeId,
@@ -62,6 +62,46 @@ pub(crate) fn both_ways(
     } else {
         "entity"
     })
+}
+
+/// Lines, each with its answer, or with the answers that it may have.
+pub(crate) type Lines = Vec<(Vec<u8>, &'static str)>;
+
+/// What both ways answer of a line; fails where that is not wanted.
+fn wanted_of(
+    alloc: Global,
+    schema: &Schema,
+    type_id: TypeId,
+    reader: &mut RowReader<'_>,
+    row: &(Vec<u8>, &'static str),
+) -> Result<&'static str, Fail> {
+    let (line, wanted) = (row.0.as_slice(), row.1);
+    let told = both_ways(alloc, schema, type_id, reader, line)?;
+    if wanted.contains(told) {
+        Ok(told)
+    } else {
+        let text = str::from_utf8(line).unwrap_or("no text");
+        Err(Fail::new(format_args!("{told}, not {wanted}: {text}")))
+    }
+}
+
+/// How many of the lines are entities of the type of a document, by one reader; fails at the first with another answer.
+pub(crate) fn entities(
+    alloc: Global,
+    document: &str,
+    named: &str,
+    lines: &Lines,
+) -> Result<u64, Fail> {
+    let schema = Schema::read(alloc, document.as_bytes())?;
+    let type_id = schema.type_named(named).ok_or("the type")?;
+    let mut reader = RowReader::new(alloc, &schema, type_id);
+    let mut entities = 0_u64;
+    for row in lines.as_slice() {
+        if wanted_of(alloc, &schema, type_id, &mut reader, row)? == "entity" {
+            entities = entities.wrapping_add(1);
+        }
+    }
+    Ok(entities)
 }
 
 /// What stands before and behind the members of a product, and the answer.
@@ -108,27 +148,21 @@ const PRODUCTS: &[(&str, &str, &str)] = &[
     ),
 ];
 
+/// The lines of these products.
+fn lines_of_products(alloc: Global) -> Result<Lines, AllocError> {
+    let mut lines = Vec::new(alloc);
+    let members = PRODUCT.strip_prefix("{").unwrap_or("no product");
+    for &(before, behind, wanted) in PRODUCTS {
+        let line = format!(in alloc; "{{{before}{members}{behind}}}")?;
+        lines.push((line.into_bytes(), wanted))?;
+    }
+    Ok(lines)
+}
+
 #[test]
 fn products(rt: HostRuntime) -> Result<(), Fail> {
-    let schema = Schema::read(rt.alloc(), SHOP.as_bytes())?;
-    let Some(type_id) = schema.type_named("Shop.Product") else {
-        return Ok(());
-    };
-    let mut reader = RowReader::new(rt.alloc(), &schema, type_id);
-    let Some(members) = PRODUCT.strip_prefix("{") else {
-        return Ok(());
-    };
-    for &(before, behind, wanted) in PRODUCTS {
-        let line = format!(in rt.alloc(); "{{{before}{members}{behind}}}")?;
-        let told = both_ways(
-            rt.alloc(),
-            &schema,
-            type_id,
-            &mut reader,
-            line.as_str().as_bytes(),
-        )?;
-        assert_eq!(rt; told, wanted, "at {line}");
-    }
+    let lines = lines_of_products(rt.alloc())?;
+    entities(rt.alloc(), SHOP, "Shop.Product", &lines)?;
     Ok(())
 }
 
@@ -190,18 +224,19 @@ const LINES: &[(&[u8], &str)] = &[
     (b"{\"ID\":1,\"Name\":\"a\",\"T\":[]}", "none"),
 ];
 
+/// Those lines, each in memory of its own.
+fn own_lines(alloc: Global) -> Result<Lines, AllocError> {
+    let mut lines = Vec::new(alloc);
+    for &(line, wanted) in LINES {
+        lines.push((Vec::from_slice(alloc, line)?, wanted))?;
+    }
+    Ok(lines)
+}
+
 #[test]
 fn lines_of_items(rt: HostRuntime) -> Result<(), Fail> {
-    let schema = Schema::read(rt.alloc(), ITEMS.as_bytes())?;
-    let Some(type_id) = schema.type_named("N.A") else {
-        return Ok(());
-    };
-    let mut reader = RowReader::new(rt.alloc(), &schema, type_id);
-    for index in 0..LINES.len() {
-        let (line, wanted) = LINES[index];
-        let told = both_ways(rt.alloc(), &schema, type_id, &mut reader, line)?;
-        assert_eq!(rt; told, wanted, "at line {index}");
-    }
+    let lines = own_lines(rt.alloc())?;
+    entities(rt.alloc(), ITEMS, "N.A", &lines)?;
     Ok(())
 }
 
@@ -215,28 +250,34 @@ const DEPTHS: &[(&str, &str, usize, &str, &str, &str)] = &[
     ("T", "{\"T\":", 126, "{}", "}", "none"),
 ];
 
+/// A line of an item whose member of this name holds that.
+fn deep_line(
+    alloc: Global,
+    name: &str,
+    before: &str,
+    count: usize,
+    last: &str,
+    behind: &str,
+) -> Result<String, AllocError> {
+    let opening = before.repeat(alloc, count)?;
+    let closing = behind.repeat(alloc, count)?;
+    format!(in alloc; "{{\"ID\":1,\"Name\":\"a\",\"{name}\":{opening}{last}{closing}}}")
+}
+
+/// The lines of these depths.
+fn deep_lines(alloc: Global) -> Result<Lines, AllocError> {
+    let mut lines = Vec::new(alloc);
+    for &(name, before, count, last, behind, wanted) in DEPTHS {
+        let line = deep_line(alloc, name, before, count, last, behind)?;
+        lines.push((line.into_bytes(), wanted))?;
+    }
+    Ok(lines)
+}
+
 #[test]
 fn depths(rt: HostRuntime) -> Result<(), Fail> {
-    let schema = Schema::read(rt.alloc(), ITEMS.as_bytes())?;
-    let Some(type_id) = schema.type_named("N.A") else {
-        return Ok(());
-    };
-    let mut reader = RowReader::new(rt.alloc(), &schema, type_id);
-    for &(name, before, count, last, behind, wanted) in DEPTHS {
-        let opening = before.repeat(rt.alloc(), count)?;
-        let closing = behind.repeat(rt.alloc(), count)?;
-        let line = format!(in rt.alloc();
-            "{{\"ID\":1,\"Name\":\"a\",\"{name}\":{opening}{last}{closing}}}"
-        )?;
-        let told = both_ways(
-            rt.alloc(),
-            &schema,
-            type_id,
-            &mut reader,
-            line.as_str().as_bytes(),
-        )?;
-        assert_eq!(rt; told, wanted, "at {name} {before} {count}");
-    }
+    let lines = deep_lines(rt.alloc())?;
+    entities(rt.alloc(), ITEMS, "N.A", &lines)?;
     Ok(())
 }
 
@@ -246,27 +287,31 @@ pub(crate) fn drawn(last: u64) -> u64 {
         .wrapping_add(1_442_695_040_888_963_407)
 }
 
+/// Puts another byte at a place of a line, both by a number.
+pub(crate) fn change(line: &mut Vec<u8>, number: u64) {
+    let place = ((number >> 33) % (line.len() as u64).max(1)) as usize;
+    if let Some(byte) = line.get_mut(place) {
+        *byte = ((number >> 20) % 256) as u8;
+    }
+}
+
+/// So many products with one byte changed.
+fn changed_products(alloc: Global, count: usize) -> Result<Lines, AllocError> {
+    let mut lines = Vec::new(alloc);
+    let mut number = 1_u64;
+    for _ in 0..count {
+        number = drawn(number);
+        let mut line = Vec::from_slice(alloc, E0.as_bytes())?;
+        change(&mut line, number);
+        lines.push((line, "entity or none"))?;
+    }
+    Ok(lines)
+}
+
 /// Products with one byte changed: what is read without a tree is what is read with one.
 #[test]
 fn one_byte_changed(rt: HostRuntime) -> Result<(), Fail> {
-    let schema = Schema::read(rt.alloc(), SHOP.as_bytes())?;
-    let Some(type_id) = schema.type_named("Shop.Product") else {
-        return Ok(());
-    };
-    let mut reader = RowReader::new(rt.alloc(), &schema, type_id);
-    let product = PRODUCT;
-    let line = format!(in rt.alloc(); "{product}}}")?;
-    let mut number = 1_u64;
-    for _ in 0..10_000 {
-        number = drawn(number);
-        let mut bytes = Vec::from_slice(rt.alloc(), line.as_str().as_bytes())?;
-        let place = ((number >> 33) % (bytes.len() as u64).max(1)) as usize;
-        if let Some(byte) = bytes.get_mut(place) {
-            *byte = ((number >> 20) % 256) as u8;
-        }
-        let tokens = by_tokens(rt.alloc(), &mut reader, bytes.as_slice())?;
-        let tree = by_tree(rt.alloc(), &schema, type_id, bytes.as_slice())?;
-        assert_eq!(rt; tokens.as_str(), tree.as_str(), "at {place} of {number}");
-    }
+    let lines = changed_products(rt.alloc(), 10_000)?;
+    entities(rt.alloc(), SHOP, "Shop.Product", &lines)?;
     Ok(())
 }

@@ -1,8 +1,8 @@
 //! Rows of one type with properties of every kind, and their values by slot.
 ghost use Rattle.std.specs.Prelude.{◌≡◌};
 
-use crate::answer::answer;
-use crate::shop::{PRODUCT, SHOP};
+use crate::answer::answers;
+use crate::shop::{E0, PRODUCT, SHOP};
 use csdl_schema::Schema;
 use edm_entities::Entity;
 use edm_values::Value;
@@ -77,14 +77,7 @@ const CHANGED: &[(&str, &str)] = &[
 
 #[test]
 fn changed_products(rt: HostRuntime) -> Result<(), Fail> {
-    let schema = Schema::read(rt.alloc(), SHOP.as_bytes())?;
-    let product = PRODUCT;
-    for &(members, wanted) in CHANGED {
-        let row = format!(in rt.alloc(); "{product}{members}}}")?;
-        let told = answer(rt.alloc(), &schema, "Shop.Product", row.as_str())?;
-        assert_eq!(rt; told.as_str(), wanted, "at {members}");
-    }
-    Ok(())
+    answers(rt.alloc(), SHOP, "Shop.Product", (PRODUCT, "}"), CHANGED)
 }
 
 /// JSON that is no product, and the answer.
@@ -98,12 +91,7 @@ const OTHER_ROWS: &[(&str, &str)] = &[
 
 #[test]
 fn rows_of_another_kind(rt: HostRuntime) -> Result<(), Fail> {
-    let schema = Schema::read(rt.alloc(), SHOP.as_bytes())?;
-    for &(row, wanted) in OTHER_ROWS {
-        let told = answer(rt.alloc(), &schema, "Shop.Product", row)?;
-        assert_eq!(rt; told.as_str(), wanted, "at {row}");
-    }
-    Ok(())
+    answers(rt.alloc(), SHOP, "Shop.Product", ("", ""), OTHER_ROWS)
 }
 
 /// What a value is: numbers and truth values as they are, of others the kind.
@@ -135,13 +123,6 @@ fn shown_slots(alloc: Global, value: &Value) -> Result<String, AllocError> {
     Ok(text)
 }
 
-/// The JSON of a product.
-fn product(alloc: Global) -> Result<Json, Fail> {
-    let product = PRODUCT;
-    let row = format!(in alloc; "{product}}}")?;
-    Ok(Json::from_str(alloc, row.as_str())?)
-}
-
 /// The entity that is made of the values which an entity gives back.
 fn made_again(entity: Entity<'_>) -> Entity<'_>
     ensures { result ≡ entity.entry }
@@ -150,21 +131,27 @@ fn made_again(entity: Entity<'_>) -> Entity<'_>
     Entity::from_values(schema, type_id, entity.into_values())
 }
 
+/// Whether an entity has these values by slot, and so has the one that is made of them.
+fn has_values(alloc: Global, entity: Entity<'_>, wanted: &str) -> Result<bool, AllocError> {
+    let slots = shown_slots(alloc, entity.value())?;
+    let again = shown_slots(alloc, made_again(entity).value())?;
+    Ok(slots.as_str() == wanted && again.as_str() == wanted)
+}
+
+/// Whether a product is an entity of its type with these values by slot.
+fn is_product(alloc: Global, wanted: &str) -> Result<bool, Fail> {
+    let schema = Schema::read(alloc, SHOP.as_bytes())?;
+    let id = schema.type_named("Shop.Product").ok_or("the type")?;
+    let json = Json::from_str(alloc, E0)?;
+    let entity = Entity::from_json(alloc, &schema, id, &json)?;
+    let is_typed = entity.type_id() == id && entity.schema().slots(id) == 13;
+    Ok(is_typed && has_values(alloc, entity, wanted)?)
+}
+
 /// The opaque property is held as null.
 #[test]
 fn values_by_slot(rt: HostRuntime) -> Result<(), Fail> {
-    let schema = Schema::read(rt.alloc(), SHOP.as_bytes())?;
-    let id = schema.type_named("Shop.Product").ok_or("the type")?;
-    assert!(rt; schema.holds(id));
-    let json = product(rt.alloc())?;
-    let entity = Entity::from_json(rt.alloc(), &schema, id, &json)?;
-    assert!(rt; entity.type_id() == id && entity.schema().slots(id) == 13);
-    let slots = shown_slots(rt.alloc(), entity.value())?;
-    assert_eq!(rt;
-        slots.as_str(),
-        "true; moment; guid; member 5; record; 1; text; list; null; 3; date; 10; list; "
-    );
-    let again = shown_slots(rt.alloc(), made_again(entity).value())?;
-    assert_eq!(rt; again.as_str(), slots.as_str());
+    let wanted = "true; moment; guid; member 5; record; 1; text; list; null; 3; date; 10; list; ";
+    assert!(rt; is_product(rt.alloc(), wanted)?);
     Ok(())
 }

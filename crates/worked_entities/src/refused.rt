@@ -16,8 +16,11 @@ const TWICE: &str =
 const FAULTY: &str =
     "{\"Name\":\"x\",\"Qty\":1,\"Sub\":[{\"Name\":\"y\",\"Qty\":true,\"Sub\":[]}]}";
 
-fn told(is_refused: bool) -> &'static str {
-    if is_refused { "no memory" } else { "ample" }
+/// Prints whether a call was refused memory.
+fn tell(rt: &impl Print, call: &str, is_refused: bool) -> Result<(), Fail> {
+    let told = if is_refused { "no memory" } else { "ample" };
+    println!(rt; "{call} {told}")?;
+    Ok(())
 }
 
 fn shop(alloc: Global) -> Result<Schema, SchemaFault> {
@@ -53,8 +56,7 @@ fn schema_is_refused(alloc: Global) -> Result<bool, Fail> {
 #[test]
 fn schemas(rt: HostRuntime) -> Result<(), Fail> {
     let is_refused = schema_is_refused(rt.alloc())?;
-    println!(rt; "shop_read {}", told(is_refused))?;
-    Ok(())
+    tell(&rt, "shop_read", is_refused)
 }
 
 /// Whether a faulty document was refused memory; otherwise its fault is told.
@@ -75,8 +77,7 @@ fn faulty_schema_is_refused(alloc: Global) -> Result<bool, Fail> {
 #[test]
 fn faulty_schemas(rt: HostRuntime) -> Result<(), Fail> {
     let is_refused = faulty_schema_is_refused(rt.alloc())?;
-    println!(rt; "chain_read_of_fault {}", told(is_refused))?;
-    Ok(())
+    tell(&rt, "chain_read_of_fault", is_refused)
 }
 
 /// Whether the shop's row was refused memory; otherwise it is an entity of its type.
@@ -103,8 +104,7 @@ fn row_is_refused(alloc: Global) -> Result<bool, Fail> {
 #[test]
 fn entities(rt: HostRuntime) -> Result<(), Fail> {
     let is_refused = row_is_refused(rt.alloc())?;
-    println!(rt; "shop_from_json {}", told(is_refused))?;
-    Ok(())
+    tell(&rt, "shop_from_json", is_refused)
 }
 
 /// Whether a faulty row was refused memory; otherwise its fault is told.
@@ -131,6 +131,5 @@ fn faulty_row_is_refused(alloc: Global) -> Result<bool, Fail> {
 #[test]
 fn faulty_rows(rt: HostRuntime) -> Result<(), Fail> {
     let is_refused = faulty_row_is_refused(rt.alloc())?;
-    println!(rt; "shop_from_json_of_fault {}", told(is_refused))?;
-    Ok(())
+    tell(&rt, "shop_from_json_of_fault", is_refused)
 }

@@ -1,7 +1,5 @@
 //! Slots along a chain of bases, and a type within itself.
-use crate::answer::answer;
-use csdl_schema::Schema;
-use std::alloc::{AllocError, Global};
+use crate::answer::answers;
 use std::test::Fail;
 
 const CHAIN: &str =
@@ -19,25 +17,7 @@ const HEIRS: &[(&str, &str)] = &[
 /// The base's slots come first, whatever the order of the members.
 #[test]
 fn slots_of_a_chain(rt: HostRuntime) -> Result<(), Fail> {
-    let schema = Schema::read(rt.alloc(), CHAIN.as_bytes())?;
-    for &(row, wanted) in HEIRS {
-        let told = answer(rt.alloc(), &schema, "N.B", row)?;
-        assert_eq!(rt; told.as_str(), wanted, "at {row}");
-    }
-    Ok(())
-}
-
-/// A row of so many nested objects, the innermost with a member.
-fn nested(alloc: Global, depth: usize, last: &str) -> Result<String, AllocError> {
-    let mut row = String::new(alloc);
-    for _ in 0..depth {
-        row.push_str("{\"T\":")?;
-    }
-    row.push_str(last)?;
-    for _ in 0..depth {
-        row.push('}')?;
-    }
-    Ok(row)
+    answers(rt.alloc(), CHAIN, "N.B", ("", ""), HEIRS)
 }
 
 /// So many nested objects, the innermost of them, and the answer.
@@ -51,11 +31,11 @@ const NESTED: &[(usize, &str, &str)] = &[
 
 #[test]
 fn a_type_within_itself(rt: HostRuntime) -> Result<(), Fail> {
-    let schema = Schema::read(rt.alloc(), CHAIN.as_bytes())?;
     for &(depth, last, wanted) in NESTED {
-        let row = nested(rt.alloc(), depth, last)?;
-        let told = answer(rt.alloc(), &schema, "N.R", row.as_str())?;
-        assert_eq!(rt; told.as_str(), wanted, "at {depth} {last}");
+        let before = "{\"T\":".repeat(rt.alloc(), depth)?;
+        let behind = "}".repeat(rt.alloc(), depth)?;
+        let pieces = (before.as_str(), behind.as_str());
+        answers(rt.alloc(), CHAIN, "N.R", pieces, &[(last, wanted)])?;
     }
     Ok(())
 }

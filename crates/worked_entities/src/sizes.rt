@@ -1,43 +1,47 @@
 //! Rows of great size, and members in every order.
-use crate::answer::answer;
-use csdl_schema::Schema;
+use crate::answer::answers;
 use std::alloc::{AllocError, Global};
 use std::test::Fail;
 
-/// The schema of one entity type, `N.A`, with these properties.
-fn schema_of(alloc: Global, properties: &str) -> Result<Schema, Fail> {
-    let document = format!(in alloc;
+/// A document of one entity type, `N.A`, with these properties.
+fn document_of(alloc: Global, properties: &str) -> Result<String, AllocError> {
+    format!(in alloc;
         "{{\"$Version\":\"4.01\",\"N\":{{\"A\":{{\"$Kind\":\"EntityType\",{properties}}}}}}}"
-    )?;
-    Ok(Schema::read(alloc, document.as_bytes())?)
+    )
 }
+
+const TEXT: &str = "{\"$Version\":\"4.01\",\"N\":{\"A\":{\"$Kind\":\"EntityType\",\"T\":{}}}}";
 
 #[test]
 fn a_text_of_a_mebibyte(rt: HostRuntime) -> Result<(), Fail> {
-    let schema = schema_of(rt.alloc(), "\"T\":{}")?;
     let text = "a".repeat(rt.alloc(), 1_048_576)?;
-    let row = format!(in rt.alloc(); "{{\"T\":\"{text}\"}}")?;
-    let told = answer(rt.alloc(), &schema, "N.A", row.as_str())?;
-    assert_eq!(rt; told.as_str(), "entity");
-    Ok(())
+    let pieces = ("{\"T\":\"", "\"}");
+    answers(
+        rt.alloc(),
+        TEXT,
+        "N.A",
+        pieces,
+        &[(text.as_str(), "entity")],
+    )
 }
+
+const ITEMS: &str =
+    "{\"$Version\":\"4.01\",\"N\":{\"A\":{\"$Kind\":\"EntityType\",\"L\":{\"$Type\":\"Edm.Int32\",\"$Collection\":true}}}}";
 
 /// The last item, and the answer.
 const LAST_ITEMS: &[(&str, &str)] = &[("1", "entity"), ("1.5", "WrongKind L/99999")];
 
 #[test]
 fn a_hundred_thousand_items(rt: HostRuntime) -> Result<(), Fail> {
-    let schema = schema_of(
-        rt.alloc(),
-        "\"L\":{\"$Type\":\"Edm.Int32\",\"$Collection\":true}",
-    )?;
     let items = "0,".repeat(rt.alloc(), 99_999)?;
-    for &(last, wanted) in LAST_ITEMS {
-        let row = format!(in rt.alloc(); "{{\"L\":[{items}{last}]}}")?;
-        let told = answer(rt.alloc(), &schema, "N.A", row.as_str())?;
-        assert_eq!(rt; told.as_str(), wanted, "at {last}");
-    }
-    Ok(())
+    let before = format!(in rt.alloc(); "{{\"L\":[{items}")?;
+    answers(
+        rt.alloc(),
+        ITEMS,
+        "N.A",
+        (before.as_str(), "]}"),
+        LAST_ITEMS,
+    )
 }
 
 /// So many members, each of the same value.
@@ -61,12 +65,17 @@ const MANY_PROPERTIES: &[(usize, &str, &str)] = &[
 fn as_many_properties_as_a_type_may_have(rt: HostRuntime) -> Result<(), Fail> {
     let others = members(rt.alloc(), 1_023, "{}")?;
     let declared = format!(in rt.alloc(); "\"Q\":{{}}{others}")?;
-    let schema = schema_of(rt.alloc(), declared.as_str())?;
+    let document = document_of(rt.alloc(), declared.as_str())?;
     for &(count, value, wanted) in MANY_PROPERTIES {
         let held = members(rt.alloc(), count, value)?;
-        let row = format!(in rt.alloc(); "{{\"Q\":\"\"{held}}}")?;
-        let told = answer(rt.alloc(), &schema, "N.A", row.as_str())?;
-        assert_eq!(rt; told.as_str(), wanted, "at {count} of {value}");
+        let row = (held.as_str(), wanted);
+        answers(
+            rt.alloc(),
+            document.as_str(),
+            "N.A",
+            ("{\"Q\":\"\"", "}"),
+            &[row],
+        )?;
     }
     Ok(())
 }
@@ -87,13 +96,11 @@ const ORDERS: &[(&str, &str)] = &[
     ("{\"C\":null,\"B\":1,\"A\":\"\"}", "WrongKind B"),
 ];
 
+const THREE_TEXTS: &str =
+    "{\"$Version\":\"4.01\",\"N\":{\"A\":{\"$Kind\":\"EntityType\",\"A\":{},\"B\":{},\"C\":{}}}}";
+
 /// What is told does not depend on the order of the members.
 #[test]
 fn members_in_every_order(rt: HostRuntime) -> Result<(), Fail> {
-    let schema = schema_of(rt.alloc(), "\"A\":{},\"B\":{},\"C\":{}")?;
-    for &(row, wanted) in ORDERS {
-        let told = answer(rt.alloc(), &schema, "N.A", row)?;
-        assert_eq!(rt; told.as_str(), wanted, "at {row}");
-    }
-    Ok(())
+    answers(rt.alloc(), THREE_TEXTS, "N.A", ("", ""), ORDERS)
 }
