@@ -1,19 +1,7 @@
 //! The canonical texts of filters of the entity type `Mini.Item`.
+use crate::asked::{Asked, asks};
 use crate::mini::SCHEMA;
-use csdl_schema::Schema;
-use odata_typing::check;
-use std::alloc::Global;
 use std::test::Fail;
-
-/// The canonical text of a filter.
-fn canonical(alloc: Global, schema: &Schema, filter: &str) -> Result<String, Fail> {
-    let item = schema.type_named("Mini.Item").ok_or("the type")?;
-    if !schema.holds(item) {
-        return Err(Fail::from("no type"));
-    }
-    let checked = check(alloc, schema, item, filter)?;
-    Ok(checked.canonical(alloc)?)
-}
 
 /// A filter, and its canonical text, which is its own.
 const TEXTS: &[(&str, &str)] = &[
@@ -38,16 +26,10 @@ const TEXTS: &[(&str, &str)] = &[
 
 #[test]
 fn canonical_filters(rt: HostRuntime) -> Result<(), Fail> {
-    let schema = Schema::read(rt.alloc(), SCHEMA.as_bytes())?;
     for &(text, wanted) in TEXTS {
-        assert!(rt;
-            canonical(rt.alloc(), &schema, text)?.as_str() == wanted,
-            "of {text}"
-        );
-        assert!(rt;
-            canonical(rt.alloc(), &schema, wanted)?.as_str() == wanted,
-            "of {wanted}"
-        );
+        let asked = Asked::Canonical(wanted);
+        asks(rt.alloc(), SCHEMA, "Mini.Item", text, asked)?;
+        asks(rt.alloc(), SCHEMA, "Mini.Item", wanted, asked)?;
     }
     Ok(())
 }

@@ -1,7 +1,8 @@
 //! The public calls of a run from text to kept lines, with what they answer.
+use crate::asked::{Asked, asks};
 use crate::mini::{FIRST, SCHEMA};
 use crate::outcomes::comes_to;
-use csdl_schema::{Property, PropertyKind, Schema, TypeId};
+use csdl_schema::{Property, PropertyKind, Schema};
 use edm_entities::Entity;
 use edm_values::{Moment, Prim, Value as Held};
 use jiff::civil;
@@ -9,7 +10,7 @@ use odata_eval::Verdict;
 use odata_filter::command_line::{Plan, PlanFault, Verb};
 use odata_filter::{RunFault, filter_lines, filter_slice, plan};
 use odata_text::Span;
-use odata_typing::{Checked, EdmType, ValueType, check};
+use odata_typing::{Checked, EdmType, ValueType};
 use serde_json::Value;
 use std::alloc::Global;
 use std::test::Fail;
@@ -21,29 +22,29 @@ fn is_truth_value(property: &Property) -> bool {
     property.kind == PropertyKind::Prim(Prim::Bool) && !property.many && !property.nullable
 }
 
-#[test]
-fn schema(rt: HostRuntime) -> Result<(), Fail> {
-    let schema = Schema::read(rt.alloc(), SCHEMA.as_bytes())?;
-    let id = schema.type_named("Mini.Item").ok_or("the type")?;
-    assert!(rt; schema.holds(id) && schema.is_entity(id));
-    assert!(rt; schema.type_name(id) == Some("Mini.Item"));
-    assert_eq!(rt; schema.slots(id), 3);
-    assert!(rt; schema.slot_name(id, 2) == "Name");
-    assert!(rt; is_truth_value(schema.property(id, 0)));
-    Ok(())
+/// Whether the schema has the type `Mini.Item` with its three slots.
+fn has_item(schema: &Schema) -> bool {
+    match schema.type_named("Mini.Item") {
+        Some(id) if schema.holds(id) && schema.is_entity(id) && schema.slots(id) == 3 => {
+            schema.type_name(id) == Some("Mini.Item")
+                && schema.slot_name(id, 2) == "Name"
+                && is_truth_value(schema.property(id, 0))
+                && schema.slot(id, "ID") == Some(1)
+                && schema.slot(id, "Id").is_none()
+        }
+        _ => false,
+    }
 }
 
 #[test]
-fn slots_of_a_schema(rt: HostRuntime) -> Result<(), Fail> {
+fn schema(rt: HostRuntime) -> Result<(), Fail> {
     let schema = Schema::read(rt.alloc(), SCHEMA.as_bytes())?;
-    let id = schema.type_named("Mini.Item").ok_or("the type")?;
-    assert_eq!(rt; schema.slot(id, "ID"), Some(1));
-    assert_eq!(rt; schema.slot(id, "Id"), None);
+    assert!(rt; has_item(&schema));
     Ok(())
 }
 
 /// Whether a filter has the nodes of the first one: how many, types and places of some.
-fn has_nodes(checked: &Checked<'_>) -> bool {
+pub(crate) fn has_nodes(checked: &Checked<'_>) -> bool {
     checked.node_count() == 9
         && checked.type_of(0) == Some(EdmType::Single(ValueType::Prim(Prim::Bool)))
         && checked.type_of(9).is_none()
@@ -52,10 +53,9 @@ fn has_nodes(checked: &Checked<'_>) -> bool {
         && !checked.uses_now()
 }
 
-/// Whether a filter of this type has the type's three slots, and the nodes and values of the first one.
-fn has_places(checked: &Checked<'_>, id: TypeId) -> bool {
-    checked.filtered_type() == id
-        && checked.schema().slots(id) == 3
+/// Whether a filter has its type's three slots, and the nodes and values of the first one.
+pub(crate) fn has_places(checked: &Checked<'_>) -> bool {
+    checked.schema().slots(checked.filtered_type()) == 3
         && checked.nodes().len() == 9
         && checked.values().len() == 2
         && checked.slot_of(2) == Some(0)
@@ -69,7 +69,7 @@ fn moment() -> Result<Moment, Fail> {
 }
 
 /// Whether a filter keeps the row that a reader gives.
-fn keeps_row(alloc: Global, checked: &Checked<'_>) -> Result<bool, Fail> {
+pub(crate) fn keeps_row(alloc: Global, checked: &Checked<'_>) -> Result<bool, Fail> {
     let mut out = Vec::new(alloc);
     let tally = filter_lines(alloc, checked, &moment()?, A.as_bytes(), &mut out)?;
     Ok(tally.rows == 1 && tally.kept == 1 && out.as_slice() == A.as_bytes())
@@ -83,7 +83,7 @@ const WRITTEN: &[u8] =
     b"kept\n{\"ID\":1,\"Name\":\"a\",\"Active\":true}\n{\"ID\":1,\"Name\":\"a\",\"Active\":true}\n";
 
 /// Whether what is written goes behind what is there, and stays where a later row is at fault.
-fn keeps_row_in_memory(alloc: Global, checked: &Checked<'_>) -> Result<bool, Fail> {
+pub(crate) fn keeps_row_in_memory(alloc: Global, checked: &Checked<'_>) -> Result<bool, Fail> {
     let now = moment()?;
     let mut out = Vec::new(alloc);
     out.extend_from_slice(b"kept\n")?;
@@ -93,41 +93,14 @@ fn keeps_row_in_memory(alloc: Global, checked: &Checked<'_>) -> Result<bool, Fai
     Ok(tally.rows == 1 && tally.kept == 1 && is_told && out.as_slice() == WRITTEN)
 }
 
-/// What is asked of the first filter.
-#[derive(Clone, Copy)]
-enum Asked {
-    Nodes,
-    Places,
-    Row,
-    RowInMemory,
-}
-
-/// Whether the first filter answers as is wanted.
-fn first_filter(alloc: Global, asked: Asked) -> Result<bool, Fail> {
-    let schema = Schema::read(alloc, SCHEMA.as_bytes())?;
-    let id = schema.type_named("Mini.Item").ok_or("the type")?;
-    if !schema.holds(id) {
-        return Err(Fail::from("no type"));
-    }
-    let checked = check(alloc, &schema, id, FIRST)?;
-    match asked {
-        Asked::Nodes => Ok(has_nodes(&checked)),
-        Asked::Places => Ok(has_places(&checked, id)),
-        Asked::Row => keeps_row(alloc, &checked),
-        Asked::RowInMemory => keeps_row_in_memory(alloc, &checked),
-    }
-}
-
 #[test]
 fn filter(rt: HostRuntime) -> Result<(), Fail> {
-    assert!(rt; first_filter(rt.alloc(), Asked::Nodes)?);
-    Ok(())
+    asks(rt.alloc(), SCHEMA, "Mini.Item", FIRST, Asked::FirstNodes)
 }
 
 #[test]
 fn places_of_a_filter(rt: HostRuntime) -> Result<(), Fail> {
-    assert!(rt; first_filter(rt.alloc(), Asked::Places)?);
-    Ok(())
+    asks(rt.alloc(), SCHEMA, "Mini.Item", FIRST, Asked::FirstPlaces)
 }
 
 /// Whether the values are those of the first row in slot order: Active, ID, Name.
@@ -141,34 +114,44 @@ fn is_first_row(value: &Held) -> bool {
     }
 }
 
+/// Whether an entity of the type is read of the first row.
+fn reads_row(alloc: Global) -> Result<bool, Fail> {
+    let schema = Schema::read(alloc, SCHEMA.as_bytes())?;
+    let id = schema.type_named("Mini.Item").ok_or("the type")?;
+    if !schema.holds(id) {
+        return Err(Fail::new("no type"));
+    }
+    let json = Value::from_str(alloc, A)?;
+    let entity = Entity::from_json(alloc, &schema, id, &json)?;
+    let is_typed = entity.type_id() == id && entity.schema().slots(id) == 3;
+    Ok(is_typed && is_first_row(entity.value()))
+}
+
 #[test]
 fn row(rt: HostRuntime) -> Result<(), Fail> {
-    let schema = Schema::read(rt.alloc(), SCHEMA.as_bytes())?;
-    let id = schema.type_named("Mini.Item").ok_or("the type")?;
-    assert!(rt; schema.holds(id));
-    let json = Value::from_str(rt.alloc(), A)?;
-    let entity = Entity::from_json(rt.alloc(), &schema, id, &json)?;
-    assert!(rt; entity.type_id() == id && entity.schema().slots(id) == 3);
-    assert!(rt; is_first_row(entity.value()));
+    assert!(rt; reads_row(rt.alloc())?);
     Ok(())
 }
 
 #[test]
 fn filter_and_row(rt: HostRuntime) -> Result<(), Fail> {
-    assert!(rt; comes_to(rt.alloc(), FIRST, A, &Ok(Verdict::True))?);
-    Ok(())
+    comes_to(rt.alloc(), FIRST, A, &Ok(Verdict::True))
 }
 
 #[test]
 fn filter_and_rows(rt: HostRuntime) -> Result<(), Fail> {
-    assert!(rt; first_filter(rt.alloc(), Asked::Row)?);
-    Ok(())
+    asks(rt.alloc(), SCHEMA, "Mini.Item", FIRST, Asked::FirstRow)
 }
 
 #[test]
 fn rows_in_memory(rt: HostRuntime) -> Result<(), Fail> {
-    assert!(rt; first_filter(rt.alloc(), Asked::RowInMemory)?);
-    Ok(())
+    asks(
+        rt.alloc(),
+        SCHEMA,
+        "Mini.Item",
+        FIRST,
+        Asked::FirstRowInMemory,
+    )
 }
 
 const BY_FILTER: &[&str] = &[
@@ -191,12 +174,17 @@ fn is_by_filter(plan: &Plan<'_>) -> bool {
         && !plan.collection
 }
 
+/// Whether a plan is that of the others.
+fn is_by_query(plan: &Plan<'_>) -> bool {
+    plan.query == Some("x") && plan.filter.is_none()
+}
+
 #[test]
 fn command_line(rt: HostRuntime) -> Result<(), Fail> {
     let by_filter = plan(rt.alloc(), BY_FILTER)?;
     assert!(rt; is_by_filter(&by_filter));
     let by_query = plan(rt.alloc(), BY_QUERY)?;
-    assert!(rt; by_query.query == Some("x") && by_query.filter.is_none());
+    assert!(rt; is_by_query(&by_query));
     Ok(())
 }
 
@@ -212,10 +200,20 @@ const UNKNOWN_OPTION: &[&str] = &[
     "odfilter", "filter", "--schema", "s", "--type", "N.T", "--now", "x",
 ];
 
+/// Whether the words are refused for the number of filters and queries.
+fn is_not_one(alloc: Global, words: &[&str]) -> bool {
+    matches!(plan(alloc, words), Err(PlanFault::OneOf))
+}
+
+/// Whether the words are refused as such.
+fn is_refused(alloc: Global, words: &[&str]) -> bool {
+    matches!(plan(alloc, words), Err(PlanFault::Clap(_)))
+}
+
 #[test]
 fn refused_command_lines(rt: HostRuntime) {
     for &words in NOT_ONE {
-        assert!(rt; matches!(plan(rt.alloc(), words), Err(PlanFault::OneOf)));
+        assert!(rt; is_not_one(rt.alloc(), words));
     }
-    assert!(rt; matches!(plan(rt.alloc(), UNKNOWN_OPTION), Err(PlanFault::Clap(_))));
+    assert!(rt; is_refused(rt.alloc(), UNKNOWN_OPTION));
 }

@@ -2,6 +2,8 @@
 #![tactic(auto)]
 
 #[cfg(test)]
+mod asked;
+#[cfg(test)]
 mod canonical_filters;
 #[cfg(test)]
 mod happy_paths;

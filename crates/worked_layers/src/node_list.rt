@@ -1,37 +1,13 @@
 //! The list of nodes of a checked filter, by numbers.
+use crate::asked::{Asked, asks, refusal_of};
 use crate::mini::{FIRST, SCHEMA};
-use csdl_schema::Schema;
-use edm_entities::Entity;
-use edm_values::{Moment, Value};
-use jiff::civil;
-use odata_eval::{Verdict, evaluate};
+use crate::outcomes::evaluated;
+use odata_eval::Verdict;
 use odata_syntax::{BinaryOperator, LiteralKind};
-use odata_typing::{Checked, NodeKind, check};
+use odata_text::Span;
+use odata_typing::NodeKind;
 use std::alloc::{AllocError, Global};
 use std::test::Fail;
-
-/// Whether the nodes have these slots, and none has a level.
-fn has_slots(checked: &Checked<'_>, slots: &[Option<usize>]) -> bool {
-    for (node, slot) in slots.iter().enumerate() {
-        if checked.slot_of(node) != *slot || checked.level_of(node).is_some() {
-            return false;
-        }
-    }
-    true
-}
-
-/// Places past the nodes of each of the filters.
-const PAST: &[usize] = &[10, 4096, usize::MAX];
-
-/// Whether there is no slot and no level at the number of nodes, and at places past it.
-fn has_none_past(checked: &Checked<'_>, count: usize) -> bool {
-    for &past in PAST {
-        if checked.slot_of(past).is_some() || checked.level_of(past).is_some() {
-            return false;
-        }
-    }
-    checked.slot_of(count).is_none() && checked.level_of(count).is_none()
-}
 
 /// A filter, and of each of its nodes the slot, if it is a property.
 const SLOTS: &[(&str, &[Option<usize>])] = &[
@@ -65,14 +41,8 @@ const SLOTS: &[(&str, &[Option<usize>])] = &[
 /// Of each node of six filters the slot, if it is a property; no variable has a type yet, so no node has a level.
 #[test]
 fn slots_and_levels(rt: HostRuntime) -> Result<(), Fail> {
-    let schema = Schema::read(rt.alloc(), SCHEMA.as_bytes())?;
-    let item = schema.type_named("Mini.Item").ok_or("the type")?;
     for &(text, slots) in SLOTS {
-        assert!(rt; schema.holds(item));
-        let checked = check(rt.alloc(), &schema, item, text)?;
-        assert!(rt; checked.node_count() == slots.len(), "of {text}");
-        assert!(rt; has_slots(&checked, slots), "of {text}");
-        assert!(rt; has_none_past(&checked, slots.len()), "of {text}");
+        asks(rt.alloc(), SCHEMA, "Mini.Item", text, Asked::Slots(slots))?;
     }
     Ok(())
 }
@@ -108,26 +78,10 @@ const KINDS: &[(NodeKind, usize)] = &[
     (TEXT, 9),
 ];
 
-/// Whether these are the values of the first filter's literals.
-fn are_values(values: &[Value]) -> bool {
-    match values {
-        [Value::Int(1), Value::Text(value)] => value.as_str() == "a",
-        _ => false,
-    }
-}
-
 #[test]
 fn kinds_and_ends(rt: HostRuntime) -> Result<(), Fail> {
-    let schema = Schema::read(rt.alloc(), SCHEMA.as_bytes())?;
-    let item = schema.type_named("Mini.Item").ok_or("the type")?;
-    assert!(rt; schema.holds(item));
-    let checked = check(rt.alloc(), &schema, item, FIRST)?;
-    assert_eq!(rt; checked.nodes().len(), KINDS.len());
-    for ((kind, stop), found) in KINDS.iter().zip(checked.nodes()) {
-        assert!(rt; found.kind == *kind && found.stop == *stop, "up to {stop}");
-    }
-    assert!(rt; are_values(checked.values()));
-    Ok(())
+    asks(rt.alloc(), SCHEMA, "Mini.Item", FIRST, Asked::Kinds(KINDS))?;
+    asks(rt.alloc(), SCHEMA, "Mini.Item", FIRST, Asked::OneAndText)
 }
 
 const FLAGS: &str =
@@ -143,24 +97,30 @@ fn longest_chain(alloc: Global, link: &str) -> Result<String, AllocError> {
     Ok(text)
 }
 
-/// Whether a chain of so many names has the nodes of these, and is true on a row where the name is.
-fn is_true_chain(alloc: Global, text: &str) -> Result<bool, Fail> {
-    let schema = Schema::read(alloc, FLAGS.as_bytes())?;
-    let flags = schema.type_named("Mini.Flags").ok_or("the type")?;
-    if !schema.holds(flags) {
-        return Err(Fail::from("no type"));
+/// Where the last name of such a chain of `eq` or `and` stands.
+fn last_of(text: &str) -> Span {
+    Span {
+        start: text.len().saturating_sub(1),
+        stop: text.len(),
     }
-    let checked = check(alloc, &schema, flags, text)?;
-    let has_nodes = checked.node_count() == 4095
-        && checked.slot_of(0).is_none()
-        && checked.slot_of(4094) == Some(0)
-        && checked.slot_of(2046).is_none()
-        && checked.slot_of(2047) == Some(0);
-    let row = serde_json::Value::from_str(alloc, "{\"A\":true}")?;
-    let entity = Entity::from_json(alloc, &schema, flags, &row)?;
-    let now = Moment::new(civil::date(1, 1, 1).at(0, 0, 0, 0), 0).ok_or("a moment")?;
-    let verdict = evaluate(alloc, &checked, &entity, &now)?;
-    Ok(has_nodes && verdict == Verdict::True)
+}
+
+/// Fails if a chain of so many names has other nodes, or is not true on a row where the name is.
+fn is_true_chain(alloc: Global, text: &str) -> Result<(), Fail> {
+    asks(alloc, FLAGS, "Mini.Flags", text, Asked::Chain)?;
+    asks(
+        alloc,
+        FLAGS,
+        "Mini.Flags",
+        text,
+        Asked::Last(4095, last_of(text)),
+    )?;
+    let outcome = evaluated(alloc, FLAGS, "Mini.Flags", text, "{\"A\":true}")?;
+    if outcome == Ok(Verdict::True) {
+        Ok(())
+    } else {
+        Err(Fail::new("a chain is not true"))
+    }
 }
 
 /// The longest chain of one operator.
@@ -168,7 +128,7 @@ fn is_true_chain(alloc: Global, text: &str) -> Result<bool, Fail> {
 fn longest_chains(rt: HostRuntime) -> Result<(), Fail> {
     for &link in LINKS {
         let text = longest_chain(rt.alloc(), link)?;
-        assert!(rt; is_true_chain(rt.alloc(), text.as_str())?, "of {link}");
+        is_true_chain(rt.alloc(), text.as_str())?;
     }
     Ok(())
 }
@@ -176,16 +136,12 @@ fn longest_chains(rt: HostRuntime) -> Result<(), Fail> {
 /// One token more is no tree.
 #[test]
 fn longer_chains(rt: HostRuntime) -> Result<(), Fail> {
-    let schema = Schema::read(rt.alloc(), FLAGS.as_bytes())?;
-    let flags = schema.type_named("Mini.Flags").ok_or("the type")?;
     for &link in LINKS {
-        assert!(rt; schema.holds(flags));
         let mut text = longest_chain(rt.alloc(), link)?;
         text.push_str(" and")?;
-        assert!(rt;
-            check(rt.alloc(), &schema, flags, text.as_str()).is_err(),
-            "of {link}"
-        );
+        if refusal_of(rt.alloc(), FLAGS, "Mini.Flags", text.as_str())?.is_none() {
+            return Err(Fail::new(link));
+        }
     }
     Ok(())
 }

@@ -1,9 +1,7 @@
 //! Filters with operators of each kind: the nodes of their lists, and the types to which numbers are promoted.
-use csdl_schema::{Schema, TypeId};
-use edm_values::{Prim, Value};
+use crate::asked::{Asked, asks};
 use odata_syntax::{BinaryOperator, LiteralKind};
-use odata_text::Span;
-use odata_typing::{Checked, EdmType, NodeKind, ValueType, check};
+use odata_typing::NodeKind;
 use std::alloc::Global;
 use std::test::Fail;
 
@@ -11,32 +9,6 @@ const SCHEMA: &str =
     "{\"$Version\":\"4.01\",\"N\":{\"Home\":{\"$Kind\":\"ComplexType\",\"City\":{},\"Area\":{}},\"Row\":{\"$Kind\":\"EntityType\",\"Byte\":{\"$Type\":\"Edm.Byte\"},\"SByte\":{\"$Type\":\"Edm.SByte\"},\"Short\":{\"$Type\":\"Edm.Int16\"},\"Int\":{\"$Type\":\"Edm.Int32\"},\"Long\":{\"$Type\":\"Edm.Int64\"},\"Home\":{\"$Type\":\"N.Home\"},\"On\":{\"$Type\":\"Edm.Boolean\"}}}}";
 
 const FILTER: &str = "not (- Short gt 1) or $it/Home/City eq null";
-
-fn one(prim: Prim) -> EdmType {
-    EdmType::Single(ValueType::Prim(prim))
-}
-
-/// The type that a letter stands for: `b` is Edm.Boolean, a digit the bytes of a number type, `s` Edm.String, `h` and `r`
-/// the complex type and the entity type, and `n` Null.
-fn type_of_letter(schema: &Schema, letter: u8) -> Option<EdmType> {
-    match letter {
-        b'b' => Some(one(Prim::Bool)),
-        b'2' => Some(one(Prim::Int16)),
-        b'4' => Some(one(Prim::Int32)),
-        b'8' => Some(one(Prim::Int64)),
-        b's' => Some(one(Prim::String)),
-        b'h' => structured(schema.type_named("N.Home")),
-        b'r' => structured(schema.type_named("N.Row")),
-        _ => Some(EdmType::Null),
-    }
-}
-
-fn structured(id: Option<TypeId>) -> Option<EdmType> {
-    match id {
-        Some(id) => Some(EdmType::Single(ValueType::Structured(id))),
-        None => None,
-    }
-}
 
 /// The type of each node, by a letter, and where it stands.
 const NODES: &[(u8, usize, usize)] = &[
@@ -53,32 +25,9 @@ const NODES: &[(u8, usize, usize)] = &[
     (b'n', 39, 43),
 ];
 
-/// Whether the node has that type, and stands there.
-fn is_node(
-    schema: &Schema,
-    checked: &Checked<'_>,
-    node: usize,
-    letter: u8,
-    start: usize,
-    stop: usize,
-) -> bool {
-    checked.type_of(node) == type_of_letter(schema, letter)
-        && checked.span_of(node) == Some(Span { start, stop })
-}
-
 #[test]
 fn types_and_spans(rt: HostRuntime) -> Result<(), Fail> {
-    let schema = Schema::read(rt.alloc(), SCHEMA.as_bytes())?;
-    let row = schema.type_named("N.Row").ok_or("the type")?;
-    let checked = check(rt.alloc(), &schema, row, FILTER)?;
-    assert_eq!(rt; checked.node_count(), NODES.len());
-    for (node, (letter, start, stop)) in NODES.iter().enumerate() {
-        assert!(rt;
-            is_node(&schema, &checked, node, *letter, *start, *stop),
-            "at {node}"
-        );
-    }
-    Ok(())
+    asks(rt.alloc(), SCHEMA, "N.Row", FILTER, Asked::Types(NODES))
 }
 
 /// The kind of each node, and where its last descendant ends.
@@ -125,15 +74,8 @@ const KINDS: &[(NodeKind, usize)] = &[
 
 #[test]
 fn kinds_and_ends(rt: HostRuntime) -> Result<(), Fail> {
-    let schema = Schema::read(rt.alloc(), SCHEMA.as_bytes())?;
-    let row = schema.type_named("N.Row").ok_or("the type")?;
-    let checked = check(rt.alloc(), &schema, row, FILTER)?;
-    assert_eq!(rt; checked.nodes().len(), KINDS.len());
-    for ((kind, stop), found) in KINDS.iter().zip(checked.nodes()) {
-        assert!(rt; found.kind == *kind && found.stop == *stop, "up to {stop}");
-    }
-    assert!(rt; matches!(checked.values(), [Value::Int(1), Value::Null]));
-    Ok(())
+    asks(rt.alloc(), SCHEMA, "N.Row", FILTER, Asked::Kinds(KINDS))?;
+    asks(rt.alloc(), SCHEMA, "N.Row", FILTER, Asked::OneAndNull)
 }
 
 /// The slot of each node that names a property, of the filtered type or of the type before a step.
@@ -149,18 +91,11 @@ const SLOTS: &[Option<usize>] = &[
     Some(1),
     None,
     None,
-    None,
 ];
 
 #[test]
 fn slots(rt: HostRuntime) -> Result<(), Fail> {
-    let schema = Schema::read(rt.alloc(), SCHEMA.as_bytes())?;
-    let row = schema.type_named("N.Row").ok_or("the type")?;
-    let checked = check(rt.alloc(), &schema, row, FILTER)?;
-    for (node, slot) in SLOTS.iter().enumerate() {
-        assert!(rt; checked.slot_of(node) == *slot, "at {node}");
-    }
-    Ok(())
+    asks(rt.alloc(), SCHEMA, "N.Row", FILTER, Asked::Slots(SLOTS))
 }
 
 const OPERATORS: &[&str] = &["add", "sub", "mul", "div", "mod"];
@@ -174,56 +109,35 @@ const PROMOTED: &[&str] = &["n22248", "222248", "222248", "222248", "444448", "8
 /// The type of the negation of each of them.
 const NEGATED: &str = "n22248";
 
-/// Whether the second node of a filter has that type.
-fn has_type(alloc: Global, schema: &Schema, filter: &str, letter: u8) -> Result<bool, Fail> {
-    let row = schema.type_named("N.Row").ok_or("the type")?;
-    let checked = check(alloc, schema, row, filter)?;
-    Ok(checked.type_of(1) == type_of_letter(schema, letter))
+/// Fails if the second node of a filter has another type.
+fn has_type(alloc: Global, filter: &str, letter: u8) -> Result<(), Fail> {
+    asks(alloc, SCHEMA, "N.Row", filter, Asked::SecondType(letter))
 }
 
-/// Whether arithmetic on these two has that type.
-fn is_promoted(
-    alloc: Global,
-    schema: &Schema,
-    operator: &str,
-    left: &str,
-    right: &str,
-    letter: u8,
-) -> Result<bool, Fail> {
-    let filter = format!(in alloc; "{left} {operator} {right} eq null")?;
-    has_type(alloc, schema, filter.as_str(), letter)
+/// Fails if arithmetic on the operand at the left and one at the right has another type.
+fn are_promoted(alloc: Global, operator: &str, left: &str, letters: &str) -> Result<(), Fail> {
+    for (right, letter) in OPERANDS.iter().zip(letters.bytes()) {
+        let filter = format!(in alloc; "{left} {operator} {right} eq null")?;
+        has_type(alloc, filter.as_str(), letter)?;
+    }
+    Ok(())
 }
 
 #[test]
 fn promotions(rt: HostRuntime) -> Result<(), Fail> {
-    let schema = Schema::read(rt.alloc(), SCHEMA.as_bytes())?;
     for operator in OPERATORS {
         for (left, letters) in OPERANDS.iter().zip(PROMOTED.iter()) {
-            for (right, letter) in OPERANDS.iter().zip(letters.bytes()) {
-                assert!(rt;
-                    is_promoted(rt.alloc(), &schema, operator, left, right, letter)?,
-                    "{left} {operator} {right}"
-                );
-            }
+            are_promoted(rt.alloc(), operator, left, letters)?;
         }
     }
     Ok(())
 }
 
-/// Whether the negation of this has that type.
-fn is_negated(alloc: Global, schema: &Schema, operand: &str, letter: u8) -> Result<bool, Fail> {
-    let filter = format!(in alloc; "- {operand} eq null")?;
-    has_type(alloc, schema, filter.as_str(), letter)
-}
-
 #[test]
 fn negations(rt: HostRuntime) -> Result<(), Fail> {
-    let schema = Schema::read(rt.alloc(), SCHEMA.as_bytes())?;
     for (operand, letter) in OPERANDS.iter().zip(NEGATED.bytes()) {
-        assert!(rt;
-            is_negated(rt.alloc(), &schema, operand, letter)?,
-            "- {operand}"
-        );
+        let filter = format!(in rt.alloc(); "- {operand} eq null")?;
+        has_type(rt.alloc(), filter.as_str(), letter)?;
     }
     Ok(())
 }

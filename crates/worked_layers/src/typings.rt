@@ -1,23 +1,13 @@
 //! Filters of the entity type `Mini.Item`: their types, or the places of their faults.
-use csdl_schema::Schema;
-use edm_values::Prim;
+use crate::asked::{Asked, asks, is_refused};
 use odata_syntax::SyntaxFault;
 use odata_text::{Span, TextFault};
-use odata_typing::{Checked, EdmType, Refusal, TypeFault, TypeFaultCode, ValueType, check};
+use odata_typing::{Refusal, TypeFault, TypeFaultCode};
 use std::alloc::{AllocError, Global};
 use std::test::Fail;
 
 const SCHEMA: &str =
     "{\"$Version\":\"4.01\",\"Mini\":{\"Item\":{\"$Kind\":\"EntityType\",\"ID\":{\"$Type\":\"Edm.Int32\"},\"Name\":{},\"Active\":{\"$Type\":\"Edm.Boolean\"},\"Price\":{\"$Type\":\"Edm.Decimal\"},\"Maker\":{\"$Kind\":\"NavigationProperty\",\"$Type\":\"Mini.Item\"}}}}";
-
-/// The refusal of a filter of `Mini.Item`, if it is refused.
-fn refusal_of(alloc: Global, schema: &Schema, text: &str) -> Result<Option<Refusal>, Fail> {
-    let item = schema.type_named("Mini.Item").ok_or("the type")?;
-    if !schema.holds(item) {
-        return Err(Fail::from("no type"));
-    }
-    Ok(check(alloc, schema, item, text).err())
-}
 
 /// The refusal of a filter without a type.
 fn untyped(code: TypeFaultCode, start: usize, stop: usize) -> Refusal {
@@ -45,17 +35,18 @@ const UNTYPABLE: &[(&str, TypeFaultCode, usize, usize)] = &[
     ("1 eq 1 eq 1", TypeFaultCode::OperandTypes, 0, 11),
 ];
 
-#[test]
-fn untypable_filters(rt: HostRuntime) -> Result<(), Fail> {
-    let schema = Schema::read(rt.alloc(), SCHEMA.as_bytes())?;
-    for &(text, code, start, stop) in UNTYPABLE {
-        let wanted = untyped(code, start, stop);
-        assert!(rt;
-            refusal_of(rt.alloc(), &schema, text)? == Some(wanted),
-            "at {text}"
-        );
+/// Fails at the first filter that has another fault, or elsewhere.
+fn all_untypable(alloc: Global, rows: &[(&str, TypeFaultCode, usize, usize)]) -> Result<(), Fail> {
+    for &(text, code, start, stop) in rows {
+        let wanted = Some(untyped(code, start, stop));
+        is_refused(alloc, SCHEMA, "Mini.Item", text, wanted)?;
     }
     Ok(())
+}
+
+#[test]
+fn untypable_filters(rt: HostRuntime) -> Result<(), Fail> {
+    all_untypable(rt.alloc(), UNTYPABLE)
 }
 
 /// A type with a property of each kind, and a base.
@@ -81,27 +72,21 @@ const PROPERTIES: &[(&str, TypeFaultCode)] = &[
 /// are no filters by themselves unless they are Boolean.
 #[test]
 fn properties_by_name(rt: HostRuntime) -> Result<(), Fail> {
-    let schema = Schema::read(rt.alloc(), KINDS.as_bytes())?;
     for &(name, code) in PROPERTIES {
-        let wanted = untyped(code, 0, name.len());
-        assert!(rt;
-            refusal_of(rt.alloc(), &schema, name)? == Some(wanted),
-            "at {name}"
-        );
+        let wanted = Some(untyped(code, 0, name.len()));
+        is_refused(rt.alloc(), KINDS, "Mini.Item", name, wanted)?;
     }
-    assert!(rt; refusal_of(rt.alloc(), &schema, "Maybe")?.is_none());
-    Ok(())
+    is_refused(rt.alloc(), KINDS, "Mini.Item", "Maybe", None)
 }
+
+/// The slots of the nodes of `On and ID eq 1`.
+const SLOTS_OF_A_BASE: &[Option<usize>] = &[None, Some(1), None, Some(0), None];
 
 /// The slots of the base come first.
 #[test]
 fn slots_of_a_base(rt: HostRuntime) -> Result<(), Fail> {
-    let schema = Schema::read(rt.alloc(), KINDS.as_bytes())?;
-    let item = schema.type_named("Mini.Item").ok_or("the type")?;
-    assert!(rt; schema.holds(item));
-    let checked = check(rt.alloc(), &schema, item, "On and ID eq 1")?;
-    assert!(rt; checked.slot_of(1) == Some(1) && checked.slot_of(3) == Some(0));
-    Ok(())
+    let asked = Asked::Slots(SLOTS_OF_A_BASE);
+    asks(rt.alloc(), KINDS, "Mini.Item", "On and ID eq 1", asked)
 }
 
 /// A filter with a form that has no type, its fault, and where that begins and ends.
@@ -136,15 +121,7 @@ const FORMS: &[(&str, TypeFaultCode, usize, usize)] = &[
 /// The body of a lambda operator is not looked at.
 #[test]
 fn forms_without_types(rt: HostRuntime) -> Result<(), Fail> {
-    let schema = Schema::read(rt.alloc(), SCHEMA.as_bytes())?;
-    for &(text, code, start, stop) in FORMS {
-        let wanted = untyped(code, start, stop);
-        assert!(rt;
-            refusal_of(rt.alloc(), &schema, text)? == Some(wanted),
-            "at {text}"
-        );
-    }
-    Ok(())
+    all_untypable(rt.alloc(), FORMS)
 }
 
 /// A text, and its refusal.
@@ -177,61 +154,31 @@ const BEFORE_TYPING: &[(&str, Refusal)] = &[
 
 #[test]
 fn filters_refused_before_typing(rt: HostRuntime) -> Result<(), Fail> {
-    let schema = Schema::read(rt.alloc(), SCHEMA.as_bytes())?;
     for &(text, wanted) in BEFORE_TYPING {
-        assert!(rt;
-            refusal_of(rt.alloc(), &schema, text)? == Some(wanted),
-            "at {text}"
-        );
+        is_refused(rt.alloc(), SCHEMA, "Mini.Item", text, Some(wanted))?;
     }
     Ok(())
 }
 
 const FILTER: &str = "Active and ID eq 2147483648 and Name eq 'a'";
 
-/// Whether the node has that type, and stands there.
-fn is_node(checked: &Checked<'_>, node: usize, prim: Prim, span: Span) -> bool {
-    checked.type_of(node) == Some(EdmType::Single(ValueType::Prim(prim)))
-        && checked.span_of(node) == Some(span)
-}
-
-/// Whether there is no tenth node, and nothing in the filter takes memory or the time.
-fn is_at_end(checked: &Checked<'_>) -> bool {
-    checked.type_of(9).is_none()
-        && checked.span_of(9).is_none()
-        && !checked.takes_memory()
-        && !checked.uses_now()
-}
-
-/// A node, its type, and where it begins and ends.
-const NODES: &[(usize, Prim, usize, usize)] = &[
-    (0, Prim::Bool, 0, 43),
-    (1, Prim::Bool, 0, 27),
-    (2, Prim::Bool, 0, 6),
-    (3, Prim::Bool, 11, 27),
-    (4, Prim::Int32, 11, 13),
-    (5, Prim::Int64, 17, 27),
-    (6, Prim::Bool, 32, 43),
-    (7, Prim::String, 32, 36),
-    (8, Prim::String, 40, 43),
+/// The type of each node, by a letter, and where it begins and ends.
+const NODES: &[(u8, usize, usize)] = &[
+    (b'b', 0, 43),
+    (b'b', 0, 27),
+    (b'b', 0, 6),
+    (b'b', 11, 27),
+    (b'4', 11, 13),
+    (b'8', 17, 27),
+    (b'b', 32, 43),
+    (b's', 32, 36),
+    (b's', 40, 43),
 ];
 
 /// The nodes in pre-order, each with its type and its place.
 #[test]
 fn nodes(rt: HostRuntime) -> Result<(), Fail> {
-    let schema = Schema::read(rt.alloc(), SCHEMA.as_bytes())?;
-    let item = schema.type_named("Mini.Item").ok_or("the type")?;
-    assert!(rt; schema.holds(item));
-    let checked = check(rt.alloc(), &schema, item, FILTER)?;
-    assert_eq!(rt; checked.node_count(), 9);
-    for &(node, prim, start, stop) in NODES {
-        assert!(rt;
-            is_node(&checked, node, prim, Span { start, stop }),
-            "at {node}"
-        );
-    }
-    assert!(rt; is_at_end(&checked));
-    Ok(())
+    asks(rt.alloc(), SCHEMA, "Mini.Item", FILTER, Asked::Types(NODES))
 }
 
 /// `true` 1,821 times, joined by ` and `: 16,384 bytes.
@@ -250,13 +197,12 @@ const LAST: Span = Span {
 /// There is a node for each word.
 #[test]
 fn long_filters(rt: HostRuntime) -> Result<(), Fail> {
-    let schema = Schema::read(rt.alloc(), SCHEMA.as_bytes())?;
-    let item = schema.type_named("Mini.Item").ok_or("the type")?;
     let text = long_filter(rt.alloc())?;
-    assert!(rt; schema.holds(item));
-    let checked = check(rt.alloc(), &schema, item, text.as_str())?;
-    assert_eq!(rt; checked.node_count(), 3641);
-    assert!(rt; checked.span_of(3640) == Some(LAST));
-    assert!(rt; checked.span_of(3641).is_none());
-    Ok(())
+    asks(
+        rt.alloc(),
+        SCHEMA,
+        "Mini.Item",
+        text.as_str(),
+        Asked::Last(3641, LAST),
+    )
 }
