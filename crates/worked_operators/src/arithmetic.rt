@@ -1,5 +1,5 @@
 //! Arithmetic: at both bounds of each type, by zero and by -1, with operands of one type and of two.
-use crate::numbers::comes_to;
+use crate::numbers::all_come_to;
 use std::test::Fail;
 
 /// Of operands of type Edm.Int16: a computation, and the number, `null` or the fault that it comes to.
@@ -32,13 +32,7 @@ const SIXTEEN: &[(&str, &str)] = &[
 
 #[test]
 fn sixteen_bits(rt: HostRuntime) -> Result<(), Fail> {
-    for &(computation, wanted) in SIXTEEN {
-        assert!(rt;
-            comes_to(rt.alloc(), computation, wanted)?,
-            "at {computation}"
-        );
-    }
-    Ok(())
+    all_come_to(rt.alloc(), SIXTEEN)
 }
 
 /// Of Edm.Int32.
@@ -71,13 +65,7 @@ const THIRTY_TWO: &[(&str, &str)] = &[
 
 #[test]
 fn thirty_two_bits(rt: HostRuntime) -> Result<(), Fail> {
-    for &(computation, wanted) in THIRTY_TWO {
-        assert!(rt;
-            comes_to(rt.alloc(), computation, wanted)?,
-            "at {computation}"
-        );
-    }
-    Ok(())
+    all_come_to(rt.alloc(), THIRTY_TWO)
 }
 
 /// Of Edm.Int64, perhaps beside a narrower one.
@@ -105,13 +93,7 @@ const SIXTY_FOUR: &[(&str, &str)] = &[
 
 #[test]
 fn sixty_four_bits(rt: HostRuntime) -> Result<(), Fail> {
-    for &(computation, wanted) in SIXTY_FOUR {
-        assert!(rt;
-            comes_to(rt.alloc(), computation, wanted)?,
-            "at {computation}"
-        );
-    }
-    Ok(())
+    all_come_to(rt.alloc(), SIXTY_FOUR)
 }
 
 /// The wider of two types is that of the result; Edm.Byte and Edm.SByte count as Edm.Int16, and so does null.
@@ -152,11 +134,5 @@ const MIXED: &[(&str, &str)] = &[
 
 #[test]
 fn mixed_widths(rt: HostRuntime) -> Result<(), Fail> {
-    for &(computation, wanted) in MIXED {
-        assert!(rt;
-            comes_to(rt.alloc(), computation, wanted)?,
-            "at {computation}"
-        );
-    }
-    Ok(())
+    all_come_to(rt.alloc(), MIXED)
 }

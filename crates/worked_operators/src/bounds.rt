@@ -91,10 +91,9 @@ fn at_both_bounds(rt: HostRuntime) -> Result<(), Fail> {
     for &(operator, letters) in OPERATORS {
         for &(operands, near) in TYPES {
             let (greatest, _, _, _) = near;
-            assert!(rt;
-                makes(rt.alloc(), operator, letters, operands, near)?,
-                "{operator} at the bounds by {greatest}"
-            );
+            if !makes(rt.alloc(), operator, letters, operands, near)? {
+                return Err(Fail::new(format_args!("{operator} at the bounds by {greatest}")));
+            }
         }
     }
     Ok(())

@@ -75,10 +75,9 @@ fn is_beside(alloc: Global, left: &str, right: &str, beside: u8) -> Result<bool,
 fn each_two_types(rt: HostRuntime) -> Result<(), Fail> {
     for (left, row) in OPERANDS.iter().zip(BESIDE.iter()) {
         for (right, beside) in OPERANDS.iter().zip(row.bytes()) {
-            assert!(rt;
-                is_beside(rt.alloc(), left, right, beside)?,
-                "{left} beside {right}"
-            );
+            if !is_beside(rt.alloc(), left, right, beside)? {
+                return Err(Fail::new(format_args!("{left} beside {right}")));
+            }
         }
     }
     Ok(())
@@ -117,10 +116,9 @@ fn are_in_order(alloc: Global, less: &str, greater: &str) -> Result<bool, AllocE
 #[test]
 fn values_in_order(rt: HostRuntime) -> Result<(), Fail> {
     for &(less, greater) in IN_ORDER {
-        assert!(rt;
-            are_in_order(rt.alloc(), less, greater)?,
-            "{less} beside {greater}"
-        );
+        if !are_in_order(rt.alloc(), less, greater)? {
+            return Err(Fail::new(format_args!("{less} beside {greater}")));
+        }
     }
     Ok(())
 }
@@ -160,10 +158,9 @@ const EQUAL: &[(&str, &str, u8)] = &[
 #[test]
 fn equal_values(rt: HostRuntime) -> Result<(), Fail> {
     for &(left, right, beside) in EQUAL {
-        assert!(rt;
-            are_beside(rt.alloc(), left, right, beside)?,
-            "{left} beside {right}"
-        );
+        if !are_beside(rt.alloc(), left, right, beside)? {
+            return Err(Fail::new(format_args!("{left} beside {right}")));
+        }
     }
     Ok(())
 }
@@ -185,10 +182,9 @@ const UNORDERED: &[(&str, &str, u8)] = &[
 #[test]
 fn unequal_values(rt: HostRuntime) -> Result<(), Fail> {
     for &(left, right, beside) in UNORDERED {
-        assert!(rt;
-            are_beside(rt.alloc(), left, right, beside)?,
-            "{left} beside {right}"
-        );
+        if !are_beside(rt.alloc(), left, right, beside)? {
+            return Err(Fail::new(format_args!("{left} beside {right}")));
+        }
     }
     Ok(())
 }

@@ -1,5 +1,5 @@
 //! The whole tables of `and`, `or` and `not`, and where their right side is left out.
-use crate::kinds::answers;
+use crate::kinds::{all_answer, answers};
 use std::alloc::{AllocError, Global};
 use std::test::Fail;
 
@@ -40,10 +40,9 @@ fn tables(rt: HostRuntime) -> Result<(), Fail> {
     for &(operator, rows) in TABLES {
         for (left, row) in OPERANDS.iter().zip(rows.iter()) {
             for (right, letter) in OPERANDS.iter().zip(row.bytes()) {
-                assert!(rt;
-                    connects(rt.alloc(), operator, left, right, letter)?,
-                    "({left}) {operator} ({right})"
-                );
+                if !connects(rt.alloc(), operator, left, right, letter)? {
+                    return Err(Fail::new(format_args!("({left}) {operator} ({right})")));
+                }
             }
         }
     }
@@ -59,7 +58,9 @@ fn turns(alloc: Global, operand: &str, letter: u8) -> Result<bool, AllocError> {
 #[test]
 fn opposites(rt: HostRuntime) -> Result<(), Fail> {
     for (operand, letter) in OPERANDS.iter().zip(OPPOSITES.bytes()) {
-        assert!(rt; turns(rt.alloc(), operand, letter)?, "not ({operand})");
+        if !turns(rt.alloc(), operand, letter)? {
+            return Err(Fail::new(format_args!("not ({operand})")));
+        }
     }
     Ok(())
 }
@@ -84,8 +85,5 @@ const FAULTS: &[(&str, &str)] = &[
 
 #[test]
 fn faults(rt: HostRuntime) -> Result<(), Fail> {
-    for &(filter, wanted) in FAULTS {
-        assert!(rt; answers(rt.alloc(), filter, wanted)?, "at {filter}");
-    }
-    Ok(())
+    all_answer(rt.alloc(), FAULTS)
 }

@@ -1,5 +1,5 @@
 //! Filters that have no type: each reason at each place of a tree of three levels, and which of two is told.
-use crate::kinds::answers;
+use crate::kinds::{all_answer, answers};
 use std::alloc::{AllocError, Global};
 use std::test::Fail;
 
@@ -67,10 +67,9 @@ fn is_told(
 fn each_reason_at_each_place(rt: HostRuntime) -> Result<(), Fail> {
     for &(text, reason) in UNTYPED {
         for &(before, behind) in PLACES {
-            assert!(rt;
-                is_told(rt.alloc(), text, reason, before, behind)?,
-                "at {before}{text}{behind}"
-            );
+            if !is_told(rt.alloc(), text, reason, before, behind)? {
+                return Err(Fail::new(format_args!("at {before}{text}{behind}")));
+            }
         }
     }
     Ok(())
@@ -109,10 +108,7 @@ const OPERANDS: &[(&str, &str)] = &[
 
 #[test]
 fn operands(rt: HostRuntime) -> Result<(), Fail> {
-    for &(filter, line) in OPERANDS {
-        assert!(rt; answers(rt.alloc(), filter, line)?, "at {filter}");
-    }
-    Ok(())
+    all_answer(rt.alloc(), OPERANDS)
 }
 
 /// Of several the leftmost is told, and a parent only where its children have types.
@@ -147,8 +143,5 @@ const SEVERAL: &[(&str, &str)] = &[
 
 #[test]
 fn the_first_of_several(rt: HostRuntime) -> Result<(), Fail> {
-    for &(filter, line) in SEVERAL {
-        assert!(rt; answers(rt.alloc(), filter, line)?, "at {filter}");
-    }
-    Ok(())
+    all_answer(rt.alloc(), SEVERAL)
 }

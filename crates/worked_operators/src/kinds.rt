@@ -1,6 +1,7 @@
 //! A type with two properties of each kind, and one row of it, which has null for the second ones.
 use crate::answer::answer;
 use std::alloc::{AllocError, Global};
+use std::test::Fail;
 
 const SCHEMA: &str =
     "{\"$Version\":\"4.01\",\"K\":{\"$Alias\":\"A\",\"Color\":{\"$Kind\":\"EnumType\",\"$IsFlags\":true,\"Red\":1,\"Green\":2},\"Size\":{\"$Kind\":\"EnumType\",\"$UnderlyingType\":\"Edm.Byte\",\"Small\":1,\"Large\":2},\"Home\":{\"$Kind\":\"ComplexType\",\"City\":{\"$Nullable\":true}},\"Item\":{\"$Kind\":\"EntityType\",\"Bool\":{\"$Type\":\"Edm.Boolean\"},\"SByte\":{\"$Type\":\"Edm.SByte\"},\"Byte\":{\"$Type\":\"Edm.Byte\"},\"Short\":{\"$Type\":\"Edm.Int16\"},\"Int\":{\"$Type\":\"Edm.Int32\"},\"Long\":{\"$Type\":\"Edm.Int64\"},\"Text\":{},\"Day\":{\"$Type\":\"Edm.Date\"},\"Time\":{\"$Type\":\"Edm.DateTimeOffset\"},\"Code\":{\"$Type\":\"Edm.Guid\"},\"Color\":{\"$Type\":\"K.Color\"},\"Size\":{\"$Type\":\"A.Size\"},\"Home\":{\"$Type\":\"K.Home\"},\"Tags\":{\"$Collection\":true},\"NoText\":{\"$Nullable\":true},\"NoHome\":{\"$Type\":\"K.Home\",\"$Nullable\":true},\"NoBool\":{\"$Type\":\"Edm.Boolean\",\"$Nullable\":true},\"NoSByte\":{\"$Type\":\"Edm.SByte\",\"$Nullable\":true},\"NoByte\":{\"$Type\":\"Edm.Byte\",\"$Nullable\":true},\"NoShort\":{\"$Type\":\"Edm.Int16\",\"$Nullable\":true},\"NoInt\":{\"$Type\":\"Edm.Int32\",\"$Nullable\":true},\"NoLong\":{\"$Type\":\"Edm.Int64\",\"$Nullable\":true},\"NoDay\":{\"$Type\":\"Edm.Date\",\"$Nullable\":true},\"NoTime\":{\"$Type\":\"Edm.DateTimeOffset\",\"$Nullable\":true},\"NoCode\":{\"$Type\":\"Edm.Guid\",\"$Nullable\":true},\"NoColor\":{\"$Type\":\"K.Color\",\"$Nullable\":true},\"NoSize\":{\"$Type\":\"A.Size\",\"$Nullable\":true},\"Price\":{\"$Type\":\"Edm.Decimal\"},\"Next\":{\"$Kind\":\"NavigationProperty\",\"$Type\":\"K.Item\"}}}}";
@@ -17,4 +18,15 @@ fn answer_of(alloc: Global, filter: &str) -> Result<String, AllocError> {
 pub(crate) fn answers(alloc: Global, filter: &str, wanted: &str) -> Result<bool, AllocError> {
     let told = answer_of(alloc, filter)?;
     Ok(told.as_str() == wanted)
+}
+
+/// Fails at the first filter with another answer.
+pub(crate) fn all_answer(alloc: Global, rows: &[(&str, &str)]) -> Result<(), Fail> {
+    for &(filter, wanted) in rows {
+        let told = answer_of(alloc, filter)?;
+        if told.as_str() != wanted {
+            return Err(Fail::new(format_args!("{told}, not {wanted}: {filter}")));
+        }
+    }
+    Ok(())
 }

@@ -1,6 +1,6 @@
 //! Literals with a value and without one, and the types of whole numbers.
-use crate::kinds::answers;
-use crate::numbers::comes_to;
+use crate::kinds::{all_answer, answers};
+use crate::numbers::all_come_to;
 use std::alloc::{AllocError, Global};
 use std::test::Fail;
 
@@ -54,7 +54,9 @@ fn is_refused(alloc: Global, literal: &str, reason: &str) -> Result<bool, AllocE
 #[test]
 fn literals_without_a_value(rt: HostRuntime) -> Result<(), Fail> {
     for &(literal, reason) in WITHOUT_VALUE {
-        assert!(rt; is_refused(rt.alloc(), literal, reason)?, "at {literal}");
+        if !is_refused(rt.alloc(), literal, reason)? {
+            return Err(Fail::new(literal));
+        }
     }
     Ok(())
 }
@@ -95,7 +97,9 @@ fn equals_itself(alloc: Global, literal: &str) -> Result<bool, AllocError> {
 #[test]
 fn literals_with_a_value(rt: HostRuntime) -> Result<(), Fail> {
     for &literal in WITH_VALUE {
-        assert!(rt; equals_itself(rt.alloc(), literal)?, "at {literal}");
+        if !equals_itself(rt.alloc(), literal)? {
+            return Err(Fail::new(literal));
+        }
     }
     Ok(())
 }
@@ -114,19 +118,12 @@ const WHOLE_NUMBERS: &[(&str, &str)] = &[
 
 #[test]
 fn types_of_whole_numbers(rt: HostRuntime) -> Result<(), Fail> {
-    for &(computation, wanted) in WHOLE_NUMBERS {
-        assert!(rt;
-            comes_to(rt.alloc(), computation, wanted)?,
-            "at {computation}"
-        );
-    }
-    Ok(())
+    all_come_to(rt.alloc(), WHOLE_NUMBERS)
 }
 
 /// A minus sign before a blank is no part of the number behind it, which has no value where it is too large.
 #[test]
 fn signs_before_blanks(rt: HostRuntime) -> Result<(), Fail> {
-    let (filter, line) = ("- 9223372036854775808 lt 0", "refused LiteralRange 2..21");
-    assert!(rt; answers(rt.alloc(), filter, line)?);
-    Ok(())
+    let row = ("- 9223372036854775808 lt 0", "refused LiteralRange 2..21");
+    all_answer(rt.alloc(), &[row])
 }

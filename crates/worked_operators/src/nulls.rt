@@ -47,10 +47,9 @@ const BESIDE_NULLS: &[&str] = &[
 fn nulls_beside_values(rt: HostRuntime) -> Result<(), Fail> {
     for (unset, row) in NULLS.iter().zip(BESIDE_VALUES.iter()) {
         for (value, beside) in OPERANDS.iter().zip(row.bytes()) {
-            assert!(rt;
-                are_beside(rt.alloc(), unset, value, beside)?,
-                "{unset} beside {value}"
-            );
+            if !are_beside(rt.alloc(), unset, value, beside)? {
+                return Err(Fail::new(format_args!("{unset} beside {value}")));
+            }
         }
     }
     Ok(())
@@ -60,10 +59,9 @@ fn nulls_beside_values(rt: HostRuntime) -> Result<(), Fail> {
 fn nulls_beside_nulls(rt: HostRuntime) -> Result<(), Fail> {
     for (unset, row) in NULLS.iter().zip(BESIDE_NULLS.iter()) {
         for (other, beside) in NULLS.iter().zip(row.bytes()) {
-            assert!(rt;
-                are_beside(rt.alloc(), unset, other, beside)?,
-                "{unset} beside {other}"
-            );
+            if !are_beside(rt.alloc(), unset, other, beside)? {
+                return Err(Fail::new(format_args!("{unset} beside {other}")));
+            }
         }
     }
     Ok(())

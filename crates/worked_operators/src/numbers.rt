@@ -1,6 +1,7 @@
 //! A type with numbers of each type, some of them at its bounds, and one row of it.
 use crate::answer::answer;
 use std::alloc::{AllocError, Global};
+use std::test::Fail;
 
 const SCHEMA: &str =
     "{\"$Version\":\"4.01\",\"N\":{\"Row\":{\"$Kind\":\"EntityType\",\"High2\":{\"$Type\":\"Edm.Int16\"},\"Low2\":{\"$Type\":\"Edm.Int16\"},\"Zero2\":{\"$Type\":\"Edm.Int16\"},\"One2\":{\"$Type\":\"Edm.Int16\"},\"Minus2\":{\"$Type\":\"Edm.Int16\"},\"High8\":{\"$Type\":\"Edm.Int64\"},\"Low8\":{\"$Type\":\"Edm.Int64\"},\"One8\":{\"$Type\":\"Edm.Int64\"},\"Byte\":{\"$Type\":\"Edm.Byte\"},\"ByteOne\":{\"$Type\":\"Edm.Byte\"},\"SByte\":{\"$Type\":\"Edm.SByte\"},\"SByteOne\":{\"$Type\":\"Edm.SByte\"},\"None2\":{\"$Type\":\"Edm.Int16\",\"$Nullable\":true}}}}";
@@ -19,4 +20,14 @@ pub(crate) fn comes_to(alloc: Global, computation: &str, wanted: &str) -> Result
     }
     let line = format!(in alloc; "row 1 {wanted}")?;
     Ok(told.as_str() == line.as_str())
+}
+
+/// Fails at the first computation that comes to something else.
+pub(crate) fn all_come_to(alloc: Global, rows: &[(&str, &str)]) -> Result<(), Fail> {
+    for &(computation, wanted) in rows {
+        if !comes_to(alloc, computation, wanted)? {
+            return Err(Fail::new(format_args!("not {wanted}: {computation}")));
+        }
+    }
+    Ok(())
 }

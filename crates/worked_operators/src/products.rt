@@ -54,10 +54,9 @@ const ONE_PRODUCT: &[(&str, &str, &str)] = &[
 #[test]
 fn rows_of_one_product(rt: HostRuntime) -> Result<(), Fail> {
     for &(changed, filter, wanted) in ONE_PRODUCT {
-        assert!(rt;
-            answers(rt.alloc(), changed, filter, wanted)?,
-            "at {filter}"
-        );
+        if !answers(rt.alloc(), changed, filter, wanted)? {
+            return Err(Fail::new(filter));
+        }
     }
     Ok(())
 }
@@ -89,10 +88,9 @@ const NULL_AND_STEPS: &[(&str, &str, &str)] = &[
 #[test]
 fn null_and_steps(rt: HostRuntime) -> Result<(), Fail> {
     for &(changed, filter, wanted) in NULL_AND_STEPS {
-        assert!(rt;
-            answers(rt.alloc(), changed, filter, wanted)?,
-            "at {filter}"
-        );
+        if !answers(rt.alloc(), changed, filter, wanted)? {
+            return Err(Fail::new(filter));
+        }
     }
     Ok(())
 }
@@ -175,10 +173,9 @@ const SEVERAL: &[(&str, &str, &str, &str)] = &[
 #[test]
 fn several_rows(rt: HostRuntime) -> Result<(), Fail> {
     for &(ratings, filter, kept, line) in SEVERAL {
-        assert!(rt;
-            keeps(rt.alloc(), ratings, filter, kept, line)?,
-            "at {filter}"
-        );
+        if !keeps(rt.alloc(), ratings, filter, kept, line)? {
+            return Err(Fail::new(filter));
+        }
     }
     Ok(())
 }
@@ -189,12 +186,19 @@ const FAULTY: &[(&str, &str)] = &[
     ("{\"ID\":1", "row 1 Json\n"),
 ];
 
+/// Whether nothing is kept of the rows, and the line is told.
+fn fails(alloc: Global, rows: &str, line: &str) -> bool {
+    outcome_of(alloc, SHOP, "Shop.Product", "Rating ge 3", rows).is("", line, 4)
+}
+
 #[test]
-fn faulty_rows(rt: HostRuntime) {
+fn faulty_rows(rt: HostRuntime) -> Result<(), Fail> {
     for &(rows, line) in FAULTY {
-        let told = outcome_of(rt.alloc(), SHOP, "Shop.Product", "Rating ge 3", rows);
-        assert!(rt; told.is("", line, 4), "at {rows}");
+        if !fails(rt.alloc(), rows, line) {
+            return Err(Fail::new(rows));
+        }
     }
+    Ok(())
 }
 
 /// A plus sign of a query stays one, escaped or not.
@@ -216,7 +220,9 @@ fn keeps_by_query(alloc: Global, query: &str) -> Result<bool, AllocError> {
 #[test]
 fn moments_of_queries(rt: HostRuntime) -> Result<(), Fail> {
     for &query in QUERIES {
-        assert!(rt; keeps_by_query(rt.alloc(), query)?, "at {query}");
+        if !keeps_by_query(rt.alloc(), query)? {
+            return Err(Fail::new(query));
+        }
     }
     Ok(())
 }

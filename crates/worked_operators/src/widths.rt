@@ -44,10 +44,9 @@ fn each_two_widths(rt: HostRuntime) -> Result<(), Fail> {
     for operator in OPERATORS {
         for (left, widths) in ONES.iter().zip(WIDTHS.iter()) {
             for (right, width) in ONES.iter().zip(widths.bytes()) {
-                assert!(rt;
-                    are_computed(rt.alloc(), operator, left, right, width)?,
-                    "{left} {operator} {right}"
-                );
+                if !are_computed(rt.alloc(), operator, left, right, width)? {
+                    return Err(Fail::new(format_args!("{left} {operator} {right}")));
+                }
             }
         }
     }
@@ -63,7 +62,9 @@ fn is_negated(alloc: Global, operand: &str, width: u8) -> Result<bool, AllocErro
 #[test]
 fn negations(rt: HostRuntime) -> Result<(), Fail> {
     for (operand, width) in ONES.iter().zip(NEGATED.bytes()) {
-        assert!(rt; is_negated(rt.alloc(), operand, width)?, "at {operand}");
+        if !is_negated(rt.alloc(), operand, width)? {
+            return Err(Fail::new(operand));
+        }
     }
     Ok(())
 }
