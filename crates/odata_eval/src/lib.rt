@@ -5,6 +5,7 @@ mod datum;
 mod evaluator;
 mod fault;
 mod laws;
+mod number_walk;
 mod operators;
 mod part;
 mod verdict;

@@ -6,22 +6,18 @@
 ghost use Rattle.std.specs.Prelude.{◌≡◌, ◌+◌, [], Ok};
 ghost use Rattle.edm_entities.specs.Row.{IsEntity};
 ghost use Rattle.odata_signatures.specs.OperatorClass.{class_of};
-ghost use Rattle.odata_eval.specs.private.Place.{HasOperator, HasOperatorOf, IsClassAt, NumberStands, PartStands, TruthStands};
+ghost use Rattle.odata_eval.specs.private.Place.{HasOperator, HasOperatorOf, IsClassAt, PartStands, TruthStands};
 ghost use Rattle.odata_eval.specs.private.WalkClass.{walk_of_operator};
-ghost use Rattle.odata_eval.specs.private.WalkAnswer.{AnswersDatum, AnswersNumber, AnswersTruth};
+ghost use Rattle.odata_eval.specs.private.WalkAnswer.{AnswersDatum, AnswersTruth};
 
-use super::datum::{
-    datum_of, datum_of_number, datum_of_truth, kept_number, kept_truth, number_of, step, truth_of,
-};
+use super::datum::{datum_of, datum_of_number, datum_of_truth, kept_truth, step, truth_of};
 use super::fault::EvalFault;
 use super::laws::typed_trees_end_once_on_entities;
+use super::number_walk::{number_at, number_chain_at};
 use super::operators::{
-    arithmetic_of, calculated, compare_kept, compare_numbers, comparison_of, connective_of,
-    decides, join, negated,
+    compare_kept, compare_numbers, comparison_of, connective_of, decides, join,
 };
-use super::part::{
-    Part, WalkClass, class_at, is_class_at, node_at, part_at, right_of, spine_bottom,
-};
+use super::part::{Part, WalkClass, class_at, node_at, part_at, right_of, spine_bottom};
 use edm_entities::Entity;
 use edm_values::{Datum, Moment, Value};
 use odata_functions::{
@@ -76,10 +72,7 @@ fn plain_truth_at<'e>(
     match part_at(checked, entity, place) {
         Part::Leaf(value) => Ok(kept_truth(value)),
         Part::Logical => unreachable!(),
-        Part::Numeric => match number_at(checked, entity, now, place) {
-            Ok(number) => Ok(truth_of(&datum_of_number(number))),
-            Err(fault) => Err(fault),
-        },
+        Part::Numeric => numeric_truth_at(checked, entity, now, place),
         Part::Eager => made_truth_at(checked, entity, now, place),
     }
 }
@@ -147,6 +140,26 @@ fn numbers_truth_at<'e>(
             Err(fault) => Err(fault),
         },
         _ => made_truth_at(checked, entity, now, place),
+    }
+}
+
+/// The same, of a node of numbers.
+#[cycle(evaluate)]
+fn numeric_truth_at<'e>(
+    checked: &'e Checked<'_>,
+    entity: &'e Entity<'_>,
+    now: &Moment,
+    place: usize,
+) -> Result<Option<bool>, EvalFault>
+    requires entity { IsEntity entity.now }
+    requires stands { TruthStands entity.now [] checked.now.list place }
+    requires numeric { IsClassAt checked.now.list WalkClass.Numeric place }
+    ensures { AnswersTruth entity.now now.now [] checked.now.list place result }
+{
+    typed_trees_end_once_on_entities();
+    match number_at(checked, entity, now, place) {
+        Ok(number) => Ok(truth_of(&datum_of_number(number))),
+        Err(fault) => Err(fault),
     }
 }
 
@@ -242,180 +255,9 @@ fn connected_at<'e>(
     }
 }
 
-/// What a node of numbers comes to.
-#[cycle(evaluate)]
-fn number_at<'e>(
-    checked: &'e Checked<'_>,
-    entity: &'e Entity<'_>,
-    now: &Moment,
-    place: usize,
-) -> Result<Option<i64>, EvalFault>
-    requires entity { IsEntity entity.now }
-    requires stands { PartStands entity.now [] checked.now.list place }
-    requires numeric { IsClassAt checked.now.list WalkClass.Numeric place }
-    ensures { AnswersNumber entity.now now.now [] checked.now.list place result }
-{
-    let bottom = spine_bottom(checked, place, WalkClass::Numeric);
-    let mut answer = number_operand_at(checked, entity, now, bottom);
-    let mut at = bottom;
-    while place < at {
-        at -= 1;
-        answer = numeric_at(checked, entity, now, at, answer);
-    }
-    answer
-}
-
-/// The same, where most of these nodes stand: two of them on a kept value, or one, are taken at once.
-#[cycle(evaluate)]
-#[inline(always)]
-fn number_chain_at<'e>(
-    checked: &'e Checked<'_>,
-    entity: &'e Entity<'_>,
-    now: &Moment,
-    place: usize,
-) -> Result<Option<i64>, EvalFault>
-    requires entity { IsEntity entity.now }
-    requires stands { PartStands entity.now [] checked.now.list place }
-    requires numeric { IsClassAt checked.now.list WalkClass.Numeric place }
-    ensures { AnswersNumber entity.now now.now [] checked.now.list place result }
-{
-    let _nodes = checked.nodes();
-    match class_at(checked, place + 1) {
-        WalkClass::Numeric => {
-            let first = number_on_leaf_at(checked, entity, now, place + 1);
-            numeric_at(checked, entity, now, place, first)
-        }
-        _ => number_on_leaf_at(checked, entity, now, place),
-    }
-}
-
-/// The same, where the first operand is likely a value that is kept.
-#[cycle(evaluate)]
-#[inline(always)]
-fn number_on_leaf_at<'e>(
-    checked: &'e Checked<'_>,
-    entity: &'e Entity<'_>,
-    now: &Moment,
-    place: usize,
-) -> Result<Option<i64>, EvalFault>
-    requires entity { IsEntity entity.now }
-    requires stands { PartStands entity.now [] checked.now.list place }
-    requires numeric { IsClassAt checked.now.list WalkClass.Numeric place }
-    ensures { AnswersNumber entity.now now.now [] checked.now.list place result }
-{
-    typed_trees_end_once_on_entities();
-    let _nodes = checked.nodes();
-    match part_at(checked, entity, place + 1) {
-        Part::Leaf(first) => numeric_at(checked, entity, now, place, Ok(kept_number(first))),
-        _ => number_at(checked, entity, now, place),
-    }
-}
-
-/// What a node of a number type or Null comes to, where a value is likely that is kept.
-#[cycle(evaluate)]
-#[inline(always)]
-fn number_operand_at<'e>(
-    checked: &'e Checked<'_>,
-    entity: &'e Entity<'_>,
-    now: &Moment,
-    place: usize,
-) -> Result<Option<i64>, EvalFault>
-    requires entity { IsEntity entity.now }
-    requires stands { NumberStands entity.now [] checked.now.list place }
-    ensures { AnswersNumber entity.now now.now [] checked.now.list place result }
-{
-    typed_trees_end_once_on_entities();
-    match part_at(checked, entity, place) {
-        Part::Leaf(value) => Ok(kept_number(value)),
-        _ => made_number_at(checked, entity, now, place),
-    }
-}
-
-/// The same, of a node whose value is made.
-#[cycle(evaluate)]
-fn made_number_at<'e>(
-    checked: &'e Checked<'_>,
-    entity: &'e Entity<'_>,
-    now: &Moment,
-    place: usize,
-) -> Result<Option<i64>, EvalFault>
-    requires entity { IsEntity entity.now }
-    requires stands { NumberStands entity.now [] checked.now.list place }
-    ensures { AnswersNumber entity.now now.now [] checked.now.list place result }
-{
-    typed_trees_end_once_on_entities();
-    if is_class_at(checked, place, WalkClass::Numeric) {
-        return number_at(checked, entity, now, place);
-    }
-    match &operand_at(checked, entity, now, place) {
-        Ok(value) => Ok(number_of(value)),
-        Err(fault) => Err(*fault),
-    }
-}
-
-/// What a node of numbers comes to, whose first operand has been answered.
-#[cycle(evaluate)]
-#[inline(always)]
-fn numeric_at<'e>(
-    checked: &'e Checked<'_>,
-    entity: &'e Entity<'_>,
-    now: &Moment,
-    place: usize,
-    first: Result<Option<i64>, EvalFault>,
-) -> Result<Option<i64>, EvalFault>
-    requires entity { IsEntity entity.now }
-    requires stands { PartStands entity.now [] checked.now.list place }
-    requires numeric { IsClassAt checked.now.list WalkClass.Numeric place }
-    requires first { AnswersNumber entity.now now.now [] checked.now.list (place + 1) first }
-    ensures { AnswersNumber entity.now now.now [] checked.now.list place result }
-{
-    typed_trees_end_once_on_entities();
-    trees_have_one_type();
-    operands_lie_within_promotion();
-    let first = match first {
-        Ok(first) => first,
-        Err(fault) => return Err(fault),
-    };
-    let node = node_at(checked, place);
-    match node.kind {
-        NodeKind::Binary { operator } => {
-            calculated_at(checked, entity, now, place, operator, first)
-        }
-        _ => negated(&node.edm_type, first),
-    }
-}
-
-/// What an arithmetic operator comes to.
-#[cycle(evaluate)]
-#[inline(always)]
-fn calculated_at<'e>(
-    checked: &'e Checked<'_>,
-    entity: &'e Entity<'_>,
-    now: &Moment,
-    place: usize,
-    operator: BinaryOperator,
-    left: Option<i64>,
-) -> Result<Option<i64>, EvalFault>
-    requires entity { IsEntity entity.now }
-    requires stands { PartStands entity.now [] checked.now.list place }
-    requires here { HasOperator checked.now.list place operator }
-    requires arithmetic { walk_of_operator (class_of operator) ≡ WalkClass.Numeric }
-    requires left { AnswersNumber entity.now now.now [] checked.now.list (place + 1) (Ok left) }
-    ensures { AnswersNumber entity.now now.now [] checked.now.list place result }
-{
-    typed_trees_end_once_on_entities();
-    trees_have_one_type();
-    operands_lie_within_promotion();
-    let node = node_at(checked, place);
-    match number_operand_at(checked, entity, now, right_of(checked, place)) {
-        Ok(right) => calculated(arithmetic_of(operator), &node.edm_type, left, right),
-        Err(fault) => Err(fault),
-    }
-}
-
 /// What a node comes to: a value that is kept where it is, or one that is made.
 #[cycle(evaluate)]
-fn operand_at<'e>(
+pub(crate) fn operand_at<'e>(
     checked: &'e Checked<'_>,
     entity: &'e Entity<'_>,
     now: &Moment,

@@ -30,67 +30,64 @@ use Rattle.odata_eval.proofs.walking.Spines.{class_of_operator, operator_of_clas
 use Rattle.odata_eval.proofs.walking.TruthSpines.{below_bottom, inner_step, logical_truth, part_down, right_operand, truth_down}
 use Rattle.odata_eval.proofs.walking.WalkSteps.{TakesBoth, both_faults, calculation_answers, decided_answers, first_faults, joined_answers, joined_faults, negated_operand, numbers_taken, negation_answers, not_answers, numbers_there, values_taken}
 use Rattle.odata_eval.proofs.walking.WalkValues.{kept_datum, made_value, number_there, read_value, truth_there}
-use Rattle.odata_eval.proofs.walk.+evaluate.Goals as goal
+use Rattle.odata_eval.proofs.+evaluate.Goals as goal
 
-pub truth_at-returns : goal.truth_at-returns
-truth_at-returns t c =
+pub walk::truth_at-returns : goal.walk::truth_at-returns
+walk::truth_at-returns t c =
     let l = c.loop-at in
     let e : l.at ≡ c.args.place = omega arith in
     subst (λ (k : ℕ). AnswersTruth c.args.entity.now c.args.now.now [] c.args.checked.now.list k l.answer) e l.invariant.answers
 
-pub eager_at-returns : goal.eager_at-returns
-eager_at-returns t c =
+pub walk::eager_at-returns : goal.walk::eager_at-returns
+walk::eager_at-returns t c =
     let l = c.loop-at in
     let e : l.at ≡ c.args.place = omega arith in
     subst (λ (k : ℕ). AnswersDatum c.args.entity.now c.args.now.now [] c.args.checked.now.list k l.answer) e l.invariant.answers
 
-pub made_truth_at-eager_at-requires : goal.made_truth_at-eager_at-requires
-made_truth_at-eager_at-requires t c =
+pub walk::made_truth_at-eager_at-requires : goal.walk::made_truth_at-eager_at-requires
+walk::made_truth_at-eager_at-requires t c =
     let smaller : 16 * (length c.args.checked.now.list.nodes - c.args.place) + 5 < 16 * (length c.args.checked.now.list.nodes - c.args.place) + 8 = omega arith in
     let part = typed_part c.args.entity.now [] c.args.checked.now.list c.args.place IsBooleanOrNull c.requires.stands in
     search rules
 
-pub made_truth_at-truth_of-requires : goal.made_truth_at-truth_of-requires
-made_truth_at-truth_of-requires t c = λ reading.
+pub walk::made_truth_at-truth_of-requires : goal.walk::made_truth_at-truth_of-requires
+walk::made_truth_at-truth_of-requires t c = λ reading.
     let answers = subst (λ (r : Result Datum EvalFault). AnswersDatum c.args.entity.now c.args.now.now [] c.args.checked.now.list c.args.place r) c.in-Ok.is c.eager_at.ensures in
     truth_there c.typed_trees_end_once_on_entities.ensures c.args.entity.now c.args.now.now c.requires.entity c.args.checked.now.list c.args.place c.in-Ok.value c.requires.stands answers reading
 
-pub made_truth_at-returns-in-Ok : goal.made_truth_at-returns-in-Ok
-made_truth_at-returns-in-Ok t c =
+pub walk::made_truth_at-returns-in-Ok : goal.walk::made_truth_at-returns-in-Ok
+walk::made_truth_at-returns-in-Ok t c =
     let answers = subst (λ (r : Result Datum EvalFault). AnswersDatum c.args.entity.now c.args.now.now [] c.args.checked.now.list c.args.place r) c.in-Ok.is c.eager_at.ensures in
     read_value c.args.entity.now c.args.now.now c.args.checked.now.list c.args.place c.in-Ok.value (truth_val c.truth_of.result) answers c.truth_of.ensures
 
-pub operand_at-returns-in-Leaf : goal.operand_at-returns-in-Leaf
-operand_at-returns-in-Leaf t c =
-    kept_datum c.args.entity.now c.args.now.now c.args.checked.now.list c.args.place c.in-Leaf.value.now c.datum_of.result (c.in-Leaf.ensures c.args.now.now) c.datum_of.ensures
+pub walk::operand_at-returns-in-Leaf : goal.walk::operand_at-returns-in-Leaf
+walk::operand_at-returns-in-Leaf t c = kept_datum c.args.entity.now c.args.now.now c.args.checked.now.list c.args.place c.in-Leaf.value.now c.datum_of.result (c.in-Leaf.ensures c.args.now.now) c.datum_of.ensures
 
-pub operand_at-returns-in-Ok : goal.operand_at-returns-in-Ok
-operand_at-returns-in-Ok t c =
-    made_value c.args.entity.now c.args.now.now c.args.checked.now.list c.args.place c.datum_of_truth.result (truth_val c.in-Ok.truth) c.in-Ok.ensures c.datum_of_truth.ensures
+pub walk::operand_at-returns-in-Ok : goal.walk::operand_at-returns-in-Ok
+walk::operand_at-returns-in-Ok t c = made_value c.args.entity.now c.args.now.now c.args.checked.now.list c.args.place c.datum_of_truth.result (truth_val c.in-Ok.truth) c.in-Ok.ensures c.datum_of_truth.ensures
 
-pub operand_at-number_at-requires : goal.operand_at-number_at-requires
-operand_at-number_at-requires t c =
+pub walk::operand_at-number_at-requires : goal.walk::operand_at-number_at-requires
+walk::operand_at-number_at-requires t c =
     let smaller : 16 * (length c.args.checked.now.list.nodes - c.args.place) + 8 < 16 * (length c.args.checked.now.list.nodes - c.args.place) + 12 = omega arith in
     search rules
 
-pub operand_at-returns-in-Ok-number_at : goal.operand_at-returns-in-Ok-number_at
-operand_at-returns-in-Ok-number_at t c =
-    made_value c.args.entity.now c.args.now.now c.args.checked.now.list c.args.place c.datum_of_number.result (number_val c.in-Ok-number_at.number) c.in-Ok-number_at.ensures c.datum_of_number.ensures
+pub walk::operand_at-returns-in-Ok-number_at : goal.walk::operand_at-returns-in-Ok-number_at
+walk::operand_at-returns-in-Ok-number_at t c = made_value c.args.entity.now c.args.now.now c.args.checked.now.list c.args.place c.datum_of_number.result (number_val c.in-Ok-number_at.number) c.in-Ok-number_at.ensures c.datum_of_number.ensures
 
-pub operand_at-eager_at-requires : goal.operand_at-eager_at-requires
-operand_at-eager_at-requires t c =
+pub walk::operand_at-eager_at-requires : goal.walk::operand_at-eager_at-requires
+walk::operand_at-eager_at-requires t c =
     let smaller : 16 * (length c.args.checked.now.list.nodes - c.args.place) + 5 < 16 * (length c.args.checked.now.list.nodes - c.args.place) + 12 = omega arith in
     search rules
 
-pub truth_at-plain_truth_at-answer-requires : goal.truth_at-plain_truth_at-answer-requires
-truth_at-plain_truth_at-answer-requires t c =
+pub walk::truth_at-plain_truth_at-answer-requires : goal.walk::truth_at-plain_truth_at-answer-requires
+walk::truth_at-plain_truth_at-answer-requires t c =
     let below : c.args.place ≤ c.spine_bottom-bottom.result = c.spine_bottom-bottom.ensures.below in
     let smaller : 16 * (length c.args.checked.now.list.nodes - c.spine_bottom-bottom.result) + 10 < 16 * (length c.args.checked.now.list.nodes - c.args.place) + 11 = omega arith in
     let stands = truth_down c.args.entity.now [] c.args.checked.now.list c.args.place c.spine_bottom-bottom.result below c.requires.stands c.spine_bottom-bottom.ensures.spine in
     search rules
 
-pub truth_at-logical_at-answer-requires : goal.truth_at-logical_at-answer-requires
-truth_at-logical_at-answer-requires t c =
+pub walk::truth_at-logical_at-answer-requires : goal.walk::truth_at-logical_at-answer-requires
+walk::truth_at-logical_at-answer-requires t c =
     let l = c.loop-at in
     let within : l.at ≤ c.spine_bottom-bottom.result = l.invariant.within in
     let above : c.args.place < l.at = omega arith in
@@ -102,8 +99,8 @@ truth_at-logical_at-answer-requires t c =
     let first : AnswersTruth c.args.entity.now c.args.now.now [] c.args.checked.now.list (l.at - 1 + 1) l.answer = subst (λ (k : ℕ). AnswersTruth c.args.entity.now c.args.now.now [] c.args.checked.now.list k l.answer) e l.invariant.answers in
     search rules
 
-pub eager_at-made_at-answer-requires : goal.eager_at-made_at-answer-requires
-eager_at-made_at-answer-requires t c =
+pub walk::eager_at-made_at-answer-requires : goal.walk::eager_at-made_at-answer-requires
+walk::eager_at-made_at-answer-requires t c =
     let l = c.loop-at in
     let within : l.at ≤ c.spine_bottom-bottom.result = l.invariant.within in
     let above : c.args.place < l.at = omega arith in
@@ -115,8 +112,8 @@ eager_at-made_at-answer-requires t c =
     let first : AnswersDatum c.args.entity.now c.args.now.now [] c.args.checked.now.list (l.at - 1 + 1) l.answer = subst (λ (k : ℕ). AnswersDatum c.args.entity.now c.args.now.now [] c.args.checked.now.list k l.answer) e l.invariant.answers in
     search rules
 
-pub eager_at-operand_at-answer-requires : goal.eager_at-operand_at-answer-requires
-eager_at-operand_at-answer-requires t c =
+pub walk::eager_at-operand_at-answer-requires : goal.walk::eager_at-operand_at-answer-requires
+walk::eager_at-operand_at-answer-requires t c =
     let inside : c.args.place < length c.args.checked.now.list.nodes = part_inside c.args.entity.now [] c.args.checked.now.list c.args.place c.requires.stands in
     let below : c.args.place ≤ c.spine_bottom-bottom.result = c.spine_bottom-bottom.ensures.below in
     let behind : c.args.place < c.spine_bottom-bottom.result = below_bottom c.args.checked.now.list WalkClass.Eager c.args.place c.spine_bottom-bottom.result below c.requires.eager c.spine_bottom-bottom.ensures.bottom in
@@ -124,169 +121,158 @@ eager_at-operand_at-answer-requires t c =
     let stands = part_down c.args.entity.now [] c.args.checked.now.list WalkClass.Eager (λ leaf. cc) c.args.place c.spine_bottom-bottom.result below c.requires.stands c.spine_bottom-bottom.ensures.spine in
     search rules
 
-pub operand_at-truth_at-requires : goal.operand_at-truth_at-requires
-operand_at-truth_at-requires t c =
+pub walk::operand_at-truth_at-requires : goal.walk::operand_at-truth_at-requires
+walk::operand_at-truth_at-requires t c =
     let smaller : 16 * (length c.args.checked.now.list.nodes - c.args.place) + 11 < 16 * (length c.args.checked.now.list.nodes - c.args.place) + 12 = omega arith in
     let stands = logical_truth c.args.entity.now [] c.args.checked.now.list c.args.place c.requires.stands c.in-Logical.ensures in
     search rules
 
-pub made_truth_at-returns : goal.made_truth_at-returns
-made_truth_at-returns t c =
-    subst (λ (r : Result Datum EvalFault). AnswersDatum c.args.entity.now c.args.now.now [] c.args.checked.now.list c.args.place r) c.in-Err.is c.eager_at.ensures
+pub walk::made_truth_at-returns : goal.walk::made_truth_at-returns
+walk::made_truth_at-returns t c = subst (λ (r : Result Datum EvalFault). AnswersDatum c.args.entity.now c.args.now.now [] c.args.checked.now.list c.args.place r) c.in-Err.is c.eager_at.ensures
 
 -- ---- a node of truth values
 
-pub logical_at-returns-in-Err : goal.logical_at-returns-in-Err
-logical_at-returns-in-Err t c =
-    first_faults c.args.entity.now c.args.now.now c.args.checked.now.list c.args.place WalkClass.Logical c.in-Err.fault (λ leaf. cc) c.requires.logical (subst (λ (r : Result (Option Bool) EvalFault). AnswersTruth c.args.entity.now c.args.now.now [] c.args.checked.now.list (c.args.place + 1) r) c.in-Err.is c.requires.first)
+pub walk::logical_at-returns-in-Err : goal.walk::logical_at-returns-in-Err
+walk::logical_at-returns-in-Err t c = first_faults c.args.entity.now c.args.now.now c.args.checked.now.list c.args.place WalkClass.Logical c.in-Err.fault (λ leaf. cc) c.requires.logical (subst (λ (r : Result (Option Bool) EvalFault). AnswersTruth c.args.entity.now c.args.now.now [] c.args.checked.now.list (c.args.place + 1) r) c.in-Err.is c.requires.first)
 
-pub logical_at-node_at-requires : goal.logical_at-node_at-requires
-logical_at-node_at-requires t c = part_inside c.args.entity.now [] c.args.checked.now.list c.args.place c.requires.stands
+pub walk::logical_at-node_at-requires : goal.walk::logical_at-node_at-requires
+walk::logical_at-node_at-requires t c = part_inside c.args.entity.now [] c.args.checked.now.list c.args.place c.requires.stands
 
-pub connected_at-returns-then-decides : goal.connected_at-returns-then-decides
-connected_at-returns-then-decides t c =
-    decided_answers c.args.entity.now c.args.now.now c.args.checked.now.list c.args.place c.args.operator c.requires.here c.connective_of-connective.result c.args.left c.connective_of-connective.ensures (c.decides.ensures.0 c.if-decides.true) c.requires.left
+pub walk::connected_at-returns-then-decides : goal.walk::connected_at-returns-then-decides
+walk::connected_at-returns-then-decides t c = decided_answers c.args.entity.now c.args.now.now c.args.checked.now.list c.args.place c.args.operator c.requires.here c.connective_of-connective.result c.args.left c.connective_of-connective.ensures (c.decides.ensures.0 c.if-decides.true) c.requires.left
 
-pub connected_at-right_of-requires : goal.connected_at-right_of-requires
-connected_at-right_of-requires t c = right_there c.args.entity.now [] c.args.checked.now.list c.args.place c.args.operator c.requires.here c.requires.stands
+pub walk::connected_at-right_of-requires : goal.walk::connected_at-right_of-requires
+walk::connected_at-right_of-requires t c = right_there c.args.entity.now [] c.args.checked.now.list c.args.place c.args.operator c.requires.here c.requires.stands
 
-pub connected_at-side_at-requires : goal.connected_at-side_at-requires
-connected_at-side_at-requires t c =
+pub walk::connected_at-side_at-requires : goal.walk::connected_at-side_at-requires
+walk::connected_at-side_at-requires t c =
     let inside : c.args.place < length c.args.checked.now.list.nodes = part_inside c.args.entity.now [] c.args.checked.now.list c.args.place c.requires.stands in
     let behind : c.args.place < c.right_of.result = right_further c.args.entity.now [] c.args.checked.now.list c.args.place c.args.operator c.requires.here c.requires.stands c.right_of.result c.right_of.ensures in
     let smaller : 16 * (length c.args.checked.now.list.nodes - c.right_of.result) + 12 < 16 * (length c.args.checked.now.list.nodes - c.args.place) + 3 = omega arith in
     let stands : TruthStands c.args.entity.now [] c.args.checked.now.list c.right_of.result = right_operand c.args.entity.now [] c.args.checked.now.list c.args.place c.requires.stands c.args.operator c.right_of.result c.requires.connective c.requires.here c.right_of.ensures in
     search rules
 
-pub connected_at-returns-in-Ok : goal.connected_at-returns-in-Ok
-connected_at-returns-in-Ok t c =
+pub walk::connected_at-returns-in-Ok : goal.walk::connected_at-returns-in-Ok
+walk::connected_at-returns-in-Ok t c =
     subst (λ (r : Option Bool). AnswersTruth c.args.entity.now c.args.now.now [] c.args.checked.now.list c.args.place (Ok r)) (sym c.join.ensures) (joined_answers c.args.entity.now c.args.now.now c.args.checked.now.list c.args.place c.args.operator c.requires.here c.right_of.result c.right_of.ensures c.connective_of-connective.result c.args.left c.in-Ok.right
     c.connective_of-connective.ensures (λ decided. let e = c.decides.ensures.1 decided in cc) c.requires.left c.in-Ok.ensures)
 
-pub connected_at-returns-in-Err : goal.connected_at-returns-in-Err
-connected_at-returns-in-Err t c =
-    joined_faults c.args.entity.now c.args.now.now c.args.checked.now.list c.args.place c.args.operator c.requires.here c.right_of.result c.right_of.ensures c.connective_of-connective.result c.args.left c.in-Err.fault c.connective_of-connective.ensures (λ decided. let e = c.decides.ensures.1 decided in cc) c.requires.left c.in-Err.ensures
+pub walk::connected_at-returns-in-Err : goal.walk::connected_at-returns-in-Err
+walk::connected_at-returns-in-Err t c = joined_faults c.args.entity.now c.args.now.now c.args.checked.now.list c.args.place c.args.operator c.requires.here c.right_of.result c.right_of.ensures c.connective_of-connective.result c.args.left c.in-Err.fault c.connective_of-connective.ensures (λ decided. let e = c.decides.ensures.1 decided in cc) c.requires.left c.in-Err.ensures
 
 -- ---- another node with operands
 
-pub made_at-returns-in-Err : goal.made_at-returns-in-Err
-made_at-returns-in-Err t c =
-    first_faults c.args.entity.now c.args.now.now c.args.checked.now.list c.args.place WalkClass.Eager c.in-Err.before (λ leaf. cc) c.requires.eager (subst (λ (r : Result Datum EvalFault). AnswersDatum c.args.entity.now c.args.now.now [] c.args.checked.now.list (c.args.place + 1) r) c.in-Err.is c.requires.first)
+pub walk::made_at-returns-in-Err : goal.walk::made_at-returns-in-Err
+walk::made_at-returns-in-Err t c = first_faults c.args.entity.now c.args.now.now c.args.checked.now.list c.args.place WalkClass.Eager c.in-Err.before (λ leaf. cc) c.requires.eager (subst (λ (r : Result Datum EvalFault). AnswersDatum c.args.entity.now c.args.now.now [] c.args.checked.now.list (c.args.place + 1) r) c.in-Err.is c.requires.first)
 
-pub made_at-node_at-requires : goal.made_at-node_at-requires
-made_at-node_at-requires t c = part_inside c.args.entity.now [] c.args.checked.now.list c.args.place c.requires.stands
+pub walk::made_at-node_at-requires : goal.walk::made_at-node_at-requires
+walk::made_at-node_at-requires t c = part_inside c.args.entity.now [] c.args.checked.now.list c.args.place c.requires.stands
 
-pub made_at-step-requires : goal.made_at-step-requires
-made_at-step-requires t c =
+pub walk::made_at-step-requires : goal.walk::made_at-step-requires
+walk::made_at-step-requires t c =
     let first = subst (λ (r : Result Datum EvalFault). AnswersDatum c.args.entity.now c.args.now.now [] c.args.checked.now.list (c.args.place + 1) r) c.in-Ok.is c.requires.first in
     let here = there_found (λ (f : CheckedNode). f.kind ≡ NodeKind.Member c.in-Member.slot) (slice_get c.args.checked.now.list.nodes c.args.place) c.node_at.result.now c.node_at.ensures c.in-Member.is in
     step_slot c.typed_trees_end_once_on_entities.ensures c.trees_have_one_type.ensures c.args.entity.now c.args.now.now c.requires.entity c.args.checked.now.list c.args.place c.in-Member.slot here c.in-Ok.first c.requires.stands first
 
-pub made_at-returns-in-Member : goal.made_at-returns-in-Member
-made_at-returns-in-Member t c =
+pub walk::made_at-returns-in-Member : goal.walk::made_at-returns-in-Member
+walk::made_at-returns-in-Member t c =
     let first = subst (λ (r : Result Datum EvalFault). AnswersDatum c.args.entity.now c.args.now.now [] c.args.checked.now.list (c.args.place + 1) r) c.in-Ok.is c.requires.first in
     let here = there_found (λ (f : CheckedNode). f.kind ≡ NodeKind.Member c.in-Member.slot) (slice_get c.args.checked.now.list.nodes c.args.place) c.node_at.result.now c.node_at.ensures c.in-Member.is in
     step_answers c.typed_trees_end_once_on_entities.ensures c.trees_have_one_type.ensures c.args.entity.now c.args.now.now c.requires.entity c.args.checked.now.list c.args.place c.in-Member.slot here c.in-Ok.first c.step.result first c.step.ensures
 
 -- ---- a node of numbers
 
-pub number_operand_at-part_at-requires-clause-stands : goal.number_operand_at-part_at-requires-clause-stands
-number_operand_at-part_at-requires-clause-stands t c =
-    typed_part c.args.entity.now [] c.args.checked.now.list c.args.place IsNumberOperand c.requires.stands
+pub number_walk::number_operand_at-part_at-requires-clause-stands : goal.number_walk::number_operand_at-part_at-requires-clause-stands
+number_walk::number_operand_at-part_at-requires-clause-stands t c = typed_part c.args.entity.now [] c.args.checked.now.list c.args.place IsNumberOperand c.requires.stands
 
-pub number_operand_at-made_number_at-requires : goal.number_operand_at-made_number_at-requires
-number_operand_at-made_number_at-requires t c =
+pub number_walk::number_operand_at-made_number_at-requires : goal.number_walk::number_operand_at-made_number_at-requires
+number_walk::number_operand_at-made_number_at-requires t c =
     let smaller : 16 * (length c.args.checked.now.list.nodes - c.args.place) + 13 < 16 * (length c.args.checked.now.list.nodes - c.args.place) + 14 = omega arith in
     search rules
 
-pub made_number_at-number_at-requires : goal.made_number_at-number_at-requires
-made_number_at-number_at-requires t c =
+pub number_walk::made_number_at-number_at-requires : goal.number_walk::made_number_at-number_at-requires
+number_walk::made_number_at-number_at-requires t c =
     let smaller : 16 * (length c.args.checked.now.list.nodes - c.args.place) + 8 < 16 * (length c.args.checked.now.list.nodes - c.args.place) + 13 = omega arith in
     let part = typed_part c.args.entity.now [] c.args.checked.now.list c.args.place IsNumberOperand c.requires.stands in
     search rules
 
-pub made_number_at-operand_at-requires : goal.made_number_at-operand_at-requires
-made_number_at-operand_at-requires t c =
+pub number_walk::made_number_at-operand_at-requires : goal.number_walk::made_number_at-operand_at-requires
+number_walk::made_number_at-operand_at-requires t c =
     let smaller : 16 * (length c.args.checked.now.list.nodes - c.args.place) + 12 < 16 * (length c.args.checked.now.list.nodes - c.args.place) + 13 = omega arith in
     let part = typed_part c.args.entity.now [] c.args.checked.now.list c.args.place IsNumberOperand c.requires.stands in
     search rules
 
-pub made_number_at-number_of-requires : goal.made_number_at-number_of-requires
-made_number_at-number_of-requires t c =
+pub number_walk::made_number_at-number_of-requires : goal.number_walk::made_number_at-number_of-requires
+number_walk::made_number_at-number_of-requires t c =
     λ reading.
     let answers = subst (λ (r : Result Datum EvalFault). AnswersDatum c.args.entity.now c.args.now.now [] c.args.checked.now.list c.args.place r) c.in-Ok.is c.operand_at.ensures in
     number_there c.typed_trees_end_once_on_entities.ensures c.args.entity.now c.args.now.now c.requires.entity c.args.checked.now.list c.args.place c.in-Ok.value c.requires.stands answers reading
 
-pub made_number_at-returns-in-Ok : goal.made_number_at-returns-in-Ok
-made_number_at-returns-in-Ok t c =
+pub number_walk::made_number_at-returns-in-Ok : goal.number_walk::made_number_at-returns-in-Ok
+number_walk::made_number_at-returns-in-Ok t c =
     let answers = subst (λ (r : Result Datum EvalFault). AnswersDatum c.args.entity.now c.args.now.now [] c.args.checked.now.list c.args.place r) c.in-Ok.is c.operand_at.ensures in
     read_value c.args.entity.now c.args.now.now c.args.checked.now.list c.args.place c.in-Ok.value (number_val c.number_of.result) answers c.number_of.ensures
 
-pub made_number_at-returns : goal.made_number_at-returns
-made_number_at-returns t c =
-    subst (λ (r : Result Datum EvalFault). AnswersDatum c.args.entity.now c.args.now.now [] c.args.checked.now.list c.args.place r) c.in-Err.is c.operand_at.ensures
+pub number_walk::made_number_at-returns : goal.number_walk::made_number_at-returns
+number_walk::made_number_at-returns t c = subst (λ (r : Result Datum EvalFault). AnswersDatum c.args.entity.now c.args.now.now [] c.args.checked.now.list c.args.place r) c.in-Err.is c.operand_at.ensures
 
-pub numeric_at-returns-in-Err : goal.numeric_at-returns-in-Err
-numeric_at-returns-in-Err t c =
-    first_faults c.args.entity.now c.args.now.now c.args.checked.now.list c.args.place WalkClass.Numeric c.in-Err.fault (λ leaf. cc) c.requires.numeric (subst (λ (r : Result (Option ℤ) EvalFault). AnswersNumber c.args.entity.now c.args.now.now [] c.args.checked.now.list (c.args.place + 1) r) c.in-Err.is c.requires.first)
+pub number_walk::numeric_at-returns-in-Err : goal.number_walk::numeric_at-returns-in-Err
+number_walk::numeric_at-returns-in-Err t c = first_faults c.args.entity.now c.args.now.now c.args.checked.now.list c.args.place WalkClass.Numeric c.in-Err.fault (λ leaf. cc) c.requires.numeric (subst (λ (r : Result (Option ℤ) EvalFault). AnswersNumber c.args.entity.now c.args.now.now [] c.args.checked.now.list (c.args.place + 1) r) c.in-Err.is c.requires.first)
 
-pub numeric_at-node_at-node-requires : goal.numeric_at-node_at-node-requires
-numeric_at-node_at-node-requires t c =
-    part_inside c.args.entity.now [] c.args.checked.now.list c.args.place c.requires.stands
+pub number_walk::numeric_at-node_at-node-requires : goal.number_walk::numeric_at-node_at-node-requires
+number_walk::numeric_at-node_at-node-requires t c = part_inside c.args.entity.now [] c.args.checked.now.list c.args.place c.requires.stands
 
-pub calculated_at-node_at-node-requires : goal.calculated_at-node_at-node-requires
-calculated_at-node_at-node-requires t c = part_inside c.args.entity.now [] c.args.checked.now.list c.args.place c.requires.stands
+pub number_walk::calculated_at-node_at-node-requires : goal.number_walk::calculated_at-node_at-node-requires
+number_walk::calculated_at-node_at-node-requires t c = part_inside c.args.entity.now [] c.args.checked.now.list c.args.place c.requires.stands
 
-pub calculated_at-right_of-requires : goal.calculated_at-right_of-requires
-calculated_at-right_of-requires t c = right_there c.args.entity.now [] c.args.checked.now.list c.args.place c.args.operator c.requires.here c.requires.stands
+pub number_walk::calculated_at-right_of-requires : goal.number_walk::calculated_at-right_of-requires
+number_walk::calculated_at-right_of-requires t c = right_there c.args.entity.now [] c.args.checked.now.list c.args.place c.args.operator c.requires.here c.requires.stands
 
-pub calculated_at-number_operand_at-requires : goal.calculated_at-number_operand_at-requires
-calculated_at-number_operand_at-requires t c =
+pub number_walk::calculated_at-number_operand_at-requires : goal.number_walk::calculated_at-number_operand_at-requires
+number_walk::calculated_at-number_operand_at-requires t c =
     let inside : c.args.place < length c.args.checked.now.list.nodes = part_inside c.args.entity.now [] c.args.checked.now.list c.args.place c.requires.stands in
     let behind : c.args.place < c.right_of.result = right_further c.args.entity.now [] c.args.checked.now.list c.args.place c.args.operator c.requires.here c.requires.stands c.right_of.result c.right_of.ensures in
     let smaller : 16 * (length c.args.checked.now.list.nodes - c.right_of.result) + 14 < 16 * (length c.args.checked.now.list.nodes - c.args.place) + 3 = omega arith in
     let stands : NumberStands c.args.entity.now [] c.args.checked.now.list c.right_of.result = right_number c.args.entity.now [] c.args.checked.now.list c.args.place c.requires.stands c.args.operator c.right_of.result c.requires.arithmetic c.requires.here c.right_of.ensures in
     search rules
 
-pub calculated_at-calculated-requires : goal.calculated_at-calculated-requires
-calculated_at-calculated-requires t c =
+pub number_walk::calculated_at-calculated-requires : goal.number_walk::calculated_at-calculated-requires
+number_walk::calculated_at-calculated-requires t c =
     let promotes : Promotes = record { left = c.operands_lie_within_promotion.ensures.left; right = c.operands_lie_within_promotion.ensures.right; negation = c.operands_lie_within_promotion.ensures.negation; three = c.operands_lie_within_promotion.ensures.three } in
     numbers_there c.args.entity.now c.args.now.now c.args.checked.now.list c.args.place c.args.operator c.requires.here c.right_of.result c.right_of.ensures c.args.left c.in-Ok.right c.requires.left c.in-Ok.ensures c.arithmetic_of.result c.arithmetic_of.ensures c.node_at-node.result.now c.node_at-node.ensures c.typed_trees_end_once_on_entities.ensures c.requires.entity promotes c.requires.stands
 
-pub calculated_at-returns-in-Ok : goal.calculated_at-returns-in-Ok
-calculated_at-returns-in-Ok t c =
-    calculation_answers c.args.entity.now c.args.now.now c.args.checked.now.list c.args.place c.args.operator c.requires.here c.right_of.result c.right_of.ensures c.args.left c.in-Ok.right c.requires.left c.in-Ok.ensures c.arithmetic_of.result c.arithmetic_of.ensures c.node_at-node.result.now c.node_at-node.ensures c.calculated.result c.trees_have_one_type.ensures c.calculated.ensures
+pub number_walk::calculated_at-returns-in-Ok : goal.number_walk::calculated_at-returns-in-Ok
+number_walk::calculated_at-returns-in-Ok t c = calculation_answers c.args.entity.now c.args.now.now c.args.checked.now.list c.args.place c.args.operator c.requires.here c.right_of.result c.right_of.ensures c.args.left c.in-Ok.right c.requires.left c.in-Ok.ensures c.arithmetic_of.result c.arithmetic_of.ensures c.node_at-node.result.now c.node_at-node.ensures c.calculated.result c.trees_have_one_type.ensures c.calculated.ensures
 
-pub calculated_at-returns-in-Err : goal.calculated_at-returns-in-Err
-calculated_at-returns-in-Err t c =
-    both_faults c.args.entity.now c.args.now.now c.args.checked.now.list c.args.place c.args.operator c.requires.here c.right_of.result c.right_of.ensures (λ type. number_val c.args.left) c.in-Err.fault (numbers_taken (class_of c.args.operator) c.requires.arithmetic) c.requires.left c.in-Err.ensures
+pub number_walk::calculated_at-returns-in-Err : goal.number_walk::calculated_at-returns-in-Err
+number_walk::calculated_at-returns-in-Err t c = both_faults c.args.entity.now c.args.now.now c.args.checked.now.list c.args.place c.args.operator c.requires.here c.right_of.result c.right_of.ensures (λ type. number_val c.args.left) c.in-Err.fault (numbers_taken (class_of c.args.operator) c.requires.arithmetic) c.requires.left c.in-Err.ensures
 
 -- ---- a comparison of values that are made
 
-pub compared_at-right_of-right_place-requires : goal.compared_at-right_of-right_place-requires
-compared_at-right_of-right_place-requires t c =
+pub walk::compared_at-right_of-right_place-requires : goal.walk::compared_at-right_of-right_place-requires
+walk::compared_at-right_of-right_place-requires t c =
     let there = operator_of_class c.args.checked.now.list c.args.place (OperatorClass.Comparison c.args.comparison) c.requires.comparison in
     right_there c.args.entity.now [] c.args.checked.now.list c.args.place there.operator there.here c.requires.stands
 
-pub compared_at-part_at-requires-clause-stands : goal.compared_at-part_at-requires-clause-stands
-compared_at-part_at-requires-clause-stands t c =
+pub walk::compared_at-part_at-requires-clause-stands : goal.walk::compared_at-part_at-requires-clause-stands
+walk::compared_at-part_at-requires-clause-stands t c =
     let there = operator_of_class c.args.checked.now.list c.args.place (OperatorClass.Comparison c.args.comparison) c.requires.comparison in
     right_part c.args.entity.now [] c.args.checked.now.list c.args.place there.operator there.here c.requires.stands c.right_of-right_place.result c.right_of-right_place.ensures
 
-pub compared_at-compare-requires : goal.compared_at-compare-requires
-compared_at-compare-requires t c =
+pub walk::compared_at-compare-requires : goal.walk::compared_at-compare-requires
+walk::compared_at-compare-requires t c =
     may_compare c.args.entity.now c.args.now.now c.args.checked.now.list c.args.place c.args.comparison c.requires.comparison c.right_of-right_place.result c.right_of-right_place.ensures c.args.left.now c.datum_of.result c.requires.left
     (kept_datum c.args.entity.now c.args.now.now c.args.checked.now.list c.right_of-right_place.result c.in-Leaf.value.now c.datum_of.result (c.in-Leaf.ensures c.args.now.now) c.datum_of.ensures) c.typed_trees_end_once_on_entities.ensures c.requires.entity c.comparisons_are_decided.ensures.any_reading c.requires.stands
 
-pub compared_at-returns-in-Leaf : goal.compared_at-returns-in-Leaf
-compared_at-returns-in-Leaf t c =
+pub walk::compared_at-returns-in-Leaf : goal.walk::compared_at-returns-in-Leaf
+walk::compared_at-returns-in-Leaf t c =
     let may = may_compare c.args.entity.now c.args.now.now c.args.checked.now.list c.args.place c.args.comparison c.requires.comparison c.right_of-right_place.result c.right_of-right_place.ensures c.args.left.now c.datum_of.result c.requires.left
     (kept_datum c.args.entity.now c.args.now.now c.args.checked.now.list c.right_of-right_place.result c.in-Leaf.value.now c.datum_of.result (c.in-Leaf.ensures c.args.now.now) c.datum_of.ensures) c.typed_trees_end_once_on_entities.ensures c.requires.entity c.comparisons_are_decided.ensures.any_reading c.requires.stands in
     truth_compared c.args.entity.now c.args.now.now c.args.checked.now.list c.args.place c.args.comparison c.requires.comparison c.right_of-right_place.result c.right_of-right_place.ensures c.args.left.now c.datum_of.result c.requires.left
     (kept_datum c.args.entity.now c.args.now.now c.args.checked.now.list c.right_of-right_place.result c.in-Leaf.value.now c.datum_of.result (c.in-Leaf.ensures c.args.now.now) c.datum_of.ensures) c.compare.result may c.compare.ensures
 
-pub compared_at-operand_at-requires : goal.compared_at-operand_at-requires
-compared_at-operand_at-requires t c =
+pub walk::compared_at-operand_at-requires : goal.walk::compared_at-operand_at-requires
+walk::compared_at-operand_at-requires t c =
     let there = operator_of_class c.args.checked.now.list c.args.place (OperatorClass.Comparison c.args.comparison) c.requires.comparison in
     let inside : c.args.place < length c.args.checked.now.list.nodes = part_inside c.args.entity.now [] c.args.checked.now.list c.args.place c.requires.stands in
     let behind : c.args.place < c.right_of-right_place.result = right_further c.args.entity.now [] c.args.checked.now.list c.args.place there.operator there.here c.requires.stands c.right_of-right_place.result c.right_of-right_place.ensures in
@@ -294,118 +280,117 @@ compared_at-operand_at-requires t c =
     let stands : PartStands c.args.entity.now [] c.args.checked.now.list c.right_of-right_place.result = right_part c.args.entity.now [] c.args.checked.now.list c.args.place there.operator there.here c.requires.stands c.right_of-right_place.result c.right_of-right_place.ensures in
     search rules
 
-pub compared_at-compare-requires-in-Ok : goal.compared_at-compare-requires-in-Ok
-compared_at-compare-requires-in-Ok t c =
+pub walk::compared_at-compare-requires-in-Ok : goal.walk::compared_at-compare-requires-in-Ok
+walk::compared_at-compare-requires-in-Ok t c =
     may_compare c.args.entity.now c.args.now.now c.args.checked.now.list c.args.place c.args.comparison c.requires.comparison c.right_of-right_place.result c.right_of-right_place.ensures c.args.left.now c.in-Ok.right c.requires.left (subst (λ (r : Result Datum EvalFault). AnswersDatum c.args.entity.now c.args.now.now [] c.args.checked.now.list c.right_of-right_place.result r) c.in-Ok.is c.operand_at.ensures)
     c.typed_trees_end_once_on_entities.ensures c.requires.entity c.comparisons_are_decided.ensures.any_reading c.requires.stands
 
-pub compared_at-returns-in-Ok : goal.compared_at-returns-in-Ok
-compared_at-returns-in-Ok t c =
+pub walk::compared_at-returns-in-Ok : goal.walk::compared_at-returns-in-Ok
+walk::compared_at-returns-in-Ok t c =
     let may = may_compare c.args.entity.now c.args.now.now c.args.checked.now.list c.args.place c.args.comparison c.requires.comparison c.right_of-right_place.result c.right_of-right_place.ensures c.args.left.now c.in-Ok.right c.requires.left
     (subst (λ (r : Result Datum EvalFault). AnswersDatum c.args.entity.now c.args.now.now [] c.args.checked.now.list c.right_of-right_place.result r) c.in-Ok.is c.operand_at.ensures) c.typed_trees_end_once_on_entities.ensures c.requires.entity c.comparisons_are_decided.ensures.any_reading c.requires.stands in
     truth_compared c.args.entity.now c.args.now.now c.args.checked.now.list c.args.place c.args.comparison c.requires.comparison c.right_of-right_place.result c.right_of-right_place.ensures c.args.left.now c.in-Ok.right c.requires.left (subst (λ (r : Result Datum EvalFault). AnswersDatum c.args.entity.now c.args.now.now [] c.args.checked.now.list c.right_of-right_place.result r) c.in-Ok.is c.operand_at.ensures)
     c.compare-in-Ok.result may c.compare-in-Ok.ensures
 
-pub compared_at-returns : goal.compared_at-returns
-compared_at-returns t c =
+pub walk::compared_at-returns : goal.walk::compared_at-returns
+walk::compared_at-returns t c =
     let there = operator_of_class c.args.checked.now.list c.args.place (OperatorClass.Comparison c.args.comparison) c.requires.comparison in
     both_faults c.args.entity.now c.args.now.now c.args.checked.now.list c.args.place there.operator there.here c.right_of-right_place.result c.right_of-right_place.ensures (λ type. datum_val (reading_at (slots_of c.args.entity.now.schema) type) c.args.left.now) c.in-Err.behind (subst TakesBoth (sym there.class_is) tt) c.requires.left
     (subst (λ (r : Result Datum EvalFault). AnswersDatum c.args.entity.now c.args.now.now [] c.args.checked.now.list c.right_of-right_place.result r) c.in-Err.is c.operand_at.ensures)
 
 -- ---- a node that is none of truth values
 
-pub plain_truth_at-node_at-requires : goal.plain_truth_at-node_at-requires
-plain_truth_at-node_at-requires t c =
-    part_inside c.args.entity.now [] c.args.checked.now.list c.args.place (typed_part c.args.entity.now [] c.args.checked.now.list c.args.place IsBooleanOrNull c.requires.stands)
+pub walk::plain_truth_at-node_at-requires : goal.walk::plain_truth_at-node_at-requires
+walk::plain_truth_at-node_at-requires t c = part_inside c.args.entity.now [] c.args.checked.now.list c.args.place (typed_part c.args.entity.now [] c.args.checked.now.list c.args.place IsBooleanOrNull c.requires.stands)
 
-pub plain_truth_at-compared_truth_at-requires : goal.plain_truth_at-compared_truth_at-requires
-plain_truth_at-compared_truth_at-requires t c =
+pub walk::plain_truth_at-compared_truth_at-requires : goal.walk::plain_truth_at-compared_truth_at-requires
+walk::plain_truth_at-compared_truth_at-requires t c =
     let smaller : 16 * (length c.args.checked.now.list.nodes - c.args.place) + 9 < 16 * (length c.args.checked.now.list.nodes - c.args.place) + 10 = omega arith in
     let here : HasOperator c.args.checked.now.list c.args.place c.in-Binary.operator =
     there_found (λ (f : CheckedNode). f.kind ≡ NodeKind.Binary c.in-Binary.operator) (slice_get c.args.checked.now.list.nodes c.args.place) c.node_at.result.now c.node_at.ensures c.in-Binary.is in
     let comparison : walk_of_operator (class_of c.in-Binary.operator) ≡ WalkClass.Eager = ap walk_of_operator (sym c.class_of.ensures ∙ c.in-Comparison.is) in
     search rules
 
-pub plain_truth_at-part_at-requires-clause-stands : goal.plain_truth_at-part_at-requires-clause-stands
-plain_truth_at-part_at-requires-clause-stands t c =
-    typed_part c.args.entity.now [] c.args.checked.now.list c.args.place IsBooleanOrNull c.requires.stands
+pub walk::plain_truth_at-part_at-requires-clause-stands : goal.walk::plain_truth_at-part_at-requires-clause-stands
+walk::plain_truth_at-part_at-requires-clause-stands t c = typed_part c.args.entity.now [] c.args.checked.now.list c.args.place IsBooleanOrNull c.requires.stands
 
-pub plain_truth_at-unreachable-requires : goal.plain_truth_at-unreachable-requires
-plain_truth_at-unreachable-requires t c = c.requires.plain c.in-Logical.ensures
+pub walk::plain_truth_at-unreachable-requires : goal.walk::plain_truth_at-unreachable-requires
+walk::plain_truth_at-unreachable-requires t c = c.requires.plain c.in-Logical.ensures
 
-pub plain_truth_at-kept_truth-requires : goal.plain_truth_at-kept_truth-requires
-plain_truth_at-kept_truth-requires t c =
-    truth_kept c.args.entity.now c.args.now.now c.args.checked.now.list c.args.place c.in-Leaf.value.now (c.in-Leaf.ensures c.args.now.now) c.typed_trees_end_once_on_entities.ensures c.requires.entity c.requires.stands
+pub walk::plain_truth_at-kept_truth-requires : goal.walk::plain_truth_at-kept_truth-requires
+walk::plain_truth_at-kept_truth-requires t c = truth_kept c.args.entity.now c.args.now.now c.args.checked.now.list c.args.place c.in-Leaf.value.now (c.in-Leaf.ensures c.args.now.now) c.typed_trees_end_once_on_entities.ensures c.requires.entity c.requires.stands
 
-pub plain_truth_at-returns-in-Leaf : goal.plain_truth_at-returns-in-Leaf
-plain_truth_at-returns-in-Leaf t c =
-    kept_value c.args.entity.now c.args.now.now c.args.checked.now.list c.args.place c.in-Leaf.value.now (c.in-Leaf.ensures c.args.now.now) (truth_val c.kept_truth.result) c.kept_truth.ensures
+pub walk::plain_truth_at-returns-in-Leaf : goal.walk::plain_truth_at-returns-in-Leaf
+walk::plain_truth_at-returns-in-Leaf t c = kept_value c.args.entity.now c.args.now.now c.args.checked.now.list c.args.place c.in-Leaf.value.now (c.in-Leaf.ensures c.args.now.now) (truth_val c.kept_truth.result) c.kept_truth.ensures
 
-pub plain_truth_at-number_at-requires : goal.plain_truth_at-number_at-requires
-plain_truth_at-number_at-requires t c =
-    let smaller : 16 * (length c.args.checked.now.list.nodes - c.args.place) + 8 < 16 * (length c.args.checked.now.list.nodes - c.args.place) + 10 = omega arith in
+pub walk::plain_truth_at-numeric_truth_at-requires : goal.walk::plain_truth_at-numeric_truth_at-requires
+walk::plain_truth_at-numeric_truth_at-requires t c =
+    let smaller : 16 * (length c.args.checked.now.list.nodes - c.args.place) + 9 < 16 * (length c.args.checked.now.list.nodes - c.args.place) + 10 = omega arith in
+    search rules
+
+pub walk::numeric_truth_at-number_at-requires : goal.walk::numeric_truth_at-number_at-requires
+walk::numeric_truth_at-number_at-requires t c =
+    let smaller : 16 * (length c.args.checked.now.list.nodes - c.args.place) + 8 < 16 * (length c.args.checked.now.list.nodes - c.args.place) + 9 = omega arith in
     let part = typed_part c.args.entity.now [] c.args.checked.now.list c.args.place IsBooleanOrNull c.requires.stands in
     search rules
 
-pub plain_truth_at-truth_of-requires : goal.plain_truth_at-truth_of-requires
-plain_truth_at-truth_of-requires t c =
+pub walk::numeric_truth_at-truth_of-requires : goal.walk::numeric_truth_at-truth_of-requires
+walk::numeric_truth_at-truth_of-requires t c =
     λ reading. truth_there c.typed_trees_end_once_on_entities.ensures c.args.entity.now c.args.now.now c.requires.entity c.args.checked.now.list c.args.place c.datum_of_number.result c.requires.stands (made_value c.args.entity.now c.args.now.now c.args.checked.now.list c.args.place c.datum_of_number.result (number_val c.in-Ok.number) c.in-Ok.ensures c.datum_of_number.ensures) reading
 
-pub plain_truth_at-returns-in-Ok : goal.plain_truth_at-returns-in-Ok
-plain_truth_at-returns-in-Ok t c =
-    read_value c.args.entity.now c.args.now.now c.args.checked.now.list c.args.place c.datum_of_number.result (truth_val c.truth_of.result) (made_value c.args.entity.now c.args.now.now c.args.checked.now.list c.args.place c.datum_of_number.result (number_val c.in-Ok.number) c.in-Ok.ensures c.datum_of_number.ensures) c.truth_of.ensures
+pub walk::numeric_truth_at-returns-in-Ok : goal.walk::numeric_truth_at-returns-in-Ok
+walk::numeric_truth_at-returns-in-Ok t c = read_value c.args.entity.now c.args.now.now c.args.checked.now.list c.args.place c.datum_of_number.result (truth_val c.truth_of.result) (made_value c.args.entity.now c.args.now.now c.args.checked.now.list c.args.place c.datum_of_number.result (number_val c.in-Ok.number) c.in-Ok.ensures c.datum_of_number.ensures) c.truth_of.ensures
 
-pub plain_truth_at-made_truth_at-requires : goal.plain_truth_at-made_truth_at-requires
-plain_truth_at-made_truth_at-requires t c =
+pub walk::plain_truth_at-made_truth_at-requires : goal.walk::plain_truth_at-made_truth_at-requires
+walk::plain_truth_at-made_truth_at-requires t c =
     let smaller : 16 * (length c.args.checked.now.list.nodes - c.args.place) + 7 < 16 * (length c.args.checked.now.list.nodes - c.args.place) + 10 = omega arith in
     search rules
 
 -- ---- a comparison in place
 
-pub compared_truth_at-right_of-right_place-requires : goal.compared_truth_at-right_of-right_place-requires
-compared_truth_at-right_of-right_place-requires t c = right_there c.args.entity.now [] c.args.checked.now.list c.args.place c.args.operator c.requires.here (typed_part c.args.entity.now [] c.args.checked.now.list c.args.place IsBooleanOrNull c.requires.stands)
+pub walk::compared_truth_at-right_of-right_place-requires : goal.walk::compared_truth_at-right_of-right_place-requires
+walk::compared_truth_at-right_of-right_place-requires t c = right_there c.args.entity.now [] c.args.checked.now.list c.args.place c.args.operator c.requires.here (typed_part c.args.entity.now [] c.args.checked.now.list c.args.place IsBooleanOrNull c.requires.stands)
 
-pub compared_truth_at-overflow_add-place : goal.compared_truth_at-overflow_add-place
-compared_truth_at-overflow_add-place t c =
+pub walk::compared_truth_at-overflow_add-place : goal.walk::compared_truth_at-overflow_add-place
+walk::compared_truth_at-overflow_add-place t c =
     let behind = right_further c.args.entity.now [] c.args.checked.now.list c.args.place c.args.operator c.requires.here (typed_part c.args.entity.now [] c.args.checked.now.list c.args.place IsBooleanOrNull c.requires.stands) c.right_of-right_place.result c.right_of-right_place.ensures in
     omega (arith, behind, c.right_of-right_place.type_inv)
 
-pub compared_truth_at-compare_kept-requires : goal.compared_truth_at-compare_kept-requires
-compared_truth_at-compare_kept-requires t c =
+pub walk::compared_truth_at-compare_kept-requires : goal.walk::compared_truth_at-compare_kept-requires
+walk::compared_truth_at-compare_kept-requires t c =
     let here = class_of_operator c.args.checked.now.list c.args.place c.args.operator (OperatorClass.Comparison c.comparison_of.result) c.requires.here c.comparison_of.ensures in
     may_compare_kept c.args.entity.now c.args.now.now c.args.checked.now.list c.args.place c.comparison_of.result here c.right_of-right_place.result c.right_of-right_place.ensures c.in-Leaf.left.now c.in-Leaf-part_at.right.now (c.in-Leaf.ensures c.args.now.now) (c.in-Leaf-part_at.ensures c.args.now.now)
     c.typed_trees_end_once_on_entities.ensures c.requires.entity c.comparisons_are_decided.ensures.any_contents (typed_part c.args.entity.now [] c.args.checked.now.list c.args.place IsBooleanOrNull c.requires.stands)
 
-pub compared_truth_at-returns-in-Leaf-part_at : goal.compared_truth_at-returns-in-Leaf-part_at
-compared_truth_at-returns-in-Leaf-part_at t c =
+pub walk::compared_truth_at-returns-in-Leaf-part_at : goal.walk::compared_truth_at-returns-in-Leaf-part_at
+walk::compared_truth_at-returns-in-Leaf-part_at t c =
     let here = class_of_operator c.args.checked.now.list c.args.place c.args.operator (OperatorClass.Comparison c.comparison_of.result) c.requires.here c.comparison_of.ensures in
     let may = may_compare_kept c.args.entity.now c.args.now.now c.args.checked.now.list c.args.place c.comparison_of.result here c.right_of-right_place.result c.right_of-right_place.ensures c.in-Leaf.left.now c.in-Leaf-part_at.right.now (c.in-Leaf.ensures c.args.now.now) (c.in-Leaf-part_at.ensures c.args.now.now)
     c.typed_trees_end_once_on_entities.ensures c.requires.entity c.comparisons_are_decided.ensures.any_contents (typed_part c.args.entity.now [] c.args.checked.now.list c.args.place IsBooleanOrNull c.requires.stands) in
     kept_compared c.args.entity.now c.args.now.now c.args.checked.now.list c.args.place c.comparison_of.result here c.right_of-right_place.result c.right_of-right_place.ensures c.in-Leaf.left.now c.in-Leaf-part_at.right.now (c.in-Leaf.ensures c.args.now.now) (c.in-Leaf-part_at.ensures c.args.now.now)
     c.compare_kept.result may c.compare_kept.ensures
 
-pub numbers_truth_at-right_of-right_place-requires : goal.numbers_truth_at-right_of-right_place-requires
-numbers_truth_at-right_of-right_place-requires t c = right_there c.args.entity.now [] c.args.checked.now.list c.args.place c.args.operator c.requires.here (typed_part c.args.entity.now [] c.args.checked.now.list c.args.place IsBooleanOrNull c.requires.stands)
+pub walk::numbers_truth_at-right_of-right_place-requires : goal.walk::numbers_truth_at-right_of-right_place-requires
+walk::numbers_truth_at-right_of-right_place-requires t c = right_there c.args.entity.now [] c.args.checked.now.list c.args.place c.args.operator c.requires.here (typed_part c.args.entity.now [] c.args.checked.now.list c.args.place IsBooleanOrNull c.requires.stands)
 
-pub numbers_truth_at-overflow_add-place : goal.numbers_truth_at-overflow_add-place
-numbers_truth_at-overflow_add-place t c =
+pub walk::numbers_truth_at-overflow_add-place : goal.walk::numbers_truth_at-overflow_add-place
+walk::numbers_truth_at-overflow_add-place t c =
     let behind = right_further c.args.entity.now [] c.args.checked.now.list c.args.place c.args.operator c.requires.here (typed_part c.args.entity.now [] c.args.checked.now.list c.args.place IsBooleanOrNull c.requires.stands) c.right_of-right_place.result c.right_of-right_place.ensures in
     omega (arith, behind, c.right_of-right_place.type_inv)
 
-pub numbers_truth_at-number_chain_at-requires : goal.numbers_truth_at-number_chain_at-requires
-numbers_truth_at-number_chain_at-requires t c =
+pub walk::numbers_truth_at-number_chain_at-requires : goal.walk::numbers_truth_at-number_chain_at-requires
+walk::numbers_truth_at-number_chain_at-requires t c =
     let part = typed_part c.args.entity.now [] c.args.checked.now.list c.args.place IsBooleanOrNull c.requires.stands in
     let inside : c.args.place < length c.args.checked.now.list.nodes = part_inside c.args.entity.now [] c.args.checked.now.list c.args.place part in
     let smaller : 16 * (length c.args.checked.now.list.nodes - (c.args.place + 1)) + 10 < 16 * (length c.args.checked.now.list.nodes - c.args.place) + 8 = omega arith in
     let left : PartStands c.args.entity.now [] c.args.checked.now.list (c.args.place + 1) = inner_step c.args.entity.now [] c.args.checked.now.list c.args.place part WalkClass.Eager (λ leaf. cc) (walks_by c.args.checked.now.list c.args.place c.args.operator WalkClass.Eager c.requires.here c.requires.comparison) in
     search rules
 
-pub numbers_truth_at-returns-in-Err : goal.numbers_truth_at-returns-in-Err
-numbers_truth_at-returns-in-Err t c =
-    first_faults c.args.entity.now c.args.now.now c.args.checked.now.list c.args.place WalkClass.Eager c.in-Err.fault (λ leaf. cc) (walks_by c.args.checked.now.list c.args.place c.args.operator WalkClass.Eager c.requires.here c.requires.comparison) c.in-Err.ensures
+pub walk::numbers_truth_at-returns-in-Err : goal.walk::numbers_truth_at-returns-in-Err
+walk::numbers_truth_at-returns-in-Err t c = first_faults c.args.entity.now c.args.now.now c.args.checked.now.list c.args.place WalkClass.Eager c.in-Err.fault (λ leaf. cc) (walks_by c.args.checked.now.list c.args.place c.args.operator WalkClass.Eager c.requires.here c.requires.comparison) c.in-Err.ensures
 
-pub numbers_truth_at-number_at-requires : goal.numbers_truth_at-number_at-requires
-numbers_truth_at-number_at-requires t c =
+pub walk::numbers_truth_at-number_at-requires : goal.walk::numbers_truth_at-number_at-requires
+walk::numbers_truth_at-number_at-requires t c =
     let part = typed_part c.args.entity.now [] c.args.checked.now.list c.args.place IsBooleanOrNull c.requires.stands in
     let inside : c.args.place < length c.args.checked.now.list.nodes = part_inside c.args.entity.now [] c.args.checked.now.list c.args.place part in
     let behind : c.args.place < c.right_of-right_place.result = right_further c.args.entity.now [] c.args.checked.now.list c.args.place c.args.operator c.requires.here part c.right_of-right_place.result c.right_of-right_place.ensures in
@@ -413,29 +398,28 @@ numbers_truth_at-number_at-requires t c =
     let right : PartStands c.args.entity.now [] c.args.checked.now.list c.right_of-right_place.result = right_part c.args.entity.now [] c.args.checked.now.list c.args.place c.args.operator c.requires.here part c.right_of-right_place.result c.right_of-right_place.ensures in
     search rules
 
-pub numbers_truth_at-returns-in-Err-number_at : goal.numbers_truth_at-returns-in-Err-number_at
-numbers_truth_at-returns-in-Err-number_at t c =
-    both_faults c.args.entity.now c.args.now.now c.args.checked.now.list c.args.place c.args.operator c.requires.here c.right_of-right_place.result c.right_of-right_place.ensures (λ type. number_val c.in-Ok.left) c.in-Err-number_at.fault (values_taken (class_of c.args.operator) c.requires.comparison) c.in-Ok.ensures c.in-Err-number_at.ensures
+pub walk::numbers_truth_at-returns-in-Err-number_at : goal.walk::numbers_truth_at-returns-in-Err-number_at
+walk::numbers_truth_at-returns-in-Err-number_at t c = both_faults c.args.entity.now c.args.now.now c.args.checked.now.list c.args.place c.args.operator c.requires.here c.right_of-right_place.result c.right_of-right_place.ensures (λ type. number_val c.in-Ok.left) c.in-Err-number_at.fault (values_taken (class_of c.args.operator) c.requires.comparison) c.in-Ok.ensures c.in-Err-number_at.ensures
 
 -- ---- `not`, and `-`
 
-pub logical_at-returns-in_default : goal.logical_at-returns-in_default
-logical_at-returns-in_default t c =
+pub walk::logical_at-returns-in_default : goal.walk::logical_at-returns-in_default
+walk::logical_at-returns-in_default t c =
     let first = subst (λ (r : Result (Option Bool) EvalFault). AnswersTruth c.args.entity.now c.args.now.now [] c.args.checked.now.list (c.args.place + 1) r) c.in-Ok.is c.requires.first in
     let walk = found_there (λ (f : CheckedNode). walk_of_kind f.kind ≡ WalkClass.Logical) (slice_get c.args.checked.now.list.nodes c.args.place) c.node_at.result.now c.node_at.ensures c.requires.logical in
     let here = there_found (λ (f : CheckedNode). f.kind ≡ NodeKind.Not) (slice_get c.args.checked.now.list.nodes c.args.place) c.node_at.result.now c.node_at.ensures (only_not c.node_at.result.now.kind walk c.in_default.not-Binary) in
     subst (λ (r : Option Bool). AnswersTruth c.args.entity.now c.args.now.now [] c.args.checked.now.list c.args.place (Ok r)) (sym c.not3.ensures) (not_answers c.args.entity.now c.args.now.now c.args.checked.now.list c.args.place c.in-Ok.first here first)
 
-pub numeric_at-negated-requires : goal.numeric_at-negated-requires
-numeric_at-negated-requires t c =
+pub number_walk::numeric_at-negated-requires : goal.number_walk::numeric_at-negated-requires
+number_walk::numeric_at-negated-requires t c =
     let first = subst (λ (r : Result (Option ℤ) EvalFault). AnswersNumber c.args.entity.now c.args.now.now [] c.args.checked.now.list (c.args.place + 1) r) c.in-Ok.is c.requires.first in
     let walk = found_there (λ (f : CheckedNode). walk_of_kind f.kind ≡ WalkClass.Numeric) (slice_get c.args.checked.now.list.nodes c.args.place) c.node_at-node.result.now c.node_at-node.ensures c.requires.numeric in
     let here = there_found (λ (f : CheckedNode). f.kind ≡ NodeKind.Neg) (slice_get c.args.checked.now.list.nodes c.args.place) c.node_at-node.result.now c.node_at-node.ensures (only_neg c.node_at-node.result.now.kind walk c.in_default.not-Binary) in
     let promotes : Promotes = record { left = c.operands_lie_within_promotion.ensures.left; right = c.operands_lie_within_promotion.ensures.right; negation = c.operands_lie_within_promotion.ensures.negation; three = c.operands_lie_within_promotion.ensures.three } in
     negated_operand c.args.entity.now c.args.now.now c.args.checked.now.list c.args.place c.typed_trees_end_once_on_entities.ensures c.requires.entity c.in-Ok.first c.node_at-node.result.now c.node_at-node.ensures here promotes c.requires.stands first
 
-pub numeric_at-returns-in_default : goal.numeric_at-returns-in_default
-numeric_at-returns-in_default t c =
+pub number_walk::numeric_at-returns-in_default : goal.number_walk::numeric_at-returns-in_default
+number_walk::numeric_at-returns-in_default t c =
     let first = subst (λ (r : Result (Option ℤ) EvalFault). AnswersNumber c.args.entity.now c.args.now.now [] c.args.checked.now.list (c.args.place + 1) r) c.in-Ok.is c.requires.first in
     let walk = found_there (λ (f : CheckedNode). walk_of_kind f.kind ≡ WalkClass.Numeric) (slice_get c.args.checked.now.list.nodes c.args.place) c.node_at-node.result.now c.node_at-node.ensures c.requires.numeric in
     let here = there_found (λ (f : CheckedNode). f.kind ≡ NodeKind.Neg) (slice_get c.args.checked.now.list.nodes c.args.place) c.node_at-node.result.now c.node_at-node.ensures (only_neg c.node_at-node.result.now.kind walk c.in_default.not-Binary) in
@@ -443,14 +427,14 @@ numeric_at-returns-in_default t c =
 
 -- ---- chains of numbers
 
-pub number_at-returns : goal.number_at-returns
-number_at-returns t c =
+pub number_walk::number_at-returns : goal.number_walk::number_at-returns
+number_walk::number_at-returns t c =
     let l = c.loop-at in
     let e : l.at ≡ c.args.place = omega arith in
     subst (λ (k : ℕ). AnswersNumber c.args.entity.now c.args.now.now [] c.args.checked.now.list k l.answer) e l.invariant.answers
 
-pub number_at-number_operand_at-answer-requires : goal.number_at-number_operand_at-answer-requires
-number_at-number_operand_at-answer-requires t c =
+pub number_walk::number_at-number_operand_at-answer-requires : goal.number_walk::number_at-number_operand_at-answer-requires
+number_walk::number_at-number_operand_at-answer-requires t c =
     let bottom = c.spine_bottom-bottom.result in
     let inside : c.args.place < length c.args.checked.now.list.nodes = part_inside c.args.entity.now [] c.args.checked.now.list c.args.place c.requires.stands in
     let below : c.args.place ≤ bottom = c.spine_bottom-bottom.ensures.below in
@@ -459,8 +443,8 @@ number_at-number_operand_at-answer-requires t c =
     let stands : NumberStands c.args.entity.now [] c.args.checked.now.list bottom = number_down c.args.entity.now [] c.args.checked.now.list c.args.place bottom behind c.requires.stands c.spine_bottom-bottom.ensures.spine in
     search rules
 
-pub number_at-numeric_at-answer-requires : goal.number_at-numeric_at-answer-requires
-number_at-numeric_at-answer-requires t c =
+pub number_walk::number_at-numeric_at-answer-requires : goal.number_walk::number_at-numeric_at-answer-requires
+number_walk::number_at-numeric_at-answer-requires t c =
     let l = c.loop-at in
     let within : l.at ≤ c.spine_bottom-bottom.result = l.invariant.within in
     let above : c.args.place < l.at = omega arith in
@@ -472,48 +456,44 @@ number_at-numeric_at-answer-requires t c =
     let first : AnswersNumber c.args.entity.now c.args.now.now [] c.args.checked.now.list (l.at - 1 + 1) l.answer = subst (λ (k : ℕ). AnswersNumber c.args.entity.now c.args.now.now [] c.args.checked.now.list k l.answer) e l.invariant.answers in
     search rules
 
-pub number_chain_at-overflow_add-place : goal.number_chain_at-overflow_add-place
-number_chain_at-overflow_add-place t c =
+pub number_walk::number_chain_at-overflow_add-place : goal.number_walk::number_chain_at-overflow_add-place
+number_walk::number_chain_at-overflow_add-place t c =
     let inside : c.args.place < length c.args.checked.now.list.nodes = part_inside c.args.entity.now [] c.args.checked.now.list c.args.place c.requires.stands in
     let within : c.args.place < length c.nodes-nodes.result.now = rw c.nodes-nodes.ensures.same inside in
     search rules
 
-pub number_chain_at-class_at-requires : goal.number_chain_at-class_at-requires
-number_chain_at-class_at-requires t c =
-    part_inside c.args.entity.now [] c.args.checked.now.list (c.args.place + 1) (inner_step c.args.entity.now [] c.args.checked.now.list c.args.place c.requires.stands WalkClass.Numeric (λ leaf. cc) c.requires.numeric)
+pub number_walk::number_chain_at-class_at-requires : goal.number_walk::number_chain_at-class_at-requires
+number_walk::number_chain_at-class_at-requires t c = part_inside c.args.entity.now [] c.args.checked.now.list (c.args.place + 1) (inner_step c.args.entity.now [] c.args.checked.now.list c.args.place c.requires.stands WalkClass.Numeric (λ leaf. cc) c.requires.numeric)
 
-pub number_chain_at-overflow_add-place-in-Numeric : goal.number_chain_at-overflow_add-place-in-Numeric
-number_chain_at-overflow_add-place-in-Numeric t c =
+pub number_walk::number_chain_at-overflow_add-place-in-Numeric : goal.number_walk::number_chain_at-overflow_add-place-in-Numeric
+number_walk::number_chain_at-overflow_add-place-in-Numeric t c =
     let inside : c.args.place < length c.args.checked.now.list.nodes = part_inside c.args.entity.now [] c.args.checked.now.list c.args.place c.requires.stands in
     let within : c.args.place < length c.nodes-nodes.result.now = rw c.nodes-nodes.ensures.same inside in
     search rules
 
-pub number_on_leaf_at-overflow_add-place : goal.number_on_leaf_at-overflow_add-place
-number_on_leaf_at-overflow_add-place t c =
+pub number_walk::number_on_leaf_at-overflow_add-place : goal.number_walk::number_on_leaf_at-overflow_add-place
+number_walk::number_on_leaf_at-overflow_add-place t c =
     let inside : c.args.place < length c.args.checked.now.list.nodes = part_inside c.args.entity.now [] c.args.checked.now.list c.args.place c.requires.stands in
     let within : c.args.place < length c.nodes-nodes.result.now = rw c.nodes-nodes.ensures.same inside in
     search rules
 
-pub number_on_leaf_at-kept_number-requires : goal.number_on_leaf_at-kept_number-requires
-number_on_leaf_at-kept_number-requires t c =
-    number_kept c.args.entity.now c.args.now.now c.args.checked.now.list (c.args.place + 1) c.in-Leaf.first.now (c.in-Leaf.ensures c.args.now.now) c.typed_trees_end_once_on_entities.ensures c.requires.entity (number_step c.args.entity.now [] c.args.checked.now.list c.args.place c.requires.stands c.requires.numeric)
+pub number_walk::number_on_leaf_at-kept_number-requires : goal.number_walk::number_on_leaf_at-kept_number-requires
+number_walk::number_on_leaf_at-kept_number-requires t c = number_kept c.args.entity.now c.args.now.now c.args.checked.now.list (c.args.place + 1) c.in-Leaf.first.now (c.in-Leaf.ensures c.args.now.now) c.typed_trees_end_once_on_entities.ensures c.requires.entity (number_step c.args.entity.now [] c.args.checked.now.list c.args.place c.requires.stands c.requires.numeric)
 
-pub number_on_leaf_at-numeric_at-requires : goal.number_on_leaf_at-numeric_at-requires
-number_on_leaf_at-numeric_at-requires t c =
+pub number_walk::number_on_leaf_at-numeric_at-requires : goal.number_walk::number_on_leaf_at-numeric_at-requires
+number_walk::number_on_leaf_at-numeric_at-requires t c =
     let smaller : 16 * (length c.args.checked.now.list.nodes - c.args.place) + 4 < 16 * (length c.args.checked.now.list.nodes - c.args.place) + 9 = omega arith in
     let first : AnswersNumber c.args.entity.now c.args.now.now [] c.args.checked.now.list (c.args.place + 1) (Ok c.kept_number.result) = kept_value c.args.entity.now c.args.now.now c.args.checked.now.list (c.args.place + 1) c.in-Leaf.first.now (c.in-Leaf.ensures c.args.now.now) (number_val c.kept_number.result) c.kept_number.ensures in
     search rules
 
-pub number_operand_at-kept_number-requires : goal.number_operand_at-kept_number-requires
-number_operand_at-kept_number-requires t c =
-    number_kept c.args.entity.now c.args.now.now c.args.checked.now.list c.args.place c.in-Leaf.value.now (c.in-Leaf.ensures c.args.now.now) c.typed_trees_end_once_on_entities.ensures c.requires.entity c.requires.stands
+pub number_walk::number_operand_at-kept_number-requires : goal.number_walk::number_operand_at-kept_number-requires
+number_walk::number_operand_at-kept_number-requires t c = number_kept c.args.entity.now c.args.now.now c.args.checked.now.list c.args.place c.in-Leaf.value.now (c.in-Leaf.ensures c.args.now.now) c.typed_trees_end_once_on_entities.ensures c.requires.entity c.requires.stands
 
-pub number_operand_at-returns-in-Leaf : goal.number_operand_at-returns-in-Leaf
-number_operand_at-returns-in-Leaf t c =
-    kept_value c.args.entity.now c.args.now.now c.args.checked.now.list c.args.place c.in-Leaf.value.now (c.in-Leaf.ensures c.args.now.now) (number_val c.kept_number.result) c.kept_number.ensures
+pub number_walk::number_operand_at-returns-in-Leaf : goal.number_walk::number_operand_at-returns-in-Leaf
+number_walk::number_operand_at-returns-in-Leaf t c = kept_value c.args.entity.now c.args.now.now c.args.checked.now.list c.args.place c.in-Leaf.value.now (c.in-Leaf.ensures c.args.now.now) (number_val c.kept_number.result) c.kept_number.ensures
 
-pub numbers_truth_at-returns-in-Int : goal.numbers_truth_at-returns-in-Int
-numbers_truth_at-returns-in-Int t c =
+pub walk::numbers_truth_at-returns-in-Int : goal.walk::numbers_truth_at-returns-in-Int
+walk::numbers_truth_at-returns-in-Int t c =
     let here = class_of_operator c.args.checked.now.list c.args.place c.args.operator (OperatorClass.Comparison c.comparison_of.result) c.requires.here c.comparison_of.ensures in
     let right = kept_value c.args.entity.now c.args.now.now c.args.checked.now.list c.right_of-right_place.result c.in-Leaf.value.now (c.in-Leaf.ensures c.args.now.now) (number_val (Some c.in-Int.right)) (ap plain_val c.in-Int.is) in
     let fits : SFits w64 c.in-Int.right = search rules in
@@ -521,7 +501,7 @@ numbers_truth_at-returns-in-Int t c =
     subst (λ (n : ℤ). IsTrue c.compare_numbers.result ↔ ComparesTrue c.comparison_of.result (number_val c.in-Ok.left) (number_val (Some n))) (to_z-of_z w64 c.in-Int.right fits) c.compare_numbers.ensures in
     numbers_compared c.args.entity.now c.args.now.now c.args.checked.now.list c.args.place c.comparison_of.result here c.right_of-right_place.result c.right_of-right_place.ensures c.in-Ok.left (Some c.in-Int.right) c.compare_numbers.result c.in-Ok.ensures right compared
 
-pub numbers_truth_at-returns-in-Ok-number_at : goal.numbers_truth_at-returns-in-Ok-number_at
-numbers_truth_at-returns-in-Ok-number_at t c =
+pub walk::numbers_truth_at-returns-in-Ok-number_at : goal.walk::numbers_truth_at-returns-in-Ok-number_at
+walk::numbers_truth_at-returns-in-Ok-number_at t c =
     let here = class_of_operator c.args.checked.now.list c.args.place c.args.operator (OperatorClass.Comparison c.comparison_of-in-Ok-number_at.result) c.requires.here c.comparison_of-in-Ok-number_at.ensures in
     numbers_compared c.args.entity.now c.args.now.now c.args.checked.now.list c.args.place c.comparison_of-in-Ok-number_at.result here c.right_of-right_place.result c.right_of-right_place.ensures c.in-Ok.left c.in-Ok-number_at.right c.compare_numbers-in-Ok-number_at.result c.in-Ok.ensures c.in-Ok-number_at.ensures c.compare_numbers-in-Ok-number_at.ensures
