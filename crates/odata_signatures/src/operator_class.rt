@@ -21,6 +21,7 @@ pub enum OperatorClass {
 ghost use Rattle.odata_signatures.specs.OperatorClass.{class_of};
 
 /// What the operator takes.
+#[inline(always)]
 pub fn class_of(operator: BinaryOperator) -> OperatorClass
     ensures { result ≡ class_of operator }
 {

@@ -86,8 +86,8 @@ fn has_types(checked: &Checked<'_>, rows: &[(u8, usize, usize)]) -> bool {
     ends_at(checked, rows.len())
 }
 
-/// Places past the nodes of each of the filters.
-const PAST: &[usize] = &[11, 4096, usize::MAX];
+/// Places past the nodes of each of the filters, but for one whose last node, 10, is no property.
+const PAST: &[usize] = &[10, 11, 4096, usize::MAX];
 
 /// Whether there is no slot and no level at the number of nodes, and at places past it.
 fn has_none_past(checked: &Checked<'_>, count: usize) -> bool {

@@ -180,8 +180,6 @@ walk::made_at-returns-in-Member t c =
     let here = there_found (λ (f : CheckedNode). f.kind ≡ NodeKind.Member c.in-Member.slot) (slice_get c.args.checked.now.list.nodes c.args.place) c.node_at.result.now c.node_at.ensures c.in-Member.is in
     step_answers c.typed_trees_end_once_on_entities.ensures c.trees_have_one_type.ensures c.args.entity.now c.args.now.now c.requires.entity c.args.checked.now.list c.args.place c.in-Member.slot here c.in-Ok.first c.step.result first c.step.ensures
 
--- ---- a node of numbers
-
 pub number_walk::number_operand_at-part_at-requires-clause-stands : goal.number_walk::number_operand_at-part_at-requires-clause-stands
 number_walk::number_operand_at-part_at-requires-clause-stands t c = typed_part c.args.entity.now [] c.args.checked.now.list c.args.place IsNumberOperand c.requires.stands
 
@@ -203,8 +201,7 @@ number_walk::made_number_at-operand_at-requires t c =
     search rules
 
 pub number_walk::made_number_at-number_of-requires : goal.number_walk::made_number_at-number_of-requires
-number_walk::made_number_at-number_of-requires t c =
-    λ reading.
+number_walk::made_number_at-number_of-requires t c = λ reading.
     let answers = subst (λ (r : Result Datum EvalFault). AnswersDatum c.args.entity.now c.args.now.now [] c.args.checked.now.list c.args.place r) c.in-Ok.is c.operand_at.ensures in
     number_there c.typed_trees_end_once_on_entities.ensures c.args.entity.now c.args.now.now c.requires.entity c.args.checked.now.list c.args.place c.in-Ok.value c.requires.stands answers reading
 
@@ -282,15 +279,13 @@ walk::compared_at-operand_at-requires t c =
 
 pub walk::compared_at-compare-requires-in-Ok : goal.walk::compared_at-compare-requires-in-Ok
 walk::compared_at-compare-requires-in-Ok t c =
-    may_compare c.args.entity.now c.args.now.now c.args.checked.now.list c.args.place c.args.comparison c.requires.comparison c.right_of-right_place.result c.right_of-right_place.ensures c.args.left.now c.in-Ok.right c.requires.left (subst (λ (r : Result Datum EvalFault). AnswersDatum c.args.entity.now c.args.now.now [] c.args.checked.now.list c.right_of-right_place.result r) c.in-Ok.is c.operand_at.ensures)
-    c.typed_trees_end_once_on_entities.ensures c.requires.entity c.comparisons_are_decided.ensures.any_reading c.requires.stands
+    may_compare c.args.entity.now c.args.now.now c.args.checked.now.list c.args.place c.args.comparison c.requires.comparison c.right_of-right_place.result c.right_of-right_place.ensures c.args.left.now c.in-Ok.right c.requires.left (subst (λ (r : Result Datum EvalFault). AnswersDatum c.args.entity.now c.args.now.now [] c.args.checked.now.list c.right_of-right_place.result r) c.in-Ok.is c.operand_at.ensures) c.typed_trees_end_once_on_entities.ensures c.requires.entity c.comparisons_are_decided.ensures.any_reading c.requires.stands
 
 pub walk::compared_at-returns-in-Ok : goal.walk::compared_at-returns-in-Ok
 walk::compared_at-returns-in-Ok t c =
     let may = may_compare c.args.entity.now c.args.now.now c.args.checked.now.list c.args.place c.args.comparison c.requires.comparison c.right_of-right_place.result c.right_of-right_place.ensures c.args.left.now c.in-Ok.right c.requires.left
     (subst (λ (r : Result Datum EvalFault). AnswersDatum c.args.entity.now c.args.now.now [] c.args.checked.now.list c.right_of-right_place.result r) c.in-Ok.is c.operand_at.ensures) c.typed_trees_end_once_on_entities.ensures c.requires.entity c.comparisons_are_decided.ensures.any_reading c.requires.stands in
-    truth_compared c.args.entity.now c.args.now.now c.args.checked.now.list c.args.place c.args.comparison c.requires.comparison c.right_of-right_place.result c.right_of-right_place.ensures c.args.left.now c.in-Ok.right c.requires.left (subst (λ (r : Result Datum EvalFault). AnswersDatum c.args.entity.now c.args.now.now [] c.args.checked.now.list c.right_of-right_place.result r) c.in-Ok.is c.operand_at.ensures)
-    c.compare-in-Ok.result may c.compare-in-Ok.ensures
+    truth_compared c.args.entity.now c.args.now.now c.args.checked.now.list c.args.place c.args.comparison c.requires.comparison c.right_of-right_place.result c.right_of-right_place.ensures c.args.left.now c.in-Ok.right c.requires.left (subst (λ (r : Result Datum EvalFault). AnswersDatum c.args.entity.now c.args.now.now [] c.args.checked.now.list c.right_of-right_place.result r) c.in-Ok.is c.operand_at.ensures) c.compare-in-Ok.result may c.compare-in-Ok.ensures
 
 pub walk::compared_at-returns : goal.walk::compared_at-returns
 walk::compared_at-returns t c =
@@ -335,8 +330,7 @@ walk::numeric_truth_at-number_at-requires t c =
     search rules
 
 pub walk::numeric_truth_at-truth_of-requires : goal.walk::numeric_truth_at-truth_of-requires
-walk::numeric_truth_at-truth_of-requires t c =
-    λ reading. truth_there c.typed_trees_end_once_on_entities.ensures c.args.entity.now c.args.now.now c.requires.entity c.args.checked.now.list c.args.place c.datum_of_number.result c.requires.stands (made_value c.args.entity.now c.args.now.now c.args.checked.now.list c.args.place c.datum_of_number.result (number_val c.in-Ok.number) c.in-Ok.ensures c.datum_of_number.ensures) reading
+walk::numeric_truth_at-truth_of-requires t c = λ reading. truth_there c.typed_trees_end_once_on_entities.ensures c.args.entity.now c.args.now.now c.requires.entity c.args.checked.now.list c.args.place c.datum_of_number.result c.requires.stands (made_value c.args.entity.now c.args.now.now c.args.checked.now.list c.args.place c.datum_of_number.result (number_val c.in-Ok.number) c.in-Ok.ensures c.datum_of_number.ensures) reading
 
 pub walk::numeric_truth_at-returns-in-Ok : goal.walk::numeric_truth_at-returns-in-Ok
 walk::numeric_truth_at-returns-in-Ok t c = read_value c.args.entity.now c.args.now.now c.args.checked.now.list c.args.place c.datum_of_number.result (truth_val c.truth_of.result) (made_value c.args.entity.now c.args.now.now c.args.checked.now.list c.args.place c.datum_of_number.result (number_val c.in-Ok.number) c.in-Ok.ensures c.datum_of_number.ensures) c.truth_of.ensures
@@ -359,16 +353,13 @@ walk::compared_truth_at-overflow_add-place t c =
 pub walk::compared_truth_at-compare_kept-requires : goal.walk::compared_truth_at-compare_kept-requires
 walk::compared_truth_at-compare_kept-requires t c =
     let here = class_of_operator c.args.checked.now.list c.args.place c.args.operator (OperatorClass.Comparison c.comparison_of.result) c.requires.here c.comparison_of.ensures in
-    may_compare_kept c.args.entity.now c.args.now.now c.args.checked.now.list c.args.place c.comparison_of.result here c.right_of-right_place.result c.right_of-right_place.ensures c.in-Leaf.left.now c.in-Leaf-part_at.right.now (c.in-Leaf.ensures c.args.now.now) (c.in-Leaf-part_at.ensures c.args.now.now)
-    c.typed_trees_end_once_on_entities.ensures c.requires.entity c.comparisons_are_decided.ensures.any_contents (typed_part c.args.entity.now [] c.args.checked.now.list c.args.place IsBooleanOrNull c.requires.stands)
+    may_compare_kept c.args.entity.now c.args.now.now c.args.checked.now.list c.args.place c.comparison_of.result here c.right_of-right_place.result c.right_of-right_place.ensures c.in-Leaf.left.now c.in-Leaf-part_at.right.now (c.in-Leaf.ensures c.args.now.now) (c.in-Leaf-part_at.ensures c.args.now.now) c.typed_trees_end_once_on_entities.ensures c.requires.entity c.comparisons_are_decided.ensures.any_contents (typed_part c.args.entity.now [] c.args.checked.now.list c.args.place IsBooleanOrNull c.requires.stands)
 
 pub walk::compared_truth_at-returns-in-Leaf-part_at : goal.walk::compared_truth_at-returns-in-Leaf-part_at
 walk::compared_truth_at-returns-in-Leaf-part_at t c =
     let here = class_of_operator c.args.checked.now.list c.args.place c.args.operator (OperatorClass.Comparison c.comparison_of.result) c.requires.here c.comparison_of.ensures in
-    let may = may_compare_kept c.args.entity.now c.args.now.now c.args.checked.now.list c.args.place c.comparison_of.result here c.right_of-right_place.result c.right_of-right_place.ensures c.in-Leaf.left.now c.in-Leaf-part_at.right.now (c.in-Leaf.ensures c.args.now.now) (c.in-Leaf-part_at.ensures c.args.now.now)
-    c.typed_trees_end_once_on_entities.ensures c.requires.entity c.comparisons_are_decided.ensures.any_contents (typed_part c.args.entity.now [] c.args.checked.now.list c.args.place IsBooleanOrNull c.requires.stands) in
-    kept_compared c.args.entity.now c.args.now.now c.args.checked.now.list c.args.place c.comparison_of.result here c.right_of-right_place.result c.right_of-right_place.ensures c.in-Leaf.left.now c.in-Leaf-part_at.right.now (c.in-Leaf.ensures c.args.now.now) (c.in-Leaf-part_at.ensures c.args.now.now)
-    c.compare_kept.result may c.compare_kept.ensures
+    let may = may_compare_kept c.args.entity.now c.args.now.now c.args.checked.now.list c.args.place c.comparison_of.result here c.right_of-right_place.result c.right_of-right_place.ensures c.in-Leaf.left.now c.in-Leaf-part_at.right.now (c.in-Leaf.ensures c.args.now.now) (c.in-Leaf-part_at.ensures c.args.now.now) c.typed_trees_end_once_on_entities.ensures c.requires.entity c.comparisons_are_decided.ensures.any_contents (typed_part c.args.entity.now [] c.args.checked.now.list c.args.place IsBooleanOrNull c.requires.stands) in
+    kept_compared c.args.entity.now c.args.now.now c.args.checked.now.list c.args.place c.comparison_of.result here c.right_of-right_place.result c.right_of-right_place.ensures c.in-Leaf.left.now c.in-Leaf-part_at.right.now (c.in-Leaf.ensures c.args.now.now) (c.in-Leaf-part_at.ensures c.args.now.now) c.compare_kept.result may c.compare_kept.ensures
 
 pub walk::numbers_truth_at-right_of-right_place-requires : goal.walk::numbers_truth_at-right_of-right_place-requires
 walk::numbers_truth_at-right_of-right_place-requires t c = right_there c.args.entity.now [] c.args.checked.now.list c.args.place c.args.operator c.requires.here (typed_part c.args.entity.now [] c.args.checked.now.list c.args.place IsBooleanOrNull c.requires.stands)

@@ -1,5 +1,5 @@
 -- Values that are kept: a truth value, a number or null is known by what it stands for.
-use Rattle.std.proofs.Common.{◌≡◌, ◌∙◌, ℕ, ℤ, List, [], Bool, Option, Some, None, ap, refl, sym, subst, rules}
+use Rattle.std.proofs.Common.{◌≡◌, ℕ, ℤ, List, [], Bool, Option, Some, None, ap, refl, sym, subst, rules}
 use Rattle.std.specs.Prelude.{string_bytes}
 use Rattle.edm_values.specs.MomentParts.{MomentParts}
 use Rattle.edm_values.specs.PlainVal.{plain_val}

@@ -1,6 +1,5 @@
 -- Operands of a number type or Null: those of arithmetic.
-use Rattle.std.proofs.Common.{◌≡◌, ℕ, ◌<◌, ◌≤◌, ◌+◌, ◌-◌, Some, slice_get, refl, sym, subst, inl, inr, arith}
-use Rattle.odata_syntax.specs.Tree.{node}
+use Rattle.std.proofs.Common.{◌≡◌, ℕ, ◌<◌, ◌≤◌, ◌+◌, ◌-◌, subst, arith}
 use Rattle.odata_syntax.specs.declared.node.BinaryOperator.{BinaryOperator}
 use Rattle.csdl_schema.specs.ExprType.{ExprType}
 use Rattle.edm_entities.specs.Row.{Row}
