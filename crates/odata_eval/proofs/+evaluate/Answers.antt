@@ -44,12 +44,6 @@ walk::eager_at-returns t c =
     let e : l.at ≡ c.args.place = omega arith in
     subst (λ (k : ℕ). AnswersDatum c.args.entity.now c.args.now.now [] c.args.checked.now.list k l.answer) e l.invariant.answers
 
-pub walk::made_truth_at-eager_at-requires : goal.walk::made_truth_at-eager_at-requires
-walk::made_truth_at-eager_at-requires t c =
-    let smaller : 16 * (length c.args.checked.now.list.nodes - c.args.place) + 5 < 16 * (length c.args.checked.now.list.nodes - c.args.place) + 8 = omega arith in
-    let part = typed_part c.args.entity.now [] c.args.checked.now.list c.args.place IsBooleanOrNull c.requires.stands in
-    search rules
-
 pub walk::made_truth_at-truth_of-requires : goal.walk::made_truth_at-truth_of-requires
 walk::made_truth_at-truth_of-requires t c = λ reading.
     let answers = subst (λ (r : Result Datum EvalFault). AnswersDatum c.args.entity.now c.args.now.now [] c.args.checked.now.list c.args.place r) c.in-Ok.is c.eager_at.ensures in
@@ -66,18 +60,8 @@ walk::operand_at-returns-in-Leaf t c = kept_datum c.args.entity.now c.args.now.n
 pub walk::operand_at-returns-in-Ok : goal.walk::operand_at-returns-in-Ok
 walk::operand_at-returns-in-Ok t c = made_value c.args.entity.now c.args.now.now c.args.checked.now.list c.args.place c.datum_of_truth.result (truth_val c.in-Ok.truth) c.in-Ok.ensures c.datum_of_truth.ensures
 
-pub walk::operand_at-number_at-requires : goal.walk::operand_at-number_at-requires
-walk::operand_at-number_at-requires t c =
-    let smaller : 16 * (length c.args.checked.now.list.nodes - c.args.place) + 8 < 16 * (length c.args.checked.now.list.nodes - c.args.place) + 12 = omega arith in
-    search rules
-
 pub walk::operand_at-returns-in-Ok-number_at : goal.walk::operand_at-returns-in-Ok-number_at
 walk::operand_at-returns-in-Ok-number_at t c = made_value c.args.entity.now c.args.now.now c.args.checked.now.list c.args.place c.datum_of_number.result (number_val c.in-Ok-number_at.number) c.in-Ok-number_at.ensures c.datum_of_number.ensures
-
-pub walk::operand_at-eager_at-requires : goal.walk::operand_at-eager_at-requires
-walk::operand_at-eager_at-requires t c =
-    let smaller : 16 * (length c.args.checked.now.list.nodes - c.args.place) + 5 < 16 * (length c.args.checked.now.list.nodes - c.args.place) + 12 = omega arith in
-    search rules
 
 pub walk::truth_at-plain_truth_at-answer-requires : goal.walk::truth_at-plain_truth_at-answer-requires
 walk::truth_at-plain_truth_at-answer-requires t c =
@@ -119,12 +103,6 @@ walk::eager_at-operand_at-answer-requires t c =
     let behind : c.args.place < c.spine_bottom-bottom.result = below_bottom c.args.checked.now.list WalkClass.Eager c.args.place c.spine_bottom-bottom.result below c.requires.eager c.spine_bottom-bottom.ensures.bottom in
     let smaller : 16 * (length c.args.checked.now.list.nodes - c.spine_bottom-bottom.result) + 12 < 16 * (length c.args.checked.now.list.nodes - c.args.place) + 5 = omega arith in
     let stands = part_down c.args.entity.now [] c.args.checked.now.list WalkClass.Eager (λ leaf. cc) c.args.place c.spine_bottom-bottom.result below c.requires.stands c.spine_bottom-bottom.ensures.spine in
-    search rules
-
-pub walk::operand_at-truth_at-requires : goal.walk::operand_at-truth_at-requires
-walk::operand_at-truth_at-requires t c =
-    let smaller : 16 * (length c.args.checked.now.list.nodes - c.args.place) + 11 < 16 * (length c.args.checked.now.list.nodes - c.args.place) + 12 = omega arith in
-    let stands = logical_truth c.args.entity.now [] c.args.checked.now.list c.args.place c.requires.stands c.in-Logical.ensures in
     search rules
 
 pub walk::made_truth_at-returns : goal.walk::made_truth_at-returns
@@ -180,26 +158,6 @@ walk::made_at-returns-in-Member t c =
     let here = there_found (λ (f : CheckedNode). f.kind ≡ NodeKind.Member c.in-Member.slot) (slice_get c.args.checked.now.list.nodes c.args.place) c.node_at.result.now c.node_at.ensures c.in-Member.is in
     step_answers c.typed_trees_end_once_on_entities.ensures c.trees_have_one_type.ensures c.args.entity.now c.args.now.now c.requires.entity c.args.checked.now.list c.args.place c.in-Member.slot here c.in-Ok.first c.step.result first c.step.ensures
 
-pub number_walk::number_operand_at-part_at-requires-clause-stands : goal.number_walk::number_operand_at-part_at-requires-clause-stands
-number_walk::number_operand_at-part_at-requires-clause-stands t c = typed_part c.args.entity.now [] c.args.checked.now.list c.args.place IsNumberOperand c.requires.stands
-
-pub number_walk::number_operand_at-made_number_at-requires : goal.number_walk::number_operand_at-made_number_at-requires
-number_walk::number_operand_at-made_number_at-requires t c =
-    let smaller : 16 * (length c.args.checked.now.list.nodes - c.args.place) + 13 < 16 * (length c.args.checked.now.list.nodes - c.args.place) + 14 = omega arith in
-    search rules
-
-pub number_walk::made_number_at-number_at-requires : goal.number_walk::made_number_at-number_at-requires
-number_walk::made_number_at-number_at-requires t c =
-    let smaller : 16 * (length c.args.checked.now.list.nodes - c.args.place) + 8 < 16 * (length c.args.checked.now.list.nodes - c.args.place) + 13 = omega arith in
-    let part = typed_part c.args.entity.now [] c.args.checked.now.list c.args.place IsNumberOperand c.requires.stands in
-    search rules
-
-pub number_walk::made_number_at-operand_at-requires : goal.number_walk::made_number_at-operand_at-requires
-number_walk::made_number_at-operand_at-requires t c =
-    let smaller : 16 * (length c.args.checked.now.list.nodes - c.args.place) + 12 < 16 * (length c.args.checked.now.list.nodes - c.args.place) + 13 = omega arith in
-    let part = typed_part c.args.entity.now [] c.args.checked.now.list c.args.place IsNumberOperand c.requires.stands in
-    search rules
-
 pub number_walk::made_number_at-number_of-requires : goal.number_walk::made_number_at-number_of-requires
 number_walk::made_number_at-number_of-requires t c = λ reading.
     let answers = subst (λ (r : Result Datum EvalFault). AnswersDatum c.args.entity.now c.args.now.now [] c.args.checked.now.list c.args.place r) c.in-Ok.is c.operand_at.ensures in
@@ -218,9 +176,6 @@ number_walk::numeric_at-returns-in-Err t c = first_faults c.args.entity.now c.ar
 
 pub number_walk::numeric_at-node_at-node-requires : goal.number_walk::numeric_at-node_at-node-requires
 number_walk::numeric_at-node_at-node-requires t c = part_inside c.args.entity.now [] c.args.checked.now.list c.args.place c.requires.stands
-
-pub number_walk::calculated_at-node_at-node-requires : goal.number_walk::calculated_at-node_at-node-requires
-number_walk::calculated_at-node_at-node-requires t c = part_inside c.args.entity.now [] c.args.checked.now.list c.args.place c.requires.stands
 
 pub number_walk::calculated_at-right_of-requires : goal.number_walk::calculated_at-right_of-requires
 number_walk::calculated_at-right_of-requires t c = right_there c.args.entity.now [] c.args.checked.now.list c.args.place c.args.operator c.requires.here c.requires.stands
@@ -250,11 +205,6 @@ pub walk::compared_at-right_of-right_place-requires : goal.walk::compared_at-rig
 walk::compared_at-right_of-right_place-requires t c =
     let there = operator_of_class c.args.checked.now.list c.args.place (OperatorClass.Comparison c.args.comparison) c.requires.comparison in
     right_there c.args.entity.now [] c.args.checked.now.list c.args.place there.operator there.here c.requires.stands
-
-pub walk::compared_at-part_at-requires-clause-stands : goal.walk::compared_at-part_at-requires-clause-stands
-walk::compared_at-part_at-requires-clause-stands t c =
-    let there = operator_of_class c.args.checked.now.list c.args.place (OperatorClass.Comparison c.args.comparison) c.requires.comparison in
-    right_part c.args.entity.now [] c.args.checked.now.list c.args.place there.operator there.here c.requires.stands c.right_of-right_place.result c.right_of-right_place.ensures
 
 pub walk::compared_at-compare-requires : goal.walk::compared_at-compare-requires
 walk::compared_at-compare-requires t c =
@@ -295,50 +245,17 @@ walk::compared_at-returns t c =
 
 -- ---- a node that is none of truth values
 
-pub walk::plain_truth_at-node_at-requires : goal.walk::plain_truth_at-node_at-requires
-walk::plain_truth_at-node_at-requires t c = part_inside c.args.entity.now [] c.args.checked.now.list c.args.place (typed_part c.args.entity.now [] c.args.checked.now.list c.args.place IsBooleanOrNull c.requires.stands)
-
-pub walk::plain_truth_at-compared_truth_at-requires : goal.walk::plain_truth_at-compared_truth_at-requires
-walk::plain_truth_at-compared_truth_at-requires t c =
-    let smaller : 16 * (length c.args.checked.now.list.nodes - c.args.place) + 9 < 16 * (length c.args.checked.now.list.nodes - c.args.place) + 10 = omega arith in
-    let here : HasOperator c.args.checked.now.list c.args.place c.in-Binary.operator =
-    there_found (λ (f : CheckedNode). f.kind ≡ NodeKind.Binary c.in-Binary.operator) (slice_get c.args.checked.now.list.nodes c.args.place) c.node_at.result.now c.node_at.ensures c.in-Binary.is in
-    let comparison : walk_of_operator (class_of c.in-Binary.operator) ≡ WalkClass.Eager = ap walk_of_operator (sym c.class_of.ensures ∙ c.in-Comparison.is) in
-    search rules
-
-pub walk::plain_truth_at-part_at-requires-clause-stands : goal.walk::plain_truth_at-part_at-requires-clause-stands
-walk::plain_truth_at-part_at-requires-clause-stands t c = typed_part c.args.entity.now [] c.args.checked.now.list c.args.place IsBooleanOrNull c.requires.stands
-
-pub walk::plain_truth_at-unreachable-requires : goal.walk::plain_truth_at-unreachable-requires
-walk::plain_truth_at-unreachable-requires t c = c.requires.plain c.in-Logical.ensures
-
 pub walk::plain_truth_at-kept_truth-requires : goal.walk::plain_truth_at-kept_truth-requires
 walk::plain_truth_at-kept_truth-requires t c = truth_kept c.args.entity.now c.args.now.now c.args.checked.now.list c.args.place c.in-Leaf.value.now (c.in-Leaf.ensures c.args.now.now) c.typed_trees_end_once_on_entities.ensures c.requires.entity c.requires.stands
 
 pub walk::plain_truth_at-returns-in-Leaf : goal.walk::plain_truth_at-returns-in-Leaf
 walk::plain_truth_at-returns-in-Leaf t c = kept_value c.args.entity.now c.args.now.now c.args.checked.now.list c.args.place c.in-Leaf.value.now (c.in-Leaf.ensures c.args.now.now) (truth_val c.kept_truth.result) c.kept_truth.ensures
 
-pub walk::plain_truth_at-numeric_truth_at-requires : goal.walk::plain_truth_at-numeric_truth_at-requires
-walk::plain_truth_at-numeric_truth_at-requires t c =
-    let smaller : 16 * (length c.args.checked.now.list.nodes - c.args.place) + 9 < 16 * (length c.args.checked.now.list.nodes - c.args.place) + 10 = omega arith in
-    search rules
-
-pub walk::numeric_truth_at-number_at-requires : goal.walk::numeric_truth_at-number_at-requires
-walk::numeric_truth_at-number_at-requires t c =
-    let smaller : 16 * (length c.args.checked.now.list.nodes - c.args.place) + 8 < 16 * (length c.args.checked.now.list.nodes - c.args.place) + 9 = omega arith in
-    let part = typed_part c.args.entity.now [] c.args.checked.now.list c.args.place IsBooleanOrNull c.requires.stands in
-    search rules
-
 pub walk::numeric_truth_at-truth_of-requires : goal.walk::numeric_truth_at-truth_of-requires
 walk::numeric_truth_at-truth_of-requires t c = λ reading. truth_there c.typed_trees_end_once_on_entities.ensures c.args.entity.now c.args.now.now c.requires.entity c.args.checked.now.list c.args.place c.datum_of_number.result c.requires.stands (made_value c.args.entity.now c.args.now.now c.args.checked.now.list c.args.place c.datum_of_number.result (number_val c.in-Ok.number) c.in-Ok.ensures c.datum_of_number.ensures) reading
 
 pub walk::numeric_truth_at-returns-in-Ok : goal.walk::numeric_truth_at-returns-in-Ok
 walk::numeric_truth_at-returns-in-Ok t c = read_value c.args.entity.now c.args.now.now c.args.checked.now.list c.args.place c.datum_of_number.result (truth_val c.truth_of.result) (made_value c.args.entity.now c.args.now.now c.args.checked.now.list c.args.place c.datum_of_number.result (number_val c.in-Ok.number) c.in-Ok.ensures c.datum_of_number.ensures) c.truth_of.ensures
-
-pub walk::plain_truth_at-made_truth_at-requires : goal.walk::plain_truth_at-made_truth_at-requires
-walk::plain_truth_at-made_truth_at-requires t c =
-    let smaller : 16 * (length c.args.checked.now.list.nodes - c.args.place) + 7 < 16 * (length c.args.checked.now.list.nodes - c.args.place) + 10 = omega arith in
-    search rules
 
 -- ---- a comparison in place
 
@@ -445,27 +362,6 @@ number_walk::number_at-numeric_at-answer-requires t c =
     let numeric : IsClassAt c.args.checked.now.list WalkClass.Numeric (l.at - 1) = c.spine_bottom-bottom.ensures.spine (l.at - 1) (omega arith) (omega arith) in
     let e : l.at ≡ l.at - 1 + 1 = omega arith in
     let first : AnswersNumber c.args.entity.now c.args.now.now [] c.args.checked.now.list (l.at - 1 + 1) l.answer = subst (λ (k : ℕ). AnswersNumber c.args.entity.now c.args.now.now [] c.args.checked.now.list k l.answer) e l.invariant.answers in
-    search rules
-
-pub number_walk::number_chain_at-overflow_add-place : goal.number_walk::number_chain_at-overflow_add-place
-number_walk::number_chain_at-overflow_add-place t c =
-    let inside : c.args.place < length c.args.checked.now.list.nodes = part_inside c.args.entity.now [] c.args.checked.now.list c.args.place c.requires.stands in
-    let within : c.args.place < length c.nodes-nodes.result.now = rw c.nodes-nodes.ensures.same inside in
-    search rules
-
-pub number_walk::number_chain_at-class_at-requires : goal.number_walk::number_chain_at-class_at-requires
-number_walk::number_chain_at-class_at-requires t c = part_inside c.args.entity.now [] c.args.checked.now.list (c.args.place + 1) (inner_step c.args.entity.now [] c.args.checked.now.list c.args.place c.requires.stands WalkClass.Numeric (λ leaf. cc) c.requires.numeric)
-
-pub number_walk::number_chain_at-overflow_add-place-in-Numeric : goal.number_walk::number_chain_at-overflow_add-place-in-Numeric
-number_walk::number_chain_at-overflow_add-place-in-Numeric t c =
-    let inside : c.args.place < length c.args.checked.now.list.nodes = part_inside c.args.entity.now [] c.args.checked.now.list c.args.place c.requires.stands in
-    let within : c.args.place < length c.nodes-nodes.result.now = rw c.nodes-nodes.ensures.same inside in
-    search rules
-
-pub number_walk::number_on_leaf_at-overflow_add-place : goal.number_walk::number_on_leaf_at-overflow_add-place
-number_walk::number_on_leaf_at-overflow_add-place t c =
-    let inside : c.args.place < length c.args.checked.now.list.nodes = part_inside c.args.entity.now [] c.args.checked.now.list c.args.place c.requires.stands in
-    let within : c.args.place < length c.nodes-nodes.result.now = rw c.nodes-nodes.ensures.same inside in
     search rules
 
 pub number_walk::number_on_leaf_at-kept_number-requires : goal.number_walk::number_on_leaf_at-kept_number-requires

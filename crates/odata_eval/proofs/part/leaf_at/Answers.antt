@@ -6,29 +6,11 @@ use Rattle.odata_eval.proofs.walking.Parts.{part_inside}
 use Rattle.odata_eval.proofs.walking.Shapes.{there_found}
 use Rattle.odata_eval.proofs.part.leaf_at.Goals as goal
 
-pub node_at-requires : goal.node_at-requires
-node_at-requires c = part_inside c.args.entity.now [] c.args.checked.now.list c.args.place c.requires.stands
-
-pub literal_at-requires : goal.literal_at-requires
-literal_at-requires c =
-    literal_within c.args.entity.now c.args.checked.now.list c.args.place _ c.in-Literal.value
-    (there_found (λ (f : CheckedNode). f.kind ≡ NodeKind.Literal _ c.in-Literal.value) _ c.node_at.result.now c.node_at.ensures c.in-Literal.is) c.requires.stands
-
-pub value_at-requires : goal.value_at-requires
-value_at-requires c =
-    property_within c.args.entity.now c.args.checked.now.list c.args.place c.in-Property.slot
-    (there_found (λ (f : CheckedNode). f.kind ≡ NodeKind.Property c.in-Property.slot) _ c.node_at.result.now c.node_at.ensures c.in-Property.is) c.requires.stands
-
 pub returns-in-Literal : goal.returns-in-Literal
 returns-in-Literal c = λ now.
     literal_answers c.args.entity.now c.args.checked.now.list c.args.place _ c.in-Literal.value
     (there_found (λ (f : CheckedNode). f.kind ≡ NodeKind.Literal _ c.in-Literal.value) _ c.node_at.result.now c.node_at.ensures c.in-Literal.is) now
     c.literal_at.result.now c.literal_at.ensures
-
-pub returns-in-It : goal.returns-in-It
-returns-in-It c = λ now.
-    rw c.value.ensures.value (it_answers c.args.entity.now c.args.checked.now.list c.args.place now
-    (there_found (λ (f : CheckedNode). f.kind ≡ NodeKind.It) _ c.node_at.result.now c.node_at.ensures c.in-It.is))
 
 pub returns-in-Property : goal.returns-in-Property
 returns-in-Property c = λ now.

@@ -6,14 +6,6 @@ use Rattle.odata_eval.proofs.walking.Parts.{part_inside}
 use Rattle.odata_eval.proofs.walking.Shapes.{there_found}
 use Rattle.odata_eval.proofs.part.part_at.Goals as goal
 
-pub node_at-requires : goal.node_at-requires
-node_at-requires c = part_inside c.args.entity.now [] c.args.checked.now.list c.args.place c.requires.stands
-
-pub value_at-requires : goal.value_at-requires
-value_at-requires c =
-    property_within c.args.entity.now c.args.checked.now.list c.args.place c.in-Property.slot
-    (there_found (λ (f : CheckedNode). f.kind ≡ NodeKind.Property c.in-Property.slot) _ c.node_at.result.now c.node_at.ensures c.in-Property.is) c.requires.stands
-
 pub returns-in-Property : goal.returns-in-Property
 returns-in-Property c = λ now.
     property_answers c.args.entity.now c.args.checked.now.list c.args.place c.in-Property.slot
