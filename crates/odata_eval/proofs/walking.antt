@@ -3,14 +3,11 @@ pub mod Compared
 pub mod KeptValues
 pub mod Leaves
 pub mod MemberSteps
-pub mod NumberSpines
 pub mod OneReading
 pub mod Parts
 pub mod Readings
-pub mod Shapes
 pub mod SlotValue
 pub mod Spines
 pub mod TopNode
-pub mod TruthSpines
 pub mod WalkSteps
 pub mod WalkValues

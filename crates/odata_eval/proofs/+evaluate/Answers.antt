@@ -1,4 +1,4 @@
-use Rattle.std.proofs.Common.{◌≡◌, ◌∙◌, ◌<◌, ◌≤◌, ◌+◌, ◌-◌, ◌*◌, ℕ, ℤ, [], Bool, Option, Some, Result, Ok, SFits, w64, ap, sym, subst, slice_get, length, rules, arith}
+use Rattle.std.proofs.Common.{◌≡◌, ◌<◌, ◌≤◌, ◌+◌, ◌-◌, ◌*◌, ℤ, [], Bool, Option, Some, Result, Ok, SFits, w64, ap, sym, subst, slice_get, length, rules, arith}
 use Rattle.edm_values.specs.declared.datum.Datum.{Datum}
 use Rattle.std.specs.Prelude.{◌↔◌, IsTrue}
 use Rattle.std.proofs.lemmas.Int.{to_z-of_z}
@@ -16,38 +16,30 @@ use Rattle.odata_eval.specs.declared.part.WalkClass.{WalkClass}
 use Rattle.odata_eval.specs.CalculationGives.{number_val}
 use Rattle.odata_eval.specs.TruthGives.{truth_val}
 use Rattle.odata_eval.specs.private.DatumView.{reading_at}
-use Rattle.odata_eval.specs.private.Place.{HasOperator, IsClassAt, IsNumberOperand, NumberStands, PartStands, TruthStands}
-use Rattle.odata_eval.specs.private.WalkClass.{walk_of_kind, walk_of_operator}
+use Rattle.odata_eval.specs.private.Place.{NumberStands, PartStands, TruthStands}
+use Rattle.odata_eval.specs.private.WalkClass.{walk_of_kind}
 use Rattle.odata_eval.specs.private.WalkAnswer.{AnswersDatum, AnswersNumber, AnswersTruth}
-use Rattle.odata_eval.proofs.walking.Parts.{part_inside}
+use Rattle.odata_eval.proofs.walking.Parts.{found_there, part_inside, there_found}
 use Rattle.odata_eval.proofs.meaning.LawsBelow.{Promotes}
 use Rattle.odata_eval.proofs.walking.MemberSteps.{step_answers, step_slot}
 use Rattle.odata_eval.proofs.walking.Compared.{kept_compared, may_compare, may_compare_kept, numbers_compared, truth_compared}
-use Rattle.odata_eval.proofs.walking.KeptValues.{kept_value, number_kept, truth_kept}
-use Rattle.odata_eval.proofs.walking.NumberSpines.{number_down, number_step, right_number}
-use Rattle.odata_eval.proofs.walking.Shapes.{found_there, there_found}
-use Rattle.odata_eval.proofs.walking.Spines.{class_of_operator, operator_of_class, only_neg, only_not, right_further, right_part, right_there, typed_part, walks_by}
-use Rattle.odata_eval.proofs.walking.TruthSpines.{below_bottom, inner_step, logical_truth, part_down, right_operand, truth_down}
-use Rattle.odata_eval.proofs.walking.WalkSteps.{TakesBoth, both_faults, calculation_answers, decided_answers, first_faults, joined_answers, joined_faults, negated_operand, numbers_taken, negation_answers, not_answers, numbers_there, values_taken}
-use Rattle.odata_eval.proofs.walking.WalkValues.{kept_datum, made_value, number_there, read_value, truth_there}
+use Rattle.odata_eval.proofs.walking.KeptValues.{kept_value, value_kept}
+use Rattle.odata_eval.proofs.walking.Readings.{number_values, truth_values}
+use Rattle.odata_eval.proofs.walking.Spines.{StepUp, at_top, below_bottom, bottom_down, class_of_operator, first_faults, first_part, first_step, only_neg, only_not, operator_of_class, part_down, right_further, right_part, right_there, right_typed, step_up, typed_down, typed_part, walks_by}
+use Rattle.odata_eval.proofs.walking.WalkSteps.{TakesBoth, both_faults, calculation_answers, decided_answers, joined_answers, joined_faults, negated_operand, negation_answers, not_answers, numbers_taken, numbers_there, values_taken}
+use Rattle.odata_eval.proofs.walking.WalkValues.{kept_datum, made_value, read_value, value_there}
 use Rattle.odata_eval.proofs.+evaluate.Goals as goal
 
 pub walk::truth_at-returns : goal.walk::truth_at-returns
-walk::truth_at-returns t c =
-    let l = c.loop-at in
-    let e : l.at ≡ c.args.place = omega arith in
-    subst (λ (k : ℕ). AnswersTruth c.args.entity.now c.args.now.now [] c.args.checked.now.list k l.answer) e l.invariant.answers
+walk::truth_at-returns t c = at_top (λ k. AnswersTruth c.args.entity.now c.args.now.now [] c.args.checked.now.list k c.loop-at.answer) c.loop-at.at c.args.place c.loop-at.invariant.above (omega arith) c.loop-at.invariant.answers
 
 pub walk::eager_at-returns : goal.walk::eager_at-returns
-walk::eager_at-returns t c =
-    let l = c.loop-at in
-    let e : l.at ≡ c.args.place = omega arith in
-    subst (λ (k : ℕ). AnswersDatum c.args.entity.now c.args.now.now [] c.args.checked.now.list k l.answer) e l.invariant.answers
+walk::eager_at-returns t c = at_top (λ k. AnswersDatum c.args.entity.now c.args.now.now [] c.args.checked.now.list k c.loop-at.answer) c.loop-at.at c.args.place c.loop-at.invariant.above (omega arith) c.loop-at.invariant.answers
 
 pub walk::made_truth_at-truth_of-requires : goal.walk::made_truth_at-truth_of-requires
 walk::made_truth_at-truth_of-requires t c = λ reading.
     let answers = subst (λ (r : Result Datum EvalFault). AnswersDatum c.args.entity.now c.args.now.now [] c.args.checked.now.list c.args.place r) c.in-Ok.is c.eager_at.ensures in
-    truth_there c.typed_trees_end_once_on_entities.ensures c.args.entity.now c.args.now.now c.requires.entity c.args.checked.now.list c.args.place c.in-Ok.value c.requires.stands answers reading
+    value_there c.args.entity.now c.args.now.now c.args.checked.now.list c.args.place truth_values c.typed_trees_end_once_on_entities.ensures c.requires.entity c.in-Ok.value c.requires.stands answers reading
 
 pub walk::made_truth_at-returns-in-Ok : goal.walk::made_truth_at-returns-in-Ok
 walk::made_truth_at-returns-in-Ok t c =
@@ -67,42 +59,31 @@ pub walk::truth_at-plain_truth_at-answer-requires : goal.walk::truth_at-plain_tr
 walk::truth_at-plain_truth_at-answer-requires t c =
     let below : c.args.place ≤ c.spine_bottom-bottom.result = c.spine_bottom-bottom.ensures.below in
     let smaller : 16 * (length c.args.checked.now.list.nodes - c.spine_bottom-bottom.result) + 10 < 16 * (length c.args.checked.now.list.nodes - c.args.place) + 11 = omega arith in
-    let stands = truth_down c.args.entity.now [] c.args.checked.now.list c.args.place c.spine_bottom-bottom.result below c.requires.stands c.spine_bottom-bottom.ensures.spine in
+    let stands = typed_down c.args.entity.now c.args.checked.now.list WalkClass.Logical (λ leaf. cc) c.args.place c.spine_bottom-bottom.result below c.requires.stands c.spine_bottom-bottom.ensures.spine in
     search rules
 
 pub walk::truth_at-logical_at-answer-requires : goal.walk::truth_at-logical_at-answer-requires
 walk::truth_at-logical_at-answer-requires t c =
     let l = c.loop-at in
-    let within : l.at ≤ c.spine_bottom-bottom.result = l.invariant.within in
     let above : c.args.place < l.at = omega arith in
     let smaller : 16 * (length c.args.checked.now.list.nodes - (l.at - 1)) + 4 < 16 * (length c.args.checked.now.list.nodes - c.args.place) + 11 = omega arith in
-    let upper : (i : ℕ) → i < l.at - 1 → c.args.place ≤ i → IsClassAt c.args.checked.now.list WalkClass.Logical i = λ i before from. c.spine_bottom-bottom.ensures.spine i (omega arith) from in
-    let stands : PartStands c.args.entity.now [] c.args.checked.now.list (l.at - 1) = typed_part c.args.entity.now [] c.args.checked.now.list (l.at - 1) IsBooleanOrNull (truth_down c.args.entity.now [] c.args.checked.now.list c.args.place (l.at - 1) (omega arith) c.requires.stands upper) in
-    let logical : IsClassAt c.args.checked.now.list WalkClass.Logical (l.at - 1) = c.spine_bottom-bottom.ensures.spine (l.at - 1) (omega arith) (omega arith) in
-    let e : l.at ≡ l.at - 1 + 1 = omega arith in
-    let first : AnswersTruth c.args.entity.now c.args.now.now [] c.args.checked.now.list (l.at - 1 + 1) l.answer = subst (λ (k : ℕ). AnswersTruth c.args.entity.now c.args.now.now [] c.args.checked.now.list k l.answer) e l.invariant.answers in
+    let up : StepUp c.args.entity.now c.args.checked.now.list WalkClass.Logical (λ k. AnswersTruth c.args.entity.now c.args.now.now [] c.args.checked.now.list k l.answer) l.at = step_up c.args.entity.now c.args.checked.now.list WalkClass.Logical (λ leaf. cc) (λ k. AnswersTruth c.args.entity.now c.args.now.now [] c.args.checked.now.list k l.answer) c.args.place l.at c.spine_bottom-bottom.result above l.invariant.within (typed_part c.args.entity.now c.args.checked.now.list c.args.place IsBooleanOrNull c.requires.stands) c.spine_bottom-bottom.ensures.spine l.invariant.answers in
     search rules
 
 pub walk::eager_at-made_at-answer-requires : goal.walk::eager_at-made_at-answer-requires
 walk::eager_at-made_at-answer-requires t c =
     let l = c.loop-at in
-    let within : l.at ≤ c.spine_bottom-bottom.result = l.invariant.within in
     let above : c.args.place < l.at = omega arith in
     let smaller : 16 * (length c.args.checked.now.list.nodes - (l.at - 1)) + 4 < 16 * (length c.args.checked.now.list.nodes - c.args.place) + 5 = omega arith in
-    let upper : (i : ℕ) → i < l.at - 1 → c.args.place ≤ i → IsClassAt c.args.checked.now.list WalkClass.Eager i = λ i before from. c.spine_bottom-bottom.ensures.spine i (omega arith) from in
-    let stands : PartStands c.args.entity.now [] c.args.checked.now.list (l.at - 1) = part_down c.args.entity.now [] c.args.checked.now.list WalkClass.Eager (λ leaf. cc) c.args.place (l.at - 1) (omega arith) c.requires.stands upper in
-    let eager : IsClassAt c.args.checked.now.list WalkClass.Eager (l.at - 1) = c.spine_bottom-bottom.ensures.spine (l.at - 1) (omega arith) (omega arith) in
-    let e : l.at ≡ l.at - 1 + 1 = omega arith in
-    let first : AnswersDatum c.args.entity.now c.args.now.now [] c.args.checked.now.list (l.at - 1 + 1) l.answer = subst (λ (k : ℕ). AnswersDatum c.args.entity.now c.args.now.now [] c.args.checked.now.list k l.answer) e l.invariant.answers in
+    let up : StepUp c.args.entity.now c.args.checked.now.list WalkClass.Eager (λ k. AnswersDatum c.args.entity.now c.args.now.now [] c.args.checked.now.list k l.answer) l.at = step_up c.args.entity.now c.args.checked.now.list WalkClass.Eager (λ leaf. cc) (λ k. AnswersDatum c.args.entity.now c.args.now.now [] c.args.checked.now.list k l.answer) c.args.place l.at c.spine_bottom-bottom.result above l.invariant.within c.requires.stands c.spine_bottom-bottom.ensures.spine l.invariant.answers in
     search rules
 
 pub walk::eager_at-operand_at-answer-requires : goal.walk::eager_at-operand_at-answer-requires
 walk::eager_at-operand_at-answer-requires t c =
-    let inside : c.args.place < length c.args.checked.now.list.nodes = part_inside c.args.entity.now [] c.args.checked.now.list c.args.place c.requires.stands in
-    let below : c.args.place ≤ c.spine_bottom-bottom.result = c.spine_bottom-bottom.ensures.below in
-    let behind : c.args.place < c.spine_bottom-bottom.result = below_bottom c.args.checked.now.list WalkClass.Eager c.args.place c.spine_bottom-bottom.result below c.requires.eager c.spine_bottom-bottom.ensures.bottom in
+    let inside : c.args.place < length c.args.checked.now.list.nodes = part_inside c.args.entity.now c.args.checked.now.list c.args.place c.requires.stands in
+    let behind : c.args.place < c.spine_bottom-bottom.result = below_bottom c.args.checked.now.list WalkClass.Eager c.args.place c.spine_bottom-bottom.result c.spine_bottom-bottom.ensures.below c.requires.eager c.spine_bottom-bottom.ensures.bottom in
     let smaller : 16 * (length c.args.checked.now.list.nodes - c.spine_bottom-bottom.result) + 12 < 16 * (length c.args.checked.now.list.nodes - c.args.place) + 5 = omega arith in
-    let stands = part_down c.args.entity.now [] c.args.checked.now.list WalkClass.Eager (λ leaf. cc) c.args.place c.spine_bottom-bottom.result below c.requires.stands c.spine_bottom-bottom.ensures.spine in
+    let stands = part_down c.args.entity.now c.args.checked.now.list WalkClass.Eager (λ leaf. cc) c.args.place c.spine_bottom-bottom.result c.spine_bottom-bottom.ensures.below c.requires.stands c.spine_bottom-bottom.ensures.spine in
     search rules
 
 pub walk::made_truth_at-returns : goal.walk::made_truth_at-returns
@@ -111,40 +92,40 @@ walk::made_truth_at-returns t c = subst (λ (r : Result Datum EvalFault). Answer
 -- ---- a node of truth values
 
 pub walk::logical_at-returns-in-Err : goal.walk::logical_at-returns-in-Err
-walk::logical_at-returns-in-Err t c = first_faults c.args.entity.now c.args.now.now c.args.checked.now.list c.args.place WalkClass.Logical c.in-Err.fault (λ leaf. cc) c.requires.logical (subst (λ (r : Result (Option Bool) EvalFault). AnswersTruth c.args.entity.now c.args.now.now [] c.args.checked.now.list (c.args.place + 1) r) c.in-Err.is c.requires.first)
+walk::logical_at-returns-in-Err t c = first_faults c.args.entity.now c.args.checked.now.list c.args.now.now c.args.place WalkClass.Logical c.in-Err.fault (λ leaf. cc) c.requires.logical (subst (λ (r : Result (Option Bool) EvalFault). AnswersTruth c.args.entity.now c.args.now.now [] c.args.checked.now.list (c.args.place + 1) r) c.in-Err.is c.requires.first)
 
 pub walk::logical_at-node_at-requires : goal.walk::logical_at-node_at-requires
-walk::logical_at-node_at-requires t c = part_inside c.args.entity.now [] c.args.checked.now.list c.args.place c.requires.stands
+walk::logical_at-node_at-requires t c = part_inside c.args.entity.now c.args.checked.now.list c.args.place c.requires.stands
 
 pub walk::connected_at-returns-then-decides : goal.walk::connected_at-returns-then-decides
 walk::connected_at-returns-then-decides t c = decided_answers c.args.entity.now c.args.now.now c.args.checked.now.list c.args.place c.args.operator c.requires.here c.connective_of-connective.result c.args.left c.connective_of-connective.ensures (c.decides.ensures.0 c.if-decides.true) c.requires.left
 
 pub walk::connected_at-right_of-requires : goal.walk::connected_at-right_of-requires
-walk::connected_at-right_of-requires t c = right_there c.args.entity.now [] c.args.checked.now.list c.args.place c.args.operator c.requires.here c.requires.stands
+walk::connected_at-right_of-requires t c = right_there c.args.entity.now c.args.checked.now.list c.args.place c.args.operator c.requires.here c.requires.stands
 
 pub walk::connected_at-side_at-requires : goal.walk::connected_at-side_at-requires
 walk::connected_at-side_at-requires t c =
-    let inside : c.args.place < length c.args.checked.now.list.nodes = part_inside c.args.entity.now [] c.args.checked.now.list c.args.place c.requires.stands in
-    let behind : c.args.place < c.right_of.result = right_further c.args.entity.now [] c.args.checked.now.list c.args.place c.args.operator c.requires.here c.requires.stands c.right_of.result c.right_of.ensures in
+    let inside : c.args.place < length c.args.checked.now.list.nodes = part_inside c.args.entity.now c.args.checked.now.list c.args.place c.requires.stands in
+    let behind : c.args.place < c.right_of.result = right_further c.args.entity.now c.args.checked.now.list c.args.place c.args.operator c.requires.here c.requires.stands c.right_of.result c.right_of.ensures in
     let smaller : 16 * (length c.args.checked.now.list.nodes - c.right_of.result) + 12 < 16 * (length c.args.checked.now.list.nodes - c.args.place) + 3 = omega arith in
-    let stands : TruthStands c.args.entity.now [] c.args.checked.now.list c.right_of.result = right_operand c.args.entity.now [] c.args.checked.now.list c.args.place c.requires.stands c.args.operator c.right_of.result c.requires.connective c.requires.here c.right_of.ensures in
+    let stands : TruthStands c.args.entity.now [] c.args.checked.now.list c.right_of.result = right_typed c.args.entity.now c.args.checked.now.list c.args.place c.args.operator c.requires.here c.requires.stands c.right_of.result c.right_of.ensures WalkClass.Logical c.requires.connective in
     search rules
 
 pub walk::connected_at-returns-in-Ok : goal.walk::connected_at-returns-in-Ok
 walk::connected_at-returns-in-Ok t c =
-    subst (λ (r : Option Bool). AnswersTruth c.args.entity.now c.args.now.now [] c.args.checked.now.list c.args.place (Ok r)) (sym c.join.ensures) (joined_answers c.args.entity.now c.args.now.now c.args.checked.now.list c.args.place c.args.operator c.requires.here c.right_of.result c.right_of.ensures c.connective_of-connective.result c.args.left c.in-Ok.right
-    c.connective_of-connective.ensures (λ decided. let e = c.decides.ensures.1 decided in cc) c.requires.left c.in-Ok.ensures)
+    subst (λ (r : Option Bool). AnswersTruth c.args.entity.now c.args.now.now [] c.args.checked.now.list c.args.place (Ok r)) (sym c.join.ensures) (joined_answers c.args.entity.now c.args.now.now c.args.checked.now.list c.args.place c.args.operator c.requires.here c.right_of.result c.right_of.ensures c.connective_of-connective.result c.args.left
+    c.connective_of-connective.ensures (λ decided. let e = c.decides.ensures.1 decided in cc) c.requires.left c.in-Ok.right c.in-Ok.ensures)
 
 pub walk::connected_at-returns-in-Err : goal.walk::connected_at-returns-in-Err
-walk::connected_at-returns-in-Err t c = joined_faults c.args.entity.now c.args.now.now c.args.checked.now.list c.args.place c.args.operator c.requires.here c.right_of.result c.right_of.ensures c.connective_of-connective.result c.args.left c.in-Err.fault c.connective_of-connective.ensures (λ decided. let e = c.decides.ensures.1 decided in cc) c.requires.left c.in-Err.ensures
+walk::connected_at-returns-in-Err t c = joined_faults c.args.entity.now c.args.now.now c.args.checked.now.list c.args.place c.args.operator c.requires.here c.right_of.result c.right_of.ensures c.connective_of-connective.result c.args.left c.connective_of-connective.ensures (λ decided. let e = c.decides.ensures.1 decided in cc) c.requires.left c.in-Err.fault c.in-Err.ensures
 
 -- ---- another node with operands
 
 pub walk::made_at-returns-in-Err : goal.walk::made_at-returns-in-Err
-walk::made_at-returns-in-Err t c = first_faults c.args.entity.now c.args.now.now c.args.checked.now.list c.args.place WalkClass.Eager c.in-Err.before (λ leaf. cc) c.requires.eager (subst (λ (r : Result Datum EvalFault). AnswersDatum c.args.entity.now c.args.now.now [] c.args.checked.now.list (c.args.place + 1) r) c.in-Err.is c.requires.first)
+walk::made_at-returns-in-Err t c = first_faults c.args.entity.now c.args.checked.now.list c.args.now.now c.args.place WalkClass.Eager c.in-Err.before (λ leaf. cc) c.requires.eager (subst (λ (r : Result Datum EvalFault). AnswersDatum c.args.entity.now c.args.now.now [] c.args.checked.now.list (c.args.place + 1) r) c.in-Err.is c.requires.first)
 
 pub walk::made_at-node_at-requires : goal.walk::made_at-node_at-requires
-walk::made_at-node_at-requires t c = part_inside c.args.entity.now [] c.args.checked.now.list c.args.place c.requires.stands
+walk::made_at-node_at-requires t c = part_inside c.args.entity.now c.args.checked.now.list c.args.place c.requires.stands
 
 pub walk::made_at-step-requires : goal.walk::made_at-step-requires
 walk::made_at-step-requires t c =
@@ -161,7 +142,7 @@ walk::made_at-returns-in-Member t c =
 pub number_walk::made_number_at-number_of-requires : goal.number_walk::made_number_at-number_of-requires
 number_walk::made_number_at-number_of-requires t c = λ reading.
     let answers = subst (λ (r : Result Datum EvalFault). AnswersDatum c.args.entity.now c.args.now.now [] c.args.checked.now.list c.args.place r) c.in-Ok.is c.operand_at.ensures in
-    number_there c.typed_trees_end_once_on_entities.ensures c.args.entity.now c.args.now.now c.requires.entity c.args.checked.now.list c.args.place c.in-Ok.value c.requires.stands answers reading
+    value_there c.args.entity.now c.args.now.now c.args.checked.now.list c.args.place number_values c.typed_trees_end_once_on_entities.ensures c.requires.entity c.in-Ok.value c.requires.stands answers reading
 
 pub number_walk::made_number_at-returns-in-Ok : goal.number_walk::made_number_at-returns-in-Ok
 number_walk::made_number_at-returns-in-Ok t c =
@@ -172,20 +153,20 @@ pub number_walk::made_number_at-returns : goal.number_walk::made_number_at-retur
 number_walk::made_number_at-returns t c = subst (λ (r : Result Datum EvalFault). AnswersDatum c.args.entity.now c.args.now.now [] c.args.checked.now.list c.args.place r) c.in-Err.is c.operand_at.ensures
 
 pub number_walk::numeric_at-returns-in-Err : goal.number_walk::numeric_at-returns-in-Err
-number_walk::numeric_at-returns-in-Err t c = first_faults c.args.entity.now c.args.now.now c.args.checked.now.list c.args.place WalkClass.Numeric c.in-Err.fault (λ leaf. cc) c.requires.numeric (subst (λ (r : Result (Option ℤ) EvalFault). AnswersNumber c.args.entity.now c.args.now.now [] c.args.checked.now.list (c.args.place + 1) r) c.in-Err.is c.requires.first)
+number_walk::numeric_at-returns-in-Err t c = first_faults c.args.entity.now c.args.checked.now.list c.args.now.now c.args.place WalkClass.Numeric c.in-Err.fault (λ leaf. cc) c.requires.numeric (subst (λ (r : Result (Option ℤ) EvalFault). AnswersNumber c.args.entity.now c.args.now.now [] c.args.checked.now.list (c.args.place + 1) r) c.in-Err.is c.requires.first)
 
 pub number_walk::numeric_at-node_at-node-requires : goal.number_walk::numeric_at-node_at-node-requires
-number_walk::numeric_at-node_at-node-requires t c = part_inside c.args.entity.now [] c.args.checked.now.list c.args.place c.requires.stands
+number_walk::numeric_at-node_at-node-requires t c = part_inside c.args.entity.now c.args.checked.now.list c.args.place c.requires.stands
 
 pub number_walk::calculated_at-right_of-requires : goal.number_walk::calculated_at-right_of-requires
-number_walk::calculated_at-right_of-requires t c = right_there c.args.entity.now [] c.args.checked.now.list c.args.place c.args.operator c.requires.here c.requires.stands
+number_walk::calculated_at-right_of-requires t c = right_there c.args.entity.now c.args.checked.now.list c.args.place c.args.operator c.requires.here c.requires.stands
 
 pub number_walk::calculated_at-number_operand_at-requires : goal.number_walk::calculated_at-number_operand_at-requires
 number_walk::calculated_at-number_operand_at-requires t c =
-    let inside : c.args.place < length c.args.checked.now.list.nodes = part_inside c.args.entity.now [] c.args.checked.now.list c.args.place c.requires.stands in
-    let behind : c.args.place < c.right_of.result = right_further c.args.entity.now [] c.args.checked.now.list c.args.place c.args.operator c.requires.here c.requires.stands c.right_of.result c.right_of.ensures in
+    let inside : c.args.place < length c.args.checked.now.list.nodes = part_inside c.args.entity.now c.args.checked.now.list c.args.place c.requires.stands in
+    let behind : c.args.place < c.right_of.result = right_further c.args.entity.now c.args.checked.now.list c.args.place c.args.operator c.requires.here c.requires.stands c.right_of.result c.right_of.ensures in
     let smaller : 16 * (length c.args.checked.now.list.nodes - c.right_of.result) + 14 < 16 * (length c.args.checked.now.list.nodes - c.args.place) + 3 = omega arith in
-    let stands : NumberStands c.args.entity.now [] c.args.checked.now.list c.right_of.result = right_number c.args.entity.now [] c.args.checked.now.list c.args.place c.requires.stands c.args.operator c.right_of.result c.requires.arithmetic c.requires.here c.right_of.ensures in
+    let stands : NumberStands c.args.entity.now [] c.args.checked.now.list c.right_of.result = right_typed c.args.entity.now c.args.checked.now.list c.args.place c.args.operator c.requires.here c.requires.stands c.right_of.result c.right_of.ensures WalkClass.Numeric c.requires.arithmetic in
     search rules
 
 pub number_walk::calculated_at-calculated-requires : goal.number_walk::calculated_at-calculated-requires
@@ -204,7 +185,7 @@ number_walk::calculated_at-returns-in-Err t c = both_faults c.args.entity.now c.
 pub walk::compared_at-right_of-right_place-requires : goal.walk::compared_at-right_of-right_place-requires
 walk::compared_at-right_of-right_place-requires t c =
     let there = operator_of_class c.args.checked.now.list c.args.place (OperatorClass.Comparison c.args.comparison) c.requires.comparison in
-    right_there c.args.entity.now [] c.args.checked.now.list c.args.place there.operator there.here c.requires.stands
+    right_there c.args.entity.now c.args.checked.now.list c.args.place there.operator there.here c.requires.stands
 
 pub walk::compared_at-compare-requires : goal.walk::compared_at-compare-requires
 walk::compared_at-compare-requires t c =
@@ -221,10 +202,10 @@ walk::compared_at-returns-in-Leaf t c =
 pub walk::compared_at-operand_at-requires : goal.walk::compared_at-operand_at-requires
 walk::compared_at-operand_at-requires t c =
     let there = operator_of_class c.args.checked.now.list c.args.place (OperatorClass.Comparison c.args.comparison) c.requires.comparison in
-    let inside : c.args.place < length c.args.checked.now.list.nodes = part_inside c.args.entity.now [] c.args.checked.now.list c.args.place c.requires.stands in
-    let behind : c.args.place < c.right_of-right_place.result = right_further c.args.entity.now [] c.args.checked.now.list c.args.place there.operator there.here c.requires.stands c.right_of-right_place.result c.right_of-right_place.ensures in
+    let inside : c.args.place < length c.args.checked.now.list.nodes = part_inside c.args.entity.now c.args.checked.now.list c.args.place c.requires.stands in
+    let behind : c.args.place < c.right_of-right_place.result = right_further c.args.entity.now c.args.checked.now.list c.args.place there.operator there.here c.requires.stands c.right_of-right_place.result c.right_of-right_place.ensures in
     let smaller : 16 * (length c.args.checked.now.list.nodes - c.right_of-right_place.result) + 12 < 16 * (length c.args.checked.now.list.nodes - c.args.place) + 3 = omega arith in
-    let stands : PartStands c.args.entity.now [] c.args.checked.now.list c.right_of-right_place.result = right_part c.args.entity.now [] c.args.checked.now.list c.args.place there.operator there.here c.requires.stands c.right_of-right_place.result c.right_of-right_place.ensures in
+    let stands : PartStands c.args.entity.now [] c.args.checked.now.list c.right_of-right_place.result = right_part c.args.entity.now c.args.checked.now.list c.args.place there.operator there.here c.requires.stands c.right_of-right_place.result c.right_of-right_place.ensures in
     search rules
 
 pub walk::compared_at-compare-requires-in-Ok : goal.walk::compared_at-compare-requires-in-Ok
@@ -246,13 +227,13 @@ walk::compared_at-returns t c =
 -- ---- a node that is none of truth values
 
 pub walk::plain_truth_at-kept_truth-requires : goal.walk::plain_truth_at-kept_truth-requires
-walk::plain_truth_at-kept_truth-requires t c = truth_kept c.args.entity.now c.args.now.now c.args.checked.now.list c.args.place c.in-Leaf.value.now (c.in-Leaf.ensures c.args.now.now) c.typed_trees_end_once_on_entities.ensures c.requires.entity c.requires.stands
+walk::plain_truth_at-kept_truth-requires t c = value_kept c.args.entity.now c.args.now.now c.args.checked.now.list c.args.place c.in-Leaf.value.now (c.in-Leaf.ensures c.args.now.now) truth_values c.typed_trees_end_once_on_entities.ensures c.requires.entity c.requires.stands
 
 pub walk::plain_truth_at-returns-in-Leaf : goal.walk::plain_truth_at-returns-in-Leaf
 walk::plain_truth_at-returns-in-Leaf t c = kept_value c.args.entity.now c.args.now.now c.args.checked.now.list c.args.place c.in-Leaf.value.now (c.in-Leaf.ensures c.args.now.now) (truth_val c.kept_truth.result) c.kept_truth.ensures
 
 pub walk::numeric_truth_at-truth_of-requires : goal.walk::numeric_truth_at-truth_of-requires
-walk::numeric_truth_at-truth_of-requires t c = λ reading. truth_there c.typed_trees_end_once_on_entities.ensures c.args.entity.now c.args.now.now c.requires.entity c.args.checked.now.list c.args.place c.datum_of_number.result c.requires.stands (made_value c.args.entity.now c.args.now.now c.args.checked.now.list c.args.place c.datum_of_number.result (number_val c.in-Ok.number) c.in-Ok.ensures c.datum_of_number.ensures) reading
+walk::numeric_truth_at-truth_of-requires t c = λ reading. value_there c.args.entity.now c.args.now.now c.args.checked.now.list c.args.place truth_values c.typed_trees_end_once_on_entities.ensures c.requires.entity c.datum_of_number.result c.requires.stands (made_value c.args.entity.now c.args.now.now c.args.checked.now.list c.args.place c.datum_of_number.result (number_val c.in-Ok.number) c.in-Ok.ensures c.datum_of_number.ensures) reading
 
 pub walk::numeric_truth_at-returns-in-Ok : goal.walk::numeric_truth_at-returns-in-Ok
 walk::numeric_truth_at-returns-in-Ok t c = read_value c.args.entity.now c.args.now.now c.args.checked.now.list c.args.place c.datum_of_number.result (truth_val c.truth_of.result) (made_value c.args.entity.now c.args.now.now c.args.checked.now.list c.args.place c.datum_of_number.result (number_val c.in-Ok.number) c.in-Ok.ensures c.datum_of_number.ensures) c.truth_of.ensures
@@ -260,50 +241,50 @@ walk::numeric_truth_at-returns-in-Ok t c = read_value c.args.entity.now c.args.n
 -- ---- a comparison in place
 
 pub walk::compared_truth_at-right_of-right_place-requires : goal.walk::compared_truth_at-right_of-right_place-requires
-walk::compared_truth_at-right_of-right_place-requires t c = right_there c.args.entity.now [] c.args.checked.now.list c.args.place c.args.operator c.requires.here (typed_part c.args.entity.now [] c.args.checked.now.list c.args.place IsBooleanOrNull c.requires.stands)
+walk::compared_truth_at-right_of-right_place-requires t c = right_there c.args.entity.now c.args.checked.now.list c.args.place c.args.operator c.requires.here (typed_part c.args.entity.now c.args.checked.now.list c.args.place IsBooleanOrNull c.requires.stands)
 
 pub walk::compared_truth_at-overflow_add-place : goal.walk::compared_truth_at-overflow_add-place
 walk::compared_truth_at-overflow_add-place t c =
-    let behind = right_further c.args.entity.now [] c.args.checked.now.list c.args.place c.args.operator c.requires.here (typed_part c.args.entity.now [] c.args.checked.now.list c.args.place IsBooleanOrNull c.requires.stands) c.right_of-right_place.result c.right_of-right_place.ensures in
+    let behind = right_further c.args.entity.now c.args.checked.now.list c.args.place c.args.operator c.requires.here (typed_part c.args.entity.now c.args.checked.now.list c.args.place IsBooleanOrNull c.requires.stands) c.right_of-right_place.result c.right_of-right_place.ensures in
     omega (arith, behind, c.right_of-right_place.type_inv)
 
 pub walk::compared_truth_at-compare_kept-requires : goal.walk::compared_truth_at-compare_kept-requires
 walk::compared_truth_at-compare_kept-requires t c =
     let here = class_of_operator c.args.checked.now.list c.args.place c.args.operator (OperatorClass.Comparison c.comparison_of.result) c.requires.here c.comparison_of.ensures in
-    may_compare_kept c.args.entity.now c.args.now.now c.args.checked.now.list c.args.place c.comparison_of.result here c.right_of-right_place.result c.right_of-right_place.ensures c.in-Leaf.left.now c.in-Leaf-part_at.right.now (c.in-Leaf.ensures c.args.now.now) (c.in-Leaf-part_at.ensures c.args.now.now) c.typed_trees_end_once_on_entities.ensures c.requires.entity c.comparisons_are_decided.ensures.any_contents (typed_part c.args.entity.now [] c.args.checked.now.list c.args.place IsBooleanOrNull c.requires.stands)
+    may_compare_kept c.args.entity.now c.args.now.now c.args.checked.now.list c.args.place c.comparison_of.result here c.right_of-right_place.result c.right_of-right_place.ensures c.in-Leaf.left.now c.in-Leaf-part_at.right.now (c.in-Leaf.ensures c.args.now.now) (c.in-Leaf-part_at.ensures c.args.now.now) c.typed_trees_end_once_on_entities.ensures c.requires.entity c.comparisons_are_decided.ensures.any_contents (typed_part c.args.entity.now c.args.checked.now.list c.args.place IsBooleanOrNull c.requires.stands)
 
 pub walk::compared_truth_at-returns-in-Leaf-part_at : goal.walk::compared_truth_at-returns-in-Leaf-part_at
 walk::compared_truth_at-returns-in-Leaf-part_at t c =
     let here = class_of_operator c.args.checked.now.list c.args.place c.args.operator (OperatorClass.Comparison c.comparison_of.result) c.requires.here c.comparison_of.ensures in
-    let may = may_compare_kept c.args.entity.now c.args.now.now c.args.checked.now.list c.args.place c.comparison_of.result here c.right_of-right_place.result c.right_of-right_place.ensures c.in-Leaf.left.now c.in-Leaf-part_at.right.now (c.in-Leaf.ensures c.args.now.now) (c.in-Leaf-part_at.ensures c.args.now.now) c.typed_trees_end_once_on_entities.ensures c.requires.entity c.comparisons_are_decided.ensures.any_contents (typed_part c.args.entity.now [] c.args.checked.now.list c.args.place IsBooleanOrNull c.requires.stands) in
+    let may = may_compare_kept c.args.entity.now c.args.now.now c.args.checked.now.list c.args.place c.comparison_of.result here c.right_of-right_place.result c.right_of-right_place.ensures c.in-Leaf.left.now c.in-Leaf-part_at.right.now (c.in-Leaf.ensures c.args.now.now) (c.in-Leaf-part_at.ensures c.args.now.now) c.typed_trees_end_once_on_entities.ensures c.requires.entity c.comparisons_are_decided.ensures.any_contents (typed_part c.args.entity.now c.args.checked.now.list c.args.place IsBooleanOrNull c.requires.stands) in
     kept_compared c.args.entity.now c.args.now.now c.args.checked.now.list c.args.place c.comparison_of.result here c.right_of-right_place.result c.right_of-right_place.ensures c.in-Leaf.left.now c.in-Leaf-part_at.right.now (c.in-Leaf.ensures c.args.now.now) (c.in-Leaf-part_at.ensures c.args.now.now) c.compare_kept.result may c.compare_kept.ensures
 
 pub walk::numbers_truth_at-right_of-right_place-requires : goal.walk::numbers_truth_at-right_of-right_place-requires
-walk::numbers_truth_at-right_of-right_place-requires t c = right_there c.args.entity.now [] c.args.checked.now.list c.args.place c.args.operator c.requires.here (typed_part c.args.entity.now [] c.args.checked.now.list c.args.place IsBooleanOrNull c.requires.stands)
+walk::numbers_truth_at-right_of-right_place-requires t c = right_there c.args.entity.now c.args.checked.now.list c.args.place c.args.operator c.requires.here (typed_part c.args.entity.now c.args.checked.now.list c.args.place IsBooleanOrNull c.requires.stands)
 
 pub walk::numbers_truth_at-overflow_add-place : goal.walk::numbers_truth_at-overflow_add-place
 walk::numbers_truth_at-overflow_add-place t c =
-    let behind = right_further c.args.entity.now [] c.args.checked.now.list c.args.place c.args.operator c.requires.here (typed_part c.args.entity.now [] c.args.checked.now.list c.args.place IsBooleanOrNull c.requires.stands) c.right_of-right_place.result c.right_of-right_place.ensures in
+    let behind = right_further c.args.entity.now c.args.checked.now.list c.args.place c.args.operator c.requires.here (typed_part c.args.entity.now c.args.checked.now.list c.args.place IsBooleanOrNull c.requires.stands) c.right_of-right_place.result c.right_of-right_place.ensures in
     omega (arith, behind, c.right_of-right_place.type_inv)
 
 pub walk::numbers_truth_at-number_chain_at-requires : goal.walk::numbers_truth_at-number_chain_at-requires
 walk::numbers_truth_at-number_chain_at-requires t c =
-    let part = typed_part c.args.entity.now [] c.args.checked.now.list c.args.place IsBooleanOrNull c.requires.stands in
-    let inside : c.args.place < length c.args.checked.now.list.nodes = part_inside c.args.entity.now [] c.args.checked.now.list c.args.place part in
+    let part = typed_part c.args.entity.now c.args.checked.now.list c.args.place IsBooleanOrNull c.requires.stands in
+    let inside : c.args.place < length c.args.checked.now.list.nodes = part_inside c.args.entity.now c.args.checked.now.list c.args.place part in
     let smaller : 16 * (length c.args.checked.now.list.nodes - (c.args.place + 1)) + 10 < 16 * (length c.args.checked.now.list.nodes - c.args.place) + 8 = omega arith in
-    let left : PartStands c.args.entity.now [] c.args.checked.now.list (c.args.place + 1) = inner_step c.args.entity.now [] c.args.checked.now.list c.args.place part WalkClass.Eager (λ leaf. cc) (walks_by c.args.checked.now.list c.args.place c.args.operator WalkClass.Eager c.requires.here c.requires.comparison) in
+    let left : PartStands c.args.entity.now [] c.args.checked.now.list (c.args.place + 1) = first_part c.args.entity.now c.args.checked.now.list c.args.place WalkClass.Eager (λ leaf. cc) (walks_by c.args.checked.now.list c.args.place c.args.operator WalkClass.Eager c.requires.here c.requires.comparison) part in
     search rules
 
 pub walk::numbers_truth_at-returns-in-Err : goal.walk::numbers_truth_at-returns-in-Err
-walk::numbers_truth_at-returns-in-Err t c = first_faults c.args.entity.now c.args.now.now c.args.checked.now.list c.args.place WalkClass.Eager c.in-Err.fault (λ leaf. cc) (walks_by c.args.checked.now.list c.args.place c.args.operator WalkClass.Eager c.requires.here c.requires.comparison) c.in-Err.ensures
+walk::numbers_truth_at-returns-in-Err t c = first_faults c.args.entity.now c.args.checked.now.list c.args.now.now c.args.place WalkClass.Eager c.in-Err.fault (λ leaf. cc) (walks_by c.args.checked.now.list c.args.place c.args.operator WalkClass.Eager c.requires.here c.requires.comparison) c.in-Err.ensures
 
 pub walk::numbers_truth_at-number_at-requires : goal.walk::numbers_truth_at-number_at-requires
 walk::numbers_truth_at-number_at-requires t c =
-    let part = typed_part c.args.entity.now [] c.args.checked.now.list c.args.place IsBooleanOrNull c.requires.stands in
-    let inside : c.args.place < length c.args.checked.now.list.nodes = part_inside c.args.entity.now [] c.args.checked.now.list c.args.place part in
-    let behind : c.args.place < c.right_of-right_place.result = right_further c.args.entity.now [] c.args.checked.now.list c.args.place c.args.operator c.requires.here part c.right_of-right_place.result c.right_of-right_place.ensures in
+    let part = typed_part c.args.entity.now c.args.checked.now.list c.args.place IsBooleanOrNull c.requires.stands in
+    let inside : c.args.place < length c.args.checked.now.list.nodes = part_inside c.args.entity.now c.args.checked.now.list c.args.place part in
+    let behind : c.args.place < c.right_of-right_place.result = right_further c.args.entity.now c.args.checked.now.list c.args.place c.args.operator c.requires.here part c.right_of-right_place.result c.right_of-right_place.ensures in
     let smaller : 16 * (length c.args.checked.now.list.nodes - c.right_of-right_place.result) + 8 < 16 * (length c.args.checked.now.list.nodes - c.args.place) + 8 = omega arith in
-    let right : PartStands c.args.entity.now [] c.args.checked.now.list c.right_of-right_place.result = right_part c.args.entity.now [] c.args.checked.now.list c.args.place c.args.operator c.requires.here part c.right_of-right_place.result c.right_of-right_place.ensures in
+    let right : PartStands c.args.entity.now [] c.args.checked.now.list c.right_of-right_place.result = right_part c.args.entity.now c.args.checked.now.list c.args.place c.args.operator c.requires.here part c.right_of-right_place.result c.right_of-right_place.ensures in
     search rules
 
 pub walk::numbers_truth_at-returns-in-Err-number_at : goal.walk::numbers_truth_at-returns-in-Err-number_at
@@ -324,48 +305,38 @@ number_walk::numeric_at-negated-requires t c =
     let walk = found_there (λ (f : CheckedNode). walk_of_kind f.kind ≡ WalkClass.Numeric) (slice_get c.args.checked.now.list.nodes c.args.place) c.node_at-node.result.now c.node_at-node.ensures c.requires.numeric in
     let here = there_found (λ (f : CheckedNode). f.kind ≡ NodeKind.Neg) (slice_get c.args.checked.now.list.nodes c.args.place) c.node_at-node.result.now c.node_at-node.ensures (only_neg c.node_at-node.result.now.kind walk c.in_default.not-Binary) in
     let promotes : Promotes = record { left = c.operands_lie_within_promotion.ensures.left; right = c.operands_lie_within_promotion.ensures.right; negation = c.operands_lie_within_promotion.ensures.negation; three = c.operands_lie_within_promotion.ensures.three } in
-    negated_operand c.args.entity.now c.args.now.now c.args.checked.now.list c.args.place c.typed_trees_end_once_on_entities.ensures c.requires.entity c.in-Ok.first c.node_at-node.result.now c.node_at-node.ensures here promotes c.requires.stands first
+    negated_operand c.args.entity.now c.args.now.now c.args.checked.now.list c.args.place c.in-Ok.first c.node_at-node.result.now c.node_at-node.ensures here first c.typed_trees_end_once_on_entities.ensures c.requires.entity promotes c.requires.stands
 
 pub number_walk::numeric_at-returns-in_default : goal.number_walk::numeric_at-returns-in_default
 number_walk::numeric_at-returns-in_default t c =
     let first = subst (λ (r : Result (Option ℤ) EvalFault). AnswersNumber c.args.entity.now c.args.now.now [] c.args.checked.now.list (c.args.place + 1) r) c.in-Ok.is c.requires.first in
     let walk = found_there (λ (f : CheckedNode). walk_of_kind f.kind ≡ WalkClass.Numeric) (slice_get c.args.checked.now.list.nodes c.args.place) c.node_at-node.result.now c.node_at-node.ensures c.requires.numeric in
     let here = there_found (λ (f : CheckedNode). f.kind ≡ NodeKind.Neg) (slice_get c.args.checked.now.list.nodes c.args.place) c.node_at-node.result.now c.node_at-node.ensures (only_neg c.node_at-node.result.now.kind walk c.in_default.not-Binary) in
-    negation_answers c.args.entity.now c.args.now.now c.args.checked.now.list c.args.place c.in-Ok.first c.node_at-node.result.now c.negated.result c.node_at-node.ensures here c.trees_have_one_type.ensures first c.negated.ensures
+    negation_answers c.args.entity.now c.args.now.now c.args.checked.now.list c.args.place c.in-Ok.first c.node_at-node.result.now c.node_at-node.ensures here first c.negated.result c.trees_have_one_type.ensures c.negated.ensures
 
 -- ---- chains of numbers
 
 pub number_walk::number_at-returns : goal.number_walk::number_at-returns
-number_walk::number_at-returns t c =
-    let l = c.loop-at in
-    let e : l.at ≡ c.args.place = omega arith in
-    subst (λ (k : ℕ). AnswersNumber c.args.entity.now c.args.now.now [] c.args.checked.now.list k l.answer) e l.invariant.answers
+number_walk::number_at-returns t c = at_top (λ k. AnswersNumber c.args.entity.now c.args.now.now [] c.args.checked.now.list k c.loop-at.answer) c.loop-at.at c.args.place c.loop-at.invariant.above (omega arith) c.loop-at.invariant.answers
 
 pub number_walk::number_at-number_operand_at-answer-requires : goal.number_walk::number_at-number_operand_at-answer-requires
 number_walk::number_at-number_operand_at-answer-requires t c =
-    let bottom = c.spine_bottom-bottom.result in
-    let inside : c.args.place < length c.args.checked.now.list.nodes = part_inside c.args.entity.now [] c.args.checked.now.list c.args.place c.requires.stands in
-    let below : c.args.place ≤ bottom = c.spine_bottom-bottom.ensures.below in
-    let behind : c.args.place < bottom = below_bottom c.args.checked.now.list WalkClass.Numeric c.args.place bottom below c.requires.numeric c.spine_bottom-bottom.ensures.bottom in
+    let inside : c.args.place < length c.args.checked.now.list.nodes = part_inside c.args.entity.now c.args.checked.now.list c.args.place c.requires.stands in
+    let behind : c.args.place < c.spine_bottom-bottom.result = below_bottom c.args.checked.now.list WalkClass.Numeric c.args.place c.spine_bottom-bottom.result c.spine_bottom-bottom.ensures.below c.requires.numeric c.spine_bottom-bottom.ensures.bottom in
     let smaller : 16 * (length c.args.checked.now.list.nodes - c.spine_bottom-bottom.result) + 14 < 16 * (length c.args.checked.now.list.nodes - c.args.place) + 8 = omega arith in
-    let stands : NumberStands c.args.entity.now [] c.args.checked.now.list bottom = number_down c.args.entity.now [] c.args.checked.now.list c.args.place bottom behind c.requires.stands c.spine_bottom-bottom.ensures.spine in
+    let stands : NumberStands c.args.entity.now [] c.args.checked.now.list c.spine_bottom-bottom.result = bottom_down c.args.entity.now c.args.checked.now.list WalkClass.Numeric (λ leaf. cc) c.args.place c.spine_bottom-bottom.result behind c.requires.stands c.spine_bottom-bottom.ensures.spine in
     search rules
 
 pub number_walk::number_at-numeric_at-answer-requires : goal.number_walk::number_at-numeric_at-answer-requires
 number_walk::number_at-numeric_at-answer-requires t c =
     let l = c.loop-at in
-    let within : l.at ≤ c.spine_bottom-bottom.result = l.invariant.within in
     let above : c.args.place < l.at = omega arith in
     let smaller : 16 * (length c.args.checked.now.list.nodes - (l.at - 1)) + 4 < 16 * (length c.args.checked.now.list.nodes - c.args.place) + 8 = omega arith in
-    let upper : (i : ℕ) → i < l.at - 1 → c.args.place ≤ i → IsClassAt c.args.checked.now.list WalkClass.Numeric i = λ i before from. c.spine_bottom-bottom.ensures.spine i (omega arith) from in
-    let stands : PartStands c.args.entity.now [] c.args.checked.now.list (l.at - 1) = part_down c.args.entity.now [] c.args.checked.now.list WalkClass.Numeric (λ leaf. cc) c.args.place (l.at - 1) (omega arith) c.requires.stands upper in
-    let numeric : IsClassAt c.args.checked.now.list WalkClass.Numeric (l.at - 1) = c.spine_bottom-bottom.ensures.spine (l.at - 1) (omega arith) (omega arith) in
-    let e : l.at ≡ l.at - 1 + 1 = omega arith in
-    let first : AnswersNumber c.args.entity.now c.args.now.now [] c.args.checked.now.list (l.at - 1 + 1) l.answer = subst (λ (k : ℕ). AnswersNumber c.args.entity.now c.args.now.now [] c.args.checked.now.list k l.answer) e l.invariant.answers in
+    let up : StepUp c.args.entity.now c.args.checked.now.list WalkClass.Numeric (λ k. AnswersNumber c.args.entity.now c.args.now.now [] c.args.checked.now.list k l.answer) l.at = step_up c.args.entity.now c.args.checked.now.list WalkClass.Numeric (λ leaf. cc) (λ k. AnswersNumber c.args.entity.now c.args.now.now [] c.args.checked.now.list k l.answer) c.args.place l.at c.spine_bottom-bottom.result above l.invariant.within c.requires.stands c.spine_bottom-bottom.ensures.spine l.invariant.answers in
     search rules
 
 pub number_walk::number_on_leaf_at-kept_number-requires : goal.number_walk::number_on_leaf_at-kept_number-requires
-number_walk::number_on_leaf_at-kept_number-requires t c = number_kept c.args.entity.now c.args.now.now c.args.checked.now.list (c.args.place + 1) c.in-Leaf.first.now (c.in-Leaf.ensures c.args.now.now) c.typed_trees_end_once_on_entities.ensures c.requires.entity (number_step c.args.entity.now [] c.args.checked.now.list c.args.place c.requires.stands c.requires.numeric)
+number_walk::number_on_leaf_at-kept_number-requires t c = value_kept c.args.entity.now c.args.now.now c.args.checked.now.list (c.args.place + 1) c.in-Leaf.first.now (c.in-Leaf.ensures c.args.now.now) number_values c.typed_trees_end_once_on_entities.ensures c.requires.entity (first_step c.args.entity.now c.args.checked.now.list c.args.place WalkClass.Numeric (λ leaf. cc) c.requires.numeric c.requires.stands)
 
 pub number_walk::number_on_leaf_at-numeric_at-requires : goal.number_walk::number_on_leaf_at-numeric_at-requires
 number_walk::number_on_leaf_at-numeric_at-requires t c =
@@ -374,7 +345,7 @@ number_walk::number_on_leaf_at-numeric_at-requires t c =
     search rules
 
 pub number_walk::number_operand_at-kept_number-requires : goal.number_walk::number_operand_at-kept_number-requires
-number_walk::number_operand_at-kept_number-requires t c = number_kept c.args.entity.now c.args.now.now c.args.checked.now.list c.args.place c.in-Leaf.value.now (c.in-Leaf.ensures c.args.now.now) c.typed_trees_end_once_on_entities.ensures c.requires.entity c.requires.stands
+number_walk::number_operand_at-kept_number-requires t c = value_kept c.args.entity.now c.args.now.now c.args.checked.now.list c.args.place c.in-Leaf.value.now (c.in-Leaf.ensures c.args.now.now) number_values c.typed_trees_end_once_on_entities.ensures c.requires.entity c.requires.stands
 
 pub number_walk::number_operand_at-returns-in-Leaf : goal.number_walk::number_operand_at-returns-in-Leaf
 number_walk::number_operand_at-returns-in-Leaf t c = kept_value c.args.entity.now c.args.now.now c.args.checked.now.list c.args.place c.in-Leaf.value.now (c.in-Leaf.ensures c.args.now.now) (number_val c.kept_number.result) c.kept_number.ensures

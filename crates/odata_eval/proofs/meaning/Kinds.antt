@@ -1,15 +1,16 @@
 -- Which kinds of values types have, and which of these an operator compares.
-use Rattle.std.proofs.Common.{◌≡◌, refl, sym, subst, inl, inr}
+use Rattle.std.proofs.Common.{◌≡◌, refl, sym, subst, inl, inr, Bool, Option, Some, None}
 use Rattle.edm_values.specs.NumberTypes.{IsNumberType}
-use Rattle.edm_values.specs.Val.{Val, null, boolean, whole, text, date, moment, guid, member, items}
+use Rattle.edm_values.specs.Val.{Val, null, boolean, whole, text, date, moment, guid, member, fields, items}
 use Rattle.edm_values.specs.declared.primitive.PrimitiveType.{PrimitiveType}
-use Rattle.csdl_schema.specs.ExprType.{ExprType, null_type, single, collection, SingleType, primitive, enumeration, structured}
+use Rattle.csdl_schema.specs.ExprType.{ExprType, null_type, single, SingleType, primitive, enumeration, structured}
 use Rattle.csdl_schema.specs.SchemaModel.{Slots}
 use Rattle.edm_entities.specs.HasType.{HasType}
 use Rattle.odata_functions.specs.Comparable.{AreComparableBy, HaveEquality, HaveOrder}
 use Rattle.odata_functions.specs.declared.comparison.ComparisonOperator.{ComparisonOperator}
 use Rattle.odata_signatures.specs.ComparableTypes.{AreAlikePrimitives, AreComparable, AreComparableSingles, AreComparedBy, AreOrdered, IsOrderedPrimitive, IsOrderedSingle}
-use Rattle.odata_signatures.specs.ExprTypes.{boolean_type, IsBooleanOrNull}
+use Rattle.odata_signatures.specs.ExprTypes.{IsBooleanOrNull}
+use Rattle.odata_eval.specs.TruthGives.{truth_val}
 
 -- the kinds of values without parts
 pub data ValueKind : Type 0 where
@@ -24,13 +25,13 @@ pub data ValueKind : Type 0 where
 -- a value of that kind, or null
 abbrev pub IsOfKind : ValueKind → Val → Type 0
 IsOfKind kind null = Unit {0}
-IsOfKind truths (boolean b) = Unit {0}
-IsOfKind wholes (whole n) = Unit {0}
-IsOfKind texts (text t) = Unit {0}
-IsOfKind dates (date d) = Unit {0}
-IsOfKind moments (moment m) = Unit {0}
-IsOfKind guids (guid g) = Unit {0}
-IsOfKind members (member n) = Unit {0}
+IsOfKind kind (boolean b) = kind ≡ truths
+IsOfKind kind (whole n) = kind ≡ wholes
+IsOfKind kind (text t) = kind ≡ texts
+IsOfKind kind (date d) = kind ≡ dates
+IsOfKind kind (moment m) = kind ≡ moments
+IsOfKind kind (guid g) = kind ≡ guids
+IsOfKind kind (member n) = kind ≡ members
 IsOfKind kind _ = ⊥
 
 abbrev pub kind_of_primitive : PrimitiveType → ValueKind
@@ -45,32 +46,23 @@ kind_of_primitive PrimitiveType.Date = dates
 kind_of_primitive PrimitiveType.DateTimeOffset = moments
 kind_of_primitive PrimitiveType.Guid = guids
 
-pub primitive_kind : (slots : Slots) (p : PrimitiveType) (v : Val) → HasType slots (single (primitive p)) v → IsOfKind (kind_of_primitive p) v
+primitive_kind : (slots : Slots) (p : PrimitiveType) (v : Val) → HasType slots (single (primitive p)) v → IsOfKind (kind_of_primitive p) v
 primitive_kind slots p null has = tt
-primitive_kind slots PrimitiveType.Bool (boolean b) has = tt
-primitive_kind slots PrimitiveType.Byte (whole n) has = tt
-primitive_kind slots PrimitiveType.SByte (whole n) has = tt
-primitive_kind slots PrimitiveType.Int16 (whole n) has = tt
-primitive_kind slots PrimitiveType.Int32 (whole n) has = tt
-primitive_kind slots PrimitiveType.Int64 (whole n) has = tt
-primitive_kind slots PrimitiveType.String (text t) has = tt
-primitive_kind slots PrimitiveType.Date (date d) has = tt
-primitive_kind slots PrimitiveType.DateTimeOffset (moment m) has = tt
-primitive_kind slots PrimitiveType.Guid (guid g) has = tt
-primitive_kind slots PrimitiveType.Bool _ has = absurd has
-primitive_kind slots PrimitiveType.Byte _ has = absurd has
-primitive_kind slots PrimitiveType.SByte _ has = absurd has
-primitive_kind slots PrimitiveType.Int16 _ has = absurd has
-primitive_kind slots PrimitiveType.Int32 _ has = absurd has
-primitive_kind slots PrimitiveType.Int64 _ has = absurd has
-primitive_kind slots PrimitiveType.String _ has = absurd has
-primitive_kind slots PrimitiveType.Date _ has = absurd has
-primitive_kind slots PrimitiveType.DateTimeOffset _ has = absurd has
-primitive_kind slots PrimitiveType.Guid _ has = absurd has
+primitive_kind slots PrimitiveType.Bool (boolean b) has = refl
+primitive_kind slots PrimitiveType.Byte (whole n) has = refl
+primitive_kind slots PrimitiveType.SByte (whole n) has = refl
+primitive_kind slots PrimitiveType.Int16 (whole n) has = refl
+primitive_kind slots PrimitiveType.Int32 (whole n) has = refl
+primitive_kind slots PrimitiveType.Int64 (whole n) has = refl
+primitive_kind slots PrimitiveType.String (text t) has = refl
+primitive_kind slots PrimitiveType.Date (date d) has = refl
+primitive_kind slots PrimitiveType.DateTimeOffset (moment m) has = refl
+primitive_kind slots PrimitiveType.Guid (guid g) has = refl
+primitive_kind slots _ _ has = absurd has
 
 member_kind : (slots : Slots) (name : _) (v : Val) → HasType slots (single (enumeration name)) v → IsOfKind members v
 member_kind slots name null has = tt
-member_kind slots name (member n) has = tt
+member_kind slots name (member n) has = refl
 member_kind slots name _ has = absurd has
 
 number_kind : (p : PrimitiveType) → IsNumberType p → kind_of_primitive p ≡ wholes
@@ -81,142 +73,46 @@ number_kind PrimitiveType.Int32 is = refl
 number_kind PrimitiveType.Int64 is = refl
 number_kind _ is = absurd is
 
--- one kind has the values of both types
-pub record CommonKind (slots : Slots) (left right : SingleType) : Type 0 where
-  pub kind : ValueKind
-  pub of_left : (v : Val) → HasType slots (single left) v → IsOfKind kind v
-  pub of_right : (v : Val) → HasType slots (single right) v → IsOfKind kind v
-
-primitives_common : (slots : Slots) (p q : PrimitiveType) → AreAlikePrimitives p q → CommonKind slots (primitive p) (primitive q)
-primitives_common slots p q (inl numbers) = record {
-  kind = wholes;
-  of_left = λ v has. subst (λ (k : ValueKind). IsOfKind k v) (number_kind p numbers.0) (primitive_kind slots p v has);
-  of_right = λ v has. subst (λ (k : ValueKind). IsOfKind k v) (number_kind q numbers.1) (primitive_kind slots q v has);
-}
-primitives_common slots p q (inr same) = record {
-  kind = kind_of_primitive p;
-  of_left = λ v has. primitive_kind slots p v has;
-  of_right = λ v has. primitive_kind slots p v (subst (λ (t : PrimitiveType). HasType slots (single (primitive t)) v) (sym same) has);
-}
-
-pub common_kind : (slots : Slots) (left right : SingleType) → AreComparableSingles left right → CommonKind slots left right
-common_kind slots (primitive p) (primitive q) alike = primitives_common slots p q alike
-common_kind slots (enumeration a) (enumeration b) same = record {
-  kind = members;
-  of_left = λ v has. member_kind slots a v has;
-  of_right = λ v has. member_kind slots b v has;
-}
-common_kind slots (primitive p) _ alike = absurd alike
-common_kind slots (enumeration a) _ alike = absurd alike
-common_kind slots (structured a) _ alike = absurd alike
-
--- values of one kind have equality
-kind_equality : (kind : ValueKind) (v w : Val) → IsOfKind kind v → IsOfKind kind w → HaveEquality v w
-kind_equality kind null null p q = tt
-kind_equality truths null (boolean y) p q = tt
-kind_equality truths (boolean x) null p q = tt
-kind_equality truths (boolean x) (boolean y) p q = tt
-kind_equality wholes null (whole y) p q = tt
-kind_equality wholes (whole x) null p q = tt
-kind_equality wholes (whole x) (whole y) p q = tt
-kind_equality texts null (text y) p q = tt
-kind_equality texts (text x) null p q = tt
-kind_equality texts (text x) (text y) p q = tt
-kind_equality dates null (date y) p q = tt
-kind_equality dates (date x) null p q = tt
-kind_equality dates (date x) (date y) p q = tt
-kind_equality moments null (moment y) p q = tt
-kind_equality moments (moment x) null p q = tt
-kind_equality moments (moment x) (moment y) p q = tt
-kind_equality guids null (guid y) p q = tt
-kind_equality guids (guid x) null p q = tt
-kind_equality guids (guid x) (guid y) p q = tt
-kind_equality members null (member y) p q = tt
-kind_equality members (member x) null p q = tt
-kind_equality members (member x) (member y) p q = tt
-kind_equality truths null _ p q = absurd q
-kind_equality wholes null _ p q = absurd q
-kind_equality texts null _ p q = absurd q
-kind_equality dates null _ p q = absurd q
-kind_equality moments null _ p q = absurd q
-kind_equality guids null _ p q = absurd q
-kind_equality members null _ p q = absurd q
-kind_equality truths (boolean x) _ p q = absurd q
-kind_equality wholes (whole x) _ p q = absurd q
-kind_equality texts (text x) _ p q = absurd q
-kind_equality dates (date x) _ p q = absurd q
-kind_equality moments (moment x) _ p q = absurd q
-kind_equality guids (guid x) _ p q = absurd q
-kind_equality members (member x) _ p q = absurd q
-kind_equality truths _ w p q = absurd p
-kind_equality wholes _ w p q = absurd p
-kind_equality texts _ w p q = absurd p
-kind_equality dates _ w p q = absurd p
-kind_equality moments _ w p q = absurd p
-kind_equality guids _ w p q = absurd p
-kind_equality members _ w p q = absurd p
-
 -- the kinds that have an order
 abbrev IsOrderedKind : ValueKind → Type 0
 IsOrderedKind guids = ⊥
 IsOrderedKind members = ⊥
 IsOrderedKind _ = Unit {0}
 
-kind_order : (kind : ValueKind) (v w : Val) → IsOrderedKind kind → IsOfKind kind v → IsOfKind kind w → HaveOrder v w
-kind_order kind null null o p q = tt
-kind_order truths null (boolean y) o p q = tt
-kind_order truths (boolean x) null o p q = tt
-kind_order truths (boolean x) (boolean y) o p q = tt
-kind_order wholes null (whole y) o p q = tt
-kind_order wholes (whole x) null o p q = tt
-kind_order wholes (whole x) (whole y) o p q = tt
-kind_order texts null (text y) o p q = tt
-kind_order texts (text x) null o p q = tt
-kind_order texts (text x) (text y) o p q = tt
-kind_order dates null (date y) o p q = tt
-kind_order dates (date x) null o p q = tt
-kind_order dates (date x) (date y) o p q = tt
-kind_order moments null (moment y) o p q = tt
-kind_order moments (moment x) null o p q = tt
-kind_order moments (moment x) (moment y) o p q = tt
-kind_order truths null _ o p q = absurd q
-kind_order wholes null _ o p q = absurd q
-kind_order texts null _ o p q = absurd q
-kind_order dates null _ o p q = absurd q
-kind_order moments null _ o p q = absurd q
-kind_order truths (boolean x) _ o p q = absurd q
-kind_order wholes (whole x) _ o p q = absurd q
-kind_order texts (text x) _ o p q = absurd q
-kind_order dates (date x) _ o p q = absurd q
-kind_order moments (moment x) _ o p q = absurd q
-kind_order truths _ w o p q = absurd p
-kind_order wholes _ w o p q = absurd p
-kind_order texts _ w o p q = absurd p
-kind_order dates _ w o p q = absurd p
-kind_order moments _ w o p q = absurd p
-kind_order guids v w o p q = absurd o
-kind_order members v w o p q = absurd o
-
 ordered_primitive : (p : PrimitiveType) → IsOrderedPrimitive p → IsOrderedKind (kind_of_primitive p)
-ordered_primitive PrimitiveType.Bool is = tt
-ordered_primitive PrimitiveType.Byte is = tt
-ordered_primitive PrimitiveType.SByte is = tt
-ordered_primitive PrimitiveType.Int16 is = tt
-ordered_primitive PrimitiveType.Int32 is = tt
-ordered_primitive PrimitiveType.Int64 is = tt
-ordered_primitive PrimitiveType.String is = tt
-ordered_primitive PrimitiveType.Date is = tt
-ordered_primitive PrimitiveType.DateTimeOffset is = tt
-ordered_primitive PrimitiveType.Guid is = absurd is
+ordered_primitive PrimitiveType.Guid is = is
+ordered_primitive _ is = tt
 
--- of types that have an order, the common kind has one
-common_ordered : (slots : Slots) (left right : SingleType) (alike : AreComparableSingles left right) → IsOrderedSingle left → IsOrderedKind (common_kind slots left right alike).kind
-unfolding common_kind primitives_common
-common_ordered slots (primitive p) (primitive q) (inl numbers) is = tt
-common_ordered slots (primitive p) (primitive q) (inr same) is = ordered_primitive p is
-common_ordered slots (enumeration a) _ alike is = absurd is
-common_ordered slots (structured a) _ alike is = absurd is
-common_ordered slots (primitive p) _ alike is = absurd alike
+-- one kind has the values of both types, and has an order if the first type has one
+pub record CommonKind (slots : Slots) (left right : SingleType) : Type 0 where
+  pub kind : ValueKind
+  pub of_left : (v : Val) → HasType slots (single left) v → IsOfKind kind v
+  pub of_right : (v : Val) → HasType slots (single right) v → IsOfKind kind v
+  pub ordered : IsOrderedSingle left → IsOrderedKind kind
+
+primitives_common : (slots : Slots) (p q : PrimitiveType) → AreAlikePrimitives p q → CommonKind slots (primitive p) (primitive q)
+primitives_common slots p q (inl numbers) = record {
+  kind = wholes;
+  of_left = λ v has. subst (λ (k : ValueKind). IsOfKind k v) (number_kind p numbers.0) (primitive_kind slots p v has);
+  of_right = λ v has. subst (λ (k : ValueKind). IsOfKind k v) (number_kind q numbers.1) (primitive_kind slots q v has);
+  ordered = λ is. tt;
+}
+primitives_common slots p q (inr same) = record {
+  kind = kind_of_primitive p;
+  of_left = λ v has. primitive_kind slots p v has;
+  of_right = λ v has. primitive_kind slots p v (subst (λ (t : PrimitiveType). HasType slots (single (primitive t)) v) (sym same) has);
+  ordered = ordered_primitive p;
+}
+
+common_kind : (slots : Slots) (left right : SingleType) → AreComparableSingles left right → CommonKind slots left right
+common_kind slots (primitive p) (primitive q) alike = primitives_common slots p q alike
+common_kind slots (enumeration a) (enumeration b) same = record {
+  kind = members;
+  of_left = λ v has. member_kind slots a v has;
+  of_right = λ v has. member_kind slots b v has;
+  ordered = λ is. is;
+}
+common_kind slots _ _ alike = absurd alike
 
 -- one value is no list
 abbrev IsNoList : Val → Type 0
@@ -224,13 +120,7 @@ IsNoList (items vs) = ⊥
 IsNoList _ = Unit {0}
 
 kind_no_list : (kind : ValueKind) (v : Val) → IsOfKind kind v → IsNoList v
-kind_no_list truths (items vs) is = is
-kind_no_list wholes (items vs) is = is
-kind_no_list texts (items vs) is = is
-kind_no_list dates (items vs) is = is
-kind_no_list moments (items vs) is = is
-kind_no_list guids (items vs) is = is
-kind_no_list members (items vs) is = is
+kind_no_list kind (items vs) is = is
 kind_no_list kind _ is = tt
 
 single_no_list : (slots : Slots) (type : SingleType) (v : Val) → HasType slots (single type) v → IsNoList v
@@ -251,56 +141,88 @@ null_right : (v : Val) → IsNoList v → HaveEquality v null
 null_right (items vs) is = is
 null_right _ is = tt
 
-pub have_equality : (slots : Slots) (left right : ExprType) (l r : Val) → AreComparable left right → HasType slots left l → HasType slots right r → HaveEquality l r
+-- values of one kind have equality, and an order if the kind has one
+kind_equality : (kind : ValueKind) (v w : Val) → IsOfKind kind v → IsOfKind kind w → HaveEquality v w
+kind_equality kind null w p q = null_left w (kind_no_list kind w q)
+kind_equality kind v null p q = null_right v (kind_no_list kind v p)
+kind_equality kind (boolean x) (boolean y) p q = tt
+kind_equality kind (whole x) (whole y) p q = tt
+kind_equality kind (text x) (text y) p q = tt
+kind_equality kind (date x) (date y) p q = tt
+kind_equality kind (moment x) (moment y) p q = tt
+kind_equality kind (guid x) (guid y) p q = tt
+kind_equality kind (member x) (member y) p q = tt
+kind_equality kind (fields x) w p q = absurd p
+kind_equality kind (items x) w p q = absurd p
+kind_equality kind v (fields y) p q = absurd q
+kind_equality kind v (items y) p q = absurd q
+kind_equality kind _ _ p q = absurd (cc)
+
+order_beside_null : (kind : ValueKind) (v : Val) → IsOrderedKind kind → IsOfKind kind v → HaveOrder null v × HaveOrder v null
+order_beside_null kind (guid x) o p = absurd (subst IsOrderedKind p o)
+order_beside_null kind (member x) o p = absurd (subst IsOrderedKind p o)
+order_beside_null kind (fields x) o p = absurd p
+order_beside_null kind (items x) o p = absurd p
+order_beside_null kind _ o p = (tt, tt)
+
+kind_order : (kind : ValueKind) (v w : Val) → IsOrderedKind kind → IsOfKind kind v → IsOfKind kind w → HaveOrder v w
+kind_order kind null w o p q = (order_beside_null kind w o q).0
+kind_order kind v null o p q = (order_beside_null kind v o p).1
+kind_order kind (boolean x) (boolean y) o p q = tt
+kind_order kind (whole x) (whole y) o p q = tt
+kind_order kind (text x) (text y) o p q = tt
+kind_order kind (date x) (date y) o p q = tt
+kind_order kind (moment x) (moment y) o p q = tt
+kind_order kind (guid x) w o p q = absurd (subst IsOrderedKind p o)
+kind_order kind (member x) w o p q = absurd (subst IsOrderedKind p o)
+kind_order kind (fields x) w o p q = absurd p
+kind_order kind (items x) w o p q = absurd p
+kind_order kind v (fields y) o p q = absurd q
+kind_order kind v (items y) o p q = absurd q
+kind_order kind _ _ o p q = absurd (cc)
+
+have_equality : (slots : Slots) (left right : ExprType) (l r : Val) → AreComparable left right → HasType slots left l → HasType slots right r → HaveEquality l r
 have_equality slots null_type null_type l r alike of_l of_r = rw (null_value slots l of_l, null_value slots r of_r) tt
 have_equality slots null_type (single t) l r alike of_l of_r = rw (null_value slots l of_l) (null_left r (single_no_list slots t r of_r))
 have_equality slots (single s) null_type l r alike of_l of_r = rw (null_value slots r of_r) (null_right l (single_no_list slots s l of_l))
 have_equality slots (single s) (single t) l r alike of_l of_r =
     let common = common_kind slots s t alike in
     kind_equality common.kind l r (common.of_left l of_l) (common.of_right r of_r)
-have_equality slots null_type (collection t) l r alike of_l of_r = absurd alike
-have_equality slots (single s) (collection t) l r alike of_l of_r = absurd alike
-have_equality slots (collection s) _ l r alike of_l of_r = absurd alike
+have_equality slots _ _ l r alike of_l of_r = absurd alike
 
 -- values of an ordered type beside null
-order_left : (slots : Slots) (t : SingleType) (v : Val) → IsOrderedSingle t → HasType slots (single t) v → HaveOrder null v
-order_left slots (primitive p) v is has = kind_order (kind_of_primitive p) null v (ordered_primitive p is) tt (primitive_kind slots p v has)
-order_left slots (enumeration name) v is has = absurd is
-order_left slots (structured name) v is has = absurd is
+single_beside_null : (slots : Slots) (t : SingleType) (v : Val) → IsOrderedSingle t → HasType slots (single t) v → HaveOrder null v × HaveOrder v null
+single_beside_null slots (primitive p) v is has = order_beside_null (kind_of_primitive p) v (ordered_primitive p is) (primitive_kind slots p v has)
+single_beside_null slots _ v is has = absurd is
 
-order_right : (slots : Slots) (t : SingleType) (v : Val) → IsOrderedSingle t → HasType slots (single t) v → HaveOrder v null
-order_right slots (primitive p) v is has = kind_order (kind_of_primitive p) v null (ordered_primitive p is) (primitive_kind slots p v has) tt
-order_right slots (enumeration name) v is has = absurd is
-order_right slots (structured name) v is has = absurd is
-
-pub have_order : (slots : Slots) (left right : ExprType) (l r : Val) → AreOrdered left right → HasType slots left l → HasType slots right r → HaveOrder l r
+have_order : (slots : Slots) (left right : ExprType) (l r : Val) → AreOrdered left right → HasType slots left l → HasType slots right r → HaveOrder l r
 have_order slots null_type null_type l r alike of_l of_r = rw (null_value slots l of_l, null_value slots r of_r) tt
-have_order slots null_type (single t) l r alike of_l of_r = rw (null_value slots l of_l) (order_left slots t r alike of_r)
-have_order slots (single s) null_type l r alike of_l of_r = rw (null_value slots r of_r) (order_right slots s l alike of_l)
+have_order slots null_type (single t) l r alike of_l of_r = rw (null_value slots l of_l) (single_beside_null slots t r alike of_r).0
+have_order slots (single s) null_type l r alike of_l of_r = rw (null_value slots r of_r) (single_beside_null slots s l alike of_l).1
 have_order slots (single s) (single t) l r alike of_l of_r =
     let common = common_kind slots s t alike.0 in
-    kind_order common.kind l r (common_ordered slots s t alike.0 alike.1) (common.of_left l of_l) (common.of_right r of_r)
-have_order slots null_type (collection t) l r alike of_l of_r = absurd alike
-have_order slots (single s) (collection t) l r alike of_l of_r = absurd alike
-have_order slots (collection s) _ l r alike of_l of_r = absurd alike
+    kind_order common.kind l r (common.ordered alike.1) (common.of_left l of_l) (common.of_right r of_r)
+have_order slots _ _ l r alike of_l of_r = absurd alike
 
 -- values of types that the operator takes are values that it compares
 pub comparable_values : (slots : Slots) (operator : ComparisonOperator) (left right : ExprType) (l r : Val)
     → AreComparedBy operator left right → HasType slots left l → HasType slots right r → AreComparableBy operator l r
 comparable_values slots ComparisonOperator.Eq left right l r alike of_l of_r = have_equality slots left right l r alike of_l of_r
 comparable_values slots ComparisonOperator.Ne left right l r alike of_l of_r = have_equality slots left right l r alike of_l of_r
-comparable_values slots ComparisonOperator.Gt left right l r alike of_l of_r = have_order slots left right l r alike of_l of_r
-comparable_values slots ComparisonOperator.Ge left right l r alike of_l of_r = have_order slots left right l r alike of_l of_r
-comparable_values slots ComparisonOperator.Lt left right l r alike of_l of_r = have_order slots left right l r alike of_l of_r
-comparable_values slots ComparisonOperator.Le left right l r alike of_l of_r = have_order slots left right l r alike of_l of_r
+comparable_values slots _ left right l r alike of_l of_r = have_order slots left right l r alike of_l of_r
 
 -- a truth value or null
-pub truth_of : (slots : Slots) (type : ExprType) (v : Val) → IsBooleanOrNull type → HasType slots type v → IsOfKind truths v
-truth_of slots type v (inl is_boolean) has = primitive_kind slots PrimitiveType.Bool v (subst (λ (t : ExprType). HasType slots t v) is_boolean has)
-truth_of slots type v (inr is_null) has =
-    subst (λ (w : Val). IsOfKind truths w) (sym (null_value slots v (subst (λ (t : ExprType). HasType slots t v) is_null has))) tt
+abbrev pub IsTruth : Val → Type 0
+IsTruth v = (truth : Option Bool) × (v ≡ truth_val truth)
 
-pub truth_typed : (slots : Slots) (v : Val) → IsOfKind truths v → HasType slots boolean_type v
-truth_typed slots (boolean b) is = tt
-truth_typed slots null is = tt
-truth_typed slots _ is = absurd is
+kind_truth : (v : Val) → IsOfKind truths v → IsTruth v
+kind_truth null is = (None, refl)
+kind_truth (boolean b) is = (Some b, refl)
+kind_truth (fields held) is = absurd is
+kind_truth (items vs) is = absurd is
+kind_truth _ is = absurd (cc)
+
+pub truth_of : (slots : Slots) (type : ExprType) (v : Val) → IsBooleanOrNull type → HasType slots type v → IsTruth v
+truth_of slots type v (inl is_boolean) has =
+    kind_truth v (primitive_kind slots PrimitiveType.Bool v (subst (λ (t : ExprType). HasType slots t v) is_boolean has))
+truth_of slots type v (inr is_null) has = (None, null_value slots v (subst (λ (t : ExprType). HasType slots t v) is_null has))

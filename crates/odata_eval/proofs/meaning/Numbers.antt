@@ -4,7 +4,7 @@ use Rattle.std.specs.Prelude.{IfSome}
 use Rattle.edm_values.specs.NumberTypes.{IsNumberOf, IsNumberType}
 use Rattle.edm_values.specs.Val.{Val, null, whole}
 use Rattle.edm_values.specs.declared.primitive.PrimitiveType.{PrimitiveType}
-use Rattle.csdl_schema.specs.ExprType.{ExprType, null_type, single, collection, primitive, enumeration, structured}
+use Rattle.csdl_schema.specs.ExprType.{ExprType, null_type, single, primitive}
 use Rattle.csdl_schema.specs.SchemaModel.{Slots}
 use Rattle.edm_entities.specs.HasType.{HasType}
 use Rattle.odata_functions.specs.Promotion.{negation_type, promotion, wider_type}
@@ -23,9 +23,7 @@ IsNumberIn number _ = ⊥
 pub are_numbers : (type : ExprType) (number : Option PrimitiveType) → IsNumberOrNull type number → IfSome number IsNumberType
 are_numbers null_type number is = rw is tt
 are_numbers (single (primitive p)) number is = rw is.1 is.0
-are_numbers (single (enumeration name)) number is = absurd is
-are_numbers (single (structured name)) number is = absurd is
-are_numbers (collection s) number is = absurd is
+are_numbers _ number is = absurd is
 
 primitive_number : (slots : Slots) (p : PrimitiveType) (v : Val) → IsNumberType p → HasType slots (single (primitive p)) v → IsNumberIn (Some p) v
 primitive_number slots p null is has = tt
@@ -44,9 +42,7 @@ null_number slots _ has = absurd has
 pub number_in : (slots : Slots) (type : ExprType) (number : Option PrimitiveType) (v : Val) → IsNumberOrNull type number → HasType slots type v → IsNumberIn number v
 number_in slots null_type number v is has = rw is (null_number slots v has)
 number_in slots (single (primitive p)) number v is has = rw is.1 (primitive_number slots p v is.0 has)
-number_in slots (single (enumeration name)) number v is has = absurd is
-number_in slots (single (structured name)) number v is has = absurd is
-number_in slots (collection s) number v is has = absurd is
+number_in slots _ number v is has = absurd is
 
 module _ (laws : Promotes) where
   -- two operands, in the type to which theirs are promoted

@@ -1,7 +1,7 @@
 -- Each table gives at most one outcome.
 use Rattle.std.proofs.Common.{◌≡◌, refl, sym, ◌∙◌, ap, ℕ, ℤ, List, Bool, true, false, IsTrue, Option, Some, None, Result}
 use Rattle.edm_values.specs.Val.{Val, null, boolean, whole, fields, FieldVal, absent, present}
-use Rattle.csdl_schema.specs.ExprType.{ExprType, null_type, single, collection, primitive, enumeration, structured}
+use Rattle.csdl_schema.specs.ExprType.{ExprType, single, primitive}
 use Rattle.odata_functions.specs.Comparison.{ComparesTrue}
 use Rattle.odata_functions.specs.Connectives.{not3}
 use Rattle.odata_functions.specs.declared.arithmetic.ArithFault.{ArithFault}
@@ -44,8 +44,7 @@ ConnectiveGives-one Connective.And null Right one a b p q = After-one Right (Joi
 ConnectiveGives-one Connective.Or (boolean true) Right one a b p q = same_one (gives (boolean true)) a b p q
 ConnectiveGives-one Connective.Or (boolean false) Right one a b p q = After-one Right (JoinGives Connective.Or (Some false)) one (JoinGives-one Connective.Or (Some false)) a b p q
 ConnectiveGives-one Connective.Or null Right one a b p q = After-one Right (JoinGives Connective.Or None) one (JoinGives-one Connective.Or None) a b p q
-ConnectiveGives-one Connective.And _ Right one a b p q = absurd p
-ConnectiveGives-one Connective.Or _ Right one a b p q = absurd p
+ConnectiveGives-one _ _ Right one a b p q = absurd p
 
 pub NotGives-one : (v : Val) → AtMostOne (NotGives v)
 NotGives-one null a b p q = same_one (gives (truth_val (not3 None))) a b p q
@@ -62,13 +61,7 @@ module _ (known : OneEach) where
   CalculationGives-one operator type (whole x) null a b p q = same_one (gives null) a b p q
   CalculationGives-one operator (single (primitive t)) (whole x) (whole y) a b p q =
       same_number p.0 q.0 a b (known.answer operator t (Some x) (Some y) p.0 q.0 p.1 q.1) p.2 q.2
-  CalculationGives-one operator (single (enumeration name)) (whole x) (whole y) a b p q = absurd p
-  CalculationGives-one operator (single (structured name)) (whole x) (whole y) a b p q = absurd p
-  CalculationGives-one operator null_type (whole x) (whole y) a b p q = absurd p
-  CalculationGives-one operator (collection s) (whole x) (whole y) a b p q = absurd p
-  CalculationGives-one operator type null _ a b p q = absurd p
-  CalculationGives-one operator type (whole x) _ a b p q = absurd p
-  CalculationGives-one operator type _ w a b p q = absurd p
+  CalculationGives-one operator _ _ _ a b p q = absurd p
 
   pub NegatedGives-one : (type : ExprType) (v : Val) → AtMostOne (NegatedGives type v)
   NegatedGives-one type null a b p q = same_one (gives null) a b p q

@@ -1,5 +1,5 @@
 -- A tree that has a type has an outcome: a value of that type, or a fault.
-use Rattle.std.proofs.Common.{◌≡◌, refl, sym, subst, inl, inr, ℕ, List, [], ◌∷◌, ℤ, Bool, true, false, Option, Some, None, Result, Ok, Err, cond, nat_eq}
+use Rattle.std.proofs.Common.{◌≡◌, ◌⊎◌, ◌∙◌, refl, sym, ap, subst, inl, inr, ℕ, List, [], ◌∷◌, ℤ, Bool, true, false, Option, Some, None, Result, Ok, Err, cond, nat_eq}
 use Rattle.std.specs.Prelude.{find, MatchOption, IsSomeAnd, FitsSigned}
 use Rattle.std.specs.Int.{w64}
 use Rattle.std.specs.List.{AllByRecursion}
@@ -14,8 +14,8 @@ use Rattle.edm_values.specs.declared.primitive.PrimitiveType.{PrimitiveType}
 use Rattle.odata_syntax.specs.Tree.{Tree, node, literal, it, name, negation, logical_not, binary}
 use Rattle.odata_syntax.specs.Tree as tree
 use Rattle.odata_syntax.specs.declared.node.LiteralKind.{LiteralKind}
-use Rattle.csdl_schema.specs.ExprType.{ExprType, null_type, single, collection, primitive, enumeration, structured}
-use Rattle.csdl_schema.specs.SchemaModel.{Slots, PropertyModel, PropertyType, declared}
+use Rattle.csdl_schema.specs.ExprType.{ExprType, single, primitive, enumeration, structured}
+use Rattle.csdl_schema.specs.SchemaModel.{Slots, PropertyModel, declared}
 use Rattle.edm_entities.specs.HasType.{HasType, HasPropertyType}
 use Rattle.odata_functions.specs.Arithmetic.{ArithmeticGives, ComesWithin}
 use Rattle.odata_functions.specs.Connectives.{not3}
@@ -42,7 +42,8 @@ use Rattle.odata_eval.specs.OperatorGives.{ClassGives, InType}
 use Rattle.odata_eval.specs.Outcome.{Outcome, gives, overflow, divides_by_zero}
 use Rattle.odata_eval.specs.TruthGives.{ConnectiveGives, JoinGives, NotGives, joined, truth_val}
 use Rattle.odata_eval.specs.private.Operands.{AreNumbers, IsOneNumber}
-use Rattle.odata_eval.proofs.meaning.Kinds.{IsOfKind, comparable_values, truth_of, truths}
+use Rattle.odata_eval.specs.private.WalkClass.{IsDecided}
+use Rattle.odata_eval.proofs.meaning.Kinds.{IsTruth, comparable_values, truth_of}
 use Rattle.odata_eval.proofs.meaning.LawsBelow.{Promotes, SomeEach}
 use Rattle.odata_eval.proofs.meaning.Numbers.{calculated_values, negated_value}
 
@@ -99,60 +100,49 @@ variable_fits slots (bound ∷ more) asked fitting =
       | false ↦ variable_fits slots more asked fitting.1
     ]
 
-held_ends : (slots : Slots) (type : ExprType) (held : FieldVal) → HasPropertyType slots (declared type) held → Ends slots type (FieldGives held)
-held_ends slots type (present v) has = (gives v, (refl, has))
-held_ends slots type absent has = absurd has
+held_of : (slots : Slots) (type : ExprType) (held : FieldVal) → HasPropertyType slots (declared type) held → (v : Val) × ((held ≡ present v) × HasType slots type v)
+held_of slots type (present v) has = (v, (refl, has))
+held_of slots type absent has = absurd has
 
--- a property of the asked name, of which a fact holds
-record IsNamed (Holds : PropertyModel → Type 0) (asked : List ℕ) (type : ExprType) : Type 0 where
-  pub property : PropertyModel
-  pub holds : Holds property
-  pub named : property.name ≡ asked
-  pub is_declared : property.type_of ≡ declared type
-
--- what holds of each property holds of the first one of a name that has a type
-found_property : (Holds : PropertyModel → Type 0) (asked : List ℕ) (type : ExprType) (properties : List PropertyModel)
-    → AllByRecursion Holds properties → PropertyTyped properties asked type → IsNamed Holds asked type
-found_property Holds asked type [] all typed = absurd typed
-found_property Holds asked type (p ∷ more) all typed =
+-- a record of the type has a value of its type under the name of a property that has a type
+pub held_present : (slots : Slots) (asked : List ℕ) (type : ExprType) (properties : List PropertyModel) (held : List ℕ → FieldVal)
+    → AllByRecursion (λ p. HasPropertyType slots p.type_of (held p.name)) properties → PropertyTyped properties asked type
+    → (v : Val) × ((held asked ≡ present v) × HasType slots type v)
+held_present slots asked type [] held all typed = absurd typed
+held_present slots asked type (p ∷ more) held all typed =
     elim (pointwise nat_eq asked p.name) as (λ is_it. pointwise nat_eq asked p.name ≡ is_it
     → IsSomeAnd (cond is_it (Some p) (property_named more asked)) (λ q. q.type_of ≡ declared type)
-    → IsNamed Holds asked type) [
-      | true ↦ λ same is_typed. record {
-        property = p;
-        holds = all.0;
-        named = sym ((bytes_eq-Decides asked p.name).0 same);
-        is_declared = is_typed;
-      }
-      | false ↦ λ other is_typed. found_property Holds asked type more all.1 is_typed
+    → (v : Val) × ((held asked ≡ present v) × HasType slots type v)) [
+      | true ↦ λ same is_typed.
+          let named : asked ≡ p.name = (bytes_eq-Decides asked p.name).0 same in
+          let there = held_of slots type (held p.name) (subst (λ t. HasPropertyType slots t (held p.name)) is_typed all.0) in
+          (there.0, (ap held named ∙ there.1.0, there.1.1))
+      | false ↦ λ other is_typed. held_present slots asked type more held all.1 is_typed
     ] refl typed
+
+pub field_gives : (held : List ℕ → FieldVal) (asked : List ℕ) (v : Val) → held asked ≡ present v → StepGives (fields held) asked (gives v)
+field_gives held asked v here = subst (λ (h : FieldVal). FieldGives h (gives v)) (sym here) refl
 
 step_ends : (slots : Slots) (owner : List ℕ) (v : Val) (asked : List ℕ) (type : ExprType)
     → HasType slots (single (structured owner)) v → PropertyTyped (slots.properties owner) asked type → Ends slots type (StepGives v asked)
 step_ends slots owner null asked type conforms typed = (gives null, (refl, tt))
 step_ends slots owner (fields held) asked type conforms typed =
-    let found = found_property (λ p. HasPropertyType slots p.type_of (held p.name)) asked type (slots.properties owner) conforms typed in
-    held_ends slots type (held asked)
-    (subst (λ (t : PropertyType). HasPropertyType slots t (held asked)) found.is_declared
-    (subst (λ (n : List ℕ). HasPropertyType slots found.property.type_of (held n)) found.named found.holds))
+    let there = held_present slots asked type (slots.properties owner) held conforms typed in
+    (gives there.0, (field_gives held asked there.0 there.1.0, there.1.1))
 step_ends slots owner _ asked type conforms typed = absurd conforms
 
 -- a step from what has a type
 member_ends : (slots : Slots) (base : ExprType) (v : Val) (asked : List ℕ) (type : ExprType)
     → StepTyped slots asked base type → HasType slots base v → Ends slots type (StepGives v asked)
 member_ends slots (single (structured owner)) v asked type typed has = step_ends slots owner v asked type has typed
-member_ends slots (single (primitive p)) v asked type typed has = absurd typed
-member_ends slots (single (enumeration owner)) v asked type typed has = absurd typed
-member_ends slots null_type v asked type typed has = absurd typed
-member_ends slots (collection s) v asked type typed has = absurd typed
+member_ends slots _ v asked type typed has = absurd typed
 
 found_ends : (slots : Slots) (root : List ℕ) (entity : Val) (asked : List ℕ) (type : ExprType) (in_scope : Option ExprType) (value : Option Val)
     → HasType slots (single (structured root)) entity → VariableFits slots in_scope value
     → MatchOption in_scope (PropertyTyped (slots.properties root) asked type) (λ t. type ≡ t) → Ends slots type (FoundGives value entity asked)
 found_ends slots root entity asked type (Some t) (Some v) conforms is_found typed = (gives v, (refl, typed_value slots t type v typed is_found))
 found_ends slots root entity asked type None None conforms is_found typed = step_ends slots root entity asked type conforms typed
-found_ends slots root entity asked type (Some t) None conforms is_found typed = absurd is_found
-found_ends slots root entity asked type None (Some v) conforms is_found typed = absurd is_found
+found_ends slots root entity asked type _ _ conforms is_found typed = absurd is_found
 
 -- ---- operators
 
@@ -168,37 +158,55 @@ truth_ends : (slots : Slots) (type : ExprType) (t : Option Bool) → type ≡ bo
 truth_ends slots type (Some b) is = typed_value slots boolean_type type (boolean b) is tt
 truth_ends slots type None is = tt
 
-not_of : (slots : Slots) (type : ExprType) (v : Val) → type ≡ boolean_type → IsOfKind truths v → Ends slots type (NotGives v)
-not_of slots type null is truth = (gives (truth_val (not3 None)), (refl, truth_ends slots type (not3 None) is))
-not_of slots type (boolean b) is truth = (gives (truth_val (not3 (Some b))), (refl, truth_ends slots type (not3 (Some b)) is))
-not_of slots type _ is truth = absurd truth
+-- the tables at truth values
+pub not_gives : (truth : Option Bool) → NotGives (truth_val truth) (gives (truth_val (not3 truth)))
+not_gives (Some b) = refl
+not_gives None = refl
+
+pub join_gives : (connective : Connective) (left right : Option Bool) → JoinGives connective left (truth_val right) (gives (truth_val (joined connective left right)))
+join_gives connective left (Some b) = refl
+join_gives connective left None = refl
+
+pub decided_gives : (connective : Connective) (left : Option Bool) (Right : Outcome → Type 0) → IsDecided connective (truth_val left)
+    → ConnectiveGives connective (truth_val left) Right (gives (truth_val left))
+decided_gives Connective.And (Some false) Right decided = refl
+decided_gives Connective.Or (Some true) Right decided = refl
+decided_gives _ _ Right decided = absurd decided
+
+-- behind a truth value that does not decide, a connective goes by its right side
+pub undecided_goes : (connective : Connective) (left : Option Bool) (Right : Outcome → Type 0) (o : Outcome) → ¬ (IsDecided connective (truth_val left))
+    → After Right (JoinGives connective left) o → ConnectiveGives connective (truth_val left) Right o
+undecided_goes Connective.And (Some false) Right o undecided goes = absurd (undecided tt)
+undecided_goes Connective.Or (Some true) Right o undecided goes = absurd (undecided tt)
+undecided_goes _ _ Right o undecided goes = goes
+
+decided_or_not : (connective : Connective) (left : Option Bool) → IsDecided connective (truth_val left) ⊎ (¬ IsDecided connective (truth_val left))
+decided_or_not Connective.And (Some false) = inl tt
+decided_or_not Connective.Or (Some true) = inl tt
+decided_or_not _ _ = inr (λ decided. decided)
 
 not_ends : (slots : Slots) (operand type : ExprType) (v : Val) → NotTyped operand type → HasType slots operand v → Ends slots type (NotGives v)
-not_ends slots operand type v typed has = not_of slots type v typed.1 (truth_of slots operand v typed.0 has)
+not_ends slots operand type v typed has =
+    let truth = truth_of slots operand v typed.0 has in
+    subst (λ (w : Val). Ends slots type (NotGives w)) (sym truth.1)
+    (gives (truth_val (not3 truth.0)), (not_gives truth.0, truth_ends slots type (not3 truth.0) typed.1))
 
 join_ends : (slots : Slots) (type : ExprType) (connective : Connective) (left : Option Bool) (v : Val)
-    → type ≡ boolean_type → IsOfKind truths v → Ends slots type (JoinGives connective left v)
-join_ends slots type connective left null is truth =
-    (gives (truth_val (joined connective left None)), (refl, truth_ends slots type (joined connective left None) is))
-join_ends slots type connective left (boolean b) is truth =
-    (gives (truth_val (joined connective left (Some b))), (refl, truth_ends slots type (joined connective left (Some b)) is))
-join_ends slots type connective left _ is truth = absurd truth
+    → type ≡ boolean_type → IsTruth v → Ends slots type (JoinGives connective left v)
+join_ends slots type connective left v is truth =
+    subst (λ (w : Val). Ends slots type (JoinGives connective left w)) (sym truth.1)
+    (gives (truth_val (joined connective left truth.0)), (join_gives connective left truth.0, truth_ends slots type (joined connective left truth.0) is))
 
-connective_ends : (slots : Slots) (connective : Connective) (right type : ExprType) (l : Val) (Right : Outcome → Type 0)
-    → type ≡ boolean_type → IsOfKind truths l → ((v : Val) → HasType slots right v → IsOfKind truths v)
-    → Ends slots right Right → Ends slots type (ConnectiveGives connective l Right)
-connective_ends slots Connective.And right type (boolean false) Right is truth truths_right ends = (gives (boolean false), (refl, truth_ends slots type (Some false) is))
-connective_ends slots Connective.And right type (boolean true) Right is truth truths_right ends =
-    after_ends slots right type Right (JoinGives Connective.And (Some true)) ends (λ v has. join_ends slots type Connective.And (Some true) v is (truths_right v has))
-connective_ends slots Connective.And right type null Right is truth truths_right ends =
-    after_ends slots right type Right (JoinGives Connective.And None) ends (λ v has. join_ends slots type Connective.And None v is (truths_right v has))
-connective_ends slots Connective.Or right type (boolean true) Right is truth truths_right ends = (gives (boolean true), (refl, truth_ends slots type (Some true) is))
-connective_ends slots Connective.Or right type (boolean false) Right is truth truths_right ends =
-    after_ends slots right type Right (JoinGives Connective.Or (Some false)) ends (λ v has. join_ends slots type Connective.Or (Some false) v is (truths_right v has))
-connective_ends slots Connective.Or right type null Right is truth truths_right ends =
-    after_ends slots right type Right (JoinGives Connective.Or None) ends (λ v has. join_ends slots type Connective.Or None v is (truths_right v has))
-connective_ends slots Connective.And right type _ Right is truth truths_right ends = absurd truth
-connective_ends slots Connective.Or right type _ Right is truth truths_right ends = absurd truth
+connective_ends : (slots : Slots) (connective : Connective) (right type : ExprType) (left : Option Bool) (Right : Outcome → Type 0)
+    → type ≡ boolean_type → ((v : Val) → HasType slots right v → IsTruth v)
+    → Ends slots right Right → Ends slots type (ConnectiveGives connective (truth_val left) Right)
+connective_ends slots connective right type left Right is truths_right ends =
+    elim (decided_or_not connective left) [
+      | inl decided ↦ (gives (truth_val left), (decided_gives connective left Right decided, truth_ends slots type left is))
+      | inr undecided ↦
+          let goes = after_ends slots right type Right (JoinGives connective left) ends (λ v has. join_ends slots type connective left v is (truths_right v has)) in
+          (goes.0, (undecided_goes connective left Right goes.0 undecided goes.1.0, goes.1.1))
+    ]
 
 -- what comes of a number in a type lies within that
 number_typed : (slots : Slots) (p : PrimitiveType) (n : ℤ) (answer : Result (Option ℤ) ArithFault) → ComesWithin p n answer
@@ -222,13 +230,7 @@ calculation_ends some slots operator type (whole a) null are = (gives null, (ref
 calculation_ends some slots operator (single (primitive p)) (whole a) (whole b) are =
     let answer = some.answer operator p (Some a) (Some b) are.0 in
     (number_outcome answer.0, ((answer.0, answer.1, refl), answer_typed slots operator p a b answer.0 answer.1))
-calculation_ends some slots operator (single (enumeration qualified)) (whole a) (whole b) are = absurd are
-calculation_ends some slots operator (single (structured qualified)) (whole a) (whole b) are = absurd are
-calculation_ends some slots operator null_type (whole a) (whole b) are = absurd are
-calculation_ends some slots operator (collection s) (whole a) (whole b) are = absurd are
-calculation_ends some slots operator type null _ are = absurd are
-calculation_ends some slots operator type (whole a) _ are = absurd are
-calculation_ends some slots operator type _ r are = absurd are
+calculation_ends some slots operator _ _ _ are = absurd are
 
 negation_ends : (some : SomeEach) (slots : Slots) (type : ExprType) (v : Val) → IsOneNumber type v → Ends slots type (NegatedGives type v)
 negation_ends some slots type null is = (gives null, (refl, tt))
@@ -246,7 +248,9 @@ class_ends : (some : SomeEach) (promotes : Promotes) (slots : Slots) (class : Op
     → ClassTyped class left right type → NodeTyped type → HasType slots left l → Ends slots right Right
     → Ends slots type (ClassGives class NodeTyped l Right)
 class_ends some promotes slots (OperatorClass.Connective connective) NodeTyped left right type l Right typed is of_l ends =
-    connective_ends slots connective right type l Right typed.2 (truth_of slots left l typed.0 of_l) (λ v has. truth_of slots right v typed.1 has) ends
+    let truth = truth_of slots left l typed.0 of_l in
+    subst (λ (v : Val). Ends slots type (ConnectiveGives connective v Right)) (sym truth.1)
+    (connective_ends slots connective right type truth.0 Right typed.2 (λ v has. truth_of slots right v typed.1 has) ends)
 class_ends some promotes slots (OperatorClass.Comparison comparison) NodeTyped left right type l Right typed is of_l ends =
     after_ends slots right type Right (CompareGives comparison l) ends (λ r of_r. compare_ends some slots comparison left right type l r typed of_l of_r)
 class_ends some promotes slots (OperatorClass.Arithmetic arithmetic) NodeTyped left right type l Right typed is of_l ends =

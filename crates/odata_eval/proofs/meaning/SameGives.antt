@@ -79,8 +79,7 @@ connective_goes Connective.And null P Q goes o is = after_goes P Q (JoinGives Co
 connective_goes Connective.Or (boolean true) P Q goes o is = is
 connective_goes Connective.Or (boolean false) P Q goes o is = after_goes P Q (JoinGives Connective.Or (Some false)) (JoinGives Connective.Or (Some false)) goes (λ v r given. given) o is
 connective_goes Connective.Or null P Q goes o is = after_goes P Q (JoinGives Connective.Or None) (JoinGives Connective.Or None) goes (λ v r given. given) o is
-connective_goes Connective.And _ P Q goes o is = absurd is
-connective_goes Connective.Or _ P Q goes o is = absurd is
+connective_goes _ _ P Q goes o is = absurd is
 
 class_goes : (class : OperatorClass) (N M : ExprType → Type 0) (v : Val) (P Q : Outcome → Type 0) → ((type : ExprType) → N type → M type) → Goes P Q
     → Goes (ClassGives class N v P) (ClassGives class M v Q)

@@ -1,27 +1,23 @@
 -- Values that are kept: a truth value, a number or null is known by what it stands for.
-use Rattle.std.proofs.Common.{◌≡◌, ℕ, ℤ, List, [], Bool, Option, Some, None, ap, refl, sym, subst, rules}
+use Rattle.std.proofs.Common.{◌≡◌, ◌∙◌, ℕ, List, [], Some, ap, refl, sym, subst}
 use Rattle.std.specs.Prelude.{string_bytes}
 use Rattle.edm_values.specs.MomentParts.{MomentParts}
 use Rattle.edm_values.specs.PlainVal.{plain_val}
 use Rattle.edm_values.specs.Val.{Val, null, boolean, whole, text, date, moment, guid, member, fields, items, FieldVal, absent, Vals, no_items}
-use Rattle.edm_values.specs.declared.value.Value.{Value, Null, Bool as BoolValue, Int, Text, Date, Moment, Guid, Enum, Record', List', fold_out-Value, the_lemmas}
+use Rattle.edm_values.specs.declared.value.Value.{Value, Null, Bool as BoolValue, Int, Text, Date, Moment, Guid, Enum, Record', List', fold_out-Value}
 use Rattle.edm_values.specs.declared.value.Value as views
 use Rattle.csdl_schema.specs.ExprType.{ExprType, null_type, single, collection, primitive, enumeration, structured}
 use Rattle.csdl_schema.specs.SchemaModel.{Slots, slots_of}
 use Rattle.edm_entities.specs.Row.{Row, IsEntity, ValAtType, val_of, val_step}
 use Rattle.odata_functions.specs.KeptVal.{Contents, kept_val}
 use Rattle.odata_typing.specs.FlatTree.{FlatTree}
-use Rattle.odata_eval.specs.CalculationGives.{number_val}
 use Rattle.odata_eval.specs.EndsOnce.{EndsOnceOnEntities}
 use Rattle.odata_eval.specs.Outcome.{gives}
-use Rattle.odata_eval.specs.TruthGives.{truth_val}
-use Rattle.odata_eval.specs.private.Place.{NumberStands, TruthStands}
+use Rattle.odata_eval.specs.private.Place.{TypedStands}
 use Rattle.odata_eval.specs.private.WalkAnswer.{AnswersAtPlace, AnswersKept}
-use Rattle.odata_eval.proofs.meaning.Kinds.{truth_of}
-use Rattle.odata_eval.proofs.meaning.Numbers.{number_in}
 use Rattle.odata_eval.proofs.walking.Leaves.{plain_is}
-use Rattle.odata_eval.proofs.walking.Readings.{IsPlain, number_plain, some_number, some_truth, truth_plain}
-use Rattle.odata_eval.proofs.walking.WalkValues.{MeansAt, value_has}
+use Rattle.odata_eval.proofs.walking.Readings.{IsPlain, PlainValues}
+use Rattle.odata_eval.proofs.walking.WalkValues.{same_values, typed_value}
 
 -- a record and a list, with what they hold
 record_kept : (slots : Slots) (type : ExprType) (shape : _) (all : _) → (names : List ℕ → FieldVal) × (val_of (Record' shape all) slots type ≡ fields names)
@@ -37,19 +33,6 @@ unfolding views.out-Value denote.Hole.Carrier.out
 list_kept slots null_type shape all = (_, ap (λ (f : ValAtType). f slots null_type) (fold_out-Value ValAtType val_step (List' shape all)))
 list_kept slots (single t) shape all = (_, ap (λ (f : ValAtType). f slots (single t)) (fold_out-Value ValAtType val_step (List' shape all)))
 list_kept slots (collection t) shape all = (_, ap (λ (f : ValAtType). f slots (collection t)) (fold_out-Value ValAtType val_step (List' shape all)))
-
--- so a value that stands for one without parts is that one
-plain_kept : (slots : Slots) (type : ExprType) (value : Value) (v : Val) → IsPlain v → val_of value slots type ≡ v → plain_val value ≡ Some v
-plain_kept slots type Null v plain is = let same : val_of Null slots type ≡ null = search (rules, the_lemmas) in cc
-plain_kept slots type (BoolValue b) v plain is = let same : val_of (BoolValue b) slots type ≡ boolean b = search (rules, the_lemmas) in cc
-plain_kept slots type (Int n) v plain is = let same : val_of (Int n) slots type ≡ whole n = search (rules, the_lemmas) in cc
-plain_kept slots type (Text s) v plain is = let same : val_of (Text s) slots type ≡ text (string_bytes s) = search (rules, the_lemmas) in cc
-plain_kept slots type (Date d) v plain is = let same : val_of (Date d) slots type ≡ date d = search (rules, the_lemmas) in cc
-plain_kept slots type (Moment m) v plain is = let same : val_of (Moment m) slots type ≡ moment m = search (rules, the_lemmas) in cc
-plain_kept slots type (Guid g) v plain is = let same : val_of (Guid g) slots type ≡ guid g = search (rules, the_lemmas) in cc
-plain_kept slots type (Enum n) v plain is = let same : val_of (Enum n) slots type ≡ member n = search (rules, the_lemmas) in cc
-plain_kept slots type (Record' shape all) v plain is = absurd (subst IsPlain (record_kept slots type shape all).1 (subst IsPlain (sym is) plain))
-plain_kept slots type (List' shape all) v plain is = absurd (subst IsPlain (list_kept slots type shape all).1 (subst IsPlain (sym is) plain))
 
 -- what a kept value stands for, with its contents
 without : Contents
@@ -86,46 +69,22 @@ at_contents P slots s t left right is =
     let r = kept_contents slots t right in
     (l.0, r.0, subst (λ (w : Val). P (kept_val l.0 left) w) r.1 (subst (λ (v : Val). P v (val_of right slots t)) l.1 is))
 
--- a number stands for itself alone, and likewise a truth value
-int_only : (value : Value) (n : ℤ) → plain_val value ≡ Some (whole n) → ((n : ℤ) → value ≡ Int n → ⊥) → ⊥
-int_only (Int m) n is not_int = not_int m refl
-int_only _ n is not_int = absurd (cc)
-
-bool_only : (value : Value) (b : Bool) → plain_val value ≡ Some (boolean b) → ((b : Bool) → value ≡ BoolValue b → ⊥) → ⊥
-bool_only (BoolValue c) b is not_bool = not_bool c refl
-bool_only _ b is not_bool = absurd (cc)
-
--- so a number or null that is no number is null
-pub no_number : (value : Value) (number : Option ℤ) → plain_val value ≡ Some (number_val number) → ((n : ℤ) → value ≡ Int n → ⊥) → plain_val value ≡ Some null
-no_number value (Some n) is not_int = absurd (int_only value n is not_int)
-no_number value None is not_int = is
-
-pub no_truth : (value : Value) (truth : Option Bool) → plain_val value ≡ Some (truth_val truth) → ((b : Bool) → value ≡ BoolValue b → ⊥) → plain_val value ≡ Some null
-no_truth value (Some b) is not_bool = absurd (bool_only value b is not_bool)
-no_truth value None is not_bool = is
+-- so a value that stands for one without parts is that one
+plain_contents : (contents : Contents) (value : Value) (v : Val) → IsPlain v → kept_val contents value ≡ v → plain_val value ≡ Some v
+plain_contents contents (Record' shape all) v plain is = absurd (subst IsPlain (sym is) plain)
+plain_contents contents (List' shape all) v plain is = absurd (subst IsPlain (sym is) plain)
+plain_contents contents _ v plain is = ap Some is
 
 module _ (row : Row) (now : MomentParts) (list : FlatTree) (place : ℕ) (value : Value) (kept : AnswersKept row now [] list place value) where
-  -- what a node of a number type or Null comes to is a number or null, where it is kept
-  pub number_kept : EndsOnceOnEntities → IsEntity row → NumberStands row [] list place → (number : Option ℤ) × (plain_val value ≡ Some (number_val number))
-  number_kept ends entity stands =
+  -- as what a truth value or a number is kept, where the node's type allows these
+  pub value_kept : {Held : Type 0} (values : PlainValues Held) → EndsOnceOnEntities → IsEntity row → TypedStands row [] list place values.Allowed
+      → (held : Held) × (plain_val value ≡ Some (values.val held))
+  value_kept values ends entity stands =
       let slots = slots_of row.schema in
-      let v = val_of value slots stands.type_of in
-      let has = value_has ends row now entity stands.tree stands.type_of v stands.typed (kept.of_tree stands.stop stands.tree stands.type_of stands.stands stands.typed) in
-      let number = some_number stands.allowed.0 v (number_in slots stands.type_of stands.allowed.0 v stands.allowed.1 has) in
-      (number.0, plain_kept slots stands.type_of value (number_val number.0) (number_plain number.0) number.1)
-
-  -- and of one of type Boolean or Null a truth value or null
-  pub truth_kept : EndsOnceOnEntities → IsEntity row → TruthStands row [] list place → (truth : Option Bool) × (plain_val value ≡ Some (truth_val truth))
-  truth_kept ends entity stands =
-      let slots = slots_of row.schema in
-      let v = val_of value slots stands.type_of in
-      let has = value_has ends row now entity stands.tree stands.type_of v stands.typed (kept.of_tree stands.stop stands.tree stands.type_of stands.stands stands.typed) in
-      let truth = some_truth v (truth_of slots stands.type_of v stands.allowed has) in
-      (truth.0, plain_kept slots stands.type_of value (truth_val truth.0) (truth_plain truth.0) truth.1)
+      let contents = kept_contents slots stands.type_of value in
+      let held = typed_value row now list place (val_of value slots) kept values ends entity stands in
+      (held.0, plain_contents contents.0 value (values.val held.0) (values.plain held.0) (sym contents.1 ∙ held.1))
 
   -- a value without parts is the outcome itself
   pub kept_value : (v : Val) → plain_val value ≡ Some v → AnswersAtPlace row now [] list place (λ type. Some (gives v))
-  kept_value v is = record {
-    of_tree = λ stop tree type stands typed.
-        subst (λ (w : Val). MeansAt row now tree (gives w)) (plain_is (slots_of row.schema) type value v is) (kept.of_tree stop tree type stands typed);
-  }
+  kept_value v is = same_values row now list place (val_of value (slots_of row.schema)) (λ type. v) (λ type. plain_is (slots_of row.schema) type value v is) kept

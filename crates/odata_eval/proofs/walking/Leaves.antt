@@ -1,5 +1,5 @@
 -- What a node without operands comes to: the value that is kept for it.
-use Rattle.std.proofs.Common.{◌≡◌, ℕ, ◌<◌, List, [], false, Option, Some, None, length, nat_eq, ap, rules}
+use Rattle.std.proofs.Common.{◌≡◌, ℕ, ◌<◌, List, [], false, Some, length, nat_eq, ap, rules}
 use Rattle.std.specs.Prelude.{slice_get, string_bytes}
 use Rattle.std.specs.Cmp.Lexicographic.{pointwise}
 use Rattle.std.proofs.lemmas.List.Quantifiers.{position-Some}
@@ -18,10 +18,8 @@ use Rattle.odata_typing.specs.Stands.{IsValueOf}
 use Rattle.odata_eval.specs.Outcome.{gives}
 use Rattle.odata_eval.specs.private.Place.{PartStands}
 use Rattle.odata_eval.specs.private.WalkAnswer.{AnswersKept, HoldsAt}
-use Rattle.odata_eval.proofs.walking.Parts.{HasKind, by_it, by_literal, by_property, by_variable, inside, kind_there}
-use Rattle.odata_eval.proofs.walking.Shapes.{found_there}
+use Rattle.odata_eval.proofs.walking.Parts.{HasKind, MeansAt, TypedAt, by_kind, found_there, inside, kind_there}
 use Rattle.odata_eval.proofs.walking.SlotValue.{slot_value}
-use Rattle.odata_eval.proofs.walking.WalkValues.{MeansAt, TypedAt}
 
 -- a value without parts stands for the same at each type
 pub plain_is : (slots : Slots) (type : ExprType) (value : Value) (v : Val) → plain_val value ≡ Some v → val_of value slots type ≡ v
@@ -43,20 +41,20 @@ slot_below asked slot properties named =
 module _ (row : Row) (list : FlatTree) (place : ℕ) where
   pub literal_within : (kind : LiteralKind) (value : ℕ) → HasKind list place (NodeKind.Literal kind value) → PartStands row [] list place → value < length list.values
   literal_within kind value here part =
-      by_literal row [] list place (λ stop tree. value < length list.values) kind value here
-      (λ stop from to k spelling stands.
-      inside (IsValueOf (slots_of row.schema) k spelling) list.values value (kind_there row [] list place (NodeKind.Literal kind value) here stop from to (literal k spelling) stands).1)
+      by_kind row list place (NodeKind.Literal kind value) here (λ stop tree. value < length list.values)
+      (λ k spelling stop from to stands.
+      inside (IsValueOf (slots_of row.schema) k spelling) list.values value (kind_there row list place (NodeKind.Literal kind value) here stop from to (literal k spelling) stands).1)
       part.stop part.tree part.stands
 
   pub literal_answers : (kind : LiteralKind) (value : ℕ) → HasKind list place (NodeKind.Literal kind value) → (now : MomentParts) (v : Value) → slice_get list.values value ≡ Some v
       → AnswersKept row now [] list place v
   literal_answers kind value here now v at = record {
     of_tree = λ stop tree type stands typed.
-        by_literal row [] list place (λ stop tree. MeansAt row now tree (gives (val_of v (slots_of row.schema) type))) kind value here
-        (λ stop from to k spelling stands.
+        by_kind row list place (NodeKind.Literal kind value) here (λ stop tree. MeansAt row now tree (gives (val_of v (slots_of row.schema) type)))
+        (λ k spelling stop from to stands.
         let read : IsValueOf (slots_of row.schema) k spelling v =
         found_there (IsValueOf (slots_of row.schema) k spelling) (slice_get list.values value) v at
-        (kind_there row [] list place (NodeKind.Literal kind value) here stop from to (literal k spelling) stands).1 in
+        (kind_there row list place (NodeKind.Literal kind value) here stop from to (literal k spelling) stands).1 in
         rw (plain_is (slots_of row.schema) type v read.val read.plain) read.value_of)
         stop tree stands;
   }
@@ -64,30 +62,23 @@ module _ (row : Row) (list : FlatTree) (place : ℕ) where
   pub it_answers : (now : MomentParts) → HasKind list place NodeKind.It → AnswersKept row now [] list place row.value
   it_answers now here = record {
     of_tree = λ stop tree type stands typed.
-        by_it row [] list place (λ stop tree. (t : ExprType) → TypedAt row tree t → MeansAt row now tree (gives (val_of row.value (slots_of row.schema) t))) here
+        by_kind row list place NodeKind.It here (λ stop tree. (t : ExprType) → TypedAt row tree t → MeansAt row now tree (gives (val_of row.value (slots_of row.schema) t)))
         (λ stop from to stands t typed. ap (λ (s : ExprType). gives (val_of row.value (slots_of row.schema) s)) typed)
         stop tree stands type typed;
   }
 
   pub property_within : (slot : ℕ) → HasKind list place (NodeKind.Property slot) → PartStands row [] list place → slot < length (properties_at row.schema row.type_id)
   property_within slot here part =
-      by_property row [] list place (λ stop tree. slot < length (properties_at row.schema row.type_id)) slot here
-      (λ stop from to asked stands.
-      slot_below asked slot (properties_at row.schema row.type_id) (kind_there row [] list place (NodeKind.Property slot) here stop from to (name asked) stands).1)
+      by_kind row list place (NodeKind.Property slot) here (λ stop tree. slot < length (properties_at row.schema row.type_id))
+      (λ asked stop from to stands.
+      slot_below asked slot (properties_at row.schema row.type_id) (kind_there row list place (NodeKind.Property slot) here stop from to (name asked) stands).1)
       part.stop part.tree part.stands
 
   pub property_answers : (slot : ℕ) → HasKind list place (NodeKind.Property slot) → (now : MomentParts) (v : Value) → HoldsAt row slot v → AnswersKept row now [] list place v
   property_answers slot here now v holds = record {
     of_tree = λ stop tree type stands typed.
-        by_property row [] list place (λ stop tree. (t : ExprType) → TypedAt row tree t → MeansAt row now tree (gives (val_of v (slots_of row.schema) t))) slot here
-        (λ stop from to asked stands t typed.
-        slot_value row slot v asked t holds (kind_there row [] list place (NodeKind.Property slot) here stop from to (name asked) stands).1 typed)
+        by_kind row list place (NodeKind.Property slot) here (λ stop tree. (t : ExprType) → TypedAt row tree t → MeansAt row now tree (gives (val_of v (slots_of row.schema) t)))
+        (λ asked stop from to stands t typed.
+        slot_value row slot v asked t holds (kind_there row list place (NodeKind.Property slot) here stop from to (name asked) stands).1 typed)
         stop tree stands type typed;
   }
-
-  pub variable_absurd : (level : ℕ) → HasKind list place (NodeKind.Variable level) → PartStands row [] list place → ⊥
-  variable_absurd level here part =
-      by_variable row [] list place (λ stop tree. ⊥) level here
-      (λ stop from to asked stands.
-      let nowhere : ◌≡◌ {A = Option ℕ} None (Some level) = kind_there row [] list place (NodeKind.Variable level) here stop from to (name asked) stands in cc)
-      part.stop part.tree part.stands

@@ -1,54 +1,31 @@
 -- What a step to a property comes to.
-use Rattle.std.proofs.Common.{◌≡◌, ◌∙◌, ℕ, ◌<◌, ◌+◌, List, [], ◌∷◌, true, false, cond, Option, Some, None, Ok, length, map, nat_eq, refl, sym, ap, subst}
-use Rattle.std.specs.Prelude.{IsSomeAnd, slice_get}
-use Rattle.std.specs.List.{AllByRecursion}
-use Rattle.std.specs.Cmp.Lexicographic.{pointwise}
-use Rattle.std.proofs.lemmas.Slice.Eq.{bytes_eq-Decides}
+use Rattle.std.proofs.Common.{◌≡◌, ℕ, ◌<◌, ◌+◌, List, [], Some, Ok, length, map, refl, sym, subst}
+use Rattle.std.specs.Prelude.{slice_get}
 use Rattle.edm_values.specs.MomentParts.{MomentParts}
-use Rattle.edm_values.specs.Val.{Val, FieldVal, absent, present}
+use Rattle.edm_values.specs.Val.{Val, fields}
 use Rattle.edm_values.specs.declared.datum.Datum.{Datum}
 use Rattle.edm_values.specs.declared.datum.Datum.TheVariants as datum
-use Rattle.edm_values.specs.declared.value.Value.{Value}
 use Rattle.odata_syntax.specs.Tree.{member}
 use Rattle.csdl_schema.specs.ExprType.{ExprType, single, structured}
-use Rattle.csdl_schema.specs.SchemaModel.{PropertyModel, Slots, declared, slot_named, slots_of, type_name_at}
-use Rattle.edm_entities.specs.HasType.{HasType, HasPropertyType}
+use Rattle.csdl_schema.specs.SchemaModel.{Slots, slot_named, slots_of, type_name_at}
+use Rattle.edm_entities.specs.HasType.{HasType}
 use Rattle.edm_entities.specs.Row.{Row, IsEntity, field_by_name, val_of}
 use Rattle.odata_functions.specs.DatumVal.{datum_val}
 use Rattle.odata_typing.specs.declared.checked_node.NodeKind.{NodeKind}
 use Rattle.odata_typing.specs.FlatTree.{FlatTree}
 use Rattle.odata_typing.specs.Laws.{OneType}
 use Rattle.odata_signatures.specs.TypeView.{expr_type}
-use Rattle.odata_typing.specs.Typed.{PropertyTyped, StepTyped, property_named}
+use Rattle.odata_typing.specs.Typed.{PropertyTyped, StepTyped}
 use Rattle.odata_eval.specs.EndsOnce.{EndsOnceOnEntities}
-use Rattle.odata_eval.specs.NameGives.{FieldGives, StepGives}
+use Rattle.odata_eval.specs.NameGives.{StepGives}
 use Rattle.odata_eval.specs.Outcome.{gives}
 use Rattle.odata_eval.specs.private.DatumView.{HasSlot, IsDatumOf, IsStepOf, reading_at}
 use Rattle.odata_eval.specs.private.Place.{PartStands}
 use Rattle.odata_eval.specs.private.WalkAnswer.{AnswersDatum}
-use Rattle.odata_eval.proofs.walking.Parts.{HasKind, by_member, kind_there}
+use Rattle.odata_eval.proofs.meaning.Progress.{field_gives, held_present}
+use Rattle.odata_eval.proofs.walking.Parts.{HasKind, MeansAt, TypedAt, by_kind, kind_there, some_there}
 use Rattle.odata_eval.proofs.walking.SlotValue.{field_at, found_slot, slot_within}
-use Rattle.odata_eval.proofs.walking.WalkValues.{MeansAt, TypedAt, value_has}
-
-held_of : (slots : Slots) (type : ExprType) (held : FieldVal) → HasPropertyType slots (declared type) held → (v : Val) × (held ≡ present v)
-held_of slots type (present v) has = (v, refl)
-held_of slots type absent has = absurd has
-
--- a record of the type has something under the name of a property that has a type
-held_present : (slots : Slots) (asked : List ℕ) (type : ExprType) (properties : List PropertyModel) (held : List ℕ → FieldVal)
-    → AllByRecursion (λ p. HasPropertyType slots p.type_of (held p.name)) properties → PropertyTyped properties asked type
-    → (v : Val) × (held asked ≡ present v)
-held_present slots asked type [] held all typed = absurd typed
-held_present slots asked type (p ∷ more) held all typed =
-    elim (pointwise nat_eq asked p.name) as (λ is_it. pointwise nat_eq asked p.name ≡ is_it
-    → IsSomeAnd (cond is_it (Some p) (property_named more asked)) (λ q. q.type_of ≡ declared type)
-    → (v : Val) × (held asked ≡ present v)) [
-      | true ↦ λ same is_typed.
-          let named : asked ≡ p.name = (bytes_eq-Decides asked p.name).0 same in
-          let there = held_of slots type (held p.name) (subst (λ t. HasPropertyType slots t (held p.name)) is_typed all.0) in
-          (there.0, ap held named ∙ there.1)
-      | false ↦ λ other is_typed. held_present slots asked type more held all.1 is_typed
-    ] refl typed
+use Rattle.odata_eval.proofs.walking.WalkValues.{value_has}
 
 slot_in : (slots : Slots) (name asked : List ℕ) (slot : ℕ) (type : ExprType) (made : Datum)
     → slot_named (slots.properties name) asked ≡ Some slot → PropertyTyped (slots.properties name) asked type
@@ -57,36 +34,28 @@ slot_in slots name asked slot type datum.Null named typed has = tt
 slot_in slots name asked slot type (datum.Record held) named typed has =
     let there = held_present slots asked type (slots.properties name) (field_by_name slots (slots.properties name) (map val_of held.now)) has typed in
     subst (λ (k : ℕ). k < length held.now) (found_slot _ _ slot named)
-    (slot_within slots asked type (slots.properties name) held.now typed there.0 there.1)
+    (slot_within slots asked type (slots.properties name) held.now typed there.0 there.1.0)
 slot_in slots name asked slot type _ named typed has = absurd has
-
-some_value : (held : Option Value) (stepped : Datum) → IsSomeAnd held (λ value. IsDatumOf value stepped) → (value : Value) × ((held ≡ Some value) × IsDatumOf value stepped)
-some_value (Some value) stepped is = (value, (refl, is))
-some_value None stepped is = absurd is
-
-step_value : (values : List Value) (slot : ℕ) (stepped : Datum) → IsSomeAnd (slice_get values slot) (λ value. IsDatumOf value stepped)
-    → (value : Value) × ((slice_get values slot ≡ Some value) × IsDatumOf value stepped)
-step_value values slot stepped is = some_value (slice_get values slot) stepped is
 
 step_gives : (slots : Slots) (name asked : List ℕ) (slot : ℕ) (type : ExprType) (made stepped : Datum)
     → slot_named (slots.properties name) asked ≡ Some slot → PropertyTyped (slots.properties name) asked type → IsStepOf made slot stepped
     → StepGives (datum_val (reading_at slots (single (structured name))) made) asked (gives (datum_val (reading_at slots type) stepped))
 step_gives slots name asked slot type datum.Null stepped named typed is = rw is refl
 step_gives slots name asked slot type (datum.Record held) stepped named typed is =
-    let there = step_value held.now slot stepped is in
+    let there = some_there (λ value. IsDatumOf value stepped) (slice_get held.now slot) is in
     let here = field_at slots (slots.properties name) asked slot type held.now there.0 named typed there.1.0 in
-    subst (λ (h : FieldVal). FieldGives h (gives (datum_val (reading_at slots type) stepped))) (sym here)
-    (ap gives (there.1.1 slots type))
+    subst (λ (v : Val). StepGives (fields (field_by_name slots (slots.properties name) (map val_of held.now))) asked (gives v)) (sym (there.1.1 slots type))
+    (field_gives (field_by_name slots (slots.properties name) (map val_of held.now)) asked (val_of there.0 slots type) here)
 step_gives slots name asked slot type _ stepped named typed is = absurd is
 
 module _ (ends : EndsOnceOnEntities) (types : OneType) (row : Row) (now : MomentParts) (entity : IsEntity row) (list : FlatTree) (place slot : ℕ) (here : HasKind list place (NodeKind.Member slot)) where
   pub step_slot : (made : Datum) → PartStands row [] list place → AnswersDatum row now [] list (place + 1) (Ok made) → HasSlot made slot
   step_slot made part first =
-      by_member row [] list place (λ stop tree. HasSlot made slot) slot here
-      (λ stop from to base asked stands.
+      by_kind row list place (NodeKind.Member slot) here (λ stop tree. HasSlot made slot)
+      (λ base asked stop from to stands.
       let slots = slots_of row.schema in
       let root = type_name_at row.schema row.type_id in
-      let there = kind_there row [] list place (NodeKind.Member slot) here stop from to (member base asked) stands in
+      let there = kind_there row list place (NodeKind.Member slot) here stop from to (member base asked) stands in
       let typed = stands.top.typed in
       let same : typed.operand ≡ single (structured there.0) = types slots root [] base typed.operand (single (structured there.0)) typed.operand_typed there.1 in
       slot_in slots there.0 asked slot (expr_type row.schema stands.top.found.edm_type) made there.2
@@ -97,11 +66,11 @@ module _ (ends : EndsOnceOnEntities) (types : OneType) (row : Row) (now : Moment
   pub step_answers : (made stepped : Datum) → AnswersDatum row now [] list (place + 1) (Ok made) → IsStepOf made slot stepped → AnswersDatum row now [] list place (Ok stepped)
   step_answers made stepped first is = record {
     of_tree = λ stop tree type stands typed.
-        by_member row [] list place (λ stop tree. (t : ExprType) → TypedAt row tree t → MeansAt row now tree (gives (datum_val (reading_at (slots_of row.schema) t) stepped))) slot here
-        (λ stop from to base asked stands t typed.
+        by_kind row list place (NodeKind.Member slot) here (λ stop tree. (t : ExprType) → TypedAt row tree t → MeansAt row now tree (gives (datum_val (reading_at (slots_of row.schema) t) stepped)))
+        (λ base asked stop from to stands t typed.
         let slots = slots_of row.schema in
         let root = type_name_at row.schema row.type_id in
-        let there = kind_there row [] list place (NodeKind.Member slot) here stop from to (member base asked) stands in
+        let there = kind_there row list place (NodeKind.Member slot) here stop from to (member base asked) stands in
         let same : typed.operand ≡ single (structured there.0) = types slots root [] base typed.operand (single (structured there.0)) typed.operand_typed there.1 in (
           gives (datum_val (reading_at slots (single (structured there.0))) made),
           (

@@ -11,10 +11,11 @@ use Rattle.edm_values.specs.declared.value.Value.{Value, Record, the_lemmas}
 use Rattle.csdl_schema.specs.ExprType.{ExprType, single, structured}
 use Rattle.csdl_schema.specs.SchemaModel.{Slots, PropertyModel, declared, slot_named, slots_of, properties_at, type_name_at}
 use Rattle.edm_entities.specs.Row.{Row, val_of, value_of, field_of, field_by_name, record_of}
-use Rattle.odata_eval.specs.NameGives.{StepGives, FieldGives}
+use Rattle.odata_eval.specs.NameGives.{StepGives}
 use Rattle.odata_eval.specs.Outcome.{gives}
 use Rattle.odata_eval.specs.private.WalkAnswer.{HoldsAt}
 use Rattle.odata_typing.specs.Typed.{PropertyTyped, property_named}
+use Rattle.odata_eval.proofs.meaning.Progress.{field_gives}
 
 pub val_of-Record : (slots : Slots) (type : ExprType) (v : Vec Value Global) → val_of (Record v) slots type ≡ record_of slots type (map val_of v.items)
 val_of-Record slots type v = search (rules, the_lemmas)
@@ -59,9 +60,6 @@ pub field_at : (slots : Slots) (properties : List PropertyModel) (asked : List �
 field_at slots properties asked slot type values v named typed at =
     let position : position_or_len (λ p. pointwise nat_eq asked p.name) properties ≡ slot = found_slot _ _ slot named in
     held_at slots asked type v properties values (subst (λ (n : ℕ). slice_get values n ≡ Some v) (sym position) at) typed
-
-field_gives : (held : List ℕ → FieldVal) (asked : List ℕ) (v : Val) → held asked ≡ present v → StepGives (fields held) asked (gives v)
-field_gives held asked v here = subst (λ (h : FieldVal). FieldGives h (gives v)) (sym here) refl
 
 -- of the entity
 pub slot_value : (row : Row) (slot : ℕ) (v : Value) (asked : List ℕ) (type : ExprType) → HoldsAt row slot v

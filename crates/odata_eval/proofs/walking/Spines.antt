@@ -1,38 +1,30 @@
--- What stands behind an operator, and down a chain of them.
-use Rattle.std.proofs.Common.{◌≡◌, ◌≢◌, ◌∙◌, ℕ, ◌<◌, ◌+◌, Option, Some, None, slice_get, ap, refl, sym, subst, arith}
+-- What stands behind a node, and down a chain of nodes of one class.
+use Rattle.std.proofs.Common.{◌≡◌, ◌∙◌, ℕ, zero, suc, ◌<◌, ◌≤◌, ◌+◌, ◌-◌, [], slice_get, ap, refl, sym, subst, inl, inr, arith}
 use Rattle.std.specs.Prelude.{IsSomeAnd}
+use Rattle.std.proofs.lemmas.Bool.{cases_lt}
+use Rattle.edm_values.specs.MomentParts.{MomentParts}
+use Rattle.edm_values.specs.Val.{Val}
 use Rattle.odata_syntax.specs.Tree.{Tree, node, literal, it, name, member, negation, logical_not, binary}
 use Rattle.odata_syntax.specs.declared.node.BinaryOperator.{BinaryOperator}
 use Rattle.csdl_schema.specs.ExprType.{ExprType}
 use Rattle.edm_entities.specs.Row.{Row}
-use Rattle.odata_eval.specs.declared.part.WalkClass.{WalkClass}
-use Rattle.odata_eval.specs.private.WalkClass.{walk_of_kind, walk_of_operator}
-use Rattle.odata_eval.specs.private.Place.{HasOperatorOf, IsClassAt, IsOperatorOf, IsRightOf, PartStands, TypedStands}
+use Rattle.odata_signatures.specs.declared.operator_class.OperatorClass.{OperatorClass}
+use Rattle.odata_signatures.specs.ExprTypes.{IsBooleanOrNull}
+use Rattle.odata_signatures.specs.OperatorClass.{class_of}
+use Rattle.odata_signatures.specs.OperatorTyped.{ClassTyped}
 use Rattle.odata_typing.specs.declared.checked_node.CheckedNode.{CheckedNode}
 use Rattle.odata_typing.specs.declared.checked_node.NodeKind.{NodeKind}
-use Rattle.odata_signatures.specs.declared.operator_class.OperatorClass.{OperatorClass}
 use Rattle.odata_typing.specs.FlatTree.{FlatTree}
-use Rattle.odata_signatures.specs.OperatorClass.{class_of}
 use Rattle.odata_typing.specs.Stands.{Stands}
-use Rattle.odata_typing.specs.Typed.{Scope}
-use Rattle.odata_eval.proofs.walking.Parts.{HasKind, by_member, by_negation, by_not, by_operator}
-use Rattle.odata_eval.proofs.walking.Shapes.{found_there, there_found}
-
--- which kind is there
-pub record KindThere (list : FlatTree) (place : ℕ) (class : WalkClass) : Type 0 where
-  pub kind : NodeKind
-  pub here : HasKind list place kind
-  pub walk : walk_of_kind kind ≡ class
-
-there : (class : WalkClass) (held : Option CheckedNode) → IsSomeAnd held (λ found. walk_of_kind found.kind ≡ class)
-    → (kind : NodeKind) × (IsSomeAnd held (λ found. found.kind ≡ kind) × (walk_of_kind kind ≡ class))
-there class (Some found) is = (found.kind, (refl, is))
-there class None is = absurd is
-
-pub kind_of_class : (list : FlatTree) (place : ℕ) (class : WalkClass) → IsClassAt list class place → KindThere list place class
-kind_of_class list place class is =
-    let found = there class (slice_get list.nodes place) is in
-    record { kind = found.0; here = found.1.0; walk = found.1.1 }
+use Rattle.odata_eval.specs.declared.fault.EvalFault.{EvalFault}
+use Rattle.odata_eval.specs.declared.part.WalkClass.{WalkClass}
+use Rattle.odata_eval.specs.LeftFirst.{After}
+use Rattle.odata_eval.specs.Outcome.{Outcome, overflow, divides_by_zero}
+use Rattle.odata_eval.specs.VerdictView.{fault_outcome}
+use Rattle.odata_eval.specs.private.Place.{HasOperatorOf, IsClassAt, IsNumberOperand, IsOperatorOf, IsRightOf, PartStands, TypedStands}
+use Rattle.odata_eval.specs.private.WalkAnswer.{AnswersAtPlace}
+use Rattle.odata_eval.specs.private.WalkClass.{walk_of_kind, walk_of_operator}
+use Rattle.odata_eval.proofs.walking.Parts.{HasKind, MeansAt, TypedAt, by_kind, found_there, goes_there, some_there, there_found}
 
 -- which operator of the class it is
 pub record OperatorThere (list : FlatTree) (place : ℕ) (class : OperatorClass) : Type 0 where
@@ -40,87 +32,182 @@ pub record OperatorThere (list : FlatTree) (place : ℕ) (class : OperatorClass)
   pub here : HasKind list place (NodeKind.Binary operator)
   pub class_is : class_of operator ≡ class
 
-operator_in : (class : OperatorClass) (held : Option CheckedNode) → IsSomeAnd held (λ found. IsOperatorOf class found.kind)
-    → (operator : BinaryOperator) × (IsSomeAnd held (λ found. found.kind ≡ NodeKind.Binary operator) × (class_of operator ≡ class))
-operator_in class (Some found) is = (is.operator, (is.kind_is, is.class_is))
-operator_in class None is = absurd is
-
-class_in : (class : OperatorClass) (held : Option CheckedNode) → IsSomeAnd held (λ found. IsOperatorOf class found.kind)
-    → IsSomeAnd held (λ found. walk_of_kind found.kind ≡ walk_of_operator class)
-class_in class (Some found) is = ap walk_of_kind is.kind_is ∙ ap walk_of_operator is.class_is
-class_in class None is = absurd is
-
 pub operator_of_class : (list : FlatTree) (place : ℕ) (class : OperatorClass) → HasOperatorOf list place class → OperatorThere list place class
 operator_of_class list place class is =
-    let there = operator_in class (slice_get list.nodes place) is in
-    record { operator = there.0; here = there.1.0; class_is = there.1.1 }
-
-has_operator : (operator : BinaryOperator) (class : OperatorClass) (held : Option CheckedNode) → IsSomeAnd held (λ found. found.kind ≡ NodeKind.Binary operator)
-    → class_of operator ≡ class → IsSomeAnd held (λ found. IsOperatorOf class found.kind)
-has_operator operator class (Some found) is class_is = record { operator = operator; kind_is = is; class_is = class_is }
-has_operator operator class None is class_is = absurd is
+    let found = some_there (λ (f : CheckedNode). IsOperatorOf class f.kind) (slice_get list.nodes place) is in
+    let operator = found.1.1.operator in
+    record {
+      operator = operator;
+      here = there_found (λ (f : CheckedNode). f.kind ≡ NodeKind.Binary operator) (slice_get list.nodes place) found.0 found.1.0 found.1.1.kind_is;
+      class_is = found.1.1.class_is;
+    }
 
 pub class_of_operator : (list : FlatTree) (place : ℕ) (operator : BinaryOperator) (class : OperatorClass) → HasKind list place (NodeKind.Binary operator)
     → class_of operator ≡ class → HasOperatorOf list place class
-class_of_operator list place operator class here class_is = has_operator operator class (slice_get list.nodes place) here class_is
+class_of_operator list place operator class here class_is =
+    goes_there (slice_get list.nodes place) (λ (f : CheckedNode). f.kind ≡ NodeKind.Binary operator) (λ (f : CheckedNode). IsOperatorOf class f.kind)
+    (λ found is. record { operator = operator; kind_is = is; class_is = class_is }) here
 
--- one place has one class
-one_class : (held : Option CheckedNode) (a b : WalkClass) → IsSomeAnd held (λ found. walk_of_kind found.kind ≡ a) → IsSomeAnd held (λ found. walk_of_kind found.kind ≡ b) → a ≡ b
-one_class (Some found) a b is_a is_b = sym is_a ∙ is_b
-one_class None a b is_a is_b = absurd is_a
-
-pub same_class : (list : FlatTree) (place : ℕ) (a b : WalkClass) → IsClassAt list a place → IsClassAt list b place → a ≡ b
-same_class list place a b is_a is_b = one_class (slice_get list.nodes place) a b is_a is_b
-
--- the operator there has the class that the walk takes the node by
-walk_in : (operator : BinaryOperator) (class : WalkClass) (held : Option CheckedNode) → IsSomeAnd held (λ found. found.kind ≡ NodeKind.Binary operator)
-    → IsSomeAnd held (λ found. walk_of_kind found.kind ≡ class) → walk_of_operator (class_of operator) ≡ class
-walk_in operator class (Some found) here is = sym (ap walk_of_kind here) ∙ is
-walk_in operator class None here is = absurd here
-
-pub walk_there : (list : FlatTree) (place : ℕ) (operator : BinaryOperator) (class : WalkClass) → HasKind list place (NodeKind.Binary operator) → IsClassAt list class place
-    → walk_of_operator (class_of operator) ≡ class
-walk_there list place operator class here is = walk_in operator class (slice_get list.nodes place) here is
-
-walks_in : (operator : BinaryOperator) (class : WalkClass) (held : Option CheckedNode) → IsSomeAnd held (λ found. found.kind ≡ NodeKind.Binary operator)
-    → walk_of_operator (class_of operator) ≡ class → IsSomeAnd held (λ found. walk_of_kind found.kind ≡ class)
-walks_in operator class (Some found) here is = ap walk_of_kind here ∙ is
-walks_in operator class None here is = absurd here
-
+-- the walk takes the operator's node by its class
 pub walks_by : (list : FlatTree) (place : ℕ) (operator : BinaryOperator) (class : WalkClass) → HasKind list place (NodeKind.Binary operator)
     → walk_of_operator (class_of operator) ≡ class → IsClassAt list class place
-walks_by list place operator class here is = walks_in operator class (slice_get list.nodes place) here is
+walks_by list place operator class here is =
+    goes_there (slice_get list.nodes place) (λ (f : CheckedNode). f.kind ≡ NodeKind.Binary operator) (λ (f : CheckedNode). walk_of_kind f.kind ≡ class)
+    (λ found kind_is. ap walk_of_kind kind_is ∙ is) here
 
 -- a node of truth values that is no operator is `not`, and one of numbers `-`
 pub only_not : (kind : NodeKind) → walk_of_kind kind ≡ WalkClass.Logical → ((operator : BinaryOperator) → kind ≡ NodeKind.Binary operator → ⊥) → kind ≡ NodeKind.Not
 only_not NodeKind.Not logical other = refl
 only_not (NodeKind.Binary operator) logical other = absurd (other operator refl)
-only_not (NodeKind.Literal kind value) logical other = absurd (cc)
-only_not NodeKind.It logical other = absurd (cc)
-only_not (NodeKind.Property slot) logical other = absurd (cc)
-only_not (NodeKind.Variable level) logical other = absurd (cc)
-only_not (NodeKind.Member slot) logical other = absurd (cc)
-only_not NodeKind.Neg logical other = absurd (cc)
+only_not _ logical other = absurd (cc)
 
 pub only_neg : (kind : NodeKind) → walk_of_kind kind ≡ WalkClass.Numeric → ((operator : BinaryOperator) → kind ≡ NodeKind.Binary operator → ⊥) → kind ≡ NodeKind.Neg
 only_neg NodeKind.Neg numeric other = refl
 only_neg (NodeKind.Binary operator) numeric other = absurd (other operator refl)
-only_neg (NodeKind.Literal kind value) numeric other = absurd (cc)
-only_neg NodeKind.It numeric other = absurd (cc)
-only_neg (NodeKind.Property slot) numeric other = absurd (cc)
-only_neg (NodeKind.Variable level) numeric other = absurd (cc)
-only_neg (NodeKind.Member slot) numeric other = absurd (cc)
-only_neg NodeKind.Not numeric other = absurd (cc)
+only_neg _ numeric other = absurd (cc)
 
--- the walk takes it by its class
-pub class_there : (list : FlatTree) (place : ℕ) (class : OperatorClass) → HasOperatorOf list place class → IsClassAt list (walk_of_operator class) place
-class_there list place class is = class_in class (slice_get list.nodes place) is
+-- a fault of an operand stays
+pub fault_stays : (fault : EvalFault) (Operand : Outcome → Type 0) (Goes : Val → Outcome → Type 0)
+    → IsSomeAnd (fault_outcome fault) Operand → IsSomeAnd (fault_outcome fault) (After Operand Goes)
+fault_stays EvalFault.Overflow Operand Goes is = (overflow, (is, refl))
+fault_stays EvalFault.DivideByZero Operand Goes is = (divides_by_zero, (is, refl))
+fault_stays EvalFault.Memory Operand Goes is = absurd is
 
-pub typed_part : (row : Row) (scope : Scope) (list : FlatTree) (place : ℕ) (Allowed : ExprType → Type 0) → TypedStands row scope list place Allowed → PartStands row scope list place
-typed_part row scope list place Allowed typed = record { stop = typed.stop; tree = typed.tree; stands = typed.stands }
+-- the types of operands by the class of their node
+abbrev pub AllowedBy : WalkClass → ExprType → Type 0
+AllowedBy WalkClass.Logical type = IsBooleanOrNull type
+AllowedBy WalkClass.Numeric type = IsNumberOperand type
+AllowedBy _ type = Unit {0}
 
-module _ (row : Row) (scope : Scope) (list : FlatTree) where
-  pub further : (i j : ℕ) (tree : Tree) → Stands row.schema row.type_id scope list i j tree → i < j
+operands_allowed : (class : OperatorClass) (left right type : ExprType) → ClassTyped class left right type
+    → AllowedBy (walk_of_operator class) left × AllowedBy (walk_of_operator class) right
+operands_allowed (OperatorClass.Connective connective) left right type typed = (typed.0, typed.1)
+operands_allowed (OperatorClass.Comparison comparison) left right type typed = (tt, tt)
+operands_allowed (OperatorClass.Arithmetic arithmetic) left right type typed = ((typed.left_number, typed.left_is), (typed.right_number, typed.right_is))
+
+-- the first operand of a node: its faults are those of the node
+pub record FirstOperand (row : Row) (list : FlatTree) (place : ℕ) (class : WalkClass) (tree : Tree) : Type 0 where
+  pub stop : ℕ
+  pub operand : Tree
+  pub stands : Stands row.schema row.type_id [] list (place + 1) stop operand
+  pub typed : (type : ExprType) → TypedAt row tree type → (first : ExprType) × (TypedAt row operand first × AllowedBy class first)
+  pub faults : (now : MomentParts) (fault : EvalFault) → IsSomeAnd (fault_outcome fault) (MeansAt row now operand) → IsSomeAnd (fault_outcome fault) (MeansAt row now tree)
+
+pub typed_part : (row : Row) (list : FlatTree) (place : ℕ) (Allowed : ExprType → Type 0) → TypedStands row [] list place Allowed → PartStands row [] list place
+typed_part row list place Allowed typed = record { stop = typed.stop; tree = typed.tree; stands = typed.stands }
+
+module _ (row : Row) (list : FlatTree) where
+  first_of_kind : (place : ℕ) (kind : NodeKind) → ¬ (walk_of_kind kind ≡ WalkClass.Leaf) → HasKind list place kind
+      → (stop : ℕ) (tree : Tree) → Stands row.schema row.type_id [] list place stop tree → FirstOperand row list place (walk_of_kind kind) tree
+  first_of_kind place (NodeKind.Member slot) inner here = by_kind row list place (NodeKind.Member slot) here (λ stop tree. FirstOperand row list place WalkClass.Eager tree)
+      (λ base asked stop from to stands. record {
+        stop = stop;
+        operand = base;
+        stands = stands.children;
+        typed = λ type typed. (typed.operand, (typed.operand_typed, tt));
+        faults = λ now fault. fault_stays fault (MeansAt row now base) _;
+      })
+  first_of_kind place NodeKind.Neg inner here = by_kind row list place NodeKind.Neg here (λ stop tree. FirstOperand row list place WalkClass.Numeric tree)
+      (λ operand stop from to stands. record {
+        stop = stop;
+        operand = operand;
+        stands = stands.children;
+        typed = λ type typed. (typed.operand, (typed.operand_typed, (typed.makes.number, typed.makes.operand_is)));
+        faults = λ now fault. fault_stays fault (MeansAt row now operand) _;
+      })
+  first_of_kind place NodeKind.Not inner here = by_kind row list place NodeKind.Not here (λ stop tree. FirstOperand row list place WalkClass.Logical tree)
+      (λ operand stop from to stands. record {
+        stop = stop;
+        operand = operand;
+        stands = stands.children;
+        typed = λ type typed. (typed.operand, (typed.operand_typed, typed.makes.0));
+        faults = λ now fault. fault_stays fault (MeansAt row now operand) _;
+      })
+  first_of_kind place (NodeKind.Binary operator) inner here = by_kind row list place (NodeKind.Binary operator) here (λ stop tree. FirstOperand row list place (walk_of_operator (class_of operator)) tree)
+      (λ left right stop from to stands. record {
+        stop = stands.children.middle;
+        operand = left;
+        stands = stands.children.left;
+        typed = λ type typed. (typed.left, (typed.left_typed, (operands_allowed (class_of operator) typed.left typed.right type typed.operator_typed).0));
+        faults = λ now fault. fault_stays fault (MeansAt row now left) _;
+      })
+  first_of_kind place _ inner here = absurd (inner refl)
+
+  first_operand : (place : ℕ) (class : WalkClass) → ¬ (class ≡ WalkClass.Leaf) → IsClassAt list class place
+      → (stop : ℕ) (tree : Tree) → Stands row.schema row.type_id [] list place stop tree → FirstOperand row list place class tree
+  first_operand place class inner is stop tree stands =
+      let found = some_there (λ (f : CheckedNode). walk_of_kind f.kind ≡ class) (slice_get list.nodes place) is in
+      let kind = found.0.kind in
+      subst (λ (c : WalkClass). FirstOperand row list place c tree) found.1.1
+      (first_of_kind place kind (λ leaf. inner (sym found.1.1 ∙ leaf))
+      (there_found (λ (f : CheckedNode). f.kind ≡ kind) (slice_get list.nodes place) found.0 found.1.0 refl) stop tree stands)
+
+  -- a fault of the first operand is the outcome
+  pub first_faults : (now : MomentParts) (place : ℕ) (class : WalkClass) (fault : EvalFault) → ¬ (class ≡ WalkClass.Leaf) → IsClassAt list class place
+      → AnswersAtPlace row now [] list (place + 1) (λ type. fault_outcome fault) → AnswersAtPlace row now [] list place (λ type. fault_outcome fault)
+  first_faults now place class fault inner is first = record {
+    of_tree = λ stop tree type stands typed.
+        let it = first_operand place class inner is stop tree stands in
+        let of_it = it.typed type typed in
+        it.faults now fault (first.of_tree it.stop it.operand of_it.0 it.stands of_it.1.0);
+  }
+
+  -- the next node is the first operand
+  has_type : (place stop : ℕ) (tree : Tree) → Stands row.schema row.type_id [] list place stop tree → (type : ExprType) × TypedAt row tree type
+  has_type place stop (node from to shape) stands = (_, stands.top.typed)
+
+  pub first_step : (place : ℕ) (class : WalkClass) → ¬ (class ≡ WalkClass.Leaf) → IsClassAt list class place → PartStands row [] list place
+      → TypedStands row [] list (place + 1) (AllowedBy class)
+  first_step place class inner is part =
+      let it = first_operand place class inner is part.stop part.tree part.stands in
+      let typed = has_type place part.stop part.tree part.stands in
+      let of_it = it.typed typed.0 typed.1 in
+      record { stop = it.stop; tree = it.operand; stands = it.stands; type_of = of_it.0; typed = of_it.1.0; allowed = of_it.1.1 }
+
+  pub first_part : (place : ℕ) (class : WalkClass) → ¬ (class ≡ WalkClass.Leaf) → IsClassAt list class place → PartStands row [] list place → PartStands row [] list (place + 1)
+  first_part place class inner is part = typed_part row list (place + 1) (AllowedBy class) (first_step place class inner is part)
+
+  -- what goes on from each place to the next goes down a chain
+  down : (P Q : ℕ → Type 0) → ((i : ℕ) → P i → Q i → P (i + 1)) → (top d k : ℕ) → k ≡ top + d → P top → ((i : ℕ) → i < k → top ≤ i → Q i) → P k
+  down P Q step top zero k is first all = subst P (let e : top ≡ k = omega arith in e) first
+  down P Q step top (suc d) k is first all =
+      let e : top + d + 1 ≡ k = omega arith in
+      subst P e (step (top + d) (down P Q step top d (top + d) refl first (λ i before from. all i (omega arith) from)) (all (top + d) (omega arith) (omega arith)))
+
+  module _ (class : WalkClass) (inner : ¬ (class ≡ WalkClass.Leaf)) (top k : ℕ) where
+    pub typed_down : top ≤ k → TypedStands row [] list top (AllowedBy class) → ((i : ℕ) → i < k → top ≤ i → IsClassAt list class i)
+        → TypedStands row [] list k (AllowedBy class)
+    typed_down below first all =
+        down (λ i. TypedStands row [] list i (AllowedBy class)) (IsClassAt list class)
+        (λ i typed is. first_step i class inner is (typed_part row list i (AllowedBy class) typed)) top (k - top) k (omega arith) first all
+
+    pub part_down : top ≤ k → PartStands row [] list top → ((i : ℕ) → i < k → top ≤ i → IsClassAt list class i) → PartStands row [] list k
+    part_down below first all =
+        down (PartStands row [] list) (IsClassAt list class) (λ i part is. first_part i class inner is part) top (k - top) k (omega arith) first all
+
+  -- the bottom of a chain, behind its top
+  pub bottom_down : (class : WalkClass) → ¬ (class ≡ WalkClass.Leaf) → (top k : ℕ) → top < k → PartStands row [] list top
+      → ((i : ℕ) → i < k → top ≤ i → IsClassAt list class i) → TypedStands row [] list k (AllowedBy class)
+  bottom_down class inner top k below first all =
+      typed_down class inner (top + 1) k (omega arith) (first_step top class inner (all top below (omega arith)) first) (λ i before from. all i before (omega arith))
+
+  -- a step up a chain to the node before, with what was answered behind that
+  pub record StepUp (class : WalkClass) (Answers : ℕ → Type 0) (at : ℕ) : Type 0 where
+    pub stands : PartStands row [] list (at - 1)
+    pub here : IsClassAt list class (at - 1)
+    pub first : Answers (at - 1 + 1)
+
+  pub step_up : (class : WalkClass) → ¬ (class ≡ WalkClass.Leaf) → (Answers : ℕ → Type 0) (top at bottom : ℕ) → top < at → at ≤ bottom
+      → PartStands row [] list top → ((i : ℕ) → i < bottom → top ≤ i → IsClassAt list class i) → Answers at → StepUp class Answers at
+  step_up class inner Answers top at bottom above within part all answers =
+      let e : at ≡ at - 1 + 1 = omega arith in
+      record {
+        stands = part_down class inner top (at - 1) (omega arith) part (λ i before from. all i (omega arith) from);
+        here = all (at - 1) (omega arith) (omega arith);
+        first = subst Answers e answers;
+      }
+
+  further : (i j : ℕ) (tree : Tree) → Stands row.schema row.type_id [] list i j tree → i < j
   further i j (node from to (literal kind spelling)) stands = let e : i + 1 ≡ j = stands.children in omega arith
   further i j (node from to it) stands = let e : i + 1 ≡ j = stands.children in omega arith
   further i j (node from to (name asked)) stands = let e : i + 1 ≡ j = stands.children in omega arith
@@ -135,56 +222,64 @@ module _ (row : Row) (scope : Scope) (list : FlatTree) where
   further i j (node from to _) stands = absurd stands.children
 
   -- where a node says that it stops
-  stops_there : (i j right : ℕ) (tree : Tree) → Stands row.schema row.type_id scope list i j tree
+  stops_there : (i j right : ℕ) (tree : Tree) → Stands row.schema row.type_id [] list i j tree
       → IsSomeAnd (slice_get list.nodes i) (λ found. found.stop ≡ right) → j ≡ right
   stops_there i j right (node from to shape) stands is =
       let e : stands.top.found.stop ≡ right = found_there (λ found. found.stop ≡ right) (slice_get list.nodes i) stands.top.found stands.top.stands_at is in
-      let f : stands.top.found.stop ≡ j = stands.top.last in
-      sym f ∙ e
+      sym stands.top.last ∙ e
 
-  stops_here : (i j : ℕ) (tree : Tree) → Stands row.schema row.type_id scope list i j tree → IsSomeAnd (slice_get list.nodes i) (λ found. found.stop ≡ j)
+  stops_here : (i j : ℕ) (tree : Tree) → Stands row.schema row.type_id [] list i j tree → IsSomeAnd (slice_get list.nodes i) (λ found. found.stop ≡ j)
   stops_here i j (node from to shape) stands = there_found (λ found. found.stop ≡ j) (slice_get list.nodes i) stands.top.found stands.top.stands_at stands.top.last
 
   module _ (place : ℕ) where
     -- the right operand stands where the left one says that it stops
     pub right_stands : (right stop from to : ℕ) (operator : BinaryOperator) (l r : Tree) → IsRightOf list place right
-        → Stands row.schema row.type_id scope list place stop (node from to (binary operator l r))
-        → Stands row.schema row.type_id scope list right stop r
+        → Stands row.schema row.type_id [] list place stop (node from to (binary operator l r))
+        → Stands row.schema row.type_id [] list right stop r
     right_stands right stop from to operator l r is stands =
-        subst (λ (m : ℕ). Stands row.schema row.type_id scope list m stop r)
+        subst (λ (m : ℕ). Stands row.schema row.type_id [] list m stop r)
         (stops_there (place + 1) stands.children.middle right l stands.children.left is) stands.children.right
 
-    -- the first operand is the next node
-    pub first_part : (kind : NodeKind) → walk_of_kind kind ≢ WalkClass.Leaf → HasKind list place kind → PartStands row scope list place → PartStands row scope list (place + 1)
-    first_part (NodeKind.Member slot) inner here part = by_member row scope list place (λ stop tree. PartStands row scope list (place + 1)) slot here
-        (λ stop from to base asked stands. record { stop = stop; tree = base; stands = stands.children }) part.stop part.tree part.stands
-    first_part NodeKind.Neg inner here part = by_negation row scope list place (λ stop tree. PartStands row scope list (place + 1)) here
-        (λ stop from to operand stands. record { stop = stop; tree = operand; stands = stands.children }) part.stop part.tree part.stands
-    first_part NodeKind.Not inner here part = by_not row scope list place (λ stop tree. PartStands row scope list (place + 1)) here
-        (λ stop from to operand stands. record { stop = stop; tree = operand; stands = stands.children }) part.stop part.tree part.stands
-    first_part (NodeKind.Binary operator) inner here part = by_operator row scope list place (λ stop tree. PartStands row scope list (place + 1)) operator here
-        (λ stop from to left right stands. record { stop = stands.children.middle; tree = left; stands = stands.children.left }) part.stop part.tree part.stands
-    first_part (NodeKind.Literal kind value) inner here part = absurd (inner refl)
-    first_part NodeKind.It inner here part = absurd (inner refl)
-    first_part (NodeKind.Property slot) inner here part = absurd (inner refl)
-    first_part (NodeKind.Variable level) inner here part = absurd (inner refl)
-
-    module _ (operator : BinaryOperator) (here : HasKind list place (NodeKind.Binary operator)) (part : PartStands row scope list place) where
+    module _ (operator : BinaryOperator) (here : HasKind list place (NodeKind.Binary operator)) (part : PartStands row [] list place) where
       pub right_there : (right : ℕ) × IsRightOf list place right
-      right_there = by_operator row scope list place (λ stop tree. (right : ℕ) × IsRightOf list place right) operator here
-          (λ stop from to left right stands. (stands.children.middle, stops_here (place + 1) stands.children.middle left stands.children.left))
+      right_there = by_kind row list place (NodeKind.Binary operator) here (λ stop tree. (right : ℕ) × IsRightOf list place right)
+          (λ left right stop from to stands. (stands.children.middle, stops_here (place + 1) stands.children.middle left stands.children.left))
           part.stop part.tree part.stands
 
       module _ (right_place : ℕ) (is_right : IsRightOf list place right_place) where
-        pub right_part : PartStands row scope list right_place
-        right_part = by_operator row scope list place (λ stop tree. PartStands row scope list right_place) operator here
-            (λ stop from to left right stands. record { stop = stop; tree = right; stands = right_stands right_place stop from to operator left right is_right stands })
+        pub right_typed : (class : WalkClass) → walk_of_operator (class_of operator) ≡ class → TypedStands row [] list right_place (AllowedBy class)
+        right_typed class class_is = by_kind row list place (NodeKind.Binary operator) here (λ stop tree. TypedStands row [] list right_place (AllowedBy class))
+            (λ left right stop from to stands. record {
+              stop = stop;
+              tree = right;
+              stands = right_stands right_place stop from to operator left right is_right stands;
+              type_of = stands.top.typed.right;
+              typed = stands.top.typed.right_typed;
+              allowed = subst (λ (c : WalkClass). AllowedBy c stands.top.typed.right) class_is
+                  (operands_allowed (class_of operator) stands.top.typed.left stands.top.typed.right _ stands.top.typed.operator_typed).1;
+            })
             part.stop part.tree part.stands
 
+        pub right_part : PartStands row [] list right_place
+        right_part = let walk = walk_of_operator (class_of operator) in typed_part row list right_place (AllowedBy walk) (right_typed walk refl)
+
         pub right_further : place < right_place
-        right_further = by_operator row scope list place (λ stop tree. place < right_place) operator here
-            (λ stop from to left right stands.
+        right_further = by_kind row list place (NodeKind.Binary operator) here (λ stop tree. place < right_place)
+            (λ left right stop from to stands.
             let e : stands.children.middle ≡ right_place = stops_there (place + 1) stands.children.middle right_place left stands.children.left is_right in
             let f : place + 1 < stands.children.middle = further (place + 1) stands.children.middle left stands.children.left in
             omega arith)
             part.stop part.tree part.stands
+
+-- a chain that begins at a place of a class ends behind it
+pub below_bottom : (list : FlatTree) (class : WalkClass) (place bottom : ℕ) → place ≤ bottom → IsClassAt list class place
+    → ¬ (IsClassAt list class bottom) → place < bottom
+below_bottom list class place bottom below is is_not =
+    elim (cases_lt place bottom) [
+      | inl before ↦ before
+      | inr after ↦ (let same : place ≡ bottom = omega arith in absurd (is_not (subst (IsClassAt list class) same is)))
+    ]
+
+-- what was answered behind the last step up was answered at the top
+pub at_top : (Answers : ℕ → Type 0) (at top : ℕ) → top ≤ at → at ≤ top → Answers at → Answers top
+at_top Answers at top above below answers = let e : at ≡ top = omega arith in subst Answers e answers

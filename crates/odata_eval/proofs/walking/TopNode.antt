@@ -16,7 +16,7 @@ use Rattle.odata_eval.specs.VerdictView.{fault_outcome}
 use Rattle.odata_eval.specs.private.DatumView.{answer_outcome}
 use Rattle.odata_eval.specs.private.Place.{TruthStands}
 use Rattle.odata_eval.specs.private.WalkAnswer.{AnswersTruth}
-use Rattle.odata_eval.proofs.walking.WalkValues.{MeansAt}
+use Rattle.odata_eval.proofs.walking.Parts.{MeansAt}
 
 module _ (filter : Filter) (row : Row) (right : IsFilter filter) (one_schema : filter.schema ≡ row.schema) (one_type : filter.filtered ≡ row.type_id) where
   whole_stands : Stands row.schema row.type_id [] filter.list 0 (length filter.list.nodes) (tree_of_filter filter)

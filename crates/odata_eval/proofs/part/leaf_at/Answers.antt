@@ -1,9 +1,8 @@
-use Rattle.std.proofs.Common.{◌≡◌, []}
+use Rattle.std.proofs.Common.{◌≡◌}
 use Rattle.odata_typing.specs.declared.checked_node.CheckedNode.{CheckedNode}
 use Rattle.odata_typing.specs.declared.checked_node.NodeKind.{NodeKind}
-use Rattle.odata_eval.proofs.walking.Leaves.{it_answers, literal_answers, literal_within, property_answers, property_within}
-use Rattle.odata_eval.proofs.walking.Parts.{part_inside}
-use Rattle.odata_eval.proofs.walking.Shapes.{there_found}
+use Rattle.odata_eval.proofs.walking.Leaves.{literal_answers, property_answers}
+use Rattle.odata_eval.proofs.walking.Parts.{there_found}
 use Rattle.odata_eval.proofs.part.leaf_at.Goals as goal
 
 pub returns-in-Literal : goal.returns-in-Literal

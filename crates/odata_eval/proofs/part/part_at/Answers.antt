@@ -1,9 +1,8 @@
-use Rattle.std.proofs.Common.{◌≡◌, []}
+use Rattle.std.proofs.Common.{◌≡◌}
 use Rattle.odata_typing.specs.declared.checked_node.CheckedNode.{CheckedNode}
 use Rattle.odata_typing.specs.declared.checked_node.NodeKind.{NodeKind}
-use Rattle.odata_eval.proofs.walking.Leaves.{literal_answers, literal_within, property_answers, property_within}
-use Rattle.odata_eval.proofs.walking.Parts.{part_inside}
-use Rattle.odata_eval.proofs.walking.Shapes.{there_found}
+use Rattle.odata_eval.proofs.walking.Leaves.{literal_answers, literal_within, property_answers}
+use Rattle.odata_eval.proofs.walking.Parts.{there_found}
 use Rattle.odata_eval.proofs.part.part_at.Goals as goal
 
 pub returns-in-Property : goal.returns-in-Property
