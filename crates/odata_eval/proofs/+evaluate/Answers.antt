@@ -194,10 +194,8 @@ walk::compared_at-compare-requires t c =
 
 pub walk::compared_at-returns-in-Leaf : goal.walk::compared_at-returns-in-Leaf
 walk::compared_at-returns-in-Leaf t c =
-    let may = may_compare c.args.entity.now c.args.now.now c.args.checked.now.list c.args.place c.args.comparison c.requires.comparison c.right_of-right_place.result c.right_of-right_place.ensures c.args.left.now c.datum_of.result c.requires.left
-    (kept_datum c.args.entity.now c.args.now.now c.args.checked.now.list c.right_of-right_place.result c.in-Leaf.value.now c.datum_of.result (c.in-Leaf.ensures c.args.now.now) c.datum_of.ensures) c.typed_trees_end_once_on_entities.ensures c.requires.entity c.comparisons_are_decided.ensures.any_reading c.requires.stands in
     truth_compared c.args.entity.now c.args.now.now c.args.checked.now.list c.args.place c.args.comparison c.requires.comparison c.right_of-right_place.result c.right_of-right_place.ensures c.args.left.now c.datum_of.result c.requires.left
-    (kept_datum c.args.entity.now c.args.now.now c.args.checked.now.list c.right_of-right_place.result c.in-Leaf.value.now c.datum_of.result (c.in-Leaf.ensures c.args.now.now) c.datum_of.ensures) c.compare.result may c.compare.ensures
+    (kept_datum c.args.entity.now c.args.now.now c.args.checked.now.list c.right_of-right_place.result c.in-Leaf.value.now c.datum_of.result (c.in-Leaf.ensures c.args.now.now) c.datum_of.ensures) c.typed_trees_end_once_on_entities.ensures c.requires.entity c.comparisons_are_decided.ensures.any_reading c.requires.stands c.compare.result c.compare.ensures
 
 pub walk::compared_at-operand_at-requires : goal.walk::compared_at-operand_at-requires
 walk::compared_at-operand_at-requires t c =
@@ -210,13 +208,13 @@ walk::compared_at-operand_at-requires t c =
 
 pub walk::compared_at-compare-requires-in-Ok : goal.walk::compared_at-compare-requires-in-Ok
 walk::compared_at-compare-requires-in-Ok t c =
-    may_compare c.args.entity.now c.args.now.now c.args.checked.now.list c.args.place c.args.comparison c.requires.comparison c.right_of-right_place.result c.right_of-right_place.ensures c.args.left.now c.in-Ok.right c.requires.left (subst (λ (r : Result Datum EvalFault). AnswersDatum c.args.entity.now c.args.now.now [] c.args.checked.now.list c.right_of-right_place.result r) c.in-Ok.is c.operand_at.ensures) c.typed_trees_end_once_on_entities.ensures c.requires.entity c.comparisons_are_decided.ensures.any_reading c.requires.stands
+    may_compare c.args.entity.now c.args.now.now c.args.checked.now.list c.args.place c.args.comparison c.requires.comparison c.right_of-right_place.result c.right_of-right_place.ensures c.args.left.now c.in-Ok.right c.requires.left
+    (subst (λ (r : Result Datum EvalFault). AnswersDatum c.args.entity.now c.args.now.now [] c.args.checked.now.list c.right_of-right_place.result r) c.in-Ok.is c.operand_at.ensures) c.typed_trees_end_once_on_entities.ensures c.requires.entity c.comparisons_are_decided.ensures.any_reading c.requires.stands
 
 pub walk::compared_at-returns-in-Ok : goal.walk::compared_at-returns-in-Ok
 walk::compared_at-returns-in-Ok t c =
-    let may = may_compare c.args.entity.now c.args.now.now c.args.checked.now.list c.args.place c.args.comparison c.requires.comparison c.right_of-right_place.result c.right_of-right_place.ensures c.args.left.now c.in-Ok.right c.requires.left
-    (subst (λ (r : Result Datum EvalFault). AnswersDatum c.args.entity.now c.args.now.now [] c.args.checked.now.list c.right_of-right_place.result r) c.in-Ok.is c.operand_at.ensures) c.typed_trees_end_once_on_entities.ensures c.requires.entity c.comparisons_are_decided.ensures.any_reading c.requires.stands in
-    truth_compared c.args.entity.now c.args.now.now c.args.checked.now.list c.args.place c.args.comparison c.requires.comparison c.right_of-right_place.result c.right_of-right_place.ensures c.args.left.now c.in-Ok.right c.requires.left (subst (λ (r : Result Datum EvalFault). AnswersDatum c.args.entity.now c.args.now.now [] c.args.checked.now.list c.right_of-right_place.result r) c.in-Ok.is c.operand_at.ensures) c.compare-in-Ok.result may c.compare-in-Ok.ensures
+    truth_compared c.args.entity.now c.args.now.now c.args.checked.now.list c.args.place c.args.comparison c.requires.comparison c.right_of-right_place.result c.right_of-right_place.ensures c.args.left.now c.in-Ok.right c.requires.left
+    (subst (λ (r : Result Datum EvalFault). AnswersDatum c.args.entity.now c.args.now.now [] c.args.checked.now.list c.right_of-right_place.result r) c.in-Ok.is c.operand_at.ensures) c.typed_trees_end_once_on_entities.ensures c.requires.entity c.comparisons_are_decided.ensures.any_reading c.requires.stands c.compare-in-Ok.result c.compare-in-Ok.ensures
 
 pub walk::compared_at-returns : goal.walk::compared_at-returns
 walk::compared_at-returns t c =
@@ -256,8 +254,7 @@ walk::compared_truth_at-compare_kept-requires t c =
 pub walk::compared_truth_at-returns-in-Leaf-part_at : goal.walk::compared_truth_at-returns-in-Leaf-part_at
 walk::compared_truth_at-returns-in-Leaf-part_at t c =
     let here = class_of_operator c.args.checked.now.list c.args.place c.args.operator (OperatorClass.Comparison c.comparison_of.result) c.requires.here c.comparison_of.ensures in
-    let may = may_compare_kept c.args.entity.now c.args.now.now c.args.checked.now.list c.args.place c.comparison_of.result here c.right_of-right_place.result c.right_of-right_place.ensures c.in-Leaf.left.now c.in-Leaf-part_at.right.now (c.in-Leaf.ensures c.args.now.now) (c.in-Leaf-part_at.ensures c.args.now.now) c.typed_trees_end_once_on_entities.ensures c.requires.entity c.comparisons_are_decided.ensures.any_contents (typed_part c.args.entity.now c.args.checked.now.list c.args.place IsBooleanOrNull c.requires.stands) in
-    kept_compared c.args.entity.now c.args.now.now c.args.checked.now.list c.args.place c.comparison_of.result here c.right_of-right_place.result c.right_of-right_place.ensures c.in-Leaf.left.now c.in-Leaf-part_at.right.now (c.in-Leaf.ensures c.args.now.now) (c.in-Leaf-part_at.ensures c.args.now.now) c.compare_kept.result may c.compare_kept.ensures
+    kept_compared c.args.entity.now c.args.now.now c.args.checked.now.list c.args.place c.comparison_of.result here c.right_of-right_place.result c.right_of-right_place.ensures c.in-Leaf.left.now c.in-Leaf-part_at.right.now (c.in-Leaf.ensures c.args.now.now) (c.in-Leaf-part_at.ensures c.args.now.now) c.typed_trees_end_once_on_entities.ensures c.requires.entity c.comparisons_are_decided.ensures.any_contents (typed_part c.args.entity.now c.args.checked.now.list c.args.place IsBooleanOrNull c.requires.stands) c.compare_kept.result c.compare_kept.ensures
 
 pub walk::numbers_truth_at-right_of-right_place-requires : goal.walk::numbers_truth_at-right_of-right_place-requires
 walk::numbers_truth_at-right_of-right_place-requires t c = right_there c.args.entity.now c.args.checked.now.list c.args.place c.args.operator c.requires.here (typed_part c.args.entity.now c.args.checked.now.list c.args.place IsBooleanOrNull c.requires.stands)

@@ -1,5 +1,5 @@
 -- The filter of the first run on its three items.
-use Rattle.std.proofs.Common.{◌≡◌, ℕ, pos, List, [], true, false, refl, sym, ap, nat_eq, subst, inr, rules, lit<}
+use Rattle.std.proofs.Common.{◌≡◌, ◌↔◌, IsTrue, Bool, Some, ℕ, pos, List, [], true, false, refl, sym, ap, nat_eq, subst, inr, rules, lit<}
 use Rattle.std.proofs.lemmas.Int.{fits_signed_from_abs}
 use Rattle.std.specs.Prelude.{codes, FitsSigned}
 use Rattle.std.specs.Int.{w64}
@@ -12,9 +12,13 @@ use Rattle.edm_values.specs.Val.{Val, boolean, whole, text}
 use Rattle.odata_syntax.specs.FirstRun.{first_run_tree}
 use Rattle.odata_syntax.specs.Tree.{Tree}
 use Rattle.csdl_schema.specs.SchemaModel.{Slots}
+use Rattle.odata_functions.specs.Comparison.{ComparesTrue}
+use Rattle.odata_functions.specs.Connectives.{and3}
+use Rattle.odata_functions.specs.declared.comparison.ComparisonOperator.{ComparisonOperator}
 use Rattle.odata_eval.specs.ComesTo.{ComesTo, false_and_missing, item_value}
 use Rattle.odata_eval.specs.Means.{Means}
 use Rattle.odata_eval.specs.Outcome.{Outcome, gives}
+use Rattle.odata_eval.specs.TruthGives.{truth_val}
 use Rattle.odata_eval.proofs.meaning.OneMeaning.{Means-one}
 use Rattle.odata_eval.proofs.meaning.LawsBelow.{OneEach}
 
@@ -35,8 +39,15 @@ small = fits_signed_from_abs w64 (pos 1) (lit< tt)
 one : IntValue (codes "1") (pos 1)
 one = (inr (inr (numeral, refl)), small)
 
-pub kept_item : OneEach → ComesTo first_run_tree (item_value (pos 1) (codes "a") true) (gives (boolean true))
-kept_item known = comes_to known first_run_tree (item_value (pos 1) (codes "a") true) (gives (boolean true)) (λ slots root now. (
+-- true with a truth value is that
+joins : (answer : Bool) → gives (boolean answer) ≡ gives (truth_val (and3 (Some true) (Some answer)))
+joins true = refl
+joins false = refl
+
+-- the first item by any name, as this compares
+named_item : OneEach → (title : List ℕ) (answer : Bool) → (IsTrue answer ↔ ComparesTrue ComparisonOperator.Eq (text title) (text (codes "a")))
+    → ComesTo first_run_tree (item_value (pos 1) title true) (gives (boolean answer))
+named_item known title answer compared = comes_to known first_run_tree (item_value (pos 1) title true) (gives (boolean answer)) (λ slots root now. (
   gives (boolean true),
   (
     (
@@ -53,14 +64,17 @@ kept_item known = comes_to known first_run_tree (item_value (pos 1) (codes "a") 
       ),
     ),
     (
-      gives (boolean true),
+      gives (boolean answer),
       (
-        (gives (text (codes "a")), (refl, (gives (text (codes "a")), (refl, (tt, (λ _. refl, λ _. refl)))))),
-        refl,
+        (gives (text title), (refl, (gives (text (codes "a")), (refl, (tt, compared))))),
+        joins answer,
       ),
     ),
   ),
 ))
+
+pub kept_item : OneEach → ComesTo first_run_tree (item_value (pos 1) (codes "a") true) (gives (boolean true))
+kept_item known = named_item known (codes "a") true (λ _. refl, λ _. refl)
 
 -- 98 is no 97
 other_text : chars (codes "b") ≡ chars (codes "a") → false ≡ true
@@ -68,31 +82,7 @@ unfolding chars
 other_text same = ap (λ (xs : List ℕ). pointwise nat_eq xs (chars (codes "a"))) same
 
 pub other_item : OneEach → ComesTo first_run_tree (item_value (pos 1) (codes "b") true) (gives (boolean false))
-other_item known = comes_to known first_run_tree (item_value (pos 1) (codes "b") true) (gives (boolean false)) (λ slots root now. (
-  gives (boolean true),
-  (
-    (
-      gives (boolean true),
-      (
-        refl,
-        (
-          gives (boolean true),
-          (
-            (gives (whole (pos 1)), (refl, (gives (whole (pos 1)), (one, (tt, (λ _. refl, λ _. refl)))))),
-            refl,
-          ),
-        ),
-      ),
-    ),
-    (
-      gives (boolean false),
-      (
-        (gives (text (codes "b")), (refl, (gives (text (codes "a")), (refl, (tt, (λ no. cc, λ same. other_text same)))))),
-        refl,
-      ),
-    ),
-  ),
-))
+other_item known = named_item known (codes "b") false (λ no. cc, λ same. other_text same)
 
 pub inactive_item : OneEach → ComesTo first_run_tree (item_value (pos 2) (codes "a") false) (gives (boolean false))
 inactive_item known = comes_to known first_run_tree (item_value (pos 2) (codes "a") false) (gives (boolean false)) (λ slots root now.

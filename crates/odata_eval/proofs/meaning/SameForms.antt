@@ -114,21 +114,12 @@ module _ (kept : KeptForms) (slots : Slots) (root : List ℕ) (now : MomentParts
     bare_same (node start stop shape) = bare_shape_same shape
 
     bare_shape_same : (shape : Shape) → Both (S shape) (S (bare_shape shape))
-    bare_shape_same (literal kind text) = itself (S (literal kind text))
-    bare_shape_same it = itself (S it)
-    bare_shape_same (name asked) = itself (S (name asked))
     bare_shape_same (member base asked) = member_same base (bare base) asked (bare_same base)
     bare_shape_same (negation operand) = negation_same operand (bare operand) (bare_same operand) (types_bare operand)
     bare_shape_same (logical_not operand) = not_same operand (bare operand) (bare_same operand)
     bare_shape_same (binary operator left right) =
         binary_same operator left right (bare left) (bare right) (bare_same left) (bare_same right) (types_bare left) (types_bare right)
-    bare_shape_same (count base) = itself (S (count base))
-    bare_shape_same (has left right) = itself (S (has left right))
-    bare_shape_same (in_list left items) = itself (S (in_list left items))
-    bare_shape_same (in_path left path) = itself (S (in_path left path))
-    bare_shape_same (call asked arguments) = itself (S (call asked arguments))
-    bare_shape_same (any_item base) = itself (S (any_item base))
-    bare_shape_same (lambda quantifier base variable body) = itself (S (lambda quantifier base variable body))
+    bare_shape_same _ = λ o. (λ is. is, λ is. is)
 
   again_same : (tree normal again : Tree) → IsNormalForm tree normal → bare again ≡ bare normal → Both (M tree) (M again)
   again_same tree normal again is same =

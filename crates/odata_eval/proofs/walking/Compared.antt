@@ -94,10 +94,11 @@ module _ (row : Row) (now : MomentParts) (list : FlatTree) (place : ℕ) (compar
         let may = at_contents (AreComparableBy comparison) slots sides.0 sides.1 left right sides.2 in
         anyhow comparison left right may.0 may.1 q m may.2
 
-    pub kept_compared : (answer : Bool) → ((q m : Contents) → AreComparableBy comparison (kept_val q left) (kept_val m right))
+    pub kept_compared : EndsOnceOnEntities → IsEntity row → KeptAnyhow → PartStands row [] list place → (answer : Bool)
         → ((q m : Contents) → IsTrue answer ↔ ComparesTrue comparison (kept_val q left) (kept_val m right)) → AnswersTruth row now [] list place (Ok (Some answer))
-    kept_compared answer may compared =
+    kept_compared ends entity anyhow part answer compared =
         let slots = slots_of row.schema in
+        let may = may_compare_kept ends entity anyhow part in
         comparison_answers (val_of left slots) (val_of right slots) first second answer (λ s t. at_types (AreComparableBy comparison) slots s t left right may)
         (λ s t. at_types (λ v w. IsTrue answer ↔ ComparesTrue comparison v w) slots s t left right compared)
 
@@ -113,10 +114,11 @@ module _ (row : Row) (now : MomentParts) (list : FlatTree) (place : ℕ) (compar
         let sides = comparable_sides (made left) (made right) first second ends entity part in
         anyhow comparison left right (reading_at slots sides.0) (reading_at slots sides.1) q s sides.2
 
-    pub truth_compared : (answer : Bool) → ((q s : Reading) → AreComparableBy comparison (datum_val q left) (datum_val s right))
+    pub truth_compared : EndsOnceOnEntities → IsEntity row → ComparedAnyhow → PartStands row [] list place → (answer : Bool)
         → ((q s : Reading) → IsTrue answer ↔ ComparesTrue comparison (datum_val q left) (datum_val s right)) → AnswersDatum row now [] list place (Ok (datum.Bool answer))
-    truth_compared answer may compared =
+    truth_compared ends entity anyhow part answer compared =
         let slots = slots_of row.schema in
+        let may = may_compare ends entity anyhow part in
         made_value row now list place (datum.Bool answer) (truth_val (Some answer))
         (comparison_answers (made left) (made right) first second answer (λ s t. may (reading_at slots s) (reading_at slots t)) (λ s t. compared (reading_at slots s) (reading_at slots t)))
         (λ reading. refl)
