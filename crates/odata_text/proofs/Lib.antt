@@ -1,3 +1,4 @@
+pub mod Common
 pub mod canonical
 pub mod characters
 pub mod machine

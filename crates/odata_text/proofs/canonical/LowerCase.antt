@@ -1,16 +1,9 @@
 -- Words in lower case.
-use Rattle.std.proofs.Common.{◌≡◌, ⊎_elim, ℕ, suc, ◌<◌, ◌≤◌, true, List, [], ◌∷◌, ◌++◌, map, length, get_or, chars, IsUtf8, arith, refl, sym, ◌∙◌, ap, append-nil}
-use Rattle.std.specs.Char.{to_ascii_lowercase}
-use Rattle.std.specs.List.{AllByRecursion as AllOf, list_all}
-use Rattle.std.specs.Str.{all_scalars, encode_utf8_all, str_to_ascii_lowercase}
-use Rattle.std.proofs.Math.Utf8.{scalar, encode}
-use Rattle.std.proofs.lemmas.Bool.{and_from, and_parts, cases_lt}
-use Rattle.std.proofs.lemmas.Bool.Decides.{nat_tests}
+use Rattle.std.specs.List.{AllByRecursion as AllOf}
 use Rattle.std.proofs.lemmas.List.{map-append}
-use Rattle.std.proofs.lemmas.Str.{chars_from_encodes, encode_ascii, encodes-chars, inside_one, scalars-chars}
+use Rattle.std.proofs.lemmas.Str.{chars_from_encodes, encode_ascii, inside_one}
 use Rattle.std.proofs.lemmas.Str.Ascii.{lowercase_ascii, lowercase_is}
-use Rattle.odata_text.specs.Identifier.{IsIdentifier, begins_identifier, continues_identifier, is_identifier}
-use Rattle.odata_text.specs.Spelling.{IsWordSpelling, dotted_parts}
+use Rattle.odata_text.proofs.Common.{◌≡◌, ⊎_elim, ℕ, suc, ◌<◌, ◌≤◌, true, List, [], ◌∷◌, ◌++◌, map, length, get_or, chars, IsUtf8, arith, refl, sym, ◌∙◌, ap, append-nil, to_ascii_lowercase, list_all, all_scalars, encode_utf8_all, str_to_ascii_lowercase, scalar, encode, and_from, and_parts, cases_lt, nat_tests, encodes-chars, scalars-chars, IsIdentifier, begins_identifier, continues_identifier, is_identifier, IsWordSpelling, dotted_parts}
 use Rattle.odata_text.proofs.characters.IdentifierBytes.{begins-ascii, continues-ascii, is_first_byte, is_name_byte}
 
 -- Characters.

@@ -1,10 +1,6 @@
 -- Enumeration literals without the spaces round their pieces.
-use Rattle.std.proofs.Common.{◌≡◌, ⊎_elim, ℕ, suc, ◌<◌, ◌==◌, ◌||◌, ◌&&◌, Bool, true, false, cond, List, [], ◌∷◌, ◌++◌, length, get_or, arith, refl, sym, ◌∙◌, ap, subst}
-use Rattle.std.proofs.lemmas.Bool.{and_left, and_parts, both_ways, cases_Bool, cond-false, cond-true, eqb-true, ne_eqb}
-use Rattle.edm_values.specs.StringLiteral.{IsStringSpelling, with_doubled_quotes}
-use Rattle.odata_text.specs.LiteralSpelling.{enumeration_spelling, is_piece_end, trimmed_pieces}
-use Rattle.odata_text.specs.Sequence.{FollowedBy}
-use Rattle.odata_text.specs.Spelling.{IsDottedWord}
+use Rattle.odata_text.proofs.Common.{◌≡◌, ⊎_elim, ℕ, suc, ◌<◌, ◌==◌, ◌||◌, ◌&&◌, Bool, true, false, cond, List, [], ◌∷◌, ◌++◌, length, get_or, arith, refl, sym, ◌∙◌, ap, subst, and_left, and_parts, both_ways, cases_Bool, cond-false, cond-true, eqb-true, ne_eqb, IsStringSpelling, with_doubled_quotes, enumeration_spelling, FollowedBy, IsDottedWord}
+use Rattle.odata_text.specs.LiteralSpelling.{is_piece_end, trimmed_pieces}
 use Rattle.odata_text.proofs.spellings.Parts.{no_quote-word}
 
 -- What is left is spelled as a text in quotes.

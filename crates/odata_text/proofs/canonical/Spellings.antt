@@ -1,20 +1,14 @@
 -- A literal has one canonical spelling, which is spelled as it is and is its own.
-use Rattle.std.proofs.Common.{◌≡◌, inl, inr, ℕ, ◌+◌, ◌-◌, ◌*◌, ◌<◌, ℤ, All, List, [], ◌∷◌, length, FitsSigned, arith, refl, sym, ◌∙◌, ap, subst}
-use Rattle.std.specs.Char.{digit_value}
+use Rattle.std.proofs.Common.{ℤ, FitsSigned}
 use Rattle.std.specs.Int.{w64}
-use Rattle.std.specs.Str.{str_to_ascii_lowercase}
-use Rattle.std.specs.Str.Parse.{AllDigits}
 use Rattle.std.proofs.lemmas.Int.{ints}
-use Rattle.std.proofs.lemmas.List.Elements.{All-cons}
 use Rattle.std.proofs.lemmas.Str.Ascii.{lowercase-lowercase}
-use Rattle.edm_values.specs.GuidLiteral.{GuidValue, guid_spelling, hex_bytes}
-use Rattle.edm_values.specs.IntLiteral.{IntValue, IsIntSpelling, int_spelling}
-use Rattle.edm_values.specs.MomentLiteral.{IsMomentSpelling, MomentValue, OffsetValue, moment_spelling}
+use Rattle.odata_text.proofs.Common.{◌≡◌, inl, inr, ℕ, ◌+◌, ◌-◌, ◌*◌, ◌<◌, All, List, [], ◌∷◌, length, arith, refl, sym, ◌∙◌, ap, subst, digit_value, str_to_ascii_lowercase, AllDigits, All-cons, hex_bytes, IsIntSpelling, IsMomentSpelling, enumeration_spelling, Spells, TokenKind, Word, Int, Moment, Guid, EnumLit}
+use Rattle.edm_values.specs.GuidLiteral.{GuidValue, guid_spelling}
+use Rattle.edm_values.specs.IntLiteral.{IntValue, int_spelling}
+use Rattle.edm_values.specs.MomentLiteral.{MomentValue, OffsetValue, moment_spelling}
 use Rattle.edm_values.specs.MomentParts.{MomentParts, IsMoment, IsOffset}
-use Rattle.odata_text.specs.LiteralSpelling.{IsLiteralSpelling, IsSpellingOf, IsSpellingOfValue, enumeration_spelling}
-use Rattle.odata_text.specs.Spelling.{Spells}
-use Rattle.odata_text.specs.declared.token.TokenKind.{TokenKind}
-use Rattle.odata_text.specs.declared.token.TokenKind.TheVariants.{Word, Int, Moment, Guid, EnumLit}
+use Rattle.odata_text.specs.LiteralSpelling.{IsLiteralSpelling, IsSpellingOf, IsSpellingOfValue}
 use Rattle.odata_text.proofs.canonical.LowerCase.{lowered-word}
 use Rattle.odata_text.proofs.canonical.Pieces.{enumeration-again, trimmed-enumeration}
 

@@ -1,8 +1,5 @@
 -- Which bytes are of a class.
-use Rattle.std.proofs.Common.{◌≡◌, ◌⊎◌, ℕ, ◌≤◌, arith}
-use Rattle.std.proofs.lemmas.Bool.Decides.{nat_tests}
-use Rattle.odata_text.specs.ByteClass.{class_of}
-use Rattle.odata_text.specs.declared.byte_class.ByteClass.TheVariants.{Space, Other}
+use Rattle.odata_text.proofs.Common.{◌≡◌, ◌⊎◌, ℕ, ◌≤◌, arith, nat_tests, class_of, Space, Other}
 
 -- a byte past ASCII is neither a quote nor white space
 pub class_of-non_ascii : (b : ℕ) → 128 ≤ b → class_of b ≡ Other

@@ -1,19 +1,15 @@
 -- Which ASCII bytes an identifier has.
-use Rattle.std.proofs.Common.{◌≡◌, ⊎_elim, ℕ, ◌<◌, ◌≤◌, nat_le, ◌||◌, ◌&&◌, ◌==◌, Bool, true, false, not, cond, List, [], ◌∷◌, length, get_or, arith, refl, sym, ◌∙◌, ap, chars}
-use Rattle.std.specs.Char.{is_ascii, is_ascii_alphabetic, is_ascii_alphanumeric}
+use Rattle.std.specs.Char.{is_ascii_alphanumeric}
 use Rattle.std.specs.Bool.{beq}
-use Rattle.std.specs.List.{list_all, take_while}
-use Rattle.std.specs.Str.{IsAscii, NonePass, encode_utf8_all}
-use Rattle.std.proofs.lemmas.Bool.Decides.{nat_tests}
-use Rattle.std.proofs.lemmas.Bool.{and_from, and_parts, both_ways, cases_lt, not-false, or_left, or_right}
-use Rattle.std.proofs.lemmas.List.Sums.{take_while-cons}
-use Rattle.std.proofs.lemmas.Str.{IsUtf8-from_ascii, NoCharPasses-byte, char_from_byte, chars-IsAscii, chars-nil, encodes-chars}
-use Rattle.std.proofs.lemmas.Str.Ascii.{IsAscii-cons, IsAscii-nil}
+use Rattle.std.specs.Str.{IsAscii, NonePass}
+use Rattle.std.proofs.lemmas.Bool.{not-false, or_right}
+use Rattle.std.proofs.lemmas.Str.{NoCharPasses-byte, char_from_byte}
 use Rattle.unicode.specs.GeneralCategory.{general_category}
 use Rattle.unicode.proofs.Facts.{Stepped-below, same_from_beq}
 use Rattle.unicode.proofs.CategoryComputing.{ucd_category}
 use Rattle.unicode.proofs.GeneralCategoryLemmas.{general_category_stepped}
-use Rattle.odata_text.specs.Identifier.{IsIdentifier, begins_identifier, continues_identifier, identifier_run, is_following, is_identifier, is_leading}
+use Rattle.odata_text.proofs.Common.{◌≡◌, ⊎_elim, ℕ, ◌<◌, ◌≤◌, nat_le, ◌||◌, ◌&&◌, ◌==◌, Bool, true, false, not, cond, List, [], ◌∷◌, length, get_or, arith, refl, sym, ◌∙◌, ap, chars, is_ascii, is_ascii_alphabetic, list_all, take_while, encode_utf8_all, nat_tests, and_from, and_parts, both_ways, cases_lt, or_left, take_while-cons, IsUtf8-from_ascii, chars-IsAscii, chars-nil, encodes-chars, IsAscii-cons, IsAscii-nil, IsIdentifier, begins_identifier, continues_identifier, identifier_run, is_identifier}
+use Rattle.odata_text.specs.Identifier.{is_following, is_leading}
 use Rattle.odata_text.proofs.characters.Identifiers.{all-from_identifier}
 
 -- letters and `_`

@@ -1,17 +1,9 @@
 -- What the functions that measure identifiers rest on.
-use Rattle.std.proofs.Common.{◌≡◌, ⊎_elim, ℕ, ◌+◌, ◌<◌, ◌≤◌, ◌==◌, true, false, List, [], ◌∷◌, ◌++◌, length, take, drop, get_or, map, arith, refl, sym, ◌∙◌, ap, subst, append-nil, map-id, take-append-drop, IsUtf8, IsCharBoundary, chars}
-use Rattle.std.specs.List.{list_all, take_while}
-use Rattle.std.specs.Char.{len_utf8}
-use Rattle.std.specs.Str.{encode_utf8_all, all_scalars}
-use Rattle.std.proofs.lemmas.Bool.{both_ways, and_parts, and_from, cases_Bool, cases_eq, cond-true, cond-false, eq-eqb, ne_eqb, or_left, false_from_ne_true}
-use Rattle.std.proofs.lemmas.List.{drop_more, length-append, length-take-le}
-use Rattle.std.proofs.Math.Seq.{take-append_seam, take-length}
+use Rattle.std.proofs.lemmas.Bool.{eq-eqb}
+use Rattle.std.proofs.Math.Seq.{take-append_seam}
 use Rattle.std.proofs.lemmas.List.Folds.{list_all-append}
-use Rattle.std.proofs.lemmas.List.Sums.{take_while-cons}
-use Rattle.std.proofs.Math.Utf8.{scalar, encode}
-use Rattle.std.proofs.lemmas.Str.{chars-nil, chars-append, chars-encodes, encodes-append, encodes-chars, scalars-chars, length-encode, IsCharBoundary-at_seam, IsCharBoundary-from_take}
-use Rattle.odata_text.specs.Identifier.{IsIdentifier, begins_identifier, continues_identifier, identifier_run, is_identifier}
-use Rattle.odata_text.specs.private.Lengths.{IsReach}
+use Rattle.std.proofs.lemmas.Str.{chars-encodes, encodes-append, length-encode, IsCharBoundary-at_seam}
+use Rattle.odata_text.proofs.Common.{◌≡◌, ⊎_elim, ℕ, ◌+◌, ◌<◌, ◌≤◌, ◌==◌, true, false, List, [], ◌∷◌, ◌++◌, length, take, drop, get_or, map, arith, refl, sym, ◌∙◌, ap, subst, append-nil, map-id, take-append-drop, IsUtf8, IsCharBoundary, chars, list_all, take_while, len_utf8, encode_utf8_all, all_scalars, both_ways, and_parts, and_from, cases_Bool, cases_eq, cond-true, cond-false, ne_eqb, or_left, false_from_ne_true, drop_more, length-append, length-take-le, take-length, take_while-cons, scalar, encode, chars-nil, chars-append, encodes-chars, scalars-chars, IsCharBoundary-from_take, IsIdentifier, begins_identifier, continues_identifier, identifier_run, is_identifier, IsReach}
 
 -- Lists of characters.
 

@@ -1,20 +1,6 @@
 -- What follows from where the machine ends: bytes have one form, and which piece is the longest.
-use Rattle.std.proofs.Common.{◌≡◌, ◌⊎◌, inl, inr, ⊎_elim, ℕ, ◌+◌, ◌<◌, ◌≤◌, ◌==◌, not, true, List, [], ◌∷◌, ◌++◌, length, get_or, take, drop, Some, None, arith, refl, sym, ◌∙◌, ap, subst, take-append-drop}
-use Rattle.std.specs.Prelude.{fold}
-use Rattle.std.proofs.lemmas.Bool.{and_parts, cases_lt, false≢true}
-use Rattle.std.proofs.lemmas.Bool.Decides.{nat_tests}
-use Rattle.std.proofs.lemmas.List.{drop_more, take-take}
-use Rattle.std.proofs.lemmas.List.Sums.{fold-append, fold_more}
-use Rattle.odata_text.specs.ByteClass.{class_of}
-use Rattle.odata_text.specs.Printing.{MayFollow, is_separator, may_follow}
-use Rattle.odata_text.specs.Spelling.{IsFormed, Spells}
-use Rattle.odata_text.specs.Tokens.{IsLongest}
-use Rattle.odata_text.specs.declared.byte_class.ByteClass.TheVariants.{Space}
-use Rattle.odata_text.specs.declared.form.Form.{Form}
-use Rattle.odata_text.specs.declared.form.Form.TheVariants.{Token}
-use Rattle.odata_text.specs.declared.quoted.Quoted.TheVariants.{Before, Open as Opened, Closed, Over}
-use Rattle.odata_text.specs.declared.token.TokenKind.{TokenKind}
-use Rattle.odata_text.specs.declared.token.TokenKind.TheVariants.{Word, Dollar, Int, Date, Moment, Guid, Str, EnumLit, Minus}
+use Rattle.odata_text.proofs.Common.{◌≡◌, ◌⊎◌, inl, inr, ⊎_elim, ℕ, ◌+◌, ◌<◌, ◌≤◌, ◌==◌, not, true, List, [], ◌∷◌, ◌++◌, length, get_or, take, drop, Some, None, arith, refl, sym, ◌∙◌, ap, subst, take-append-drop, fold, and_parts, cases_lt, false≢true, nat_tests, drop_more, take-take, fold-append, fold_more, class_of, MayFollow, is_separator, may_follow, IsFormed, Spells, IsLongest, Space, Form, Token, Before, Closed, Over, TokenKind, Word, Dollar, Int, Date, Moment, Guid, Str, EnumLit, Minus}
+use Rattle.odata_text.specs.declared.quoted.Quoted.TheVariants.{Open as Opened}
 use Rattle.odata_text.proofs.characters.ByteClasses.{space-from_class}
 use Rattle.odata_text.proofs.machine.States.{State, Start, Stuck, Whole, Text, Sign, SignedDigits, Digits, TwoHyphens, Hexes, AheadColon, Name, Dotted, Dollared, Bare, Named, Qualified, APlain, ALetter, IsDead, enter, form_at, run, step}
 use Rattle.odata_text.proofs.machine.Runs.{reads}

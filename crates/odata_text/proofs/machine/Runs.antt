@@ -1,25 +1,9 @@
 -- Where the machine ends on a piece of each form.
-use Rattle.std.proofs.Common.{◌≡◌, ◌⊎◌, inl, inr, ⊎_elim, ℕ, min, ◌+◌, ◌<◌, ◌≤◌, ◌==◌, Bool, true, false, List, [], ◌∷◌, ◌++◌, length, get_or, drop, Some, suc, arith, refl, ◌∙◌, ap}
-use Rattle.std.specs.Prelude.{fold}
-use Rattle.std.specs.Char.{is_ascii_alphabetic}
-use Rattle.std.specs.List.{AllByRecursion as AllOf, list_all}
-use Rattle.std.proofs.lemmas.Bool.{and_parts, cases_lt, eqb-true, false≢true, or_cases}
-use Rattle.std.proofs.lemmas.Bool.Decides.{nat_tests}
-use Rattle.edm_values.specs.GuidLiteral.{IsGuidSpelling}
-use Rattle.edm_values.specs.IntLiteral.{IsIntSpelling}
-use Rattle.edm_values.specs.MomentLiteral.{IsMomentSpelling, IsOffsetSpelling, IsSecondsSpelling}
-use Rattle.edm_values.specs.StringLiteral.{IsStringSpelling, with_doubled_quotes}
-use Rattle.odata_text.specs.Identifier.{IsIdentifier}
-use Rattle.odata_text.specs.LeftOut.{IsDecimals, IsExponent, IsFraction}
-use Rattle.odata_text.specs.private.Patterns.{PassesTests, passes}
-use Rattle.odata_text.specs.Spelling.{IsFormed, IsLeftOutName, IsWordSpelling, dotted_parts}
-use Rattle.odata_text.specs.declared.byte_test.ByteTest.{ByteTest}
-use Rattle.odata_text.specs.declared.byte_test.ByteTest.TheVariants.{HexDigit, Hyphen, Sign as SignTest, TimeMark, OffsetMark}
-use Rattle.odata_text.specs.declared.form.Form.{Form}
-use Rattle.odata_text.specs.declared.form.Form.TheVariants.{Token, LeftOut}
-use Rattle.odata_text.specs.declared.form.LeftOutKind.TheVariants.{Number, TimeOfDay, Quoted}
-use Rattle.odata_text.specs.declared.quoted.Quoted.TheVariants.{Open as Opened, Closed}
-use Rattle.odata_text.specs.declared.token.TokenKind.TheVariants.{Word, Dollar, Int, Date, Moment, Guid, Str, EnumLit, Open, Close, Comma, Slash, Colon, Minus}
+use Rattle.std.specs.List.{AllByRecursion as AllOf}
+use Rattle.odata_text.proofs.Common.{◌≡◌, ◌⊎◌, inl, inr, ⊎_elim, ℕ, min, ◌+◌, ◌<◌, ◌≤◌, ◌==◌, Bool, true, false, List, [], ◌∷◌, ◌++◌, length, get_or, drop, Some, suc, arith, refl, ◌∙◌, ap, fold, is_ascii_alphabetic, list_all, and_parts, cases_lt, eqb-true, false≢true, or_cases, nat_tests, IsGuidSpelling, IsIntSpelling, IsMomentSpelling, IsOffsetSpelling, IsSecondsSpelling, IsStringSpelling, with_doubled_quotes, IsIdentifier, IsDecimals, IsExponent, IsFraction, PassesTests, passes, IsFormed, IsLeftOutName, IsWordSpelling, dotted_parts, ByteTest, HexDigit, Hyphen, TimeMark, OffsetMark, Form, Token, LeftOut, Number, TimeOfDay, Closed, Word, Dollar, Int, Date, Moment, Guid, Str, EnumLit, Open, Close, Comma, Slash, Colon, Minus}
+use Rattle.odata_text.specs.declared.byte_test.ByteTest.TheVariants.{Sign as SignTest}
+use Rattle.odata_text.specs.declared.form.LeftOutKind.TheVariants.{Quoted}
+use Rattle.odata_text.specs.declared.quoted.Quoted.TheVariants.{Open as Opened}
 use Rattle.odata_text.proofs.spellings.Decimals.{IsIntByte, int-byte}
 use Rattle.odata_text.proofs.spellings.Guids.{fits-guid, guid_pattern}
 use Rattle.odata_text.proofs.characters.IdentifierBytes.{identifier-nonempty, identifier-part, identifier-start, is_part_byte, is_word_start}

@@ -1,14 +1,7 @@
 -- A machine that reads the bytes of a piece from left to right: the state in which it ends tells the piece's form.
-use Rattle.std.proofs.Common.{ℕ, ◌==◌, ◌||◌, Bool, true, false, cond, List, Option, Some, None}
-use Rattle.std.specs.Prelude.{fold}
-use Rattle.std.specs.Char.{is_ascii_digit, is_ascii_hexdigit}
-use Rattle.odata_text.specs.declared.form.Form.{Form}
-use Rattle.odata_text.specs.declared.form.Form.TheVariants.{Token, LeftOut}
-use Rattle.odata_text.specs.declared.form.LeftOutKind.TheVariants.{Number, TimeOfDay, Quoted as LeftOutText}
-use Rattle.odata_text.specs.declared.quoted.Quoted.{Quoted}
-use Rattle.odata_text.specs.declared.quoted.Quoted.TheVariants.{Before, Open as Opened, Closed, Over}
-use Rattle.odata_text.specs.declared.token.TokenKind.{TokenKind}
-use Rattle.odata_text.specs.declared.token.TokenKind.TheVariants.{Word, Dollar, Int, Date, Moment, Guid, Str, EnumLit, Open, Close, Comma, Slash, Colon, Minus}
+use Rattle.odata_text.proofs.Common.{ℕ, ◌==◌, ◌||◌, Bool, true, false, cond, List, Option, Some, None, fold, is_ascii_digit, is_ascii_hexdigit, Form, Token, LeftOut, Number, TimeOfDay, Quoted, Before, Closed, Over, TokenKind, Word, Dollar, Int, Date, Moment, Guid, Str, EnumLit, Open, Close, Comma, Slash, Colon, Minus}
+use Rattle.odata_text.specs.declared.form.LeftOutKind.TheVariants.{Quoted as LeftOutText}
+use Rattle.odata_text.specs.declared.quoted.Quoted.TheVariants.{Open as Opened}
 use Rattle.odata_text.proofs.characters.IdentifierBytes.{is_part_byte}
 
 -- Bytes.

@@ -1,19 +1,8 @@
 -- Single steps of the machine.
-use Rattle.std.proofs.Common.{◌≡◌, ◌⊎◌, inl, inr, ⊎_elim, ℕ, ◌<◌, ◌≤◌, ◌==◌, ◌||◌, Bool, true, false, List, [], ◌∷◌, ◌++◌, length, get_or, map, suc, arith, refl, sym, ◌∙◌, ap}
-use Rattle.std.specs.Prelude.{fold}
-use Rattle.std.specs.Char.{is_ascii_digit, is_ascii_hexdigit}
-use Rattle.std.specs.List.{list_all}
-use Rattle.std.specs.Str.Parse.{IsNumeral}
-use Rattle.std.proofs.lemmas.Bool.{and_parts, cases_Bool, cond_both, cond-true, cond-false, eqb-true, false≢true, or_cases}
-use Rattle.std.proofs.lemmas.Bool.Decides.{nat_tests}
-use Rattle.std.proofs.lemmas.List.Sums.{fold-append}
-use Rattle.std.proofs.lemmas.Str.Parse.{digit_at}
-use Rattle.odata_text.specs.private.Lengths.{quoted_after}
-use Rattle.odata_text.specs.private.Patterns.{PassesTests, passes}
-use Rattle.odata_text.specs.declared.byte_test.ByteTest.{ByteTest}
-use Rattle.odata_text.specs.declared.byte_test.ByteTest.TheVariants.{Digit, HexDigit, Hyphen, Colon, Dot, Sign, TimeMark, OffsetMark, ExponentMark}
-use Rattle.odata_text.specs.declared.quoted.Quoted.{Quoted}
-use Rattle.odata_text.specs.declared.quoted.Quoted.TheVariants.{Before, Open, Closed, Over}
+use Rattle.std.proofs.lemmas.Bool.{cond_both}
+use Rattle.odata_text.proofs.Common.{◌≡◌, ◌⊎◌, inl, inr, ⊎_elim, ℕ, ◌<◌, ◌≤◌, ◌==◌, ◌||◌, Bool, true, false, List, [], ◌∷◌, ◌++◌, length, get_or, map, suc, arith, refl, sym, ◌∙◌, ap, fold, is_ascii_digit, is_ascii_hexdigit, list_all, IsNumeral, and_parts, cases_Bool, cond-true, cond-false, eqb-true, false≢true, or_cases, nat_tests, fold-append, digit_at, quoted_after, PassesTests, passes, ByteTest, Digit, HexDigit, Hyphen, Dot, Sign, TimeMark, OffsetMark, ExponentMark, Quoted, Before, Closed, Over}
+use Rattle.odata_text.specs.declared.byte_test.ByteTest.TheVariants.{Colon}
+use Rattle.odata_text.specs.declared.quoted.Quoted.TheVariants.{Open}
 use Rattle.odata_text.specs.declared.token.TokenKind.TheVariants.{Colon as ColonToken}
 use Rattle.odata_text.proofs.characters.IdentifierBytes.{is_part_byte, is_word_start}
 use Rattle.odata_text.proofs.machine.States.{Letter, AnE, AHexLetter, ATime, AZulu, APlain, Sort, ADigit, ALetter, ADot, AHyphen, AMark, AnyOther, State, Start, Name, Lead, Text, enter, is_quote, letter_of, quoted_by, sort_of, step}

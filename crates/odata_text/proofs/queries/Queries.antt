@@ -1,14 +1,8 @@
 -- What the definition of a query's filter and faults says of itself.
-use Rattle.std.proofs.Common.{◌≡◌, inl, inr, ◌⊎◌, ℕ, ◌+◌, ◌<◌, ◌≤◌, Bool, true, cond, List, [], length, take, get_or, Option, Some, None, arith, refl, sym, ◌∙◌, ap, subst}
-use Rattle.std.specs.List.{count_by}
-use Rattle.std.proofs.lemmas.Bool.{both_ways, cases_order, cond-true}
-use Rattle.std.proofs.lemmas.List.{get_or-take, length-take-le, get_or_default, take-take}
-use Rattle.std.proofs.lemmas.List.Sums.{get_or-le-sum_by, sum_by_more_le}
-use Rattle.std.proofs.Math.Seq.{take-length}
-use Rattle.percent_encoding.specs.Percent.{percent_decode}
-use Rattle.odata_text.specs.Query.{AreFaultless, HasFilter, IsFilterOf, IsFirstBadEscape, IsNameFault, IsNoText, IsOptionFault, IsPartFault, IsQueryFault, IsReadable, IsDecodable, decoded_name, is_filter, is_filter_name, is_refused_name, name_of, option_start, options_of, value_of}
-use Rattle.odata_text.specs.declared.query_fault.QueryFault.{QueryFault}
-use Rattle.odata_text.specs.declared.query_fault.QueryFault.TheVariants.{BadEscape, NotUtf8, Repeated, OtherOption}
+use Rattle.std.proofs.lemmas.List.Sums.{get_or-le-sum_by}
+use Rattle.odata_text.proofs.Common.{◌≡◌, inl, inr, ◌⊎◌, ℕ, ◌+◌, ◌<◌, ◌≤◌, Bool, true, cond, List, [], length, take, get_or, Option, Some, None, arith, refl, sym, ◌∙◌, ap, subst, count_by, both_ways, cases_order, cond-true, get_or-take, length-take-le, get_or_default, take-take, sum_by_more_le, take-length, percent_decode, AreFaultless, HasFilter, IsFilterOf, IsOptionFault, IsQueryFault, IsReadable, IsDecodable, is_filter, is_filter_name, name_of, option_start, options_of, value_of, QueryFault, Repeated, OtherOption}
+use Rattle.odata_text.specs.Query.{IsFirstBadEscape, IsNameFault, IsNoText, IsPartFault, decoded_name, is_refused_name}
+use Rattle.odata_text.specs.declared.query_fault.QueryFault.TheVariants.{BadEscape, NotUtf8}
 
 -- Lists.
 

@@ -1,21 +1,14 @@
 -- What the functions that read a query's options rest on.
-use Rattle.std.proofs.Common.{◌≡◌, inr, ⊎_elim, ℕ, ◌+◌, ◌<◌, ◌≤◌, ◌==◌, true, false, not, List, [], ◌∷◌, length, take, get_or, Option, Some, None, All, arith, refl, sym, ◌∙◌, ap, subst}
 use Rattle.std.specs.Iterator.{Yields}
-use Rattle.std.specs.List.{count_by, onto_first, position_or_len, slice_split, sum_by}
-use Rattle.std.proofs.lemmas.Bool.{both_ways, and_left, cases_lt, cases_Bool}
+use Rattle.std.specs.List.{onto_first, position_or_len, slice_split, sum_by}
 use Rattle.std.proofs.lemmas.Iterator.{YieldsList}
-use Rattle.std.proofs.lemmas.Iterator.Consumers.{YieldsList-end, YieldsList-turn}
-use Rattle.std.proofs.lemmas.List.{get_or_default, get_or_past, get_or-take, length-drop, length-take-le, take_more}
+use Rattle.std.proofs.lemmas.List.{get_or_past, take_more}
 use Rattle.std.proofs.lemmas.List.Elements.{All-push}
 use Rattle.std.proofs.lemmas.List.Quantifiers.{Any-push}
 use Rattle.std.proofs.lemmas.List.Splits.{length-slice_split, slice_split-cons_yes, slice_split-cons_no}
-use Rattle.std.proofs.lemmas.List.Sums.{count_by_more_yes, count_by_more_no, prefix_len-le-length, sum_by-cons, sum_by_more, sum_by_more_le}
-use Rattle.std.proofs.Math.Seq.{take-length}
-use Rattle.percent_encoding.specs.Percent.{percent_decode}
-use Rattle.odata_text.specs.Query.{AreFaultless, HasFilter, IsFilterOf, IsOptionFault, IsQueryFault, IsReadable, is_bad_escape, is_filter, name_of, option_start, options_of, value_of}
+use Rattle.std.proofs.lemmas.List.Sums.{count_by_more_yes, count_by_more_no, sum_by-cons, sum_by_more}
+use Rattle.odata_text.proofs.Common.{◌≡◌, inr, ⊎_elim, ℕ, ◌+◌, ◌<◌, ◌≤◌, ◌==◌, true, false, not, List, [], ◌∷◌, length, take, get_or, Option, Some, None, All, arith, refl, sym, ◌∙◌, ap, subst, count_by, both_ways, and_left, cases_lt, cases_Bool, YieldsList-end, YieldsList-turn, get_or_default, get_or-take, length-drop, length-take-le, prefix_len-le-length, sum_by_more_le, take-length, percent_decode, AreFaultless, HasFilter, IsFilterOf, IsOptionFault, IsQueryFault, IsReadable, is_bad_escape, is_filter, name_of, option_start, options_of, value_of, QueryFault, Repeated}
 use Rattle.odata_text.specs.private.QueryParts.{AreTwoFilters, IsFirstBad, KeepsFilter, GivesFilter}
-use Rattle.odata_text.specs.declared.query_fault.QueryFault.{QueryFault}
-use Rattle.odata_text.specs.declared.query_fault.QueryFault.TheVariants.{Repeated}
 use Rattle.odata_text.proofs.queries.Queries.{filter-counted}
 
 -- Escapes.

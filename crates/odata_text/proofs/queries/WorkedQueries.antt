@@ -1,14 +1,8 @@
 -- Queries whose filter or first fault is known.
-use Rattle.std.proofs.Common.{◌≡◌, inr, ⊎_elim, ℕ, true, false, List, [], codes, length, Some, arith, refl}
-use Rattle.std.specs.Char.{is_ascii}
-use Rattle.std.specs.List.{list_all}
-use Rattle.std.proofs.lemmas.Bool.{agree_below, agree_below_at, cases_lt}
-use Rattle.std.proofs.lemmas.List.Elements.{All-cons, All-nil}
-use Rattle.std.proofs.lemmas.Str.{IsUtf8-from_ascii}
-use Rattle.percent_encoding.specs.Percent.{percent_decode}
-use Rattle.odata_text.specs.Query.{IsDecodable, IsFilterOf, IsQueryFault, IsReadable, is_bad_escape, is_filter_name, is_refused_word, name_of, value_of}
+use Rattle.std.proofs.lemmas.Bool.{agree_below, agree_below_at}
+use Rattle.odata_text.proofs.Common.{◌≡◌, inr, ⊎_elim, ℕ, true, false, List, [], codes, length, Some, arith, refl, is_ascii, list_all, cases_lt, All-cons, All-nil, IsUtf8-from_ascii, percent_decode, IsDecodable, IsFilterOf, IsQueryFault, IsReadable, is_bad_escape, is_filter_name, name_of, value_of, OtherOption}
+use Rattle.odata_text.specs.Query.{is_refused_word}
 use Rattle.odata_text.specs.QueryExamples.{escaped_filter, escaped_query, paged_query}
-use Rattle.odata_text.specs.declared.query_fault.QueryFault.TheVariants.{OtherOption}
 use Rattle.odata_text.proofs.characters.IdentifierBytes.{all-ascii}
 use Rattle.odata_text.proofs.queries.QueryLoops.{outside-good}
 

@@ -1,24 +1,6 @@
 -- Texts whose tokens or first fault are known.
-use Rattle.std.proofs.Common.{◌≡◌, ℕ, nat_lt, Bool, true, List, [], ◌∷◌, codes, pos, inl, inr, arith, refl, sym}
-use Rattle.std.specs.Prelude.{All}
-use Rattle.std.specs.Char.{digit_value}
-use Rattle.std.specs.List.{list_all}
-use Rattle.std.specs.Str.Parse.{AllDigits}
-use Rattle.std.proofs.lemmas.Bool.{and_parts, ltb-true}
-use Rattle.std.proofs.lemmas.List.Elements.{All-cons, All-nil}
-use Rattle.edm_values.specs.GuidLiteral.{hex_bytes}
-use Rattle.edm_values.specs.IntLiteral.{IsIntSpelling}
-use Rattle.odata_text.specs.ByteClass.{class_of}
-use Rattle.odata_text.specs.Printing.{ArePrintable, Print}
-use Rattle.odata_text.specs.Spelling.{IsFormed, Spells}
-use Rattle.odata_text.specs.TokenExamples.{enumeration_filter, enumeration_tokens, fraction_filter, guid_filter, guid_tokens, moment_filter, moment_tokens, plain_filter, plain_tokens, run_on_filter}
-use Rattle.odata_text.specs.Tokens.{IsFaultBehind, IsGap, IsTokenList}
-use Rattle.odata_text.specs.declared.byte_class.ByteClass.TheVariants.{Space}
-use Rattle.odata_text.specs.declared.fault.TextFault.TheVariants.{LeftOutLiteral, RunOn}
-use Rattle.odata_text.specs.declared.form.Form.TheVariants.{Token, LeftOut}
-use Rattle.odata_text.specs.declared.form.LeftOutKind.TheVariants.{Number}
-use Rattle.odata_text.specs.declared.token.TokenKind.{TokenKind}
-use Rattle.odata_text.specs.declared.token.TokenKind.TheVariants.{Word, Int, Moment, Guid, Str, EnumLit}
+use Rattle.odata_text.proofs.Common.{◌≡◌, ℕ, nat_lt, Bool, true, List, [], ◌∷◌, codes, pos, inl, inr, arith, refl, sym, All, digit_value, list_all, AllDigits, and_parts, ltb-true, All-cons, All-nil, hex_bytes, IsIntSpelling, class_of, ArePrintable, Print, IsFormed, Spells, fraction_filter, run_on_filter, IsFaultBehind, IsGap, IsTokenList, Space, LeftOutLiteral, RunOn, Token, LeftOut, Number, TokenKind, Word, Int, Moment, Guid, Str, EnumLit}
+use Rattle.odata_text.specs.TokenExamples.{enumeration_filter, enumeration_tokens, guid_filter, guid_tokens, moment_filter, moment_tokens, plain_filter, plain_tokens}
 use Rattle.odata_text.proofs.characters.IdentifierBytes.{ascii-identifier, is_ascii_name, run-ascii}
 use Rattle.odata_text.proofs.readings.Places.{run_on}
 use Rattle.odata_text.proofs.readings.Prints.{prints-list}

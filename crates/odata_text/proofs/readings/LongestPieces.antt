@@ -1,16 +1,10 @@
 -- The longest piece at the front of a text, from the length of the longest spelling of each form.
-use Rattle.std.proofs.Common.{◌≡◌, ℕ, min, ◌<◌, ◌≤◌, List, [], ◌∷◌, length, get_or, take, map, arith, sym, ◌∙◌, ap, subst, refl}
-use Rattle.std.specs.List.{All, AllByRecursion as AllOf, Contains, zip}
-use Rattle.std.proofs.lemmas.List.{get_or-map, length-map, length-take, take_min}
+use Rattle.std.specs.List.{AllByRecursion as AllOf, zip}
+use Rattle.std.proofs.lemmas.List.{length-take, take_min}
 use Rattle.std.proofs.lemmas.List.Elements.{All-contains, All-from_recursion}
 use Rattle.std.proofs.lemmas.Map.Made.{keys_of-zip}
-use Rattle.odata_text.specs.private.Lengths.{IsReach}
-use Rattle.odata_text.specs.Spelling.{IsFormed}
-use Rattle.odata_text.specs.Tokens.{IsLongest, NoneSpelled}
-use Rattle.odata_text.specs.declared.form.Form.{Form}
-use Rattle.odata_text.specs.declared.form.Form.TheVariants.{Token, LeftOut}
-use Rattle.odata_text.specs.declared.form.LeftOutKind.TheVariants.{Number, TimeOfDay, Quoted}
-use Rattle.odata_text.specs.declared.token.TokenKind.TheVariants.{Word, Dollar, Int, Date, Moment, Guid, Str, EnumLit, Open, Close, Comma, Slash, Colon, Minus}
+use Rattle.odata_text.proofs.Common.{◌≡◌, ℕ, min, ◌<◌, ◌≤◌, List, [], ◌∷◌, length, get_or, take, map, arith, sym, ◌∙◌, ap, subst, refl, All, Contains, get_or-map, length-map, IsReach, IsFormed, IsLongest, NoneSpelled, Form, Token, LeftOut, Number, TimeOfDay, Word, Dollar, Int, Date, Moment, Guid, Str, EnumLit, Open, Close, Comma, Slash, Colon, Minus}
+use Rattle.odata_text.specs.declared.form.LeftOutKind.TheVariants.{Quoted}
 use Rattle.odata_text.proofs.machine.Longest.{formed-some}
 
 -- all forms

@@ -1,22 +1,12 @@
 -- A text has at most one token list or first fault, and never both.
-use Rattle.std.proofs.Common.{◌≡◌, inl, inr, ⊎_elim, ℕ, suc, ◌+◌, ◌-◌, ◌<◌, ◌≤◌, ◌&&◌, nat_lt, cond, chars, append-nil, List, [], ◌∷◌, ◌++◌, length, get_or, take, drop, Option, Some, None, arith, refl, sym, ◌∙◌, ap, subst, add-zero}
-use Rattle.std.specs.Prelude.{slice_range, encode_utf8}
-use Rattle.std.specs.Char.{len_utf8}
-use Rattle.std.proofs.lemmas.Bool.{and_from, and_parts, cases_order, cond-false, cond-true, false_from_ne_true, lt-ltb, ltb-true}
-use Rattle.std.proofs.lemmas.List.{get_or-drop, get_or-take, length-drop, length-take-le, take-append-drop}
-use Rattle.std.proofs.lemmas.Str.{chars-append, chars-nil, chars_past_char, IsUtf8-encode}
-use Rattle.odata_text.specs.ByteClass.{class_of}
-use Rattle.odata_text.specs.TokenModel.{TokenModel}
-use Rattle.odata_text.specs.TokenSequence.{AreTokensOf}
-use Rattle.odata_text.specs.Identifier.{identifier_run}
-use Rattle.odata_text.specs.Spelling.{IsFormed}
-use Rattle.odata_text.specs.Tokens.{AreTokensFrom, IsBadCharacter, IsFaultAt, IsFaultBehind, IsGap, IsLongest, IsLongestToken, IsRunOn, IsTextFault, IsTokenAt, IsTokenList, NoneSpelled, end_of, is_undelimited, token_limit}
+use Rattle.std.specs.Prelude.{encode_utf8}
+use Rattle.std.proofs.lemmas.Bool.{lt-ltb}
+use Rattle.std.proofs.lemmas.Str.{IsUtf8-encode}
+use Rattle.odata_text.proofs.Common.{◌≡◌, inl, inr, ⊎_elim, ℕ, suc, ◌+◌, ◌-◌, ◌<◌, ◌≤◌, ◌&&◌, nat_lt, cond, chars, append-nil, List, [], ◌∷◌, ◌++◌, length, get_or, take, drop, Option, Some, None, arith, refl, sym, ◌∙◌, ap, subst, add-zero, slice_range, len_utf8, and_from, and_parts, cases_order, cond-false, cond-true, false_from_ne_true, ltb-true, get_or-drop, get_or-take, length-drop, length-take-le, take-append-drop, chars-append, chars-nil, chars_past_char, class_of, TokenModel, AreTokensOf, identifier_run, IsFormed, AreTokensFrom, IsFaultAt, IsFaultBehind, IsGap, IsLongest, IsRunOn, IsTokenAt, IsTokenList, NoneSpelled, end_of, is_undelimited, token_limit, Space, Other, TextFault, LeftOutLiteral, RunOn, TooLong, Memory, Form, Token, LeftOut}
+use Rattle.odata_text.specs.Tokens.{IsBadCharacter, IsLongestToken, IsTextFault}
 use Rattle.odata_text.specs.declared.byte_class.ByteClass.{ByteClass}
-use Rattle.odata_text.specs.declared.byte_class.ByteClass.TheVariants.{Quote, Space, Other}
-use Rattle.odata_text.specs.declared.fault.TextFault.{TextFault}
-use Rattle.odata_text.specs.declared.fault.TextFault.TheVariants.{BadCharacter, UnclosedString, LeftOutLiteral, RunOn, TooLong, Memory}
-use Rattle.odata_text.specs.declared.form.Form.{Form}
-use Rattle.odata_text.specs.declared.form.Form.TheVariants.{Token, LeftOut}
+use Rattle.odata_text.specs.declared.byte_class.ByteClass.TheVariants.{Quote}
+use Rattle.odata_text.specs.declared.fault.TextFault.TheVariants.{BadCharacter, UnclosedString}
 use Rattle.odata_text.specs.declared.span.Span.{Span}
 use Rattle.odata_text.proofs.machine.Longest.{formed-some, same_form, solid-start}
 

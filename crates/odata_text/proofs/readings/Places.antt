@@ -1,21 +1,8 @@
 -- Places in a text: where pieces end, and what stands behind them.
-use Rattle.std.proofs.Common.{◌≡◌, ◌⊎◌, inl, inr, ⊎_elim, ℕ, ◌+◌, ◌-◌, ◌<◌, ◌≤◌, true, List, [], ◌∷◌, ◌++◌, length, get_or, take, drop, IsUtf8, arith, refl, sym, ◌∙◌, ap, subst}
-use Rattle.std.specs.Prelude.{IsCharBoundary, slice_range}
 use Rattle.std.specs.List.{AllByRecursion as AllOf}
-use Rattle.std.proofs.lemmas.Bool.{cases_lt}
-use Rattle.std.proofs.lemmas.List.{get_or-drop, length-take-le, length-drop}
-use Rattle.std.proofs.lemmas.List.Sums.{fold_more}
-use Rattle.std.proofs.lemmas.Str.{IsCharBoundary-after_ascii, IsCharBoundary-from_take, IsUtf8-append, IsUtf8-drop, IsUtf8-from_ascii}
-use Rattle.std.proofs.lemmas.Str.Ascii.{IsAscii-cons, IsAscii-nil}
-use Rattle.odata_text.specs.Identifier.{IsIdentifier, identifier_run}
-use Rattle.odata_text.specs.Sequence.{FollowedBy}
-use Rattle.odata_text.specs.Spelling.{IsByte, IsWordSpelling, Spells, dotted_parts}
-use Rattle.odata_text.specs.Tokens.{IsGap, IsLeftOutLiteral, IsLongest, IsRunOn, is_undelimited}
-use Rattle.odata_text.specs.declared.byte_class.ByteClass.TheVariants.{Space, Other}
-use Rattle.odata_text.specs.declared.token.TokenKind.{TokenKind}
-use Rattle.odata_text.specs.declared.token.TokenKind.TheVariants.{Word, Dollar}
-use Rattle.odata_text.specs.declared.form.Form.{Form}
-use Rattle.odata_text.specs.declared.form.Form.TheVariants.{Token, LeftOut}
+use Rattle.std.proofs.lemmas.Str.{IsUtf8-append}
+use Rattle.odata_text.proofs.Common.{◌≡◌, ◌⊎◌, inl, inr, ⊎_elim, ℕ, ◌+◌, ◌-◌, ◌<◌, ◌≤◌, true, List, [], ◌∷◌, ◌++◌, length, get_or, take, drop, IsUtf8, arith, refl, sym, ◌∙◌, ap, subst, IsCharBoundary, slice_range, cases_lt, get_or-drop, length-take-le, length-drop, fold_more, IsCharBoundary-after_ascii, IsCharBoundary-from_take, IsUtf8-drop, IsUtf8-from_ascii, IsAscii-cons, IsAscii-nil, IsIdentifier, identifier_run, FollowedBy, IsByte, IsWordSpelling, Spells, dotted_parts, IsGap, IsLongest, IsRunOn, is_undelimited, Space, Other, TokenKind, Word, Dollar, Form, Token, LeftOut}
+use Rattle.odata_text.specs.Tokens.{IsLeftOutLiteral}
 use Rattle.odata_text.specs.declared.form.LeftOutKind.{LeftOutKind}
 use Rattle.odata_text.proofs.characters.ByteClasses.{class_of-non_ascii}
 use Rattle.odata_text.proofs.spellings.Words.{boundary-shift}

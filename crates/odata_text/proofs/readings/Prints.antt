@@ -1,26 +1,8 @@
 -- Tokens that are printed one after another are read back.
-use Rattle.std.proofs.Common.{◌≡◌, ℕ, ◌+◌, ◌-◌, ◌<◌, ◌≤◌, ◌==◌, not, true, false, List, [], ◌∷◌, ◌++◌, suc, length, get_or, take, drop, chars, arith, refl, sym, ◌∙◌, ap, subst, length-append, append_assoc, append-nil}
-use Rattle.std.specs.Prelude.{All}
-use Rattle.std.specs.List.{take_while}
-use Rattle.std.specs.Str.{encode_utf8_all}
-use Rattle.std.proofs.Math.ListN.{get_or-append}
-use Rattle.std.proofs.Math.Seq.{drop-append_seam, get_or-append_right}
-use Rattle.std.proofs.lemmas.Bool.{and_parts, cond-false, false≢true}
-use Rattle.std.proofs.lemmas.Bool.Decides.{nat_tests}
-use Rattle.std.proofs.lemmas.List.{take_at}
-use Rattle.std.proofs.lemmas.List.Sums.{take_while-cons}
-use Rattle.std.proofs.lemmas.Str.{chars-append, chars-IsAscii, chars-nil, IsUtf8-from_ascii}
-use Rattle.std.proofs.lemmas.Str.Ascii.{IsAscii-cons, IsAscii-nil}
-use Rattle.odata_text.specs.ByteClass.{class_of}
-use Rattle.odata_text.specs.Identifier.{continues_identifier, identifier_run}
-use Rattle.odata_text.specs.TokenSequence.{AreTokensOf}
-use Rattle.odata_text.specs.Printing.{ArePrintable, MayFollow, Print, is_separator, may_follow, print_tokens, print_text}
-use Rattle.odata_text.specs.Spelling.{Spells}
-use Rattle.odata_text.specs.Tokens.{AreTokensFrom, IsGap, IsLongest, IsTokenAt, IsTokenList, RunsOn, end_of, is_undelimited, text_limit, token_limit}
-use Rattle.odata_text.specs.declared.byte_class.ByteClass.TheVariants.{Space}
-use Rattle.odata_text.specs.declared.form.Form.TheVariants.{Token}
-use Rattle.odata_text.specs.declared.token.TokenKind.{TokenKind}
-use Rattle.odata_text.specs.declared.token.TokenKind.TheVariants.{Int, Open, Close, Comma, Slash, Colon}
+use Rattle.std.proofs.Math.Seq.{drop-append_seam}
+use Rattle.odata_text.proofs.Common.{◌≡◌, ℕ, ◌+◌, ◌-◌, ◌<◌, ◌≤◌, ◌==◌, not, true, false, List, [], ◌∷◌, ◌++◌, suc, length, get_or, take, drop, chars, arith, refl, sym, ◌∙◌, ap, subst, length-append, append_assoc, append-nil, All, take_while, encode_utf8_all, get_or-append, get_or-append_right, and_parts, cond-false, false≢true, nat_tests, take_at, take_while-cons, chars-append, chars-IsAscii, chars-nil, IsUtf8-from_ascii, IsAscii-cons, IsAscii-nil, class_of, continues_identifier, identifier_run, AreTokensOf, ArePrintable, MayFollow, Print, is_separator, may_follow, Spells, AreTokensFrom, IsGap, IsLongest, IsTokenAt, IsTokenList, end_of, is_undelimited, text_limit, token_limit, Space, Token, TokenKind, Int, Open, Close, Comma, Slash, Colon}
+use Rattle.odata_text.specs.Printing.{print_tokens, print_text}
+use Rattle.odata_text.specs.Tokens.{RunsOn}
 use Rattle.odata_text.proofs.characters.IdentifierBytes.{continues-ascii, is_name_byte}
 use Rattle.odata_text.proofs.machine.Longest.{longest-before}
 

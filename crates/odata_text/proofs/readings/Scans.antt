@@ -1,14 +1,6 @@
 -- How far the tokens of a text have been read.
-use Rattle.std.proofs.Common.{◌≡◌, ℕ, ◌-◌, ◌<◌, ◌≤◌, List, [], ◌∷◌, ◌++◌, length, get_or, drop, IsUtf8, arith, refl, sym, ◌∙◌, ap, subst}
-use Rattle.std.specs.Prelude.{IsCharBoundary}
-use Rattle.std.proofs.lemmas.List.{length-map, length-take-le, length-drop, length_push, map_push}
-use Rattle.std.proofs.lemmas.Str.{IsCharBoundary-start}
-use Rattle.odata_text.specs.ByteClass.{class_of}
-use Rattle.odata_text.specs.TokenModel.{TokenModel, token_model, token_models}
-use Rattle.odata_text.specs.Tokens.{AreTokensFrom, IsFaultAt, IsFaultBehind, IsGap, IsTokenAt, IsTokenList, end_of, text_limit, token_limit}
-use Rattle.odata_text.specs.declared.byte_class.ByteClass.TheVariants.{Space}
-use Rattle.odata_text.specs.declared.fault.TextFault.{TextFault}
-use Rattle.odata_text.specs.declared.fault.TextFault.TheVariants.{TooLong}
+use Rattle.std.proofs.lemmas.List.{length_push, map_push}
+use Rattle.odata_text.proofs.Common.{◌≡◌, ℕ, ◌-◌, ◌<◌, ◌≤◌, List, [], ◌∷◌, ◌++◌, length, get_or, drop, IsUtf8, arith, refl, sym, ◌∙◌, ap, subst, IsCharBoundary, length-map, length-take-le, length-drop, IsCharBoundary-start, class_of, TokenModel, token_model, token_models, AreTokensFrom, IsFaultAt, IsFaultBehind, IsGap, IsTokenAt, IsTokenList, end_of, text_limit, token_limit, Space, TextFault, TooLong}
 use Rattle.odata_text.specs.declared.token.Token.{Token}
 use Rattle.odata_text.specs.declared.form.Form.TheVariants.{Token as IsToken}
 use Rattle.odata_text.proofs.machine.Longest.{formed-some}

@@ -1,11 +1,6 @@
 -- The tokens of a text are spelled by their kinds, in order.
-use Rattle.std.proofs.Common.{ℕ, ◌-◌, ◌≤◌, List, [], ◌∷◌, length, take, drop, arith, sym, subst}
-use Rattle.std.proofs.lemmas.List.{length-take-le}
-use Rattle.odata_text.specs.Spelling.{Spells}
-use Rattle.odata_text.specs.TokenModel.{TokenModel}
+use Rattle.odata_text.proofs.Common.{ℕ, ◌-◌, ◌≤◌, List, [], ◌∷◌, length, take, drop, arith, sym, subst, length-take-le, Spells, TokenModel, AreTokensFrom, IsGap, IsTokenAt, IsTokenList, end_of, Token}
 use Rattle.odata_text.specs.TokenSequence.{AreTextTokens, IsTextToken}
-use Rattle.odata_text.specs.Tokens.{AreTokensFrom, IsGap, IsTokenAt, IsTokenList, end_of}
-use Rattle.odata_text.specs.declared.form.Form.TheVariants.{Token}
 use Rattle.odata_text.proofs.machine.Longest.{formed-some}
 
 text_token : (text : List ℕ) (from : ℕ) (token : TokenModel) → from ≤ token.start → IsTokenAt text token → IsTextToken from token

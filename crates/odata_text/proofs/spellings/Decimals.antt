@@ -1,14 +1,5 @@
 -- Fractions, exponents and numbers with either at the front of a text.
-use Rattle.std.proofs.Common.{◌≡◌, ◌⊎◌, inl, inr, ⊎_elim, ℕ, zero, suc, ◌<◌, ◌≤◌, true, List, [], ◌∷◌, length, get_or, arith, refl, sym, ◌∙◌, ap, subst, length-append}
-use Rattle.std.specs.Str.Parse.{IsNumeral}
-use Rattle.std.proofs.Math.ListN.{get_or-append}
-use Rattle.std.proofs.lemmas.Bool.Decides.{nat_tests}
-use Rattle.std.proofs.lemmas.Str.Parse.{digit_at}
-use Rattle.edm_values.specs.IntLiteral.{IsIntSpelling}
-use Rattle.odata_text.specs.LeftOut.{IsDecimals, IsExponent, IsFraction}
-use Rattle.odata_text.specs.private.Patterns.{PassesTests, passes}
-use Rattle.odata_text.specs.Sequence.{FollowedBy}
-use Rattle.odata_text.specs.declared.byte_test.ByteTest.TheVariants.{Dot, ExponentMark}
+use Rattle.odata_text.proofs.Common.{◌≡◌, ◌⊎◌, inl, inr, ⊎_elim, ℕ, zero, suc, ◌<◌, ◌≤◌, true, List, [], ◌∷◌, length, get_or, arith, refl, sym, ◌∙◌, ap, subst, length-append, IsNumeral, get_or-append, nat_tests, digit_at, IsIntSpelling, IsDecimals, IsExponent, IsFraction, PassesTests, passes, FollowedBy, Dot, ExponentMark}
 use Rattle.odata_text.proofs.spellings.Patterns.{fits-exact, fits-nonempty, marked-from_pair, pair-from_marked}
 use Rattle.odata_text.proofs.spellings.Reaches.{numeral-none}
 use Rattle.odata_text.proofs.spellings.Sequences.{ArePieces, exact-by_byte}

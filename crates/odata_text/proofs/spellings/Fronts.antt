@@ -1,10 +1,6 @@
 -- One byte in front of a text, what is left behind a front, and the longer of two spellings.
-use Rattle.std.proofs.Common.{◌≡◌, ◌⊎◌, inl, inr, ⊎_elim, ℕ, ◌+◌, ◌-◌, ◌<◌, max, List, [], length, get_or, take, drop, IsUtf8, IsCharBoundary, arith, sym, ◌∙◌, ap, subst}
-use Rattle.std.proofs.lemmas.Bool.{cases_lt}
-use Rattle.std.proofs.lemmas.List.{get_or-take, length-take-le, take_rest}
-use Rattle.std.proofs.lemmas.Str.{IsCharBoundary-after_ascii}
-use Rattle.odata_text.specs.private.Lengths.{IsReach}
-use Rattle.odata_text.specs.Spelling.{IsByte}
+use Rattle.std.proofs.Common.{max}
+use Rattle.odata_text.proofs.Common.{◌≡◌, ◌⊎◌, inl, inr, ⊎_elim, ℕ, ◌+◌, ◌-◌, ◌<◌, List, [], length, get_or, take, drop, IsUtf8, IsCharBoundary, arith, sym, ◌∙◌, ap, subst, cases_lt, get_or-take, length-take-le, take_rest, IsCharBoundary-after_ascii, IsReach, IsByte}
 use Rattle.odata_text.proofs.spellings.Sequences.{IsExact, exact-by_length}
 
 -- what is left of a text behind its first bytes

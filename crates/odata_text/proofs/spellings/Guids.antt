@@ -1,15 +1,6 @@
 -- Guids as a pattern of bytes.
-use Rattle.std.proofs.Common.{◌≡◌, ℕ, zero, suc, ◌+◌, ◌<◌, true, List, [], ◌∷◌, ◌++◌, length, take, drop, arith, refl, sym, ◌∙◌, ap, subst, length-append, length-drop}
-use Rattle.std.specs.Char.{digit_value, is_ascii_hexdigit}
-use Rattle.std.specs.Str.Parse.{AllDigits}
-use Rattle.std.proofs.lemmas.Bool.{eqb-true}
-use Rattle.std.proofs.lemmas.Bool.Decides.{nat_tests}
-use Rattle.std.proofs.lemmas.List.{drop_at, length-take-le, take_at}
-use Rattle.edm_values.specs.GuidLiteral.{IsGuidSpelling, digit_groups, hex_bytes}
-use Rattle.odata_text.specs.private.Patterns.{PassesTests}
-use Rattle.odata_text.specs.Sequence.{FollowedBy}
-use Rattle.odata_text.specs.declared.byte_test.ByteTest.{ByteTest}
-use Rattle.odata_text.specs.declared.byte_test.ByteTest.TheVariants.{HexDigit, Hyphen}
+use Rattle.odata_text.proofs.Common.{◌≡◌, ℕ, zero, suc, ◌+◌, ◌<◌, true, List, [], ◌∷◌, ◌++◌, length, take, drop, arith, refl, sym, ◌∙◌, ap, subst, length-append, length-drop, digit_value, is_ascii_hexdigit, AllDigits, eqb-true, nat_tests, drop_at, length-take-le, take_at, IsGuidSpelling, hex_bytes, PassesTests, FollowedBy, ByteTest, HexDigit, Hyphen}
+use Rattle.edm_values.specs.GuidLiteral.{digit_groups}
 
 -- 8-4-4-4-12 digits
 abbrev pub guid_pattern : List ByteTest

@@ -1,14 +1,6 @@
 -- Names in any case of their letters.
-use Rattle.std.proofs.Common.{◌≡◌, inl, inr, ℕ, ◌<◌, ◌≤◌, ◌&&◌, nat_le, Bool, true, List, length, get_or, take, codes, arith, refl, sym, ◌∙◌, ap, subst}
-use Rattle.std.specs.Char.{is_ascii_alphabetic, to_ascii_lowercase}
-use Rattle.std.specs.List.{prefix_len}
-use Rattle.std.specs.Str.{str_to_ascii_lowercase}
-use Rattle.std.proofs.lemmas.Bool.Decides.{nat_tests}
-use Rattle.std.proofs.lemmas.List.{get_or-map, length-map, length-take-le}
-use Rattle.std.proofs.lemmas.List.Sums.{prefix_len_passes}
 use Rattle.std.proofs.lemmas.Slice.Eq.{bytes_eq-Decides}
-use Rattle.odata_text.specs.private.Lengths.{IsReach}
-use Rattle.odata_text.specs.Spelling.{IsLeftOutName, IsNamed}
+use Rattle.odata_text.proofs.Common.{◌≡◌, inl, inr, ℕ, ◌<◌, ◌≤◌, ◌&&◌, nat_le, Bool, true, List, length, get_or, take, codes, arith, refl, sym, ◌∙◌, ap, subst, is_ascii_alphabetic, to_ascii_lowercase, prefix_len, str_to_ascii_lowercase, nat_tests, get_or-map, length-map, length-take-le, prefix_len_passes, IsReach, IsLeftOutName, IsNamed}
 
 same-lowered : (name xs : List ℕ) → IsNamed name xs → str_to_ascii_lowercase xs ≡ str_to_ascii_lowercase name
 same-lowered name xs named = (bytes_eq-Decides (str_to_ascii_lowercase xs) (str_to_ascii_lowercase name)).0 named

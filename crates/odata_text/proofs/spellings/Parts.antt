@@ -1,11 +1,6 @@
 -- What the parts of pieces that are made of two begin with, and which bytes they do not have.
-use Rattle.std.proofs.Common.{◌≡◌, ℕ, zero, suc, ◌<◌, List, [], ◌∷◌, length, get_or, arith, refl, sym, ◌∙◌, ap, subst, length-append}
-use Rattle.std.specs.Char.{is_ascii_alphabetic}
 use Rattle.std.specs.List.{AllByRecursion as AllOf}
-use Rattle.std.proofs.lemmas.Bool.{both_ways}
-use Rattle.edm_values.specs.StringLiteral.{IsStringSpelling}
-use Rattle.odata_text.specs.Identifier.{IsIdentifier}
-use Rattle.odata_text.specs.Spelling.{IsByte, IsDottedWord, IsLeftOutName, dotted_parts}
+use Rattle.odata_text.proofs.Common.{◌≡◌, ℕ, zero, suc, ◌<◌, List, [], ◌∷◌, length, get_or, arith, refl, sym, ◌∙◌, ap, subst, length-append, is_ascii_alphabetic, both_ways, IsStringSpelling, IsIdentifier, IsByte, IsDottedWord, IsLeftOutName, dotted_parts}
 use Rattle.odata_text.proofs.characters.IdentifierBytes.{identifier-nonempty, identifier-part, is_part_byte}
 use Rattle.odata_text.proofs.spellings.Fronts.{byte-exact, byte-none}
 use Rattle.odata_text.proofs.spellings.Names.{left_out-letters}

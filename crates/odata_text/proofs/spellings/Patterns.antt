@@ -1,11 +1,5 @@
 -- Patterns of bytes.
-use Rattle.std.proofs.Common.{◌≡◌, ℕ, zero, suc, ◌<◌, ◌≤◌, true, false, List, [], ◌∷◌, ◌++◌, length, get_or, take, arith, refl, sym, ◌∙◌, ap}
-use Rattle.std.proofs.lemmas.Bool.{both_ways}
-use Rattle.std.proofs.lemmas.List.{get_or-take, length-take-le}
-use Rattle.odata_text.specs.private.Lengths.{IsReach}
-use Rattle.odata_text.specs.private.Patterns.{PassesTests, passes}
-use Rattle.odata_text.specs.Sequence.{FollowedBy}
-use Rattle.odata_text.specs.declared.byte_test.ByteTest.{ByteTest}
+use Rattle.odata_text.proofs.Common.{◌≡◌, ℕ, zero, suc, ◌<◌, ◌≤◌, true, false, List, [], ◌∷◌, ◌++◌, length, get_or, take, arith, refl, sym, ◌∙◌, ap, both_ways, get_or-take, length-take-le, IsReach, PassesTests, passes, FollowedBy, ByteTest}
 use Rattle.odata_text.proofs.spellings.Sequences.{IsExact, exact-by_length}
 
 pub fits-length : (tests : List ByteTest) (bytes : List ℕ) → PassesTests tests bytes → length bytes ≡ length tests

@@ -1,14 +1,8 @@
 -- Texts between quotes, read byte by byte.
-use Rattle.std.proofs.Common.{◌≡◌, inl, inr, ⊎_elim, ℕ, ◌+◌, ◌<◌, ◌≤◌, ◌==◌, true, false, List, [], ◌∷◌, ◌++◌, length, get_or, take, drop, arith, refl, sym, ◌∙◌, ap}
-use Rattle.std.specs.Prelude.{fold}
-use Rattle.std.proofs.lemmas.Bool.{cases_lt, cond-true, cond-false}
 use Rattle.std.proofs.lemmas.Bool.Decides.{eqb_tells}
-use Rattle.std.proofs.lemmas.List.{take-append-drop, take-take}
-use Rattle.std.proofs.lemmas.List.Sums.{fold-append, fold_more}
-use Rattle.odata_text.specs.private.Lengths.{IsReach, quoted_after, quoted_of}
-use Rattle.edm_values.specs.StringLiteral.{with_doubled_quotes, IsStringSpelling}
-use Rattle.odata_text.specs.declared.quoted.Quoted.{Quoted}
-use Rattle.odata_text.specs.declared.quoted.Quoted.TheVariants.{Before, Open, Closed, Over}
+use Rattle.odata_text.proofs.Common.{◌≡◌, inl, inr, ⊎_elim, ℕ, ◌+◌, ◌<◌, ◌≤◌, ◌==◌, true, false, List, [], ◌∷◌, ◌++◌, length, get_or, take, drop, arith, refl, sym, ◌∙◌, ap, fold, cases_lt, cond-true, cond-false, take-append-drop, take-take, fold-append, fold_more, IsReach, quoted_after, with_doubled_quotes, IsStringSpelling, Quoted, Before, Closed, Over}
+use Rattle.odata_text.specs.private.Lengths.{quoted_of}
+use Rattle.odata_text.specs.declared.quoted.Quoted.TheVariants.{Open}
 
 -- one byte more
 open-quote : (b : ℕ) → (b == 39) ≡ true → quoted_after Open b ≡ Closed

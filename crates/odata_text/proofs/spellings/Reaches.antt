@@ -1,19 +1,10 @@
 -- The lengths of digits and whole numbers at the front of a text.
-use Rattle.std.proofs.Common.{◌≡◌, ◌⊎◌, inl, inr, ⊎_elim, ℕ, ◌<◌, ◌≤◌, ◌==◌, Bool, true, pos, neg_ℤ, List, [], ◌∷◌, length, get_or, take, arith, refl, sym, ◌∙◌, ap, subst}
-use Rattle.std.specs.Char.{is_ascii_digit}
+use Rattle.std.proofs.Common.{neg_ℤ}
 use Rattle.std.specs.Int.{IsInRange}
-use Rattle.std.specs.List.{prefix_len}
-use Rattle.std.specs.Str.Parse.{IsNumeral, digits_value}
-use Rattle.std.proofs.lemmas.Bool.{both_ways, cases_lt, eqb-true, or_cases}
-use Rattle.std.proofs.lemmas.Bool.Decides.{nat_tests}
-use Rattle.std.proofs.lemmas.List.{get_or-take, length-take-le}
-use Rattle.std.proofs.lemmas.List.Sums.{prefix_len-le-length, prefix_len_passes, prefix_len_stops}
-use Rattle.std.proofs.lemmas.Str.Parse.{digit_at, numerals_by_value, tells_by_index}
-use Rattle.edm_values.specs.IntLiteral.{IsIntSpelling}
-use Rattle.odata_text.specs.Sequence.{FollowedBy}
-use Rattle.odata_text.specs.private.Lengths.{IsReach}
-use Rattle.odata_text.specs.private.Patterns.{PassesTests, passes}
-use Rattle.odata_text.specs.declared.byte_test.ByteTest.TheVariants.{Sign}
+use Rattle.std.specs.Str.Parse.{digits_value}
+use Rattle.std.proofs.lemmas.List.Sums.{prefix_len_stops}
+use Rattle.std.proofs.lemmas.Str.Parse.{numerals_by_value, tells_by_index}
+use Rattle.odata_text.proofs.Common.{◌≡◌, ◌⊎◌, inl, inr, ⊎_elim, ℕ, ◌<◌, ◌≤◌, ◌==◌, Bool, true, pos, List, [], ◌∷◌, length, get_or, take, arith, refl, sym, ◌∙◌, ap, subst, is_ascii_digit, prefix_len, IsNumeral, both_ways, cases_lt, eqb-true, or_cases, nat_tests, get_or-take, length-take-le, prefix_len-le-length, prefix_len_passes, digit_at, IsIntSpelling, FollowedBy, IsReach, PassesTests, passes, Sign}
 use Rattle.odata_text.proofs.spellings.Patterns.{fits-exact, fits-nonempty, marked-from_pair, pair-from_marked}
 use Rattle.odata_text.proofs.spellings.Sequences.{ArePieces}
 

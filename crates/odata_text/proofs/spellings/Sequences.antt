@@ -1,12 +1,7 @@
 -- The length of a piece that is made of two, from the lengths of these.
-use Rattle.std.proofs.Common.{◌≡◌, ◌⊎◌, inl, inr, ⊎_elim, ℕ, ◌+◌, ◌-◌, ◌<◌, ◌≤◌, List, [], ◌++◌, length, get_or, take, drop, arith, refl, sym, ◌∙◌, ap, subst, length-append, add-zero}
-use Rattle.std.proofs.Math.ListN.{get_or-append}
-use Rattle.std.proofs.Math.Seq.{get_or-append_right}
-use Rattle.std.proofs.lemmas.Bool.{cases_eq, cases_lt}
-use Rattle.std.proofs.lemmas.Bool.Decides.{nat_tests}
-use Rattle.std.proofs.lemmas.List.{take_at, drop_at, drop-take, take-take, take-append-drop, get_or-take, get_or-drop, length-take-le, length-drop}
-use Rattle.odata_text.specs.private.Lengths.{IsReach, both_length}
-use Rattle.odata_text.specs.Sequence.{FollowedBy}
+use Rattle.std.proofs.lemmas.List.{drop-take}
+use Rattle.odata_text.proofs.Common.{◌≡◌, ◌⊎◌, inl, inr, ⊎_elim, ℕ, ◌+◌, ◌-◌, ◌<◌, ◌≤◌, List, [], ◌++◌, length, get_or, take, drop, arith, refl, sym, ◌∙◌, ap, subst, length-append, add-zero, get_or-append, get_or-append_right, cases_eq, cases_lt, nat_tests, take_at, drop_at, take-take, take-append-drop, get_or-take, get_or-drop, length-take-le, length-drop, IsReach, FollowedBy}
+use Rattle.odata_text.specs.private.Lengths.{both_length}
 
 -- what holds of each byte of two pieces holds of each byte of both
 pub each-append : (P : ℕ → Type 0) (xs front back : List ℕ) → xs ≡ front ++ back → ((i : ℕ) → i < length front → P (get_or front i 0))

@@ -1,19 +1,11 @@
 -- Dates and times as patterns of bytes.
-use Rattle.std.proofs.Common.{◌≡◌, ◌⊎◌, inl, inr, ⊎_elim, ℕ, zero, suc, ◌+◌, ◌-◌, ◌*◌, ◌/◌, ◌%◌, ◌<◌, ◌≤◌, true, List, [], ◌∷◌, ◌++◌, length, get_or, take, drop, arith, refl, sym, ◌∙◌, ap, subst, append_assoc, length-append}
-use Rattle.std.specs.Char.{is_ascii_digit}
-use Rattle.std.specs.Str.Parse.{IsNumeral}
-use Rattle.std.proofs.lemmas.Bool.Decides.{nat_tests}
-use Rattle.std.proofs.lemmas.List.{length-take-le}
+use Rattle.std.proofs.Common.{◌/◌, ◌%◌}
 use Rattle.std.proofs.lemmas.Slice.Eq.{text_from_reads}
-use Rattle.std.proofs.lemmas.Str.Parse.{digit_at}
-use Rattle.edm_values.specs.DateLiteral.{IsDateSpelling, date_text, two_digits}
-use Rattle.edm_values.specs.MomentLiteral.{IsClockSpelling, IsMomentSpelling, IsOffsetSpelling, IsSecondsSpelling, clock_text}
-use Rattle.odata_text.specs.LeftOut.{IsFraction, IsTimeOfDaySpelling}
-use Rattle.odata_text.specs.private.Lengths.{IsReach}
-use Rattle.odata_text.specs.private.Patterns.{PassesTests, IsMarkedClock, IsTimed, IsZoned, passes}
-use Rattle.odata_text.specs.Sequence.{FollowedBy}
-use Rattle.odata_text.specs.declared.byte_test.ByteTest.{ByteTest}
-use Rattle.odata_text.specs.declared.byte_test.ByteTest.TheVariants.{Digit, Hyphen, Colon, Sign, TimeMark, OffsetMark}
+use Rattle.odata_text.proofs.Common.{◌≡◌, ◌⊎◌, inl, inr, ⊎_elim, ℕ, zero, suc, ◌+◌, ◌-◌, ◌*◌, ◌<◌, ◌≤◌, true, List, [], ◌∷◌, ◌++◌, length, get_or, take, drop, arith, refl, sym, ◌∙◌, ap, subst, append_assoc, length-append, is_ascii_digit, IsNumeral, nat_tests, length-take-le, digit_at, IsDateSpelling, IsMomentSpelling, IsOffsetSpelling, IsSecondsSpelling, IsFraction, IsReach, PassesTests, IsMarkedClock, IsTimed, IsZoned, passes, FollowedBy, ByteTest, Digit, Hyphen, Sign, TimeMark, OffsetMark}
+use Rattle.edm_values.specs.DateLiteral.{date_text, two_digits}
+use Rattle.edm_values.specs.MomentLiteral.{IsClockSpelling, clock_text}
+use Rattle.odata_text.specs.LeftOut.{IsTimeOfDaySpelling}
+use Rattle.odata_text.specs.declared.byte_test.ByteTest.TheVariants.{Colon}
 use Rattle.odata_text.proofs.spellings.Patterns.{fits-at, fits-exact, fits-length, fits-nonempty}
 use Rattle.odata_text.proofs.spellings.Reaches.{digit_range}
 use Rattle.odata_text.proofs.spellings.Sequences.{ArePieces, IsExact, Perhaps, exact-by_byte, exact-by_length, followed-both, followed-no_first, perhaps-found, perhaps-reach, reach-as}

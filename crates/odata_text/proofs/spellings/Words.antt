@@ -1,13 +1,8 @@
 -- Words, read identifier by identifier.
-use Rattle.std.proofs.Common.{◌≡◌, ◌⊎◌, inl, inr, ⊎_elim, ℕ, ◌+◌, ◌-◌, ◌<◌, ◌≤◌, List, [], ◌∷◌, ◌++◌, length, get_or, take, drop, IsUtf8, IsCharBoundary, arith, refl, sym, ◌∙◌, ap, subst, append_assoc, add-zero}
 use Rattle.std.specs.List.{AllByRecursion as AllOf}
-use Rattle.std.proofs.lemmas.Bool.{both_ways}
-use Rattle.std.proofs.lemmas.List.{drop-drop, get_or-drop, get_or-take, length-drop, length-take-le}
-use Rattle.std.proofs.lemmas.Str.{IsCharBoundary-from_drop, IsUtf8-drop}
-use Rattle.odata_text.specs.Identifier.{IsIdentifier}
-use Rattle.odata_text.specs.private.Lengths.{IsReach}
-use Rattle.odata_text.specs.Sequence.{FollowedBy}
-use Rattle.odata_text.specs.Spelling.{IsByte, IsDottedWord, IsWordSpelling, dotted_parts}
+use Rattle.std.proofs.lemmas.List.{drop-drop}
+use Rattle.std.proofs.lemmas.Str.{IsCharBoundary-from_drop}
+use Rattle.odata_text.proofs.Common.{◌≡◌, ◌⊎◌, inl, inr, ⊎_elim, ℕ, ◌+◌, ◌-◌, ◌<◌, ◌≤◌, List, [], ◌∷◌, ◌++◌, length, get_or, take, drop, IsUtf8, IsCharBoundary, arith, refl, sym, ◌∙◌, ap, subst, append_assoc, add-zero, both_ways, get_or-drop, get_or-take, length-drop, length-take-le, IsUtf8-drop, IsIdentifier, IsReach, FollowedBy, IsByte, IsDottedWord, IsWordSpelling, dotted_parts}
 use Rattle.odata_text.proofs.characters.IdentifierBytes.{identifier-byte, identifier-nonempty, is_name_byte}
 use Rattle.odata_text.proofs.spellings.Sequences.{exact-by_byte, pair-found, pair_at}
 

@@ -1,7 +1,5 @@
-use Rattle.std.proofs.Common.{◌≡◌, ℕ, ◌<◌, arith, true, get_or, sym, ◌∙◌}
 use borrow.Author.Count.{below_more}
-use Rattle.odata_text.specs.private.Patterns.{passes}
-use Rattle.odata_text.specs.declared.byte_test.ByteTest.TheVariants.{Digit}
+use Rattle.odata_text.proofs.Common.{◌≡◌, ℕ, ◌<◌, arith, true, get_or, sym, ◌∙◌, passes, Digit}
 use Rattle.odata_text.proofs.spellings.Patterns.{pattern-short, pattern-fails, pattern-stands}
 use Rattle.odata_text.proofs.byte_test.pattern_length.Goals as goal
 

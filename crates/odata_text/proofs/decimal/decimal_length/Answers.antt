@@ -1,6 +1,4 @@
-use Rattle.std.proofs.lemmas.List.{take_rest}
-use Rattle.edm_values.specs.IntLiteral.{IsIntSpelling}
-use Rattle.odata_text.specs.LeftOut.{IsDecimals}
+use Rattle.odata_text.proofs.Common.{take_rest, IsIntSpelling, IsDecimals}
 use Rattle.odata_text.proofs.spellings.Decimals.{int_decimals}
 use Rattle.odata_text.proofs.spellings.Sequences.{pair-reach}
 use Rattle.odata_text.proofs.decimal.decimal_length.Goals as goal

@@ -1,7 +1,4 @@
-use Rattle.std.proofs.Common.{◌⊎◌, ℕ, List}
-use Rattle.std.proofs.lemmas.List.{take_rest}
-use Rattle.odata_text.specs.LeftOut.{IsExponent, IsFraction}
-use Rattle.odata_text.specs.Sequence.{FollowedBy}
+use Rattle.odata_text.proofs.Common.{◌⊎◌, ℕ, List, take_rest, IsExponent, IsFraction, FollowedBy}
 use Rattle.odata_text.proofs.spellings.Decimals.{fraction_exponent}
 use Rattle.odata_text.proofs.spellings.Fronts.{reach-either}
 use Rattle.odata_text.proofs.spellings.Sequences.{pair-reach}

@@ -1,9 +1,4 @@
-use Rattle.std.proofs.Common.{[], ◌∷◌}
-use Rattle.std.proofs.lemmas.List.{take_rest}
-use Rattle.edm_values.specs.IntLiteral.{IsIntSpelling}
-use Rattle.odata_text.specs.LeftOut.{IsExponent}
-use Rattle.odata_text.specs.private.Patterns.{PassesTests}
-use Rattle.odata_text.specs.declared.byte_test.ByteTest.TheVariants.{ExponentMark}
+use Rattle.odata_text.proofs.Common.{[], ◌∷◌, take_rest, IsIntSpelling, IsExponent, PassesTests, ExponentMark}
 use Rattle.odata_text.proofs.spellings.Decimals.{ExponentPair, exponent-from_pair, exponent-pair, mark_power}
 use Rattle.odata_text.proofs.spellings.Sequences.{pair-reach, reach-as}
 use Rattle.odata_text.proofs.decimal.exponent_length.Goals as goal

@@ -1,9 +1,4 @@
-use Rattle.std.proofs.Common.{[], ◌∷◌}
-use Rattle.std.specs.Str.Parse.{IsNumeral}
-use Rattle.std.proofs.lemmas.List.{take_rest}
-use Rattle.odata_text.specs.LeftOut.{IsFraction}
-use Rattle.odata_text.specs.private.Patterns.{PassesTests}
-use Rattle.odata_text.specs.declared.byte_test.ByteTest.TheVariants.{Dot}
+use Rattle.odata_text.proofs.Common.{[], ◌∷◌, IsNumeral, take_rest, IsFraction, PassesTests, Dot}
 use Rattle.odata_text.proofs.spellings.Decimals.{FractionPair, dot_digits, fraction-from_pair, fraction-pair}
 use Rattle.odata_text.proofs.spellings.Reaches.{numeral-run}
 use Rattle.odata_text.proofs.spellings.Sequences.{pair-reach, reach-as}

@@ -1,5 +1,4 @@
-use Rattle.odata_text.specs.private.Patterns.{PassesTests}
-use Rattle.edm_values.specs.GuidLiteral.{IsGuidSpelling}
+use Rattle.odata_text.proofs.Common.{PassesTests, IsGuidSpelling}
 use Rattle.odata_text.proofs.spellings.Guids.{fits-guid, guid-fits, guid_pattern}
 use Rattle.odata_text.proofs.spellings.Sequences.{reach-as}
 use Rattle.odata_text.proofs.guid.guid_length.Goals as goal

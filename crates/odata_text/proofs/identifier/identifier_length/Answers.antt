@@ -1,6 +1,4 @@
-use Rattle.std.proofs.Common.{◌≤◌, length, sym, ◌∙◌}
-use Rattle.std.proofs.lemmas.Str.{chars_past_char, IsCharBoundary-start}
-use Rattle.odata_text.specs.Identifier.{identifier_run}
+use Rattle.odata_text.proofs.Common.{◌≤◌, length, sym, ◌∙◌, chars_past_char, IsCharBoundary-start, identifier_run}
 use Rattle.odata_text.proofs.characters.Identifiers.{reach-some, reach-none}
 use Rattle.odata_text.proofs.identifier.identifier_length.Goals as goal
 

@@ -1,6 +1,6 @@
-use Rattle.std.proofs.Common.{arith, sym, ◌∙◌, map-id}
 use Rattle.std.proofs.lemmas.Iterator.{YieldsList-from_chars}
-use Rattle.std.proofs.lemmas.Iterator.Consumers.{YieldsList-end, YieldsList-so_far, YieldsList-turn}
+use Rattle.std.proofs.lemmas.Iterator.Consumers.{YieldsList-so_far}
+use Rattle.odata_text.proofs.Common.{arith, sym, ◌∙◌, map-id, YieldsList-end, YieldsList-turn}
 use Rattle.odata_text.proofs.characters.Identifiers.{next-in, run-boundary, run-room, run-more, run-stops, run-whole, run-end}
 use Rattle.odata_text.proofs.identifier.identifier_run.Goals as goal
 

@@ -1,5 +1,5 @@
-use Rattle.std.proofs.Common.{arith, ◌∙◌}
 use Rattle.std.proofs.lemmas.Bool.{le-ltb}
+use Rattle.odata_text.proofs.Common.{arith, ◌∙◌}
 use Rattle.odata_text.proofs.characters.Identifiers.{reach-tells-none}
 use Rattle.odata_text.proofs.identifier.is_identifier.Goals as goal
 

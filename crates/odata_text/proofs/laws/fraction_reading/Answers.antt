@@ -1,6 +1,4 @@
-use Rattle.std.proofs.Common.{inr}
-use Rattle.odata_text.specs.TokenExamples.{fraction_filter}
-use Rattle.odata_text.specs.declared.fault.TextFault.TheVariants.{LeftOutLiteral}
+use Rattle.odata_text.proofs.Common.{inr, fraction_filter, LeftOutLiteral}
 use Rattle.odata_text.proofs.readings.Examples.{fraction_fault}
 use Rattle.odata_text.proofs.readings.OneReading.{no_list}
 use Rattle.odata_text.proofs.laws.fraction_reading.Goals as goal

@@ -1,6 +1,4 @@
-use Rattle.std.proofs.Common.{inr}
-use Rattle.odata_text.specs.TokenExamples.{run_on_filter}
-use Rattle.odata_text.specs.declared.fault.TextFault.TheVariants.{RunOn}
+use Rattle.odata_text.proofs.Common.{inr, run_on_filter, RunOn}
 use Rattle.odata_text.proofs.readings.Examples.{run_on_fault}
 use Rattle.odata_text.proofs.readings.OneReading.{no_list}
 use Rattle.odata_text.proofs.laws.run_on_reading.Goals as goal

@@ -1,6 +1,5 @@
-use Rattle.std.proofs.Common.{ℕ, ◌<◌, ◌≤◌, slice_index_or}
-use Rattle.std.specs.List.{Contains}
-use Rattle.odata_text.specs.declared.form.Form.{Form}
+use Rattle.std.proofs.Common.{slice_index_or}
+use Rattle.odata_text.proofs.Common.{ℕ, ◌<◌, ◌≤◌, Contains, Form}
 use Rattle.odata_text.proofs.longest.best_of.Given as goal
 
 abbrev pub invariant-loop-candidate : goal.invariant-loop-candidate

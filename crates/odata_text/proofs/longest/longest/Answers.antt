@@ -1,5 +1,4 @@
-use Rattle.std.proofs.Common.{ℕ, List, [], ◌∷◌, arith, refl, subst}
-use Rattle.odata_text.specs.private.Lengths.{IsReach}
+use Rattle.odata_text.proofs.Common.{ℕ, List, [], ◌∷◌, arith, refl, subst, IsReach}
 use Rattle.odata_text.proofs.readings.LongestPieces.{AreCandidates, are-candidates, longest-best, none-best}
 use Rattle.odata_text.proofs.longest.longest.Goals as goal
 

@@ -1,9 +1,4 @@
-use Rattle.std.proofs.Common.{[], ◌∷◌}
-use Rattle.std.specs.Str.Parse.{IsNumeral}
-use Rattle.std.proofs.lemmas.List.{take_rest}
-use Rattle.edm_values.specs.IntLiteral.{IsIntSpelling}
-use Rattle.odata_text.specs.private.Patterns.{PassesTests}
-use Rattle.odata_text.specs.declared.byte_test.ByteTest.TheVariants.{Sign}
+use Rattle.odata_text.proofs.Common.{[], ◌∷◌, IsNumeral, take_rest, IsIntSpelling, PassesTests, Sign}
 use Rattle.odata_text.proofs.spellings.Fronts.{reach-either}
 use Rattle.odata_text.proofs.spellings.Reaches.{IntParts, SignedPair, int-from_parts, numeral-run, parts-from_int, sign_digits}
 use Rattle.odata_text.proofs.spellings.Sequences.{pair-reach, reach-as}

@@ -1,5 +1,4 @@
-use Rattle.std.proofs.Common.{◌≡◌, length, arith, ap}
-use Rattle.odata_text.specs.Query.{name_of, value_of}
+use Rattle.odata_text.proofs.Common.{◌≡◌, length, arith, ap, name_of, value_of}
 use Rattle.odata_text.proofs.queries.QueryLoops.{name-room}
 use Rattle.odata_text.proofs.query.filter_of_option.Goals as goal
 

@@ -1,7 +1,6 @@
-use Rattle.std.proofs.Common.{◌≢◌, ◌+◌, ◌==◌, ◌∷◌, [], ℕ, arith, refl, sym, ◌∙◌, ap, subst, rules, tests}
+use Rattle.std.proofs.Common.{rules, tests}
 use Rattle.std.proofs.lemmas.Iterator.Splits.{YieldsList-from_slice_split}
-use Rattle.std.proofs.lemmas.List.{length-append}
-use Rattle.odata_text.specs.Query.{IsQueryFault}
+use Rattle.odata_text.proofs.Common.{◌≢◌, ◌+◌, ◌==◌, ◌∷◌, [], ℕ, arith, refl, sym, ◌∙◌, ap, subst, length-append, IsQueryFault}
 use Rattle.odata_text.specs.declared.query_fault.QueryFault.TheVariants.{Memory}
 use Rattle.odata_text.proofs.queries.Queries.{no_fault, one_filter}
 use Rattle.odata_text.proofs.queries.QueryLoops.{IsNext, all-given, next-given, read-all, read-fault, read-kept, read-room, read-two}

@@ -1,4 +1,5 @@
-use Rattle.std.proofs.Common.{◌≡◌, length, option_map, string_bytes}
+use Rattle.std.proofs.Common.{option_map, string_bytes}
+use Rattle.odata_text.proofs.Common.{◌≡◌, length}
 use Rattle.odata_text.proofs.queries.QueryLoops.{IsReadSoFar}
 use Rattle.odata_text.proofs.query.filter_of_query.Given as goal
 

@@ -1,4 +1,4 @@
-use Rattle.std.proofs.Common.{sym, ◌∙◌}
+use Rattle.odata_text.proofs.Common.{sym, ◌∙◌}
 use Rattle.odata_text.proofs.queries.QueryLoops.{good-more}
 use Rattle.odata_text.proofs.query_part.bad_escape.Goals as goal
 

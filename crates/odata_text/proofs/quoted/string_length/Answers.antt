@@ -1,4 +1,4 @@
-use Rattle.std.proofs.Common.{◌≡◌, ℕ, length, arith, subst}
+use Rattle.odata_text.proofs.Common.{◌≡◌, ℕ, length, arith, subst}
 use Rattle.odata_text.proofs.spellings.Quotes.{IsQuotedSoFar, quoted_so_far-over, quoted_so_far-end}
 use Rattle.odata_text.proofs.quoted.string_length.Goals as goal
 

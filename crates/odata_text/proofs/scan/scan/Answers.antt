@@ -1,8 +1,7 @@
-use Rattle.std.proofs.Common.{◌≡◌, ◌<◌, arith, length, is_ok, sym, ◌∙◌, ap}
+use Rattle.std.proofs.Common.{is_ok}
 use Rattle.std.proofs.ResultArms.{chosen}
 use Rattle.std.proofs.lemmas.Result.{err_from_is_err_and}
-use Rattle.odata_text.specs.TokenModel.{token_model, token_models}
-use Rattle.odata_text.specs.Tokens.{token_limit}
+use Rattle.odata_text.proofs.Common.{◌≡◌, ◌<◌, arith, length, sym, ◌∙◌, ap, token_model, token_models, token_limit}
 use Rattle.odata_text.proofs.readings.Scans.{IsInside-token, scanned-none, scanned-push, scanned-fault, scanned-too_many}
 use Rattle.odata_text.proofs.scan.scan.Goals as goal
 

@@ -1,5 +1,4 @@
-use Rattle.std.proofs.Common.{◌-◌, length}
-use Rattle.odata_text.specs.TokenModel.{token_models}
+use Rattle.odata_text.proofs.Common.{◌-◌, length, token_models}
 use Rattle.odata_text.proofs.readings.Scans.{IsScanned}
 use Rattle.odata_text.proofs.scan.scan.Given as goal
 

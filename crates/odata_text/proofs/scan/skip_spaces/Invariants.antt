@@ -1,5 +1,4 @@
-use Rattle.std.proofs.Common.{◌-◌, length}
-use Rattle.odata_text.specs.Tokens.{IsGap}
+use Rattle.odata_text.proofs.Common.{◌-◌, length, IsGap}
 use Rattle.odata_text.proofs.scan.skip_spaces.Given as goal
 
 abbrev pub invariant-loop-end : goal.invariant-loop-end

@@ -1,5 +1,4 @@
-use Rattle.std.proofs.Common.{arith, refl, sym, ◌∙◌, ap}
-use Rattle.odata_text.specs.Identifier.{identifier_run}
+use Rattle.odata_text.proofs.Common.{arith, refl, sym, ◌∙◌, ap, identifier_run}
 use Rattle.odata_text.proofs.readings.Places.{boundary-behind, left_out-literal, longest-token, run_on}
 use Rattle.odata_text.proofs.scan.token_at.Goals as goal
 

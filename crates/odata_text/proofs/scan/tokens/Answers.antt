@@ -1,8 +1,5 @@
-use Rattle.std.proofs.Common.{◌≡◌, ◌≢◌, inr, List}
 use Rattle.std.proofs.lemmas.Result.{IfErr-weaker, IfOk-weaker}
-use Rattle.odata_text.specs.TokenModel.{TokenModel, token_models}
-use Rattle.odata_text.specs.Tokens.{IsFaultBehind, IsTokenList}
-use Rattle.odata_text.specs.declared.fault.TextFault.TheVariants.{Memory}
+use Rattle.odata_text.proofs.Common.{◌≡◌, ◌≢◌, inr, List, TokenModel, token_models, IsFaultBehind, IsTokenList, Memory}
 use Rattle.odata_text.proofs.readings.OneReading.{no_list, one_list}
 use Rattle.odata_text.proofs.scan.tokens.Goals as goal
 

@@ -1,5 +1,4 @@
-use Rattle.edm_values.specs.DateLiteral.{IsDateSpelling}
-use Rattle.odata_text.specs.private.Patterns.{PassesTests}
+use Rattle.odata_text.proofs.Common.{IsDateSpelling, PassesTests}
 use Rattle.odata_text.proofs.spellings.Sequences.{reach-as}
 use Rattle.odata_text.proofs.spellings.Times.{date-fits, date_pattern, fits-date}
 use Rattle.odata_text.proofs.time.date_length.Goals as goal

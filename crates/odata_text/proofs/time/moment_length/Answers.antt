@@ -1,6 +1,4 @@
-use Rattle.std.proofs.lemmas.List.{take_rest}
-use Rattle.edm_values.specs.DateLiteral.{IsDateSpelling}
-use Rattle.odata_text.specs.private.Patterns.{IsTimed}
+use Rattle.odata_text.proofs.Common.{take_rest, IsDateSpelling, IsTimed}
 use Rattle.odata_text.proofs.spellings.Sequences.{pair-reach}
 use Rattle.odata_text.proofs.spellings.Times.{date_timed, moment-reach}
 use Rattle.odata_text.proofs.time.moment_length.Goals as goal

@@ -1,6 +1,4 @@
-use Rattle.std.proofs.Common.{[], ◌∷◌}
-use Rattle.odata_text.specs.private.Patterns.{PassesTests}
-use Rattle.odata_text.specs.declared.byte_test.ByteTest.TheVariants.{OffsetMark, Sign}
+use Rattle.odata_text.proofs.Common.{[], ◌∷◌, PassesTests, OffsetMark, Sign}
 use Rattle.odata_text.proofs.spellings.Fronts.{reach-either}
 use Rattle.odata_text.proofs.spellings.Times.{clock_pattern, offset-reach}
 use Rattle.odata_text.proofs.time.offset_length.Goals as goal

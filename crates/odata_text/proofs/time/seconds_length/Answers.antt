@@ -1,8 +1,5 @@
-use Rattle.std.proofs.Common.{◌<◌, [], ◌∷◌, arith}
-use Rattle.std.proofs.lemmas.List.{take_rest}
-use Rattle.odata_text.specs.LeftOut.{IsFraction}
-use Rattle.odata_text.specs.private.Patterns.{PassesTests}
-use Rattle.odata_text.specs.declared.byte_test.ByteTest.TheVariants.{Colon, Digit}
+use Rattle.odata_text.proofs.Common.{◌<◌, [], ◌∷◌, arith, take_rest, IsFraction, PassesTests, Digit}
+use Rattle.odata_text.specs.declared.byte_test.ByteTest.TheVariants.{Colon}
 use Rattle.odata_text.proofs.spellings.Patterns.{fits-nonempty}
 use Rattle.odata_text.proofs.spellings.Sequences.{Perhaps, followed-no_first}
 use Rattle.odata_text.proofs.spellings.Times.{seconds-by_parts, seconds-reach, seconds_pattern}

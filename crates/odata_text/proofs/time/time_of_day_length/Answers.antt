@@ -1,5 +1,4 @@
-use Rattle.std.proofs.Common.{◌<◌, arith}
-use Rattle.std.proofs.lemmas.List.{take_rest}
+use Rattle.odata_text.proofs.Common.{◌<◌, arith, take_rest}
 use Rattle.odata_text.proofs.spellings.Times.{time_of_day-by_parts, time_of_day-none}
 use Rattle.odata_text.proofs.time.time_of_day_length.Goals as goal
 

@@ -1,5 +1,4 @@
-use Rattle.std.proofs.lemmas.List.{take_rest}
-use Rattle.odata_text.specs.private.Patterns.{IsMarkedClock, IsZoned}
+use Rattle.odata_text.proofs.Common.{take_rest, IsMarkedClock, IsZoned}
 use Rattle.odata_text.proofs.spellings.Sequences.{pair-reach}
 use Rattle.odata_text.proofs.spellings.Times.{marked_zoned, marked-reach}
 use Rattle.odata_text.proofs.time.timed_length.Goals as goal

@@ -1,6 +1,4 @@
-use Rattle.std.proofs.Common.{◌<◌, arith}
-use Rattle.std.proofs.lemmas.List.{take_rest}
-use Rattle.edm_values.specs.MomentLiteral.{IsOffsetSpelling, IsSecondsSpelling}
+use Rattle.odata_text.proofs.Common.{◌<◌, arith, take_rest, IsOffsetSpelling, IsSecondsSpelling}
 use Rattle.odata_text.proofs.spellings.Sequences.{followed-no_second}
 use Rattle.odata_text.proofs.spellings.Times.{offset-none, seconds-exact, zoned-by_parts}
 use Rattle.odata_text.proofs.time.zoned_length.Goals as goal

@@ -1,6 +1,4 @@
-use Rattle.std.proofs.Common.{arith}
-use Rattle.odata_text.specs.Identifier.{IsIdentifier}
-use Rattle.odata_text.specs.Spelling.{IsByte}
+use Rattle.odata_text.proofs.Common.{arith, IsIdentifier, IsByte}
 use Rattle.odata_text.proofs.spellings.Fronts.{byte-boundary, on_text}
 use Rattle.odata_text.proofs.spellings.Parts.{mark_name}
 use Rattle.odata_text.proofs.spellings.Sequences.{pair-reach}

@@ -1,5 +1,4 @@
-use Rattle.edm_values.specs.StringLiteral.{IsStringSpelling}
-use Rattle.odata_text.specs.Spelling.{IsDottedWord}
+use Rattle.odata_text.proofs.Common.{IsStringSpelling, IsDottedWord}
 use Rattle.odata_text.proofs.spellings.Fronts.{left_of}
 use Rattle.odata_text.proofs.spellings.Parts.{word_text}
 use Rattle.odata_text.proofs.spellings.Sequences.{pair-reach}

@@ -1,5 +1,4 @@
-use Rattle.std.proofs.Common.{◌⊎◌, ℕ, List, codes}
-use Rattle.odata_text.specs.Spelling.{IsNamed}
+use Rattle.odata_text.proofs.Common.{◌⊎◌, ℕ, List, codes, IsNamed}
 use Rattle.odata_text.proofs.spellings.Fronts.{reach-either}
 use Rattle.odata_text.proofs.word.left_out_name_length.Goals as goal
 

@@ -1,5 +1,4 @@
-use Rattle.std.proofs.Common.{arith, sym, ◌∙◌}
-use Rattle.std.proofs.lemmas.Bool.{both_ways}
+use Rattle.odata_text.proofs.Common.{arith, sym, ◌∙◌, both_ways}
 use Rattle.odata_text.proofs.spellings.Names.{reach-named, reach-unnamed}
 use Rattle.odata_text.proofs.word.name_length.Goals as goal
 use Rattle.odata_text.proofs.word.name_length.Goals.{else-name-rest-via-then-name-rest+else-is_named, else-name-rest-via-else-name-rest}

@@ -1,6 +1,4 @@
-use Rattle.std.proofs.lemmas.List.{take_rest}
-use Rattle.edm_values.specs.StringLiteral.{IsStringSpelling}
-use Rattle.odata_text.specs.Spelling.{IsLeftOutName}
+use Rattle.odata_text.proofs.Common.{take_rest, IsStringSpelling, IsLeftOutName}
 use Rattle.odata_text.proofs.spellings.Parts.{name_text}
 use Rattle.odata_text.proofs.spellings.Sequences.{pair-reach}
 use Rattle.odata_text.proofs.word.quoted_length.Goals as goal

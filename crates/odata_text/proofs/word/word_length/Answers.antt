@@ -1,7 +1,4 @@
-use Rattle.std.proofs.Common.{◌≡◌, ℕ, List, get_or, IsUtf8, IsCharBoundary, arith, sym, ◌∙◌, ap, subst}
-use Rattle.std.proofs.lemmas.Str.{IsCharBoundary-after_ascii}
-use Rattle.odata_text.specs.Identifier.{IsIdentifier}
-use Rattle.odata_text.specs.private.Lengths.{IsReach}
+use Rattle.odata_text.proofs.Common.{◌≡◌, ℕ, List, get_or, IsUtf8, IsCharBoundary, arith, sym, ◌∙◌, ap, subst, IsCharBoundary-after_ascii, IsIdentifier, IsReach}
 use Rattle.odata_text.proofs.spellings.Words.{reach-no_word, word-dot, word-more, word-start}
 use Rattle.odata_text.proofs.word.word_length.Goals as goal
 

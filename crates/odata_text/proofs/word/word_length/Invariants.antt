@@ -1,5 +1,5 @@
-use Rattle.std.proofs.Common.{◌-◌}
 use Rattle.std.proofs.Common.{length as list_length}
+use Rattle.odata_text.proofs.Common.{◌-◌}
 use Rattle.odata_text.proofs.spellings.Words.{IsWordSoFar}
 use Rattle.odata_text.proofs.word.word_length.Given as goal
 
