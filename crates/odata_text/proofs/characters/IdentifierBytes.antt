@@ -3,14 +3,16 @@ use Rattle.std.specs.Char.{is_ascii_alphanumeric}
 use Rattle.std.specs.Bool.{beq}
 use Rattle.std.specs.Str.{IsAscii, NonePass}
 use Rattle.std.proofs.lemmas.Bool.{not-false, or_right}
+use Rattle.std.proofs.lemmas.List.Sums.{AllPass-from_list_all}
 use Rattle.std.proofs.lemmas.Str.{NoCharPasses-byte, char_from_byte}
+use Rattle.std.proofs.lemmas.Str.Ascii.{IsAscii-from_all}
 use Rattle.unicode.specs.GeneralCategory.{general_category}
 use Rattle.unicode.proofs.Facts.{Stepped-below, same_from_beq}
 use Rattle.unicode.proofs.CategoryComputing.{ucd_category}
 use Rattle.unicode.proofs.GeneralCategoryLemmas.{general_category_stepped}
-use Rattle.odata_text.proofs.Common.{◌≡◌, ⊎_elim, ℕ, ◌<◌, ◌≤◌, nat_le, ◌||◌, ◌&&◌, ◌==◌, Bool, true, false, not, cond, List, [], ◌∷◌, length, get_or, arith, refl, sym, ◌∙◌, ap, chars, is_ascii, is_ascii_alphabetic, list_all, take_while, encode_utf8_all, nat_tests, and_from, and_parts, both_ways, cases_lt, or_left, take_while-cons, IsUtf8-from_ascii, chars-IsAscii, chars-nil, encodes-chars, IsAscii-cons, IsAscii-nil, IsIdentifier, begins_identifier, continues_identifier, identifier_run, is_identifier}
+use Rattle.odata_text.proofs.Common.{◌≡◌, ⊎_elim, ℕ, ◌<◌, ◌≤◌, nat_le, ◌||◌, ◌&&◌, ◌==◌, Bool, true, false, not, List, [], ◌∷◌, length, get_or, arith, refl, sym, ◌∙◌, ap, append-nil, chars, is_ascii_alphabetic, is_ascii, list_all, take_while, encode_utf8_all, nat_tests, and_from, and_parts, both_ways, cases_lt, or_left, IsUtf8-from_ascii, chars-IsAscii, encodes-chars, IsIdentifier, begins_identifier, continues_identifier, identifier_run, is_identifier}
 use Rattle.odata_text.specs.Identifier.{is_following, is_leading}
-use Rattle.odata_text.proofs.characters.Identifiers.{all-from_identifier}
+use Rattle.odata_text.proofs.characters.Identifiers.{all-from_identifier, identifier-nonempty, list_all-weaker, take_while-front}
 
 -- letters and `_`
 abbrev pub is_first_byte : ℕ → Bool
@@ -38,52 +40,33 @@ unfolding ucd_category begins_identifier
 begins-ascii c below =
     same_from_beq _ _ (Stepped-below general_category general_category_stepped (λ x g. beq ((x == 95) || is_leading g) (is_first_byte x)) 128 refl c below)
 
-not-true-false : (x : Bool) → x ≡ true → not x ≡ false
-not-true-false x e = ap not e
-
 none-stops : (cs : List ℕ) → list_all continues_identifier cs ≡ true → NonePass (λ c. not (continues_identifier c)) cs
 none-stops [] all = tt
 none-stops (c ∷ cs) all =
     let parts = and_parts (continues_identifier c) (list_all continues_identifier cs) all in
-    (not-true-false (continues_identifier c) parts.0, none-stops cs parts.1)
+    (ap not parts.0, none-stops cs parts.1)
 
-pub identifier-byte : (xs : List ℕ) → IsIdentifier xs → (i : ℕ) → i < length xs → get_or xs i 0 < 128 → is_name_byte (get_or xs i 0) ≡ true
-identifier-byte xs identifier i inside ascii =
-    let all = none-stops (chars xs) (all-from_identifier (chars xs) identifier.characters) in
-    let stops = NoCharPasses-byte (λ c. not (continues_identifier c)) xs i (chars xs, encodes-chars xs identifier.utf8, all) inside ascii in
-    sym (continues-ascii (get_or xs i 0) ascii) ∙ not-false (continues_identifier (get_or xs i 0)) stops
-
-pub identifier-nonempty : (xs : List ℕ) → IsIdentifier xs → 0 < length xs
-identifier-nonempty [] identifier = absurd (both_ways _ (ap is_identifier chars-nil) identifier.characters)
-identifier-nonempty (b ∷ bs) identifier = omega arith
-
-first-begins : (xs cs : List ℕ) → is_identifier cs ≡ true → encode_utf8_all cs ≡ xs → 0 < length xs → get_or xs 0 0 < 128 → is_first_byte (get_or xs 0 0) ≡ true
-first-begins xs [] identifier bytes some ascii = absurd (both_ways _ refl identifier)
-first-begins xs (c ∷ cs) identifier bytes some ascii =
-    let same : c ≡ get_or xs 0 0 = char_from_byte xs (encode_utf8_all cs) c (sym bytes) ascii some in
-    let begins = (and_parts (begins_identifier c) (list_all continues_identifier cs) identifier).0 in
-    sym (begins-ascii (get_or xs 0 0) ascii) ∙ sym (ap begins_identifier same) ∙ begins
-
-pub identifier-first : (xs : List ℕ) → IsIdentifier xs → get_or xs 0 0 < 128 → is_first_byte (get_or xs 0 0) ≡ true
-identifier-first xs identifier ascii =
-    first-begins xs (chars xs) identifier.characters (encodes-chars xs identifier.utf8) (identifier-nonempty xs identifier) ascii
-
-past-ascii : (b : ℕ) → 128 ≤ b → nat_le 128 b ≡ true
-past-ascii b far = grind (arith, nat_tests)
-
-pub identifier-start : (xs : List ℕ) → IsIdentifier xs → is_word_start (get_or xs 0 0) ≡ true
-identifier-start xs identifier =
-    ⊎_elim
-    (λ ascii. or_left _ _ (identifier-first xs identifier ascii))
-    (λ far. or_right _ _ (past-ascii _ far))
-    (cases_lt (get_or xs 0 0) 128)
+-- a byte that passes if it is one of ASCII
+ascii-or_past : (p : ℕ → Bool) (b : ℕ) → (b < 128 → p b ≡ true) → (p b || nat_le 128 b) ≡ true
+ascii-or_past p b ascii = ⊎_elim (λ below. or_left _ _ (ascii below)) (λ far. or_right _ _ (past b far)) (cases_lt b 128)
+  where
+    past : (c : ℕ) → 128 ≤ c → nat_le 128 c ≡ true
+    past c far = grind (arith, nat_tests)
 
 pub identifier-part : (xs : List ℕ) → IsIdentifier xs → (i : ℕ) → i < length xs → is_part_byte (get_or xs i 0) ≡ true
-identifier-part xs identifier i inside =
-    ⊎_elim
-    (λ ascii. or_left _ _ (identifier-byte xs identifier i inside ascii))
-    (λ far. or_right _ _ (past-ascii _ far))
-    (cases_lt (get_or xs i 0) 128)
+identifier-part xs identifier i inside = ascii-or_past is_name_byte (get_or xs i 0) (λ ascii.
+    let all = none-stops (chars xs) (all-from_identifier (chars xs) identifier.characters) in
+    let stops = NoCharPasses-byte (λ c. not (continues_identifier c)) xs i (chars xs, encodes-chars xs identifier.utf8, all) inside ascii in
+    sym (continues-ascii (get_or xs i 0) ascii) ∙ not-false (continues_identifier (get_or xs i 0)) stops)
+
+pub identifier-start : (xs : List ℕ) → IsIdentifier xs → is_word_start (get_or xs 0 0) ≡ true
+identifier-start xs identifier = ascii-or_past is_first_byte (get_or xs 0 0) (first xs (chars xs) identifier.characters (encodes-chars xs identifier.utf8) (identifier-nonempty xs identifier))
+  where
+    first : (bs cs : List ℕ) → is_identifier cs ≡ true → encode_utf8_all cs ≡ bs → 0 < length bs → get_or bs 0 0 < 128 → is_first_byte (get_or bs 0 0) ≡ true
+    first bs [] characters bytes some ascii = absurd (both_ways _ refl characters)
+    first bs (c ∷ cs) characters bytes some ascii =
+        let same : c ≡ get_or bs 0 0 = char_from_byte bs (encode_utf8_all cs) c (sym bytes) ascii some in
+        sym (begins-ascii (get_or bs 0 0) ascii) ∙ sym (ap begins_identifier same) ∙ (and_parts (begins_identifier c) (list_all continues_identifier cs) characters).0
 
 -- Identifiers of ASCII bytes alone.
 
@@ -91,77 +74,45 @@ abbrev pub is_ascii_name : List ℕ → Bool
 is_ascii_name [] = false
 is_ascii_name (b ∷ bs) = is_first_byte b && list_all is_name_byte bs
 
-name-ascii : (b : ℕ) → is_name_byte b ≡ true → b < 128
+name-ascii : (b : ℕ) → is_name_byte b ≡ true → is_ascii b ≡ true
 name-ascii b name = grind (arith, nat_tests)
 
 name-from_first : (b : ℕ) → is_first_byte b ≡ true → is_name_byte b ≡ true
 name-from_first b first = grind (arith, nat_tests)
 
+below-ascii : (b : ℕ) → is_ascii b ≡ true → b < 128
+below-ascii b ascii = grind (arith, nat_tests)
+
+pub all-ascii : (bs : List ℕ) → list_all is_ascii bs ≡ true → IsAscii bs
+all-ascii bs all = IsAscii-from_all bs (λ k d inside. below-ascii (get_or bs k d) (AllPass-from_list_all is_ascii bs all k d inside))
+
 names-ascii : (bs : List ℕ) → list_all is_name_byte bs ≡ true → IsAscii bs
-names-ascii [] all = IsAscii-nil
-names-ascii (b ∷ bs) all =
-    let parts = and_parts (is_name_byte b) (list_all is_name_byte bs) all in
-    IsAscii-cons b bs (name-ascii b parts.0) (names-ascii bs parts.1)
+names-ascii bs all = all-ascii bs (list_all-weaker is_name_byte is_ascii bs name-ascii all)
 
 names-continue : (bs : List ℕ) → list_all is_name_byte bs ≡ true → list_all continues_identifier bs ≡ true
-names-continue [] all = refl
-names-continue (b ∷ bs) all =
-    let parts = and_parts (is_name_byte b) (list_all is_name_byte bs) all in
-    and_from (continues_identifier b) (list_all continues_identifier bs) (continues-ascii b (name-ascii b parts.0) ∙ parts.0) (names-continue bs parts.1)
-
-names-from_ascii_name : (bs : List ℕ) → is_ascii_name bs ≡ true → list_all is_name_byte bs ≡ true
-names-from_ascii_name [] name = refl
-names-from_ascii_name (b ∷ bs) name =
-    let parts = and_parts (is_first_byte b) (list_all is_name_byte bs) name in
-    and_from (is_name_byte b) (list_all is_name_byte bs) (name-from_first b parts.0) parts.1
+names-continue bs all = list_all-weaker is_name_byte continues_identifier bs (λ b name. continues-ascii b (below-ascii b (name-ascii b name)) ∙ name) all
 
 pub ascii-identifier : (bs : List ℕ) → is_ascii_name bs ≡ true → IsIdentifier bs
 ascii-identifier [] name = absurd (both_ways _ refl name)
 ascii-identifier (b ∷ bs) name =
     let parts = and_parts (is_first_byte b) (list_all is_name_byte bs) name in
-    let ascii = names-ascii (b ∷ bs) (names-from_ascii_name (b ∷ bs) name) in
-    let begins : begins_identifier b ≡ true = begins-ascii b (name-ascii b (name-from_first b parts.0)) ∙ parts.0 in
+    let first = name-from_first b parts.0 in
+    let ascii = names-ascii (b ∷ bs) (and_from (is_name_byte b) _ first parts.1) in
+    let begins : begins_identifier b ≡ true = begins-ascii b (below-ascii b (name-ascii b first)) ∙ parts.0 in
     record {
       utf8 = IsUtf8-from_ascii (b ∷ bs) ascii;
       characters = ap is_identifier (chars-IsAscii (b ∷ bs) ascii) ∙ and_from (begins_identifier b) (list_all continues_identifier bs) begins (names-continue bs parts.1);
     }
 
--- Runs of identifier characters in ASCII text.
-
-below-ascii : (b : ℕ) → is_ascii b ≡ true → b < 128
-below-ascii b ascii = grind (arith, nat_tests)
-
-take_while-ascii : (bs : List ℕ) → list_all is_ascii bs ≡ true → take_while continues_identifier bs ≡ take_while is_name_byte bs
-take_while-ascii [] all = refl
-take_while-ascii (b ∷ bs) all =
-    let parts = and_parts (is_ascii b) (list_all is_ascii bs) all in
-    take_while-cons continues_identifier b bs
-    ∙ ap (λ (t : Bool). cond t (b ∷ take_while continues_identifier bs) []) (continues-ascii b (below-ascii b parts.0))
-    ∙ ap (λ (xs : List ℕ). cond (is_name_byte b) (b ∷ xs) []) (take_while-ascii bs parts.1)
-    ∙ sym (take_while-cons is_name_byte b bs)
-
-pub all-ascii : (bs : List ℕ) → list_all is_ascii bs ≡ true → IsAscii bs
-all-ascii [] all = IsAscii-nil
-all-ascii (b ∷ bs) all =
-    let parts = and_parts (is_ascii b) (list_all is_ascii bs) all in
-    IsAscii-cons b bs (below-ascii b parts.0) (all-ascii bs parts.1)
-
-pub run-ascii : (rest : List ℕ) → list_all is_ascii rest ≡ true → identifier_run rest ≡ length (encode_utf8_all (take_while is_name_byte rest))
-run-ascii rest all = ap (λ (cs : List ℕ). length (encode_utf8_all cs)) (ap (take_while continues_identifier) (chars-IsAscii rest (all-ascii rest all)) ∙ take_while-ascii rest all)
-
--- Letters alone.
-
-first-letter : (b : ℕ) → is_ascii_alphabetic b ≡ true → is_first_byte b ≡ true
-first-letter b letter = or_left (is_ascii_alphabetic b) (b == 95) letter
-
-letters-names : (bs : List ℕ) → list_all is_ascii_alphabetic bs ≡ true → list_all is_name_byte bs ≡ true
-letters-names [] letters = refl
-letters-names (b ∷ bs) letters =
-    let parts = and_parts (is_ascii_alphabetic b) (list_all is_ascii_alphabetic bs) letters in
-    and_from (is_name_byte b) (list_all is_name_byte bs) (name-from_first b (first-letter b parts.0)) (letters-names bs parts.1)
+-- all of it is the run
+pub run-names : (rest : List ℕ) → list_all is_name_byte rest ≡ true → identifier_run rest ≡ length (encode_utf8_all rest)
+run-names rest all =
+    ap (λ (cs : List ℕ). length (encode_utf8_all cs))
+    (ap (take_while continues_identifier) (chars-IsAscii rest (names-ascii rest all) ∙ sym (append-nil rest)) ∙ take_while-front continues_identifier rest [] (names-continue rest all) ∙ append-nil rest)
 
 pub letters-identifier : (bs : List ℕ) → 0 < length bs → list_all is_ascii_alphabetic bs ≡ true → IsIdentifier bs
 letters-identifier [] some letters = absurd (omega arith)
 letters-identifier (b ∷ bs) some letters =
     let parts = and_parts (is_ascii_alphabetic b) (list_all is_ascii_alphabetic bs) letters in
-    ascii-identifier (b ∷ bs) (and_from (is_first_byte b) (list_all is_name_byte bs) (first-letter b parts.0) (letters-names bs parts.1))
+    let first = λ (c : ℕ) (letter : is_ascii_alphabetic c ≡ true). or_left _ (c == 95) letter in
+    ascii-identifier (b ∷ bs) (and_from (is_first_byte b) _ (first b parts.0) (list_all-weaker is_ascii_alphabetic is_name_byte bs (λ c letter. name-from_first c (first c letter)) parts.1))

@@ -6,7 +6,8 @@ use Rattle.odata_text.specs.declared.form.LeftOutKind.TheVariants.{Quoted}
 use Rattle.odata_text.specs.declared.quoted.Quoted.TheVariants.{Open as Opened}
 use Rattle.odata_text.proofs.spellings.Decimals.{IsIntByte, int-byte}
 use Rattle.odata_text.proofs.spellings.Guids.{fits-guid, guid_pattern}
-use Rattle.odata_text.proofs.characters.IdentifierBytes.{identifier-nonempty, identifier-part, identifier-start, is_part_byte, is_word_start}
+use Rattle.odata_text.proofs.characters.Identifiers.{identifier-nonempty}
+use Rattle.odata_text.proofs.characters.IdentifierBytes.{identifier-part, identifier-start, is_part_byte, is_word_start}
 use Rattle.odata_text.proofs.spellings.Names.{left_out-letters}
 use Rattle.odata_text.proofs.spellings.Quotes.{open-with_doubled_quotes}
 use Rattle.odata_text.proofs.spellings.Times.{IsSecondsByte, clock_pattern, date_pattern, fits-clock, fits-date, fits-marked, offset-fits, parts-from_moment, seconds-byte}

@@ -1,7 +1,7 @@
 -- Texts whose tokens or first fault are known.
 use Rattle.odata_text.proofs.Common.{◌≡◌, ℕ, nat_lt, Bool, true, List, [], ◌∷◌, codes, pos, inl, inr, arith, refl, sym, All, digit_value, list_all, AllDigits, and_parts, ltb-true, All-cons, All-nil, hex_bytes, IsIntSpelling, class_of, ArePrintable, Print, IsFormed, Spells, fraction_filter, run_on_filter, IsFaultBehind, IsGap, IsTokenList, Space, LeftOutLiteral, RunOn, Token, LeftOut, Number, TokenKind, Word, Int, Moment, Guid, Str, EnumLit}
 use Rattle.odata_text.specs.TokenExamples.{enumeration_filter, enumeration_tokens, guid_filter, guid_tokens, moment_filter, moment_tokens, plain_filter, plain_tokens}
-use Rattle.odata_text.proofs.characters.IdentifierBytes.{ascii-identifier, is_ascii_name, run-ascii}
+use Rattle.odata_text.proofs.characters.IdentifierBytes.{ascii-identifier, is_ascii_name, run-names}
 use Rattle.odata_text.proofs.readings.Places.{run_on}
 use Rattle.odata_text.proofs.readings.Prints.{prints-list}
 use Rattle.odata_text.proofs.spellings.Words.{word-one}
@@ -96,7 +96,7 @@ run_on_fault = record {
   tokens = tt;
   place = 0;
   gap = start_gap run_on_filter;
-  fault_at = (refl, run_on run_on_filter 0 1 2 Int (longest-dead (Token Int) run_on_filter 1 (omega arith) one (λ more. tt)) refl (sym (run-ascii (codes "st") refl)) (omega arith));
+  fault_at = (refl, run_on run_on_filter 0 1 2 Int (longest-dead (Token Int) run_on_filter 1 (omega arith) one (λ more. tt)) refl (sym (run-names (codes "st") refl)) (omega arith));
 }
 
 moment : Spells Moment (codes "2020-01-01T00:00Z")

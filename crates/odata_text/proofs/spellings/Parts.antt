@@ -1,7 +1,8 @@
 -- What the parts of pieces that are made of two begin with, and which bytes they do not have.
 use Rattle.std.specs.List.{AllByRecursion as AllOf}
 use Rattle.odata_text.proofs.Common.{◌≡◌, ℕ, zero, suc, ◌<◌, List, [], ◌∷◌, length, get_or, arith, refl, sym, ◌∙◌, ap, subst, length-append, is_ascii_alphabetic, both_ways, IsStringSpelling, IsIdentifier, IsByte, IsDottedWord, IsLeftOutName, dotted_parts}
-use Rattle.odata_text.proofs.characters.IdentifierBytes.{identifier-nonempty, identifier-part, is_part_byte}
+use Rattle.odata_text.proofs.characters.Identifiers.{identifier-nonempty}
+use Rattle.odata_text.proofs.characters.IdentifierBytes.{identifier-part, is_part_byte}
 use Rattle.odata_text.proofs.spellings.Fronts.{byte-exact, byte-none}
 use Rattle.odata_text.proofs.spellings.Names.{left_out-letters}
 use Rattle.odata_text.proofs.spellings.Sequences.{ArePieces, each-append, exact-by_byte}

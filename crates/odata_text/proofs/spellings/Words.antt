@@ -3,7 +3,8 @@ use Rattle.std.specs.List.{AllByRecursion as AllOf}
 use Rattle.std.proofs.lemmas.List.{drop-drop}
 use Rattle.std.proofs.lemmas.Str.{IsCharBoundary-from_drop}
 use Rattle.odata_text.proofs.Common.{◌≡◌, ◌⊎◌, inl, inr, ⊎_elim, ℕ, ◌+◌, ◌-◌, ◌<◌, ◌≤◌, List, [], ◌∷◌, ◌++◌, length, get_or, take, drop, IsUtf8, IsCharBoundary, arith, refl, sym, ◌∙◌, ap, subst, append_assoc, add-zero, both_ways, get_or-drop, get_or-take, length-drop, length-take-le, IsUtf8-drop, IsIdentifier, IsReach, FollowedBy, IsByte, IsDottedWord, IsWordSpelling, dotted_parts}
-use Rattle.odata_text.proofs.characters.IdentifierBytes.{identifier-byte, identifier-nonempty, is_name_byte}
+use Rattle.odata_text.proofs.characters.IdentifierBytes.{identifier-part, is_part_byte}
+use Rattle.odata_text.proofs.characters.Identifiers.{identifier-nonempty}
 use Rattle.odata_text.proofs.spellings.Sequences.{exact-by_byte, pair-found, pair_at}
 
 -- A word is one identifier, or one with a dot and a word behind it.
@@ -65,9 +66,7 @@ dot-starts ys dot =
     (omega arith, ap (λ (zs : List ℕ). get_or zs 0 0) whole)
 
 no_dot : (xs : List ℕ) → IsIdentifier xs → (i : ℕ) → i < length xs → get_or xs i 0 ≡ 46 → ⊥
-no_dot xs identifier i inside dot =
-    let part = identifier-byte xs identifier i inside (omega arith) in
-    both_ways (is_name_byte 46) refl (sym (ap is_name_byte dot) ∙ part)
+no_dot xs identifier i inside dot = both_ways (is_part_byte 46) refl (sym (ap is_part_byte dot) ∙ identifier-part xs identifier i inside)
 
 -- the word goes on behind the first n bytes, with a dot and a word
 pub record IsMore (rest : List ℕ) (n m : ℕ) : Type 0 where
