@@ -1,8 +1,10 @@
 -- What follows from where the machine ends: bytes have one form, and which piece is the longest.
-use Rattle.odata_text.proofs.Common.{◌≡◌, ◌⊎◌, inl, inr, ⊎_elim, ℕ, ◌+◌, ◌<◌, ◌≤◌, ◌==◌, not, true, List, [], ◌∷◌, ◌++◌, length, get_or, take, drop, Some, None, arith, refl, sym, ◌∙◌, ap, subst, take-append-drop, fold, and_parts, cases_lt, false≢true, nat_tests, drop_more, take-take, fold-append, fold_more, class_of, MayFollow, is_separator, may_follow, IsFormed, Spells, IsLongest, Space, Form, Token, Before, Closed, Over, TokenKind, Word, Dollar, Int, Date, Moment, Guid, Str, EnumLit, Minus}
+use Rattle.std.proofs.lemmas.Bool.{agree_below, agree_below_at, and_cases, not-false}
+use Rattle.std.proofs.lemmas.List.Folds.{fold_stays}
+use Rattle.odata_text.proofs.Common.{◌≡◌, ◌⊎◌, inl, inr, ⊎_elim, ℕ, ◌+◌, ◌<◌, ◌≤◌, ◌==◌, not, true, List, [], ◌∷◌, ◌++◌, length, get_or, take, drop, Some, None, arith, refl, sym, ◌∙◌, ap, subst, take-append-drop, fold, Bool, false, ◌&&◌, both_ways, and_parts, cases_lt, false≢true, nat_tests, drop_more, take-take, fold-append, fold_more, class_of, MayFollow, is_separator, may_follow, IsFormed, Spells, IsLongest, Space, Form, Token, Before, Closed, Over, TokenKind, Word, Dollar, Int, Date, Moment, Guid, Str, EnumLit, Minus}
 use Rattle.odata_text.specs.declared.quoted.Quoted.TheVariants.{Open as Opened}
 use Rattle.odata_text.proofs.characters.ByteClasses.{space-from_class}
-use Rattle.odata_text.proofs.machine.States.{State, Start, Stuck, Whole, Text, Sign, SignedDigits, Digits, TwoHyphens, Hexes, AheadColon, Name, Dotted, Dollared, Bare, Named, Qualified, APlain, ALetter, IsDead, enter, form_at, run, step}
+use Rattle.odata_text.proofs.machine.States.{State, Start, Stuck, Whole, Text, Sign, SignedDigits, Digits, TwoHyphens, Hexes, AheadColon, Name, Dotted, Dollared, Bare, Named, Qualified, APlain, ALetter, is_dead, enter, form_at, run, step}
 use Rattle.odata_text.proofs.machine.Runs.{reads}
 
 pub same_form : (xs : List ℕ) (f g : Form) → IsFormed f xs → IsFormed g xs → f ≡ g
@@ -16,14 +18,12 @@ formed-some form [] formed = let none : None ≡ Some form = reads form [] forme
 formed-some form (b ∷ bs) formed = omega arith
 
 -- what is dead stays so
-dead-ends : (q : State) (xs : List ℕ) → IsDead q → form_at (fold step q xs) ≡ None
-dead-ends Stuck [] dead = refl
-dead-ends Stuck (b ∷ bs) dead = dead-ends Stuck bs dead
-dead-ends (Text lead Over) [] dead = refl
-dead-ends (Text lead Over) (b ∷ bs) dead = dead-ends (Text lead Over) bs dead
-dead-ends _ xs dead = absurd dead
+dead-ends : (q : State) (xs : List ℕ) → is_dead q ≡ true → form_at (fold step q xs) ≡ None
+dead-ends Stuck xs dead = ap form_at (fold_stays step Stuck (λ b. refl) xs)
+dead-ends (Text lead Over) xs dead = ap form_at (fold_stays step (Text lead Over) (λ b. refl) xs)
+dead-ends _ xs dead = cc
 
-not_dead : (form : Form) (q : State) (xs back : List ℕ) → IsDead q → run xs ≡ fold step q back → IsFormed form xs → ⊥
+not_dead : (form : Form) (q : State) (xs back : List ℕ) → is_dead q ≡ true → run xs ≡ fold step q back → IsFormed form xs → ⊥
 not_dead form q xs back dead ends formed =
     let none : None ≡ Some form = sym (ap form_at ends ∙ dead-ends q back dead) ∙ reads form xs formed in
     cc
@@ -33,12 +33,12 @@ pub solid-start : (form : Form) (xs : List ℕ) → IsFormed form xs → class_o
 solid-start form [] formed space = let none : None ≡ Some form = reads form [] formed in cc
 solid-start form (b ∷ bs) formed space =
     ⊎_elim
-    (λ blank. not_dead form Stuck (b ∷ bs) bs tt (ap (λ (c : ℕ). fold step (step Start c) bs) blank) formed)
-    (λ tab. not_dead form Stuck (b ∷ bs) bs tt (ap (λ (c : ℕ). fold step (step Start c) bs) tab) formed)
+    (λ blank. not_dead form Stuck (b ∷ bs) bs refl (ap (λ (c : ℕ). fold step (step Start c) bs) blank) formed)
+    (λ tab. not_dead form Stuck (b ∷ bs) bs refl (ap (λ (c : ℕ). fold step (step Start c) bs) tab) formed)
     (space-from_class b space)
 
 -- a piece is the longest where the byte behind it is a dead end
-pub longest-dead : (form : Form) (rest : List ℕ) (n : ℕ) → n ≤ length rest → IsFormed form (take n rest) → (n < length rest → IsDead (step (run (take n rest)) (get_or rest n 0))) → IsLongest form n rest
+pub longest-dead : (form : Form) (rest : List ℕ) (n : ℕ) → n ≤ length rest → IsFormed form (take n rest) → (n < length rest → is_dead (step (run (take n rest)) (get_or rest n 0)) ≡ true) → IsLongest form n rest
 longest-dead form rest n inside formed dead = record { within = inside; spelled = formed; longest = longest }
   where
     longest : (other : Form) (m : ℕ) → m ≤ length rest → IsFormed other (take m rest) → m ≤ n
@@ -58,64 +58,38 @@ longest-dead form rest n inside formed dead = record { within = inside; spelled 
 
 -- What may follow a token is a dead end.
 
--- of each separator
-at_separator : (P : ℕ → Type 0) → P 32 → P 9 → P 40 → P 41 → P 44 → P 47 → P 58 → (b : ℕ) → is_separator b ≡ true → P b
-at_separator P p32 p9 p40 p41 p44 p47 p58 b separator =
-    elim (one b separator) [
-      | inl is ↦ rw is p32
-      | inr other ↦ elim other [
-        | inl is ↦ rw is p9
-        | inr other ↦ elim other [
-          | inl is ↦ rw is p40
-          | inr other ↦ elim other [
-            | inl is ↦ rw is p41
-            | inr other ↦ elim other [
-              | inl is ↦ rw is p44
-              | inr other ↦ elim other [ inl is ↦ rw is p47 | inr is ↦ rw is p58 ]
-            ]
-          ]
-        ]
-      ]
-    ]
-  where
-    one : (c : ℕ) → is_separator c ≡ true → (c ≡ 32) ⊎ ((c ≡ 9) ⊎ ((c ≡ 40) ⊎ ((c ≡ 41) ⊎ ((c ≡ 44) ⊎ ((c ≡ 47) ⊎ (c ≡ 58))))))
-    one c e = grind (arith, nat_tests)
+pub separator-ascii : (b : ℕ) → is_separator b ≡ true → b < 128
+separator-ascii b separator = grind (arith, nat_tests)
 
--- of each that is no `:`
-at_plain : (P : ℕ → Type 0) → P 32 → P 9 → P 40 → P 41 → P 44 → P 47 → (b : ℕ) → may_follow Int b ≡ true → P b
-at_plain P p32 p9 p40 p41 p44 p47 b follows =
-    let parts = and_parts (is_separator b) (not (b == 58)) follows in
-    at_separator (λ c. not (c == 58) ≡ true → P c) (λ e. p32) (λ e. p9) (λ e. p40) (λ e. p41) (λ e. p44) (λ e. p47) (λ e. absurd (false≢true e)) b parts.0 parts.1
+-- a byte that may follow the kind, and with which the piece goes on
+abbrev goes_on : State → TokenKind → ℕ → Bool
+goes_on q kind b = may_follow kind b && not (is_dead (step q b))
 
--- the kind is the one of the state
-by : (kind other : TokenKind) (P : ℕ → Type 0) → Some (Token kind) ≡ Some (Token other) → ((b : ℕ) → may_follow kind b ≡ true → P b) → (b : ℕ) → may_follow other b ≡ true → P b
-by kind other P ends each b follows =
+-- the kind is the one of the state, and no byte of ASCII goes on
+none-goes_on : (q : State) (kind other : TokenKind) (b : ℕ) → agree_below (goes_on q kind) (λ c. false) 128 ≡ true → ((c : ℕ) → may_follow kind c ≡ true → is_separator c ≡ true)
+    → Some (Token kind) ≡ Some (Token other) → may_follow other b ≡ true → is_dead (step q b) ≡ true
+none-goes_on q kind other b none separates ends follows =
     let same : other ≡ kind = cc in
-    each b (subst (λ (k : TokenKind). may_follow k b ≡ true) same follows)
+    let here : may_follow kind b ≡ true = subst (λ (k : TokenKind). may_follow k b ≡ true) same follows in
+    ⊎_elim
+    (λ off. absurd (both_ways _ off here))
+    (λ dead. not-false (is_dead (step q b)) dead)
+    (and_cases (may_follow kind b) _ (agree_below_at (goes_on q kind) (λ c. false) 128 b none (separator-ascii b (separates b here))))
 
-dead-behind : (q : State) (kind : TokenKind) (b : ℕ) → form_at q ≡ Some (Token kind) → may_follow kind b ≡ true → IsDead (step q b)
-dead-behind (Whole other) kind b ends follows = tt
-dead-behind (Text Bare Closed) kind b ends follows = by Str kind (λ c. IsDead (step (Text Bare Closed) c)) ends (at_separator (λ c. IsDead (step (Text Bare Closed) c)) tt tt tt tt tt tt tt) b follows
-dead-behind (Text Qualified Closed) kind b ends follows = by EnumLit kind (λ c. IsDead (step (Text Qualified Closed) c)) ends (at_separator (λ c. IsDead (step (Text Qualified Closed) c)) tt tt tt tt tt tt tt) b follows
-dead-behind Sign kind b ends follows = by Minus kind (λ c. IsDead (step Sign c)) ends (at_separator (λ c. IsDead (step Sign c)) tt tt tt tt tt tt tt) b follows
-dead-behind SignedDigits kind b ends follows = by Int kind (λ c. IsDead (step SignedDigits c)) ends (at_plain (λ c. IsDead (step SignedDigits c)) tt tt tt tt tt tt) b follows
-dead-behind Digits kind b ends follows = by Int kind (λ c. IsDead (step Digits c)) ends (at_plain (λ c. IsDead (step Digits c)) tt tt tt tt tt tt) b follows
-dead-behind TwoHyphens kind b ends follows = by Date kind (λ c. IsDead (step TwoHyphens c)) ends (at_separator (λ c. IsDead (step TwoHyphens c)) tt tt tt tt tt tt tt) b follows
-dead-behind Hexes kind b ends follows = by Guid kind (λ c. IsDead (step Hexes c)) ends (at_separator (λ c. IsDead (step Hexes c)) tt tt tt tt tt tt tt) b follows
-dead-behind AheadColon kind b ends follows = by Moment kind (λ c. IsDead (step AheadColon c)) ends (at_separator (λ c. IsDead (step AheadColon c)) tt tt tt tt tt tt tt) b follows
-dead-behind Name kind b ends follows = by Word kind (λ c. IsDead (step Name c)) ends (at_separator (λ c. IsDead (step Name c)) tt tt tt tt tt tt tt) b follows
-dead-behind Dotted kind b ends follows = by Word kind (λ c. IsDead (step Dotted c)) ends (at_separator (λ c. IsDead (step Dotted c)) tt tt tt tt tt tt tt) b follows
-dead-behind Dollared kind b ends follows = by Dollar kind (λ c. IsDead (step Dollared c)) ends (at_separator (λ c. IsDead (step Dollared c)) tt tt tt tt tt tt tt) b follows
-dead-behind (Text Bare Before) kind b ends follows = cc
-dead-behind (Text Bare Opened) kind b ends follows = cc
-dead-behind (Text Bare Over) kind b ends follows = cc
-dead-behind (Text Qualified Before) kind b ends follows = cc
-dead-behind (Text Qualified Opened) kind b ends follows = cc
-dead-behind (Text Qualified Over) kind b ends follows = cc
-dead-behind (Text Named Before) kind b ends follows = cc
-dead-behind (Text Named Opened) kind b ends follows = cc
+dead-behind : (q : State) (kind : TokenKind) (b : ℕ) → form_at q ≡ Some (Token kind) → may_follow kind b ≡ true → is_dead (step q b) ≡ true
+dead-behind (Whole other) kind b ends follows = refl
+dead-behind (Text Bare Closed) kind b ends follows = none-goes_on (Text Bare Closed) Str kind b refl (λ c e. e) ends follows
+dead-behind (Text Qualified Closed) kind b ends follows = none-goes_on (Text Qualified Closed) EnumLit kind b refl (λ c e. e) ends follows
+dead-behind Sign kind b ends follows = none-goes_on Sign Minus kind b refl (λ c e. e) ends follows
+dead-behind SignedDigits kind b ends follows = none-goes_on SignedDigits Int kind b refl (λ c e. (and_parts (is_separator c) _ e).0) ends follows
+dead-behind Digits kind b ends follows = none-goes_on Digits Int kind b refl (λ c e. (and_parts (is_separator c) _ e).0) ends follows
+dead-behind TwoHyphens kind b ends follows = none-goes_on TwoHyphens Date kind b refl (λ c e. e) ends follows
+dead-behind Hexes kind b ends follows = none-goes_on Hexes Guid kind b refl (λ c e. e) ends follows
+dead-behind AheadColon kind b ends follows = none-goes_on AheadColon Moment kind b refl (λ c e. e) ends follows
+dead-behind Name kind b ends follows = none-goes_on Name Word kind b refl (λ c e. e) ends follows
+dead-behind Dotted kind b ends follows = none-goes_on Dotted Word kind b refl (λ c e. e) ends follows
+dead-behind Dollared kind b ends follows = none-goes_on Dollared Dollar kind b refl (λ c e. e) ends follows
 dead-behind (Text Named Closed) kind b ends follows = cc
-dead-behind (Text Named Over) kind b ends follows = cc
 dead-behind _ kind b ends follows = cc
 
 -- a token before what may follow it is the longest piece at its place
@@ -127,12 +101,9 @@ longest-before kind rest n inside spelled follows =
 -- Only a word can end in a byte past ASCII.
 
 pub past-word : (q : State) (kind : TokenKind) → form_at (enter q (ALetter APlain)) ≡ Some (Token kind) → (kind ≡ Word) ⊎ (kind ≡ Dollar)
-past-word Start kind ends = let same : Word ≡ kind = cc in inl (sym same)
-past-word Name kind ends = let same : Word ≡ kind = cc in inl (sym same)
-past-word Dotted kind ends = let same : Word ≡ kind = cc in inl (sym same)
-past-word Dollared kind ends = let same : Dollar ≡ kind = cc in inr (sym same)
-past-word (Text lead Before) kind ends = cc
-past-word (Text lead Opened) kind ends = cc
+past-word Start kind ends = inl cc
+past-word Name kind ends = inl cc
+past-word Dotted kind ends = inl cc
+past-word Dollared kind ends = inr cc
 past-word (Text lead Closed) kind ends = cc
-past-word (Text lead Over) kind ends = cc
 past-word _ kind ends = cc

@@ -1,10 +1,10 @@
 -- Where the machine ends on a piece of each form.
 use Rattle.std.specs.List.{AllByRecursion as AllOf}
-use Rattle.odata_text.proofs.Common.{◌≡◌, ◌⊎◌, inl, inr, ⊎_elim, ℕ, min, ◌+◌, ◌<◌, ◌≤◌, ◌==◌, Bool, true, false, List, [], ◌∷◌, ◌++◌, length, get_or, drop, Some, suc, arith, refl, ◌∙◌, ap, fold, is_ascii_alphabetic, list_all, and_parts, cases_lt, eqb-true, false≢true, or_cases, nat_tests, IsGuidSpelling, IsIntSpelling, IsMomentSpelling, IsOffsetSpelling, IsSecondsSpelling, IsStringSpelling, with_doubled_quotes, IsIdentifier, IsDecimals, IsExponent, IsFraction, PassesTests, passes, IsFormed, IsLeftOutName, IsWordSpelling, dotted_parts, ByteTest, HexDigit, Hyphen, TimeMark, OffsetMark, Form, Token, LeftOut, Number, TimeOfDay, Closed, Word, Dollar, Int, Date, Moment, Guid, Str, EnumLit, Open, Close, Comma, Slash, Colon, Minus}
+use Rattle.odata_text.proofs.Common.{◌≡◌, ◌⊎◌, inl, inr, ⊎_elim, ℕ, min, ◌+◌, ◌<◌, ◌≤◌, ◌==◌, Bool, true, false, List, [], ◌∷◌, ◌++◌, length, get_or, drop, Some, suc, arith, refl, ◌∙◌, ap, fold, is_ascii_alphabetic, list_all, and_parts, cases_lt, eqb-true, false≢true, or_cases, nat_tests, IsGuidSpelling, IsIntSpelling, IsNumeral, IsMomentSpelling, IsOffsetSpelling, IsSecondsSpelling, IsStringSpelling, with_doubled_quotes, IsIdentifier, IsDecimals, IsExponent, IsFraction, PassesTests, passes, IsFormed, IsLeftOutName, IsWordSpelling, dotted_parts, ByteTest, HexDigit, Hyphen, TimeMark, OffsetMark, Form, Token, LeftOut, Number, TimeOfDay, Closed, Word, Dollar, Int, Date, Moment, Guid, Str, EnumLit, Open, Close, Comma, Slash, Colon, Minus}
 use Rattle.odata_text.specs.declared.byte_test.ByteTest.TheVariants.{Sign as SignTest}
 use Rattle.odata_text.specs.declared.form.LeftOutKind.TheVariants.{Quoted}
 use Rattle.odata_text.specs.declared.quoted.Quoted.TheVariants.{Open as Opened}
-use Rattle.odata_text.proofs.spellings.Decimals.{IsIntByte, int-byte}
+use Rattle.odata_text.proofs.spellings.Reaches.{int-by_form}
 use Rattle.odata_text.proofs.spellings.Guids.{fits-guid, guid_pattern}
 use Rattle.odata_text.proofs.characters.Identifiers.{identifier-nonempty}
 use Rattle.odata_text.proofs.characters.IdentifierBytes.{identifier-part, identifier-start, is_part_byte, is_word_start}
@@ -81,67 +81,47 @@ text-run q lead xs opens spelled =
 
 -- a whole number ends in one of two states
 int-run : (xs : List ℕ) → IsIntSpelling xs → (run xs ≡ SignedDigits) ⊎ (run xs ≡ Digits)
-int-run [] int = absurd int.1
-int-run (c ∷ ds) int =
-    elim int.1 [
-      | inl plus ↦ inl (ap (λ (b : ℕ). fold step (step Start b) ds) plus.0 ∙ goes-digits Sign SignedDigits ds refl refl plus.1)
-      | inr other ↦ elim other [
-        | inl minus ↦ inl (ap (λ (b : ℕ). fold step (step Start b) ds) minus.0 ∙ goes-digits Sign SignedDigits ds refl refl minus.1)
-        | inr plain ↦ inr (goes-digits Start Digits (c ∷ ds) refl refl plain.0)
-      ]
-    ]
+int-run =
+    int-by_form (λ xs. (run xs ≡ SignedDigits) ⊎ (run xs ≡ Digits))
+    (λ ds numeral. inr (goes-digits Start Digits ds refl refl numeral))
+    (λ ds numeral. inl (goes-digits Sign SignedDigits ds refl refl numeral))
+    (λ ds numeral. inl (goes-digits Sign SignedDigits ds refl refl numeral))
 
 fraction-run : (q : State) (xs : List ℕ) → step q 46 ≡ Pointed → IsFraction xs → fold step q xs ≡ Pointed
 fraction-run q [] dot fraction = absurd fraction
 fraction-run q (b ∷ digits) dot fraction =
     ap (λ (c : ℕ). fold step (step q c) digits) fraction.0 ∙ ap (λ (s : State). fold step s digits) dot ∙ goes-digits Pointed Pointed digits refl refl fraction.1
 
-powered-kept : (b : ℕ) → IsIntByte b → step Powered b ≡ Powered
-powered-kept b (inl (inl plus)) = ap (step Powered) plus
-powered-kept b (inl (inr minus)) = ap (step Powered) minus
-powered-kept b (inr digit) = digit-goes Powered Powered refl b digit
-
-power-run : (q : State) (xs : List ℕ) → ((b : ℕ) → (b ≡ 101) ⊎ (b ≡ 69) → step q b ≡ Powered) → IsExponent xs → fold step q xs ≡ Powered
-power-run q [] mark exponent = absurd exponent
-power-run q (b ∷ power) mark exponent =
-    ap (λ (s : State). fold step s power) (mark b exponent.0) ∙ stays IsIntByte Powered power powered-kept (int-byte power exponent.1)
+power-run : (q : State) (xs : List ℕ) → step q 101 ≡ Powered → step q 69 ≡ Powered → IsExponent xs → fold step q xs ≡ Powered
+power-run q [] small big exponent = absurd exponent
+power-run q (b ∷ power) small big exponent =
+    ap (λ (s : State). fold step s power) (⊎_elim (λ is. ap (step q) is ∙ small) (λ is. ap (step q) is ∙ big) exponent.0)
+    ∙ int-by_form (λ ys. fold step Powered ys ≡ Powered) digits digits digits power exponent.1
+  where
+    digits : (ds : List ℕ) → IsNumeral 10 ds → fold step Powered ds ≡ Powered
+    digits ds numeral = goes-digits Powered Powered ds refl refl numeral
 
 -- behind digits alone an `e` may belong to a Guid
 digits-power : (xs : List ℕ) → IsExponent xs → form_at (fold step Digits xs) ≡ Some (LeftOut Number)
 digits-power [] exponent = absurd exponent
 digits-power (b ∷ power) exponent =
-    ap (λ (s : State). form_at (fold step s power)) (⊎_elim (λ small. ap (step Digits) small) (λ big. ap (step Digits) big) exponent.0) ∙ sign power exponent.1
-  where
-    sign : (ys : List ℕ) → IsIntSpelling ys → form_at (fold step PowerDigits ys) ≡ Some (LeftOut Number)
-    sign [] int = absurd int.1
-    sign (c ∷ ds) int =
-        elim int.1 [
-          | inl plus ↦ ap (λ (d : ℕ). form_at (fold step (step PowerDigits d) ds)) plus.0 ∙ ap form_at (goes-digits Powered Powered ds refl refl plus.1)
-          | inr other ↦ elim other [
-            | inl minus ↦ ap (λ (d : ℕ). form_at (fold step (step PowerDigits d) ds)) minus.0 ∙ ap form_at (goes-digits PowerHyphen PowerHyphen ds refl refl minus.1)
-            | inr plain ↦ ap form_at (goes-digits PowerDigits PowerDigits (c ∷ ds) refl refl plain.0)
-          ]
-        ]
+    ap (λ (s : State). form_at (fold step s power)) (⊎_elim (λ small. ap (step Digits) small) (λ big. ap (step Digits) big) exponent.0)
+    ∙ int-by_form (λ ys. form_at (fold step PowerDigits ys) ≡ Some (LeftOut Number))
+    (λ ds numeral. ap form_at (goes-digits PowerDigits PowerDigits ds refl refl numeral))
+    (λ ds numeral. ap form_at (goes-digits Powered Powered ds refl refl numeral))
+    (λ ds numeral. ap form_at (goes-digits PowerHyphen PowerHyphen ds refl refl numeral)) power exponent.1
 
 decimals-run : (q : State) (xs : List ℕ) → step q 46 ≡ Pointed → ((ys : List ℕ) → IsExponent ys → form_at (fold step q ys) ≡ Some (LeftOut Number)) → IsDecimals xs
     → form_at (fold step q xs) ≡ Some (LeftOut Number)
 decimals-run q xs dot power (inl fraction) = ap form_at (fraction-run q xs dot fraction)
 decimals-run q xs dot power (inr (inl exponent)) = power xs exponent
 decimals-run q xs dot power (inr (inr pair)) =
-    ap form_at (goes-both q Pointed xs pair.front pair.back pair.whole (fraction-run q pair.front dot pair.is_front) ∙ power-run Pointed pair.back pointed pair.is_back)
-  where
-    pointed : (b : ℕ) → (b ≡ 101) ⊎ (b ≡ 69) → step Pointed b ≡ Powered
-    pointed b (inl small) = ap (step Pointed) small
-    pointed b (inr big) = ap (step Pointed) big
+    ap form_at (goes-both q Pointed xs pair.front pair.back pair.whole (fraction-run q pair.front dot pair.is_front) ∙ power-run Pointed pair.back refl refl pair.is_back)
 
 -- behind a whole number
 number-run : (front back : List ℕ) → (run front ≡ SignedDigits) ⊎ (run front ≡ Digits) → IsDecimals back → form_at (run (front ++ back)) ≡ Some (LeftOut Number)
 number-run front back (inl signed') decimals =
-    ap form_at (goes-both Start SignedDigits (front ++ back) front back refl signed') ∙ decimals-run SignedDigits back refl (λ ys exponent. ap form_at (power-run SignedDigits ys mark exponent)) decimals
-  where
-    mark : (b : ℕ) → (b ≡ 101) ⊎ (b ≡ 69) → step SignedDigits b ≡ Powered
-    mark b (inl small) = ap (step SignedDigits) small
-    mark b (inr big) = ap (step SignedDigits) big
+    ap form_at (goes-both Start SignedDigits (front ++ back) front back refl signed') ∙ decimals-run SignedDigits back refl (λ ys exponent. ap form_at (power-run SignedDigits ys refl refl exponent)) decimals
 number-run front back (inr digits) decimals =
     ap form_at (goes-both Start Digits (front ++ back) front back refl digits) ∙ decimals-run Digits back refl digits-power decimals
 
@@ -197,17 +177,10 @@ is_guid_test HexDigit = true
 is_guid_test Hyphen = true
 is_guid_test _ = false
 
-level-digit : (q : State) → level q ≤ level (enter q ADigit)
-level-digit Start = omega arith
-level-digit _ = omega arith
-
-level-e : (q : State) → level q ≤ level (enter q (ALetter AnE))
-level-e Start = omega arith
-level-e _ = omega arith
-
-level-letter : (q : State) → level q ≤ level (enter q (ALetter AHexLetter))
-level-letter Start = omega arith
-level-letter _ = omega arith
+-- a hexadecimal digit, an `e` or another hexadecimal letter loses no hyphen
+level-hex : (q : State) → (level q ≤ level (enter q ADigit)) × (level q ≤ level (enter q (ALetter AnE))) × (level q ≤ level (enter q (ALetter AHexLetter)))
+level-hex Start = (omega arith, omega arith, omega arith)
+level-hex _ = (omega arith, omega arith, omega arith)
 
 level-hyphen : (q : State) → 0 < level q → min 4 (level q + 1) ≤ level (enter q AHyphen)
 level-hyphen Start some = absurd (omega arith)
@@ -215,9 +188,7 @@ level-hyphen _ some = omega arith
 
 level-step : (test : ByteTest) (b n : ℕ) (q : State) → is_guid_test test ≡ true → passes test b ≡ true → 0 < n → n ≤ level q → level_after n test ≤ level (step q b)
 level-step HexDigit b n q known passed some below =
-    let digit = level-digit q in
-    let e = level-e q in
-    let letter = level-letter q in
+    let kept = level-hex q in
     ⊎_elim (λ is. rw is (omega arith)) (λ other. ⊎_elim (λ is. rw is (omega arith)) (λ is. rw is (omega arith)) other) (hex-sorts b passed)
 level-step Hyphen b n q known passed some below =
     let up = level-hyphen q (omega arith) in
@@ -267,12 +238,7 @@ reads (Token Str) xs formed = ap form_at (text-run Start Bare xs refl formed)
 reads (Token EnumLit) xs formed =
     ap form_at (goes-both Start Dotted xs formed.front formed.back formed.whole (word-run formed.front formed.is_front.word ∙ dotted-word formed.is_front.word.more formed.is_front.dotted)
     ∙ text-run Dotted Qualified formed.back refl formed.is_back)
-reads (Token Open) xs formed = ap (λ (ys : List ℕ). form_at (run ys)) formed
-reads (Token Close) xs formed = ap (λ (ys : List ℕ). form_at (run ys)) formed
-reads (Token Comma) xs formed = ap (λ (ys : List ℕ). form_at (run ys)) formed
-reads (Token Slash) xs formed = ap (λ (ys : List ℕ). form_at (run ys)) formed
-reads (Token Colon) xs formed = ap (λ (ys : List ℕ). form_at (run ys)) formed
-reads (Token Minus) xs formed = ap (λ (ys : List ℕ). form_at (run ys)) formed
+reads (Token _) xs formed = ap (λ (ys : List ℕ). form_at (run ys)) formed
 reads (LeftOut Number) xs formed = ap (λ (ys : List ℕ). form_at (run ys)) formed.whole ∙ number-run formed.front formed.back (int-run formed.front formed.is_front) formed.is_back
 reads (LeftOut TimeOfDay) xs formed =
     ap form_at (goes-both Start Clock xs formed.front formed.back formed.whole (goes-fits clock_pattern Start formed.front refl (fits-clock formed.front formed.is_front))

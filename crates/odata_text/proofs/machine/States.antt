@@ -201,7 +201,7 @@ form_at Dollared = Some (Token Dollar)
 form_at _ = None
 
 -- no form goes on
-abbrev pub IsDead : State → Type 0
-IsDead Stuck = Unit {0}
-IsDead (Text _ Over) = Unit {0}
-IsDead _ = ⊥
+abbrev pub is_dead : State → Bool
+is_dead Stuck = true
+is_dead (Text _ Over) = true
+is_dead _ = false

@@ -10,9 +10,7 @@ use Rattle.odata_text.proofs.machine.States.{Letter, AnE, AHexLetter, ATime, AZu
 -- What a byte is to the machine.
 
 pub digit-sort : (b : ℕ) → is_ascii_digit b ≡ true → sort_of b ≡ ADigit
-digit-sort b digit =
-    let quote : (b == 39) ≡ false = grind (arith, nat_tests) in
-    cond-false (b == 39) _ _ quote ∙ cond-true (is_ascii_digit b) _ _ digit
+digit-sort b digit = grind (arith, nat_tests)
 
 pub letter-sort : (b : ℕ) → is_part_byte b ≡ true → is_ascii_digit b ≡ false → sort_of b ≡ ALetter (letter_of b)
 letter-sort b part digit =
@@ -20,11 +18,7 @@ letter-sort b part digit =
     cond-false (b == 39) _ _ quote ∙ cond-false (is_ascii_digit b) _ _ digit ∙ cond-true (is_part_byte b) _ _ part
 
 pub past-sort : (b : ℕ) → 128 ≤ b → sort_of b ≡ ALetter APlain
-past-sort b far =
-    let part : is_part_byte b ≡ true = grind (arith, nat_tests) in
-    let digit : is_ascii_digit b ≡ false = grind (arith, nat_tests) in
-    let plain : letter_of b ≡ APlain = grind (arith, nat_tests) in
-    letter-sort b part digit ∙ ap ALetter plain
+past-sort b far = grind (arith, nat_tests)
 
 pub hex-sorts : (b : ℕ) → is_ascii_hexdigit b ≡ true → (sort_of b ≡ ADigit) ⊎ ((sort_of b ≡ ALetter AnE) ⊎ (sort_of b ≡ ALetter AHexLetter))
 hex-sorts b hex =
@@ -40,22 +34,7 @@ hex-sorts b hex =
     (cases_Bool (is_ascii_digit b))
 
 quote-sort : (b : ℕ) → is_quote (sort_of b) ≡ (b == 39)
-quote-sort b =
-    cond_both (b == 39) _ _ IsTold (λ quote. sym quote) (λ other.
-    cond_both (is_ascii_digit b) _ _ IsTold (λ e. sym other) (λ e.
-    cond_both (is_part_byte b) _ _ IsTold (λ e. sym other) (λ e.
-    cond_both (b == 46) _ _ IsTold (λ e. sym other) (λ e.
-    cond_both (b == 45) _ _ IsTold (λ e. sym other) (λ e.
-    cond_both (b == 43) _ _ IsTold (λ e. sym other) (λ e.
-    cond_both (b == 36) _ _ IsTold (λ e. sym other) (λ e.
-    cond_both (b == 40) _ _ IsTold (λ e. sym other) (λ e.
-    cond_both (b == 41) _ _ IsTold (λ e. sym other) (λ e.
-    cond_both (b == 44) _ _ IsTold (λ e. sym other) (λ e.
-    cond_both (b == 47) _ _ IsTold (λ e. sym other) (λ e.
-    cond_both (b == 58) _ _ IsTold (λ e. sym other) (λ e. sym other))))))))))))
-  where
-    IsTold : Sort → Type 0
-    IsTold sort = is_quote sort ≡ (b == 39)
+quote-sort b = grind (arith, nat_tests)
 
 -- Bytes that keep a state.
 
@@ -136,14 +115,13 @@ either-sort b c d sort passed one two =
 
 passes-sort : (test : ByteTest) (b : ℕ) → is_plain test ≡ true → passes test b ≡ true → sort_of b ≡ test_sort test
 passes-sort Digit b plain passed = digit-sort b passed
-passes-sort HexDigit b plain passed = absurd (false≢true plain)
 passes-sort Hyphen b plain passed = ap sort_of (eqb-true b 45 passed)
 passes-sort Colon b plain passed = ap sort_of (eqb-true b 58 passed)
 passes-sort Dot b plain passed = ap sort_of (eqb-true b 46 passed)
-passes-sort Sign b plain passed = absurd (false≢true plain)
 passes-sort TimeMark b plain passed = either-sort b 84 116 (ALetter ATime) passed refl refl
 passes-sort OffsetMark b plain passed = either-sort b 90 122 (ALetter AZulu) passed refl refl
 passes-sort ExponentMark b plain passed = either-sort b 101 69 (ALetter AnE) passed refl refl
+passes-sort _ b plain passed = absurd (false≢true plain)
 
 pub goes-fits : (tests : List ByteTest) (q : State) (xs : List ℕ) → list_all is_plain tests ≡ true → PassesTests tests xs → fold step q xs ≡ fold enter q (map test_sort tests)
 goes-fits [] q [] plain fits = refl

@@ -96,7 +96,7 @@ run_on_fault = record {
   tokens = tt;
   place = 0;
   gap = start_gap run_on_filter;
-  fault_at = (refl, run_on run_on_filter 0 1 2 Int (longest-dead (Token Int) run_on_filter 1 (omega arith) one (λ more. tt)) refl (sym (run-names (codes "st") refl)) (omega arith));
+  fault_at = (refl, run_on run_on_filter 0 1 2 Int (longest-dead (Token Int) run_on_filter 1 (omega arith) one (λ more. refl)) refl (sym (run-names (codes "st") refl)) (omega arith));
 }
 
 moment : Spells Moment (codes "2020-01-01T00:00Z")

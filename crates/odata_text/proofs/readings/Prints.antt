@@ -4,12 +4,9 @@ use Rattle.odata_text.proofs.Common.{◌≡◌, ℕ, ◌+◌, ◌-◌, ◌<◌, 
 use Rattle.odata_text.specs.Printing.{print_tokens, print_text}
 use Rattle.odata_text.specs.Tokens.{RunsOn}
 use Rattle.odata_text.proofs.characters.IdentifierBytes.{continues-ascii, is_name_byte}
-use Rattle.odata_text.proofs.machine.Longest.{longest-before}
+use Rattle.odata_text.proofs.machine.Longest.{longest-before, separator-ascii}
 
 -- No identifier character stands behind a token.
-
-separator-ascii : (b : ℕ) → is_separator b ≡ true → b < 128
-separator-ascii b separator = grind (arith, nat_tests)
 
 separator-name : (b : ℕ) → is_separator b ≡ true → is_name_byte b ≡ false
 separator-name b separator = grind (arith, nat_tests)
@@ -24,13 +21,8 @@ run-none b more separator =
     ap (λ (cs : List ℕ). length (encode_utf8_all cs)) (ap (take_while continues_identifier) front ∙ none)
 
 follow-separator : (kind : TokenKind) (b : ℕ) → is_undelimited kind ≡ true → may_follow kind b ≡ true → is_separator b ≡ true
-follow-separator Open b undelimited follows = absurd (false≢true undelimited)
-follow-separator Close b undelimited follows = absurd (false≢true undelimited)
-follow-separator Comma b undelimited follows = absurd (false≢true undelimited)
-follow-separator Slash b undelimited follows = absurd (false≢true undelimited)
-follow-separator Colon b undelimited follows = absurd (false≢true undelimited)
 follow-separator Int b undelimited follows = (and_parts (is_separator b) (not (b == 58)) follows).0
-follow-separator kind b undelimited follows = follows
+follow-separator _ b undelimited follows = cc
 
 no_run : (kind : TokenKind) (rest : List ℕ) → MayFollow kind rest → RunsOn kind rest → ⊥
 no_run kind [] follows runs = let some = runs.1 in let none : identifier_run [] ≡ 0 = ap (λ (cs : List ℕ). length (encode_utf8_all (take_while continues_identifier cs))) chars-nil in absurd (omega arith)

@@ -65,13 +65,18 @@ sign_digits = record { no_first = fits-nonempty Sign []; no_second = numeral-non
 marked-digits : (c : ℕ) (ds : List ℕ) → passes Sign c ≡ true → IsNumeral 10 ds → SignedPair (c ∷ ds)
 marked-digits c ds sign numeral = pair-from_marked Sign (IsNumeral 10) (c ∷ ds) (record { mark = c; behind = ds; whole = refl; is_mark = sign; is_behind = numeral })
 
-pub parts-from_int : (xs : List ℕ) → IsIntSpelling xs → IntParts xs
-parts-from_int [] int = absurd int.1
-parts-from_int (c ∷ ds) int =
+-- what holds of digits, and of a sign before them, holds of every whole number
+pub int-by_form : (P : List ℕ → Type 0) → ((ds : List ℕ) → IsNumeral 10 ds → P ds) → ((ds : List ℕ) → IsNumeral 10 ds → P (43 ∷ ds)) → ((ds : List ℕ) → IsNumeral 10 ds → P (45 ∷ ds))
+    → (xs : List ℕ) → IsIntSpelling xs → P xs
+int-by_form P plain plus minus [] int = absurd int.1
+int-by_form P plain plus minus (c ∷ ds) int =
     elim int.1 [
-      | inl plus ↦ inr (marked-digits c ds (ap (passes Sign) plus.0) plus.1)
-      | inr other ↦ elim other [ inl minus ↦ inr (marked-digits c ds (ap (passes Sign) minus.0) minus.1) | inr plain ↦ inl plain.0 ]
+      | inl is ↦ subst (λ (b : ℕ). P (b ∷ ds)) (sym is.0) (plus ds is.1)
+      | inr other ↦ elim other [ inl is ↦ subst (λ (b : ℕ). P (b ∷ ds)) (sym is.0) (minus ds is.1) | inr is ↦ plain (c ∷ ds) is.0 ]
     ]
+
+pub parts-from_int : (xs : List ℕ) → IsIntSpelling xs → IntParts xs
+parts-from_int = int-by_form IntParts (λ ds numeral. inl numeral) (λ ds numeral. inr (marked-digits 43 ds refl numeral)) (λ ds numeral. inr (marked-digits 45 ds refl numeral))
 
 signed-int : (c : ℕ) (ds : List ℕ) → passes Sign c ≡ true → IsNumeral 10 ds → IsIntSpelling (c ∷ ds)
 signed-int c ds sign numeral =
