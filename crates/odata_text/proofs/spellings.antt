@@ -1,7 +1,5 @@
 pub mod Decimals
-pub mod Fronts
 pub mod Guids
-pub mod Names
 pub mod Parts
 pub mod Patterns
 pub mod Quotes

@@ -1,7 +1,8 @@
 -- Enumeration literals without the spaces round their pieces.
-use Rattle.odata_text.proofs.Common.{◌≡◌, ⊎_elim, ℕ, suc, ◌<◌, ◌==◌, ◌||◌, ◌&&◌, Bool, true, false, cond, List, [], ◌∷◌, ◌++◌, length, get_or, arith, refl, sym, ◌∙◌, ap, subst, and_left, and_parts, both_ways, cases_Bool, cond-false, cond-true, eqb-true, ne_eqb, IsStringSpelling, with_doubled_quotes, enumeration_spelling, FollowedBy, IsDottedWord}
+use Rattle.std.proofs.lemmas.Bool.{not-true}
+use Rattle.odata_text.proofs.Common.{list_all, ◌≡◌, ⊎_elim, ℕ, suc, ◌<◌, ◌==◌, ◌||◌, ◌&&◌, Bool, true, false, cond, List, [], ◌∷◌, ◌++◌, length, get_or, arith, refl, sym, ◌∙◌, ap, subst, and_left, and_parts, both_ways, cases_Bool, cond-false, cond-true, eqb-true, ne_eqb, IsStringSpelling, with_doubled_quotes, enumeration_spelling, FollowedBy, IsDottedWord}
 use Rattle.odata_text.specs.LiteralSpelling.{is_piece_end, trimmed_pieces}
-use Rattle.odata_text.proofs.spellings.Parts.{no_quote-word}
+use Rattle.odata_text.proofs.spellings.Parts.{dotted-unquoted, is_unquoted}
 
 -- What is left is spelled as a text in quotes.
 
@@ -40,11 +41,12 @@ trimmed-quoted before (b ∷ bs) =
     (cases_Bool (b == 39))
 
 -- up to the first quote nothing is left out
-enumeration-past : (word ys : List ℕ) → ((i : ℕ) → i < length word → get_or word i 0 ≡ 39 → ⊥) → enumeration_spelling (word ++ 39 ∷ ys) ≡ word ++ 39 ∷ trimmed_pieces true ys
+enumeration-past : (word ys : List ℕ) → list_all is_unquoted word ≡ true → enumeration_spelling (word ++ 39 ∷ ys) ≡ word ++ 39 ∷ trimmed_pieces true ys
 enumeration-past [] ys none = refl
 enumeration-past (b ∷ word) ys none =
-    let plain : (b == 39) ≡ false = ne_eqb b 39 (none 0 (omega arith)) in
-    let more = enumeration-past word ys (λ i inside. none (suc i) (omega arith)) in
+    let parts = and_parts (is_unquoted b) (list_all is_unquoted word) none in
+    let plain : (b == 39) ≡ false = not-true (b == 39) parts.0 in
+    let more = enumeration-past word ys parts.1 in
     ap (λ (xs : List ℕ). b ∷ xs) (cond-false (b == 39) (trimmed_pieces true (word ++ 39 ∷ ys)) (enumeration_spelling (word ++ 39 ∷ ys)) plain ∙ more)
 
 pub trimmed-enumeration : (text : List ℕ) → FollowedBy IsDottedWord IsStringSpelling text → FollowedBy IsDottedWord IsStringSpelling (enumeration_spelling text)
@@ -54,7 +56,7 @@ trimmed-enumeration text pair =
       front = pair.front;
       back = 39 ∷ with_doubled_quotes quoted.value ++ 39 ∷ [];
       whole = ap enumeration_spelling (pair.whole ∙ ap (λ (ys : List ℕ). pair.front ++ ys) pair.is_back.1)
-          ∙ enumeration-past pair.front (with_doubled_quotes pair.is_back.0 ++ 39 ∷ []) (no_quote-word pair.front pair.is_front)
+          ∙ enumeration-past pair.front (with_doubled_quotes pair.is_back.0 ++ 39 ∷ []) (dotted-unquoted pair.front pair.is_front)
           ∙ ap (λ (ys : List ℕ). pair.front ++ 39 ∷ ys) quoted.is;
       is_front = pair.is_front;
       is_back = (quoted.value, refl);

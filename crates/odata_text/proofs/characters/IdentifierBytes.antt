@@ -3,7 +3,8 @@ use Rattle.std.specs.Char.{is_ascii_alphanumeric}
 use Rattle.std.specs.Bool.{beq}
 use Rattle.std.specs.Str.{IsAscii, NonePass}
 use Rattle.std.proofs.lemmas.Bool.{not-false, or_right}
-use Rattle.std.proofs.lemmas.List.Sums.{AllPass-from_list_all}
+use Rattle.std.proofs.lemmas.List.Elements.{All-from_get_or}
+use Rattle.std.proofs.lemmas.List.Sums.{AllPass-from_list_all, list_all-from_AllPass}
 use Rattle.std.proofs.lemmas.Str.{NoCharPasses-byte, char_from_byte}
 use Rattle.std.proofs.lemmas.Str.Ascii.{IsAscii-from_all}
 use Rattle.unicode.specs.GeneralCategory.{general_category}
@@ -53,11 +54,13 @@ ascii-or_past p b ascii = ⊎_elim (λ below. or_left _ _ (ascii below)) (λ far
     past : (c : ℕ) → 128 ≤ c → nat_le 128 c ≡ true
     past c far = grind (arith, nat_tests)
 
-pub identifier-part : (xs : List ℕ) → IsIdentifier xs → (i : ℕ) → i < length xs → is_part_byte (get_or xs i 0) ≡ true
-identifier-part xs identifier i inside = ascii-or_past is_name_byte (get_or xs i 0) (λ ascii.
+pub identifier-part : (xs : List ℕ) → IsIdentifier xs → list_all is_part_byte xs ≡ true
+identifier-part xs identifier =
+    list_all-from_AllPass is_part_byte xs (All-from_get_or (λ b. is_part_byte b ≡ true) xs 0 (λ i inside.
+    ascii-or_past is_name_byte (get_or xs i 0) (λ ascii.
     let all = none-stops (chars xs) (all-from_identifier (chars xs) identifier.characters) in
     let stops = NoCharPasses-byte (λ c. not (continues_identifier c)) xs i (chars xs, encodes-chars xs identifier.utf8, all) inside ascii in
-    sym (continues-ascii (get_or xs i 0) ascii) ∙ not-false (continues_identifier (get_or xs i 0)) stops)
+    sym (continues-ascii (get_or xs i 0) ascii) ∙ not-false (continues_identifier (get_or xs i 0)) stops)))
 
 pub identifier-start : (xs : List ℕ) → IsIdentifier xs → is_word_start (get_or xs 0 0) ≡ true
 identifier-start xs identifier = ascii-or_past is_first_byte (get_or xs 0 0) (first xs (chars xs) identifier.characters (encodes-chars xs identifier.utf8) (identifier-nonempty xs identifier))

@@ -1,29 +1,24 @@
 -- Where the machine ends on a piece of each form.
 use Rattle.std.specs.List.{AllByRecursion as AllOf}
-use Rattle.odata_text.proofs.Common.{◌≡◌, ◌⊎◌, inl, inr, ⊎_elim, ℕ, min, ◌+◌, ◌<◌, ◌≤◌, ◌==◌, Bool, true, false, List, [], ◌∷◌, ◌++◌, length, get_or, drop, Some, suc, arith, refl, ◌∙◌, ap, fold, is_ascii_alphabetic, list_all, and_parts, cases_lt, eqb-true, false≢true, or_cases, nat_tests, IsGuidSpelling, IsIntSpelling, IsNumeral, IsMomentSpelling, IsOffsetSpelling, IsSecondsSpelling, IsStringSpelling, with_doubled_quotes, IsIdentifier, IsDecimals, IsExponent, IsFraction, PassesTests, passes, IsFormed, IsLeftOutName, IsWordSpelling, dotted_parts, ByteTest, HexDigit, Hyphen, TimeMark, OffsetMark, Form, Token, LeftOut, Number, TimeOfDay, Closed, Word, Dollar, Int, Date, Moment, Guid, Str, EnumLit, Open, Close, Comma, Slash, Colon, Minus}
+use Rattle.odata_text.proofs.Common.{◌≡◌, ◌⊎◌, inl, inr, ⊎_elim, ℕ, min, ◌+◌, ◌<◌, ◌≤◌, ◌==◌, Bool, true, false, List, [], ◌∷◌, ◌++◌, length, get_or, drop, Some, suc, arith, refl, ◌∙◌, ap, fold, is_ascii_alphabetic, list_all, and_parts, cases_lt, eqb-true, false≢true, or_cases, nat_tests, IsGuidSpelling, IsIntSpelling, IsNumeral, is_ascii_digit, IsMomentSpelling, IsOffsetSpelling, IsSecondsSpelling, IsStringSpelling, with_doubled_quotes, IsIdentifier, IsDecimals, IsExponent, IsFraction, PassesTests, passes, IsFormed, IsLeftOutName, IsWordSpelling, dotted_parts, ByteTest, HexDigit, Hyphen, TimeMark, OffsetMark, Form, Token, LeftOut, Number, TimeOfDay, Closed, Word, Dollar, Int, Date, Moment, Guid, Str, EnumLit, Open, Close, Comma, Slash, Colon, Minus}
 use Rattle.odata_text.specs.declared.byte_test.ByteTest.TheVariants.{Sign as SignTest}
 use Rattle.odata_text.specs.declared.form.LeftOutKind.TheVariants.{Quoted}
 use Rattle.odata_text.specs.declared.quoted.Quoted.TheVariants.{Open as Opened}
 use Rattle.odata_text.proofs.spellings.Reaches.{int-by_form}
 use Rattle.odata_text.proofs.spellings.Guids.{fits-guid, guid_pattern}
 use Rattle.odata_text.proofs.characters.Identifiers.{identifier-nonempty}
-use Rattle.odata_text.proofs.characters.IdentifierBytes.{identifier-part, identifier-start, is_part_byte, is_word_start}
-use Rattle.odata_text.proofs.spellings.Names.{left_out-letters}
+use Rattle.odata_text.proofs.characters.IdentifierBytes.{identifier-part, identifier-start, is_part_byte}
+use Rattle.odata_text.proofs.spellings.Parts.{left_out-identifier}
+use Rattle.odata_text.proofs.spellings.Patterns.{either-byte}
 use Rattle.odata_text.proofs.spellings.Quotes.{open-with_doubled_quotes}
-use Rattle.odata_text.proofs.spellings.Times.{IsSecondsByte, clock_pattern, date_pattern, fits-clock, fits-date, fits-marked, offset-fits, parts-from_moment, seconds-byte}
+use Rattle.odata_text.proofs.spellings.Times.{is_seconds_byte, clock_pattern, date_pattern, fits-clock, fits-date, fits-marked, offset-fits, parts-from_moment, seconds-bytes}
 use Rattle.odata_text.proofs.machine.States.{Letter, AnE, AHexLetter, ADigit, ALetter, AHyphen, State, Start, Text, Sign, SignedDigits, Pointed, Powered, Digits, PowerDigits, PowerHyphen, OneHyphen, TwoHyphens, Hexes, Clock, Timed, Ahead, Name, Dotted, Dollared, Lead, Bare, Named, Qualified, enter, form_at, run, step}
 use Rattle.odata_text.proofs.machine.Steps.{digit-goes, goes-both, goes-digits, goes-fits, goes-text, hex-sorts, name-starts, part-kept, stays}
 
 -- Words.
 
-name-run : (xs : List ℕ) → 0 < length xs → is_word_start (get_or xs 0 0) ≡ true → ((i : ℕ) → i < length xs → is_part_byte (get_or xs i 0) ≡ true) → run xs ≡ Name
-name-run [] some start parts = absurd (omega arith)
-name-run (b ∷ bs) some start parts =
-    ap (λ (s : State). fold step s bs) (name-starts b start)
-    ∙ stays (λ c. is_part_byte c ≡ true) Name bs (part-kept Name refl (λ l. refl)) (λ i inside. parts (suc i) (omega arith))
-
 part-run : (q : State) (xs : List ℕ) → enter q ADigit ≡ q → ((l : Letter) → enter q (ALetter l) ≡ q) → IsIdentifier xs → fold step q xs ≡ q
-part-run q xs by_digit by_letter identifier = stays (λ c. is_part_byte c ≡ true) q xs (part-kept q by_digit by_letter) (identifier-part xs identifier)
+part-run q xs by_digit by_letter identifier = stays is_part_byte q xs (part-kept q by_digit by_letter) (identifier-part xs identifier)
 
 dotted-run : (part : List ℕ) (more : List (List ℕ)) → IsIdentifier part → AllOf IsIdentifier more → fold step Dotted (dotted_parts part more) ≡ Dotted
 dotted-run part [] identifier all = part-run Dotted part refl (λ l. refl) identifier
@@ -37,7 +32,10 @@ at_word [] = Name
 at_word (part ∷ more) = Dotted
 
 identifier-run : (xs : List ℕ) → IsIdentifier xs → run xs ≡ Name
-identifier-run xs identifier = name-run xs (identifier-nonempty xs identifier) (identifier-start xs identifier) (identifier-part xs identifier)
+identifier-run [] identifier = let some = identifier-nonempty [] identifier in absurd (omega arith)
+identifier-run (b ∷ bs) identifier =
+    let parts = and_parts (is_part_byte b) (list_all is_part_byte bs) (identifier-part (b ∷ bs) identifier) in
+    ap (λ (s : State). fold step s bs) (name-starts b (identifier-start (b ∷ bs) identifier)) ∙ stays is_part_byte Name bs (part-kept Name refl (λ l. refl)) parts.1
 
 dotted_parts-run : (part : List ℕ) (more : List (List ℕ)) → IsIdentifier part → AllOf IsIdentifier more → run (dotted_parts part more) ≡ at_word more
 dotted_parts-run part [] identifier all = identifier-run part identifier
@@ -55,17 +53,6 @@ word-form (part ∷ more) = refl
 dotted-word : (more : List (List ℕ)) → 0 < length more → at_word more ≡ Dotted
 dotted-word [] some = absurd (omega arith)
 dotted-word (part ∷ more) some = refl
-
-named-run : (xs : List ℕ) → IsLeftOutName xs → run xs ≡ Name
-named-run xs name =
-    let letters = left_out-letters xs name in
-    name-run xs letters.nonempty (start (get_or xs 0 0) (letters.letters 0 letters.nonempty)) (λ i inside. part (get_or xs i 0) (letters.letters i inside))
-  where
-    start : (b : ℕ) → is_ascii_alphabetic b ≡ true → is_word_start b ≡ true
-    start b letter = grind (arith, nat_tests)
-
-    part : (b : ℕ) → is_ascii_alphabetic b ≡ true → is_part_byte b ≡ true
-    part b letter = grind (arith, nat_tests)
 
 -- Texts in quotes, behind what the state has read.
 
@@ -128,14 +115,14 @@ number-run front back (inr digits) decimals =
 -- Dates and times.
 
 seconds-run : (q : State) (xs : List ℕ) → step q 46 ≡ q → step q 58 ≡ q → enter q ADigit ≡ q → IsSecondsSpelling xs → fold step q xs ≡ q
-seconds-run q xs dot colon digit seconds = stays IsSecondsByte q xs kept (seconds-byte xs seconds)
+seconds-run q xs dot colon digit seconds = stays is_seconds_byte q xs kept (seconds-bytes xs seconds)
   where
-    kept : (b : ℕ) → IsSecondsByte b → step q b ≡ q
-    kept b (inl is) = ap (step q) is ∙ dot
-    kept b (inr range) =
-        let low = range.0 in
-        let high = range.1 in
-        ⊎_elim (λ below. digit-goes q q digit b (low, omega arith)) (λ above. let is : b ≡ 58 = omega arith in ap (step q) is ∙ colon) (cases_lt b 58)
+    kept : (b : ℕ) → is_seconds_byte b ≡ true → step q b ≡ q
+    kept b passed =
+        ⊎_elim
+        (λ is. digit-goes q q digit b is)
+        (λ mark. ⊎_elim (λ is. ap (step q) is ∙ dot) (λ is. ap (step q) is ∙ colon) (either-byte b 46 58 mark))
+        (or_cases (is_ascii_digit b) _ passed)
 
 offset-run : (xs : List ℕ) → IsOffsetSpelling xs → form_at (fold step Timed xs) ≡ Some (Token Moment)
 offset-run xs offset = ⊎_elim (λ mark. ap form_at (goes-fits (OffsetMark ∷ []) Timed xs refl mark)) (λ ahead. sign xs ahead) (offset-fits xs offset)
@@ -143,7 +130,7 @@ offset-run xs offset = ⊎_elim (λ mark. ap form_at (goes-fits (OffsetMark ∷ 
     sign : (ys : List ℕ) → PassesTests (SignTest ∷ clock_pattern) ys → form_at (fold step Timed ys) ≡ Some (Token Moment)
     sign [] fits = absurd fits
     sign (b ∷ clock) fits =
-        let ahead : step Timed b ≡ Ahead = ⊎_elim (λ plus. ap (step Timed) (eqb-true b 43 plus)) (λ minus. ap (step Timed) (eqb-true b 45 minus)) (or_cases (b == 43) (b == 45) fits.0) in
+        let ahead : step Timed b ≡ Ahead = ⊎_elim (λ plus. ap (step Timed) plus) (λ minus. ap (step Timed) minus) (either-byte b 43 45 fits.0) in
         ap (λ (s : State). form_at (fold step s clock)) ahead ∙ ap form_at (goes-fits clock_pattern Ahead clock refl fits.1)
 
 moment-run : (xs : List ℕ) → IsMomentSpelling xs → form_at (run xs) ≡ Some (Token Moment)
@@ -244,4 +231,4 @@ reads (LeftOut TimeOfDay) xs formed =
     ap form_at (goes-both Start Clock xs formed.front formed.back formed.whole (goes-fits clock_pattern Start formed.front refl (fits-clock formed.front formed.is_front))
     ∙ seconds-run Clock formed.back refl refl refl formed.is_back)
 reads (LeftOut Quoted) xs formed =
-    ap form_at (goes-both Start Name xs formed.front formed.back formed.whole (named-run formed.front formed.is_front) ∙ text-run Name Named formed.back refl formed.is_back)
+    ap form_at (goes-both Start Name xs formed.front formed.back formed.whole (identifier-run formed.front (left_out-identifier formed.front formed.is_front)) ∙ text-run Name Named formed.back refl formed.is_back)

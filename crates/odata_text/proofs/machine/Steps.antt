@@ -5,6 +5,8 @@ use Rattle.odata_text.specs.declared.byte_test.ByteTest.TheVariants.{Colon}
 use Rattle.odata_text.specs.declared.quoted.Quoted.TheVariants.{Open}
 use Rattle.odata_text.specs.declared.token.TokenKind.TheVariants.{Colon as ColonToken}
 use Rattle.odata_text.proofs.characters.IdentifierBytes.{is_part_byte, is_word_start}
+use Rattle.odata_text.proofs.spellings.Patterns.{either-byte}
+use Rattle.odata_text.proofs.spellings.Reaches.{numeral-digits, numeral-none}
 use Rattle.odata_text.proofs.machine.States.{Letter, AnE, AHexLetter, ATime, AZulu, APlain, Sort, ADigit, ALetter, ADot, AHyphen, AMark, AnyOther, State, Start, Name, Lead, Text, enter, is_quote, letter_of, quoted_by, sort_of, step}
 
 -- What a byte is to the machine.
@@ -38,16 +40,12 @@ quote-sort b = grind (arith, nat_tests)
 
 -- Bytes that keep a state.
 
-pub stays : (P : ℕ → Type 0) (q : State) (xs : List ℕ) → ((b : ℕ) → P b → step q b ≡ q) → ((i : ℕ) → i < length xs → P (get_or xs i 0)) → fold step q xs ≡ q
-stays P q [] kept each = refl
-stays P q (b ∷ bs) kept each = ap (λ (s : State). fold step s bs) (kept b (each 0 (omega arith))) ∙ stays P q bs kept (λ i inside. each (suc i) (omega arith))
+pub stays : (p : ℕ → Bool) (q : State) (xs : List ℕ) → ((b : ℕ) → p b ≡ true → step q b ≡ q) → list_all p xs ≡ true → fold step q xs ≡ q
+stays p q [] kept all = refl
+stays p q (b ∷ bs) kept all = let parts = and_parts (p b) (list_all p bs) all in ap (λ (s : State). fold step s bs) (kept b parts.0) ∙ stays p q bs kept parts.1
 
-pub digit-goes : (q next : State) → enter q ADigit ≡ next → (b : ℕ) → (48 ≤ b) × (b ≤ 57) → step q b ≡ next
-digit-goes q next goes b range =
-    let low = range.0 in
-    let high = range.1 in
-    let digit : is_ascii_digit b ≡ true = grind (arith, nat_tests) in
-    ap (enter q) (digit-sort b digit) ∙ goes
+pub digit-goes : (q next : State) → enter q ADigit ≡ next → (b : ℕ) → is_ascii_digit b ≡ true → step q b ≡ next
+digit-goes q next goes b digit = ap (enter q) (digit-sort b digit) ∙ goes
 
 pub part-kept : (q : State) → enter q ADigit ≡ q → ((l : Letter) → enter q (ALetter l) ≡ q) → (b : ℕ) → is_part_byte b ≡ true → step q b ≡ q
 part-kept q by_digit by_letter b part =
@@ -70,13 +68,10 @@ goes-both p q xs front back whole first =
 
 -- digits, from one state on into another
 pub goes-digits : (q next : State) (ds : List ℕ) → enter q ADigit ≡ next → enter next ADigit ≡ next → IsNumeral 10 ds → fold step q ds ≡ next
-goes-digits q next [] goes kept numeral = let some = numeral.0 in absurd (omega arith)
+goes-digits q next [] goes kept numeral = absurd (numeral-none numeral)
 goes-digits q next (d ∷ ds) goes kept numeral =
-    ap (λ (s : State). fold step s ds) (digit-goes q next goes d (digit (d ∷ ds) 0 (omega arith) numeral))
-    ∙ stays (λ b. (48 ≤ b) × (b ≤ 57)) next ds (digit-goes next next kept) (λ i inside. digit (d ∷ ds) (suc i) (omega arith) numeral)
-  where
-    digit : (xs : List ℕ) (k : ℕ) → k < length xs → IsNumeral 10 xs → (48 ≤ get_or xs k 0) × (get_or xs k 0 ≤ 57)
-    digit xs k inside numeral = let at = digit_at xs k numeral.1 inside in (at.0, at.1)
+    let all = and_parts (is_ascii_digit d) (list_all is_ascii_digit ds) (numeral-digits (d ∷ ds) numeral) in
+    ap (λ (s : State). fold step s ds) (digit-goes q next goes d all.0) ∙ stays is_ascii_digit next ds (digit-goes next next kept) all.1
 
 -- Texts in quotes.
 
@@ -110,8 +105,7 @@ test_sort _ = AnyOther
 
 -- one of two bytes of a sort
 either-sort : (b c d : ℕ) (sort : Sort) → ((b == c) || (b == d)) ≡ true → sort_of c ≡ sort → sort_of d ≡ sort → sort_of b ≡ sort
-either-sort b c d sort passed one two =
-    ⊎_elim (λ first. ap sort_of (eqb-true b c first) ∙ one) (λ second. ap sort_of (eqb-true b d second) ∙ two) (or_cases (b == c) (b == d) passed)
+either-sort b c d sort passed one two = ⊎_elim (λ first. ap sort_of first ∙ one) (λ second. ap sort_of second ∙ two) (either-byte b c d passed)
 
 passes-sort : (test : ByteTest) (b : ℕ) → is_plain test ≡ true → passes test b ≡ true → sort_of b ≡ test_sort test
 passes-sort Digit b plain passed = digit-sort b passed

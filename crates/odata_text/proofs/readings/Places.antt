@@ -1,11 +1,11 @@
 -- Places in a text: where pieces end, and what stands behind them.
 use Rattle.std.specs.List.{AllByRecursion as AllOf}
 use Rattle.std.proofs.lemmas.Str.{IsUtf8-append}
+use Rattle.std.proofs.lemmas.Str.{IsCharBoundary-from_rest}
 use Rattle.odata_text.proofs.Common.{◌≡◌, ◌⊎◌, inl, inr, ⊎_elim, ℕ, ◌+◌, ◌-◌, ◌<◌, ◌≤◌, true, List, [], ◌∷◌, ◌++◌, length, get_or, take, drop, IsUtf8, arith, refl, sym, ◌∙◌, ap, subst, IsCharBoundary, slice_range, cases_lt, get_or-drop, length-take-le, length-drop, fold_more, IsCharBoundary-after_ascii, IsCharBoundary-from_take, IsUtf8-drop, IsUtf8-from_ascii, IsAscii-cons, IsAscii-nil, IsIdentifier, identifier_run, FollowedBy, IsByte, IsWordSpelling, Spells, dotted_parts, IsGap, IsLongest, IsRunOn, is_undelimited, Space, Other, TokenKind, Word, Dollar, Form, Token, LeftOut}
 use Rattle.odata_text.specs.Tokens.{IsLeftOutLiteral}
 use Rattle.odata_text.specs.declared.form.LeftOutKind.{LeftOutKind}
 use Rattle.odata_text.proofs.characters.ByteClasses.{class_of-non_ascii}
-use Rattle.odata_text.proofs.spellings.Words.{boundary-shift}
 use Rattle.odata_text.proofs.machine.Longest.{formed-some, past-word}
 use Rattle.odata_text.proofs.machine.Runs.{reads}
 use Rattle.odata_text.proofs.machine.States.{ALetter, APlain, Start, enter, form_at, run, step}
@@ -69,7 +69,7 @@ boundary-behind text start n kind utf8 boundary longest =
     let room = length-drop start text in
     ⊎_elim
     (λ ascii. last-boundary text start n utf8 some within ascii)
-    (λ far. boundary-shift text start n (IsUtf8-drop text start utf8 boundary) (omega arith) within (IsCharBoundary-from_take rest n (IsUtf8-drop text start utf8 boundary) within (past-utf8 kind rest n some within far longest.spelled)))
+    (λ far. IsCharBoundary-from_rest text start n boundary.0 (IsCharBoundary-from_take rest n (IsUtf8-drop text start utf8 boundary) within (past-utf8 kind rest n some within far longest.spelled)))
     (cases_lt (get_or rest (n - 1) 0) 128)
 
 -- white space ends between two characters

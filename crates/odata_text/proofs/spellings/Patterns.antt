@@ -1,16 +1,24 @@
 -- Patterns of bytes.
-use Rattle.odata_text.proofs.Common.{◌≡◌, ℕ, zero, suc, ◌<◌, ◌≤◌, true, false, List, [], ◌∷◌, ◌++◌, length, get_or, take, arith, refl, sym, ◌∙◌, ap, both_ways, get_or-take, length-take-le, IsReach, PassesTests, passes, FollowedBy, ByteTest}
-use Rattle.odata_text.proofs.spellings.Sequences.{IsExact, exact-by_length}
+use Rattle.std.proofs.lemmas.Bool.{or_right, eq-eqb}
+use Rattle.odata_text.proofs.Common.{◌≡◌, ◌⊎◌, inl, inr, ⊎_elim, ℕ, zero, suc, ◌<◌, ◌≤◌, ◌==◌, ◌||◌, true, false, List, [], ◌∷◌, ◌++◌, length, get_or, take, arith, refl, sym, ◌∙◌, ap, subst, both_ways, or_left, or_cases, eqb-true, get_or-take, length-take-le, IsReach, PassesTests, passes, FollowedBy, ByteTest}
+use Rattle.odata_text.proofs.spellings.Sequences.{reach-sized, reach-unsized}
+
+-- one of two bytes, and the test of it
+pub either-byte : (b c d : ℕ) → ((b == c) || (b == d)) ≡ true → (b ≡ c) ⊎ (b ≡ d)
+either-byte b c d passed = ⊎_elim (λ e. inl (eqb-true b c e)) (λ e. inr (eqb-true b d e)) (or_cases (b == c) (b == d) passed)
+
+pub either-passes : (b c d : ℕ) → (b ≡ c) ⊎ (b ≡ d) → ((b == c) || (b == d)) ≡ true
+either-passes b c d (inl first) = or_left _ _ (eq-eqb b c first)
+either-passes b c d (inr second) = or_right _ _ (eq-eqb b d second)
 
 pub fits-length : (tests : List ByteTest) (bytes : List ℕ) → PassesTests tests bytes → length bytes ≡ length tests
 fits-length [] [] fits = refl
 fits-length [] (b ∷ bytes) fits = absurd fits
 fits-length (t ∷ tests) [] fits = absurd fits
-fits-length (t ∷ tests) (b ∷ bytes) fits = let more = fits-length tests bytes fits.1 in omega arith
+fits-length (t ∷ tests) (b ∷ bytes) fits = ap suc (fits-length tests bytes fits.1)
 
 pub fits-at : (tests : List ByteTest) (bytes : List ℕ) → PassesTests tests bytes → (k : ℕ) (d : ByteTest) → k < length tests → passes (get_or tests k d) (get_or bytes k 0) ≡ true
-fits-at [] [] fits k d below = absurd (omega arith)
-fits-at [] (b ∷ bytes) fits k d below = absurd fits
+fits-at [] bytes fits k d below = absurd (omega arith)
 fits-at (t ∷ tests) [] fits k d below = absurd fits
 fits-at (t ∷ tests) (b ∷ bytes) fits zero d below = fits.0
 fits-at (t ∷ tests) (b ∷ bytes) fits (suc k) d below = fits-at tests bytes fits.1 k d (omega arith)
@@ -21,64 +29,28 @@ fits-from_reads [] rest d within reads = tt
 fits-from_reads (t ∷ tests) [] d within reads = absurd (omega arith)
 fits-from_reads (t ∷ tests) (b ∷ rest) d within reads = (reads 0 (omega arith), fits-from_reads tests rest d (omega arith) (λ k below. reads (suc k) (omega arith)))
 
+-- What the code finds.
+
 pub pattern-short : (tests : List ByteTest) (rest : List ℕ) → length rest < length tests → IsReach (PassesTests tests) 0 rest
-pattern-short tests rest short = record {
-  within = omega arith;
-  found = λ positive. absurd (omega arith);
-  reaches = λ m inside fits. let size = fits-length tests (take m rest) fits in let taken = length-take-le m rest inside in absurd (omega arith);
-}
+pattern-short tests rest short = reach-unsized (PassesTests tests) (length tests) rest (fits-length tests) (λ inside fits. omega arith)
 
 pub pattern-fails : (tests : List ByteTest) (rest : List ℕ) (k : ℕ) (d : ByteTest) → k < length tests → passes (get_or tests k d) (get_or rest k 0) ≡ false → IsReach (PassesTests tests) 0 rest
-pattern-fails tests rest k d below fails = record {
-  within = omega arith;
-  found = λ positive. absurd (omega arith);
-  reaches = λ m inside fits.
-      let size = fits-length tests (take m rest) fits in
-      let taken = length-take-le m rest inside in
-      let stands : passes (get_or tests k d) (get_or rest k 0) ≡ true = sym (ap (passes (get_or tests k d)) (get_or-take m rest k 0 (omega arith))) ∙ fits-at tests (take m rest) fits k d below in
-      absurd (both_ways _ fails stands);
-}
+pattern-fails tests rest k d below fails = reach-unsized (PassesTests tests) (length tests) rest (fits-length tests) (λ inside fits.
+    both_ways _ fails (sym (ap (passes (get_or tests k d)) (get_or-take (length tests) rest k 0 below)) ∙ fits-at tests (take (length tests) rest) fits k d below))
 
 pub pattern-stands : (tests : List ByteTest) (rest : List ℕ) (d : ByteTest) → length tests ≤ length rest
     → ((k : ℕ) → k < length tests → passes (get_or tests k d) (get_or rest k 0) ≡ true) → IsReach (PassesTests tests) (length tests) rest
-pattern-stands tests rest d within reads = record {
-  within = within;
-  found = λ positive. fits-from_reads tests rest d within reads;
-  reaches = λ m inside fits. let size = fits-length tests (take m rest) fits in let taken = length-take-le m rest inside in omega arith;
-}
+pattern-stands tests rest d within reads = reach-sized (PassesTests tests) (length tests) rest (fits-length tests) within (fits-from_reads tests rest d within reads)
 
--- a pattern is as long wherever it fits
-pub fits-exact : (tests : List ByteTest) (B : List ℕ → Type 0) (n : ℕ) (rest : List ℕ) → IsReach (PassesTests tests) n rest → 0 < n → IsExact (PassesTests tests) B n rest
-fits-exact tests B n rest reach some =
-    let within = reach.within in
-    let size = fits-length tests (take n rest) (reach.found some) in
-    let taken = length-take-le n rest within in
-    exact-by_length (PassesTests tests) B n rest (λ xs fits. let here = fits-length tests xs fits in omega arith)
+-- A byte that passes a test, and a piece behind it.
 
-pub fits-nonempty : (test : ByteTest) (tests : List ByteTest) → PassesTests (test ∷ tests) [] → ⊥
-fits-nonempty test tests fits = fits
+pub marked-pair : (test : ByteTest) (B : List ℕ → Type 0) (b : ℕ) (behind : List ℕ) → passes test b ≡ true → B behind → FollowedBy (PassesTests (test ∷ [])) B (b ∷ behind)
+marked-pair test B b behind passed is = record { front = b ∷ []; back = behind; whole = refl; is_front = (passed, tt); is_back = is }
 
--- a byte that passes a test, and a piece behind it
-pub record IsMarked (test : ByteTest) (B : List ℕ → Type 0) (bytes : List ℕ) : Type 0 where
-  pub mark : ℕ
-  pub behind : List ℕ
-  pub whole : bytes ≡ mark ∷ behind
-  pub is_mark : passes test mark ≡ true
-  pub is_behind : B behind
-
-pub pair-from_marked : (test : ByteTest) (B : List ℕ → Type 0) (bytes : List ℕ) → IsMarked test B bytes → FollowedBy (PassesTests (test ∷ [])) B bytes
-pair-from_marked test B bytes marked = record {
-  front = marked.mark ∷ [];
-  back = marked.behind;
-  whole = marked.whole;
-  is_front = (marked.is_mark, tt);
-  is_back = marked.is_behind;
-}
-
-pub marked-from_pair : (test : ByteTest) (B : List ℕ → Type 0) (bytes : List ℕ) → FollowedBy (PassesTests (test ∷ [])) B bytes → IsMarked test B bytes
-marked-from_pair test B bytes pair = parts pair.front pair.back pair.whole pair.is_front pair.is_back
+pub pair-marked : (test : ByteTest) (B P : List ℕ → Type 0) → ((b : ℕ) (behind : List ℕ) → passes test b ≡ true → B behind → P (b ∷ behind)) → (bytes : List ℕ) → FollowedBy (PassesTests (test ∷ [])) B bytes → P bytes
+pair-marked test B P each bytes pair = subst P (sym pair.whole) (parts pair.front pair.is_front)
   where
-    parts : (front back : List ℕ) → bytes ≡ front ++ back → PassesTests (test ∷ []) front → B back → IsMarked test B bytes
-    parts [] back whole fits is_back = absurd fits
-    parts (b ∷ []) back whole fits is_back = record { mark = b; behind = back; whole = whole; is_mark = fits.0; is_behind = is_back }
-    parts (b ∷ c ∷ more) back whole fits is_back = absurd fits.1
+    parts : (front : List ℕ) → PassesTests (test ∷ []) front → P (front ++ pair.back)
+    parts [] fits = absurd fits
+    parts (b ∷ []) fits = each b pair.back fits.0 pair.is_back
+    parts (b ∷ c ∷ more) fits = absurd fits.1

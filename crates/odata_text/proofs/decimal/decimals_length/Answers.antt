@@ -1,7 +1,6 @@
 use Rattle.odata_text.proofs.Common.{◌⊎◌, ℕ, List, take_rest, IsExponent, IsFraction, FollowedBy}
 use Rattle.odata_text.proofs.spellings.Decimals.{fraction_exponent}
-use Rattle.odata_text.proofs.spellings.Fronts.{reach-either}
-use Rattle.odata_text.proofs.spellings.Sequences.{pair-reach}
+use Rattle.odata_text.proofs.spellings.Sequences.{pair-reach, reach-either}
 use Rattle.odata_text.proofs.decimal.decimals_length.Goals as goal
 
 abbrev IsPower : List ℕ → Type 0

@@ -1,7 +1,6 @@
 use Rattle.odata_text.proofs.Common.{[], ◌∷◌, IsNumeral, take_rest, IsIntSpelling, PassesTests, Sign}
-use Rattle.odata_text.proofs.spellings.Fronts.{reach-either}
 use Rattle.odata_text.proofs.spellings.Reaches.{IntParts, SignedPair, int-from_parts, numeral-run, parts-from_int, sign_digits}
-use Rattle.odata_text.proofs.spellings.Sequences.{pair-reach, reach-as}
+use Rattle.odata_text.proofs.spellings.Sequences.{pair-reach, reach-as, reach-either}
 use Rattle.odata_text.proofs.number.int_length.Goals as goal
 
 pub returns : goal.returns

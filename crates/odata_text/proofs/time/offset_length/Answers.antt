@@ -1,6 +1,6 @@
 use Rattle.odata_text.proofs.Common.{[], ◌∷◌, PassesTests, OffsetMark, Sign}
-use Rattle.odata_text.proofs.spellings.Fronts.{reach-either}
 use Rattle.odata_text.proofs.spellings.Times.{clock_pattern, offset-reach}
+use Rattle.odata_text.proofs.spellings.Sequences.{reach-either}
 use Rattle.odata_text.proofs.time.offset_length.Goals as goal
 
 pub returns : goal.returns

@@ -1,6 +1,5 @@
 use Rattle.odata_text.proofs.Common.{◌<◌, [], ◌∷◌, arith, take_rest, IsFraction, PassesTests, Digit}
 use Rattle.odata_text.specs.declared.byte_test.ByteTest.TheVariants.{Colon}
-use Rattle.odata_text.proofs.spellings.Patterns.{fits-nonempty}
 use Rattle.odata_text.proofs.spellings.Sequences.{Perhaps, followed-no_first}
 use Rattle.odata_text.proofs.spellings.Times.{seconds-by_parts, seconds-reach, seconds_pattern}
 use Rattle.odata_text.proofs.time.seconds_length.Goals as goal
@@ -8,7 +7,7 @@ use Rattle.odata_text.proofs.time.seconds_length.Goals as goal
 pub returns-in-0 : goal.returns-in-0
 returns-in-0 c =
     seconds-reach 0 c.args.rest.now
-    (followed-no_first (PassesTests seconds_pattern) (Perhaps IsFraction) c.args.rest.now c.pattern_length.result (fits-nonempty Colon (Digit ∷ Digit ∷ [])) c.pattern_length.ensures c.in-0.is)
+    (followed-no_first (PassesTests seconds_pattern) (Perhaps IsFraction) c.args.rest.now c.pattern_length.result (λ fits. fits) c.pattern_length.ensures c.in-0.is)
 
 pub returns-in_default : goal.returns-in_default
 returns-in_default c =

@@ -1,7 +1,6 @@
 use Rattle.odata_text.proofs.Common.{IsStringSpelling, IsDottedWord}
-use Rattle.odata_text.proofs.spellings.Fronts.{left_of}
 use Rattle.odata_text.proofs.spellings.Parts.{word_text}
-use Rattle.odata_text.proofs.spellings.Sequences.{pair-reach}
+use Rattle.odata_text.proofs.spellings.Sequences.{left_of, pair-reach}
 use Rattle.odata_text.proofs.word.enum_length.Goals as goal
 
 pub returns : goal.returns

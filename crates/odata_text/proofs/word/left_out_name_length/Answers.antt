@@ -1,5 +1,5 @@
 use Rattle.odata_text.proofs.Common.{◌⊎◌, ℕ, List, codes, IsNamed}
-use Rattle.odata_text.proofs.spellings.Fronts.{reach-either}
+use Rattle.odata_text.proofs.spellings.Sequences.{reach-either}
 use Rattle.odata_text.proofs.word.left_out_name_length.Goals as goal
 
 abbrev IsGeo : List ℕ → Type 0

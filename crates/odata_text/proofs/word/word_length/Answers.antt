@@ -32,4 +32,4 @@ loop-length-preserved c =
     let behind = c.range_from.ensures.value in
     word-more c.args.rest.now c.loop-length.length p c.loop-length.invariant c.loop-length-test.true dot
     (subst (IsReach IsIdentifier p) behind c.identifier_length-part.ensures.reach) (omega arith)
-    (subst IsUtf8 behind c.range_from.utf8) (subst (λ (xs : List ℕ). IsCharBoundary xs p) behind c.identifier_length-part.ensures.boundary)
+    (subst (λ (xs : List ℕ). IsCharBoundary xs p) behind c.identifier_length-part.ensures.boundary)
