@@ -1,5 +1,9 @@
 //! What a checked filter answers, and with which refusal another one is told.
-use crate::happy_paths::{has_nodes, has_places, keeps_row, keeps_row_in_memory};
+ghost use Rattle.std.specs.Prelude.{IfOk};
+ghost use Rattle.csdl_schema.specs.SchemaModel.{HoldsType};
+
+use crate::happy_paths::{has_nodes, has_places};
+use crate::outcomes::{Outcome, comes_so};
 use csdl_schema::{Schema, TypeId};
 use edm_values::{Prim, Value};
 use odata_text::Span;
@@ -31,8 +35,8 @@ pub enum Asked<'a> {
     /// What the filter of the first run answers.
     FirstNodes,
     FirstPlaces,
-    FirstRow,
-    FirstRowInMemory,
+    /// This verdict or fault on that row.
+    Outcome(&'a str, &'a Outcome),
 }
 
 fn one(prim: Prim) -> EdmType {
@@ -157,9 +161,32 @@ fn answers(alloc: Global, checked: &Checked<'_>, asked: Asked<'_>) -> Result<boo
         Asked::Canonical(wanted) => Ok(checked.canonical(alloc)?.as_str() == wanted),
         Asked::FirstNodes => Ok(has_nodes(checked)),
         Asked::FirstPlaces => Ok(has_places(checked)),
-        Asked::FirstRow => keeps_row(alloc, checked),
-        Asked::FirstRowInMemory => keeps_row_in_memory(alloc, checked),
+        Asked::Outcome(row, wanted) => comes_so(alloc, checked, row, wanted),
     }
+}
+
+/// The number of the type of this name.
+pub(crate) fn type_of(schema: &Schema, named: &str) -> Result<TypeId, Fail>
+    ensures { IfOk result (λ id. HoldsType schema.now id) }
+{
+    match schema.type_named(named) {
+        Some(id) if schema.holds(id) => Ok(id),
+        _ => Err(Fail::new("no type")),
+    }
+}
+
+/// Whether a filter of the type of a schema answers as is wanted.
+fn is_answered_by(
+    alloc: Global,
+    schema: &Schema,
+    id: TypeId,
+    filter: &str,
+    asked: Asked<'_>,
+) -> Result<bool, Fail>
+    requires { HoldsType schema.now id }
+{
+    let checked = check(alloc, schema, id, filter)?;
+    Ok(checked.filtered_type() == id && answers(alloc, &checked, asked)?)
 }
 
 /// Whether a filter of the type of a document answers as is wanted.
@@ -171,12 +198,8 @@ fn is_answered(
     asked: Asked<'_>,
 ) -> Result<bool, Fail> {
     let schema = Schema::read(alloc, document.as_bytes())?;
-    let id = schema.type_named(named).ok_or("the type")?;
-    if !schema.holds(id) {
-        return Err(Fail::new("no type"));
-    }
-    let checked = check(alloc, &schema, id, filter)?;
-    Ok(checked.filtered_type() == id && answers(alloc, &checked, asked)?)
+    let id = type_of(&schema, named)?;
+    is_answered_by(alloc, &schema, id, filter, asked)
 }
 
 /// Fails if a filter of the type of a document answers otherwise.
@@ -202,10 +225,7 @@ pub(crate) fn refusal_of(
     filter: &str,
 ) -> Result<Option<Refusal>, Fail> {
     let schema = Schema::read(alloc, document.as_bytes())?;
-    let id = schema.type_named(named).ok_or("the type")?;
-    if !schema.holds(id) {
-        return Err(Fail::new("no type"));
-    }
+    let id = type_of(&schema, named)?;
     Ok(check(alloc, &schema, id, filter).err())
 }
 

@@ -1,7 +1,7 @@
 //! The list of nodes of a checked filter, by numbers.
 use crate::asked::{Asked, asks, refusal_of};
 use crate::mini::{FIRST, SCHEMA};
-use crate::outcomes::evaluated;
+use crate::outcomes::Outcome;
 use odata_eval::Verdict;
 use odata_syntax::{BinaryOperator, LiteralKind};
 use odata_text::Span;
@@ -105,6 +105,8 @@ fn last_of(text: &str) -> Span {
     }
 }
 
+const TRUE: Outcome = Ok(Verdict::True);
+
 /// Fails if a chain of so many names has other nodes, or is not true on a row where the name is.
 fn is_true_chain(alloc: Global, text: &str) -> Result<(), Fail> {
     asks(alloc, FLAGS, "Mini.Flags", text, Asked::Chain)?;
@@ -115,12 +117,8 @@ fn is_true_chain(alloc: Global, text: &str) -> Result<(), Fail> {
         text,
         Asked::Last(4095, last_of(text)),
     )?;
-    let outcome = evaluated(alloc, FLAGS, "Mini.Flags", text, "{\"A\":true}")?;
-    if outcome == Ok(Verdict::True) {
-        Ok(())
-    } else {
-        Err(Fail::new("a chain is not true"))
-    }
+    let outcome = Asked::Outcome("{\"A\":true}", &TRUE);
+    asks(alloc, FLAGS, "Mini.Flags", text, outcome)
 }
 
 /// The longest chain of one operator.

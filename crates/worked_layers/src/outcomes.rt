@@ -1,34 +1,39 @@
 //! What a filter says of a row of the entity type `Mini.Item`.
+use crate::asked::{Asked, asks};
 use crate::mini::{FIRST, SCHEMA};
-use csdl_schema::Schema;
 use edm_entities::Entity;
 use edm_values::Moment;
 use jiff::civil;
 use odata_eval::{EvalFault, Verdict, evaluate};
-use odata_typing::check;
+use odata_typing::Checked;
+use serde_json::Value;
 use std::alloc::Global;
 use std::test::Fail;
 
 pub(crate) type Outcome = Result<Verdict, EvalFault>;
 
-/// The verdict, or the fault of the evaluation.
-pub(crate) fn evaluated(
+/// The beginning of the year 1 by UTC.
+fn moment() -> Result<Moment, Fail> {
+    let moment = Moment::new(civil::date(1, 1, 1).at(0, 0, 0, 0), 0).ok_or("a moment")?;
+    Ok(moment)
+}
+
+/// The verdict on an entity, or the fault of the evaluation.
+fn outcome(alloc: Global, checked: &Checked<'_>, json: &Value) -> Result<Outcome, Fail> {
+    let now = moment()?;
+    let entity = Entity::from_json(alloc, checked.schema(), checked.filtered_type(), json)?;
+    Ok(evaluate(alloc, checked, &entity, &now))
+}
+
+/// Whether the filter comes to that on the row.
+pub(crate) fn comes_so(
     alloc: Global,
-    document: &str,
-    named: &str,
-    filter: &str,
+    checked: &Checked<'_>,
     row: &str,
-) -> Result<Outcome, Fail> {
-    let schema = Schema::read(alloc, document.as_bytes())?;
-    let item = schema.type_named(named).ok_or("the type")?;
-    if !schema.holds(item) {
-        return Err(Fail::new("no type"));
-    }
-    let checked = check(alloc, &schema, item, filter)?;
-    let json = serde_json::Value::from_str(alloc, row)?;
-    let entity = Entity::from_json(alloc, &schema, item, &json)?;
-    let now = Moment::new(civil::date(1, 1, 1).at(0, 0, 0, 0), 0).ok_or("a moment")?;
-    Ok(evaluate(alloc, &checked, &entity, &now))
+    wanted: &Outcome,
+) -> Result<bool, Fail> {
+    let json = Value::from_str(alloc, row)?;
+    Ok(outcome(alloc, checked, &json)? == *wanted)
 }
 
 /// Fails if the filter comes to something else on the row.
@@ -38,12 +43,8 @@ pub(crate) fn comes_to(
     row: &str,
     wanted: &Outcome,
 ) -> Result<(), Fail> {
-    let outcome = evaluated(alloc, SCHEMA, "Mini.Item", filter, row)?;
-    if outcome == *wanted {
-        Ok(())
-    } else {
-        Err(Fail::new(format_args!("{outcome:?}: {filter} on {row}")))
-    }
+    let asked = Asked::Outcome(row, wanted);
+    asks(alloc, SCHEMA, "Mini.Item", filter, asked)
 }
 
 /// Rows, and what the first filter says of each.

@@ -2,6 +2,7 @@
 use odata_filter::command_line::{Plan, Verb};
 use odata_filter::run;
 use std::alloc::{AllocError, Global};
+use std::test::Fail;
 
 /// What a run wrote to standard output and error, and its status.
 #[derive(Drop)]
@@ -16,6 +17,20 @@ impl Told {
         self.out.as_slice() == out.as_bytes()
             && self.err.as_slice() == err.as_bytes()
             && self.status == status
+    }
+}
+
+/// Fails if it is not so at this text.
+pub(crate) fn holds(is_so: bool, at: &str) -> Result<(), Fail> {
+    if is_so { Ok(()) } else { Err(Fail::new(at)) }
+}
+
+/// Fails if a filter has another answer.
+pub(crate) fn is_answer(told: &str, wanted: &str, filter: &str) -> Result<(), Fail> {
+    if told == wanted {
+        Ok(())
+    } else {
+        Err(Fail::new(format_args!("{told}, not {wanted}: {filter}")))
     }
 }
 

@@ -1,7 +1,7 @@
 //! Each operator of arithmetic at both bounds of each type in which numbers are computed: beside zero and -1, on either
 //! side.
 use crate::numbers::comes_to;
-use std::alloc::{AllocError, Global};
+use std::alloc::Global;
 use std::test::Fail;
 
 type Four = (&'static str, &'static str, &'static str, &'static str);
@@ -68,33 +68,39 @@ fn spelled(letter: u8, near: Four) -> &'static str {
     }
 }
 
-/// Whether the operator makes of the operands what the letters stand for.
-fn makes(
+/// Fails if the operator makes something else of two operands.
+fn makes(alloc: Global, operator: &str, left: &str, right: &str, wanted: &str) -> Result<(), Fail> {
+    let computation = format!(in alloc; "{left} {operator} {right}")?;
+    comes_to(alloc, computation.as_str(), wanted)
+}
+
+/// Fails if the operator makes of the operands something else than the letters stand for.
+fn makes_all(
     alloc: Global,
     operator: &str,
     letters: &str,
     operands: Four,
     near: Four,
-) -> Result<bool, AllocError> {
+) -> Result<(), Fail> {
     let sides = sides(operands);
     for ((left, right), letter) in sides.iter().zip(letters.bytes()) {
-        let computation = format!(in alloc; "{left} {operator} {right}")?;
-        if !comes_to(alloc, computation.as_str(), spelled(letter, near))? {
-            return Ok(false);
-        }
+        makes(alloc, operator, left, right, spelled(letter, near))?;
     }
-    Ok(true)
+    Ok(())
+}
+
+/// Fails at the first type whose operands it makes something else of.
+fn at_bounds(alloc: Global, operator: &str, letters: &str) -> Result<(), Fail> {
+    for &(operands, near) in TYPES {
+        makes_all(alloc, operator, letters, operands, near)?;
+    }
+    Ok(())
 }
 
 #[test]
 fn at_both_bounds(rt: HostRuntime) -> Result<(), Fail> {
     for &(operator, letters) in OPERATORS {
-        for &(operands, near) in TYPES {
-            let (greatest, _, _, _) = near;
-            if !makes(rt.alloc(), operator, letters, operands, near)? {
-                return Err(Fail::new(format_args!("{operator} at the bounds by {greatest}")));
-            }
-        }
+        at_bounds(rt.alloc(), operator, letters)?;
     }
     Ok(())
 }

@@ -1,7 +1,7 @@
 //! Canonical texts of accepted filters: which texts they are, and that they are accepted and say the same.
-use crate::answer::{answer, check_of};
+use crate::answer::{answer, check_of, holds, is_answer};
 use crate::shop::{PRODUCT, SHOP};
-use std::alloc::{AllocError, Global};
+use std::alloc::Global;
 use std::test::Fail;
 
 /// Filters of products, each with its canonical text.
@@ -69,18 +69,17 @@ const TEXTS: &[(&str, &str)] = &[
     ("Null", "null"),
 ];
 
-/// Whether `check` accepts the filter with this canonical text.
-fn is_accepted_as(alloc: Global, filter: &str, canonical: &str) -> Result<bool, AllocError> {
+/// Fails if `check` does not accept the filter with this canonical text.
+fn is_accepted_as(alloc: Global, filter: &str, canonical: &str) -> Result<(), Fail> {
     let lines = format!(in alloc; "accepted\n{canonical}\n")?;
-    Ok(check_of(alloc, SHOP, "Shop.Product", filter).is(lines.as_str(), "", 0))
+    let told = check_of(alloc, SHOP, "Shop.Product", filter);
+    holds(told.is(lines.as_str(), "", 0), filter)
 }
 
 #[test]
 fn texts_of_filters(rt: HostRuntime) -> Result<(), Fail> {
     for &(filter, canonical) in TEXTS {
-        if !is_accepted_as(rt.alloc(), filter, canonical)? {
-            return Err(Fail::new(format_args!("of {filter}")));
-        }
+        is_accepted_as(rt.alloc(), filter, canonical)?;
     }
     Ok(())
 }
@@ -89,9 +88,7 @@ fn texts_of_filters(rt: HostRuntime) -> Result<(), Fail> {
 #[test]
 fn texts_of_canonical_texts(rt: HostRuntime) -> Result<(), Fail> {
     for &(_, canonical) in TEXTS {
-        if !is_accepted_as(rt.alloc(), canonical, canonical)? {
-            return Err(Fail::new(format_args!("of {canonical}")));
-        }
+        is_accepted_as(rt.alloc(), canonical, canonical)?;
     }
     Ok(())
 }
@@ -99,27 +96,26 @@ fn texts_of_canonical_texts(rt: HostRuntime) -> Result<(), Fail> {
 /// What is written behind the product's members.
 const CHANGED: &[&str] = &["", ",\"Rating\":null,\"Active\":null,\"Home\":null"];
 
-/// Whether both say the same of a product.
-fn are_alike(
-    alloc: Global,
-    filter: &str,
-    canonical: &str,
-    changed: &str,
-) -> Result<bool, AllocError> {
+/// Fails if the two do not say the same of the row.
+fn are_alike(alloc: Global, filter: &str, canonical: &str, row: &str) -> Result<(), Fail> {
+    let told = answer(alloc, SHOP, "Shop.Product", filter, row)?;
+    let again = answer(alloc, SHOP, "Shop.Product", canonical, row)?;
+    is_answer(told.as_str(), again.as_str(), filter)
+}
+
+/// Fails at the first filter that does not say the same as its canonical text of a product.
+fn all_are_alike(alloc: Global, changed: &str) -> Result<(), Fail> {
     let row = format!(in alloc; "{PRODUCT}{changed}}}")?;
-    let told = answer(alloc, SHOP, "Shop.Product", filter, row.as_str())?;
-    let again = answer(alloc, SHOP, "Shop.Product", canonical, row.as_str())?;
-    Ok(told.as_str() == again.as_str())
+    for &(filter, canonical) in TEXTS {
+        are_alike(alloc, filter, canonical, row.as_str())?;
+    }
+    Ok(())
 }
 
 #[test]
 fn outcomes_of_canonical_texts(rt: HostRuntime) -> Result<(), Fail> {
     for &changed in CHANGED {
-        for &(filter, canonical) in TEXTS {
-            if !are_alike(rt.alloc(), filter, canonical, changed)? {
-                return Err(Fail::new(filter));
-            }
-        }
+        all_are_alike(rt.alloc(), changed)?;
     }
     Ok(())
 }

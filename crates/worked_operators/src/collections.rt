@@ -1,7 +1,7 @@
 //! Filters of the shop's products, where these stand in a collection.
-use crate::answer::{plan_of, told_of};
-use crate::products::rated;
-use crate::shop::{PRODUCT, SHOP};
+use crate::answer::{holds, plan_of, told_of};
+use crate::products::push_product;
+use crate::shop::SHOP;
 use odata_filter::command_line::Verb;
 use std::alloc::{AllocError, Global};
 use std::test::Fail;
@@ -14,29 +14,27 @@ fn collection_of(alloc: Global, ratings: &str) -> Result<String, AllocError> {
         if !is_first {
             text.push_str(",")?;
         }
-        text.push_str(PRODUCT)?;
-        text.push_str(rated(letter))?;
-        text.push_str("}")?;
+        push_product(&mut text, letter)?;
         is_first = false;
     }
     text.push_str("]}")?;
     Ok(text)
 }
 
-/// Whether of these products the ones at these places are kept, and the line is told.
+/// Fails if of these products not the ones at these places are kept, or another line is told.
 fn collects(
     alloc: Global,
     ratings: &str,
     filter: &str,
     places: &str,
     line: &str,
-) -> Result<bool, AllocError> {
+) -> Result<(), Fail> {
     let document = collection_of(alloc, ratings)?;
     let mut plan = plan_of(Verb::Filter, "Shop.Product", filter);
     plan.collection = true;
     let status = if line.is_empty() { 0 } else { 4 };
     let told = told_of(alloc, SHOP, &plan, Some(document.as_bytes()));
-    Ok(told.is(places, line, status))
+    holds(told.is(places, line, status), filter)
 }
 
 /// Products, a filter, the places that are written up to the first fault, and the line that is told of that.
@@ -57,9 +55,7 @@ const COLLECTED: &[(&str, &str, &str, &str)] = &[
 #[test]
 fn places_of_products(rt: HostRuntime) -> Result<(), Fail> {
     for &(ratings, filter, places, line) in COLLECTED {
-        if !collects(rt.alloc(), ratings, filter, places, line)? {
-            return Err(Fail::new(filter));
-        }
+        collects(rt.alloc(), ratings, filter, places, line)?;
     }
     Ok(())
 }

@@ -1,6 +1,6 @@
 //! Comparisons: of each two types, and of values in and out of order.
 use crate::kinds;
-use std::alloc::{AllocError, Global};
+use std::alloc::Global;
 use std::test::Fail;
 
 const OPERATORS: &[&str] = &["eq", "ne", "gt", "ge", "lt", "le"];
@@ -47,38 +47,49 @@ fn letters_of(beside: u8) -> &'static str {
     }
 }
 
-/// Whether one comparison answers what the letter stands for.
-fn compares(alloc: Global, filter: &str, letter: u8) -> Result<bool, AllocError> {
+/// Fails if a refusal of the whole filter is not told.
+fn is_refused(alloc: Global, filter: &str) -> Result<(), Fail> {
+    let stop = filter.len();
+    let line = format!(in alloc; "refused OperandTypes 0..{stop}")?;
+    kinds::answers(alloc, filter, line.as_str())
+}
+
+/// Fails if one comparison does not answer what the letter stands for.
+fn compares(
+    alloc: Global,
+    left: &str,
+    operator: &str,
+    right: &str,
+    letter: u8,
+) -> Result<(), Fail> {
+    let filter = format!(in alloc; "{left} {operator} {right}")?;
     match letter {
-        b't' => kinds::answers(alloc, filter, "true"),
-        b'f' => kinds::answers(alloc, filter, "false"),
-        _ => {
-            let stop = filter.len();
-            let line = format!(in alloc; "refused OperandTypes 0..{stop}")?;
-            kinds::answers(alloc, filter, line.as_str())
-        }
+        b't' => kinds::answers(alloc, filter.as_str(), "true"),
+        b'f' => kinds::answers(alloc, filter.as_str(), "false"),
+        _ => is_refused(alloc, filter.as_str()),
     }
 }
 
-/// Whether the six comparisons of two operands answer that.
-fn is_beside(alloc: Global, left: &str, right: &str, beside: u8) -> Result<bool, AllocError> {
+/// Fails if the six comparisons of two operands do not answer that.
+fn is_beside(alloc: Global, left: &str, right: &str, beside: u8) -> Result<(), Fail> {
     for (operator, letter) in OPERATORS.iter().zip(letters_of(beside).bytes()) {
-        let filter = format!(in alloc; "{left} {operator} {right}")?;
-        if !compares(alloc, filter.as_str(), letter)? {
-            return Ok(false);
-        }
+        compares(alloc, left, operator, right, letter)?;
     }
-    Ok(true)
+    Ok(())
+}
+
+/// Fails if the first is not beside each of them what the row says.
+fn is_row(alloc: Global, left: &str, row: &str) -> Result<(), Fail> {
+    for (right, beside) in OPERANDS.iter().zip(row.bytes()) {
+        is_beside(alloc, left, right, beside)?;
+    }
+    Ok(())
 }
 
 #[test]
 fn each_two_types(rt: HostRuntime) -> Result<(), Fail> {
     for (left, row) in OPERANDS.iter().zip(BESIDE.iter()) {
-        for (right, beside) in OPERANDS.iter().zip(row.bytes()) {
-            if !is_beside(rt.alloc(), left, right, beside)? {
-                return Err(Fail::new(format_args!("{left} beside {right}")));
-            }
-        }
+        is_row(rt.alloc(), left, row)?;
     }
     Ok(())
 }
@@ -108,29 +119,32 @@ const IN_ORDER: &[(&str, &str)] = &[
     ("2019-12-31T23:59:59.999999999Z", "Time"),
 ];
 
-/// Whether the first is less than the second, and the second greater than the first.
-fn are_in_order(alloc: Global, less: &str, greater: &str) -> Result<bool, AllocError> {
-    Ok(is_beside(alloc, less, greater, b'<')? && is_beside(alloc, greater, less, b'>')?)
+/// Fails if the first is not less than the second, or the second not greater than the first.
+fn are_in_order(alloc: Global, less: &str, greater: &str) -> Result<(), Fail> {
+    is_beside(alloc, less, greater, b'<')?;
+    is_beside(alloc, greater, less, b'>')
 }
 
 #[test]
 fn values_in_order(rt: HostRuntime) -> Result<(), Fail> {
     for &(less, greater) in IN_ORDER {
-        if !are_in_order(rt.alloc(), less, greater)? {
-            return Err(Fail::new(format_args!("{less} beside {greater}")));
-        }
+        are_in_order(rt.alloc(), less, greater)?;
     }
     Ok(())
 }
 
-/// Whether the first is beside the second what the second is beside the first.
-pub(crate) fn are_beside(
-    alloc: Global,
-    left: &str,
-    right: &str,
-    beside: u8,
-) -> Result<bool, AllocError> {
-    Ok(is_beside(alloc, left, right, beside)? && is_beside(alloc, right, left, beside)?)
+/// Fails if the first is not beside the second what the second is beside the first.
+pub(crate) fn are_beside(alloc: Global, left: &str, right: &str, beside: u8) -> Result<(), Fail> {
+    is_beside(alloc, left, right, beside)?;
+    is_beside(alloc, right, left, beside)
+}
+
+/// Fails at the first two that are something else beside each other.
+fn all_beside(alloc: Global, rows: &[(&str, &str, u8)]) -> Result<(), Fail> {
+    for &(left, right, beside) in rows {
+        are_beside(alloc, left, right, beside)?;
+    }
+    Ok(())
 }
 
 /// Values that are equal, by the letters above.
@@ -157,12 +171,7 @@ const EQUAL: &[(&str, &str, u8)] = &[
 
 #[test]
 fn equal_values(rt: HostRuntime) -> Result<(), Fail> {
-    for &(left, right, beside) in EQUAL {
-        if !are_beside(rt.alloc(), left, right, beside)? {
-            return Err(Fail::new(format_args!("{left} beside {right}")));
-        }
-    }
-    Ok(())
+    all_beside(rt.alloc(), EQUAL)
 }
 
 /// Values that have no order, and nulls beside values and beside nulls.
@@ -181,10 +190,5 @@ const UNORDERED: &[(&str, &str, u8)] = &[
 
 #[test]
 fn unequal_values(rt: HostRuntime) -> Result<(), Fail> {
-    for &(left, right, beside) in UNORDERED {
-        if !are_beside(rt.alloc(), left, right, beside)? {
-            return Err(Fail::new(format_args!("{left} beside {right}")));
-        }
-    }
-    Ok(())
+    all_beside(rt.alloc(), UNORDERED)
 }

@@ -1,6 +1,6 @@
 //! The whole tables of `and`, `or` and `not`, and where their right side is left out.
 use crate::kinds::{all_answer, answers};
-use std::alloc::{AllocError, Global};
+use std::alloc::Global;
 use std::test::Fail;
 
 /// Operands that are true, false and null, and one that is the literal `null`.
@@ -23,34 +23,44 @@ fn spelled(letter: u8) -> &'static str {
     }
 }
 
-/// Whether that comes of two operands.
+/// Fails if something else comes of two operands.
 fn connects(
     alloc: Global,
     operator: &str,
     left: &str,
     right: &str,
     letter: u8,
-) -> Result<bool, AllocError> {
+) -> Result<(), Fail> {
     let filter = format!(in alloc; "({left}) {operator} ({right})")?;
     answers(alloc, filter.as_str(), spelled(letter))
+}
+
+/// Fails if something else comes of this operand on the left and one of them.
+fn is_row(alloc: Global, operator: &str, left: &str, row: &str) -> Result<(), Fail> {
+    for (right, letter) in OPERANDS.iter().zip(row.bytes()) {
+        connects(alloc, operator, left, right, letter)?;
+    }
+    Ok(())
+}
+
+/// Fails if something else comes of two of them.
+fn is_table(alloc: Global, operator: &str, rows: &[&str]) -> Result<(), Fail> {
+    for (left, row) in OPERANDS.iter().zip(rows.iter()) {
+        is_row(alloc, operator, left, row)?;
+    }
+    Ok(())
 }
 
 #[test]
 fn tables(rt: HostRuntime) -> Result<(), Fail> {
     for &(operator, rows) in TABLES {
-        for (left, row) in OPERANDS.iter().zip(rows.iter()) {
-            for (right, letter) in OPERANDS.iter().zip(row.bytes()) {
-                if !connects(rt.alloc(), operator, left, right, letter)? {
-                    return Err(Fail::new(format_args!("({left}) {operator} ({right})")));
-                }
-            }
-        }
+        is_table(rt.alloc(), operator, rows)?;
     }
     Ok(())
 }
 
-/// Whether that comes of `not`.
-fn turns(alloc: Global, operand: &str, letter: u8) -> Result<bool, AllocError> {
+/// Fails if something else comes of `not`.
+fn turns(alloc: Global, operand: &str, letter: u8) -> Result<(), Fail> {
     let filter = format!(in alloc; "not ({operand})")?;
     answers(alloc, filter.as_str(), spelled(letter))
 }
@@ -58,9 +68,7 @@ fn turns(alloc: Global, operand: &str, letter: u8) -> Result<bool, AllocError> {
 #[test]
 fn opposites(rt: HostRuntime) -> Result<(), Fail> {
     for (operand, letter) in OPERANDS.iter().zip(OPPOSITES.bytes()) {
-        if !turns(rt.alloc(), operand, letter)? {
-            return Err(Fail::new(format_args!("not ({operand})")));
-        }
+        turns(rt.alloc(), operand, letter)?;
     }
     Ok(())
 }

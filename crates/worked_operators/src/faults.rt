@@ -1,6 +1,6 @@
 //! Filters that have no type: each reason at each place of a tree of three levels, and which of two is told.
 use crate::kinds::{all_answer, answers};
-use std::alloc::{AllocError, Global};
+use std::alloc::Global;
 use std::test::Fail;
 
 /// Texts that have no type, with the reason.
@@ -48,14 +48,14 @@ const PLACES: &[(&str, &str)] = &[
     ("((Bool or false) and ", ")"),
 ];
 
-/// Whether the text in that place is what is told, with the reason.
+/// Fails if the text in that place is not told, with the reason.
 fn is_told(
     alloc: Global,
     text: &str,
     reason: &str,
     before: &str,
     behind: &str,
-) -> Result<bool, AllocError> {
+) -> Result<(), Fail> {
     let front = format!(in alloc; "{before}{text}")?;
     let (start, stop) = (before.len(), front.len());
     let filter = format!(in alloc; "{front}{behind}")?;
@@ -63,14 +63,18 @@ fn is_told(
     answers(alloc, filter.as_str(), line.as_str())
 }
 
+/// Fails at the first place in which it is not.
+fn is_told_at_each_place(alloc: Global, text: &str, reason: &str) -> Result<(), Fail> {
+    for &(before, behind) in PLACES {
+        is_told(alloc, text, reason, before, behind)?;
+    }
+    Ok(())
+}
+
 #[test]
 fn each_reason_at_each_place(rt: HostRuntime) -> Result<(), Fail> {
     for &(text, reason) in UNTYPED {
-        for &(before, behind) in PLACES {
-            if !is_told(rt.alloc(), text, reason, before, behind)? {
-                return Err(Fail::new(format_args!("at {before}{text}{behind}")));
-            }
-        }
+        is_told_at_each_place(rt.alloc(), text, reason)?;
     }
     Ok(())
 }

@@ -1,6 +1,6 @@
 //! A type with two properties of each kind, and one row of it, which has null for the second ones.
-use crate::answer::answer;
-use std::alloc::{AllocError, Global};
+use crate::answer::{answer, is_answer};
+use std::alloc::Global;
 use std::test::Fail;
 
 const SCHEMA: &str =
@@ -9,24 +9,16 @@ const SCHEMA: &str =
 const ROW: &str =
     "{\"Bool\":true,\"SByte\":-7,\"Byte\":7,\"Short\":300,\"Int\":70000,\"Long\":5000000000,\"Text\":\"b\",\"Day\":\"2020-01-02\",\"Time\":\"2020-01-01T01:00:00+01:00\",\"Code\":\"01234567-89ab-cdef-0123-456789abcdef\",\"Color\":\"Red\",\"Size\":\"Small\",\"Home\":{\"City\":\"Oslo\"},\"Tags\":[\"a\"],\"NoText\":null,\"NoHome\":null}";
 
-/// The answer of a filter on the row.
-fn answer_of(alloc: Global, filter: &str) -> Result<String, AllocError> {
-    answer(alloc, SCHEMA, "K.Item", filter, ROW)
-}
-
-/// Whether that is the answer.
-pub(crate) fn answers(alloc: Global, filter: &str, wanted: &str) -> Result<bool, AllocError> {
-    let told = answer_of(alloc, filter)?;
-    Ok(told.as_str() == wanted)
+/// Fails if a filter has another answer on the row.
+pub(crate) fn answers(alloc: Global, filter: &str, wanted: &str) -> Result<(), Fail> {
+    let told = answer(alloc, SCHEMA, "K.Item", filter, ROW)?;
+    is_answer(told.as_str(), wanted, filter)
 }
 
 /// Fails at the first filter with another answer.
 pub(crate) fn all_answer(alloc: Global, rows: &[(&str, &str)]) -> Result<(), Fail> {
     for &(filter, wanted) in rows {
-        let told = answer_of(alloc, filter)?;
-        if told.as_str() != wanted {
-            return Err(Fail::new(format_args!("{told}, not {wanted}: {filter}")));
-        }
+        answers(alloc, filter, wanted)?;
     }
     Ok(())
 }

@@ -1,5 +1,6 @@
 //! Comparisons of properties of each type that are null.
 use crate::comparisons::{OPERANDS, are_beside};
+use std::alloc::Global;
 use std::test::Fail;
 
 /// A property of each type that is null in the row: the ten primitive types, two enumerations and a complex type.
@@ -43,14 +44,18 @@ const BESIDE_NULLS: &[&str] = &[
     ".............",
 ];
 
+/// Fails if this one is not beside each of the others what the row says.
+fn is_row(alloc: Global, unset: &str, others: &[&str], row: &str) -> Result<(), Fail> {
+    for (other, beside) in others.iter().zip(row.bytes()) {
+        are_beside(alloc, unset, other, beside)?;
+    }
+    Ok(())
+}
+
 #[test]
 fn nulls_beside_values(rt: HostRuntime) -> Result<(), Fail> {
     for (unset, row) in NULLS.iter().zip(BESIDE_VALUES.iter()) {
-        for (value, beside) in OPERANDS.iter().zip(row.bytes()) {
-            if !are_beside(rt.alloc(), unset, value, beside)? {
-                return Err(Fail::new(format_args!("{unset} beside {value}")));
-            }
-        }
+        is_row(rt.alloc(), unset, OPERANDS, row)?;
     }
     Ok(())
 }
@@ -58,11 +63,7 @@ fn nulls_beside_values(rt: HostRuntime) -> Result<(), Fail> {
 #[test]
 fn nulls_beside_nulls(rt: HostRuntime) -> Result<(), Fail> {
     for (unset, row) in NULLS.iter().zip(BESIDE_NULLS.iter()) {
-        for (other, beside) in NULLS.iter().zip(row.bytes()) {
-            if !are_beside(rt.alloc(), unset, other, beside)? {
-                return Err(Fail::new(format_args!("{unset} beside {other}")));
-            }
-        }
+        is_row(rt.alloc(), unset, NULLS, row)?;
     }
     Ok(())
 }

@@ -1,6 +1,6 @@
 //! A type with numbers of each type, some of them at its bounds, and one row of it.
-use crate::answer::answer;
-use std::alloc::{AllocError, Global};
+use crate::answer::{answer, is_answer};
+use std::alloc::Global;
 use std::test::Fail;
 
 const SCHEMA: &str =
@@ -9,25 +9,26 @@ const SCHEMA: &str =
 const ROW: &str =
     "{\"High2\":32767,\"Low2\":-32768,\"Zero2\":0,\"One2\":1,\"Minus2\":-1,\"High8\":9223372036854775807,\"Low8\":-9223372036854775808,\"One8\":1,\"Byte\":255,\"ByteOne\":1,\"SByte\":-128,\"SByteOne\":1,\"None2\":null}";
 
-/// Whether a computation on the row comes to that: a number, `null` or a fault.
-pub(crate) fn comes_to(alloc: Global, computation: &str, wanted: &str) -> Result<bool, AllocError> {
-    let is_fault = wanted == "Overflow" || wanted == "DivideByZero";
-    let compared = if is_fault { "0" } else { wanted };
-    let filter = format!(in alloc; "{computation} eq {compared}")?;
+/// Fails if the comparison of a computation with a number has another answer on the row.
+fn equals(alloc: Global, computation: &str, number: &str, wanted: &str) -> Result<(), Fail> {
+    let filter = format!(in alloc; "{computation} eq {number}")?;
     let told = answer(alloc, SCHEMA, "N.Row", filter.as_str(), ROW)?;
-    if !is_fault {
-        return Ok(told.as_str() == "true");
+    is_answer(told.as_str(), wanted, filter.as_str())
+}
+
+/// Fails if a computation on the row comes to something else: a number, `null` or a fault.
+pub(crate) fn comes_to(alloc: Global, computation: &str, wanted: &str) -> Result<(), Fail> {
+    match wanted {
+        "Overflow" => equals(alloc, computation, "0", "row 1 Overflow"),
+        "DivideByZero" => equals(alloc, computation, "0", "row 1 DivideByZero"),
+        number => equals(alloc, computation, number, "true"),
     }
-    let line = format!(in alloc; "row 1 {wanted}")?;
-    Ok(told.as_str() == line.as_str())
 }
 
 /// Fails at the first computation that comes to something else.
 pub(crate) fn all_come_to(alloc: Global, rows: &[(&str, &str)]) -> Result<(), Fail> {
     for &(computation, wanted) in rows {
-        if !comes_to(alloc, computation, wanted)? {
-            return Err(Fail::new(format_args!("not {wanted}: {computation}")));
-        }
+        comes_to(alloc, computation, wanted)?;
     }
     Ok(())
 }

@@ -1,15 +1,23 @@
 //! Filters of the shop's products: on its row, with members changed, and on several rows.
-use crate::answer::{answer, outcome_of, plan_of, told_of};
+use crate::answer::{answer, holds, is_answer, outcome_of, plan_of, told_of};
 use crate::shop::{PRODUCT, SHOP};
 use odata_filter::command_line::Verb;
 use std::alloc::{AllocError, Global};
 use std::test::Fail;
 
-/// Whether that is the answer on the product, with further members behind the others, the last of a name counting.
-fn answers(alloc: Global, changed: &str, filter: &str, wanted: &str) -> Result<bool, AllocError> {
+/// Fails if another is the answer on the product, with further members behind the others, the last of a name counting.
+fn answers(alloc: Global, changed: &str, filter: &str, wanted: &str) -> Result<(), Fail> {
     let row = format!(in alloc; "{PRODUCT}{changed}}}")?;
     let told = answer(alloc, SHOP, "Shop.Product", filter, row.as_str())?;
-    Ok(told.as_str() == wanted)
+    is_answer(told.as_str(), wanted, filter)
+}
+
+/// Fails at the first product with another answer.
+fn all_answer(alloc: Global, rows: &[(&str, &str, &str)]) -> Result<(), Fail> {
+    for &(changed, filter, wanted) in rows {
+        answers(alloc, changed, filter, wanted)?;
+    }
+    Ok(())
 }
 
 /// Further members, a filter, and the answer.
@@ -53,12 +61,7 @@ const ONE_PRODUCT: &[(&str, &str, &str)] = &[
 
 #[test]
 fn rows_of_one_product(rt: HostRuntime) -> Result<(), Fail> {
-    for &(changed, filter, wanted) in ONE_PRODUCT {
-        if !answers(rt.alloc(), changed, filter, wanted)? {
-            return Err(Fail::new(filter));
-        }
-    }
-    Ok(())
+    all_answer(rt.alloc(), ONE_PRODUCT)
 }
 
 /// The same of null, `$it` and steps.
@@ -87,17 +90,12 @@ const NULL_AND_STEPS: &[(&str, &str, &str)] = &[
 
 #[test]
 fn null_and_steps(rt: HostRuntime) -> Result<(), Fail> {
-    for &(changed, filter, wanted) in NULL_AND_STEPS {
-        if !answers(rt.alloc(), changed, filter, wanted)? {
-            return Err(Fail::new(filter));
-        }
-    }
-    Ok(())
+    all_answer(rt.alloc(), NULL_AND_STEPS)
 }
 
 /// The further member of a product: `3` is rated 3, `-` is not rated, `m` is rated 32767, and `x` 40000, which does not
 /// fit.
-pub(crate) fn rated(letter: u8) -> &'static str {
+fn rated(letter: u8) -> &'static str {
     match letter {
         b'-' => ",\"Rating\":null",
         b'm' => ",\"Rating\":32767",
@@ -106,14 +104,20 @@ pub(crate) fn rated(letter: u8) -> &'static str {
     }
 }
 
+/// Appends the product of a letter.
+pub(crate) fn push_product(text: &mut String, letter: u8) -> Result<(), AllocError> {
+    text.push_str(PRODUCT)?;
+    text.push_str(rated(letter))?;
+    text.push_str("}")
+}
+
 /// Products by these letters, each a line, where `k` stands beside the letter.
 fn lines_of(alloc: Global, ratings: &str, kept: &str) -> Result<String, AllocError> {
     let mut text = String::new(alloc);
     for (rating, letter) in ratings.bytes().zip(kept.bytes()) {
         if letter == b'k' {
-            text.push_str(PRODUCT)?;
-            text.push_str(rated(rating))?;
-            text.push_str("}\n")?;
+            push_product(&mut text, rating)?;
+            text.push_str("\n")?;
         }
     }
     Ok(text)
@@ -121,19 +125,13 @@ fn lines_of(alloc: Global, ratings: &str, kept: &str) -> Result<String, AllocErr
 
 const ALL: &str = "kkkk";
 
-/// Whether of these products those beside `k` are kept, and the line is told.
-fn keeps(
-    alloc: Global,
-    ratings: &str,
-    filter: &str,
-    kept: &str,
-    line: &str,
-) -> Result<bool, AllocError> {
+/// Fails if of these products not those beside `k` are kept, or another line is told.
+fn keeps(alloc: Global, ratings: &str, filter: &str, kept: &str, line: &str) -> Result<(), Fail> {
     let rows = lines_of(alloc, ratings, ALL)?;
     let out = lines_of(alloc, ratings, kept)?;
     let status = if line.is_empty() { 0 } else { 4 };
     let told = outcome_of(alloc, SHOP, "Shop.Product", filter, rows.as_str());
-    Ok(told.is(out.as_str(), line, status))
+    holds(told.is(out.as_str(), line, status), filter)
 }
 
 /// Products, a filter, which of them it keeps up to the first fault, and the line that is told of that.
@@ -173,9 +171,7 @@ const SEVERAL: &[(&str, &str, &str, &str)] = &[
 #[test]
 fn several_rows(rt: HostRuntime) -> Result<(), Fail> {
     for &(ratings, filter, kept, line) in SEVERAL {
-        if !keeps(rt.alloc(), ratings, filter, kept, line)? {
-            return Err(Fail::new(filter));
-        }
+        keeps(rt.alloc(), ratings, filter, kept, line)?;
     }
     Ok(())
 }
@@ -186,17 +182,16 @@ const FAULTY: &[(&str, &str)] = &[
     ("{\"ID\":1", "row 1 Json\n"),
 ];
 
-/// Whether nothing is kept of the rows, and the line is told.
-fn fails(alloc: Global, rows: &str, line: &str) -> bool {
-    outcome_of(alloc, SHOP, "Shop.Product", "Rating ge 3", rows).is("", line, 4)
+/// Fails if something is kept of the rows, or another line is told.
+fn fails(alloc: Global, rows: &str, line: &str) -> Result<(), Fail> {
+    let told = outcome_of(alloc, SHOP, "Shop.Product", "Rating ge 3", rows);
+    holds(told.is("", line, 4), rows)
 }
 
 #[test]
 fn faulty_rows(rt: HostRuntime) -> Result<(), Fail> {
     for &(rows, line) in FAULTY {
-        if !fails(rt.alloc(), rows, line) {
-            return Err(Fail::new(rows));
-        }
+        fails(rt.alloc(), rows, line)?;
     }
     Ok(())
 }
@@ -207,22 +202,20 @@ const QUERIES: &[&str] = &[
     "$filter=Changed%20eq%202020-01-01T01:00:00+01:00",
 ];
 
-/// Whether the filter of the query keeps the product.
-fn keeps_by_query(alloc: Global, query: &str) -> Result<bool, AllocError> {
+/// Fails if the filter of the query does not keep the product.
+fn keeps_by_query(alloc: Global, query: &str) -> Result<(), Fail> {
     let mut plan = plan_of(Verb::Filter, "Shop.Product", "");
     plan.filter = None;
     plan.query = Some(query);
     let row = lines_of(alloc, "3", ALL)?;
     let told = told_of(alloc, SHOP, &plan, Some(row.as_bytes()));
-    Ok(told.is(row.as_str(), "", 0))
+    holds(told.is(row.as_str(), "", 0), query)
 }
 
 #[test]
 fn moments_of_queries(rt: HostRuntime) -> Result<(), Fail> {
     for &query in QUERIES {
-        if !keeps_by_query(rt.alloc(), query)? {
-            return Err(Fail::new(query));
-        }
+        keeps_by_query(rt.alloc(), query)?;
     }
     Ok(())
 }

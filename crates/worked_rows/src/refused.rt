@@ -43,6 +43,15 @@ fn tell(rt: &impl Print, call: &str, is_refused: bool) -> Result<(), Fail> {
     Ok(())
 }
 
+/// Whether memory was refused, where the rest is as it should be.
+fn answered(is_refused: bool, is_so: bool, otherwise: &str) -> Result<bool, Fail> {
+    if is_so {
+        Ok(is_refused)
+    } else {
+        Err(Fail::new(otherwise))
+    }
+}
+
 fn schema_of(alloc: Global) -> Result<Schema, SchemaFault> {
     match Schema::read(alloc, SCHEMA.as_bytes()) {
         Ok(schema) => Ok(schema),
@@ -84,19 +93,19 @@ fn entity_of<'s>(
     }
 }
 
+/// Whether a schema has the type with its two slots.
+fn has_slots(schema: &Schema) -> bool {
+    match schema.type_named("N.T") {
+        Some(id) => schema.slot(id, "Name") == Some(0) && schema.slot(id, "On") == Some(1),
+        None => false,
+    }
+}
+
 /// Whether a document was refused memory; otherwise its schema is read.
 fn schema_is_refused(alloc: Global) -> Result<bool, Fail> {
-    match Schema::read(alloc, SCHEMA.as_bytes()) {
-        Ok(schema) => {
-            let id = schema.type_named("N.T").ok_or("the type")?;
-            if schema.slot(id, "Name") == Some(0) && schema.slot(id, "On") == Some(1) {
-                Ok(false)
-            } else {
-                Err(Fail::from("other slots"))
-            }
-        }
-        Err(SchemaFault::Memory) => Ok(true),
-        Err(_) => Err(Fail::from("another fault")),
+    match &Schema::read(alloc, SCHEMA.as_bytes()) {
+        Ok(schema) => answered(false, has_slots(schema), "other slots"),
+        Err(fault) => answered(true, matches!(fault, SchemaFault::Memory), "another fault"),
     }
 }
 
@@ -108,16 +117,13 @@ fn schemas(rt: HostRuntime) -> Result<(), Fail> {
 
 /// Whether a faulty document was refused memory; otherwise its fault is told.
 fn faulty_schema_is_refused(alloc: Global) -> Result<bool, Fail> {
-    match Schema::read(alloc, FAULTY_SCHEMA.as_bytes()) {
+    match &Schema::read(alloc, FAULTY_SCHEMA.as_bytes()) {
         Err(SchemaFault::Memory) => Ok(true),
         Err(SchemaFault::BadProperty { owner, name }) => {
-            if owner.as_str() == "N.T" && name.as_str() == "Name" {
-                Ok(false)
-            } else {
-                Err(Fail::from("other names"))
-            }
+            let is_so = owner.as_str() == "N.T" && name.as_str() == "Name";
+            answered(false, is_so, "other names")
         }
-        _ => Err(Fail::from("another answer")),
+        _ => Err(Fail::new("another answer")),
     }
 }
 
@@ -132,15 +138,8 @@ fn filter_is_refused(alloc: Global, schema: &Schema, id: TypeId) -> Result<bool,
     requires { HoldsType schema.now id }
 {
     match check(alloc, schema, id, FILTER) {
-        Ok(checked) => {
-            if checked.node_count() == 12 {
-                Ok(false)
-            } else {
-                Err(Fail::from("other nodes"))
-            }
-        }
-        Err(Refusal::Memory) => Ok(true),
-        Err(_) => Err(Fail::from("another refusal")),
+        Ok(checked) => answered(false, checked.node_count() == 12, "other nodes"),
+        Err(refusal) => answered(true, refusal == Refusal::Memory, "another refusal"),
     }
 }
 
@@ -151,13 +150,10 @@ fn untypable_filter_is_refused(alloc: Global, schema: &Schema, id: TypeId) -> Re
     match check(alloc, schema, id, "On and Name") {
         Err(Refusal::Memory) => Ok(true),
         Err(Refusal::Typing(TypeFault { code, span })) => {
-            if code == TypeFaultCode::OperandTypes && span.start == 0 && span.stop == 11 {
-                Ok(false)
-            } else {
-                Err(Fail::from("another fault"))
-            }
+            let is_so = code == TypeFaultCode::OperandTypes && span.start == 0 && span.stop == 11;
+            answered(false, is_so, "another fault")
         }
-        _ => Err(Fail::from("another answer")),
+        _ => Err(Fail::new("another answer")),
     }
 }
 
@@ -176,16 +172,9 @@ fn row_is_refused(alloc: Global, schema: &Schema, id: TypeId) -> Result<bool, Fa
     requires { HoldsType schema.now id }
 {
     let row = json_of(alloc, KEPT)?;
-    match Entity::from_json(alloc, schema, id, &row) {
-        Ok(entity) => {
-            if is_kept_row(entity.value()) {
-                Ok(false)
-            } else {
-                Err(Fail::from("other values"))
-            }
-        }
-        Err(RowFault::Memory) => Ok(true),
-        Err(_) => Err(Fail::from("another fault")),
+    match &Entity::from_json(alloc, schema, id, &row) {
+        Ok(entity) => answered(false, is_kept_row(entity.value()), "other values"),
+        Err(fault) => answered(true, matches!(fault, RowFault::Memory), "another fault"),
     }
 }
 
@@ -194,16 +183,12 @@ fn faulty_row_is_refused(alloc: Global, schema: &Schema, id: TypeId) -> Result<b
     requires { HoldsType schema.now id }
 {
     let row = json_of(alloc, "{\"Name\":\"a\"}")?;
-    match Entity::from_json(alloc, schema, id, &row) {
+    match &Entity::from_json(alloc, schema, id, &row) {
         Err(RowFault::Memory) => Ok(true),
         Err(RowFault::Missing { path }) => {
-            if path.as_str() == "On" {
-                Ok(false)
-            } else {
-                Err(Fail::from("another path"))
-            }
+            answered(false, path.as_str() == "On", "another path")
         }
-        _ => Err(Fail::from("another answer")),
+        _ => Err(Fail::new("another answer")),
     }
 }
 
@@ -213,17 +198,25 @@ fn moment() -> Result<Moment, Fail> {
     Ok(moment)
 }
 
+/// The verdict on the entity of a JSON value.
+fn verdict_on(
+    alloc: Global,
+    checked: &Checked<'_>,
+    row: &serde_json::Value,
+) -> Result<Verdict, Fail> {
+    let now = moment()?;
+    let entity = entity_of(alloc, checked.schema(), checked.filtered_type(), row)?;
+    Ok(evaluate(alloc, checked, &entity, &now)?)
+}
+
 /// Whether the filter keeps the row, with ample memory.
 fn verdict_is_refused(alloc: Global, schema: &Schema, id: TypeId) -> Result<bool, Fail>
     requires { HoldsType schema.now id }
 {
-    let checked = filter_of(alloc, schema, id)?;
     let row = json_of(alloc, KEPT)?;
-    let entity = entity_of(alloc, schema, id, &row)?;
-    match evaluate(alloc, &checked, &entity, &moment()?)? {
-        Verdict::True => Ok(false),
-        _ => Err(Fail::from("another verdict")),
-    }
+    let checked = filter_of(alloc, schema, id)?;
+    let verdict = verdict_on(alloc, &checked, &row)?;
+    answered(false, verdict == Verdict::True, "another verdict")
 }
 
 /// What is written of the rows before a line: 1, 3 and 5 are kept, 2 is left out, and 4 is blank.
@@ -243,59 +236,60 @@ fn room(alloc: Global) -> Result<Vec<u8>, AllocError> {
     }
 }
 
-/// Whether the run over three rows and a blank line was refused memory, with what was written by then; otherwise it
-/// ended.
-fn lines_are_refused(alloc: Global, checked: &Checked<'_>) -> Result<bool, Fail> {
-    let mut out = room(alloc)?;
-    let blank = io::repeat(b' ').take(65_536);
-    let rows = THREE.as_bytes().chain(blank).chain(BEHIND.as_bytes());
-    match filter_lines(alloc, checked, &moment()?, rows, &mut out) {
+/// Whether the run over three rows and a blank line says that memory was refused, with what was written by then;
+/// otherwise it ended.
+fn lines_said(said: &Result<Tally, RunFault>, out: &[u8]) -> Result<bool, Fail> {
+    match said {
         Ok(tally) => {
-            if tally == (Tally { rows: 4, kept: 3 }) && out.as_slice() == KEPT_THRICE.as_bytes() {
-                Ok(false)
-            } else {
-                Err(Fail::from("other rows"))
-            }
+            let is_so = *tally == (Tally { rows: 4, kept: 3 }) && out == KEPT_THRICE.as_bytes();
+            answered(false, is_so, "other rows")
         }
         Err(RunFault::Memory { line }) => {
-            if out.as_slice() == written_before(line).as_bytes() {
-                Ok(true)
-            } else {
-                Err(Fail::from("other rows before the refusal"))
-            }
+            let is_so = out == written_before(*line).as_bytes();
+            answered(true, is_so, "other rows before the refusal")
         }
-        _ => Err(Fail::from("another answer")),
+        _ => Err(Fail::new("another answer")),
     }
 }
 
-/// Whether the run over rows with a faulty one was refused memory, with what was written by then; otherwise the fault
-/// is told.
-fn faulty_lines_are_refused(alloc: Global, checked: &Checked<'_>) -> Result<bool, Fail> {
+fn lines_are_refused(alloc: Global, checked: &Checked<'_>) -> Result<bool, Fail> {
+    let now = moment()?;
     let mut out = room(alloc)?;
     let blank = io::repeat(b' ').take(65_536);
-    let rows = THREE.as_bytes().chain(b"{}\n".as_slice()).chain(blank);
-    match filter_lines(alloc, checked, &moment()?, rows, &mut out) {
+    let rows = THREE.as_bytes().chain(blank).chain(BEHIND.as_bytes());
+    let said = filter_lines(alloc, checked, &now, rows, &mut out);
+    lines_said(&said, out.as_slice())
+}
+
+/// Whether the run over rows with a faulty one says that memory was refused, with what was written by then; otherwise
+/// the fault is told.
+fn faulty_lines_said(said: &Result<Tally, RunFault>, out: &[u8]) -> Result<bool, Fail> {
+    match said {
         Err(RunFault::Memory { line }) => {
-            if line <= 4 && out.as_slice() == written_before(line).as_bytes() {
-                Ok(true)
-            } else {
-                Err(Fail::from("other rows before the refusal"))
-            }
+            let is_so = *line <= 4 && out == written_before(*line).as_bytes();
+            answered(true, is_so, "other rows before the refusal")
         }
         Err(
             RunFault::Row {
                 line: 4,
                 fault: RowFault::Missing { .. },
             },
-        ) => {
-            if out.as_slice() == KEPT_TWICE.as_bytes() {
-                Ok(false)
-            } else {
-                Err(Fail::from("other rows before the fault"))
-            }
-        }
-        _ => Err(Fail::from("another answer")),
+        ) => answered(
+            false,
+            out == KEPT_TWICE.as_bytes(),
+            "other rows before the fault",
+        ),
+        _ => Err(Fail::new("another answer")),
     }
+}
+
+fn faulty_lines_are_refused(alloc: Global, checked: &Checked<'_>) -> Result<bool, Fail> {
+    let now = moment()?;
+    let mut out = room(alloc)?;
+    let blank = io::repeat(b' ').take(65_536);
+    let rows = THREE.as_bytes().chain(b"{}\n".as_slice()).chain(blank);
+    let said = filter_lines(alloc, checked, &now, rows, &mut out);
+    faulty_lines_said(&said, out.as_slice())
 }
 
 /// The first and the third entity are kept.
@@ -311,26 +305,27 @@ fn places_before(line: u64) -> &'static str {
     }
 }
 
-/// Whether the collection was refused memory, with what was written by then; otherwise the places are written.
-fn collection_is_refused(alloc: Global, checked: &Checked<'_>) -> Result<bool, Fail> {
-    let mut out = room(alloc)?;
-    match filter_collection(alloc, checked, &moment()?, COLLECTION.as_bytes(), &mut out) {
+/// Whether the run over the collection says that memory was refused, with what was written by then; otherwise the places
+/// are written.
+fn collection_said(said: &Result<Tally, RunFault>, out: &[u8]) -> Result<bool, Fail> {
+    match said {
         Ok(tally) => {
-            if tally == (Tally { rows: 3, kept: 2 }) && out.as_slice() == "0\n2\n".as_bytes() {
-                Ok(false)
-            } else {
-                Err(Fail::from("other places"))
-            }
+            let is_so = *tally == (Tally { rows: 3, kept: 2 }) && out == "0\n2\n".as_bytes();
+            answered(false, is_so, "other places")
         }
         Err(RunFault::Memory { line }) => {
-            if out.as_slice() == places_before(line).as_bytes() {
-                Ok(true)
-            } else {
-                Err(Fail::from("other places before the refusal"))
-            }
+            let is_so = out == places_before(*line).as_bytes();
+            answered(true, is_so, "other places before the refusal")
         }
-        _ => Err(Fail::from("another answer")),
+        _ => Err(Fail::new("another answer")),
     }
+}
+
+fn collection_is_refused(alloc: Global, checked: &Checked<'_>) -> Result<bool, Fail> {
+    let now = moment()?;
+    let mut out = room(alloc)?;
+    let said = filter_collection(alloc, checked, &now, COLLECTION.as_bytes(), &mut out);
+    collection_said(&said, out.as_slice())
 }
 
 /// What is asked of the filter.

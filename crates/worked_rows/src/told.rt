@@ -2,7 +2,6 @@
 use odata_filter::command_line::{Plan, Verb};
 use odata_filter::run;
 use std::alloc::Global;
-use std::io::Read;
 use std::test::Fail;
 
 pub const SCHEMA: &str =
@@ -56,22 +55,6 @@ pub(crate) fn outcome_of(
 /// A run over rows of `Mini.Item`.
 pub(crate) fn run_of(alloc: Global, filter: &str, rows: &[u8]) -> Told {
     outcome_of(alloc, SCHEMA, &plan_of("Mini.Item", filter), Some(rows))
-}
-
-/// A run by the first filter over rows of `Mini.Item` that a reader gives.
-pub(crate) fn run_of_reader<R: Read + Drop>(alloc: Global, rows: R) -> Told {
-    let mut out = Vec::new(alloc);
-    let mut err = Vec::new(alloc);
-    let plan = plan_of("Mini.Item", FIRST);
-    let status = run(
-        alloc,
-        &plan,
-        SCHEMA.as_bytes(),
-        Some(rows),
-        &mut out,
-        &mut err,
-    );
-    Told { out, err, status }
 }
 
 /// Fails if a run told something else: `at` says which.

@@ -1,6 +1,5 @@
 //! Writers that fail, or take little at a time.
-use crate::told::{FIRST, SCHEMA, plan_of};
-use odata_filter::run;
+use crate::told::{first_plan, run_into};
 use std::alloc::Global;
 use std::io;
 use std::io::Write;
@@ -60,16 +59,7 @@ fn is_written(
     line: &str,
     status: u8,
 ) -> Result<(), Fail> {
-    let mut err = Vec::new(alloc);
-    let plan = plan_of("Mini.Item", FIRST);
-    let ended = run(
-        alloc,
-        &plan,
-        SCHEMA.as_bytes(),
-        Some(rows.as_bytes()),
-        &mut writer,
-        &mut err,
-    );
+    let (err, ended) = run_into(alloc, &first_plan(), Some(rows.as_bytes()), &mut writer);
     let is_wanted = ended == status
         && writer.taken.as_slice() == out
         && err.as_slice() == line.as_bytes();

@@ -1,6 +1,6 @@
 //! Readers that fail.
 use crate::devices::{Cut, PIECES};
-use crate::told::{Told, ends, run_of_reader};
+use crate::told::{Told, ends, run_of};
 use std::alloc::Global;
 use std::io;
 use std::io::Read;
@@ -28,7 +28,7 @@ impl Read for FailsOnce {
 fn run_of_failing(alloc: Global, text: &[u8], piece: usize) -> Told {
     let failure = FailsOnce { has_failed: false };
     let reader = text.chain(failure);
-    run_of_reader(alloc, Cut { reader, piece })
+    run_of(alloc, Cut { reader, piece })
 }
 
 /// Two whole lines and a beginning of a third come, and then the reader fails.
@@ -75,7 +75,7 @@ fn ends_at_failure(
     let mut left = behind.as_bytes();
     let failure = FailsOnce { has_failed: false };
     let rows = first.as_bytes().chain(failure).chain(&mut left);
-    let told = run_of_reader(alloc, rows);
+    let told = run_of(alloc, rows);
     let (out, line, status) = wanted;
     if left == behind.as_bytes() {
         ends(told, first, out, line, status)

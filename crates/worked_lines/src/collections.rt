@@ -1,9 +1,8 @@
 //! Collections of entities (OData JSON Format 4.01, section 13): which places are written, the line that is told, and the
 //! status.
 use crate::devices::{Cut, PIECES, Stumble, Stumbling};
-use crate::told::{FIRST, SCHEMA, Told, ends, outcome_of, plan_of};
+use crate::told::{Told, ends, outcome_of, plan_over};
 use odata_filter::command_line::Plan;
-use odata_filter::run;
 use std::alloc::{AllocError, Global};
 use std::io::Read;
 use std::test::Fail;
@@ -59,19 +58,13 @@ const B: &str = "{\"ID\":1,\"Name\":\"b\",\"Active\":true}";
 
 /// The plan of a collection of `Mini.Item` by the first filter, from a file or from standard input.
 fn plan_of_collection(rows: Option<&str>) -> Plan<'_> {
-    let mut plan = plan_of("Mini.Item", FIRST);
+    let mut plan = plan_over(rows);
     plan.collection = true;
-    plan.rows = rows;
     plan
 }
 
 fn run_of_collection(alloc: Global, document: &[u8]) -> Told {
-    outcome_of(
-        alloc,
-        SCHEMA,
-        &plan_of_collection(Some("answer.json")),
-        Some(document),
-    )
+    run_of_given(alloc, Some("answer.json"), document)
 }
 
 /// The text with each `A` and `B` that stands for an entity spelled out.
@@ -140,18 +133,7 @@ fn collections_of_many(rt: HostRuntime) -> Result<(), Fail> {
 
 /// A run over a collection that a reader gives, from a file or from standard input.
 fn run_of_given<R: Read + Drop>(alloc: Global, named: Option<&str>, rows: R) -> Told {
-    let mut out = Vec::new(alloc);
-    let mut err = Vec::new(alloc);
-    let plan = plan_of_collection(named);
-    let status = run(
-        alloc,
-        &plan,
-        SCHEMA.as_bytes(),
-        Some(rows),
-        &mut out,
-        &mut err,
-    );
-    Told { out, err, status }
+    outcome_of(alloc, &plan_of_collection(named), Some(rows))
 }
 
 /// However the reader cuts them.
@@ -190,6 +172,6 @@ fn collections_that_are_not_read(rt: HostRuntime) -> Result<(), Fail> {
 #[test]
 fn a_collection_that_cannot_be_opened(rt: HostRuntime) -> Result<(), Fail> {
     let plan = plan_of_collection(Some("answer.json"));
-    let told = outcome_of(rt.alloc(), SCHEMA, &plan, None);
+    let told = outcome_of::<&[u8]>(rt.alloc(), &plan, None);
     ends(told, "no rows", "", "read answer.json\n", 5)
 }

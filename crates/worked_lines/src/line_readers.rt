@@ -1,6 +1,5 @@
 //! Lines of readers that give their bytes in pieces of any length.
 use crate::devices::{Cut, PIECES, Stumble, Stumbling, Watched};
-use crate::limits::repeated;
 use odata_filter::{LineFault, LineReader};
 use std::alloc::Global;
 use std::cell::Cell;
@@ -223,7 +222,7 @@ fn reads_late(alloc: Global, text: &str, piece: usize, count: usize) -> Result<b
 #[test]
 fn reads_are_late_and_small(rt: HostRuntime) -> Result<(), Fail> {
     for &(piece, count) in LATE {
-        let text = repeated(rt.alloc(), "a line of some bytes\n", count)?;
+        let text = "a line of some bytes\n".repeat(rt.alloc(), count)?;
         if !reads_late(rt.alloc(), text.as_str(), piece, count)? {
             return Err(Fail::new(format_args!("{piece} bytes at a time")));
         }

@@ -1,8 +1,6 @@
 //! Runs over rows that come in pieces: what is told, what is read, and what has been written by then.
 use crate::devices::{Counting, Cut, PIECES, Watched};
-use crate::limits::repeated;
-use crate::told::{FIRST, SCHEMA, ends, plan_of, run_of_reader};
-use odata_filter::run;
+use crate::told::{ends, first_plan, run_into, run_of};
 use std::alloc::{AllocError, Global};
 use std::cell::Cell;
 use std::test::Fail;
@@ -38,7 +36,7 @@ fn answers_however_rows_come(rt: HostRuntime) -> Result<(), Fail> {
                 reader: rows.as_bytes(),
                 piece,
             };
-            ends(run_of_reader(rt.alloc(), reader), rows, out, line, status)?;
+            ends(run_of(rt.alloc(), reader), rows, out, line, status)?;
         }
     }
     Ok(())
@@ -52,7 +50,7 @@ fn nothing_is_read_behind_a_faulty_line(rt: HostRuntime) -> Result<(), Fail> {
         reader: &mut left,
         piece: 1,
     };
-    let told = run_of_reader(rt.alloc(), reader);
+    let told = run_of(rt.alloc(), reader);
     assert!(rt; left == b"{\"ID\":1,\"Name\":\"a\",\"Active\":true}\n\n".as_slice());
     ends(told, "one byte at a time", "", "row 1 Missing Active\n", 4)
 }
@@ -63,7 +61,7 @@ const KEPT: &[(usize, usize)] = &[(1, 20), (2, 20), (7, 200), (usize::MAX, 4000)
 /// Whether a run over so many rows that are all kept, so many bytes at a time, writes them all, those that came before the
 /// next read and in one call, and is flushed once.
 fn writes_early(alloc: Global, count: usize, piece: usize) -> Result<bool, AllocError> {
-    let rows = repeated(alloc, A, count)?;
+    let rows = A.repeat(alloc, count)?;
     let written = Cell::new(0);
     let cut = Cut {
         reader: rows.as_bytes(),
@@ -75,16 +73,7 @@ fn writes_early(alloc: Global, count: usize, piece: usize) -> Result<bool, Alloc
         writes: 0,
         flushes: 0,
     };
-    let mut err = Vec::new(alloc);
-    let plan = plan_of("Mini.Item", FIRST);
-    let status = run(
-        alloc,
-        &plan,
-        SCHEMA.as_bytes(),
-        Some(&mut reader),
-        &mut out,
-        &mut err,
-    );
+    let (_, status) = run_into(alloc, &first_plan(), Some(&mut reader), &mut out);
     let is_late = reader.is_early || reader.most_asked > 65_536;
     let is_often = out.writes > reader.reads || out.flushes != 1;
     Ok(status == 0 && !is_late && !is_often && written.get() == rows.len())

@@ -1,0 +1,20 @@
+//! Readers and writers that give or take little, or fail: lines, and runs of the program's work over them. There is nothing
+//! here but tests.
+#![tactic(auto)]
+
+#[cfg(test)]
+mod collections;
+#[cfg(test)]
+mod devices;
+#[cfg(test)]
+mod limits;
+#[cfg(test)]
+mod line_readers;
+#[cfg(test)]
+mod pieces;
+#[cfg(test)]
+mod readers;
+#[cfg(test)]
+mod told;
+#[cfg(test)]
+mod writers;
