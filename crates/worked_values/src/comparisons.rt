@@ -87,9 +87,18 @@ fn datum(sample: &Sample) -> Result<Datum<'static>, Fail> {
     })
 }
 
-/// The answers for two samples.
-fn outcomes_of(left: &Sample, right: &Sample) -> Result<[Option<bool>; 6], Fail> {
-    Ok(outcomes(&datum(left)?, &datum(right)?))
+/// Fails if the answers for two samples are others: `place` is that of the row.
+fn answer(
+    left: &Sample,
+    right: &Sample,
+    wanted: [Option<bool>; 6],
+    place: usize,
+) -> Result<(), Fail> {
+    if outcomes(&datum(left)?, &datum(right)?) == wanted {
+        Ok(())
+    } else {
+        Err(Fail::new(format_args!("not {wanted:?} at row {place}")))
+    }
 }
 
 /// `o` where all six operators compare the two, `e` where `eq` and `ne` alone do, `.` where none does.
@@ -128,19 +137,27 @@ const KINDS: &[(Sample, &str)] = &[
     (Sample::List, ".........."),
 ];
 
-/// How two samples are compared.
-fn compared_of(left: &Sample, right: &Sample) -> Result<char, Fail> {
-    Ok(compared(&datum(left)?, &datum(right)?))
+/// Fails if two samples are compared otherwise.
+fn are_compared(left: &Sample, right: &Sample, wanted: char) -> Result<(), Fail> {
+    if compared(&datum(left)?, &datum(right)?) == wanted {
+        Ok(())
+    } else {
+        Err(Fail::new(format_args!("not {wanted}")))
+    }
+}
+
+/// Fails if a sample is compared otherwise with one of each kind.
+fn is_row(sample: &Sample, row: &str) -> Result<(), Fail> {
+    for (other, cell) in KINDS.iter().zip(row.chars()) {
+        are_compared(sample, &other.0, cell)?;
+    }
+    Ok(())
 }
 
 #[test]
 fn kinds() -> Result<(), Fail> {
     for (sample, row) in KINDS {
-        for (other, cell) in KINDS.iter().zip(row.chars()) {
-            if compared_of(sample, &other.0)? != cell {
-                return Err(Fail::new(format_args!("{row} {cell}")));
-            }
-        }
+        is_row(sample, row)?;
     }
     Ok(())
 }
@@ -159,27 +176,33 @@ const WITH_NULL: &[(Sample, [Option<bool>; 6])] = &[
     (Sample::Record, UNEQUAL),
 ];
 
+/// Fails if the answers for a value beside null are others, on either side.
+fn is_beside_null(sample: &Sample, wanted: [Option<bool>; 6], place: usize) -> Result<(), Fail> {
+    answer(&Sample::Null, sample, wanted, place)?;
+    answer(sample, &Sample::Null, wanted, place)
+}
+
 /// Null equals itself; `ge` and `le` of two nulls are true.
 #[test]
 fn null() -> Result<(), Fail> {
     for (place, (sample, wanted)) in WITH_NULL.iter().enumerate() {
-        if outcomes_of(&Sample::Null, sample)? != *wanted
-            || outcomes_of(sample, &Sample::Null)? != *wanted
-        {
-            return Err(Fail::new(format_args!("null beside value {place}")));
-        }
+        is_beside_null(sample, *wanted, place)?;
+    }
+    Ok(())
+}
+
+/// A value of a list that goes up, against each of it.
+fn stands_at(samples: &[Sample], place: usize, sample: &Sample) -> Result<(), Fail> {
+    for (other, right) in samples.iter().enumerate() {
+        answer(sample, right, ordered(place.cmp(&other)), other)?;
     }
     Ok(())
 }
 
 /// Each value of a list that goes up, against each of it.
 fn goes_up(samples: &[Sample]) -> Result<(), Fail> {
-    for (i, left) in samples.iter().enumerate() {
-        for (j, right) in samples.iter().enumerate() {
-            if outcomes_of(left, right)? != ordered(i.cmp(&j)) {
-                return Err(Fail::new(format_args!("at {i} and {j}")));
-            }
-        }
+    for (place, sample) in samples.iter().enumerate() {
+        stands_at(samples, place, sample)?;
     }
     Ok(())
 }
@@ -289,16 +312,17 @@ const MOMENTS: &[(&str, &str, Ordering)] = &[
     ),
 ];
 
+/// Fails if two moments stand in another order.
+fn are_ordered(left: &Sample, right: &Sample, order: Ordering, place: usize) -> Result<(), Fail> {
+    answer(left, right, ordered(order), place)?;
+    answer(right, left, ordered(order.reverse()), place)
+}
+
 /// Moments by their instants, whatever their clocks show.
 #[test]
 fn moments() -> Result<(), Fail> {
-    for &(left, right, order) in MOMENTS {
-        let (first, second) = (Sample::Moment(left), Sample::Moment(right));
-        if outcomes_of(&first, &second)? != ordered(order)
-            || outcomes_of(&second, &first)? != ordered(order.reverse())
-        {
-            return Err(Fail::new(format_args!("not {order:?}: {left} {right}")));
-        }
+    for (place, &(left, right, order)) in MOMENTS.iter().enumerate() {
+        are_ordered(&Sample::Moment(left), &Sample::Moment(right), order, place)?;
     }
     Ok(())
 }
@@ -325,9 +349,7 @@ const BY_EQUALITY: &[(Sample, Sample, bool)] = &[
 fn equality_alone() -> Result<(), Fail> {
     for (place, (left, right, is_equal)) in BY_EQUALITY.iter().enumerate() {
         let wanted = if *is_equal { EQUAL } else { UNEQUAL };
-        if outcomes_of(left, right)? != wanted {
-            return Err(Fail::new(format_args!("at row {place}")));
-        }
+        answer(left, right, wanted, place)?;
     }
     Ok(())
 }

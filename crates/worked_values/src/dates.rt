@@ -1,6 +1,7 @@
 //! Dates of the Gregorian calendar, year 0001 to 9999.
 use edm_values::{read_date, write_date};
-use std::alloc::Global;
+use jiff::civil::Date;
+use std::alloc::{AllocError, Global};
 use std::test::Fail;
 
 /// A text, and the year, the month and the day of its date.
@@ -11,16 +12,24 @@ const DATES: &[(&str, i16, i8, i8)] = &[
     ("9999-12-31", 9999, 12, 31),
 ];
 
-/// Whether the text is read as the date with these parts, and that is written as the text behind what is there.
-fn is_date(alloc: Global, text: &str, parts: (i16, i8, i8)) -> Result<bool, Fail> {
-    let read = read_date(text).ok_or("no date")?;
-    if !(1..=9999).contains(&read.year()) {
+/// Whether the date is written as the text behind what is there.
+fn is_written(alloc: Global, date: Date, text: &str) -> Result<bool, AllocError> {
+    if !(1..=9999).contains(&date.year()) {
         return Ok(false);
     }
     let mut out = String::from_str(alloc, "d=")?;
-    write_date(&mut out, read)?;
-    let is_read = (read.year(), read.month(), read.day()) == parts;
-    Ok(is_read && out.as_str().strip_prefix("d=") == Some(text))
+    write_date(&mut out, date)?;
+    Ok(out.as_str().strip_prefix("d=") == Some(text))
+}
+
+/// Whether the text is read as the date with these parts, and that is written as the text behind what is there.
+fn is_date(alloc: Global, text: &str, parts: (i16, i8, i8)) -> Result<bool, Fail> {
+    let read = read_date(text).ok_or("no date")?;
+    if (read.year(), read.month(), read.day()) == parts {
+        Ok(is_written(alloc, read, text)?)
+    } else {
+        Ok(false)
+    }
 }
 
 #[test]

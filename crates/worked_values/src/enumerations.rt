@@ -21,6 +21,11 @@ fn add_member(made: &mut Enumeration, name: String, number: i64) -> Result<(), F
     Ok(())
 }
 
+/// A further member of this name.
+fn add_named(alloc: Global, made: &mut Enumeration, name: &str, number: i64) -> Result<(), Fail> {
+    add_member(made, String::from_str(alloc, name)?, number)
+}
+
 /// An enumeration with these members.
 fn enumeration(
     alloc: Global,
@@ -30,7 +35,7 @@ fn enumeration(
 ) -> Result<Enumeration, Fail> {
     let mut made = without_members(alloc, underlying, is_flags).ok_or("no number type")?;
     for (name, number) in members {
-        add_member(&mut made, String::from_str(alloc, name)?, *number)?;
+        add_named(alloc, &mut made, name, *number)?;
     }
     Ok(made)
 }
@@ -178,10 +183,15 @@ fn members_by_name(rt: HostRuntime) -> Result<(), Fail> {
     has_values(&odd, ODD_VALUES)
 }
 
+/// A further member, named by its number.
+fn add_numbered(alloc: Global, made: &mut Enumeration, number: i64) -> Result<(), Fail> {
+    add_member(made, format!(in alloc; "M{number}")?, number)
+}
+
 fn with_many_members(alloc: Global, count: i64) -> Result<Enumeration, Fail> {
     let mut made = without_members(alloc, Prim::Int64, true).ok_or("no number type")?;
     for number in 0..count {
-        add_member(&mut made, format!(in alloc; "M{number}")?, number)?;
+        add_numbered(alloc, &mut made, number)?;
     }
     Ok(made)
 }

@@ -38,15 +38,22 @@ const WRITTEN: &[(i64, &str)] = &[
     (i64::MIN, "n=-9223372036854775808"),
 ];
 
+/// Fails if another text is written behind what is there.
+fn is_written(alloc: Global, value: i64, text: &str) -> Result<(), Fail> {
+    let mut out = String::from_str(alloc, "n=")?;
+    write_int(&mut out, value)?;
+    if out.as_str() == text {
+        Ok(())
+    } else {
+        Err(Fail::new(format_args!("{out}, not {text}")))
+    }
+}
+
 /// What is written goes behind what is there.
 #[test]
 fn whole_numbers_written(rt: HostRuntime) -> Result<(), Fail> {
     for &(value, text) in WRITTEN {
-        let mut out = String::from_str(rt.alloc(), "n=")?;
-        write_int(&mut out, value)?;
-        if out.as_str() != text {
-            return Err(Fail::new(format_args!("{out}, not {text}")));
-        }
+        is_written(rt.alloc(), value, text)?;
     }
     Ok(())
 }
