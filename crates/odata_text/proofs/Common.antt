@@ -1,23 +1,22 @@
--- The names that most proofs of this crate cite, passed on from one place. Declares nothing.
-pub use Rattle.std.proofs.Common.{inr, ◌≡◌, inl, ℕ, ◌<◌, ◌≤◌, ◌&&◌, nat_le, Bool, true, List, length, get_or, take, codes, arith, refl, sym, ◌∙◌, ap, subst, ◌⊎◌, ⊎_elim, zero, suc, ◌+◌, ◌-◌, ◌*◌, [], ◌∷◌, ◌++◌, drop, append_assoc, length-append, ◌==◌, false, take-append-drop, pos, length-drop, IsUtf8, IsCharBoundary, add-zero, map, append-nil, map-id, chars, ◌||◌, not, cond, min, Some, Option, None, ◌≢◌, All, nat_lt}
+-- The names that several proofs of this crate cite, passed on from one place. Declares nothing.
+pub use Rattle.std.proofs.Common.{inr, ◌≡◌, ◌⊎◌, inl, ⊎_elim, ℕ, ◌+◌, ◌-◌, ◌*◌, ◌<◌, ◌==◌, ◌||◌, ◌&&◌, Bool, not, true, List, [], ◌∷◌, ◌++◌, length, get_or, drop, arith, refl, sym, ◌∙◌, ap, subst, append_assoc, nat_le, codes, IsUtf8, IsCharBoundary, ◌≤◌, take, take-append-drop, pos, zero, suc, false, length-append, length-drop, add-zero, append-nil, chars, min, Some, cond, Option, None, map, rules, ◌≢◌, All, nat_lt}
 unfoldable pub use Rattle.percent_encoding.specs.Percent.{percent_decode}
-pub use Rattle.std.proofs.Math.ListN.{get_or-append}
-pub use Rattle.std.proofs.Math.Seq.{get_or-append_right, take-length}
-pub use Rattle.std.proofs.Math.Utf8.{scalar, encode}
-pub use Rattle.std.proofs.lemmas.Bool.{both_ways, cases_lt, cond-true, cond-false, eqb-true, or_cases, cases_eq, and_parts, and_from, cases_Bool, ne_eqb, or_left, false_from_ne_true, false≢true, ltb-true, cases_order, and_left}
+pub use Rattle.std.proofs.Math.Seq.{take-length}
+pub use Rattle.std.proofs.Math.Utf8.{encode}
+pub use Rattle.std.proofs.lemmas.Bool.{and_from, or_left, eqb-true, false≢true, cond-false, cases_lt, both_ways, or_right, eq-eqb, or_cases, cases_eq, and_parts, cond-true, ne_eqb, false_from_ne_true, not-false, agree_below, agree_below_at, cases_Bool, ltb-true, cases_order, and_left}
 pub use Rattle.std.proofs.lemmas.Bool.Decides.{nat_tests}
-pub use Rattle.std.proofs.lemmas.Iterator.Consumers.{YieldsList-end, YieldsList-turn}
-pub use Rattle.std.proofs.lemmas.List.{get_or-map, length-map, length-take-le, take-take, get_or-take, drop_at, take_at, get_or-drop, take_rest, drop_more, get_or_default}
-pub use Rattle.std.proofs.lemmas.List.Elements.{All-cons, All-nil}
-pub use Rattle.std.proofs.lemmas.List.Sums.{prefix_len_passes, fold-append, fold_more, prefix_len-le-length, take_while-cons, sum_by_more_le}
-pub use Rattle.std.proofs.lemmas.Str.{IsUtf8-drop, IsCharBoundary-after_ascii, chars-nil, chars-append, encodes-chars, scalars-chars, IsCharBoundary-from_take, IsUtf8-from_ascii, chars-IsAscii, chars_past_char, IsCharBoundary-start}
+pub use Rattle.std.proofs.lemmas.List.{length-map, get_or-take, length-take-le, take-take, drop_at, take_at, drop-drop, get_or-drop, take_rest, map_push, length_push, get_or_default}
+pub use Rattle.std.proofs.lemmas.List.Elements.{All-from_get_or, All-cons, All-nil}
+pub use Rattle.std.proofs.lemmas.List.Folds.{list_all-map, fold_stays}
+pub use Rattle.std.proofs.lemmas.List.Sums.{fold-append, fold_more, list_all-from_AllPass, prefix_len-le-length, prefix_len_passes, AllPass-from_list_all, take_while-cons, sum_by_more_le}
+pub use Rattle.std.proofs.lemmas.Str.{IsCharBoundary-after_ascii, IsCharBoundary-from_rest, chars_from_encodes, chars-nil, chars-append, chars_past_char, IsCharBoundary-start, encodes-chars, IsUtf8-from_ascii, chars-IsAscii}
 pub use Rattle.std.proofs.lemmas.Str.Ascii.{IsAscii-cons, IsAscii-nil}
-pub use Rattle.std.proofs.lemmas.Str.Parse.{digit_at}
-pub use Rattle.std.specs.Char.{is_ascii_alphabetic, to_ascii_lowercase, is_ascii_digit, digit_value, is_ascii_hexdigit, len_utf8, is_ascii}
-pub use Rattle.std.specs.List.{prefix_len, list_all, take_while, Contains, count_by}
+pub use Rattle.std.specs.Char.{is_ascii_digit, is_ascii_alphabetic, to_ascii_lowercase, digit_value, is_ascii_hexdigit, len_utf8, is_ascii}
+pub use Rattle.std.specs.List.{list_all, AllByRecursion as AllOf, prefix_len, take_while, Contains, count_by}
 pub use Rattle.std.specs.Prelude.{fold, slice_range}
-pub use Rattle.std.specs.Str.{str_to_ascii_lowercase, encode_utf8_all, all_scalars}
+pub use Rattle.std.specs.Str.{str_to_ascii_lowercase, encode_utf8_all}
 pub use Rattle.std.specs.Str.Parse.{IsNumeral, AllDigits}
+pub use borrow.Author.Count.{below_more}
 pub use Rattle.edm_values.specs.DateLiteral.{IsDateSpelling}
 pub use Rattle.edm_values.specs.GuidLiteral.{IsGuidSpelling, hex_bytes}
 pub use Rattle.edm_values.specs.IntLiteral.{IsIntSpelling}
@@ -29,17 +28,17 @@ unfoldable pub use Rattle.odata_text.specs.Identifier.{begins_identifier, contin
 pub use Rattle.odata_text.specs.LeftOut.{IsFraction, IsDecimals, IsExponent}
 pub use Rattle.odata_text.specs.LiteralSpelling.{enumeration_spelling}
 pub use Rattle.odata_text.specs.Printing.{MayFollow, is_separator, may_follow, ArePrintable, Print}
-pub use Rattle.odata_text.specs.Query.{IsQueryFault, IsDecodable, IsFilterOf, IsReadable, is_bad_escape, AreFaultless, HasFilter, IsOptionFault, is_filter, option_start, options_of}
+pub use Rattle.odata_text.specs.Query.{IsQueryFault, is_bad_escape, IsDecodable, IsFilterOf, IsReadable, AreFaultless, HasFilter, IsOptionFault, is_filter, option_start, options_of}
 unfoldable pub use Rattle.odata_text.specs.Query.{name_of, value_of, is_filter_name}
 pub use Rattle.odata_text.specs.Sequence.{FollowedBy}
-pub use Rattle.odata_text.specs.Spelling.{IsLeftOutName, IsNamed, IsByte, IsDottedWord, dotted_parts, IsWordSpelling, IsFormed, Spells}
+pub use Rattle.odata_text.specs.Spelling.{IsByte, IsDottedWord, IsLeftOutName, IsNamed, dotted_parts, IsWordSpelling, IsFormed, Spells}
 pub use Rattle.odata_text.specs.TokenExamples.{run_on_filter, fraction_filter}
 pub use Rattle.odata_text.specs.TokenModel.{TokenModel, token_model, token_models}
 pub use Rattle.odata_text.specs.TokenSequence.{AreTokensOf}
-pub use Rattle.odata_text.specs.Tokens.{IsLongest, NoneSpelled, AreTokensFrom, IsGap, IsTokenAt, IsTokenList, end_of, is_undelimited, text_limit, token_limit, IsFaultBehind, IsRunOn, IsFaultAt}
-pub use Rattle.odata_text.specs.declared.byte_class.ByteClass.TheVariants.{Space, Other}
+pub use Rattle.odata_text.specs.Tokens.{IsLongest, NoneSpelled, AreTokensFrom, IsGap, IsTokenAt, IsTokenList, end_of, is_undelimited, text_limit, token_limit, IsFaultAt, IsFaultBehind, IsRunOn}
+pub use Rattle.odata_text.specs.declared.byte_class.ByteClass.TheVariants.{Space}
 pub use Rattle.odata_text.specs.declared.byte_test.ByteTest.{ByteTest}
-pub use Rattle.odata_text.specs.declared.byte_test.ByteTest.TheVariants.{Digit, Hyphen, Sign, TimeMark, OffsetMark, HexDigit, Dot, ExponentMark}
+pub use Rattle.odata_text.specs.declared.byte_test.ByteTest.TheVariants.{Digit, Hyphen, Sign, TimeMark, OffsetMark, Colon, HexDigit, Dot, ExponentMark}
 pub use Rattle.odata_text.specs.declared.fault.TextFault.{TextFault}
 pub use Rattle.odata_text.specs.declared.fault.TextFault.TheVariants.{RunOn, LeftOutLiteral, TooLong, Memory}
 pub use Rattle.odata_text.specs.declared.form.Form.{Form}
@@ -48,8 +47,8 @@ pub use Rattle.odata_text.specs.declared.form.LeftOutKind.TheVariants.{Number, T
 pub use Rattle.odata_text.specs.declared.query_fault.QueryFault.{QueryFault}
 pub use Rattle.odata_text.specs.declared.query_fault.QueryFault.TheVariants.{OtherOption, Repeated}
 pub use Rattle.odata_text.specs.declared.quoted.Quoted.{Quoted}
-pub use Rattle.odata_text.specs.declared.quoted.Quoted.TheVariants.{Before, Closed, Over}
+pub use Rattle.odata_text.specs.declared.quoted.Quoted.TheVariants.{Before, Closed, Over, Open}
 pub use Rattle.odata_text.specs.declared.token.TokenKind.{TokenKind}
-pub use Rattle.odata_text.specs.declared.token.TokenKind.TheVariants.{Word, Dollar, Int, Date, Moment, Guid, Str, EnumLit, Open, Close, Comma, Slash, Colon, Minus}
-pub use Rattle.odata_text.specs.private.Lengths.{IsReach, quoted_after}
+pub use Rattle.odata_text.specs.declared.token.TokenKind.TheVariants.{Word, Dollar, Int, Date, Moment, Guid, Str, EnumLit, Close, Comma, Slash, Minus}
+pub use Rattle.odata_text.specs.private.Lengths.{IsReach, quoted_after, both_length}
 pub use Rattle.odata_text.specs.private.Patterns.{PassesTests, IsMarkedClock, IsTimed, IsZoned, passes}

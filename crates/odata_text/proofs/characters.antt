@@ -1,3 +1,2 @@
-pub mod ByteClasses
 pub mod IdentifierBytes
 pub mod Identifiers

@@ -4,4 +4,3 @@ pub mod OneReading
 pub mod Places
 pub mod Prints
 pub mod Scans
-pub mod SpelledTokens

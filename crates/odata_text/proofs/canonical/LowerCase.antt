@@ -1,10 +1,11 @@
 -- Words in lower case.
 use Rattle.std.proofs.lemmas.List.{map-append}
-use Rattle.std.proofs.lemmas.List.Folds.{list_all-map, map_fixed}
-use Rattle.std.proofs.lemmas.Str.{chars_from_encodes, encode_ascii, inside_one}
+use Rattle.std.proofs.lemmas.List.Folds.{map_fixed}
+use Rattle.std.proofs.lemmas.Str.{encode_ascii, inside_one, scalars-chars}
 use Rattle.std.proofs.lemmas.Str.Ascii.{lowercase_ascii, lowercase_is}
-use Rattle.odata_text.proofs.Common.{◌≡◌, ⊎_elim, ℕ, ◌<◌, true, Bool, List, [], ◌∷◌, ◌++◌, map, get_or, chars, IsUtf8, arith, refl, sym, ◌∙◌, ap, append-nil, to_ascii_lowercase, list_all, all_scalars, encode_utf8_all, str_to_ascii_lowercase, scalar, encode, and_from, and_parts, cases_lt, get_or_default, nat_tests, encodes-chars, scalars-chars, IsIdentifier, begins_identifier, continues_identifier, is_identifier, IsWordSpelling, dotted_parts}
-use Rattle.std.specs.List.{AllByRecursion as AllOf}
+use Rattle.std.specs.Str.{all_scalars}
+use Rattle.std.proofs.Math.Utf8.{scalar}
+use Rattle.odata_text.proofs.Common.{list_all-map, chars_from_encodes, ◌≡◌, ⊎_elim, ℕ, ◌<◌, true, Bool, List, [], ◌∷◌, ◌++◌, map, get_or, chars, IsUtf8, arith, refl, sym, ◌∙◌, ap, append-nil, to_ascii_lowercase, list_all, encode_utf8_all, str_to_ascii_lowercase, encode, and_from, and_parts, cases_lt, get_or_default, nat_tests, encodes-chars, IsIdentifier, begins_identifier, continues_identifier, is_identifier, IsWordSpelling, dotted_parts, AllOf}
 use Rattle.odata_text.proofs.characters.Identifiers.{list_all-weaker}
 use Rattle.odata_text.proofs.characters.IdentifierBytes.{begins-ascii, continues-ascii, is_first_byte, is_name_byte}
 

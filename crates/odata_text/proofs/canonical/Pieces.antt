@@ -1,6 +1,6 @@
 -- Enumeration literals without the spaces round their pieces.
-use Rattle.std.proofs.lemmas.Bool.{not-true}
-use Rattle.odata_text.proofs.Common.{list_all, ◌≡◌, ⊎_elim, ℕ, suc, ◌<◌, ◌==◌, ◌||◌, ◌&&◌, Bool, true, false, cond, List, [], ◌∷◌, ◌++◌, length, get_or, arith, refl, sym, ◌∙◌, ap, subst, and_left, and_parts, both_ways, cases_Bool, cond-false, cond-true, eqb-true, ne_eqb, IsStringSpelling, with_doubled_quotes, enumeration_spelling, FollowedBy, IsDottedWord}
+use Rattle.std.proofs.lemmas.Bool.{cond_both, not-true}
+use Rattle.odata_text.proofs.Common.{cond-true, cond-false, list_all, ◌≡◌, ⊎_elim, ℕ, ◌==◌, ◌||◌, ◌&&◌, Bool, true, false, cond, List, [], ◌∷◌, ◌++◌, length, arith, refl, sym, ◌∙◌, ap, subst, and_left, and_parts, both_ways, cases_Bool, eqb-true, ne_eqb, IsStringSpelling, with_doubled_quotes, enumeration_spelling, FollowedBy, IsDottedWord}
 use Rattle.odata_text.specs.LiteralSpelling.{is_piece_end, trimmed_pieces}
 use Rattle.odata_text.proofs.spellings.Parts.{dotted-unquoted, is_unquoted}
 
@@ -10,34 +10,20 @@ record IsQuoted (xs : List ℕ) : Type 0 where
   value : List ℕ
   is : xs ≡ with_doubled_quotes value ++ 39 ∷ []
 
-either : (t : Bool) (xs ys : List ℕ) → IsQuoted xs → IsQuoted ys → IsQuoted (cond t xs ys)
-either true xs ys first second = first
-either false xs ys first second = second
-
-quoted-front : (b : ℕ) (xs : List ℕ) → (b == 39) ≡ false → IsQuoted xs → IsQuoted (b ∷ xs)
-quoted-front b xs plain quoted = record {
-  value = b ∷ quoted.value;
-  is = ap (λ (ys : List ℕ). b ∷ ys) quoted.is ∙ sym (ap (λ (ys : List ℕ). ys ++ 39 ∷ []) (cond-false (b == 39) (39 ∷ 39 ∷ with_doubled_quotes quoted.value) (b ∷ with_doubled_quotes quoted.value) plain));
-}
-
-quoted-quote : (xs : List ℕ) → IsQuoted xs → IsQuoted (39 ∷ 39 ∷ xs)
-quoted-quote xs quoted = record { value = 39 ∷ quoted.value; is = ap (λ (ys : List ℕ). 39 ∷ 39 ∷ ys) quoted.is }
-
 trimmed-quoted : (before : Bool) (value : List ℕ) → IsQuoted (trimmed_pieces before (with_doubled_quotes value ++ 39 ∷ []))
 trimmed-quoted before [] = record { value = []; is = refl }
 trimmed-quoted before (b ∷ bs) =
     ⊎_elim
     (λ quote.
-    let here : b ≡ 39 = eqb-true b 39 quote in
-    let whole : with_doubled_quotes (39 ∷ bs) ≡ 39 ∷ 39 ∷ with_doubled_quotes bs = refl in
-    subst (λ (c : ℕ). IsQuoted (trimmed_pieces before (with_doubled_quotes (c ∷ bs) ++ 39 ∷ []))) (sym here)
-    (quoted-quote (trimmed_pieces false (with_doubled_quotes bs ++ 39 ∷ [])) (trimmed-quoted false bs)))
+    let more = trimmed-quoted false bs in
+    subst (λ (c : ℕ). IsQuoted (trimmed_pieces before (with_doubled_quotes (c ∷ bs) ++ 39 ∷ []))) (sym (eqb-true b 39 quote))
+    (record { value = 39 ∷ more.value; is = ap (λ (ys : List ℕ). 39 ∷ 39 ∷ ys) more.is }))
     (λ plain.
-    let whole : with_doubled_quotes (b ∷ bs) ≡ b ∷ with_doubled_quotes bs = cond-false (b == 39) (39 ∷ 39 ∷ with_doubled_quotes bs) (b ∷ with_doubled_quotes bs) plain in
-    let rest = with_doubled_quotes bs ++ 39 ∷ [] in
-    subst (λ (xs : List ℕ). IsQuoted (trimmed_pieces before (xs ++ 39 ∷ []))) (sym whole)
-    (either ((b == 32) && (before || is_piece_end rest)) (trimmed_pieces before rest) (b ∷ trimmed_pieces (b == 44) rest)
-    (trimmed-quoted before bs) (quoted-front b (trimmed_pieces (b == 44) rest) plain (trimmed-quoted (b == 44) bs))))
+    let more = trimmed-quoted (b == 44) bs in
+    rw plain
+    (cond_both ((b == 32) && (before || is_piece_end (with_doubled_quotes bs ++ 39 ∷ []))) _ _ IsQuoted
+    (λ dropped. trimmed-quoted before bs)
+    (λ kept. record { value = b ∷ more.value; is = rw plain (ap (λ (ys : List ℕ). b ∷ ys) more.is) })))
     (cases_Bool (b == 39))
 
 -- up to the first quote nothing is left out
@@ -47,7 +33,7 @@ enumeration-past (b ∷ word) ys none =
     let parts = and_parts (is_unquoted b) (list_all is_unquoted word) none in
     let plain : (b == 39) ≡ false = not-true (b == 39) parts.0 in
     let more = enumeration-past word ys parts.1 in
-    ap (λ (xs : List ℕ). b ∷ xs) (cond-false (b == 39) (trimmed_pieces true (word ++ 39 ∷ ys)) (enumeration_spelling (word ++ 39 ∷ ys)) plain ∙ more)
+    rw plain (ap (λ (xs : List ℕ). b ∷ xs) more)
 
 pub trimmed-enumeration : (text : List ℕ) → FollowedBy IsDottedWord IsStringSpelling text → FollowedBy IsDottedWord IsStringSpelling (enumeration_spelling text)
 trimmed-enumeration text pair =
@@ -87,9 +73,8 @@ trimmed-empty (b ∷ bs) =
     ⊎_elim
     (λ dropped.
     let ends = (and_parts (b == 32) (is_piece_end bs) dropped).1 in
-    ap (λ (xs : List ℕ). length xs == 0) (step-dropped false b bs dropped) ∙ trimmed-empty bs ∙ end-nonempty bs ends ∙ sym (nonempty b bs))
-    (λ kept.
-    ap (λ (xs : List ℕ). length xs == 0) (step-kept false b bs kept) ∙ nonempty b (trimmed_pieces (b == 44) bs) ∙ sym (nonempty b bs))
+    rw dropped (trimmed-empty bs ∙ end-nonempty bs ends ∙ sym (nonempty b bs)))
+    (λ kept. rw kept (nonempty b (trimmed_pieces (b == 44) bs) ∙ sym (nonempty b bs)))
     (cases_Bool (is_dropped false b bs))
 
 space-end : (b : ℕ) (bs : List ℕ) → b ≡ 32 → is_piece_end (b ∷ bs) ≡ is_piece_end bs

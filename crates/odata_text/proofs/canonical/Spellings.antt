@@ -86,13 +86,11 @@ lowered-again : (text : List ℕ) → str_to_ascii_lowercase (str_to_ascii_lower
 lowered-again [] = refl
 lowered-again (b ∷ bs) = λ i. lowercase-lowercase b i ∷ lowered-again bs i
 
-literal-one : AreLiteralValues → (kind : TokenKind) (text first second : List ℕ) → IsSpellingOf kind text first → IsSpellingOf kind text second → first ≡ second
-literal-one are Word text first second a b = a ∙ sym b
-literal-one are Int text first second a b = value-one IntValue int_spelling are.ints text first second a b
-literal-one are Moment text first second a b = value-one MomentValue moment_spelling are.moments text first second a b
-literal-one are Guid text first second a b = value-one GuidValue guid_spelling are.guids text first second a b
-literal-one are EnumLit text first second a b = a ∙ sym b
-literal-one are _ text first second a b = a ∙ sym b
+pub one_spelling : AreLiteralValues → (kind : TokenKind) (text first second : List ℕ) → IsLiteralSpelling kind text first → IsLiteralSpelling kind text second → first ≡ second
+one_spelling are Int text first second a b = value-one IntValue int_spelling are.ints text first second a.is b.is
+one_spelling are Moment text first second a b = value-one MomentValue moment_spelling are.moments text first second a.is b.is
+one_spelling are Guid text first second a b = value-one GuidValue guid_spelling are.guids text first second a.is b.is
+one_spelling are _ text first second a b = a.is ∙ sym b.is
 
 literal-again : AreLiteralValues → (kind : TokenKind) (text spelling : List ℕ) → IsSpellingOf kind text spelling → IsSpellingOf kind spelling spelling
 literal-again are Word text spelling is = is ∙ sym (ap str_to_ascii_lowercase is ∙ lowered-again text)
@@ -102,19 +100,13 @@ literal-again are Guid text spelling is = value-again GuidValue guid_spelling ar
 literal-again are EnumLit text spelling is = is ∙ sym (ap enumeration_spelling is ∙ enumeration-again text)
 literal-again are _ text spelling is = refl
 
-literal-spelled : AreLiteralValues → (kind : TokenKind) (text spelling : List ℕ) → Spells kind text → IsSpellingOf kind text spelling → Spells kind spelling
-literal-spelled are Word text spelling spelled is = subst (Spells Word) (sym is) (lowered-word text spelled)
-literal-spelled are Int text spelling spelled is = value-spelled IntValue int_spelling IsIntSpelling are.ints (λ t n value. (n, value.0)) text spelling spelled is
-literal-spelled are Moment text spelling spelled is = value-spelled MomentValue moment_spelling IsMomentSpelling are.moments are.moment_spelled text spelling spelled is
-literal-spelled are Guid text spelling spelled is = value-spelled GuidValue guid_spelling (Spells Guid) are.guids (λ t guid value. (guid, value)) text spelling spelled is
-literal-spelled are EnumLit text spelling spelled is = subst (Spells EnumLit) (sym is) (trimmed-enumeration text spelled)
-literal-spelled are kind text spelling spelled is = subst (Spells kind) (sym is) spelled
-
-pub one_spelling : AreLiteralValues → (kind : TokenKind) (text first second : List ℕ) → IsLiteralSpelling kind text first → IsLiteralSpelling kind text second → first ≡ second
-one_spelling are kind text first second a b = literal-one are kind text first second a.is b.is
-
 pub spelling_again : AreLiteralValues → (kind : TokenKind) (text spelling : List ℕ) → IsLiteralSpelling kind text spelling → IsLiteralSpelling kind spelling spelling
 spelling_again are kind text spelling is = record { is = literal-again are kind text spelling is.is }
 
 pub spelling_spelled : AreLiteralValues → (kind : TokenKind) (text spelling : List ℕ) → Spells kind text → IsLiteralSpelling kind text spelling → Spells kind spelling
-spelling_spelled are kind text spelling spelled is = literal-spelled are kind text spelling spelled is.is
+spelling_spelled are Word text spelling spelled is = subst (Spells Word) (sym is.is) (lowered-word text spelled)
+spelling_spelled are Int text spelling spelled is = value-spelled IntValue int_spelling IsIntSpelling are.ints (λ t n value. (n, value.0)) text spelling spelled is.is
+spelling_spelled are Moment text spelling spelled is = value-spelled MomentValue moment_spelling IsMomentSpelling are.moments are.moment_spelled text spelling spelled is.is
+spelling_spelled are Guid text spelling spelled is = value-spelled GuidValue guid_spelling (Spells Guid) are.guids (λ t guid value. (guid, value)) text spelling spelled is.is
+spelling_spelled are EnumLit text spelling spelled is = subst (Spells EnumLit) (sym is.is) (trimmed-enumeration text spelled)
+spelling_spelled are kind text spelling spelled is = subst (Spells kind) (sym is.is) spelled

@@ -2,16 +2,13 @@
 use Rattle.std.specs.Char.{is_ascii_alphanumeric}
 use Rattle.std.specs.Bool.{beq}
 use Rattle.std.specs.Str.{IsAscii, NonePass}
-use Rattle.std.proofs.lemmas.Bool.{not-false, or_right}
-use Rattle.std.proofs.lemmas.List.Elements.{All-from_get_or}
-use Rattle.std.proofs.lemmas.List.Sums.{AllPass-from_list_all, list_all-from_AllPass}
 use Rattle.std.proofs.lemmas.Str.{NoCharPasses-byte, char_from_byte}
 use Rattle.std.proofs.lemmas.Str.Ascii.{IsAscii-from_all}
 use Rattle.unicode.specs.GeneralCategory.{general_category}
 use Rattle.unicode.proofs.Facts.{Stepped-below, same_from_beq}
 use Rattle.unicode.proofs.CategoryComputing.{ucd_category}
 use Rattle.unicode.proofs.GeneralCategoryLemmas.{general_category_stepped}
-use Rattle.odata_text.proofs.Common.{◌≡◌, ⊎_elim, ℕ, ◌<◌, ◌≤◌, nat_le, ◌||◌, ◌&&◌, ◌==◌, Bool, true, false, not, List, [], ◌∷◌, length, get_or, arith, refl, sym, ◌∙◌, ap, append-nil, chars, is_ascii_alphabetic, is_ascii, list_all, take_while, encode_utf8_all, nat_tests, and_from, and_parts, both_ways, cases_lt, or_left, IsUtf8-from_ascii, chars-IsAscii, encodes-chars, IsIdentifier, begins_identifier, continues_identifier, identifier_run, is_identifier}
+use Rattle.odata_text.proofs.Common.{not-false, or_right, All-from_get_or, AllPass-from_list_all, list_all-from_AllPass, ◌≡◌, ⊎_elim, ℕ, ◌<◌, ◌≤◌, nat_le, ◌||◌, ◌&&◌, ◌==◌, Bool, true, false, not, List, [], ◌∷◌, length, get_or, arith, refl, sym, ◌∙◌, ap, append-nil, chars, is_ascii_alphabetic, is_ascii, list_all, take_while, encode_utf8_all, nat_tests, and_from, and_parts, both_ways, cases_lt, or_left, IsUtf8-from_ascii, chars-IsAscii, encodes-chars, IsIdentifier, begins_identifier, continues_identifier, identifier_run, is_identifier}
 use Rattle.odata_text.specs.Identifier.{is_following, is_leading}
 use Rattle.odata_text.proofs.characters.Identifiers.{all-from_identifier, identifier-nonempty, list_all-weaker, take_while-front}
 

@@ -1,10 +1,8 @@
 -- What the functions that measure identifiers rest on.
 use Rattle.std.proofs.Math.Seq.{take-append_seam}
 use Rattle.std.proofs.lemmas.List.Folds.{length-prefix_len}
-use Rattle.std.proofs.lemmas.List.Sums.{AllPass-from_list_all, list_all-from_AllPass}
-use Rattle.std.proofs.lemmas.Str.{IsCharBoundary-past_char, IsUtf8-past_char, IsUtf8-take, chars_from_encodes, drop_past_char, encodes-append, length-encode}
-use Rattle.std.proofs.lemmas.Bool.{eq-eqb}
-use Rattle.odata_text.proofs.Common.{◌≡◌, ⊎_elim, ℕ, ◌+◌, ◌<◌, ◌≤◌, ◌==◌, ◌&&◌, Bool, true, false, List, [], ◌∷◌, ◌++◌, length, take, drop, get_or, arith, refl, sym, ◌∙◌, ap, subst, append-nil, take-append-drop, IsUtf8, IsCharBoundary, chars, list_all, take_while, prefix_len, len_utf8, encode_utf8_all, both_ways, and_parts, and_from, cases_Bool, cases_eq, cond-true, cond-false, ne_eqb, or_left, false_from_ne_true, get_or-take, length-append, length-drop, length-take-le, take-length, take_while-cons, prefix_len_passes, encode, chars-nil, chars-append, chars_past_char, IsCharBoundary-start, encodes-chars, IsIdentifier, begins_identifier, continues_identifier, identifier_run, is_identifier, IsReach}
+use Rattle.std.proofs.lemmas.Str.{IsCharBoundary-past_char, IsUtf8-past_char, IsUtf8-take, drop_past_char, encodes-append, length-encode}
+use Rattle.odata_text.proofs.Common.{AllPass-from_list_all, list_all-from_AllPass, chars_from_encodes, eq-eqb, ◌≡◌, ⊎_elim, ℕ, ◌+◌, ◌<◌, ◌≤◌, ◌==◌, Bool, true, false, List, [], ◌∷◌, ◌++◌, length, take, drop, get_or, arith, refl, sym, ◌∙◌, ap, subst, take-append-drop, IsUtf8, IsCharBoundary, chars, list_all, take_while, prefix_len, len_utf8, encode_utf8_all, both_ways, and_parts, and_from, cases_eq, cond-true, cond-false, ne_eqb, or_left, false_from_ne_true, get_or-take, length-append, length-take-le, take-length, take_while-cons, prefix_len_passes, encode, chars-nil, chars-append, chars_past_char, IsCharBoundary-start, encodes-chars, IsIdentifier, begins_identifier, continues_identifier, identifier_run, is_identifier, IsReach}
 
 -- Lists of characters.
 

@@ -1,9 +1,7 @@
 -- What follows from where the machine ends: bytes have one form, and which piece is the longest.
-use Rattle.std.proofs.lemmas.Bool.{agree_below, agree_below_at, and_cases, not-false}
-use Rattle.std.proofs.lemmas.List.Folds.{fold_stays}
-use Rattle.odata_text.proofs.Common.{◌≡◌, ◌⊎◌, inl, inr, ⊎_elim, ℕ, ◌+◌, ◌<◌, ◌≤◌, ◌==◌, not, true, List, [], ◌∷◌, ◌++◌, length, get_or, take, drop, Some, None, arith, refl, sym, ◌∙◌, ap, subst, take-append-drop, fold, Bool, false, ◌&&◌, both_ways, and_parts, cases_lt, false≢true, nat_tests, drop_more, take-take, fold-append, fold_more, class_of, MayFollow, is_separator, may_follow, IsFormed, Spells, IsLongest, Space, Form, Token, Before, Closed, Over, TokenKind, Word, Dollar, Int, Date, Moment, Guid, Str, EnumLit, Minus}
-use Rattle.odata_text.specs.declared.quoted.Quoted.TheVariants.{Open as Opened}
-use Rattle.odata_text.proofs.characters.ByteClasses.{space-from_class}
+use Rattle.std.proofs.lemmas.Bool.{and_cases}
+use Rattle.std.proofs.lemmas.List.{drop_more}
+use Rattle.odata_text.proofs.Common.{agree_below, agree_below_at, not-false, fold_stays, ◌≡◌, ◌⊎◌, inl, inr, ⊎_elim, ℕ, ◌+◌, ◌<◌, ◌≤◌, not, true, List, [], ◌∷◌, ◌++◌, length, get_or, take, drop, Some, None, arith, refl, sym, ◌∙◌, ap, subst, take-append-drop, fold, Bool, false, ◌&&◌, both_ways, and_parts, cases_lt, nat_tests, take-take, fold-append, fold_more, class_of, MayFollow, is_separator, may_follow, IsFormed, Spells, IsLongest, Space, Form, Token, Closed, Over, TokenKind, Word, Dollar, Int, Date, Moment, Guid, Str, EnumLit, Minus}
 use Rattle.odata_text.proofs.machine.States.{State, Start, Stuck, Whole, Text, Sign, SignedDigits, Digits, TwoHyphens, Hexes, AheadColon, Name, Dotted, Dollared, Bare, Named, Qualified, APlain, ALetter, is_dead, enter, form_at, run, step}
 use Rattle.odata_text.proofs.machine.Runs.{reads}
 
@@ -27,6 +25,10 @@ not_dead : (form : Form) (q : State) (xs back : List ℕ) → is_dead q ≡ true
 not_dead form q xs back dead ends formed =
     let none : None ≡ Some form = sym (ap form_at ends ∙ dead-ends q back dead) ∙ reads form xs formed in
     cc
+
+pub space-from_class : (b : ℕ) → class_of b ≡ Space → (b ≡ 32) ⊎ (b ≡ 9)
+unfolding class_of
+space-from_class b e = grind (arith, nat_tests)
 
 -- no piece begins with white space
 pub solid-start : (form : Form) (xs : List ℕ) → IsFormed form xs → class_of (get_or xs 0 0) ≡ Space → ⊥

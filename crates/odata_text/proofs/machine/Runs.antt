@@ -1,6 +1,5 @@
 -- Where the machine ends on a piece of each form.
-use Rattle.std.specs.List.{AllByRecursion as AllOf}
-use Rattle.odata_text.proofs.Common.{◌≡◌, ◌⊎◌, inl, inr, ⊎_elim, ℕ, min, ◌+◌, ◌<◌, ◌≤◌, ◌==◌, Bool, true, false, List, [], ◌∷◌, ◌++◌, length, get_or, drop, Some, suc, arith, refl, ◌∙◌, ap, fold, is_ascii_alphabetic, list_all, and_parts, cases_lt, eqb-true, false≢true, or_cases, nat_tests, IsGuidSpelling, IsIntSpelling, IsNumeral, is_ascii_digit, IsMomentSpelling, IsOffsetSpelling, IsSecondsSpelling, IsStringSpelling, with_doubled_quotes, IsIdentifier, IsDecimals, IsExponent, IsFraction, PassesTests, passes, IsFormed, IsLeftOutName, IsWordSpelling, dotted_parts, ByteTest, HexDigit, Hyphen, TimeMark, OffsetMark, Form, Token, LeftOut, Number, TimeOfDay, Closed, Word, Dollar, Int, Date, Moment, Guid, Str, EnumLit, Open, Close, Comma, Slash, Colon, Minus}
+use Rattle.odata_text.proofs.Common.{FollowedBy, AllOf, ◌≡◌, ◌⊎◌, inl, inr, ⊎_elim, ℕ, min, ◌+◌, ◌<◌, ◌≤◌, Bool, true, false, List, [], ◌∷◌, ◌++◌, drop, Some, arith, refl, ◌∙◌, ap, fold, list_all, and_parts, eqb-true, false≢true, or_cases, IsGuidSpelling, IsIntSpelling, IsNumeral, is_ascii_digit, IsMomentSpelling, IsOffsetSpelling, IsSecondsSpelling, IsStringSpelling, with_doubled_quotes, IsIdentifier, IsDecimals, IsExponent, IsFraction, PassesTests, passes, IsFormed, dotted_parts, ByteTest, HexDigit, Hyphen, TimeMark, OffsetMark, Form, Token, LeftOut, Number, TimeOfDay, Closed, Word, Dollar, Int, Date, Moment, Guid, Str, EnumLit}
 use Rattle.odata_text.specs.declared.byte_test.ByteTest.TheVariants.{Sign as SignTest}
 use Rattle.odata_text.specs.declared.form.LeftOutKind.TheVariants.{Quoted}
 use Rattle.odata_text.specs.declared.quoted.Quoted.TheVariants.{Open as Opened}
@@ -11,6 +10,7 @@ use Rattle.odata_text.proofs.characters.IdentifierBytes.{identifier-part, identi
 use Rattle.odata_text.proofs.spellings.Parts.{left_out-identifier}
 use Rattle.odata_text.proofs.spellings.Patterns.{either-byte}
 use Rattle.odata_text.proofs.spellings.Quotes.{open-with_doubled_quotes}
+use Rattle.odata_text.proofs.spellings.Words.{DotAndWord, dotted-pair, word-cases}
 use Rattle.odata_text.proofs.spellings.Times.{is_seconds_byte, clock_pattern, date_pattern, fits-clock, fits-date, fits-marked, offset-fits, parts-from_moment, seconds-bytes}
 use Rattle.odata_text.proofs.machine.States.{Letter, AnE, AHexLetter, ADigit, ALetter, AHyphen, State, Start, Text, Sign, SignedDigits, Pointed, Powered, Digits, PowerDigits, PowerHyphen, OneHyphen, TwoHyphens, Hexes, Clock, Timed, Ahead, Name, Dotted, Dollared, Lead, Bare, Named, Qualified, enter, form_at, run, step}
 use Rattle.odata_text.proofs.machine.Steps.{digit-goes, goes-both, goes-digits, goes-fits, goes-text, hex-sorts, name-starts, part-kept, stays}
@@ -26,33 +26,20 @@ dotted-run part (next ∷ more) identifier all =
     goes-both Dotted Dotted (dotted_parts part (next ∷ more)) part (46 ∷ dotted_parts next more) refl (part-run Dotted part refl (λ l. refl) identifier)
     ∙ dotted-run next more all.0 all.1
 
--- a word of one part or of several
-abbrev at_word : List (List ℕ) → State
-at_word [] = Name
-at_word (part ∷ more) = Dotted
-
 identifier-run : (xs : List ℕ) → IsIdentifier xs → run xs ≡ Name
 identifier-run [] identifier = let some = identifier-nonempty [] identifier in absurd (omega arith)
 identifier-run (b ∷ bs) identifier =
     let parts = and_parts (is_part_byte b) (list_all is_part_byte bs) (identifier-part (b ∷ bs) identifier) in
     ap (λ (s : State). fold step s bs) (name-starts b (identifier-start (b ∷ bs) identifier)) ∙ stays is_part_byte Name bs (part-kept Name refl (λ l. refl)) parts.1
 
-dotted_parts-run : (part : List ℕ) (more : List (List ℕ)) → IsIdentifier part → AllOf IsIdentifier more → run (dotted_parts part more) ≡ at_word more
-dotted_parts-run part [] identifier all = identifier-run part identifier
-dotted_parts-run part (next ∷ more) identifier all =
-    goes-both Start Name (dotted_parts part (next ∷ more)) part (46 ∷ dotted_parts next more) refl (identifier-run part identifier)
-    ∙ dotted-run next more all.0 all.1
-
-word-run : (xs : List ℕ) (word : IsWordSpelling xs) → run xs ≡ at_word word.more
-word-run xs word = ap run word.whole ∙ dotted_parts-run word.part word.more word.identifier word.identifiers
-
-word-form : (more : List (List ℕ)) → form_at (at_word more) ≡ Some (Token Word)
-word-form [] = refl
-word-form (part ∷ more) = refl
-
-dotted-word : (more : List (List ℕ)) → 0 < length more → at_word more ≡ Dotted
-dotted-word [] some = absurd (omega arith)
-dotted-word (part ∷ more) some = refl
+-- a word of several parts
+pair-run : (xs : List ℕ) → FollowedBy IsIdentifier DotAndWord xs → run xs ≡ Dotted
+pair-run xs pair =
+    let dot = pair.is_back in
+    let word = dot.is_back in
+    goes-both Start Name xs pair.front pair.back pair.whole (identifier-run pair.front pair.is_front)
+    ∙ goes-both Name Dotted pair.back dot.front dot.back dot.whole (ap (fold step Name) dot.is_front)
+    ∙ ap (fold step Dotted) word.whole ∙ dotted-run word.part word.more word.identifier word.identifiers
 
 -- Texts in quotes, behind what the state has read.
 
@@ -213,7 +200,7 @@ guid-run xs guid = first xs (fits-guid xs guid)
 -- Every form.
 
 pub reads : (form : Form) (xs : List ℕ) → IsFormed form xs → form_at (run xs) ≡ Some form
-reads (Token Word) xs formed = ap form_at (word-run xs formed) ∙ word-form formed.more
+reads (Token Word) xs formed = ⊎_elim (λ identifier. ap form_at (identifier-run xs identifier)) (λ pair. ap form_at (pair-run xs pair)) (word-cases xs formed)
 reads (Token Dollar) xs formed =
     ap form_at (goes-both Start Dollared xs formed.front formed.back formed.whole (ap run formed.is_front)
     ∙ part-run Dollared formed.back refl (λ l. refl) formed.is_back)
@@ -223,7 +210,7 @@ reads (Token Moment) xs formed = moment-run xs formed
 reads (Token Guid) xs formed = ap form_at (guid-run xs formed)
 reads (Token Str) xs formed = ap form_at (text-run Start Bare xs refl formed)
 reads (Token EnumLit) xs formed =
-    ap form_at (goes-both Start Dotted xs formed.front formed.back formed.whole (word-run formed.front formed.is_front.word ∙ dotted-word formed.is_front.word.more formed.is_front.dotted)
+    ap form_at (goes-both Start Dotted xs formed.front formed.back formed.whole (pair-run formed.front (dotted-pair formed.front formed.is_front))
     ∙ text-run Dotted Qualified formed.back refl formed.is_back)
 reads (Token _) xs formed = ap (λ (ys : List ℕ). form_at (run ys)) formed
 reads (LeftOut Number) xs formed = ap (λ (ys : List ℕ). form_at (run ys)) formed.whole ∙ number-run formed.front formed.back (int-run formed.front formed.is_front) formed.is_back

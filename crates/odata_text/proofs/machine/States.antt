@@ -1,5 +1,6 @@
 -- A machine that reads the bytes of a piece from left to right: the state in which it ends tells the piece's form.
-use Rattle.odata_text.proofs.Common.{ℕ, ◌==◌, ◌||◌, Bool, true, false, cond, List, Option, Some, None, fold, is_ascii_digit, is_ascii_hexdigit, Form, Token, LeftOut, Number, TimeOfDay, Quoted, Before, Closed, Over, TokenKind, Word, Dollar, Int, Date, Moment, Guid, Str, EnumLit, Open, Close, Comma, Slash, Colon, Minus}
+use Rattle.odata_text.proofs.Common.{ℕ, ◌==◌, ◌||◌, Bool, true, false, cond, List, Option, Some, None, fold, is_ascii_digit, is_ascii_hexdigit, Form, Token, LeftOut, Number, TimeOfDay, Quoted, Before, Closed, Over, TokenKind, Word, Dollar, Int, Date, Moment, Guid, Str, EnumLit, Close, Comma, Slash, Minus}
+use Rattle.odata_text.specs.declared.token.TokenKind.TheVariants.{Open, Colon}
 use Rattle.odata_text.specs.declared.form.LeftOutKind.TheVariants.{Quoted as LeftOutText}
 use Rattle.odata_text.specs.declared.quoted.Quoted.TheVariants.{Open as Opened}
 use Rattle.odata_text.proofs.characters.IdentifierBytes.{is_part_byte}

@@ -1,8 +1,5 @@
 -- Single steps of the machine.
-use Rattle.std.proofs.lemmas.Bool.{cond_both}
-use Rattle.odata_text.proofs.Common.{◌≡◌, ◌⊎◌, inl, inr, ⊎_elim, ℕ, ◌<◌, ◌≤◌, ◌==◌, ◌||◌, Bool, true, false, List, [], ◌∷◌, ◌++◌, length, get_or, map, suc, arith, refl, sym, ◌∙◌, ap, fold, is_ascii_digit, is_ascii_hexdigit, list_all, IsNumeral, and_parts, cases_Bool, cond-true, cond-false, eqb-true, false≢true, or_cases, nat_tests, fold-append, digit_at, quoted_after, PassesTests, passes, ByteTest, Digit, HexDigit, Hyphen, Dot, Sign, TimeMark, OffsetMark, ExponentMark, Quoted, Before, Closed, Over}
-use Rattle.odata_text.specs.declared.byte_test.ByteTest.TheVariants.{Colon}
-use Rattle.odata_text.specs.declared.quoted.Quoted.TheVariants.{Open}
+use Rattle.odata_text.proofs.Common.{◌≡◌, ◌⊎◌, inl, inr, ⊎_elim, ℕ, ◌≤◌, ◌==◌, ◌||◌, Bool, true, false, List, [], ◌∷◌, ◌++◌, map, arith, refl, ◌∙◌, ap, fold, is_ascii_digit, is_ascii_hexdigit, list_all, IsNumeral, and_parts, cases_Bool, cond-true, cond-false, eqb-true, false≢true, nat_tests, fold-append, quoted_after, PassesTests, passes, ByteTest, Digit, HexDigit, Hyphen, Dot, Sign, TimeMark, OffsetMark, ExponentMark, Quoted, Before, Closed, Over, Colon, Open}
 use Rattle.odata_text.specs.declared.token.TokenKind.TheVariants.{Colon as ColonToken}
 use Rattle.odata_text.proofs.characters.IdentifierBytes.{is_part_byte, is_word_start}
 use Rattle.odata_text.proofs.spellings.Patterns.{either-byte}

@@ -1,6 +1,5 @@
 -- Queries whose filter or first fault is known.
-use Rattle.std.proofs.lemmas.Bool.{agree_below, agree_below_at}
-use Rattle.odata_text.proofs.Common.{◌≡◌, inr, ⊎_elim, ℕ, true, false, List, [], codes, length, Some, arith, refl, is_ascii, list_all, cases_lt, All-cons, All-nil, IsUtf8-from_ascii, percent_decode, IsDecodable, IsFilterOf, IsQueryFault, IsReadable, is_bad_escape, is_filter_name, name_of, value_of, OtherOption}
+use Rattle.odata_text.proofs.Common.{agree_below, agree_below_at, ◌≡◌, inr, ⊎_elim, ℕ, true, false, List, [], codes, length, Some, arith, refl, is_ascii, list_all, cases_lt, All-cons, All-nil, IsUtf8-from_ascii, percent_decode, IsDecodable, IsFilterOf, IsQueryFault, IsReadable, is_bad_escape, is_filter_name, name_of, value_of, OtherOption}
 use Rattle.odata_text.specs.Query.{is_refused_word}
 use Rattle.odata_text.specs.QueryExamples.{escaped_filter, escaped_query, paged_query}
 use Rattle.odata_text.proofs.characters.IdentifierBytes.{all-ascii}

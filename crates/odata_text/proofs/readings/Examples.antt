@@ -1,5 +1,5 @@
 -- Texts whose tokens or first fault are known.
-use Rattle.odata_text.proofs.Common.{◌≡◌, ℕ, nat_lt, Bool, true, List, [], ◌∷◌, codes, pos, inl, inr, arith, refl, sym, All, digit_value, list_all, AllDigits, and_parts, ltb-true, All-cons, All-nil, hex_bytes, IsIntSpelling, class_of, ArePrintable, Print, IsFormed, Spells, fraction_filter, run_on_filter, IsFaultBehind, IsGap, IsTokenList, Space, LeftOutLiteral, RunOn, Token, LeftOut, Number, TokenKind, Word, Int, Moment, Guid, Str, EnumLit}
+use Rattle.odata_text.proofs.Common.{map, ◌++◌, TextFault, IsFaultAt, text_limit, length, ◌≤◌, ◌≡◌, ℕ, nat_lt, Bool, true, List, [], ◌∷◌, codes, pos, inl, inr, arith, refl, sym, All, digit_value, list_all, AllDigits, and_parts, ltb-true, All-cons, All-nil, hex_bytes, IsIntSpelling, class_of, ArePrintable, Print, IsFormed, Spells, fraction_filter, run_on_filter, IsFaultBehind, IsTokenList, Space, LeftOutLiteral, RunOn, Token, LeftOut, Number, TokenKind, Word, Int, Moment, Guid, Str, EnumLit}
 use Rattle.odata_text.specs.TokenExamples.{enumeration_filter, enumeration_tokens, guid_filter, guid_tokens, moment_filter, moment_tokens, plain_filter, plain_tokens}
 use Rattle.odata_text.proofs.characters.IdentifierBytes.{ascii-identifier, is_ascii_name, run-names}
 use Rattle.odata_text.proofs.readings.Places.{run_on}
@@ -27,77 +27,47 @@ with_blank kind text = record { kind = kind; text = text; gap = 32 ∷ [] }
 abbrev without_blank : TokenKind → List ℕ → Print
 without_blank kind text = record { kind = kind; text = text; gap = [] }
 
-abbrev plain_prints : List Print
-plain_prints =
-    with_blank Word (codes "Active") ∷ with_blank Word (codes "and") ∷ with_blank Word (codes "ID") ∷ with_blank Word (codes "eq") ∷ with_blank Int (codes "1")
-    ∷ with_blank Word (codes "and") ∷ with_blank Word (codes "Name") ∷ with_blank Word (codes "eq") ∷ without_blank Str (codes "'a'") ∷ []
+-- words, each with a blank behind it, before others
+words_then : (names : List (List ℕ)) (prints : List Print) → list_all is_ascii_name names ≡ true → ArePrintable prints → ArePrintable (map (with_blank Word) names ++ prints)
+words_then [] prints all more = more
+words_then (name ∷ names) prints all more = let parts = and_parts (is_ascii_name name) (list_all is_ascii_name names) all in (word name parts.0, (blank, (refl, words_then names prints parts.1 more)))
 
-plain_printable : ArePrintable plain_prints
-plain_printable = (
-  word (codes "Active") refl,
-  (
-    blank,
-    (
-      refl,
-      (
-        word (codes "and") refl,
-        (
-          blank,
-          (
-            refl,
-            (
-              word (codes "ID") refl,
-              (
-                blank,
-                (
-                  refl,
-                  (
-                    word (codes "eq") refl,
-                    (
-                      blank,
-                      (
-                        refl,
-                        (
-                          one,
-                          (
-                            blank,
-                            (
-                              refl,
-                              (word (codes "and") refl, (blank, (refl, (word (codes "Name") refl, (blank, (refl, (word (codes "eq") refl, (blank, (refl, ((97 ∷ [], refl), (none, (tt, tt)))))))))))),
-                            ),
-                          ),
-                        ),
-                      ),
-                    ),
-                  ),
-                ),
-              ),
-            ),
-          ),
-        ),
-      ),
-    ),
-  ),
-)
+-- the last of them
+alone : (kind : TokenKind) (text : List ℕ) → Spells kind text → ArePrintable (without_blank kind text ∷ [])
+alone kind text spelled = (spelled, (none, (tt, tt)))
+
+abbrev last_prints : List Print
+last_prints = map (with_blank Word) (codes "and" ∷ codes "Name" ∷ codes "eq" ∷ []) ++ without_blank Str (codes "'a'") ∷ []
+
+last_printable : ArePrintable last_prints
+last_printable = words_then (codes "and" ∷ codes "Name" ∷ codes "eq" ∷ []) (without_blank Str (codes "'a'") ∷ []) refl (alone Str (codes "'a'") (97 ∷ [], refl))
+
+abbrev first_words : List (List ℕ)
+first_words = codes "Active" ∷ codes "and" ∷ codes "ID" ∷ codes "eq" ∷ []
+
+plain_printable : ArePrintable (map (with_blank Word) first_words ++ with_blank Int (codes "1") ∷ last_prints)
+plain_printable = words_then first_words (with_blank Int (codes "1") ∷ last_prints) refl (one, (blank, (refl, last_printable)))
 
 pub plain_list : IsTokenList plain_filter plain_tokens
-plain_list = prints-list plain_prints plain_printable (omega arith) (omega arith)
+plain_list = prints-list (map (with_blank Word) first_words ++ with_blank Int (codes "1") ∷ last_prints) plain_printable (omega arith) (omega arith)
 
--- no white space in front
-start_gap : (text : List ℕ) → IsGap text 0 0
-start_gap text = record { order = omega arith; within = omega arith; white = λ i low high. absurd (omega arith) }
-
-pub run_on_fault : IsFaultBehind run_on_filter (RunOn (record { start = 0; stop = 3 }))
-unfolding lib.Utf8.encode
-run_on_fault = record {
-  short = omega arith;
+-- a fault at the very beginning
+first_fault : (text : List ℕ) (fault : TextFault) → length text ≤ text_limit → IsFaultAt text 0 0 fault → IsFaultBehind text fault
+first_fault text fault short at = record {
+  short = short;
   before = [];
   few = omega arith;
   tokens = tt;
   place = 0;
-  gap = start_gap run_on_filter;
-  fault_at = (refl, run_on run_on_filter 0 1 2 Int (longest-dead (Token Int) run_on_filter 1 (omega arith) one (λ more. refl)) refl (sym (run-names (codes "st") refl)) (omega arith));
+  gap = record { order = omega arith; within = omega arith; white = λ i low high. absurd (omega arith) };
+  fault_at = at;
 }
+
+pub run_on_fault : IsFaultBehind run_on_filter (RunOn (record { start = 0; stop = 3 }))
+unfolding lib.Utf8.encode
+run_on_fault =
+    first_fault run_on_filter (RunOn (record { start = 0; stop = 3 })) (omega arith)
+    (refl, run_on run_on_filter 0 1 2 Int (longest-dead (Token Int) run_on_filter 1 (omega arith) one (λ more. refl)) refl (sym (run-names (codes "st") refl)) (omega arith))
 
 moment : Spells Moment (codes "2020-01-01T00:00Z")
 moment = record {
@@ -117,7 +87,7 @@ moment = record {
 pub moment_list : IsTokenList moment_filter moment_tokens
 moment_list =
     prints-list (with_blank Word (codes "Changed") ∷ with_blank Word (codes "gt") ∷ without_blank Moment (codes "2020-01-01T00:00Z") ∷ [])
-    (word (codes "Changed") refl, (blank, (refl, (word (codes "gt") refl, (blank, (refl, (moment, (none, (tt, tt))))))))) (omega arith) (omega arith)
+    (words_then (codes "Changed" ∷ codes "gt" ∷ []) (without_blank Moment (codes "2020-01-01T00:00Z") ∷ []) refl (alone Moment (codes "2020-01-01T00:00Z") moment)) (omega arith) (omega arith)
 
 abbrev is_hex : ℕ → Bool
 is_hex c = nat_lt (digit_value c) 16
@@ -135,7 +105,7 @@ guid = (hex_bytes guid_digits, record { digits = guid_digits; all_digits = all-d
 pub guid_list : IsTokenList guid_filter guid_tokens
 guid_list =
     prints-list (with_blank Word (codes "ID") ∷ with_blank Word (codes "eq") ∷ without_blank Guid (codes "1234567e-1234-1234-1234-123456789012") ∷ [])
-    (word (codes "ID") refl, (blank, (refl, (word (codes "eq") refl, (blank, (refl, (guid, (none, (tt, tt))))))))) (omega arith) (omega arith)
+    (words_then (codes "ID" ∷ codes "eq" ∷ []) (without_blank Guid (codes "1234567e-1234-1234-1234-123456789012") ∷ []) refl (alone Guid (codes "1234567e-1234-1234-1234-123456789012") guid)) (omega arith) (omega arith)
 
 enumeration : Spells EnumLit (codes "a.b'x'")
 enumeration = record {
@@ -156,18 +126,12 @@ enumeration = record {
 }
 
 pub enumeration_list : IsTokenList enumeration_filter enumeration_tokens
-enumeration_list = prints-list (without_blank EnumLit enumeration_filter ∷ []) (enumeration, (none, (tt, tt))) (omega arith) (omega arith)
+enumeration_list = prints-list (without_blank EnumLit enumeration_filter ∷ []) (alone EnumLit enumeration_filter enumeration) (omega arith) (omega arith)
 
 fraction : IsFormed (LeftOut Number) fraction_filter
 fraction = record { front = codes "1"; back = codes ".5"; whole = refl; is_front = one; is_back = inl (refl, (omega arith, (omega arith, tt))) }
 
 pub fraction_fault : IsFaultBehind fraction_filter (LeftOutLiteral (record { start = 0; stop = 3 }))
-fraction_fault = record {
-  short = omega arith;
-  before = [];
-  few = omega arith;
-  tokens = tt;
-  place = 0;
-  gap = start_gap fraction_filter;
-  fault_at = (refl, record { kind = Number; order = omega arith; longest = longest-dead (LeftOut Number) fraction_filter 3 (omega arith) fraction (λ more. absurd (omega arith)) });
-}
+fraction_fault =
+    first_fault fraction_filter (LeftOutLiteral (record { start = 0; stop = 3 })) (omega arith)
+    (refl, record { kind = Number; order = omega arith; longest = longest-dead (LeftOut Number) fraction_filter 3 (omega arith) fraction (λ more. absurd (omega arith)) })

@@ -2,10 +2,10 @@
 use Rattle.std.specs.Prelude.{encode_utf8}
 use Rattle.std.proofs.lemmas.Bool.{lt-ltb}
 use Rattle.std.proofs.lemmas.Str.{IsUtf8-encode}
-use Rattle.odata_text.proofs.Common.{◌≡◌, inl, inr, ⊎_elim, ℕ, suc, ◌+◌, ◌-◌, ◌<◌, ◌≤◌, ◌&&◌, nat_lt, cond, chars, append-nil, List, [], ◌∷◌, ◌++◌, length, get_or, take, drop, Option, Some, None, arith, refl, sym, ◌∙◌, ap, subst, add-zero, slice_range, len_utf8, and_from, and_parts, cases_order, cond-false, cond-true, false_from_ne_true, ltb-true, get_or-drop, get_or-take, length-drop, length-take-le, take-append-drop, chars-append, chars-nil, chars_past_char, class_of, TokenModel, AreTokensOf, identifier_run, IsFormed, AreTokensFrom, IsFaultAt, IsFaultBehind, IsGap, IsLongest, IsRunOn, IsTokenAt, IsTokenList, NoneSpelled, end_of, is_undelimited, token_limit, Space, Other, TextFault, LeftOutLiteral, RunOn, TooLong, Memory, Form, Token, LeftOut}
-use Rattle.odata_text.specs.Tokens.{IsBadCharacter, IsLongestToken, IsTextFault}
+use Rattle.odata_text.proofs.Common.{◌⊎◌, ◌≡◌, inl, inr, ⊎_elim, ℕ, suc, ◌+◌, ◌-◌, ◌<◌, ◌≤◌, ◌&&◌, nat_lt, cond, chars, append-nil, List, [], ◌∷◌, ◌++◌, length, get_or, take, drop, Option, Some, None, arith, refl, sym, ◌∙◌, ap, subst, add-zero, slice_range, len_utf8, and_from, and_parts, cases_order, cond-false, cond-true, false_from_ne_true, ltb-true, get_or-drop, get_or-take, length-drop, length-take-le, take-append-drop, chars-append, chars-nil, chars_past_char, class_of, TokenModel, AreTokensOf, identifier_run, IsFormed, AreTokensFrom, IsFaultAt, IsFaultBehind, IsGap, IsLongest, IsRunOn, IsTokenAt, IsTokenList, NoneSpelled, end_of, is_undelimited, token_limit, Space, TextFault, LeftOutLiteral, RunOn, TooLong, Memory, Form, Token, LeftOut}
+use Rattle.odata_text.specs.declared.byte_class.ByteClass.TheVariants.{Other, Quote}
+use Rattle.odata_text.specs.Tokens.{IsBadCharacter, IsLongestToken, IsNoToken, IsTextFault}
 use Rattle.odata_text.specs.declared.byte_class.ByteClass.{ByteClass}
-use Rattle.odata_text.specs.declared.byte_class.ByteClass.TheVariants.{Quote}
 use Rattle.odata_text.specs.declared.fault.TextFault.TheVariants.{BadCharacter, UnclosedString}
 use Rattle.odata_text.specs.declared.span.Span.{Span}
 use Rattle.odata_text.proofs.machine.Longest.{formed-some, same_form, solid-start}
@@ -56,9 +56,6 @@ IsSolid-longest text start n form longest =
       solid = λ space. solid-start form (take n (drop start text)) longest.spelled (ap class_of byte ∙ space);
     }
 
-IsSolid-piece : (text : List ℕ) (piece : TokenModel) → IsLongestToken text piece → IsSolid text piece.start
-IsSolid-piece text piece is_piece = IsSolid-longest text piece.start (piece.stop - piece.start) (Token piece.kind) is_piece.longest
-
 same_place : (text : List ℕ) (from a b : ℕ) → IsGap text from a → IsGap text from b → IsSolid text a → IsSolid text b → a ≡ b
 same_place text from a b to_a to_b solid_a solid_b =
     let a_order = to_a.order in
@@ -99,14 +96,18 @@ fault_of text place (Some (Token kind, n)) =
     cond (is_undelimited kind && nat_lt 0 (identifier_run (drop (place + n) text)))
     (RunOn (span_of place (place + n + identifier_run (drop (place + n) text)))) (TooLong (span_of place (place + n)))
 
--- a fault at a place is that of what stands there
+-- a fault at a place is that of what stands there, and a byte that is no white space does
 record IsOf (text : List ℕ) (place : ℕ) (fault : TextFault) : Type 0 where
+  solid : IsSolid text place
   found : Option (Form × ℕ)
   is_found : IsFound (drop place text) found
   is : fault ≡ fault_of text place found
 
-of_piece : (text : List ℕ) (piece : TokenModel) (fault : TextFault) → IsLongestToken text piece → fault ≡ fault_of text piece.start (Some (Token piece.kind, piece.stop - piece.start)) → IsOf text piece.start fault
-of_piece text piece fault is_piece is = record { found = Some (Token piece.kind, piece.stop - piece.start); is_found = is_piece.longest; is = is }
+of_none : (text : List ℕ) (place : ℕ) (fault : TextFault) → IsNoToken text place → fault ≡ fault_of text place None → IsOf text place fault
+of_none text place fault none is = record { solid = record { inside = none.inside; solid = none.solid }; found = None; is_found = λ form m spelled. none.none form m spelled; is = is }
+
+of_longest : (text : List ℕ) (start n : ℕ) (form : Form) (fault : TextFault) → IsLongest form n (drop start text) → fault ≡ fault_of text start (Some (form, n)) → IsOf text start fault
+of_longest text start n form fault longest is = record { solid = IsSolid-longest text start n form longest; found = Some (form, n); is_found = longest; is = is }
 
 -- a faultless token
 token_fault : (text : List ℕ) (piece : TokenModel) → IsTokenAt text piece → fault_of text piece.start (Some (Token piece.kind, piece.stop - piece.start)) ≡ TooLong (span_of piece.start piece.stop)
@@ -116,6 +117,9 @@ token_fault text piece token =
     let ends = token.ends in
     rw stop (cond-false (is_undelimited piece.kind && nat_lt 0 (identifier_run (drop piece.stop text))) _ _
     (false_from_ne_true _ (λ both. let parts = and_parts (is_undelimited piece.kind) _ both in ends (parts.0, ltb-true 0 _ parts.1))))
+
+of_token : (text : List ℕ) (piece : TokenModel) (fault : TextFault) → IsTokenAt text piece → fault ≡ TooLong (span_of piece.start piece.stop) → IsOf text piece.start fault
+of_token text piece fault token is = of_longest text piece.start (piece.stop - piece.start) (Token piece.kind) fault token.longest.longest (is ∙ sym (token_fault text piece token))
 
 run_fault : (text : List ℕ) (span : Span) (run : IsRunOn text span) → RunOn span ≡ fault_of text run.token.start (Some (Token run.token.kind, run.token.stop - run.token.start))
 run_fault text span run =
@@ -147,51 +151,30 @@ bad_fault text span bad =
 
 of_fault : (text : List ℕ) (place before : ℕ) (fault : TextFault) → IsFaultAt text place before fault → IsOf text place fault
 of_fault text place before (BadCharacter span) (here, bad) =
-    subst (λ (p : ℕ). IsOf text p (BadCharacter span)) here (record { found = None; is_found = λ form m spelled. bad.no_token.none form m spelled; is = bad_fault text span bad })
+    subst (λ (p : ℕ). IsOf text p (BadCharacter span)) here (of_none text span.start (BadCharacter span) bad.no_token (bad_fault text span bad))
 of_fault text place before (UnclosedString span) (here, unclosed) =
     let stop = unclosed.stop in
-    subst (λ (p : ℕ). IsOf text p (UnclosedString span)) here (record {
-      found = None;
-      is_found = λ form m spelled. unclosed.no_token.none form m spelled;
-      is = ap UnclosedString (λ i. record { start = span.start; stop = stop i }) ∙ sym (ap (fault_at_none text span.start) unclosed.quoted);
-    })
+    subst (λ (p : ℕ). IsOf text p (UnclosedString span)) here
+    (of_none text span.start (UnclosedString span) unclosed.no_token (ap UnclosedString (λ i. record { start = span.start; stop = stop i }) ∙ sym (ap (fault_at_none text span.start) unclosed.quoted)))
 of_fault text place before (LeftOutLiteral span) (here, literal) =
     let order = literal.order in
     let stop : span.stop ≡ span.start + (span.stop - span.start) = omega arith in
-    subst (λ (p : ℕ). IsOf text p (LeftOutLiteral span)) here (record {
-      found = Some (LeftOut literal.kind, span.stop - span.start);
-      is_found = literal.longest;
-      is = ap LeftOutLiteral (λ i. record { start = span.start; stop = stop i });
-    })
+    subst (λ (p : ℕ). IsOf text p (LeftOutLiteral span)) here
+    (of_longest text span.start (span.stop - span.start) (LeftOut literal.kind) (LeftOutLiteral span) literal.longest (ap LeftOutLiteral (λ i. record { start = span.start; stop = stop i })))
 of_fault text place before (RunOn span) (here, run) =
-    subst (λ (p : ℕ). IsOf text p (RunOn span)) (sym run.start ∙ here) (of_piece text run.token (RunOn span) run.longest (run_fault text span run))
+    let piece = run.token in
+    subst (λ (p : ℕ). IsOf text p (RunOn span)) (sym run.start ∙ here)
+    (of_longest text piece.start (piece.stop - piece.start) (Token piece.kind) (RunOn span) run.longest.longest (run_fault text span run))
 of_fault text place before (TooLong span) (here, many) =
     let start = many.start in
     let stop = many.stop in
     subst (λ (p : ℕ). IsOf text p (TooLong span)) (sym many.start ∙ here)
-    (of_piece text many.last (TooLong span) many.token.longest (ap TooLong (λ i. record { start = start i; stop = stop i }) ∙ sym (token_fault text many.last many.token)))
+    (of_token text many.last (TooLong span) many.token (ap TooLong (λ i. record { start = start i; stop = stop i })))
 of_fault text place before Memory fault = absurd fault
-
-IsSolid-fault : (text : List ℕ) (place before : ℕ) (fault : TextFault) → IsFaultAt text place before fault → IsSolid text place
-IsSolid-fault text place before (BadCharacter span) (here, bad) = subst (IsSolid text) here (record { inside = bad.no_token.inside; solid = bad.no_token.solid })
-IsSolid-fault text place before (UnclosedString span) (here, unclosed) = subst (IsSolid text) here (record { inside = unclosed.no_token.inside; solid = unclosed.no_token.solid })
-IsSolid-fault text place before (LeftOutLiteral span) (here, literal) = subst (IsSolid text) here (IsSolid-longest text span.start (span.stop - span.start) (LeftOut literal.kind) literal.longest)
-IsSolid-fault text place before (RunOn span) (here, run) = subst (IsSolid text) (sym run.start ∙ here) (IsSolid-piece text run.token run.longest)
-IsSolid-fault text place before (TooLong span) (here, many) = subst (IsSolid text) (sym many.start ∙ here) (IsSolid-piece text many.last many.token.longest)
-IsSolid-fault text place before Memory fault = absurd fault
 
 -- two faults of one place are one
 same_of : (text : List ℕ) (place : ℕ) (f g : TextFault) → IsOf text place f → IsOf text place g → f ≡ g
 same_of text place f g one two = one.is ∙ ap (fault_of text place) (same_found (drop place text) one.found two.found one.is_found two.is_found) ∙ sym two.is
-
--- a place where a token is has no other fault than that it is one too many
-no_token : (text : List ℕ) (before : ℕ) (fault : TextFault) (piece : TokenModel) → IsFaultAt text piece.start before fault → IsTokenAt text piece → before ≡ token_limit
-no_token text before fault piece faulty token =
-    let is : fault ≡ TooLong (span_of piece.start piece.stop) =
-    same_of text piece.start fault (TooLong (span_of piece.start piece.stop)) (of_fault text piece.start before fault faulty)
-    (of_piece text piece (TooLong (span_of piece.start piece.stop)) token.longest (sym (token_fault text piece token))) in
-    let many = subst (IsFaultAt text piece.start before) is faulty in
-    many.1.count
 
 -- One reading of a text.
 
@@ -205,106 +188,94 @@ abbrev EndsFrom : List ℕ → ℕ → ℕ → Option TextFault → Type 0
 EndsFrom text from before None = IsGap text from (length text)
 EndsFrom text from before (Some fault) = IsFaultFrom text from before fault
 
--- where one reading ends no other has a token, unless there are too many
-no_more : (text : List ℕ) (from before : ℕ) (end : Option TextFault) (piece : TokenModel) → EndsFrom text from before end → IsGap text from piece.start → IsTokenAt text piece → before ≡ token_limit
-no_more text from before None piece ends gap token = absurd (not_at_end text from piece.start gap ends (IsSolid-piece text piece token.longest))
+-- where one reading ends no other has a token, unless the end is a fault and there are too many
+no_more : (text : List ℕ) (from before : ℕ) (end : Option TextFault) (piece : TokenModel) → EndsFrom text from before end → IsGap text from piece.start → IsTokenAt text piece
+    → (end ≡ None → ⊥) × (before ≡ token_limit)
+no_more text from before None piece ends gap token = absurd (not_at_end text from piece.start gap ends (of_token text piece _ token refl).solid)
 no_more text from before (Some fault) piece ends gap token =
-    let here : piece.start ≡ ends.place = same_place text from piece.start ends.place gap ends.gap (IsSolid-piece text piece token.longest) (IsSolid-fault text ends.place before fault ends.fault_at) in
-    no_token text before fault piece (subst (λ (p : ℕ). IsFaultAt text p before fault) (sym here) ends.fault_at) token
+    let of = of_fault text ends.place before fault ends.fault_at in
+    let too_many = of_token text piece (TooLong (span_of piece.start piece.stop)) token refl in
+    let here : piece.start ≡ ends.place = same_place text from piece.start ends.place gap ends.gap too_many.solid of.solid in
+    let is : fault ≡ TooLong (span_of piece.start piece.stop) = same_of text ends.place fault (TooLong (span_of piece.start piece.stop)) of (subst (λ (p : ℕ). IsOf text p (TooLong (span_of piece.start piece.stop))) here too_many) in
+    ((λ none. cc), (subst (IsFaultAt text ends.place before) is ends.fault_at).1.count)
 
 same_end : (text : List ℕ) (from before : ℕ) (a b : Option TextFault) → EndsFrom text from before a → EndsFrom text from before b → a ≡ b
 same_end text from before None None a_ends b_ends = refl
-same_end text from before None (Some g) a_ends b_ends = absurd (not_at_end text from b_ends.place b_ends.gap a_ends (IsSolid-fault text b_ends.place before g b_ends.fault_at))
-same_end text from before (Some f) None a_ends b_ends = absurd (not_at_end text from a_ends.place a_ends.gap b_ends (IsSolid-fault text a_ends.place before f a_ends.fault_at))
+same_end text from before None (Some g) a_ends b_ends = absurd (not_at_end text from b_ends.place b_ends.gap a_ends (of_fault text b_ends.place before g b_ends.fault_at).solid)
+same_end text from before (Some f) None a_ends b_ends = absurd (not_at_end text from a_ends.place a_ends.gap b_ends (of_fault text a_ends.place before f a_ends.fault_at).solid)
 same_end text from before (Some f) (Some g) a_ends b_ends =
-    let here : b_ends.place ≡ a_ends.place = same_place text from b_ends.place a_ends.place b_ends.gap a_ends.gap (IsSolid-fault text b_ends.place before g b_ends.fault_at) (IsSolid-fault text a_ends.place before f a_ends.fault_at) in
-    ap Some (same_of text a_ends.place f g (of_fault text a_ends.place before f a_ends.fault_at) (subst (λ (p : ℕ). IsOf text p g) here (of_fault text b_ends.place before g b_ends.fault_at)))
+    let one = of_fault text a_ends.place before f a_ends.fault_at in
+    let two = of_fault text b_ends.place before g b_ends.fault_at in
+    let here : b_ends.place ≡ a_ends.place = same_place text from b_ends.place a_ends.place b_ends.gap a_ends.gap two.solid one.solid in
+    ap Some (same_of text a_ends.place f g one (subst (λ (p : ℕ). IsOf text p g) here two))
 
--- tokens from a place on behind so many others, within the limit, and how they end
+-- tokens from a place on behind so many others, and how they end
 record IsReading (text : List ℕ) (from before : ℕ) (pieces : List TokenModel) (end : Option TextFault) : Type 0 where
-  few : before + length pieces ≤ token_limit
   tokens : AreTokensFrom text from pieces
   ends : EndsFrom text (end_of from pieces) (before + length pieces) end
 
 behind_first : (text : List ℕ) (from before : ℕ) (piece : TokenModel) (pieces : List TokenModel) (end : Option TextFault) → IsReading text from before (piece ∷ pieces) end → IsReading text piece.stop (suc before) pieces end
 behind_first text from before piece pieces end reading =
-    let few = reading.few in
     let count : before + length (piece ∷ pieces) ≡ suc before + length pieces = omega arith in
-    record { few = omega arith; tokens = reading.tokens.1.1; ends = subst (λ (n : ℕ). EndsFrom text (end_of piece.stop pieces) n end) count reading.ends }
+    record { tokens = reading.tokens.1.1; ends = subst (λ (n : ℕ). EndsFrom text (end_of piece.stop pieces) n end) count reading.ends }
 
-same_reading : (text : List ℕ) (from before : ℕ) (ps qs : List TokenModel) (a b : Option TextFault) → IsReading text from before ps a → IsReading text from before qs b → (ps ≡ qs) × (a ≡ b)
-same_reading text from before [] [] a b one two = (refl, same_end text from (before + 0) a b one.ends two.ends)
-same_reading text from before [] (q ∷ qs) a b one two =
+-- both end with the text, or there are not too many of either
+abbrev AreFew : Option TextFault → Option TextFault → ℕ → ℕ → Type 0
+AreFew a b m n = ((a ≡ None) × (b ≡ None)) ⊎ ((m ≤ token_limit) × (n ≤ token_limit))
+
+same_reading : (text : List ℕ) (from before : ℕ) (ps qs : List TokenModel) (a b : Option TextFault) → AreFew a b (before + length ps) (before + length qs) → IsReading text from before ps a → IsReading text from before qs b
+    → (ps ≡ qs) × (a ≡ b)
+same_reading text from before [] [] a b few one two = (refl, same_end text from (before + 0) a b one.ends two.ends)
+same_reading text from before [] (q ∷ qs) a b few one two =
     let full = no_more text from (before + 0) a q one.ends two.tokens.0 two.tokens.1.0 in
-    let few = two.few in
-    absurd (omega arith)
-same_reading text from before (p ∷ ps) [] a b one two =
+    ⊎_elim (λ ends. absurd (full.0 ends.0)) (λ within. absurd (omega arith)) few
+same_reading text from before (p ∷ ps) [] a b few one two =
     let full = no_more text from (before + 0) b p two.ends one.tokens.0 one.tokens.1.0 in
-    let few = one.few in
-    absurd (omega arith)
-same_reading text from before (p ∷ ps) (q ∷ qs) a b one two =
-    let start : p.start ≡ q.start = same_place text from p.start q.start one.tokens.0 two.tokens.0 (IsSolid-piece text p one.tokens.1.0.longest) (IsSolid-piece text q two.tokens.1.0.longest) in
+    ⊎_elim (λ ends. absurd (full.0 ends.1)) (λ within. absurd (omega arith)) few
+same_reading text from before (p ∷ ps) (q ∷ qs) a b few one two =
+    let p_solid = (of_token text p _ one.tokens.1.0 refl).solid in
+    let q_solid = (of_token text q _ two.tokens.1.0 refl).solid in
+    let start : p.start ≡ q.start = same_place text from p.start q.start one.tokens.0 two.tokens.0 p_solid q_solid in
     let first : p ≡ q = same_piece text p q q.start start refl one.tokens.1.0.longest two.tokens.1.0.longest in
     let stop : q.stop ≡ p.stop = sym (ap (λ (piece : TokenModel). piece.stop) first) in
-    let rest = same_reading text p.stop (suc before) ps qs a b (behind_first text from before p ps a one)
+    let less : AreFew a b (suc before + length ps) (suc before + length qs) = ⊎_elim (λ ends. inl ends) (λ within. inr (omega arith, omega arith)) few in
+    let rest = same_reading text p.stop (suc before) ps qs a b less (behind_first text from before p ps a one)
     (subst (λ (place : ℕ). IsReading text place (suc before) qs b) stop (behind_first text from before q qs b two)) in
     ((λ i. first i ∷ rest.0 i), rest.1)
 
 -- The laws.
 
 reading_of_list : (text : List ℕ) (pieces : List TokenModel) → IsTokenList text pieces → IsReading text 0 0 pieces None
-reading_of_list text pieces list = let few = list.few in record { few = omega arith; tokens = list.tokens; ends = list.ends }
+reading_of_list text pieces list = record { tokens = list.tokens; ends = list.ends }
 
 reading_of_fault : (text : List ℕ) (fault : TextFault) (behind : IsFaultBehind text fault) → IsReading text 0 0 behind.before (Some fault)
 reading_of_fault text fault behind =
-    let few = behind.few in
     let count : length behind.before ≡ 0 + length behind.before = omega arith in
-    record {
-      few = omega arith;
-      tokens = behind.tokens;
-      ends = record { place = behind.place; gap = behind.gap; fault_at = subst (λ (n : ℕ). IsFaultAt text behind.place n fault) count behind.fault_at };
-    }
+    record { tokens = behind.tokens; ends = record { place = behind.place; gap = behind.gap; fault_at = subst (λ (n : ℕ). IsFaultAt text behind.place n fault) count behind.fault_at } }
+
+-- of texts of any length
+pub one_list_of : (text : List ℕ) (ps qs : List TokenModel) → AreTokensOf text ps → AreTokensOf text qs → ps ≡ qs
+one_list_of text ps qs one two =
+    (same_reading text 0 0 ps qs None None (inl (refl, refl)) (record { tokens = one.tokens; ends = one.ends }) (record { tokens = two.tokens; ends = two.ends })).0
 
 pub one_list : (text : List ℕ) (ps qs : List TokenModel) → IsTokenList text ps → IsTokenList text qs → ps ≡ qs
-one_list text ps qs one two = (same_reading text 0 0 ps qs None None (reading_of_list text ps one) (reading_of_list text qs two)).0
+one_list text ps qs one two = one_list_of text ps qs (record { tokens = one.tokens; ends = one.ends }) (record { tokens = two.tokens; ends = two.ends })
 
 pub no_list : (text : List ℕ) (fault : TextFault) → IsTextFault text fault → (pieces : List TokenModel) → IsTokenList text pieces → ⊥
 no_list text fault faulty pieces list =
     elim faulty [
       | inl overlong ↦ let long = overlong.long in let short = list.short in omega arith
       | inr behind ↦
-          let same : Some fault ≡ None = (same_reading text 0 0 behind.before pieces (Some fault) None (reading_of_fault text fault behind) (reading_of_list text pieces list)).1 in
+          let few : AreFew (Some fault) None (0 + length behind.before) (0 + length pieces) = inr (omega (arith, behind.few), omega (arith, list.few)) in
+          let same = (same_reading text 0 0 behind.before pieces (Some fault) None few (reading_of_fault text fault behind) (reading_of_list text pieces list)).1 in
           cc
     ]
 
 pub one_fault : (text : List ℕ) (f g : TextFault) → IsTextFault text f → IsTextFault text g → f ≡ g
-one_fault text f g first second =
-    elim first [
-      | inl overlong ↦ elim second [
-        | inl too ↦ overlong.whole ∙ sym too.whole
-        | inr behind ↦ let long = overlong.long in let short = behind.short in absurd (omega arith)
-      ]
-      | inr behind ↦ elim second [
-        | inl overlong ↦ let long = overlong.long in let short = behind.short in absurd (omega arith)
-        | inr too ↦
-            let same : Some f ≡ Some g = (same_reading text 0 0 behind.before too.before (Some f) (Some g) (reading_of_fault text f behind) (reading_of_fault text g too)).1 in
-            cc
-      ]
-    ]
-
--- Texts of any length.
-
-same_tokens : (text : List ℕ) (from : ℕ) (ps qs : List TokenModel) → AreTokensFrom text from ps → IsGap text (end_of from ps) (length text) → AreTokensFrom text from qs → IsGap text (end_of from qs) (length text) → ps ≡ qs
-same_tokens text from [] [] one ends two other_ends = refl
-same_tokens text from [] (q ∷ qs) one ends two other_ends = absurd (not_at_end text from q.start two.0 ends (IsSolid-piece text q two.1.0.longest))
-same_tokens text from (p ∷ ps) [] one ends two other_ends = absurd (not_at_end text from p.start one.0 other_ends (IsSolid-piece text p one.1.0.longest))
-same_tokens text from (p ∷ ps) (q ∷ qs) one ends two other_ends =
-    let start : p.start ≡ q.start = same_place text from p.start q.start one.0 two.0 (IsSolid-piece text p one.1.0.longest) (IsSolid-piece text q two.1.0.longest) in
-    let first : p ≡ q = same_piece text p q q.start start refl one.1.0.longest two.1.0.longest in
-    let stop : q.stop ≡ p.stop = sym (ap (λ (piece : TokenModel). piece.stop) first) in
-    let rest = same_tokens text p.stop ps qs one.1.1 ends (subst (λ (place : ℕ). AreTokensFrom text place qs) stop two.1.1)
-    (subst (λ (place : ℕ). IsGap text (end_of place qs) (length text)) stop other_ends) in
-    λ i. first i ∷ rest i
-
-pub one_list_of : (text : List ℕ) (ps qs : List TokenModel) → AreTokensOf text ps → AreTokensOf text qs → ps ≡ qs
-one_list_of text ps qs one two = same_tokens text 0 ps qs one.tokens one.ends two.tokens two.ends
+one_fault text f g (inl overlong) (inl too) = overlong.whole ∙ sym too.whole
+one_fault text f g (inl overlong) (inr behind) = let long = overlong.long in let short = behind.short in absurd (omega arith)
+one_fault text f g (inr behind) (inl overlong) = let long = overlong.long in let short = behind.short in absurd (omega arith)
+one_fault text f g (inr one) (inr two) =
+    let few : AreFew (Some f) (Some g) (0 + length one.before) (0 + length two.before) = inr (omega (arith, one.few), omega (arith, two.few)) in
+    let same = (same_reading text 0 0 one.before two.before (Some f) (Some g) few (reading_of_fault text f one) (reading_of_fault text g two)).1 in
+    cc

@@ -1,12 +1,9 @@
 -- Places in a text: where pieces end, and what stands behind them.
-use Rattle.std.specs.List.{AllByRecursion as AllOf}
-use Rattle.std.proofs.lemmas.Str.{IsUtf8-append}
-use Rattle.std.proofs.lemmas.Str.{IsCharBoundary-from_rest}
-use Rattle.odata_text.proofs.Common.{◌≡◌, ◌⊎◌, inl, inr, ⊎_elim, ℕ, ◌+◌, ◌-◌, ◌<◌, ◌≤◌, true, List, [], ◌∷◌, ◌++◌, length, get_or, take, drop, IsUtf8, arith, refl, sym, ◌∙◌, ap, subst, IsCharBoundary, slice_range, cases_lt, get_or-drop, length-take-le, length-drop, fold_more, IsCharBoundary-after_ascii, IsCharBoundary-from_take, IsUtf8-drop, IsUtf8-from_ascii, IsAscii-cons, IsAscii-nil, IsIdentifier, identifier_run, FollowedBy, IsByte, IsWordSpelling, Spells, dotted_parts, IsGap, IsLongest, IsRunOn, is_undelimited, Space, Other, TokenKind, Word, Dollar, Form, Token, LeftOut}
+use Rattle.std.proofs.lemmas.Str.{IsUtf8-append, IsCharBoundary-from_take, IsUtf8-drop}
+use Rattle.odata_text.proofs.Common.{AllOf, IsCharBoundary-from_rest, ◌≡◌, ◌⊎◌, inl, inr, ⊎_elim, ℕ, ◌+◌, ◌-◌, ◌<◌, ◌≤◌, true, List, [], ◌∷◌, ◌++◌, length, get_or, take, drop, IsUtf8, arith, refl, sym, ◌∙◌, ap, subst, IsCharBoundary, slice_range, cases_lt, get_or-drop, length-take-le, length-drop, fold_more, IsCharBoundary-after_ascii, IsUtf8-from_ascii, IsAscii-cons, IsAscii-nil, IsIdentifier, identifier_run, FollowedBy, IsByte, IsWordSpelling, Spells, dotted_parts, IsGap, IsLongest, IsRunOn, is_undelimited, TokenKind, Word, Dollar, Form, Token, LeftOut}
 use Rattle.odata_text.specs.Tokens.{IsLeftOutLiteral}
 use Rattle.odata_text.specs.declared.form.LeftOutKind.{LeftOutKind}
-use Rattle.odata_text.proofs.characters.ByteClasses.{class_of-non_ascii}
-use Rattle.odata_text.proofs.machine.Longest.{formed-some, past-word}
+use Rattle.odata_text.proofs.machine.Longest.{formed-some, past-word, space-from_class}
 use Rattle.odata_text.proofs.machine.Runs.{reads}
 use Rattle.odata_text.proofs.machine.States.{ALetter, APlain, Start, enter, form_at, run, step}
 use Rattle.odata_text.proofs.machine.Steps.{past-sort}
@@ -49,15 +46,13 @@ past-utf8 kind rest n some within far spelled =
     word k spelled (inr is) = utf8-dollar (take n rest) (subst (λ (j : TokenKind). Spells j (take n rest)) is spelled)
 
 -- what the code found of a rest it found of the text
-pub longest-token : (text rest : List ℕ) (start n : ℕ) (form : Form) (kind : TokenKind) → rest ≡ drop start text → form ≡ Token kind → IsLongest form n rest → IsLongest (Token kind) n (drop start text)
-longest-token text rest start n form kind behind is longest = subst (λ (f : Form). IsLongest f n (drop start text)) is (subst (IsLongest form n) behind longest)
+pub longest-of : (text rest : List ℕ) (start n : ℕ) (form is : Form) → rest ≡ drop start text → form ≡ is → IsLongest form n rest → IsLongest is n (drop start text)
+longest-of text rest start n form is behind same longest = subst (λ (f : Form). IsLongest f n (drop start text)) same (subst (IsLongest form n) behind longest)
 
-pub left_out-literal : (text rest : List ℕ) (start n : ℕ) (form : Form) (kind : LeftOutKind) → rest ≡ drop start text → form ≡ LeftOut kind → IsLongest form n rest
-    → IsLeftOutLiteral text (record { start = start; stop = start + n })
-left_out-literal text rest start n form kind behind is longest =
+pub left_out-literal : (text : List ℕ) (start n : ℕ) (kind : LeftOutKind) → IsLongest (LeftOut kind) n (drop start text) → IsLeftOutLiteral text (record { start = start; stop = start + n })
+left_out-literal text start n kind longest =
     let size : n ≡ start + n - start = omega arith in
-    let here : IsLongest (LeftOut kind) n (drop start text) = subst (λ (f : Form). IsLongest f n (drop start text)) is (subst (IsLongest form n) behind longest) in
-    record { kind = kind; order = omega arith; longest = subst (λ (k : ℕ). IsLongest (LeftOut kind) k (drop start text)) size here }
+    record { kind = kind; order = omega arith; longest = subst (λ (k : ℕ). IsLongest (LeftOut kind) k (drop start text)) size longest }
 
 pub boundary-behind : (text : List ℕ) (start n : ℕ) (kind : TokenKind) → IsUtf8 text → IsCharBoundary text start → IsLongest (Token kind) n (drop start text) → IsCharBoundary text (start + n)
 boundary-behind text start n kind utf8 boundary longest =
@@ -81,7 +76,7 @@ boundary-gap text from to utf8 boundary gap =
     (λ behind.
     let last : to - 1 < to = omega arith in
     let white = gap.white (to - 1) (omega arith) last in
-    let ascii : get_or text (to - 1) 0 < 128 = ⊎_elim (λ near. near) (λ far. let both : Space ≡ Other = sym white ∙ class_of-non_ascii _ far in cc) (cases_lt (get_or text (to - 1) 0) 128) in
+    let ascii : get_or text (to - 1) 0 < 128 = ⊎_elim (λ blank. omega arith) (λ tab. omega arith) (space-from_class (get_or text (to - 1) 0) white) in
     let next : to - 1 + 1 ≡ to = omega arith in
     subst (IsCharBoundary text) next (IsCharBoundary-after_ascii text (to - 1) utf8 (omega arith) ascii))
     (λ same. let here : from ≡ to = omega arith in subst (IsCharBoundary text) here boundary)

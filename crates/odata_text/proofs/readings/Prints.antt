@@ -1,6 +1,7 @@
 -- Tokens that are printed one after another are read back.
-use Rattle.std.proofs.Math.Seq.{drop-append_seam}
-use Rattle.odata_text.proofs.Common.{◌≡◌, ℕ, ◌+◌, ◌-◌, ◌<◌, ◌≤◌, ◌==◌, not, true, false, List, [], ◌∷◌, ◌++◌, suc, length, get_or, take, drop, chars, arith, refl, sym, ◌∙◌, ap, subst, length-append, append_assoc, append-nil, All, take_while, encode_utf8_all, get_or-append, get_or-append_right, and_parts, cond-false, false≢true, nat_tests, take_at, take_while-cons, chars-append, chars-IsAscii, chars-nil, IsUtf8-from_ascii, IsAscii-cons, IsAscii-nil, class_of, continues_identifier, identifier_run, AreTokensOf, ArePrintable, MayFollow, Print, is_separator, may_follow, Spells, AreTokensFrom, IsGap, IsLongest, IsTokenAt, IsTokenList, end_of, is_undelimited, text_limit, token_limit, Space, Token, TokenKind, Int, Open, Close, Comma, Slash, Colon}
+use Rattle.std.proofs.Math.ListN.{get_or-append}
+use Rattle.std.proofs.Math.Seq.{get_or-append_right}
+use Rattle.odata_text.proofs.Common.{drop-drop, drop_at, ◌≡◌, ℕ, ◌+◌, ◌-◌, ◌<◌, ◌≤◌, ◌==◌, not, true, false, List, [], ◌∷◌, ◌++◌, suc, length, get_or, take, drop, chars, arith, refl, sym, ◌∙◌, ap, subst, length-append, append_assoc, append-nil, All, take_while, encode_utf8_all, and_parts, cond-false, nat_tests, take_at, take_while-cons, chars-append, chars-IsAscii, chars-nil, IsUtf8-from_ascii, IsAscii-cons, IsAscii-nil, class_of, continues_identifier, identifier_run, AreTokensOf, ArePrintable, MayFollow, Print, is_separator, may_follow, Spells, AreTokensFrom, IsGap, IsTokenAt, IsTokenList, end_of, is_undelimited, text_limit, token_limit, Space, TokenKind, Int}
 use Rattle.odata_text.specs.Printing.{print_tokens, print_text}
 use Rattle.odata_text.specs.Tokens.{RunsOn}
 use Rattle.odata_text.proofs.characters.IdentifierBytes.{continues-ascii, is_name_byte}
@@ -32,24 +33,22 @@ no_run kind (b ∷ more) follows runs =
     absurd (omega arith)
 
 -- One token.
-
-token_at : (before text rest : List ℕ) (kind : TokenKind) → Spells kind text → MayFollow kind rest
-    → IsTokenAt (before ++ (text ++ rest)) (record { kind = kind; start = length before; stop = length before + length text; text = text })
-token_at before text rest kind spelled follows =
-    let behind : drop (length before) (before ++ (text ++ rest)) ≡ text ++ rest = drop-append_seam before (text ++ rest) in
-    let size : length before + length text - length before ≡ length text = omega arith in
-    let all = length-append text rest in
-    let longest : IsLongest (Token kind) (length text) (text ++ rest) =
-    longest-before kind (text ++ rest) (length text) (omega arith) (subst (Spells kind) (sym (take_at text rest (length text) refl)) spelled) (subst (MayFollow kind) (sym (drop-append_seam text rest)) follows) in
-    let past : drop (length before + length text) (before ++ (text ++ rest)) ≡ rest =
-    ap (drop (length before + length text)) (sym (append_assoc before text rest)) ∙ ap (λ (n : ℕ). drop n ((before ++ text) ++ rest)) (sym (length-append before text)) ∙ drop-append_seam (before ++ text) rest in
+token_at : (text before piece rest : List ℕ) (kind : TokenKind) (start stop : ℕ) → text ≡ before ++ (piece ++ rest) → start ≡ length before → stop ≡ start + length piece → Spells kind piece → MayFollow kind rest
+    → IsTokenAt text (record { kind = kind; start = start; stop = stop; text = piece })
+token_at text before piece rest kind start stop whole starts stops spelled follows =
+    let size : length piece ≡ stop - start = omega arith in
+    let behind : drop start text ≡ piece ++ rest = ap (drop start) whole ∙ drop_at before (piece ++ rest) start (sym starts) in
+    let front : take (stop - start) (drop start text) ≡ piece = ap (take (stop - start)) behind ∙ take_at piece rest (stop - start) size in
+    let past : drop (stop - start) (drop start text) ≡ rest = ap (drop (stop - start)) behind ∙ drop_at piece rest (stop - start) size in
+    let end : start + (stop - start) ≡ stop = omega arith in
+    let room = ap length behind ∙ length-append piece rest in
     record {
       longest = record {
         order = omega arith;
-        longest = subst (λ (n : ℕ). IsLongest (Token kind) n (drop (length before) (before ++ (text ++ rest)))) (sym size) (subst (IsLongest (Token kind) (length text)) (sym behind) longest);
-        bytes = sym (ap (λ (n : ℕ). take n (drop (length before) (before ++ (text ++ rest)))) size ∙ ap (take (length text)) behind ∙ take_at text rest (length text) refl);
+        longest = longest-before kind (drop start text) (stop - start) (omega arith) (subst (Spells kind) (sym front) spelled) (subst (MayFollow kind) (sym past) follows);
+        bytes = sym front;
       };
-      ends = λ runs. no_run kind rest follows (subst (RunsOn kind) past runs);
+      ends = λ runs. no_run kind rest follows (subst (RunsOn kind) (ap (λ (n : ℕ). drop n text) (sym end) ∙ sym (drop-drop (stop - start) start text) ∙ past) runs);
     }
 
 -- All of them.
@@ -58,43 +57,36 @@ record AreRead (text : List ℕ) (from at : ℕ) (prints : List Print) : Type 0 
   tokens : AreTokensFrom text from (print_tokens at prints)
   ends : IsGap text (end_of from (print_tokens at prints)) (length text)
 
-white_gap : (before gap rest : List ℕ) → All (λ b. class_of b ≡ Space) gap → IsGap (before ++ (gap ++ rest)) (length before) (length (before ++ gap))
-white_gap before gap rest white =
-    let size = length-append before gap in
-    let whole = length-append before (gap ++ rest) in
+white_gap : (text before gap rest : List ℕ) (from to : ℕ) → text ≡ before ++ (gap ++ rest) → from ≡ length before → to ≡ from + length gap → All (λ b. class_of b ≡ Space) gap → IsGap text from to
+white_gap text before gap rest from to whole starts stops white =
+    let size = ap length whole ∙ length-append before (gap ++ rest) in
     let back = length-append gap rest in
     record {
       order = omega arith;
       within = omega arith;
       white = λ i low high.
           let place : i - length before < length gap = omega arith in
-          let byte : get_or (before ++ (gap ++ rest)) i 0 ≡ get_or gap (i - length before) 0 =
-          get_or-append_right before (gap ++ rest) i 0 low ∙ get_or-append gap rest 0 (i - length before) place in
+          let byte : get_or text i 0 ≡ get_or gap (i - length before) 0 =
+          ap (λ (xs : List ℕ). get_or xs i 0) whole ∙ get_or-append_right before (gap ++ rest) i 0 (omega arith) ∙ get_or-append gap rest 0 (i - length before) place in
           ap class_of byte ∙ white (i - length before) 0 place;
     }
 
-prints_read : (before : List ℕ) (prints : List Print) (from : ℕ) → ArePrintable prints → IsGap (before ++ print_text prints) from (length before) → AreRead (before ++ print_text prints) from (length before) prints
-prints_read before [] from printable gap =
-    let all : length (before ++ []) ≡ length before = ap length (append-nil before) in
-    record { tokens = tt; ends = subst (IsGap (before ++ []) from) (sym all) gap }
-prints_read before (p ∷ prints) from printable gap =
+prints_read : (text before : List ℕ) (prints : List Print) (from at : ℕ) → text ≡ before ++ print_text prints → at ≡ length before → ArePrintable prints → IsGap text from at → AreRead text from at prints
+prints_read text before [] from at whole starts printable gap =
+    let all : at ≡ length text = starts ∙ sym (ap length (whole ∙ append-nil before)) in
+    record { tokens = tt; ends = subst (IsGap text from) all gap }
+prints_read text before (p ∷ prints) from at whole starts printable gap =
     let rest = print_text prints in
-    let shape : before ++ ((p.text ++ p.gap) ++ rest) ≡ before ++ (p.text ++ (p.gap ++ rest)) = ap (λ (xs : List ℕ). before ++ xs) (append_assoc p.text p.gap rest) in
-    let token = token_at before p.text (p.gap ++ rest) p.kind printable.0 printable.1.1.0 in
-    let front : before ++ (p.text ++ (p.gap ++ rest)) ≡ (before ++ p.text) ++ (p.gap ++ rest) = sym (append_assoc before p.text (p.gap ++ rest)) in
-    let white = white_gap (before ++ p.text) p.gap rest printable.1.0 in
-    let next : (before ++ p.text) ++ (p.gap ++ rest) ≡ ((before ++ p.text) ++ p.gap) ++ rest = sym (append_assoc (before ++ p.text) p.gap rest) in
-    let stop : length before + length p.text ≡ length (before ++ p.text) = sym (length-append before p.text) in
-    let place : length before + length p.text + length p.gap ≡ length ((before ++ p.text) ++ p.gap) = sym (length-append (before ++ p.text) p.gap ∙ ap (λ (n : ℕ). n + length p.gap) (length-append before p.text)) in
-    let more = prints_read ((before ++ p.text) ++ p.gap) prints (length (before ++ p.text)) printable.1.1.1 (subst (λ (xs : List ℕ). IsGap xs (length (before ++ p.text)) (length ((before ++ p.text) ++ p.gap))) next white) in
-    let whole : before ++ ((p.text ++ p.gap) ++ rest) ≡ ((before ++ p.text) ++ p.gap) ++ rest = shape ∙ front ∙ next in
-    let more_here : AreRead (before ++ ((p.text ++ p.gap) ++ rest)) (length before + length p.text) (length before + length p.text + length p.gap) prints =
-    subst (λ (xs : List ℕ). AreRead xs (length before + length p.text) (length before + length p.text + length p.gap) prints) (sym whole)
-    (subst (λ (n : ℕ). AreRead (((before ++ p.text) ++ p.gap) ++ rest) n (length before + length p.text + length p.gap) prints) (sym stop)
-    (subst (λ (n : ℕ). AreRead (((before ++ p.text) ++ p.gap) ++ rest) (length (before ++ p.text)) n prints) (sym place) more)) in
+    let token_size = length-append before p.text in
+    let size = length-append (before ++ p.text) p.gap in
+    let here : text ≡ before ++ (p.text ++ (p.gap ++ rest)) = whole ∙ ap (λ (xs : List ℕ). before ++ xs) (append_assoc p.text p.gap rest) in
+    let behind : text ≡ (before ++ p.text) ++ (p.gap ++ rest) = here ∙ sym (append_assoc before p.text (p.gap ++ rest)) in
+    let next : text ≡ ((before ++ p.text) ++ p.gap) ++ rest = behind ∙ sym (append_assoc (before ++ p.text) p.gap rest) in
+    let white = white_gap text (before ++ p.text) p.gap rest (at + length p.text) (at + length p.text + length p.gap) behind (omega arith) refl printable.1.0 in
+    let more = prints_read text ((before ++ p.text) ++ p.gap) prints (at + length p.text) (at + length p.text + length p.gap) next (omega arith) printable.1.1.1 white in
     record {
-      tokens = (gap, (subst (λ (xs : List ℕ). IsTokenAt xs (record { kind = p.kind; start = length before; stop = length before + length p.text; text = p.text })) (sym shape) token, more_here.tokens));
-      ends = more_here.ends;
+      tokens = (gap, (token_at text before p.text (p.gap ++ rest) p.kind at (at + length p.text) here starts refl printable.0 printable.1.1.0, more.tokens));
+      ends = more.ends;
     }
 
 length-print_tokens : (at : ℕ) (prints : List Print) → length (print_tokens at prints) ≡ length prints
@@ -103,7 +95,7 @@ length-print_tokens at (p ∷ prints) = ap suc (length-print_tokens (at + length
 
 pub prints-tokens : (prints : List Print) → ArePrintable prints → AreTokensOf (print_text prints) (print_tokens 0 prints)
 prints-tokens prints printable =
-    let all = prints_read [] prints 0 printable (record { order = omega arith; within = omega arith; white = λ i low high. absurd (omega arith) }) in
+    let all = prints_read (print_text prints) [] prints 0 0 refl refl printable (record { order = omega arith; within = omega arith; white = λ i low high. absurd (omega arith) }) in
     record { tokens = all.tokens; ends = all.ends }
 
 pub prints-list : (prints : List Print) → ArePrintable prints → length (print_text prints) ≤ text_limit → length prints ≤ token_limit → IsTokenList (print_text prints) (print_tokens 0 prints)

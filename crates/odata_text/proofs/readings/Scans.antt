@@ -1,6 +1,6 @@
 -- How far the tokens of a text have been read.
-use Rattle.std.proofs.lemmas.List.{length_push, map_push}
-use Rattle.odata_text.proofs.Common.{◌≡◌, ℕ, ◌-◌, ◌<◌, ◌≤◌, List, [], ◌∷◌, ◌++◌, length, get_or, drop, IsUtf8, arith, refl, sym, ◌∙◌, ap, subst, IsCharBoundary, length-map, length-take-le, length-drop, IsCharBoundary-start, class_of, TokenModel, token_model, token_models, AreTokensFrom, IsFaultAt, IsFaultBehind, IsGap, IsTokenAt, IsTokenList, end_of, text_limit, token_limit, Space, TextFault, TooLong}
+use Rattle.odata_text.proofs.Common.{length_push, map_push, Spells, ◌≡◌, ℕ, ◌-◌, ◌<◌, ◌≤◌, List, [], ◌∷◌, ◌++◌, length, get_or, drop, IsUtf8, arith, refl, sym, ◌∙◌, ap, subst, IsCharBoundary, length-map, length-take-le, length-drop, IsCharBoundary-start, class_of, TokenModel, token_model, token_models, AreTokensFrom, IsFaultAt, IsFaultBehind, IsGap, IsTokenAt, IsTokenList, end_of, text_limit, token_limit, Space, TextFault, TooLong}
+use Rattle.odata_text.specs.TokenSequence.{AreTextTokens}
 use Rattle.odata_text.specs.declared.token.Token.{Token}
 use Rattle.odata_text.specs.declared.form.Form.TheVariants.{Token as IsToken}
 use Rattle.odata_text.proofs.machine.Longest.{formed-some}
@@ -37,40 +37,39 @@ pub record IsScanned (text : List ℕ) (pieces : List TokenModel) (place : ℕ) 
   pub solid : place < length text → class_of (get_or text place 0) ≡ Space → ⊥
   pub boundary : IsCharBoundary text place
 
--- what the code says of a text's bytes it says of the text
-solid_in : (text bytes : List ℕ) (place : ℕ) → bytes ≡ text → (place < length bytes → class_of (get_or bytes place 0) ≡ Space → ⊥) → place < length text → class_of (get_or text place 0) ≡ Space → ⊥
-solid_in text bytes place same solid = subst (λ (xs : List ℕ). place < length xs → class_of (get_or xs place 0) ≡ Space → ⊥) same solid
+-- the last of the pieces ends where the code looked for white space in the text's bytes
+scanned : (text bytes : List ℕ) (pieces : List TokenModel) (from place : ℕ) → bytes ≡ text → IsUtf8 text → AreTokensFrom text 0 pieces → length pieces ≤ token_limit → end_of 0 pieces ≡ from → IsCharBoundary text from
+    → IsGap bytes from place → (place < length bytes → class_of (get_or bytes place 0) ≡ Space → ⊥) → IsScanned text pieces place
+scanned text bytes pieces from place same utf8 tokens few end boundary gap solid =
+    let white = subst (λ (xs : List ℕ). IsGap xs from place) same gap in
+    record {
+      tokens = tokens;
+      few = few;
+      gap = subst (λ (n : ℕ). IsGap text n place) (sym end) white;
+      solid = subst (λ (xs : List ℕ). place < length xs → class_of (get_or xs place 0) ≡ Space → ⊥) same solid;
+      boundary = boundary-gap text from place utf8 boundary white;
+    }
 
 pub scanned-none : (text bytes : List ℕ) (tokens : List Token) (place : ℕ) → bytes ≡ text → tokens ≡ [] → IsUtf8 text → IsGap bytes 0 place
     → (place < length bytes → class_of (get_or bytes place 0) ≡ Space → ⊥) → IsScanned text (token_models tokens) place
 scanned-none text bytes tokens place same none utf8 gap solid =
-    let white = subst (λ (xs : List ℕ). IsGap xs 0 place) same gap in
-    subst (λ (ts : List Token). IsScanned text (token_models ts) place) (sym none) (record {
-      tokens = tt;
-      few = omega arith;
-      gap = white;
-      solid = solid_in text bytes place same solid;
-      boundary = boundary-gap text 0 place utf8 (IsCharBoundary-start text utf8) white;
-    })
+    subst (λ (ts : List Token). IsScanned text (token_models ts) place) (sym none) (scanned text bytes [] 0 place same utf8 tt (omega arith) refl (IsCharBoundary-start text utf8) gap solid)
 
 -- one token more
 pub scanned-push : (text bytes : List ℕ) (tokens more : List Token) (token : Token) (place next : ℕ) → bytes ≡ text → more ≡ tokens ++ token ∷ [] → IsUtf8 text → IsScanned text (token_models tokens) place
     → token.span.start ≡ place → IsTokenAt text (token_model token) → IsCharBoundary text token.span.stop → (length tokens ≡ token_limit → ⊥)
     → IsGap bytes token.span.stop next → (next < length bytes → class_of (get_or bytes next 0) ≡ Space → ⊥)
     → IsScanned text (token_models more) next
-scanned-push text bytes tokens more token place next same grown utf8 scanned here is_token boundary room gap solid =
-    let white = subst (λ (xs : List ℕ). IsGap xs token.span.stop next) same gap in
-    let pieces : token_models more ≡ token_models tokens ++ token_model token ∷ [] = ap token_models grown ∙ map_push token_model tokens token in
-    let count = length_push (token_models tokens) (token_model token) in
+scanned-push text bytes tokens more token place next same grown utf8 so_far here is_token boundary room gap solid =
+    let before = token_models tokens in
+    let piece = token_model token in
+    let pieces : token_models more ≡ before ++ piece ∷ [] = ap token_models grown ∙ map_push token_model tokens token in
+    let count = length_push before piece in
     let each = length-map tokens token_model in
-    let few = scanned.few in
-    subst (λ (ps : List TokenModel). IsScanned text ps next) (sym pieces) (record {
-      tokens = tokens-push text 0 (token_models tokens) (token_model token) scanned.tokens (subst (IsGap text (end_of 0 (token_models tokens))) (sym here) scanned.gap) is_token;
-      few = omega arith;
-      gap = subst (λ (end : ℕ). IsGap text end next) (sym (end_of-push 0 (token_models tokens) (token_model token))) white;
-      solid = solid_in text bytes next same solid;
-      boundary = boundary-gap text token.span.stop next utf8 boundary white;
-    })
+    let few = so_far.few in
+    subst (λ (ps : List TokenModel). IsScanned text ps next) (sym pieces)
+    (scanned text bytes (before ++ piece ∷ []) token.span.stop next same utf8 (tokens-push text 0 before piece so_far.tokens (subst (IsGap text (end_of 0 before)) (sym here) so_far.gap) is_token) (omega arith)
+    (end_of-push 0 before piece) boundary gap solid)
 
 -- the text is at its end
 pub scanned-all : (text : List ℕ) (pieces : List TokenModel) (place : ℕ) → length text ≤ text_limit → length text ≤ place → IsScanned text pieces place → IsTokenList text pieces
@@ -97,3 +96,13 @@ pub scanned-too_many : (text : List ℕ) (tokens : List Token) (place : ℕ) (to
 scanned-too_many text tokens place token short scanned here is_token full =
     scanned-fault text (token_models tokens) place (TooLong token.span) short scanned
     (here, record { count = length-map tokens token_model ∙ full; last = token_model token; token = is_token; start = refl; stop = refl })
+
+-- The tokens of a text are spelled by their kinds, in order.
+
+text_from : (text : List ℕ) (from : ℕ) (list : List TokenModel) → AreTokensFrom text from list → IsGap text (end_of from list) (length text) → AreTextTokens from (length text) list
+text_from text from [] tokens ends = ends.order
+text_from text from (token ∷ list) tokens ends =
+    (record { order = tokens.0.order; solid = (IsInside-token text token tokens.1.0).nonempty; spelled = subst (Spells token.kind) (sym tokens.1.0.longest.bytes) tokens.1.0.longest.longest.spelled }, text_from text token.stop list tokens.1.1 ends)
+
+pub text_tokens : (text : List ℕ) (list : List TokenModel) → IsTokenList text list → AreTextTokens 0 (length text) list
+text_tokens text list is = text_from text 0 list is.tokens is.ends

@@ -1,37 +1,19 @@
 -- Fractions, exponents and numbers with either at the front of a text.
-use Rattle.odata_text.proofs.Common.{◌≡◌, ◌⊎◌, inl, inr, ⊎_elim, ℕ, ◌==◌, ◌||◌, not, Bool, true, List, [], ◌∷◌, ◌++◌, refl, sym, ◌∙◌, ap, is_ascii_digit, list_all, and_from, or_left, IsNumeral, IsIntSpelling, IsDecimals, IsExponent, IsFraction, PassesTests, passes, FollowedBy, Dot, ExponentMark, append-nil, eqb-true}
+use Rattle.odata_text.proofs.Common.{◌≡◌, ◌⊎◌, inl, inr, ⊎_elim, ℕ, ◌==◌, ◌||◌, not, Bool, true, List, [], ◌∷◌, ◌++◌, refl, sym, ◌∙◌, ap, is_ascii_digit, list_all, and_from, or_left, IsNumeral, IsIntSpelling, IsDecimals, IsExponent, IsFraction, PassesTests, passes, FollowedBy, Dot, ExponentMark, append-nil}
 use Rattle.odata_text.proofs.characters.Identifiers.{list_all-weaker}
-use Rattle.odata_text.proofs.spellings.Patterns.{either-byte, either-passes, fits-length, marked-pair, pair-marked}
-use Rattle.odata_text.proofs.spellings.Reaches.{int-by_form, numeral-digits, numeral-none}
-use Rattle.odata_text.proofs.spellings.Sequences.{ArePieces, pieces-by_byte, pieces-sized, stops}
+use Rattle.odata_text.proofs.spellings.Patterns.{either-passes, marked-pair}
+use Rattle.odata_text.proofs.spellings.Reaches.{int-by_form, numeral-digits}
+use Rattle.odata_text.proofs.spellings.Sequences.{ArePieces, pieces-by_byte, stops}
 
 -- A mark, and digits or a whole number.
 
-abbrev pub FractionPair : List ℕ → Type 0
-FractionPair xs = FollowedBy (PassesTests (Dot ∷ [])) (IsNumeral 10) xs
-
-abbrev pub ExponentPair : List ℕ → Type 0
-ExponentPair xs = FollowedBy (PassesTests (ExponentMark ∷ [])) IsIntSpelling xs
-
-pub fraction-pair : (xs : List ℕ) → IsFraction xs → FractionPair xs
+pub fraction-pair : (xs : List ℕ) → IsFraction xs → FollowedBy (PassesTests (Dot ∷ [])) (IsNumeral 10) xs
 fraction-pair [] fraction = absurd fraction
 fraction-pair (dot ∷ digits) fraction = marked-pair Dot (IsNumeral 10) dot digits (ap (passes Dot) fraction.0) fraction.1
 
-pub fraction-from_pair : (xs : List ℕ) → FractionPair xs → IsFraction xs
-fraction-from_pair = pair-marked Dot (IsNumeral 10) IsFraction (λ b digits dot numeral. (eqb-true b 46 dot, numeral))
-
-pub exponent-pair : (xs : List ℕ) → IsExponent xs → ExponentPair xs
+pub exponent-pair : (xs : List ℕ) → IsExponent xs → FollowedBy (PassesTests (ExponentMark ∷ [])) IsIntSpelling xs
 exponent-pair [] exponent = absurd exponent
 exponent-pair (mark ∷ power) exponent = marked-pair ExponentMark IsIntSpelling mark power (either-passes mark 101 69 exponent.0) exponent.1
-
-pub exponent-from_pair : (xs : List ℕ) → ExponentPair xs → IsExponent xs
-exponent-from_pair = pair-marked ExponentMark IsIntSpelling IsExponent (λ b power mark int. (either-byte b 101 69 mark, int))
-
-pub dot_digits : ArePieces (PassesTests (Dot ∷ [])) (IsNumeral 10)
-dot_digits = pieces-sized (PassesTests (Dot ∷ [])) (IsNumeral 10) 0 (fits-length (Dot ∷ [])) numeral-none
-
-pub mark_power : ArePieces (PassesTests (ExponentMark ∷ [])) IsIntSpelling
-mark_power = pieces-sized (PassesTests (ExponentMark ∷ [])) IsIntSpelling 0 (fits-length (ExponentMark ∷ [])) (λ int. int.1)
 
 -- Which bytes each part has, and which it begins with.
 

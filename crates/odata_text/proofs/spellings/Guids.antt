@@ -2,14 +2,6 @@
 use Rattle.odata_text.proofs.Common.{◌≡◌, ℕ, zero, suc, ◌+◌, ◌<◌, true, List, [], ◌∷◌, ◌++◌, length, take, drop, arith, refl, sym, ◌∙◌, ap, subst, length-append, length-drop, digit_value, is_ascii_hexdigit, AllDigits, eqb-true, nat_tests, drop_at, length-take-le, take_at, IsGuidSpelling, hex_bytes, PassesTests, FollowedBy, ByteTest, HexDigit, Hyphen}
 use Rattle.edm_values.specs.GuidLiteral.{digit_groups}
 
--- 8-4-4-4-12 digits
-abbrev pub guid_pattern : List ByteTest
-guid_pattern =
-    HexDigit ∷ HexDigit ∷ HexDigit ∷ HexDigit ∷ HexDigit ∷ HexDigit ∷ HexDigit ∷ HexDigit ∷ Hyphen ∷ HexDigit ∷
-    HexDigit ∷ HexDigit ∷ HexDigit ∷ Hyphen ∷ HexDigit ∷ HexDigit ∷ HexDigit ∷ HexDigit ∷ Hyphen ∷ HexDigit ∷
-    HexDigit ∷ HexDigit ∷ HexDigit ∷ Hyphen ∷ HexDigit ∷ HexDigit ∷ HexDigit ∷ HexDigit ∷ HexDigit ∷ HexDigit ∷
-    HexDigit ∷ HexDigit ∷ HexDigit ∷ HexDigit ∷ HexDigit ∷ HexDigit ∷ []
-
 -- One pattern behind another.
 
 fits-append : (p q : List ByteTest) (xs ys : List ℕ) → PassesTests p xs → PassesTests q ys → PassesTests (p ++ q) (xs ++ ys)
@@ -39,9 +31,8 @@ digit_tests (suc n) = HexDigit ∷ digit_tests n
 
 fits-digits : (n : ℕ) (ds : List ℕ) → AllDigits 16 ds → length ds ≡ n → PassesTests (digit_tests n) ds
 fits-digits zero [] all len = tt
-fits-digits zero (d ∷ ds) all len = absurd (omega arith)
-fits-digits (suc n) [] all len = absurd (omega arith)
 fits-digits (suc n) (d ∷ ds) all len = (digit-test d all.0, fits-digits n ds all.1 (omega arith))
+fits-digits _ _ all len = absurd (omega arith)
 
 -- bytes that are such digits
 record AreDigits (n : ℕ) (ds : List ℕ) : Type 0 where
@@ -50,31 +41,29 @@ record AreDigits (n : ℕ) (ds : List ℕ) : Type 0 where
 
 digits-fit : (n : ℕ) (ds : List ℕ) → PassesTests (digit_tests n) ds → AreDigits n ds
 digits-fit zero [] fits = record { all = tt; count = refl }
-digits-fit zero (d ∷ ds) fits = absurd fits
-digits-fit (suc n) [] fits = absurd fits
 digits-fit (suc n) (d ∷ ds) fits =
     let more = digits-fit n ds fits.1 in
     record { all = (test-digit d fits.0, more.all); count = ap suc more.count }
+digits-fit _ _ fits = absurd fits
 
 all-append : (xs ys : List ℕ) → AllDigits 16 xs → AllDigits 16 ys → AllDigits 16 (xs ++ ys)
 all-append [] ys first second = second
 all-append (x ∷ xs) ys first second = (first.0, all-append xs ys first.1 second)
 
-all-take : (n : ℕ) (ds : List ℕ) → AllDigits 16 ds → AllDigits 16 (take n ds)
-all-take zero ds all = tt
-all-take (suc n) [] all = tt
-all-take (suc n) (d ∷ ds) all = (all.0, all-take n ds all.1)
-
-all-drop : (n : ℕ) (ds : List ℕ) → AllDigits 16 ds → AllDigits 16 (drop n ds)
-all-drop zero ds all = all
-all-drop (suc n) [] all = tt
-all-drop (suc n) (d ∷ ds) all = all-drop n ds all.1
+all-cut : (n : ℕ) (ds : List ℕ) → AllDigits 16 ds → AllDigits 16 (take n ds) × AllDigits 16 (drop n ds)
+all-cut zero ds all = (tt, all)
+all-cut (suc n) [] all = (tt, tt)
+all-cut (suc n) (d ∷ ds) all = let more = all-cut n ds all.1 in ((all.0, more.0), more.1)
 
 -- Groups of digits, and twelve behind them.
 
 abbrev group_tests : List ℕ → List ByteTest
 group_tests [] = digit_tests 12
 group_tests (size ∷ sizes) = digit_tests size ++ Hyphen ∷ group_tests sizes
+
+-- 8-4-4-4-12 digits
+abbrev pub guid_pattern : List ByteTest
+guid_pattern = group_tests (8 ∷ 4 ∷ 4 ∷ 4 ∷ [])
 
 abbrev total : List ℕ → ℕ
 total [] = 12
@@ -83,8 +72,8 @@ total (size ∷ sizes) = size + total sizes
 fits-groups : (sizes ds : List ℕ) → AllDigits 16 ds → length ds ≡ total sizes → PassesTests (group_tests sizes) (digit_groups sizes ds)
 fits-groups [] ds all len = fits-digits 12 ds all len
 fits-groups (size ∷ sizes) ds all len =
-    let front = fits-digits size (take size ds) (all-take size ds all) (length-take-le size ds (omega arith)) in
-    let back = fits-groups sizes (drop size ds) (all-drop size ds all) (omega (arith, length-drop size ds)) in
+    let front = fits-digits size (take size ds) (all-cut size ds all).0 (length-take-le size ds (omega arith)) in
+    let back = fits-groups sizes (drop size ds) (all-cut size ds all).1 (omega (arith, length-drop size ds)) in
     fits-append (digit_tests size) (Hyphen ∷ group_tests sizes) (take size ds) (45 ∷ digit_groups sizes (drop size ds)) front (refl, back)
 
 -- bytes that are groups of these digits
@@ -103,23 +92,18 @@ more-groups size sizes xs front back whole first more = record {
   spelled = whole ∙ rw (take_at front more.digits size first.count, drop_at front more.digits size first.count) (ap (λ (ys : List ℕ). front ++ 45 ∷ ys) more.spelled);
 }
 
--- bytes behind a hyphen
-record IsBehindHyphen (tests : List ByteTest) (xs : List ℕ) : Type 0 where
-  back : List ℕ
-  whole : xs ≡ 45 ∷ back
-  fits : PassesTests tests back
-
-behind_hyphen : (tests : List ByteTest) (xs : List ℕ) → PassesTests (Hyphen ∷ tests) xs → IsBehindHyphen tests xs
-behind_hyphen tests [] fits = absurd fits
-behind_hyphen tests (b ∷ back) fits = record { back = back; whole = ap (λ (c : ℕ). c ∷ back) (eqb-true b 45 fits.0); fits = fits.1 }
-
 groups-fit : (sizes xs : List ℕ) → PassesTests (group_tests sizes) xs → AreGroups sizes xs
 groups-fit [] xs fits = record { digits = xs; are_digits = digits-fit 12 xs fits; spelled = refl }
-groups-fit (size ∷ sizes) xs fits =
-    let cut = fits-cut (digit_tests size) (Hyphen ∷ group_tests sizes) xs fits in
-    let behind = behind_hyphen (group_tests sizes) cut.back cut.is_back in
-    more-groups size sizes xs cut.front behind.back (cut.whole ∙ ap (λ (ys : List ℕ). cut.front ++ ys) behind.whole) (digits-fit size cut.front cut.is_front)
-    (groups-fit sizes behind.back behind.fits)
+groups-fit (size ∷ sizes) xs fits = parts cut.front cut.back cut.whole cut.is_front cut.is_back (λ ys behind. groups-fit sizes ys behind)
+  where
+    cut : FollowedBy (PassesTests (digit_tests size)) (PassesTests (Hyphen ∷ group_tests sizes)) xs
+    cut = fits-cut (digit_tests size) (Hyphen ∷ group_tests sizes) xs fits
+
+    parts : (front back : List ℕ) → xs ≡ front ++ back → PassesTests (digit_tests size) front → PassesTests (Hyphen ∷ group_tests sizes) back
+        → ((ys : List ℕ) → PassesTests (group_tests sizes) ys → AreGroups sizes ys) → AreGroups (size ∷ sizes) xs
+    parts front [] whole first behind more = absurd behind
+    parts front (b ∷ back) whole first behind more =
+        more-groups size sizes xs front back (whole ∙ ap (λ (c : ℕ). front ++ c ∷ back) (eqb-true b 45 behind.0)) (digits-fit size front first) (more back behind.1)
 
 -- Guids.
 

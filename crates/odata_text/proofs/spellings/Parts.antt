@@ -1,8 +1,7 @@
 -- What the parts of pieces that are made of two begin with, and which bytes they do not have.
-use Rattle.std.specs.List.{AllByRecursion as AllOf}
-use Rattle.std.proofs.lemmas.List.Folds.{list_all-append, list_all-map}
+use Rattle.std.proofs.lemmas.List.Folds.{list_all-append}
 use Rattle.std.proofs.lemmas.Slice.Eq.{bytes_eq-Decides}
-use Rattle.odata_text.proofs.Common.{◌≡◌, inl, inr, ℕ, ◌+◌, ◌<◌, ◌≤◌, ◌==◌, ◌&&◌, nat_le, not, Bool, true, List, [], ◌∷◌, ◌++◌, length, get_or, take, codes, arith, refl, sym, ◌∙◌, ap, subst, IsUtf8, IsCharBoundary, length-map, is_ascii_alphabetic, to_ascii_lowercase, str_to_ascii_lowercase, list_all, and_from, nat_tests, get_or-take, length-take-le, IsCharBoundary-after_ascii, IsStringSpelling, IsIdentifier, IsByte, IsDottedWord, IsLeftOutName, IsNamed, dotted_parts, IsReach}
+use Rattle.odata_text.proofs.Common.{AllOf, list_all-map, ◌≡◌, inl, inr, ℕ, ◌+◌, ◌<◌, ◌==◌, ◌&&◌, nat_le, not, Bool, true, List, [], ◌∷◌, length, get_or, codes, arith, refl, sym, ◌∙◌, ap, subst, IsUtf8, IsCharBoundary, length-map, is_ascii_alphabetic, to_ascii_lowercase, str_to_ascii_lowercase, list_all, and_from, nat_tests, get_or-take, length-take-le, IsCharBoundary-after_ascii, IsStringSpelling, IsIdentifier, IsByte, IsDottedWord, IsLeftOutName, IsNamed, dotted_parts, IsReach}
 use Rattle.odata_text.proofs.characters.Identifiers.{identifier-nonempty, list_all-weaker}
 use Rattle.odata_text.proofs.characters.IdentifierBytes.{identifier-part, is_part_byte, letters-identifier}
 use Rattle.odata_text.proofs.spellings.Sequences.{ArePieces, pair-empty, pieces-by_byte, pieces-sized, stops}

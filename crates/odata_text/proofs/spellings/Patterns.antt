@@ -1,7 +1,6 @@
 -- Patterns of bytes.
-use Rattle.std.proofs.lemmas.Bool.{or_right, eq-eqb}
-use Rattle.odata_text.proofs.Common.{◌≡◌, ◌⊎◌, inl, inr, ⊎_elim, ℕ, zero, suc, ◌<◌, ◌≤◌, ◌==◌, ◌||◌, true, false, List, [], ◌∷◌, ◌++◌, length, get_or, take, arith, refl, sym, ◌∙◌, ap, subst, both_ways, or_left, or_cases, eqb-true, get_or-take, length-take-le, IsReach, PassesTests, passes, FollowedBy, ByteTest}
-use Rattle.odata_text.proofs.spellings.Sequences.{reach-sized, reach-unsized}
+use Rattle.odata_text.proofs.Common.{drop, or_right, eq-eqb, ◌≡◌, ◌⊎◌, inl, inr, ⊎_elim, ℕ, zero, suc, ◌<◌, ◌≤◌, ◌==◌, ◌||◌, true, false, List, [], ◌∷◌, ◌++◌, length, get_or, take, arith, refl, sym, ◌∙◌, ap, subst, both_ways, or_left, or_cases, eqb-true, get_or-take, IsReach, PassesTests, passes, FollowedBy, ByteTest, both_length}
+use Rattle.odata_text.proofs.spellings.Sequences.{pair-reach, pieces-sized, reach-as, reach-sized, reach-unsized}
 
 -- one of two bytes, and the test of it
 pub either-byte : (b c d : ℕ) → ((b == c) || (b == d)) ≡ true → (b ≡ c) ⊎ (b ≡ d)
@@ -54,3 +53,10 @@ pair-marked test B P each bytes pair = subst P (sym pair.whole) (parts pair.fron
     parts [] fits = absurd fits
     parts (b ∷ []) fits = each b pair.back fits.0 pair.is_back
     parts (b ∷ c ∷ more) fits = absurd fits.1
+
+-- as the code measures them
+pub marked-reach : (test : ByteTest) (B P : List ℕ → Type 0) → (B [] → ⊥) → ((b : ℕ) (behind : List ℕ) → passes test b ≡ true → B behind → P (b ∷ behind)) → ((xs : List ℕ) → P xs → FollowedBy (PassesTests (test ∷ [])) B xs)
+    → (rest left : List ℕ) (a b n : ℕ) → left ≡ drop a rest → IsReach (PassesTests (test ∷ [])) a rest → IsReach B b left → n ≡ both_length a b → IsReach P n rest
+marked-reach test B P none to from rest left a b n behind mark piece is =
+    reach-as (FollowedBy (PassesTests (test ∷ [])) B) P n rest (pair-marked test B P to) from
+    (pair-reach (PassesTests (test ∷ [])) B (pieces-sized (PassesTests (test ∷ [])) B 0 (fits-length (test ∷ [])) none) rest left a b n behind mark piece is)

@@ -2,12 +2,10 @@
 use Rattle.std.proofs.Common.{neg_ℤ}
 use Rattle.std.specs.Int.{IsInRange}
 use Rattle.std.specs.Str.Parse.{digits_value}
-use Rattle.std.proofs.lemmas.List.Elements.{All-from_get_or}
-use Rattle.std.proofs.lemmas.List.Sums.{list_all-from_AllPass, prefix_len_stops}
-use Rattle.std.proofs.lemmas.Str.Parse.{numerals_by_value, tells_by_index}
-use Rattle.odata_text.proofs.Common.{◌≡◌, ◌⊎◌, inl, inr, ⊎_elim, ℕ, ◌<◌, ◌≤◌, ◌==◌, true, pos, List, [], ◌∷◌, length, get_or, take, arith, refl, sym, ◌∙◌, ap, subst, is_ascii_digit, list_all, prefix_len, IsNumeral, both_ways, cases_lt, nat_tests, get_or-take, length-take-le, prefix_len-le-length, prefix_len_passes, digit_at, IsIntSpelling, FollowedBy, IsReach, PassesTests, passes, Sign}
-use Rattle.odata_text.proofs.spellings.Patterns.{either-byte, fits-length, marked-pair, pair-marked}
-use Rattle.odata_text.proofs.spellings.Sequences.{ArePieces, pieces-sized}
+use Rattle.std.proofs.lemmas.List.Sums.{prefix_len_stops}
+use Rattle.std.proofs.lemmas.Str.Parse.{numerals_by_value, tells_by_index, digit_at}
+use Rattle.odata_text.proofs.Common.{All-from_get_or, list_all-from_AllPass, ◌≡◌, ◌⊎◌, inl, inr, ⊎_elim, ℕ, ◌<◌, true, pos, List, [], ◌∷◌, length, get_or, take, arith, refl, sym, ◌∙◌, ap, subst, is_ascii_digit, list_all, prefix_len, IsNumeral, both_ways, cases_lt, nat_tests, get_or-take, length-take-le, prefix_len-le-length, prefix_len_passes, IsIntSpelling, FollowedBy, IsReach, PassesTests, passes, Sign}
+use Rattle.odata_text.proofs.spellings.Patterns.{either-byte, marked-pair, pair-marked}
 
 -- Digits.
 
@@ -52,9 +50,6 @@ SignedPair xs = FollowedBy (PassesTests (Sign ∷ [])) (IsNumeral 10) xs
 
 abbrev pub IntParts : List ℕ → Type 0
 IntParts xs = IsNumeral 10 xs ⊎ SignedPair xs
-
-pub sign_digits : ArePieces (PassesTests (Sign ∷ [])) (IsNumeral 10)
-sign_digits = pieces-sized (PassesTests (Sign ∷ [])) (IsNumeral 10) 0 (fits-length (Sign ∷ [])) numeral-none
 
 -- what holds of digits, and of a sign before them, holds of every whole number
 pub int-by_form : (P : List ℕ → Type 0) → ((ds : List ℕ) → IsNumeral 10 ds → P ds) → ((ds : List ℕ) → IsNumeral 10 ds → P (43 ∷ ds)) → ((ds : List ℕ) → IsNumeral 10 ds → P (45 ∷ ds))

@@ -1,9 +1,7 @@
 -- The length of a piece that is made of two, from the lengths of these.
 use Rattle.std.proofs.Common.{max}
-use Rattle.odata_text.proofs.Common.{◌≡◌, ◌⊎◌, inl, inr, ⊎_elim, ℕ, zero, suc, ◌+◌, ◌-◌, ◌<◌, ◌≤◌, Bool, true, false, not, List, [], ◌∷◌, ◌++◌, length, get_or, take, drop, arith, refl, sym, ◌∙◌, ap, subst, length-append, length-drop, add-zero, take-append-drop, list_all, cases_eq, cases_lt, both_ways, false≢true, nat_tests, take_at, drop_at, take-take, get_or-take, get_or-drop, take_rest, length-take-le, IsReach, FollowedBy}
 use Rattle.std.proofs.lemmas.List.{drop-take}
-use Rattle.std.proofs.lemmas.List.Sums.{AllPass-from_list_all}
-use Rattle.odata_text.specs.private.Lengths.{both_length}
+use Rattle.odata_text.proofs.Common.{◌≡◌, ◌⊎◌, inl, inr, ⊎_elim, ℕ, zero, suc, ◌+◌, ◌-◌, ◌<◌, ◌≤◌, Bool, true, false, not, List, [], ◌∷◌, ◌++◌, length, get_or, take, drop, arith, refl, sym, ◌∙◌, ap, subst, length-append, length-drop, add-zero, take-append-drop, list_all, cases_eq, cases_lt, false≢true, nat_tests, take_at, drop_at, take-take, get_or-take, get_or-drop, take_rest, length-take-le, IsReach, FollowedBy, AllPass-from_list_all, both_length}
 
 -- Lengths by one spelling.
 

@@ -1,11 +1,10 @@
 -- Dates and times as patterns of bytes.
 use Rattle.std.proofs.Common.{◌/◌, ◌%◌}
 use Rattle.std.proofs.lemmas.Slice.Eq.{text_from_reads}
-use Rattle.odata_text.proofs.Common.{◌≡◌, ◌⊎◌, inl, inr, ⊎_elim, ℕ, ◌+◌, ◌-◌, ◌*◌, ◌<◌, ◌==◌, ◌||◌, ◌&&◌, Bool, not, true, List, [], ◌∷◌, ◌++◌, length, get_or, take, drop, arith, refl, sym, ◌∙◌, ap, subst, append_assoc, is_ascii_digit, list_all, IsNumeral, nat_tests, and_from, or_left, eqb-true, IsDateSpelling, IsMomentSpelling, IsOffsetSpelling, IsSecondsSpelling, IsFraction, IsReach, PassesTests, IsMarkedClock, IsTimed, IsZoned, passes, FollowedBy, ByteTest, Digit, Hyphen, Sign, TimeMark, OffsetMark, false≢true}
+use Rattle.odata_text.proofs.Common.{◌≡◌, ◌⊎◌, inl, inr, ⊎_elim, ℕ, ◌+◌, ◌-◌, ◌*◌, ◌<◌, ◌==◌, ◌||◌, ◌&&◌, Bool, not, true, List, [], ◌∷◌, ◌++◌, length, get_or, drop, arith, refl, sym, ◌∙◌, ap, subst, append_assoc, is_ascii_digit, list_all, nat_tests, and_from, or_left, eqb-true, IsDateSpelling, IsMomentSpelling, IsOffsetSpelling, IsSecondsSpelling, IsFraction, IsReach, PassesTests, IsMarkedClock, IsTimed, IsZoned, FollowedBy, ByteTest, Digit, Hyphen, Sign, TimeMark, OffsetMark, false≢true, Colon}
 use Rattle.edm_values.specs.DateLiteral.{date_text, two_digits}
 use Rattle.edm_values.specs.MomentLiteral.{IsClockSpelling, clock_text}
 use Rattle.odata_text.specs.LeftOut.{IsTimeOfDaySpelling}
-use Rattle.odata_text.specs.declared.byte_test.ByteTest.TheVariants.{Colon}
 use Rattle.odata_text.proofs.characters.Identifiers.{list_all-weaker}
 use Rattle.odata_text.proofs.spellings.Patterns.{either-byte, either-passes, fits-at, fits-length}
 use Rattle.odata_text.proofs.spellings.Reaches.{digit_range, numeral-digits}

@@ -1,8 +1,5 @@
 -- Words, read identifier by identifier.
-use Rattle.std.specs.List.{AllByRecursion as AllOf}
-use Rattle.std.proofs.lemmas.List.{drop-drop}
-use Rattle.std.proofs.lemmas.Str.{IsCharBoundary-from_rest}
-use Rattle.odata_text.proofs.Common.{◌≡◌, ◌⊎◌, inl, inr, ⊎_elim, ℕ, zero, suc, ◌+◌, ◌<◌, ◌≤◌, List, [], ◌∷◌, ◌++◌, length, get_or, take, drop, IsCharBoundary, arith, refl, sym, ◌∙◌, ap, subst, append_assoc, add-zero, length-drop, get_or-drop, length-take-le, IsIdentifier, IsReach, FollowedBy, IsByte, IsDottedWord, IsWordSpelling, dotted_parts, true}
+use Rattle.odata_text.proofs.Common.{AllOf, drop-drop, IsCharBoundary-from_rest, ◌≡◌, ◌⊎◌, inl, inr, ⊎_elim, ℕ, zero, suc, ◌+◌, ◌<◌, ◌≤◌, List, [], ◌∷◌, ◌++◌, length, get_or, take, drop, IsCharBoundary, arith, refl, sym, ◌∙◌, ap, subst, append_assoc, add-zero, length-drop, get_or-drop, length-take-le, IsIdentifier, IsReach, FollowedBy, IsByte, IsDottedWord, IsWordSpelling, dotted_parts, true}
 use Rattle.odata_text.proofs.characters.Identifiers.{identifier-nonempty}
 use Rattle.odata_text.proofs.characters.IdentifierBytes.{identifier-part, is_part_byte}
 use Rattle.odata_text.proofs.spellings.Sequences.{exact-by_byte, pair-found, pair_at, reach-nothing, stops}

@@ -1,5 +1,4 @@
-use borrow.Author.Count.{below_more}
-use Rattle.odata_text.proofs.Common.{◌≡◌, ℕ, ◌<◌, arith, true, get_or, sym, ◌∙◌, passes, Digit}
+use Rattle.odata_text.proofs.Common.{below_more, ◌≡◌, ℕ, ◌<◌, arith, true, get_or, sym, ◌∙◌, passes, Digit}
 use Rattle.odata_text.proofs.spellings.Patterns.{pattern-short, pattern-fails, pattern-stands}
 use Rattle.odata_text.proofs.byte_test.pattern_length.Goals as goal
 

@@ -1,4 +1,4 @@
-use Rattle.odata_text.proofs.Common.{arith, sym, ◌∙◌}
+use Rattle.odata_text.proofs.Common.{sym, ◌∙◌}
 use Rattle.odata_text.proofs.characters.Identifiers.{run-end, run-more, run-start}
 use Rattle.odata_text.proofs.identifier.identifier_run.Goals as goal
 

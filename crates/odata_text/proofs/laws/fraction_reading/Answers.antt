@@ -3,8 +3,5 @@ use Rattle.odata_text.proofs.readings.Examples.{fraction_fault}
 use Rattle.odata_text.proofs.readings.OneReading.{no_list}
 use Rattle.odata_text.proofs.laws.fraction_reading.Goals as goal
 
-pub returns-clause-fault : goal.returns-clause-fault
-returns-clause-fault c = inr fraction_fault
-
-pub returns-clause-none : goal.returns-clause-none
-returns-clause-none c = no_list fraction_filter (LeftOutLiteral (record { start = 0; stop = 3 })) (inr fraction_fault)
+pub returns : goal.returns
+returns c = record { fault = inr fraction_fault; none = no_list fraction_filter (LeftOutLiteral (record { start = 0; stop = 3 })) (inr fraction_fault) }

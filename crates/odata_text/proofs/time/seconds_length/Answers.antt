@@ -1,5 +1,4 @@
-use Rattle.odata_text.proofs.Common.{◌<◌, [], ◌∷◌, arith, take_rest, IsFraction, PassesTests, Digit}
-use Rattle.odata_text.specs.declared.byte_test.ByteTest.TheVariants.{Colon}
+use Rattle.odata_text.proofs.Common.{◌<◌, arith, take_rest, IsFraction, PassesTests}
 use Rattle.odata_text.proofs.spellings.Sequences.{Perhaps, followed-no_first}
 use Rattle.odata_text.proofs.spellings.Times.{seconds-by_parts, seconds-reach, seconds_pattern}
 use Rattle.odata_text.proofs.time.seconds_length.Goals as goal

@@ -1,5 +1,4 @@
-use Rattle.std.proofs.lemmas.Bool.{both_ways}
-use Rattle.odata_text.proofs.Common.{arith, length, sym, ◌∙◌, IsNamed}
+use Rattle.odata_text.proofs.Common.{both_ways, arith, length, sym, ◌∙◌, IsNamed}
 use Rattle.odata_text.proofs.spellings.Parts.{named-length}
 use Rattle.odata_text.proofs.spellings.Sequences.{reach-sized, reach-unsized}
 use Rattle.odata_text.proofs.word.name_length.Goals as goal

@@ -1,4 +1,4 @@
-use Rattle.odata_text.proofs.Common.{◌≡◌, ℕ, List, get_or, IsUtf8, IsCharBoundary, arith, sym, ◌∙◌, ap, subst, IsCharBoundary-after_ascii, IsIdentifier, IsReach}
+use Rattle.odata_text.proofs.Common.{◌≡◌, ℕ, List, get_or, IsCharBoundary, arith, sym, ◌∙◌, ap, subst, IsCharBoundary-after_ascii, IsIdentifier, IsReach}
 use Rattle.odata_text.proofs.spellings.Words.{reach-no_word, word-dot, word-more, word-start}
 use Rattle.odata_text.proofs.word.word_length.Goals as goal
 
