@@ -1,14 +1,14 @@
 -- The names that several proofs of this crate cite, passed on from one place. Declares nothing.
-pub use Rattle.std.proofs.Common.{inr, ◌≡◌, ◌⊎◌, inl, ⊎_elim, ℕ, ◌+◌, ◌-◌, ◌*◌, ◌<◌, ◌==◌, ◌||◌, ◌&&◌, Bool, not, true, List, [], ◌∷◌, ◌++◌, length, get_or, drop, arith, refl, sym, ◌∙◌, ap, subst, append_assoc, nat_le, codes, IsUtf8, IsCharBoundary, ◌≤◌, take, take-append-drop, pos, zero, suc, false, length-append, length-drop, add-zero, append-nil, chars, min, Some, cond, Option, None, map, rules, ◌≢◌, All, nat_lt}
+pub use Rattle.std.proofs.Common.{inr, ◌≡◌, ◌⊎◌, inl, ⊎_elim, ℕ, ◌+◌, ◌-◌, ◌*◌, ◌<◌, ◌==◌, ◌||◌, ◌&&◌, Bool, not, true, List, [], ◌∷◌, ◌++◌, length, get_or, drop, arith, refl, sym, ◌∙◌, ap, subst, append_assoc, nat_le, codes, IsUtf8, IsCharBoundary, ◌≤◌, take, pos, zero, suc, false, length-append, length-drop, add-zero, take-append-drop, append-nil, chars, min, Some, cond, Option, None, map, rules, ◌≢◌, All, nat_lt}
 unfoldable pub use Rattle.percent_encoding.specs.Percent.{percent_decode}
 pub use Rattle.std.proofs.Math.Seq.{take-length}
 pub use Rattle.std.proofs.Math.Utf8.{encode}
 pub use Rattle.std.proofs.lemmas.Bool.{and_from, or_left, eqb-true, false≢true, cond-false, cases_lt, both_ways, or_right, eq-eqb, or_cases, cases_eq, and_parts, cond-true, ne_eqb, false_from_ne_true, not-false, agree_below, agree_below_at, cases_Bool, ltb-true, cases_order, and_left}
 pub use Rattle.std.proofs.lemmas.Bool.Decides.{nat_tests}
-pub use Rattle.std.proofs.lemmas.List.{length-map, get_or-take, length-take-le, take-take, drop_at, take_at, drop-drop, get_or-drop, take_rest, map_push, length_push, get_or_default}
+pub use Rattle.std.proofs.lemmas.List.{length-map, get_or-take, length-take-le, drop_at, take_at, drop-drop, get_or-drop, take-take, take_rest, map_push, length_push, get_or_default}
 pub use Rattle.std.proofs.lemmas.List.Elements.{All-from_get_or, All-cons, All-nil}
 pub use Rattle.std.proofs.lemmas.List.Folds.{list_all-map, fold_stays}
-pub use Rattle.std.proofs.lemmas.List.Sums.{fold-append, fold_more, list_all-from_AllPass, prefix_len-le-length, prefix_len_passes, AllPass-from_list_all, take_while-cons, sum_by_more_le}
+pub use Rattle.std.proofs.lemmas.List.Sums.{fold_more, list_all-from_AllPass, prefix_len-le-length, prefix_len_passes, fold-append, AllPass-from_list_all, take_while-cons, sum_by_more_le}
 pub use Rattle.std.proofs.lemmas.Str.{IsCharBoundary-after_ascii, IsCharBoundary-from_rest, chars_from_encodes, chars-nil, chars-append, chars_past_char, IsCharBoundary-start, encodes-chars, IsUtf8-from_ascii, chars-IsAscii}
 pub use Rattle.std.proofs.lemmas.Str.Ascii.{IsAscii-cons, IsAscii-nil}
 pub use Rattle.std.specs.Char.{is_ascii_digit, is_ascii_alphabetic, to_ascii_lowercase, digit_value, is_ascii_hexdigit, len_utf8, is_ascii}

@@ -1,7 +1,8 @@
 -- What follows from where the machine ends: bytes have one form, and which piece is the longest.
 use Rattle.std.proofs.lemmas.Bool.{and_cases}
 use Rattle.std.proofs.lemmas.List.{drop_more}
-use Rattle.odata_text.proofs.Common.{agree_below, agree_below_at, not-false, fold_stays, ◌≡◌, ◌⊎◌, inl, inr, ⊎_elim, ℕ, ◌+◌, ◌<◌, ◌≤◌, not, true, List, [], ◌∷◌, ◌++◌, length, get_or, take, drop, Some, None, arith, refl, sym, ◌∙◌, ap, subst, take-append-drop, fold, Bool, false, ◌&&◌, both_ways, and_parts, cases_lt, nat_tests, take-take, fold-append, fold_more, class_of, MayFollow, is_separator, may_follow, IsFormed, Spells, IsLongest, Space, Form, Token, Closed, Over, TokenKind, Word, Dollar, Int, Date, Moment, Guid, Str, EnumLit, Minus}
+use Rattle.odata_text.proofs.Common.{agree_below, agree_below_at, not-false, fold_stays, ◌≡◌, ◌⊎◌, inl, inr, ⊎_elim, ℕ, ◌+◌, ◌<◌, ◌≤◌, not, true, List, [], ◌∷◌, length, get_or, take, drop, Some, None, arith, refl, sym, ◌∙◌, ap, subst, fold, Bool, false, ◌&&◌, both_ways, and_parts, cases_lt, nat_tests, fold_more, class_of, MayFollow, is_separator, may_follow, IsFormed, Spells, IsLongest, Space, Form, Token, Closed, Over, TokenKind, Word, Dollar, Int, Date, Moment, Guid, Str, EnumLit, Minus}
+use Rattle.odata_text.proofs.spellings.Sequences.{fold-take}
 use Rattle.odata_text.proofs.machine.States.{State, Start, Stuck, Whole, Text, Sign, SignedDigits, Digits, TwoHyphens, Hexes, AheadColon, Name, Dotted, Dollared, Bare, Named, Qualified, APlain, ALetter, is_dead, enter, form_at, run, step}
 use Rattle.odata_text.proofs.machine.Runs.{reads}
 
@@ -48,12 +49,8 @@ longest-dead form rest n inside formed dead = record { within = inside; spelled 
         ⊎_elim
         (λ more.
         let here : n < length rest = omega arith in
-        let front : take (n + 1) (take m rest) ≡ take (n + 1) rest = take-take (n + 1) m rest (omega arith) in
-        let whole : take m rest ≡ take (n + 1) rest ++ drop (n + 1) (take m rest) =
-        sym (take-append-drop (n + 1) (take m rest)) ∙ ap (λ (xs : List ℕ). xs ++ drop (n + 1) (take m rest)) front in
         let ends : run (take m rest) ≡ fold step (step (run (take n rest)) (get_or rest n 0)) (drop (n + 1) (take m rest)) =
-        ap run whole ∙ fold-append step Start (take (n + 1) rest) (drop (n + 1) (take m rest))
-        ∙ ap (λ (s : State). fold step s (drop (n + 1) (take m rest))) (fold_more step Start rest n 0 here) in
+        fold-take step Start rest (n + 1) m (omega arith) ∙ ap (λ (s : State). fold step s (drop (n + 1) (take m rest))) (fold_more step Start rest n 0 here) in
         absurd (not_dead other (step (run (take n rest)) (get_or rest n 0)) (take m rest) (drop (n + 1) (take m rest)) (dead here) ends spelled))
         (λ most. most)
         (cases_lt n m)

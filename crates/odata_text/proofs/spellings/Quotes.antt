@@ -1,7 +1,8 @@
 -- Texts between quotes, read byte by byte.
 use Rattle.std.proofs.lemmas.Bool.Decides.{eqb_tells}
-use Rattle.odata_text.proofs.Common.{cond-false, Quoted, ◌==◌, fold_stays, ◌≡◌, inl, inr, ⊎_elim, ℕ, ◌+◌, ◌<◌, ◌≤◌, List, [], ◌∷◌, ◌++◌, length, get_or, take, drop, arith, refl, sym, ◌∙◌, ap, fold, cases_lt, take-append-drop, take-take, fold-append, fold_more, IsReach, quoted_after, with_doubled_quotes, IsStringSpelling, Before, Closed, Over, Open}
+use Rattle.odata_text.proofs.Common.{cond-false, Quoted, ◌==◌, fold_stays, ◌≡◌, inl, inr, ⊎_elim, ℕ, ◌+◌, ◌<◌, ◌≤◌, List, [], ◌∷◌, ◌++◌, length, get_or, take, drop, arith, refl, sym, ◌∙◌, ap, fold, cases_lt, fold_more, IsReach, quoted_after, with_doubled_quotes, IsStringSpelling, Before, Closed, Over, Open}
 use Rattle.odata_text.specs.private.Lengths.{quoted_of}
+use Rattle.odata_text.proofs.spellings.Sequences.{fold-take}
 
 never_closes : (xs : List ℕ) → fold quoted_after Over xs ≡ Closed → ⊥
 never_closes xs closed = let stuck : Over ≡ Closed = sym (fold_stays quoted_after Over (λ b. refl) xs) ∙ closed in cc
@@ -95,12 +96,6 @@ quoted_so_far-end rest quoted n so_far = record {
   reaches = λ m inside spelled. so_far.reaches m inside (closed-from_spelling (take m rest) spelled);
 }
 
--- nothing closes a text that is over
-stays_over : (rest : List ℕ) (i m : ℕ) → i ≤ m → m ≤ length rest → quoted_of (take i rest) ≡ Over → quoted_of (take m rest) ≡ Over
-stays_over rest i m order inside over =
-    let parts : take i rest ++ drop i (take m rest) ≡ take m rest = ap (λ (front : List ℕ). front ++ drop i (take m rest)) (sym (take-take i m rest order)) ∙ take-append-drop i (take m rest) in
-    sym (ap quoted_of parts) ∙ fold-append quoted_after Before (take i rest) (drop i (take m rest)) ∙ ap (λ (q : Quoted). fold quoted_after q (drop i (take m rest))) over ∙ fold_stays quoted_after Over (λ b. refl) (drop i (take m rest))
-
 pub quoted_so_far-over : (rest : List ℕ) (i : ℕ) (quoted next : Quoted) (n : ℕ) → i < length rest → IsQuotedSoFar rest i quoted n
     → next ≡ quoted_after quoted (get_or rest i 0) → next ≡ Over → IsReach IsStringSpelling n rest
 quoted_so_far-over rest i quoted next n inside so_far is over =
@@ -111,6 +106,6 @@ quoted_so_far-over rest i quoted next n inside so_far is over =
       found = λ positive. spelling-from_closed (take n rest) (so_far.found positive);
       reaches = λ m within spelled. let closed = closed-from_spelling (take m rest) spelled in ⊎_elim
           (λ earlier. so_far.reaches m (omega arith) closed)
-          (λ later. let stuck : Over ≡ Closed = sym (stays_over rest (i + 1) m later within (sym state ∙ over)) ∙ closed in cc)
+          (λ later. absurd (never_closes (drop (i + 1) (take m rest)) (sym (fold-take quoted_after Before rest (i + 1) m later ∙ ap (λ (q : Quoted). fold quoted_after q (drop (i + 1) (take m rest))) (sym state ∙ over)) ∙ closed)))
           (cases_lt m (i + 1));
     }

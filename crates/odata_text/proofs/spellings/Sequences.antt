@@ -1,7 +1,12 @@
 -- The length of a piece that is made of two, from the lengths of these.
 use Rattle.std.proofs.Common.{max}
 use Rattle.std.proofs.lemmas.List.{drop-take}
-use Rattle.odata_text.proofs.Common.{◌≡◌, ◌⊎◌, inl, inr, ⊎_elim, ℕ, zero, suc, ◌+◌, ◌-◌, ◌<◌, ◌≤◌, Bool, true, false, not, List, [], ◌∷◌, ◌++◌, length, get_or, take, drop, arith, refl, sym, ◌∙◌, ap, subst, length-append, length-drop, add-zero, take-append-drop, list_all, cases_eq, cases_lt, false≢true, nat_tests, take_at, drop_at, take-take, get_or-take, get_or-drop, take_rest, length-take-le, IsReach, FollowedBy, AllPass-from_list_all, both_length}
+use Rattle.odata_text.proofs.Common.{fold, fold-append, ◌≡◌, ◌⊎◌, inl, inr, ⊎_elim, ℕ, zero, suc, ◌+◌, ◌-◌, ◌<◌, ◌≤◌, Bool, true, false, not, List, [], ◌∷◌, ◌++◌, length, get_or, take, drop, arith, refl, sym, ◌∙◌, ap, subst, length-append, length-drop, add-zero, take-append-drop, list_all, cases_eq, cases_lt, false≢true, nat_tests, take_at, drop_at, take-take, get_or-take, get_or-drop, take_rest, length-take-le, IsReach, FollowedBy, AllPass-from_list_all, both_length}
+
+-- a fold over a front is one over a shorter front, and on from there
+pub fold-take : {A B : Type 0} (f : B → A → B) (a : B) (xs : List A) (i m : ℕ) → i ≤ m → fold f a (take m xs) ≡ fold f (fold f a (take i xs)) (drop i (take m xs))
+fold-take {A} f a xs i m order =
+    sym (ap (fold f a) (take-append-drop i (take m xs))) ∙ fold-append f a (take i (take m xs)) (drop i (take m xs)) ∙ ap (λ (front : List A). fold f (fold f a front) (drop i (take m xs))) (take-take i m xs order)
 
 -- Lengths by one spelling.
 
