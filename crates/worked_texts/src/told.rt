@@ -1,5 +1,5 @@
 //! What is read of a text, in one line.
-use odata_text::{Span, TextFault, tokens};
+use odata_text::{Span, TextFault, Token, tokens};
 use std::alloc::{AllocError, Global};
 use std::test::Fail;
 
@@ -15,24 +15,34 @@ fn name_and_span(fault: TextFault) -> (&'static str, Span) {
     }
 }
 
-/// The tokens of a text, or its first fault, with their places in bytes: `Int 0..1, Word 2..4`, or `RunOn 0..2`.
-fn told(alloc: Global, text: &str) -> Result<String, AllocError> {
-    let found = match tokens(alloc, text) {
-        Ok(found) => found,
-        Err(fault) => {
-            let (name, Span { start, stop }) = name_and_span(fault);
-            return format!(in alloc; "{name} {start}..{stop}");
-        }
-    };
+/// Appends a token and its place.
+fn tell_token(alloc: Global, line: &mut String, token: &Token<'_>) -> Result<(), AllocError> {
+    let before = if line.is_empty() { "" } else { ", " };
+    let Span { start, stop } = token.span;
+    line.push_str(format!(in alloc; "{before}{:?} {start}..{stop}", token.kind)?.as_str())
+}
+
+/// Tokens with their places in bytes: `Int 0..1, Word 2..4`.
+fn told_tokens(alloc: Global, found: &[Token<'_>]) -> Result<String, AllocError> {
     let mut line = String::new(alloc);
-    for token in &found {
-        if !line.is_empty() {
-            line.push_str(", ")?;
-        }
-        let Span { start, stop } = token.span;
-        line.push_str(format!(in alloc; "{:?} {start}..{stop}", token.kind)?.as_str())?;
+    for token in found {
+        tell_token(alloc, &mut line, token)?;
     }
     Ok(line)
+}
+
+/// A fault with its place: `RunOn 0..2`.
+fn told_fault(alloc: Global, fault: TextFault) -> Result<String, AllocError> {
+    let (name, Span { start, stop }) = name_and_span(fault);
+    format!(in alloc; "{name} {start}..{stop}")
+}
+
+/// The tokens of a text, or its first fault.
+fn told(alloc: Global, text: &str) -> Result<String, AllocError> {
+    match &tokens(alloc, text) {
+        Ok(found) => told_tokens(alloc, found.as_slice()),
+        Err(fault) => told_fault(alloc, *fault),
+    }
 }
 
 /// Fails if a text is not told so.

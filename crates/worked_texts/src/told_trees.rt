@@ -42,15 +42,18 @@ fn label(alloc: Global, node: &Node) -> Result<String, AllocError> {
     }
 }
 
+/// Appends what a node is, and where it stands.
+fn tell_one(alloc: Global, line: &mut String, node: &Node) -> Result<(), AllocError> {
+    let before = if line.is_empty() { "" } else { ", " };
+    let Span { start, stop } = node.span();
+    let label = label(alloc, node)?;
+    line.push_str(format!(in alloc; "{before}{label} {start}..{stop}")?.as_str())
+}
+
 /// Appends a node and those beneath it, a parent before its children, these in their order.
 #[cycle(tell)]
 fn tell_node(alloc: Global, line: &mut String, node: &Node) -> Result<(), AllocError> {
-    if !line.is_empty() {
-        line.push_str(", ")?;
-    }
-    line.push_str(label(alloc, node)?.as_str())?;
-    let Span { start, stop } = node.span();
-    line.push_str(format!(in alloc; " {start}..{stop}")?.as_str())?;
+    tell_one(alloc, line, node)?;
     match node {
         Node::Lit { .. } => Ok(()),
         Node::It { .. } => Ok(()),

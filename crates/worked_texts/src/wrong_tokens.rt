@@ -69,14 +69,19 @@ fn is_place(alloc: Global, front: &str, end: char, wrong: &str) -> Result<(), Fa
     }
 }
 
+/// Appends the next token, and a blank.
+fn push_token(front: &mut String, token: Option<&str>) -> Result<(), AllocError> {
+    front.push_str(token.unwrap_or(""))?;
+    front.push(' ')
+}
+
 /// Fails at the first place of the text, between its tokens, that is another.
 fn has_places(alloc: Global, text: &str, ends: &str, wrongs: &str) -> Result<(), Fail> {
     let mut front = String::new(alloc);
     let mut tokens = text.split_whitespace();
     for (end, wrong) in ends.chars().zip(wrongs.split_whitespace()) {
         is_place(alloc, front.as_str(), end, wrong)?;
-        front.push_str(tokens.next().unwrap_or(""))?;
-        front.push(' ')?;
+        push_token(&mut front, tokens.next())?;
     }
     if tokens.next().is_none() && wrongs.split_whitespace().count() == ends.len() {
         Ok(())
