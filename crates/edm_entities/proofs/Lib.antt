@@ -1,3 +1,4 @@
 pub mod FitLemmas
+pub mod PlainLemmas
 pub mod RowLemmas
 pub mod SlotLemmas

@@ -9,9 +9,10 @@ ghost use Rattle.edm_entities.specs.private.Walk.{FitSlots};
 use super::entity::Entity;
 use super::row_cache::RowCache;
 use super::row_walk::take_members;
+use super::token_reader::TokenReader;
 use csdl_schema::{Schema, TypeId};
 use edm_values::Value;
-use json::{Reader, Scratch, Token};
+use json::{Scratch, Token};
 use std::alloc::Global;
 use std::marker::Model;
 
@@ -92,7 +93,7 @@ fn take_row(
     ensures fits { IfSome result (λ values. (json : Data) × (read text.now ≡ Some json) × IsSome (as_object json)
         × FitSlots (slots_of schema.now) json (properties_at schema.now type_id) values.items) }
 {
-    let Ok(mut reader) = Reader::new(text, scratch) else {
+    let Some(mut reader) = TokenReader::new(text, scratch) else {
         return None;
     };
     let Some(Token::BeginObject) = reader.next() else {
@@ -101,8 +102,5 @@ fn take_row(
     let Some(values) = take_members(cache, schema, type_id, &mut reader, DEPTH - 1) else {
         return None;
     };
-    match reader.next() {
-        Some(_) => None,
-        None => Some(values),
-    }
+    if reader.is_at_end() { Some(values) } else { None }
 }

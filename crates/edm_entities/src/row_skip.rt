@@ -3,11 +3,12 @@ ghost use Rattle.std.specs.Prelude.{IsTrue};
 ghost use Rattle.edm_entities.specs.private.RowTokens.{Reads, ReadsItems, ReadsMembers};
 
 use super::row_token::scalar_of_token;
-use json::{Reader, Token};
+use super::token_reader::TokenReader;
+use json::Token;
 
 /// Passes over a value.
 #[cycle(skip)]
-pub(crate) fn skip_value(reader: &mut Reader<'_>, depth: usize) -> bool
+pub(crate) fn skip_value(reader: &mut TokenReader<'_>, depth: usize) -> bool
     ensures { IsTrue result → Reads depth reader.old reader.new (λ json. Unit {0}) }
 {
     let Some(token) = reader.next() else {
@@ -23,7 +24,7 @@ pub(crate) fn skip_value(reader: &mut Reader<'_>, depth: usize) -> bool
 
 /// Passes over an array's items and its closing bracket.
 #[cycle(skip)]
-fn skip_items(reader: &mut Reader<'_>, depth: usize) -> bool
+fn skip_items(reader: &mut TokenReader<'_>, depth: usize) -> bool
     ensures { IsTrue result → ReadsItems depth reader.old reader.new (λ jsons. Unit {0}) }
 {
     'items: while !reader.take_end_array() {
@@ -36,7 +37,7 @@ fn skip_items(reader: &mut Reader<'_>, depth: usize) -> bool
 
 /// Passes over an object's members and its closing brace.
 #[cycle(skip)]
-fn skip_members(reader: &mut Reader<'_>, depth: usize) -> bool
+fn skip_members(reader: &mut TokenReader<'_>, depth: usize) -> bool
     ensures { IsTrue result → ReadsMembers depth reader.old reader.new (λ found. Unit {0}) }
 {
     'members: loop {

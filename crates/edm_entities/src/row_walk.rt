@@ -18,10 +18,11 @@ use super::row_cache::RowCache;
 use super::row_skip::skip_value;
 use super::row_slots::{if_filled, null_slots, slot_of_name};
 use super::row_token::take_leaf;
+use super::token_reader::TokenReader;
 use super::wanted::{Wanted, wanted_as};
 use csdl_schema::{Property, Schema, TypeId};
 use edm_values::Value;
-use json::{Reader, Token};
+use json::Token;
 
 /// The values of the properties of a type in slot order, from an object's members and its closing brace.
 #[cycle(row)]
@@ -29,7 +30,7 @@ pub(crate) fn take_members(
     cache: &mut RowCache,
     schema: &Schema,
     type_id: TypeId,
-    reader: &mut Reader<'_>,
+    reader: &mut TokenReader<'_>,
     depth: usize,
 ) -> Option<Vec<Value>>
     ensures distinct { IfSome result (λ _. HasDistinctNames (properties_at schema.now type_id)) }
@@ -71,7 +72,7 @@ fn take_member<'s>(
     schema: &'s Schema,
     type_id: TypeId,
     name: &str,
-    reader: &mut Reader<'_>,
+    reader: &mut TokenReader<'_>,
     depth: usize,
     values: &mut Vec<Value>,
 ) -> bool
@@ -101,7 +102,7 @@ fn take_property(
     cache: &mut RowCache,
     schema: &Schema,
     property: Property,
-    reader: &mut Reader<'_>,
+    reader: &mut TokenReader<'_>,
     depth: usize,
     place: &mut Value,
 ) -> bool
@@ -142,7 +143,7 @@ fn take_single(
     schema: &Schema,
     wanted: &Wanted,
     nullable: bool,
-    reader: &mut Reader<'_>,
+    reader: &mut TokenReader<'_>,
     depth: usize,
     place: &mut Value,
 ) -> bool
@@ -173,7 +174,7 @@ fn take_record(
     cache: &mut RowCache,
     schema: &Schema,
     wanted: &Wanted,
-    reader: &mut Reader<'_>,
+    reader: &mut TokenReader<'_>,
     depth: usize,
     place: &mut Value,
 ) -> bool
@@ -202,7 +203,7 @@ fn take_array(
     schema: &Schema,
     wanted: &Wanted,
     nullable: bool,
-    reader: &mut Reader<'_>,
+    reader: &mut TokenReader<'_>,
     depth: usize,
     place: &mut Value,
 ) -> bool
@@ -231,7 +232,7 @@ fn take_items(
     schema: &Schema,
     wanted: &Wanted,
     nullable: bool,
-    reader: &mut Reader<'_>,
+    reader: &mut TokenReader<'_>,
     depth: usize,
 ) -> Option<Vec<Value>>
     ensures { IfSome result (λ values. ReadsItems depth reader.old reader.new
