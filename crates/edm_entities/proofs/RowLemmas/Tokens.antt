@@ -2,8 +2,8 @@
 use Rattle.std.proofs.Common.{◌≡◌, ℕ, ◌-◌, ◌<◌, List, [], ◌∷◌, length, Option, Some, None, option_map, option_and_then, refl, ap, ◌∙◌}
 use Rattle.json.specs.Token.{Token}
 use Rattle.json.specs.Json as json
-use Rattle.json.specs.Json.{value, items, members, parse_map}
-use Rattle.json.proofs.Grammar.{left, skip_value-shorter, value-begin_array, value-begin_object}
+use Rattle.json.specs.Json.{after_end_array, value, items, members, parse_map}
+use Rattle.json.proofs.Grammar.{left, skip_value-shorter, value-begin_array, value-begin_object, value_is}
 use Rattle.serde_json.specs.Data.{Data, array, object, Items, Members, no_members}
 use Rattle.json.specs.Json.{if_last}
 use Rattle.json.specs.Lex.{tokens}
@@ -29,6 +29,25 @@ pub read_shorter : (depth : ℕ) (tokens rest : List Token) (P : Data → Type 0
 read_shorter depth tokens rest P reads =
     let j = grammar_read of_json (value depth tokens) reads.json rest reads.is_read in
     skip_value-shorter depth tokens rest (ap left j.1)
+
+-- no value begins with a closing bracket
+pub unclosed : (depth : ℕ) (tokens rest : List Token) (P : Data → Type 0) → Reads depth tokens rest P → after_end_array tokens ≡ None
+unclosed depth tokens rest P reads = go tokens reads.is_read
+  where
+    go : (ts : List Token) → converted of_json (value depth ts) ≡ Some (reads.json, rest) → after_end_array ts ≡ None
+    go [] e = refl
+    go (Token.begin_object ∷ ts) e = refl
+    go (Token.end_object ∷ ts) e = refl
+    go (Token.begin_array ∷ ts) e = refl
+    go (Token.end_array ∷ ts) e =
+        let none : converted of_json (value depth (Token.end_array ∷ ts)) ≡ None = ap (converted of_json) (value_is depth (Token.end_array ∷ ts)) in
+        absurd (cc)
+    go (Token.key s ∷ ts) e = refl
+    go (Token.string s ∷ ts) e = refl
+    go (Token.number s ∷ ts) e = refl
+    go (Token.boolean b ∷ ts) e = refl
+    go (Token.null ∷ ts) e = refl
+    go (Token.bad ∷ ts) e = refl
 
 pub reads_as : (depth : ℕ) (tokens rest : List Token) (P Q : Data → Type 0) → ((json : Data) → P json → Q json) → Reads depth tokens rest P → Reads depth tokens rest Q
 reads_as depth tokens rest P Q by reads = record { json = reads.json; is_read = reads.is_read; holds = by reads.json reads.holds }

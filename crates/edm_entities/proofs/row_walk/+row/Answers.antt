@@ -19,7 +19,7 @@ use Rattle.edm_entities.proofs.RowLemmas.Leads.{members_start, member_more, memb
 use Rattle.edm_entities.proofs.RowLemmas.Leaves.{null_taken, some_by}
 use Rattle.edm_entities.proofs.RowLemmas.Parts.{fit_push, list_held, record_held}
 use Rattle.edm_entities.proofs.RowLemmas.SlotsRead.{slots_start, slot_set, others_hold, slots_over, property_fits}
-use Rattle.edm_entities.proofs.RowLemmas.Tokens.{read_shorter, reads_as, object_reads, array_reads}
+use Rattle.edm_entities.proofs.RowLemmas.Tokens.{read_shorter, reads_as, unclosed, object_reads, array_reads}
 use Rattle.edm_entities.proofs.SlotLemmas.SlotsByName.{as_many}
 use Rattle.edm_entities.proofs.row_walk.+row.Goals as goal
 
@@ -29,7 +29,7 @@ take_array-returns-in-Some t c done =
     let type = wanted_single c.args.schema.now c.args.wanted.now in
     let values = c.in-Some.values in
     let first : c.args.reader.now ≡ Token.begin_array ∷ c.next.new.self =
-    c.in-Some-BeginArray.ensures.value ∙ ap (λ k. token_of k ∷ c.next.new.self) c.in-Some-BeginArray.field-0-is in
+    c.in-Some-BeginArray.ensures ∙ ap (λ k. token_of k ∷ c.next.new.self) c.in-Some-BeginArray.field-0-is in
     subst (λ ts. Reads c.args.depth ts c.take_items.new.reader (FitsNullable slots false c.args.nullable (collection type) (ListOf values))) (sym first)
     (array_reads c.args.depth c.next.new.self c.take_items.new.reader (λ jsons. FitList slots c.args.nullable type jsons values.items)
     (FitsNullable slots false c.args.nullable (collection type) (ListOf values)) (omega arith)
@@ -46,8 +46,8 @@ pub take_items-items-smaller : goal.take_items-items-smaller
 take_items-items-smaller t c =
     let l = c.items in
     let Q : (Data → Type 0) = FitsNullable (slots_of c.args.schema.now) c.args.nullable c.args.nullable (single (wanted_single c.args.schema.now c.args.wanted.now)) c.take_single.new.place in
-    let going : (after_end_array l.reader ≡ None) × (c.take_end_array.new.self ≡ l.reader) = grind arith in
-    let read : Reads c.args.depth l.reader c.take_single.new.reader Q = subst (λ ts. Reads c.args.depth ts c.take_single.new.reader Q) going.1 (c.take_single.ensures c.if-not-take_single.false) in
+    let kept : c.take_end_array.new.self ≡ l.reader = grind arith in
+    let read : Reads c.args.depth l.reader c.take_single.new.reader Q = subst (λ ts. Reads c.args.depth ts c.take_single.new.reader Q) kept (c.take_single.ensures c.if-not-take_single.false) in
     let less : length c.take_single.new.reader < length l.reader = read_shorter c.args.depth l.reader c.take_single.new.reader Q read in
     omega arith
 
@@ -59,11 +59,11 @@ take_items-items-preserved t c =
     let nullable = c.args.nullable in
     let v = c.take_single.new.place in
     let Q : (Data → Type 0) = FitsNullable slots nullable nullable (single type) v in
-    let going : (after_end_array l.reader ≡ None) × (c.take_end_array.new.self ≡ l.reader) = grind arith in
-    let read : Reads c.args.depth l.reader c.take_single.new.reader Q = subst (λ ts. Reads c.args.depth ts c.take_single.new.reader Q) going.1 (c.take_single.ensures c.if-not-take_single.false) in
+    let kept : c.take_end_array.new.self ≡ l.reader = grind arith in
+    let read : Reads c.args.depth l.reader c.take_single.new.reader Q = subst (λ ts. Reads c.args.depth ts c.take_single.new.reader Q) kept (c.take_single.ensures c.if-not-take_single.false) in
     let pushed : c.push.new.self.items ≡ l.values.items ++ v ∷ [] = grind (arith, common_steps) in
     item_more c.args.depth c.args.reader.now l.reader c.take_single.new.reader (λ jsons. FitList slots nullable type jsons l.values.items) Q
-    (λ jsons. FitList slots nullable type jsons c.push.new.self.items) going.0
+    (λ jsons. FitList slots nullable type jsons c.push.new.self.items) (unclosed c.args.depth l.reader c.take_single.new.reader Q read)
     (λ found json fits here. subst (λ vs. FitList slots nullable type (append_items found (item json no_items)) vs) (sym pushed)
     (fit_push slots nullable type found l.values.items json v fits here)) read l.invariant
 
@@ -124,7 +124,7 @@ take_members-members-smaller t c =
     let l = c.members in
     let schema = c.args.schema.now in
     let name = c.in-Some-key.name.now in
-    let named : read_key l.reader ≡ Some (Some name, c.next_key.new.self) = rw c.in-Some-key.is at c.in-Ok.ensures.value in
+    let named : read_key l.reader ≡ Some (Some name, c.next_key.new.self) = rw c.in-Some-key.is at c.in-Ok.ensures in
     let lesser : length c.next_key.new.self < length l.reader = read_key-shorter l.reader (Some name) c.next_key.new.self named in
     let less : length c.take_member.new.reader < length c.next_key.new.self =
     read_shorter c.args.depth c.next_key.new.self c.take_member.new.reader
@@ -137,7 +137,7 @@ take_members-members-preserved t c =
     let l = c.members in
     let schema = c.args.schema.now in
     let name = c.in-Some-key.name.now in
-    let named : read_key l.reader ≡ Some (Some name, c.next_key.new.self) = rw c.in-Some-key.is at c.in-Ok.ensures.value in (
+    let named : read_key l.reader ≡ Some (Some name, c.next_key.new.self) = rw c.in-Some-key.is at c.in-Ok.ensures in (
       member_more c.args.depth c.args.reader.now l.reader c.next_key.new.self c.take_member.new.reader name
           (λ found. SlotsSoFar schema c.args.type_id found l.values.items)
           (λ json. (found : Members) → HasDistinctNames (properties_at schema c.args.type_id) → SlotsSoFar schema c.args.type_id found l.values.items → SlotsSoFar schema c.args.type_id (put name json found) c.take_member.new.values.items)
@@ -157,7 +157,7 @@ take_members-returns-in_default-key-clause-fits t c =
     let l = c.members in
     let schema = c.args.schema.now in
     let ps = properties_at schema c.args.type_id in
-    let closed : read_key l.reader ≡ Some (None, c.next_key.new.self) = rw c.in_default-key.is at c.in-Ok.ensures.value in
+    let closed : read_key l.reader ≡ Some (None, c.next_key.new.self) = rw c.in_default-key.is at c.in-Ok.ensures in
     some_by c.if_filled.result (λ v. (v ≡ l.values) × HoldEach IsFilled ps v.items)
     (λ v. ReadsMembers c.args.depth c.args.reader.now c.next_key.new.self (λ found. FitSlots (slots_of schema) (object found) ps v.items))
     (λ v is. members_over c.args.depth c.args.reader.now l.reader c.next_key.new.self (λ found. SlotsSoFar schema c.args.type_id found l.values.items)
@@ -182,6 +182,6 @@ pub take_single-returns-in-Null : goal.take_single-returns-in-Null
 take_single-returns-in-Null t c done =
     let slots = slots_of c.args.schema.now in
     let type = wanted_single c.args.schema.now c.args.wanted.now in
-    let first : c.args.reader.now ≡ Token.null ∷ c.next.new.self = c.in-Some.ensures.value ∙ ap (λ k. token_of k ∷ c.next.new.self) c.in-Null.is in
+    let first : c.args.reader.now ≡ Token.null ∷ c.next.new.self = c.in-Some.ensures ∙ ap (λ k. token_of k ∷ c.next.new.self) c.in-Null.is in
     let is = c.put_null.ensures done in
     null_taken slots c.args.nullable type c.args.depth c.args.reader.now c.next.new.self c.put_null.new.place first is.0 is.1
