@@ -198,6 +198,7 @@ ends_at_close d i j x passed within is which = go which
           no_colon = sym (ap begins_colon there) ∙ none (drop (j + 1) d);
           ends = word_ends d i j y passed (is ∙ e) ends;
         }
+
     go : (x ≡ 125) ⊎ (x ≡ 93) → EndsValue d i j AfterValue
     go (inl e) = by 125 e brace_no_colon refl
     go (inr e) = by 93 e bracket_no_colon refl

@@ -78,7 +78,8 @@ fn plain_end(bytes: &[u8], from: usize) -> usize
 {
     let mut place = from;
     while place < bytes.len()
-        && (bytes[place] != b'"') & (bytes[place] != b'\\') & (bytes[place] >= 0x20) {
+        && (bytes[place] != b'"') & (bytes[place] != b'\\') & (bytes[place] >= 0x20)
+    {
         place += 1;
     }
     place
@@ -155,7 +156,8 @@ fn number_end(bytes: &[u8], from: usize) -> usize
     let mut place = from;
     while place < bytes.len()
         && (bytes[place].is_ascii_digit()
-            || matches!(bytes[place], b'.' | b'-' | b'+' | b'e' | b'E')) {
+            || matches!(bytes[place], b'.' | b'-' | b'+' | b'e' | b'E'))
+    {
         place += 1;
     }
     place

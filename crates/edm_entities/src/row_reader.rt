@@ -102,5 +102,9 @@ fn take_row(
     let Some(values) = take_members(cache, schema, type_id, &mut reader, DEPTH - 1) else {
         return None;
     };
-    if reader.is_at_end() { Some(values) } else { None }
+    if reader.is_at_end() {
+        Some(values)
+    } else {
+        None
+    }
 }
