@@ -1,4 +1,3 @@
 pub mod FitLemmas
-pub mod PlainLemmas
 pub mod RowLemmas
 pub mod SlotLemmas

@@ -2,10 +2,7 @@
 pub mod Faults
 pub mod Lent
 pub mod Members
-pub mod PlainReading
-pub mod PlainText
 pub mod RowTokens
 pub mod Scalars
 pub mod SlotsSoFar
-pub mod TokenReading
 pub mod Walk

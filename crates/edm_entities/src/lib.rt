@@ -9,8 +9,6 @@ mod leaf;
 mod lent_piece;
 mod member_walk;
 mod number_text;
-mod plain_reader;
-mod plain_text;
 mod row_cache;
 mod row_reader;
 mod row_skip;
@@ -19,7 +17,6 @@ mod row_token;
 mod row_walk;
 mod scalar;
 mod slot_order;
-mod token_reader;
 mod walk;
 mod wanted;
 

@@ -9,10 +9,10 @@ ghost use Rattle.edm_entities.specs.private.Walk.{FitSlots};
 use super::entity::Entity;
 use super::row_cache::RowCache;
 use super::row_walk::take_members;
-use super::token_reader::TokenReader;
 use csdl_schema::{Schema, TypeId};
 use edm_values::Value;
 use json::{Scratch, Token};
+use json_tokens::TokenReader;
 use std::alloc::Global;
 use std::marker::Model;
 

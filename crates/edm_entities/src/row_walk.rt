@@ -18,11 +18,11 @@ use super::row_cache::RowCache;
 use super::row_skip::skip_value;
 use super::row_slots::{if_filled, null_slots, slot_of_name};
 use super::row_token::take_leaf;
-use super::token_reader::TokenReader;
 use super::wanted::{Wanted, wanted_as};
 use csdl_schema::{Property, Schema, TypeId};
 use edm_values::Value;
 use json::Token;
+use json_tokens::TokenReader;
 
 /// The values of the properties of a type in slot order, from an object's members and its closing brace.
 #[cycle(row)]

@@ -1,0 +1,20 @@
+use Rattle.std.proofs.Common.{◌≡◌, ◌+◌, ◌∷◌, length, drop, sym, ap, ◌∙◌, subst, arith}
+use Rattle.json.specs.Lex.{between, lex, punctuate}
+use Rattle.json.specs.Token.{null}
+use Rattle.json_tokens.specs.private.PlainText.{EndsValue, StandsAt}
+use Rattle.json_tokens.proofs.PlainLemmas.{begins_null}
+use Rattle.json_tokens.proofs.plain_text.null_value.Goals as goal
+
+pub returns-in-Some : goal.returns-in-Some
+returns-in-Some c =
+    let d = c.args.text.now in
+    let f = c.in-Some in
+    let same = c.as_bytes-bytes.ensures.value in
+    let stands = c.stands_at.ensures c.if-not-stands_at.false in
+    let read = subst (λ t. drop c.args.place t ≡ 110 ∷ 117 ∷ 108 ∷ 108 ∷ drop (c.args.place + 4) t) same stands.is in
+    let ended : EndsValue d (c.args.place + 4) f.next f.turn = subst (λ t. EndsValue t (c.args.place + 4) f.next f.turn) same f.ensures in
+    record {
+      within = ended.within;
+      begins = λ p may. ap (λ t. punctuate p (lex between t)) read ∙ begins_null p (drop (c.args.place + 4) d) may ended.ends
+          ∙ ap (λ ts. null ∷ ts) (sym ended.left);
+    }

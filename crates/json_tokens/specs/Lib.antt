@@ -1,0 +1,6 @@
+pub use Rattle.json.specs.Json
+pub use Rattle.json.specs.Lex
+pub use Rattle.json.specs.Reads
+pub use Rattle.json.specs.Token
+pub mod TokenReading
+pub mod private

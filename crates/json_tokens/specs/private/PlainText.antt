@@ -1,0 +1,54 @@
+-- For private clauses: lexemes of a text without escapes, from one place to the next.
+use Rattle.std.specs.Prelude.{◌≡◌, ◌⊎◌, ℕ, ◌+◌, ◌<◌, ◌≤◌, List, ◌∷◌, ◌++◌, length, drop, get_or, Bool, true, false}
+use Rattle.json.specs.Token.{Token, key, string}
+use Rattle.json.specs.Word.{is_space, ends_word}
+use Rattle.json.specs.Lex.{token, Place, fresh, after_value, after_comma, may_begin, may_close, begins_colon, between, lex, punctuate}
+use Rattle.json_tokens.specs.declared.plain_text.Turn.{Turn}
+use Rattle.json_tokens.specs.declared.plain_text.Turn.TheVariants.{Fresh, AfterValue, AfterComma}
+
+abbrev pub place_of : Turn → Place
+place_of Fresh = fresh
+place_of AfterValue = after_value
+place_of AfterComma = after_comma
+
+abbrev pub may_begin_at : Turn → Bool
+may_begin_at turn = may_begin (place_of turn)
+
+abbrev pub may_close_at : Turn → Bool
+may_close_at turn = may_close (place_of turn)
+
+-- the tokens of what is left of a text
+abbrev pub tokens_left : Turn → List ℕ → List Token
+tokens_left turn text = punctuate (place_of turn) (lex between text)
+
+-- from one place to the other there is white space
+pub record PassesSpaces (text : List ℕ) (from to : ℕ) : Type 0 where
+  pub bounds : (from ≤ to) × (to ≤ length text)
+  pub same : lex between (drop to text) ≡ lex between (drop from text)
+  pub some : (to ≡ from) ⊎ (is_space (get_or text from 32) ≡ true)
+
+-- a text stands from one place to the other, with its quotes
+pub record IsTextAt (text : List ℕ) (from : ℕ) (content : List ℕ) (to : ℕ) : Type 0 where
+  pub within : to ≤ length text
+  pub lexed : lex between (drop from text) ≡ token (string content) ∷ lex between (drop to text)
+
+-- a value ends at one place, and from the other on the text is read on
+pub record EndsValue (text : List ℕ) (from to : ℕ) (turn : Turn) : Type 0 where
+  pub within : to ≤ length text
+  pub left : tokens_left turn (drop to text) ≡ punctuate after_value (lex between (drop from text))
+  pub no_colon : begins_colon (lex between (drop from text)) ≡ false
+  pub ends : ends_word (drop from text) ≡ true
+
+-- where a value may begin, the token stands at one place, and from the other on the text is read on
+pub record BeginsToken (text : List ℕ) (from : ℕ) (first : Token) (to : ℕ) (turn : Turn) : Type 0 where
+  pub within : to ≤ length text
+  pub begins : (p : Place) → may_begin p ≡ true → punctuate p (lex between (drop from text)) ≡ first ∷ tokens_left turn (drop to text)
+
+-- the same of a key with its colon
+abbrev pub BeginsKey : List ℕ → ℕ → List ℕ → ℕ → Type 0
+BeginsKey text from name to = BeginsToken text from (key name) to Fresh
+
+-- these bytes stand at a place
+pub record StandsAt (text : List ℕ) (from : ℕ) (word : List ℕ) : Type 0 where
+  pub within : from + length word ≤ length text
+  pub is : drop from text ≡ word ++ drop (from + length word) text

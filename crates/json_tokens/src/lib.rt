@@ -1,0 +1,8 @@
+//! The tokens of a JSON text (RFC 8259), read straight from its bytes where it has no escapes, else by `json`'s reader.
+#![tactic(auto)]
+
+mod plain_reader;
+mod plain_text;
+mod token_reader;
+
+pub use token_reader::TokenReader;

@@ -1,0 +1,254 @@
+//! Lexemes of a text without escapes, straight from its bytes: each step goes from a place to the one behind it.
+ghost use Rattle.std.specs.Prelude.{◌≡◌, ◌+◌, ◌<◌, ◌≤◌, length, get_or, true, IfSome, IsTrue};
+ghost use Rattle.json.specs.Word.{is_space};
+ghost use Rattle.json.specs.Reads.{token_of};
+ghost use Rattle.json.specs.Written.{PlainBetween};
+ghost use Rattle.json_tokens.specs.private.PlainText.{BeginsKey, BeginsToken, EndsValue, IsTextAt, PassesSpaces, StandsAt, may_begin_at, may_close_at};
+
+use json::{Token, is_number};
+
+/// What may come next.
+#[derive(Clone, Copy, Drop)]
+pub(crate) enum Turn {
+    Fresh,
+    AfterValue,
+    AfterComma,
+}
+
+impl Turn {
+    #[inline(always)]
+    pub(crate) fn may_begin(self) -> bool
+        ensures { result ≡ may_begin_at self }
+    {
+        match self {
+            Turn::Fresh | Turn::AfterComma => true,
+            Turn::AfterValue => false,
+        }
+    }
+
+    #[inline(always)]
+    pub(crate) fn may_close(self) -> bool
+        ensures { result ≡ may_close_at self }
+    {
+        match self {
+            Turn::Fresh | Turn::AfterValue => true,
+            Turn::AfterComma => false,
+        }
+    }
+}
+
+/// The byte at a place, or a space past the end.
+#[inline(always)]
+pub(crate) fn byte_at(bytes: &[u8], place: usize) -> u8
+    ensures { result ≡ get_or bytes.now place 32 }
+{
+    if place < bytes.len() {
+        bytes[place]
+    } else {
+        b' '
+    }
+}
+
+#[inline(always)]
+fn is_space(byte: u8) -> bool
+    ensures { result ≡ is_space byte }
+{
+    (byte == b' ') | (byte == b'\t') | (byte == b'\n') | (byte == b'\r')
+}
+
+/// The first place from there on that has no white space.
+#[inline(always)]
+pub(crate) fn past_spaces(bytes: &[u8], from: usize) -> usize
+    requires { from ≤ length bytes.now }
+    ensures { PassesSpaces bytes.now from result }
+{
+    let mut place = from;
+    while place < bytes.len() && is_space(bytes[place]) {
+        place += 1;
+    }
+    place
+}
+
+/// The first place from there on that has a quote, a backslash or a control character.
+#[inline(always)]
+fn plain_end(bytes: &[u8], from: usize) -> usize
+    requires { from ≤ length bytes.now }
+    ensures bounds { (from ≤ result) × (result ≤ length bytes.now) }
+    ensures plain { PlainBetween bytes.now from result }
+{
+    let mut place = from;
+    while place < bytes.len()
+        && (bytes[place] != b'"') & (bytes[place] != b'\\') & (bytes[place] >= 0x20)
+    {
+        place += 1;
+    }
+    place
+}
+
+/// The text that begins with the quote at a place, and the place behind its closing quote.
+#[inline(always)]
+fn text_at(text: &str, place: usize) -> Option<(&str, usize)>
+    requires { get_or text.now place 32 ≡ 34 }
+    ensures { IfSome result (λ found. IsTextAt text.now place found.0.now found.1) }
+{
+    let bytes = text.as_bytes();
+    let end = plain_end(bytes, place + 1);
+    if byte_at(bytes, end) != b'"' {
+        return None;
+    }
+    Some((&text[place + 1..end], end + 1))
+}
+
+/// Passes the comma that may follow a value.
+#[inline(always)]
+pub(crate) fn value_end(bytes: &[u8], from: usize) -> Option<(usize, Turn)>
+    requires { from ≤ length bytes.now }
+    ensures { IfSome result (λ found. EndsValue bytes.now from found.0 found.1) }
+{
+    let place = past_spaces(bytes, from);
+    if place == bytes.len() {
+        return Some((place, Turn::AfterValue));
+    }
+    match bytes[place] {
+        b',' => Some((place + 1, Turn::AfterComma)),
+        b'}' | b']' => Some((place, Turn::AfterValue)),
+        _ => None,
+    }
+}
+
+/// The key that begins with the quote at a place, and the place behind its colon.
+#[inline(always)]
+pub(crate) fn key_at(text: &str, place: usize) -> Option<(&str, usize)>
+    requires { get_or text.now place 32 ≡ 34 }
+    ensures { IfSome result (λ found. BeginsKey text.now place found.0.now found.1) }
+{
+    let Some((key, end)) = text_at(text, place) else {
+        return None;
+    };
+    let bytes = text.as_bytes();
+    let colon = past_spaces(bytes, end);
+    if byte_at(bytes, colon) != b':' {
+        return None;
+    }
+    Some((key, colon + 1))
+}
+
+#[inline(always)]
+fn text_value(text: &str, place: usize) -> Option<(Token<'_>, usize, Turn)>
+    requires { get_or text.now place 32 ≡ 34 }
+    ensures { IfSome result (λ found. BeginsToken text.now place (token_of found.0) found.1 found.2) }
+{
+    let Some((value, end)) = text_at(text, place) else {
+        return None;
+    };
+    match value_end(text.as_bytes(), end) {
+        Some((next, turn)) => Some((Token::String(value), next, turn)),
+        None => None,
+    }
+}
+
+/// The first place from there on that has no byte of a number.
+#[inline(always)]
+fn number_end(bytes: &[u8], from: usize) -> usize
+    requires { from ≤ length bytes.now }
+    ensures { (from ≤ result) × (result ≤ length bytes.now) }
+{
+    let mut place = from;
+    while place < bytes.len()
+        && (bytes[place].is_ascii_digit()
+            || matches!(bytes[place], b'.' | b'-' | b'+' | b'e' | b'E'))
+    {
+        place += 1;
+    }
+    place
+}
+
+#[inline(always)]
+fn number_value(text: &str, place: usize) -> Option<(Token<'_>, usize, Turn)>
+    requires within { place < length text.now }
+    requires ascii { get_or text.now place 32 < 128 }
+    ensures { IfSome result (λ found. BeginsToken text.now place (token_of found.0) found.1 found.2) }
+{
+    let bytes = text.as_bytes();
+    let end = number_end(bytes, place);
+    let Some((next, turn)) = value_end(bytes, end) else {
+        return None;
+    };
+    let number = &text[place..end];
+    if is_number(number) {
+        Some((Token::Number(number), next, turn))
+    } else {
+        None
+    }
+}
+
+/// Whether these bytes stand at a place.
+#[inline(always)]
+fn stands_at(bytes: &[u8], place: usize, word: &[u8]) -> bool
+    ensures { IsTrue result → StandsAt bytes.now place word.now }
+{
+    if place > bytes.len() || word.len() > bytes.len() - place {
+        return false;
+    }
+    &bytes[place..place + word.len()] == word
+}
+
+#[inline(always)]
+fn true_value<'a>(text: &'a str, place: usize) -> Option<(Token<'a>, usize, Turn)>
+    ensures { IfSome result (λ found. BeginsToken text.now place (token_of found.0) found.1 found.2) }
+{
+    let bytes = text.as_bytes();
+    if !stands_at(bytes, place, b"true") {
+        return None;
+    }
+    match value_end(bytes, place + 4) {
+        Some((next, turn)) => Some((Token::Bool(true), next, turn)),
+        None => None,
+    }
+}
+
+#[inline(always)]
+fn false_value<'a>(text: &'a str, place: usize) -> Option<(Token<'a>, usize, Turn)>
+    ensures { IfSome result (λ found. BeginsToken text.now place (token_of found.0) found.1 found.2) }
+{
+    let bytes = text.as_bytes();
+    if !stands_at(bytes, place, b"false") {
+        return None;
+    }
+    match value_end(bytes, place + 5) {
+        Some((next, turn)) => Some((Token::Bool(false), next, turn)),
+        None => None,
+    }
+}
+
+#[inline(always)]
+fn null_value<'a>(text: &'a str, place: usize) -> Option<(Token<'a>, usize, Turn)>
+    ensures { IfSome result (λ found. BeginsToken text.now place (token_of found.0) found.1 found.2) }
+{
+    let bytes = text.as_bytes();
+    if !stands_at(bytes, place, b"null") {
+        return None;
+    }
+    match value_end(bytes, place + 4) {
+        Some((next, turn)) => Some((Token::Null, next, turn)),
+        None => None,
+    }
+}
+
+/// The token at a place where a value may begin, the place to go on from, and what may come there.
+#[inline(always)]
+pub(crate) fn token_at(text: &str, place: usize) -> Option<(Token<'_>, usize, Turn)>
+    requires { place ≤ length text.now }
+    ensures { IfSome result (λ found. BeginsToken text.now place (token_of found.0) found.1 found.2) }
+{
+    match byte_at(text.as_bytes(), place) {
+        b'"' => text_value(text, place),
+        b'{' => Some((Token::BeginObject, place + 1, Turn::Fresh)),
+        b'[' => Some((Token::BeginArray, place + 1, Turn::Fresh)),
+        b't' => true_value(text, place),
+        b'f' => false_value(text, place),
+        b'n' => null_value(text, place),
+        b'-' | b'0'..=b'9' => number_value(text, place),
+        _ => None,
+    }
+}
