@@ -3,7 +3,8 @@ ghost use Rattle.std.specs.Prelude.{◌≡◌, ◌+◌, ◌<◌, ◌≤◌, leng
 ghost use Rattle.json.specs.Word.{is_space};
 ghost use Rattle.json.specs.Reads.{token_of};
 ghost use Rattle.json.specs.Written.{PlainBetween};
-ghost use Rattle.json_tokens.specs.private.PlainText.{BeginsKey, BeginsToken, EndsValue, IsTextAt, PassesSpaces, StandsAt, may_begin_at, may_close_at};
+ghost use Rattle.json_tokens.specs.private.PlainText.{BeginsKey, BeginsToken, EndsValue, IsTextAt, PassesSpaces};
+ghost use Rattle.json_tokens.specs.private.PlainText.{StandsAt, may_begin_at, may_close_at};
 
 use json::{Token, is_number};
 

@@ -16,7 +16,8 @@ pub(crate) enum Source<'a> {
     Escaped(Reader<'a>),
 }
 
-/// A clause sees the tokens that are still to come.
+/// Reads the tokens of a JSON text one by one (RFC 8259). A clause sees those that are still to come. Where a call
+/// answers none the text may still be JSON, and may also be none.
 #[derive(Drop)]
 pub struct TokenReader<'a> {
     source: Source<'a>,
@@ -35,7 +36,7 @@ impl<'a> Model for TokenReader<'a> {
 }
 
 impl<'a> TokenReader<'a> {
-    /// None where memory was refused.
+    /// A reader at the first token of a text. None where memory for its escapes was refused.
     pub fn new(text: &'a str, scratch: &'a mut Scratch) -> Option<TokenReader<'a>>
         ensures { IfSome result (λ reader. reader ≡ tokens text.now) }
     {
@@ -74,7 +75,7 @@ impl<'a> TokenReader<'a> {
         }
     }
 
-    /// Takes the bracket that closes an array, if it is next and was seen to be.
+    /// Takes the bracket that closes an array. False where it is not next, or was not seen to be.
     #[inline(always)]
     pub fn take_end_array(&mut self) -> bool
         ensures taken { IsTrue result → after_end_array self.old ≡ Some self.new }
