@@ -1,5 +1,6 @@
 //! Lexemes of a text without escapes, straight from its bytes: each step goes from a place to the one behind it.
 ghost use Rattle.std.specs.Prelude.{◌≡◌, ◌+◌, ◌<◌, ◌≤◌, length, get_or, true, IfSome, IsTrue};
+ghost use Rattle.std.specs.Bool.{OnTrue};
 ghost use Rattle.json.specs.Word.{is_space};
 ghost use Rattle.json.specs.Reads.{token_of};
 ghost use Rattle.json.specs.Written.{PlainBetween};
@@ -7,6 +8,7 @@ ghost use Rattle.json_tokens.specs.private.PlainText.{BeginsKey, BeginsToken, En
 ghost use Rattle.json_tokens.specs.private.PlainText.{StandsAt, may_begin_at, may_close_at};
 
 use json::{Token, is_number};
+use std::simd::prelude::*;
 
 /// What may come next.
 #[derive(Clone, Copy, Drop)]
@@ -70,9 +72,90 @@ pub(crate) fn past_spaces(bytes: &[u8], from: usize) -> usize
     place
 }
 
+/// Whether none of sixteen bytes is a quote, a backslash or a control character.
+#[inline(always)]
+fn are_plain_16(bytes: &[u8], place: usize) -> bool
+    requires { place + 16 ≤ length bytes.now }
+    ensures { OnTrue result (PlainBetween bytes.now place (place + 16)) }
+{
+    let lanes = u8x16::from_slice(&bytes[place..]);
+    (lanes.simd_eq(u8x16::splat(b'"'))
+        | lanes.simd_eq(u8x16::splat(b'\\'))
+        | lanes.simd_lt(u8x16::splat(0x20))).to_bitmask()
+        == 0
+}
+
+/// The same of eight bytes.
+#[inline(always)]
+fn are_plain_8(bytes: &[u8], place: usize) -> bool
+    requires { place + 8 ≤ length bytes.now }
+    ensures { OnTrue result (PlainBetween bytes.now place (place + 8)) }
+{
+    let lanes = u8x8::from_slice(&bytes[place..]);
+    (lanes.simd_eq(u8x8::splat(b'"'))
+        | lanes.simd_eq(u8x8::splat(b'\\'))
+        | lanes.simd_lt(u8x8::splat(0x20))).to_bitmask()
+        == 0
+}
+
+/// The same of four bytes.
+#[inline(always)]
+fn are_plain_4(bytes: &[u8], place: usize) -> bool
+    requires { place + 4 ≤ length bytes.now }
+    ensures { OnTrue result (PlainBetween bytes.now place (place + 4)) }
+{
+    let lanes = u8x4::from_slice(&bytes[place..]);
+    (lanes.simd_eq(u8x4::splat(b'"'))
+        | lanes.simd_eq(u8x4::splat(b'\\'))
+        | lanes.simd_lt(u8x4::splat(0x20))).to_bitmask()
+        == 0
+}
+
+/// A place behind plain bytes alone, sixteen at a time.
+#[inline(always)]
+fn past_plain_16(bytes: &[u8], from: usize) -> usize
+    requires { from ≤ length bytes.now }
+    ensures bounds { (from ≤ result) × (result ≤ length bytes.now) }
+    ensures plain { PlainBetween bytes.now from result }
+{
+    let mut place = from;
+    while bytes.len() - place >= 16 && are_plain_16(bytes, place) {
+        place += 16;
+    }
+    place
+}
+
+/// A place behind eight plain bytes, if they are plain.
+#[inline(always)]
+fn past_plain_8(bytes: &[u8], from: usize) -> usize
+    requires { from ≤ length bytes.now }
+    ensures bounds { (from ≤ result) × (result ≤ length bytes.now) }
+    ensures plain { PlainBetween bytes.now from result }
+{
+    if bytes.len() - from >= 8 && are_plain_8(bytes, from) {
+        from + 8
+    } else {
+        from
+    }
+}
+
+/// A place behind four plain bytes, if they are plain.
+#[inline(always)]
+fn past_plain_4(bytes: &[u8], from: usize) -> usize
+    requires { from ≤ length bytes.now }
+    ensures bounds { (from ≤ result) × (result ≤ length bytes.now) }
+    ensures plain { PlainBetween bytes.now from result }
+{
+    if bytes.len() - from >= 4 && are_plain_4(bytes, from) {
+        from + 4
+    } else {
+        from
+    }
+}
+
 /// The first place from there on that has a quote, a backslash or a control character.
 #[inline(always)]
-fn plain_end(bytes: &[u8], from: usize) -> usize
+fn plain_end_slowly(bytes: &[u8], from: usize) -> usize
     requires { from ≤ length bytes.now }
     ensures bounds { (from ≤ result) × (result ≤ length bytes.now) }
     ensures plain { PlainBetween bytes.now from result }
@@ -84,6 +167,18 @@ fn plain_end(bytes: &[u8], from: usize) -> usize
         place += 1;
     }
     place
+}
+
+/// The same, many bytes at a time.
+#[inline(always)]
+fn plain_end(bytes: &[u8], from: usize) -> usize
+    requires { from ≤ length bytes.now }
+    ensures bounds { (from ≤ result) × (result ≤ length bytes.now) }
+    ensures plain { PlainBetween bytes.now from result }
+{
+    let far = past_plain_16(bytes, from);
+    let near = past_plain_8(bytes, far);
+    plain_end_slowly(bytes, past_plain_4(bytes, near))
 }
 
 /// The text that begins with the quote at a place, and the place behind its closing quote.
