@@ -93,9 +93,7 @@ fn take_row(
     ensures fits { IfSome result (λ values. (json : Data) × (read text.now ≡ Some json) × IsSome (as_object json)
         × FitSlots (slots_of schema.now) json (properties_at schema.now type_id) values.items) }
 {
-    let Some(mut reader) = TokenReader::new(text, scratch) else {
-        return None;
-    };
+    let mut reader = TokenReader::new(text, scratch);
     let Some(Token::BeginObject) = reader.next() else {
         return None;
     };

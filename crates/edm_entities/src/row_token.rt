@@ -2,7 +2,7 @@
 ghost use Rattle.std.specs.Prelude.{◌≡◌, Ok, IfSome, IsTrue};
 ghost use Rattle.json.specs.Reads.{token_of};
 ghost use Rattle.json.specs.Token.{number};
-ghost use Rattle.serde_json.specs.Data.{Data, string};
+ghost use Rattle.serde_json.specs.Data.{Data, boolean, string};
 ghost use Rattle.csdl_schema.specs.ExprType.{ExprType, single};
 ghost use Rattle.csdl_schema.specs.SchemaModel.{Slots, slots_of};
 ghost use Rattle.edm_entities.specs.FitsPrimitive.{FitsPrimitive};
@@ -78,7 +78,22 @@ fn take_primitive(cache: &mut RowCache, wanted: Prim, scalar: Scalar<'_>, place:
             Prim::String => take_text(cache, text, place),
             _ => put_read(read_primitive(cache.alloc, wanted, scalar), place),
         },
-        _ => put_read(read_primitive(cache.alloc, wanted, scalar), place),
+        Scalar::Truth(truth) => take_truth(wanted, truth, place),
+        Scalar::Other => false,
+    }
+}
+
+#[inline(always)]
+fn take_truth(wanted: Prim, truth: bool, place: &mut Value) -> bool
+    ensures { (slots : Slots) (type : ExprType)
+        → IsTrue result → FitsPrimitive wanted (boolean truth) (val_of place.new slots type) }
+{
+    match wanted {
+        Prim::Bool => {
+            *place = Value::Bool(truth);
+            true
+        }
+        _ => false,
     }
 }
 

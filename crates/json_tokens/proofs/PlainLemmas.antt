@@ -1,18 +1,21 @@
 -- Lemmas on lexemes of a text without escapes.
-use Rattle.std.proofs.Common.{◌≡◌, ◌⊎◌, ℕ, ◌+◌, ◌-◌, ◌<◌, ◌≤◌, List, [], ◌∷◌, ◌++◌, length, take, drop, get_or, Bool, true, false, cond, ◌||◌, ◌==◌, Some, inl, inr, refl, sym, ap, ap₂, ◌∙◌, subst, arith, length-take-le, length-drop, lt_of_not-le}
-use Rattle.std.proofs.lemmas.Bool.{true≢false}
+use Rattle.std.proofs.Common.{◌≡◌, ◌⊎◌, ℕ, ◌+◌, ◌-◌, ◌<◌, ◌≤◌, List, [], ◌∷◌, ◌++◌, length, take, drop, get_or, Bool, true, false, cond, ◌||◌, ◌==◌, Option, None, Some, option_and_then, inl, inr, refl, sym, ap, ap₂, ◌∙◌, subst, arith, length-take-le, length-drop, lt_of_not-le}
+use Rattle.std.proofs.lemmas.Bool.{true≢false, and_parts, leb-true, ne_eqb}
 use Rattle.std.proofs.lemmas.List.{drop_more, drop_all, take-append-drop, drop-drop, get_or-drop, get_or-take, get_or_past, get_or_default}
+use Rattle.std.proofs.lemmas.List.Sums.{prefix_len_is}
+use Rattle.std.specs.Char.{is_ascii_digit}
+use Rattle.std.specs.List.{prefix_len}
 use Rattle.json.specs.Token.{Token, begin_object, end_object, begin_array, end_array, key, string, number, boolean, null, bad}
 use Rattle.json.specs.Text.{content, plain}
-use Rattle.json.specs.Word.{is_operator, is_space, head, ends_word, word}
-use Rattle.json.specs.Lex.{Lexeme, token, comma, colon, string_token, Place, fresh, after_value, after_comma, after_key, may_begin, may_close, if_allowed, begins_colon, between, in_string, lex, punctuate}
+use Rattle.json.specs.Word.{is_operator, is_space, head, ends_word, word, after_digits, after_whole, after_fraction, after_exponent, after_number}
+use Rattle.json.specs.Lex.{Lexeme, token, comma, colon, string_token, Place, fresh, after_value, after_comma, after_key, may_begin, may_close, if_allowed, place_token, begins_colon, between, in_string, lex, punctuate}
 use Rattle.json.specs.Print.{IsNumber, escape}
 use Rattle.json.specs.Run.{is_plain}
 use Rattle.json.specs.Written.{PlainBetween}
 use Rattle.json.proofs.Printed.Numbers.{in_word-ended, lex-number}
 use Rattle.json.proofs.Printed.Plain.{escape_on_plain}
 use Rattle.json.proofs.Printed.Strings.{content-escape, lex-escape}
-use Rattle.json_tokens.specs.private.PlainText.{EndsValue, PassesSpaces, may_close_at, place_of, tokens_left}
+use Rattle.json_tokens.specs.private.PlainText.{BeginsToken, DigitsBetween, EndsValue, PassesSpaces, may_begin_at, may_close_at, place_of, tokens_left}
 use Rattle.json_tokens.specs.declared.plain_text.Turn.{Turn}
 use Rattle.json_tokens.specs.declared.plain_text.Turn.TheVariants.{Fresh, AfterValue, AfterComma}
 
@@ -23,6 +26,9 @@ from_byte d i x within is = drop_more d i 32 within ∙ ap (λ y. y ∷ drop (i 
 
 pub first_byte : (d : List ℕ) (i : ℕ) → head (drop i d) ≡ get_or d i 32
 first_byte d i = let same : i + 0 ≡ i = omega arith in get_or-drop i d 0 32 ∙ ap (λ k. get_or d k 32) same
+
+pub within_byte : (d : List ℕ) (i x : ℕ) → get_or d i 32 ≡ x → (x ≡ 32 → ⊥) → i < length d
+within_byte d i x is other = lt_of_not-le (λ past. other (sym is ∙ get_or_past d i 32 past))
 
 -- ---- white space
 
@@ -151,6 +157,67 @@ pub closes_array : (p : Place) (xs : List ℕ) → may_close p ≡ true → punc
 unfolding lex punctuate
 closes_array p xs may = allowed (may_close p) end_array (λ next. punctuate next (lex between xs)) after_value may
 
+-- ---- numbers
+
+-- digits, of which the first is not 0, are a number
+digits_are_number : (s : List ℕ) → 0 < length s → ((k : ℕ) → k < length s → is_ascii_digit (get_or s k 0) ≡ true) → (head s == 48) ≡ false → IsNumber s
+unfolding after_number
+digits_are_number [] some digits first = absurd (omega arith)
+digits_are_number (x ∷ xs) some digits first =
+    let low : 48 ≤ x = leb-true 48 x (and_parts _ _ (digits 0 (omega arith))).0 in
+    let unsigned : (x == 45) ≡ false = ne_eqb x 45 (λ e. omega arith) in
+    let all : prefix_len is_ascii_digit (x ∷ xs) ≡ length (x ∷ xs) = prefix_len_is is_ascii_digit (x ∷ xs) (length (x ∷ xs)) 0 (omega arith) digits (λ l. absurd (omega arith)) in
+    ap (λ b. option_and_then after_exponent (option_and_then after_fraction (after_whole (cond b xs (x ∷ xs))))) unsigned
+    ∙ ap (λ b. option_and_then after_exponent (option_and_then after_fraction (cond b (Some xs) (after_digits (x ∷ xs))))) first
+    ∙ ap (λ n. option_and_then after_exponent (option_and_then after_fraction (cond (n == 0) None (Some (drop n (x ∷ xs)))))) all
+    ∙ ap (λ b. option_and_then after_exponent (option_and_then after_fraction (cond b None (Some (drop (length (x ∷ xs)) (x ∷ xs)))))) (ne_eqb (length (x ∷ xs)) 0 (λ e. omega arith))
+    ∙ ap (λ r. option_and_then after_exponent (after_fraction r)) (drop_all (length (x ∷ xs)) (x ∷ xs) (omega arith))
+
+pub number_begins : (d : List ℕ) (i j : ℕ) (s : List ℕ) (next : ℕ) (turn : Turn) → i ≤ j → s ≡ take (j - i) (drop i d) → IsNumber s → EndsValue d j next turn
+    → BeginsToken d i (number s) next turn
+number_begins d i j s next turn order is counts ended =
+    let there : i + (j - i) ≡ j = omega arith in
+    let parts : drop i d ≡ s ++ drop j d =
+    sym (take-append-drop (j - i) (drop i d)) ∙ ap (λ r. take (j - i) (drop i d) ++ r) (drop-drop (j - i) i d ∙ ap (λ k. drop k d) there) ∙ ap (λ n. n ++ drop j d) (sym is) in
+    let read : lex between (drop i d) ≡ token (number s) ∷ lex between (drop j d) = ap (lex between) parts ∙ lex-number s (drop j d) counts ended.ends in
+    record {
+      within = ended.within;
+      begins = λ p may. ap (punctuate p) read ∙ begins_number p s (lex between (drop j d)) may ∙ ap (λ ts. number s ∷ ts) (sym ended.left);
+    }
+
+pub digits_begin : (d : List ℕ) (i j : ℕ) (s : List ℕ) (next : ℕ) (turn : Turn) → i < j → j ≤ length d → s ≡ take (j - i) (drop i d) → DigitsBetween d i j → (get_or d i 0 == 48) ≡ false
+    → EndsValue d j next turn → BeginsToken d i (number s) next turn
+digits_begin d i j s next turn order room is digits first ended =
+    let n = j - i in
+    let long : length s ≡ n = ap length is ∙ length-take-le n (drop i d) (omega (arith, length-drop i d)) in
+    let at : (k : ℕ) → k < n → get_or s k 0 ≡ get_or d (i + k) 0 = λ k l. ap (λ t. get_or t k 0) is ∙ get_or-take n (drop i d) k 0 l ∙ get_or-drop i d k 0 in
+    let same : i + 0 ≡ i = omega arith in
+    let lead : head s ≡ get_or d i 0 = sym (get_or_default s 0 0 32 (omega (arith, long))) ∙ at 0 (omega arith) ∙ ap (λ k. get_or d k 0) same in
+    let counts : IsNumber s = digits_are_number s (omega (arith, long)) (λ k l. ap is_ascii_digit (at k (omega (arith, long))) ∙ digits (i + k) (omega arith) (omega (arith, long))) (ap (λ x. x == 48) lead ∙ first) in
+    number_begins d i j s next turn (omega arith) is counts ended
+
+-- ---- texts that may have escapes
+
+begun_alike : (p q : Place) (o : Option (List ℕ)) (ls : List Lexeme) → may_begin p ≡ true → may_begin q ≡ true
+    → punctuate p (token (string_token o) ∷ ls) ≡ punctuate q (token (string_token o) ∷ ls)
+unfolding punctuate
+begun_alike p q None ls may can = refl
+begun_alike p q (Some s) ls may can = go (begins_colon ls)
+  where
+    go : (b : Bool) → place_token p (string s) b (λ next. punctuate next ls) ≡ place_token q (string s) b (λ next. punctuate next ls)
+    go true = ap (λ b. if_allowed b (key s) (λ next. punctuate next ls) after_key) (may ∙ sym can)
+    go false = ap (λ b. if_allowed b (string s) (λ next. punctuate next ls) after_value) (may ∙ sym can)
+
+text_alike : (p : Place) (xs : List ℕ) → may_begin p ≡ true → punctuate p (lex between (34 ∷ xs)) ≡ punctuate fresh (lex between (34 ∷ xs))
+unfolding lex
+text_alike p xs may = begun_alike p fresh (content plain xs) (lex in_string xs) may refl
+
+-- where a text begins, what is left is read as a text of its own
+pub read_afresh : (turn : Turn) (d : List ℕ) (i j : ℕ) → may_begin_at turn ≡ true → PassesSpaces d i j → get_or d j 32 ≡ 34 → tokens_left turn (drop i d) ≡ punctuate fresh (lex between (drop j d))
+read_afresh turn d i j may passed there =
+    let quote = from_byte d j 34 (within_byte d j 34 there (λ e. omega arith)) there in
+    ap (punctuate (place_of turn)) (sym passed.same ∙ ap (lex between) quote) ∙ text_alike (place_of turn) (drop (j + 1) d) may ∙ ap (λ t. punctuate fresh (lex between t)) (sym quote)
+
 -- ---- places
 
 pub one_more_space : (d : List ℕ) (i j : ℕ) → j < length d → is_space (get_or d j 32) ≡ true → PassesSpaces d i j → PassesSpaces d i (j + 1)
@@ -160,9 +227,6 @@ one_more_space d i j within white passed =
     go : (j ≡ i) ⊎ (is_space (get_or d i 32) ≡ true) → is_space (get_or d i 32) ≡ true
     go (inl e) = ap (λ k. is_space (get_or d k 32)) (sym e) ∙ white
     go (inr s) = s
-
-pub within_byte : (d : List ℕ) (i x : ℕ) → get_or d i 32 ≡ x → (x ≡ 32 → ⊥) → i < length d
-within_byte d i x is other = lt_of_not-le (λ past. other (sym is ∙ get_or_past d i 32 past))
 
 pub ends_at_end : (d : List ℕ) (i j : ℕ) → PassesSpaces d i j → j ≡ length d → EndsValue d i j AfterValue
 unfolding lex

@@ -1,5 +1,5 @@
 //! A reader of the tokens of a text without escapes. Where it tells nothing, the text may still be JSON.
-ghost use Rattle.std.specs.Prelude.{◌≡◌, ◌∷◌, [], false, Some, IsTrue, IfSome, IfOk, option_map};
+ghost use Rattle.std.specs.Prelude.{◌≡◌, ◌∷◌, [], false, None, Some, IsTrue, IfSome, IfOk, OnErr, option_map};
 ghost use Rattle.json.specs.Json.{after_end_array, read_key};
 ghost use Rattle.json.specs.Lex.{tokens};
 ghost use Rattle.json.specs.Reads.{token_of};
@@ -45,7 +45,8 @@ impl<'a> PlainReader<'a> {
     /// The next token, where a value may begin.
     #[inline(always)]
     pub(crate) fn next(&mut self) -> Option<Token<'a>>
-        ensures { IfSome result (λ t. self.old ≡ token_of t ∷ self.new) }
+        ensures first { IfSome result (λ t. self.old ≡ token_of t ∷ self.new) }
+        ensures kept { result ≡ None → self.new ≡ self.old }
     {
         if !self.turn.may_begin() {
             return None;
@@ -64,7 +65,8 @@ impl<'a> PlainReader<'a> {
     /// A key, or none at the brace that closes an object.
     #[inline(always)]
     pub(crate) fn next_key(&mut self) -> Result<Option<&'a str>, Invalid>
-        ensures { IfOk result (λ k. read_key self.old ≡ Some (option_map (λ s. s.now) k, self.new)) }
+        ensures key { IfOk result (λ k. read_key self.old ≡ Some (option_map (λ s. s.now) k, self.new)) }
+        ensures kept { OnErr result (self.new ≡ self.old) }
     {
         let bytes = self.text.as_bytes();
         let place = past_spaces(bytes, self.place);
@@ -112,6 +114,19 @@ impl<'a> PlainReader<'a> {
         self.place = next;
         self.turn = turn;
         true
+    }
+
+    /// What is left, from a text on that may have escapes: the tokens to come are those of a text that begins there.
+    pub(crate) fn rest(&self) -> Option<&'a str>
+        ensures { IfSome result (λ rest. self.now ≡ tokens rest.now) }
+    {
+        let bytes = self.text.as_bytes();
+        let place = past_spaces(bytes, self.place);
+        if byte_at(bytes, place) == b'"' && self.turn.may_begin() {
+            Some(&self.text[place..])
+        } else {
+            None
+        }
     }
 
     /// Whether nothing follows.

@@ -1,10 +1,11 @@
 //! Lexemes of a text without escapes, straight from its bytes: each step goes from a place to the one behind it.
-ghost use Rattle.std.specs.Prelude.{◌≡◌, ◌+◌, ◌<◌, ◌≤◌, length, get_or, true, IfSome, IsTrue};
-ghost use Rattle.std.specs.Bool.{OnTrue};
+ghost use Rattle.std.specs.Prelude.{◌≡◌, ◌≢◌, ◌+◌, ◌<◌, ◌≤◌, length, get_or, map, IfSome, IsTrue};
+ghost use Rattle.std.specs.Simd.Lanes.{mask_l};
 ghost use Rattle.json.specs.Word.{is_space};
 ghost use Rattle.json.specs.Reads.{token_of};
+ghost use Rattle.json.specs.Run.{is_stop};
 ghost use Rattle.json.specs.Written.{PlainBetween};
-ghost use Rattle.json_tokens.specs.private.PlainText.{BeginsKey, BeginsToken, EndsValue, IsTextAt, PassesSpaces};
+ghost use Rattle.json_tokens.specs.private.PlainText.{BeginsKey, BeginsToken, DigitsBetween, EndsValue, IsTextAt, PassesSpaces};
 ghost use Rattle.json_tokens.specs.private.PlainText.{StandsAt, may_begin_at, may_close_at};
 
 use json::{Token, is_number};
@@ -72,84 +73,53 @@ pub(crate) fn past_spaces(bytes: &[u8], from: usize) -> usize
     place
 }
 
-/// Whether none of sixteen bytes is a quote, a backslash or a control character.
+/// Which of sixteen bytes are quotes, backslashes or control characters: the first one is the lowest bit.
 #[inline(always)]
-fn are_plain_16(bytes: &[u8], place: usize) -> bool
-    requires { place + 16 ≤ length bytes.now }
-    ensures { OnTrue result (PlainBetween bytes.now place (place + 16)) }
+fn stops_16(lanes: u8x16) -> u64
+    ensures { result ≡ mask_l (map is_stop lanes) }
 {
-    let lanes = u8x16::from_slice(&bytes[place..]);
     (lanes.simd_eq(u8x16::splat(b'"'))
         | lanes.simd_eq(u8x16::splat(b'\\'))
         | lanes.simd_lt(u8x16::splat(0x20))).to_bitmask()
-        == 0
 }
 
 /// The same of eight bytes.
 #[inline(always)]
-fn are_plain_8(bytes: &[u8], place: usize) -> bool
-    requires { place + 8 ≤ length bytes.now }
-    ensures { OnTrue result (PlainBetween bytes.now place (place + 8)) }
+fn stops_8(lanes: u8x8) -> u64
+    ensures { result ≡ mask_l (map is_stop lanes) }
 {
-    let lanes = u8x8::from_slice(&bytes[place..]);
     (lanes.simd_eq(u8x8::splat(b'"'))
         | lanes.simd_eq(u8x8::splat(b'\\'))
         | lanes.simd_lt(u8x8::splat(0x20))).to_bitmask()
-        == 0
 }
 
-/// The same of four bytes.
+/// How many of sixteen bytes stand before the first quote, backslash or control character.
 #[inline(always)]
-fn are_plain_4(bytes: &[u8], place: usize) -> bool
-    requires { place + 4 ≤ length bytes.now }
-    ensures { OnTrue result (PlainBetween bytes.now place (place + 4)) }
+fn plain_run_16(bytes: &[u8], place: usize) -> usize
+    requires { place + 16 ≤ length bytes.now }
+    ensures few { result ≤ 16 }
+    ensures plain { PlainBetween bytes.now place (place + result) }
 {
-    let lanes = u8x4::from_slice(&bytes[place..]);
-    (lanes.simd_eq(u8x4::splat(b'"'))
-        | lanes.simd_eq(u8x4::splat(b'\\'))
-        | lanes.simd_lt(u8x4::splat(0x20))).to_bitmask()
-        == 0
-}
-
-/// A place behind plain bytes alone, sixteen at a time.
-#[inline(always)]
-fn past_plain_16(bytes: &[u8], from: usize) -> usize
-    requires { from ≤ length bytes.now }
-    ensures bounds { (from ≤ result) × (result ≤ length bytes.now) }
-    ensures plain { PlainBetween bytes.now from result }
-{
-    let mut place = from;
-    while bytes.len() - place >= 16 && are_plain_16(bytes, place) {
-        place += 16;
-    }
-    place
-}
-
-/// A place behind eight plain bytes, if they are plain.
-#[inline(always)]
-fn past_plain_8(bytes: &[u8], from: usize) -> usize
-    requires { from ≤ length bytes.now }
-    ensures bounds { (from ≤ result) × (result ≤ length bytes.now) }
-    ensures plain { PlainBetween bytes.now from result }
-{
-    if bytes.len() - from >= 8 && are_plain_8(bytes, from) {
-        from + 8
+    let stops = stops_16(u8x16::from_slice(&bytes[place..]));
+    if stops == 0 {
+        16
     } else {
-        from
+        stops.trailing_zeros() as usize
     }
 }
 
-/// A place behind four plain bytes, if they are plain.
+/// The same of eight bytes.
 #[inline(always)]
-fn past_plain_4(bytes: &[u8], from: usize) -> usize
-    requires { from ≤ length bytes.now }
-    ensures bounds { (from ≤ result) × (result ≤ length bytes.now) }
-    ensures plain { PlainBetween bytes.now from result }
+fn plain_run_8(bytes: &[u8], place: usize) -> usize
+    requires { place + 8 ≤ length bytes.now }
+    ensures few { result ≤ 8 }
+    ensures plain { PlainBetween bytes.now place (place + result) }
 {
-    if bytes.len() - from >= 4 && are_plain_4(bytes, from) {
-        from + 4
+    let stops = stops_8(u8x8::from_slice(&bytes[place..]));
+    if stops == 0 {
+        8
     } else {
-        from
+        stops.trailing_zeros() as usize
     }
 }
 
@@ -169,16 +139,39 @@ fn plain_end_slowly(bytes: &[u8], from: usize) -> usize
     place
 }
 
-/// The same, many bytes at a time.
+/// The same, where fewer than sixteen bytes are left.
+#[inline(never)]
+fn plain_end_of_few(bytes: &[u8], from: usize) -> usize
+    requires { from ≤ length bytes.now }
+    ensures bounds { (from ≤ result) × (result ≤ length bytes.now) }
+    ensures plain { PlainBetween bytes.now from result }
+{
+    if bytes.len() - from < 8 {
+        return plain_end_slowly(bytes, from);
+    }
+    let run = plain_run_8(bytes, from);
+    if run < 8 {
+        return from + run;
+    }
+    plain_end_slowly(bytes, from + 8)
+}
+
+/// The same, sixteen bytes at a time.
 #[inline(always)]
 fn plain_end(bytes: &[u8], from: usize) -> usize
     requires { from ≤ length bytes.now }
     ensures bounds { (from ≤ result) × (result ≤ length bytes.now) }
     ensures plain { PlainBetween bytes.now from result }
 {
-    let far = past_plain_16(bytes, from);
-    let near = past_plain_8(bytes, far);
-    plain_end_slowly(bytes, past_plain_4(bytes, near))
+    let mut place = from;
+    while bytes.len() - place >= 16 {
+        let run = plain_run_16(bytes, place);
+        if run < 16 {
+            return place + run;
+        }
+        place += 16;
+    }
+    plain_end_of_few(bytes, place)
 }
 
 /// The text that begins with the quote at a place, and the place behind its closing quote.
@@ -243,6 +236,20 @@ fn text_value(text: &str, place: usize) -> Option<(Token<'_>, usize, Turn)>
     }
 }
 
+/// The first place from there on that has no digit.
+#[inline(always)]
+fn digits_end(bytes: &[u8], from: usize) -> usize
+    requires { from ≤ length bytes.now }
+    ensures bounds { (from ≤ result) × (result ≤ length bytes.now) }
+    ensures digits { DigitsBetween bytes.now from result }
+{
+    let mut place = from;
+    while place < bytes.len() && bytes[place].is_ascii_digit() {
+        place += 1;
+    }
+    place
+}
+
 /// The first place from there on that has no byte of a number.
 #[inline(always)]
 fn number_end(bytes: &[u8], from: usize) -> usize
@@ -259,8 +266,9 @@ fn number_end(bytes: &[u8], from: usize) -> usize
     place
 }
 
-#[inline(always)]
-fn number_value(text: &str, place: usize) -> Option<(Token<'_>, usize, Turn)>
+/// A number with a sign, a fraction or an exponent, or one that begins with 0.
+#[inline(never)]
+fn other_number_value(text: &str, place: usize) -> Option<(Token<'_>, usize, Turn)>
     requires within { place < length text.now }
     requires ascii { get_or text.now place 32 < 128 }
     ensures { IfSome result (λ found. BeginsToken text.now place (token_of found.0) found.1 found.2) }
@@ -276,6 +284,32 @@ fn number_value(text: &str, place: usize) -> Option<(Token<'_>, usize, Turn)>
     } else {
         None
     }
+}
+
+/// Whether digits from one place to the other are some, of which the first is not 0.
+#[inline(always)]
+fn is_whole(bytes: &[u8], from: usize, to: usize) -> bool
+    requires { to ≤ length bytes.now }
+    ensures { IsTrue result → (from < to) × (get_or bytes.now from 0 ≢ 48) }
+{
+    from < to && bytes[from] != b'0'
+}
+
+/// A number: most are digits alone, of which the first is not 0.
+#[inline(always)]
+fn number_value(text: &str, place: usize) -> Option<(Token<'_>, usize, Turn)>
+    requires within { place < length text.now }
+    requires ascii { get_or text.now place 32 < 128 }
+    ensures { IfSome result (λ found. BeginsToken text.now place (token_of found.0) found.1 found.2) }
+{
+    let bytes = text.as_bytes();
+    let end = digits_end(bytes, place);
+    if is_whole(bytes, place, end) {
+        if let Some((next, turn)) = value_end(bytes, end) {
+            return Some((Token::Number(&text[place..end]), next, turn));
+        }
+    }
+    other_number_value(text, place)
 }
 
 /// Whether these bytes stand at a place.

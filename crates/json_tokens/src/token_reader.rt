@@ -1,5 +1,5 @@
-//! The tokens of a row, however they are read: by `json`'s reader where a text may have escapes, else straight from the
-//! bytes.
+//! The tokens of a row, however they are read: straight from the bytes up to the first text with an escape, and from
+//! there on by `json`'s reader.
 ghost use Rattle.std.specs.Prelude.{◌≡◌, ◌∷◌, [], false, Some, IsTrue, IfSome, IfOk, option_map};
 ghost use Rattle.json.specs.Json.{after_end_array, read_key};
 ghost use Rattle.json.specs.Lex.{tokens};
@@ -7,7 +7,6 @@ ghost use Rattle.json.specs.Reads.{token_of};
 
 use super::plain_reader::PlainReader;
 use json::{Invalid, Reader, Scratch, Token};
-use memchr::memchr;
 use std::marker::Model;
 
 #[derive(Drop)]
@@ -21,6 +20,7 @@ pub(crate) enum Source<'a> {
 #[derive(Drop)]
 pub struct TokenReader<'a> {
     source: Source<'a>,
+    scratch: Option<&'a mut Scratch>,
 }
 
 impl<'a> Model for TokenReader<'a> {
@@ -36,20 +36,14 @@ impl<'a> Model for TokenReader<'a> {
 }
 
 impl<'a> TokenReader<'a> {
-    /// A reader at the first token of a text. None where memory for its escapes was refused.
-    pub fn new(text: &'a str, scratch: &'a mut Scratch) -> Option<TokenReader<'a>>
-        ensures { IfSome result (λ reader. reader ≡ tokens text.now) }
+    /// A reader at the first token of a text. The scratch is for its escapes.
+    #[inline(always)]
+    pub fn new(text: &'a str, scratch: &'a mut Scratch) -> TokenReader<'a>
+        ensures { result ≡ tokens text.now }
     {
-        if memchr(b'\\', text.as_bytes()).is_none() {
-            return Some(TokenReader {
-                source: Source::Plain(PlainReader::new(text)),
-            });
-        }
-        match Reader::new(text, scratch) {
-            Ok(reader) => Some(TokenReader {
-                source: Source::Escaped(reader),
-            }),
-            Err(_) => None,
+        TokenReader {
+            source: Source::Plain(PlainReader::new(text)),
+            scratch: Some(scratch),
         }
     }
 
@@ -59,9 +53,14 @@ impl<'a> TokenReader<'a> {
         ensures { IfSome result (λ t. self.old ≡ token_of t ∷ self.new) }
     {
         match &mut self.source {
-            Source::Plain(plain) => plain.next(),
-            Source::Escaped(reader) => next_escaped(reader),
+            Source::Plain(plain) => {
+                if let Some(token) = plain.next() {
+                    return Some(token);
+                }
+            }
+            Source::Escaped(reader) => return next_escaped(reader),
         }
+        self.next_passed_on()
     }
 
     /// A key, or none at the brace that closes an object.
@@ -70,9 +69,14 @@ impl<'a> TokenReader<'a> {
         ensures { IfOk result (λ k. read_key self.old ≡ Some (option_map (λ s. s.now) k, self.new)) }
     {
         match &mut self.source {
-            Source::Plain(plain) => plain.next_key(),
-            Source::Escaped(reader) => next_escaped_key(reader),
+            Source::Plain(plain) => {
+                if let Ok(key) = plain.next_key() {
+                    return Ok(key);
+                }
+            }
+            Source::Escaped(reader) => return next_escaped_key(reader),
         }
+        self.next_key_passed_on()
     }
 
     /// Takes the bracket that closes an array. False where it is not next, or was not seen to be.
@@ -94,6 +98,46 @@ impl<'a> TokenReader<'a> {
         match &mut self.source {
             Source::Plain(plain) => plain.is_at_end(),
             Source::Escaped(reader) => reader.next().is_none(),
+        }
+    }
+
+    /// Goes on by `json`'s reader, if a text may begin here and memory for what is left is there.
+    fn pass_on(&mut self)
+        ensures { self.new ≡ self.old }
+    {
+        let Source::Plain(plain) = &self.source else {
+            return;
+        };
+        let Some(rest) = plain.rest() else {
+            return;
+        };
+        let Some(scratch) = self.scratch.take() else {
+            return;
+        };
+        if let Ok(reader) = Reader::new(rest, scratch) {
+            self.source = Source::Escaped(reader);
+        }
+    }
+
+    #[inline(never)]
+    fn next_passed_on(&mut self) -> Option<Token<'a>>
+        ensures { IfSome result (λ t. self.old ≡ token_of t ∷ self.new) }
+    {
+        self.pass_on();
+        match &mut self.source {
+            Source::Plain(_) => None,
+            Source::Escaped(reader) => reader.next(),
+        }
+    }
+
+    #[inline(never)]
+    fn next_key_passed_on(&mut self) -> Result<Option<&'a str>, Invalid>
+        ensures { IfOk result (λ k. read_key self.old ≡ Some (option_map (λ s. s.now) k, self.new)) }
+    {
+        self.pass_on();
+        match &mut self.source {
+            Source::Plain(_) => Err(Invalid),
+            Source::Escaped(reader) => reader.next_key(),
         }
     }
 }

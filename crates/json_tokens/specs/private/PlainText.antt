@@ -1,5 +1,6 @@
 -- For private clauses: lexemes of a text without escapes, from one place to the next.
 use Rattle.std.specs.Prelude.{◌≡◌, ◌⊎◌, ℕ, ◌+◌, ◌<◌, ◌≤◌, List, ◌∷◌, ◌++◌, length, drop, get_or, Bool, true, false}
+use Rattle.std.specs.Char.{is_ascii_digit}
 use Rattle.json.specs.Token.{Token, key, string}
 use Rattle.json.specs.Word.{is_space, ends_word}
 use Rattle.json.specs.Lex.{token, Place, fresh, after_value, after_comma, may_begin, may_close, begins_colon, between, lex, punctuate}
@@ -52,3 +53,7 @@ BeginsKey text from name to = BeginsToken text from (key name) to Fresh
 pub record StandsAt (text : List ℕ) (from : ℕ) (word : List ℕ) : Type 0 where
   pub within : from + length word ≤ length text
   pub is : drop from text ≡ word ++ drop (from + length word) text
+
+-- each byte from one place up to the other is a digit
+abbrev pub DigitsBetween : List ℕ → ℕ → ℕ → Type 0
+DigitsBetween text from to = (k : ℕ) → from ≤ k → k < to → is_ascii_digit (get_or text k 0) ≡ true

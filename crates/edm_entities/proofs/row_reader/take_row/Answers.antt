@@ -16,13 +16,13 @@ pub returns-then-is_at_end-clause-fits : goal.returns-then-is_at_end-clause-fits
 returns-then-is_at_end-clause-fits c =
     let slots = slots_of c.args.schema.now in
     let ps = properties_at c.args.schema.now c.args.type_id in
-    let values = c.in-Some-take_members.values in
+    let values = c.in-Some.values in
     let started : tokens c.args.text.now ≡ Token.begin_object ∷ c.next.new.self =
-    sym c.in-Some.ensures ∙ c.in-Some-BeginObject.ensures ∙ ap (λ k. token_of k ∷ c.next.new.self) c.in-Some-BeginObject.field-0-is in
+    sym c.new-reader.ensures ∙ c.in-Some-BeginObject.ensures ∙ ap (λ k. token_of k ∷ c.next.new.self) c.in-Some-BeginObject.field-0-is in
     let ended : c.take_members.new.reader ≡ [] = c.is_at_end.ensures c.if-is_at_end.true in
     let whole : Reads 127 (Token.begin_object ∷ c.next.new.self) c.take_members.new.reader (λ json. IsSome (as_object json) × FitSlots slots json ps values.items) =
     object_reads 127 c.next.new.self c.take_members.new.reader (λ found. FitSlots slots (object found) ps values.items)
-    (λ json. IsSome (as_object json) × FitSlots slots json ps values.items) (omega arith) (λ found fits. (refl, fits)) c.in-Some-take_members.ensures.fits in (
+    (λ json. IsSome (as_object json) × FitSlots slots json ps values.items) (omega arith) (λ found fits. (refl, fits)) c.in-Some.ensures.fits in (
       whole.json,
       whole_read c.args.text.now whole.json
           (ap (λ ts. converted of_json (value 127 ts)) started ∙ whole.is_read ∙ ap (λ rest. Some (whole.json, rest)) ended),

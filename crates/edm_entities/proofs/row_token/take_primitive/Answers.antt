@@ -3,12 +3,7 @@ use Rattle.edm_entities.specs.Row.{val_of}
 use Rattle.edm_entities.proofs.RowLemmas.Leaves.{value_of_read}
 use Rattle.edm_entities.proofs.row_token.take_primitive.Goals as goal
 
-pub returns-in_default-wanted : goal.returns-in_default-wanted
-returns-in_default-wanted c json slots type is done =
-    value_of_read c.read_primitive.result (λ v. FitsPrimitive c.args.wanted json (val_of v slots type)) c.put_read.new.place
-    (c.read_primitive.ensures.fits json slots type is) (c.put_read.ensures done)
-
 pub returns-in_default : goal.returns-in_default
 returns-in_default c json slots type is done =
-    value_of_read c.read_primitive-in_default.result (λ v. FitsPrimitive c.args.wanted json (val_of v slots type)) c.put_read-in_default.new.place
-    (c.read_primitive-in_default.ensures.fits json slots type is) (c.put_read-in_default.ensures done)
+    value_of_read c.read_primitive.result (λ v. FitsPrimitive c.args.wanted json (val_of v slots type)) c.put_read.new.place
+    (c.read_primitive.ensures.fits json slots type is) (c.put_read.ensures done)

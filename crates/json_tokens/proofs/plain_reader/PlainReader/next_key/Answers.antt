@@ -5,8 +5,8 @@ use Rattle.json_tokens.specs.private.PlainText.{EndsValue, PassesSpaces}
 use Rattle.json_tokens.proofs.PlainLemmas.{closed_there, closes_object, within_byte}
 use Rattle.json_tokens.proofs.plain_reader.PlainReader.next_key.Goals as goal
 
-pub returns-in-Some-value_end : goal.returns-in-Some-value_end
-returns-in-Some-value_end c =
+pub returns-in-Some-value_end-clause-key : goal.returns-in-Some-value_end-clause-key
+returns-in-Some-value_end-clause-key c =
     let a = c.self.inside in
     let d = a.text.now in
     let same = c.as_bytes-bytes.ensures.value in

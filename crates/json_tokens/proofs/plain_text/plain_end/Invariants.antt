@@ -1,6 +1,6 @@
 use Rattle.std.proofs.Common.{◌≤◌, ◌-◌, length}
 use Rattle.json.specs.Written.{PlainBetween}
-use Rattle.json_tokens.proofs.plain_text.past_plain_16.Given as goal
+use Rattle.json_tokens.proofs.plain_text.plain_end.Given as goal
 
 -- plain bytes stand up to the place
 abbrev pub invariant-loop-place : goal.invariant-loop-place
