@@ -11,6 +11,8 @@ mod kinds;
 #[cfg(test)]
 mod lines;
 #[cfg(test)]
+mod places;
+#[cfg(test)]
 mod products;
 #[cfg(test)]
 mod refused;
