@@ -1,4 +1,5 @@
-//! The tokens of a JSON text (RFC 8259), read straight from its bytes where it has no escapes, else by `json`'s reader.
+//! The tokens of a JSON text (RFC 8259), read straight from its bytes up to the first text with an escape, and from there
+//! on by `json`'s reader.
 #![tactic(auto)]
 
 mod plain_reader;

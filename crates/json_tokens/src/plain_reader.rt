@@ -1,4 +1,4 @@
-//! A reader of the tokens of a text without escapes. Where it tells nothing, the text may still be JSON.
+//! A reader of the tokens of a text up to its first escape. Where it tells nothing, the text may still be JSON.
 ghost use Rattle.std.specs.Prelude.{◌≡◌, ◌∷◌, [], false, None, Some, IsTrue, IfSome, IfOk, OnErr, option_map};
 ghost use Rattle.json.specs.Json.{after_end_array, read_key};
 ghost use Rattle.json.specs.Lex.{tokens};

@@ -20,6 +20,7 @@ pub(crate) enum Source<'a> {
 #[derive(Drop)]
 pub struct TokenReader<'a> {
     source: Source<'a>,
+    // For `json`'s reader, until that goes on.
     scratch: Option<&'a mut Scratch>,
 }
 
