@@ -7,7 +7,7 @@ use Rattle.edm_values.specs.Val.{Val}
 use Rattle.csdl_schema.specs.ExprType.{ExprType}
 use Rattle.csdl_schema.specs.SchemaModel.{Slots}
 use Rattle.edm_entities.specs.HasType.{HasType}
-use Rattle.odata_typing.specs.Typed.{Scope}
+use Rattle.odata_expression_types.specs.Typed.{Scope}
 
 -- each variable's name, and its type and value, the innermost variable first
 abbrev pub Environment : Type 0

@@ -5,7 +5,7 @@ use Rattle.edm_values.specs.MomentParts.{MomentParts}
 use Rattle.odata_syntax.specs.Tree.{Tree, node, Shape, literal, it, name, member, negation, logical_not, binary}
 use Rattle.csdl_schema.specs.SchemaModel.{Slots}
 use Rattle.odata_signatures.specs.OperatorTyped.{NegationTyped}
-use Rattle.odata_typing.specs.Typed.{OperandTyped, OperandsTyped, Typed}
+use Rattle.odata_expression_types.specs.Typed.{OperandTyped, OperandsTyped, Typed}
 use Rattle.odata_eval.specs.CalculationGives.{NegatedGives}
 use Rattle.odata_eval.specs.Environment.{Environment, scope_of}
 use Rattle.odata_eval.specs.LeftFirst.{After}

@@ -3,8 +3,8 @@ ghost use Rattle.std.specs.Prelude.{◌≡◌, ◌≢◌, Some, Option, Bool, Er
 ghost use Rattle.odata_eval.specs.MeansOn.{MeansOn, IsTheOutcome};
 ghost use Rattle.odata_eval.specs.VerdictView.{told_outcome, verdict_val};
 ghost use Rattle.odata_eval.specs.TruthGives.{truth_val};
-ghost use Rattle.odata_typing.specs.Calls.{TakesMemory};
-ghost use Rattle.odata_typing.specs.Filter.{tree_of_filter};
+ghost use Rattle.odata_checked_filter.specs.Calls.{TakesMemory};
+ghost use Rattle.odata_checked_filter.specs.Filter.{tree_of_filter};
 
 use super::fault::EvalFault;
 use super::laws::typed_trees_end_once_on_entities;

@@ -11,7 +11,7 @@ use Rattle.odata_filter.specs.declared.bad_row.BadRow.{BadRow}
 use Rattle.odata_filter.specs.declared.run_fault.RunFault.{RunFault}
 use Rattle.odata_filter.specs.RowJudgment.{JudgesValue}
 use Rattle.odata_filter.specs.RunStops.{StopsBy}
-use Rattle.odata_typing.specs.Filter.{Filter}
+use Rattle.odata_checked_filter.specs.Filter.{Filter}
 
 -- the array that a JSON object has as its member `value`; its other members say nothing
 abbrev pub array_of : Data → Option ItemsData

@@ -26,8 +26,8 @@ pub use Rattle.edm_entities.specs.RowFaults
 pub use Rattle.odata_eval.specs.Means
 pub use Rattle.odata_eval.specs.Outcome
 pub use Rattle.odata_eval.specs.VerdictView
-pub use Rattle.odata_typing.specs.Filter
-pub use Rattle.odata_typing.specs.HasTyping
+pub use Rattle.odata_checked_filter.specs.Filter
+pub use Rattle.odata_expression_types.specs.HasTyping
 pub use Rattle.line_filter.specs.Growth
 pub use Rattle.line_filter.specs.Kept
 pub use Rattle.line_filter.specs.LineItems

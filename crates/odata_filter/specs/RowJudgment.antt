@@ -15,7 +15,7 @@ use Rattle.edm_entities.specs.RowFaults.{IsRowFault}
 use Rattle.odata_eval.specs.Means.{Means}
 use Rattle.odata_eval.specs.Outcome.{Outcome, gives}
 use Rattle.odata_eval.specs.VerdictView.{fault_outcome}
-use Rattle.odata_typing.specs.Filter.{Filter, tree_of_filter}
+use Rattle.odata_checked_filter.specs.Filter.{Filter, tree_of_filter}
 
 -- what a filter comes to on a value of its type
 abbrev pub FilterMeans : Filter → MomentParts → Val → Outcome → Type 0

@@ -22,8 +22,8 @@ use Rattle.odata_filter.specs.declared.command.command_line.Plan.{Plan}
 use Rattle.odata_filter.specs.declared.command.command_line.Verb.{Verb}
 use Rattle.odata_filter.specs.declared.command.command_line.Verb.TheVariants.{Check, Explain, Filter as ByRows}
 use Rattle.odata_syntax.specs.CanonicalText.{IsCanonicalText}
-use Rattle.odata_typing.specs.Filter.{Filter, tree_of_filter}
-use Rattle.odata_typing.specs.HasTyping.{HasTyping, HasNoTyping}
+use Rattle.odata_checked_filter.specs.Filter.{Filter, tree_of_filter}
+use Rattle.odata_expression_types.specs.HasTyping.{HasTyping, HasNoTyping}
 
 -- the moment that is handed in where none is given: 0001-01-01T00:00:00Z
 abbrev pub IsFirstMoment : MomentParts → Type 0

@@ -19,7 +19,7 @@ pub struct RowLineJudge<'c, 's> {
 
 impl<'c, 's> Model for RowLineJudge<'c, 's> {
     ghost use Rattle.std.specs.Prelude.{◌≡◌};
-    ghost use Rattle.odata_typing.specs.contracts.checked_node.CheckedNode as checked_node;
+    ghost use Rattle.odata_checked_filter.specs.contracts.checked_node.CheckedNode as checked_node;
     ghost use Rattle.edm_values.specs.contracts.value.Value as value;
     ghost use Rattle.std.specs.Coded.{codes};
     ghost use Rattle.odata_filter.specs.private.FilterNow.{FilterNow};

@@ -1,6 +1,3 @@
-pub mod canonical
+pub mod flat
 pub mod types
 pub mod untypable
-pub mod pre_orders
-pub mod printed
-pub mod flat

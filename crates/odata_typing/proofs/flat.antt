@@ -1,7 +1,2 @@
--- A list of nodes and the tree that it stands for.
+-- What is put behind the list stands there for its tree.
 pub mod Closing
-pub mod Forests
-pub mod Numbered
-pub mod Parts
-pub mod Places
-pub mod Standing

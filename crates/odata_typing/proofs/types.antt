@@ -1,6 +1,3 @@
--- Which type a node has, and that it is one.
+-- Literals that have been read, and the enumerations that they name.
 pub mod Enumerations
-pub mod Examples
 pub mod Literals
-pub mod OneType
-pub mod OneValue

@@ -1,8 +1,6 @@
 -- Which node is the first without a type, from the answers about its parts.
 pub mod Checks
 pub mod Names
-pub mod OneRefusal
-pub mod OneStart
 pub mod Operands
 pub mod PropertySlots
 pub mod Untypable

@@ -2,17 +2,17 @@
 ghost use Rattle.std.specs.Prelude.{◌≡◌, ◌<◌, ◌≤◌, [], ℕ, length, IfOk, IfErr};
 ghost use Rattle.odata_syntax.specs.Tree.{Tree, node, binary};
 ghost use Rattle.csdl_schema.specs.SchemaModel.{SchemaModel};
-ghost use Rattle.odata_typing.specs.FlatTree.{FlatTree};
+ghost use Rattle.odata_checked_filter.specs.FlatTree.{FlatTree};
 ghost use Rattle.odata_signatures.specs.TypeThere.{IsTypeThere};
 ghost use Rattle.odata_typing.specs.private.Answer.{IsAnswer, IsWalked};
-ghost use Rattle.odata_typing.specs.private.ListGrowth.{IsOpened};
+ghost use Rattle.odata_checked_filter.specs.ListGrowth.{IsOpened};
 
-use super::checked_node::NodeKind;
+use super::laws_below::laws_below;
 use super::node::open_node;
-use super::node_list::NodeList;
-use super::refusal::{TypeFault, TypeFaultCode};
 use super::untyped::{Untyped, earlier};
 use csdl_schema::Schema;
+use odata_checked_filter::{NodeKind, NodeList};
+use odata_expression_types::{TypeFault, TypeFaultCode};
 use odata_signatures::{EdmType, made_type};
 use odata_syntax::BinaryOperator;
 use odata_text::Span;
@@ -58,6 +58,7 @@ pub(crate) fn close_binary(
     ensures there { IfOk result (IsTypeThere schema.now) }
     ensures grown { length list.old.nodes ≤ length list.new.nodes }
 {
+    laws_below();
     match left {
         Ok(left) => match right {
             Ok(right) => close_operator(schema, place, span, operator, left, right, list),
@@ -91,6 +92,7 @@ fn close_operator(
     ensures there { IfOk result (IsTypeThere schema.now) }
     ensures grown { length list.old.nodes ≤ length list.new.nodes }
 {
+    laws_below();
     match made_type(schema, operator, &left, &right) {
         Some(edm_type) => {
             list.close(place, NodeKind::Binary { operator }, span, &edm_type);

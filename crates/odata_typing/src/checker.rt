@@ -1,19 +1,25 @@
-ghost use Rattle.std.specs.Prelude.{◌≡◌, ◌<◌, ℕ, List, [], length, IfOk, IfErr};
+ghost use Rattle.std.specs.Prelude.{◌≡◌, ◌<◌, ◌≤◌, ℕ, List, [], length, IfOk, IfErr};
+ghost use Rattle.odata_text.specs.Tokens.{token_limit};
 ghost use Rattle.odata_syntax.specs.Tree.{Tree};
 ghost use Rattle.odata_syntax.specs.TreeView.{tree_of};
 ghost use Rattle.csdl_schema.specs.SchemaModel.{Slots, HoldsType, slots_of, type_name_at};
-ghost use Rattle.odata_typing.specs.private.Answer.{HasNoTree, IsTextRefusal, IsSyntaxRefusal};
-ghost use Rattle.odata_typing.specs.Filter.{tree_of_filter};
-ghost use Rattle.odata_typing.specs.HasTyping.{HasTree, HasTyping, HasNoTyping, IsRefusal, UnlessMemory};
+ghost use Rattle.odata_signatures.specs.ExprTypes.{IsBooleanOrNull};
+ghost use Rattle.odata_signatures.specs.TypeView.{expr_type};
+ghost use Rattle.odata_expression_types.specs.PreOrder.{pre_order};
+ghost use Rattle.odata_checked_filter.specs.FlatTree.{tree_of_nodes};
+ghost use Rattle.odata_typing.specs.private.Answer.{HasNoTree, IsSyntaxRefusal, IsTextRefusal, IsWhole};
+ghost use Rattle.odata_checked_filter.specs.Filter.{tree_of_filter};
+ghost use Rattle.odata_expression_types.specs.HasTyping.{HasTree, HasTyping, HasNoTyping, IsRefusal, UnlessMemory};
 
-use super::checked::Checked;
+use super::laws_below::laws_below;
 use super::node::checked_tree;
-use super::node_list::NodeList;
-use super::refusal::Refusal;
 use super::untyped::Untyped;
 use csdl_schema::{Schema, TypeId};
+use odata_checked_filter::{Checked, NodeList, a_list_stands_for_one_tree};
+use odata_expression_types::{Refusal, TypeFault, TypeFaultCode, texts_have_few_nodes};
+use odata_signatures::EdmType;
 use odata_syntax::{Expr, SyntaxFault, parse};
-use odata_text::{TextFault, tokens, tokens_are_spelled};
+use odata_text::{Span, TextFault, tokens, tokens_are_spelled};
 use std::alloc::Global;
 
 /// The text as a filter of the entities of a type, which the schema holds.
@@ -36,18 +42,53 @@ pub fn check<'s>(
     ensures none { IfErr result (λ r. UnlessMemory r
         (HasNoTyping (slots_of schema.entry.now) (type_name_at schema.entry.now filtered_type) text.now)) }
 {
+    laws_below();
+    a_list_stands_for_one_tree();
+    texts_have_few_nodes();
     let expr = match tree_of_text(alloc, text) {
         Ok(expr) => expr,
         Err(refusal) => return Err(refusal),
     };
     let mut list = NodeList::new(alloc);
     match checked_tree(alloc, schema, filtered_type, expr.root(), &mut list) {
-        Ok(edm_type) => match Checked::of(schema, filtered_type, list, edm_type, text.len()) {
+        Ok(edm_type) => match filter_of(schema, filtered_type, list, edm_type, text.len()) {
             Ok(checked) => Ok(checked),
             Err(fault) => Err(Refusal::Typing(fault)),
         },
         Err(Untyped::Fault(fault)) => Err(Refusal::Typing(fault)),
         Err(Untyped::Memory) => Err(Refusal::Memory),
+    }
+}
+
+/// The filter of a list whose tree has that type, or `NotBoolean` with the whole of a text of that length.
+fn filter_of<'s>(
+    schema: &'s Schema,
+    filtered_type: TypeId,
+    list: NodeList,
+    edm_type: EdmType,
+    len: usize,
+) -> Result<Checked<'s>, TypeFault>
+    requires held { HoldsType schema.now filtered_type }
+    requires whole { IsWhole schema.now filtered_type [] list edm_type }
+    requires few { length (pre_order (tree_of_nodes list)) ≤ token_limit }
+    ensures parts { IfOk result (λ c. c ≡
+        record { schema = schema.entry.now; filtered = filtered_type; list = list }) }
+    ensures truth { IfOk result (λ c. IsBooleanOrNull (expr_type schema.entry.now edm_type)) }
+    ensures other { IfErr result (λ f. ¬ IsBooleanOrNull (expr_type schema.entry.now edm_type)) }
+    ensures fault { IfErr result (λ f. f ≡
+        record { code = TypeFaultCode.NotBoolean; span = record { start = 0; stop = len } }) }
+{
+    if edm_type.is_truth() {
+        Ok(Checked::new(schema, filtered_type, list))
+    } else {
+        let span = Span {
+            start: 0,
+            stop: len,
+        };
+        Err(TypeFault {
+            code: TypeFaultCode::NotBoolean,
+            span,
+        })
     }
 }
 

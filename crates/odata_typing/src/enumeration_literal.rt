@@ -2,9 +2,10 @@
 //! section 7, `enum`).
 ghost use Rattle.std.specs.Prelude.{ℕ, ℤ, List, Some, IfSome, IfNone};
 ghost use Rattle.csdl_schema.specs.SchemaModel.{HoldsEnumeration, slots_of, type_name_at};
-ghost use Rattle.odata_typing.specs.LiteralValue.{EnumerationLiteral, IsNameAndText, NamesNumber};
+ghost use Rattle.odata_expression_types.specs.LiteralValue.{EnumerationLiteral, IsNameAndText, NamesNumber};
 
 use csdl_schema::{EnumId, Schema};
+use odata_expression_types::enumeration_literals_have_one_name;
 
 /// An enumeration, and a number of it.
 #[derive(Clone, Copy)]
@@ -21,6 +22,7 @@ pub(crate) fn read_enumeration(schema: &Schema, spelling: &str) -> Option<Enumer
     ensures none { IfNone result ((qualified : List ℕ) (n : ℤ)
         → ¬ EnumerationLiteral (slots_of schema.now) spelling.now qualified n) }
 {
+    enumeration_literals_have_one_name();
     match name_and_text(spelling) {
         Some((name, text)) => number_of(schema, name, text),
         None => None,

@@ -3,16 +3,16 @@ ghost use Rattle.odata_syntax.specs.Tree.{node, literal};
 ghost use Rattle.csdl_schema.specs.SchemaModel.{SchemaModel};
 ghost use Rattle.odata_signatures.specs.TypeThere.{IsTypeThere};
 ghost use Rattle.odata_typing.specs.private.Answer.{IsAnswer, IsReading};
-ghost use Rattle.odata_typing.specs.FirstUntypable.{LiteralReason};
-ghost use Rattle.odata_typing.specs.Typed.{Scope};
+ghost use Rattle.odata_expression_types.specs.FirstUntypable.{LiteralReason};
+ghost use Rattle.odata_expression_types.specs.Typed.{Scope};
 
-use super::checked_node::NodeKind;
-use super::node_list::NodeList;
+use super::laws_below::laws_below;
 use super::reading::{Reading, read_literal};
-use super::refusal::{TypeFault, TypeFaultCode};
 use super::untyped::Untyped;
 use csdl_schema::Schema;
 use edm_values::LitFault;
+use odata_checked_filter::{NodeKind, NodeList};
+use odata_expression_types::{TypeFault, TypeFaultCode};
 use odata_signatures::EdmType;
 use odata_syntax::LiteralKind;
 use odata_text::Span;
@@ -32,6 +32,7 @@ pub(crate) fn checked_literal(
     ensures there { IfOk result (IsTypeThere schema.now) }
     ensures grown { length list.old.nodes ≤ length list.new.nodes }
 {
+    laws_below();
     match read_literal(alloc, schema, kind, spelling) {
         Ok(reading) => push_literal(alloc, span, kind, spelling, reading, list),
         Err(LitFault::Form) => Err(Untyped::Fault(TypeFault {
@@ -57,6 +58,7 @@ fn push_literal(
     ensures edm_type { IfOk result (λ t. t ≡ reading.edm_type) }
     ensures grown { length list.old.nodes ≤ length list.new.nodes }
 {
+    laws_below();
     let text = match String::from_str(alloc, spelling) {
         Ok(text) => text,
         Err(_) => return Err(Untyped::Memory),
@@ -65,12 +67,12 @@ fn push_literal(
     let place = list.values().len();
     match list.push_value(reading.value) {
         Ok(()) => {}
-        Err(untyped) => return Err(untyped),
+        Err(_) => return Err(Untyped::Memory),
     }
     let kind = NodeKind::Literal { kind, value: place };
     match list.push(kind, span, &edm_type, text) {
         Ok(()) => Ok(edm_type),
-        Err(untyped) => Err(untyped),
+        Err(_) => Err(Untyped::Memory),
     }
 }
 

@@ -2,18 +2,17 @@ ghost use Rattle.std.specs.Prelude.{◌≡◌, ◌≤◌, [], length, string_byt
 ghost use Rattle.odata_syntax.specs.TreeView.{tree_of};
 ghost use Rattle.odata_signatures.specs.TypeThere.{IsTypeThere};
 ghost use Rattle.odata_typing.specs.private.Answer.{IsAnswer};
-ghost use Rattle.odata_typing.specs.private.ListGrowth.{IsOpened};
+ghost use Rattle.odata_checked_filter.specs.ListGrowth.{IsOpened};
 
 use super::binary_node::{close_binary, open_operator};
-use super::checked_node::NodeKind;
 use super::literal::checked_literal;
-use super::node_list::NodeList;
 use super::path_node::{checked_it, checked_member};
 use super::property::checked_name;
 use super::unary_node::{checked_negation, checked_not};
 use super::untyped::Untyped;
 use super::untyped_form::untyped_form;
 use csdl_schema::{Schema, TypeId};
+use odata_checked_filter::{NodeKind, NodeList};
 use odata_signatures::{BOOLEAN, EdmType};
 use odata_syntax::Node;
 use odata_text::Span;
@@ -101,6 +100,6 @@ pub(crate) fn open_node(
     let place = list.nodes().len();
     match list.push(kind, span, &BOOLEAN, text) {
         Ok(()) => Ok(place),
-        Err(untyped) => Err(untyped),
+        Err(_) => Err(Untyped::Memory),
     }
 }

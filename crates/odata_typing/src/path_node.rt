@@ -4,22 +4,22 @@ ghost use Rattle.odata_syntax.specs.Tree.{Tree, node, it, member};
 ghost use Rattle.odata_syntax.specs.TreeView.{tree_of};
 ghost use Rattle.csdl_schema.specs.ExprType.{ExprType};
 ghost use Rattle.csdl_schema.specs.SchemaModel.{SchemaModel, slots_of};
-ghost use Rattle.odata_typing.specs.FirstUntypable.{StepReason};
-ghost use Rattle.odata_typing.specs.FlatTree.{FlatTree};
-ghost use Rattle.odata_typing.specs.Typed.{StepTyped};
+ghost use Rattle.odata_expression_types.specs.FirstUntypable.{StepReason};
+ghost use Rattle.odata_checked_filter.specs.FlatTree.{FlatTree};
+ghost use Rattle.odata_expression_types.specs.Typed.{StepTyped};
 ghost use Rattle.odata_signatures.specs.TypeView.{expr_type};
 ghost use Rattle.odata_signatures.specs.TypeThere.{IsTypeThere};
 ghost use Rattle.odata_typing.specs.private.Answer.{IsAnswer, IsWalked};
-ghost use Rattle.odata_typing.specs.private.ListGrowth.{IsOpened};
+ghost use Rattle.odata_checked_filter.specs.ListGrowth.{IsOpened};
 ghost use Rattle.odata_typing.specs.private.StepFound.{IsStepSlot};
 
-use super::checked_node::NodeKind;
+use super::laws_below::laws_below;
 use super::node::{checked_tree, open_node};
-use super::node_list::NodeList;
 use super::property::{NamedProperty, property_named};
-use super::refusal::{TypeFault, TypeFaultCode};
 use super::untyped::Untyped;
 use csdl_schema::{Schema, TypeId};
+use odata_checked_filter::{NodeKind, NodeList};
+use odata_expression_types::{TypeFault, TypeFaultCode};
 use odata_signatures::{EdmType, ValueType};
 use odata_syntax::Node;
 use odata_text::Span;
@@ -37,10 +37,11 @@ pub(crate) fn checked_it(
     ensures there { (schema : SchemaModel) → IfOk result (IsTypeThere schema) }
     ensures grown { length list.old.nodes ≤ length list.new.nodes }
 {
+    laws_below();
     let edm_type = EdmType::Single(ValueType::Structured(filtered_type));
     match list.push(NodeKind::It, span, &edm_type, String::new(alloc)) {
         Ok(()) => Ok(edm_type),
-        Err(untyped) => Err(untyped),
+        Err(_) => Err(Untyped::Memory),
     }
 }
 
@@ -60,6 +61,7 @@ pub(crate) fn checked_member(
     ensures there { IfOk result (IsTypeThere schema.now) }
     ensures grown { length list.old.nodes ≤ length list.new.nodes }
 {
+    laws_below();
     let text = match String::from_str(alloc, asked) {
         Ok(text) => text,
         Err(_) => return Err(Untyped::Memory),
@@ -92,6 +94,7 @@ fn close_member(
     ensures there { IfOk result (IsTypeThere schema.now) }
     ensures grown { length list.old.nodes ≤ length list.new.nodes }
 {
+    laws_below();
     match step_from(schema, &base, asked) {
         Ok(property) => {
             let kind = NodeKind::Member {

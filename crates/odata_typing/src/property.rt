@@ -6,15 +6,15 @@ ghost use Rattle.csdl_schema.specs.PropertyView.{PointsWithin, property_type};
 ghost use Rattle.csdl_schema.specs.SchemaModel.{SchemaModel, declared, properties_at, slot_named};
 ghost use Rattle.odata_signatures.specs.TypeThere.{IsTypeThere};
 ghost use Rattle.odata_typing.specs.private.Answer.{IsAnswer};
-ghost use Rattle.odata_typing.specs.FirstUntypable.{NameReason, PropertyReason};
+ghost use Rattle.odata_expression_types.specs.FirstUntypable.{NameReason, PropertyReason};
 ghost use Rattle.odata_signatures.specs.TypeView.{expr_type};
-ghost use Rattle.odata_typing.specs.Typed.{PropertyTyped};
+ghost use Rattle.odata_expression_types.specs.Typed.{PropertyTyped};
 
-use super::checked_node::NodeKind;
-use super::node_list::NodeList;
-use super::refusal::{TypeFault, TypeFaultCode};
+use super::laws_below::laws_below;
 use super::untyped::Untyped;
 use csdl_schema::{Property, PropertyKind, Schema, TypeId};
+use odata_checked_filter::{NodeKind, NodeList};
+use odata_expression_types::{TypeFault, TypeFaultCode};
 use odata_signatures::{EdmType, ValueType};
 use odata_text::Span;
 use std::alloc::Global;
@@ -40,6 +40,7 @@ pub(crate) fn checked_name(
     ensures there { IfOk result (IsTypeThere schema.now) }
     ensures grown { length list.old.nodes ≤ length list.new.nodes }
 {
+    laws_below();
     match property_named(schema, filtered_type, asked) {
         Ok(property) => push_property(alloc, span, asked, property, list),
         Err(code) => Err(Untyped::Fault(TypeFault { code, span })),
@@ -61,6 +62,7 @@ fn push_property(
     ensures edm_type { IfOk result (λ t. t ≡ property.edm_type) }
     ensures grown { length list.old.nodes ≤ length list.new.nodes }
 {
+    laws_below();
     let text = match String::from_str(alloc, asked) {
         Ok(text) => text,
         Err(_) => return Err(Untyped::Memory),
@@ -70,7 +72,7 @@ fn push_property(
     };
     match list.push(kind, span, &property.edm_type, text) {
         Ok(()) => Ok(property.edm_type),
-        Err(untyped) => Err(untyped),
+        Err(_) => Err(Untyped::Memory),
     }
 }
 

@@ -3,7 +3,7 @@ ghost use Rattle.std.specs.Prelude.{◌≡◌, ◌≢◌, Bool, IfOk, IfErr, IfS
 ghost use Rattle.edm_values.specs.StringLiteral.{OnForm};
 ghost use Rattle.csdl_schema.specs.ExprType.{ExprType};
 ghost use Rattle.csdl_schema.specs.SchemaModel.{slots_of};
-ghost use Rattle.odata_typing.specs.LiteralValue.{BooleanValue, LiteralTyped};
+ghost use Rattle.odata_expression_types.specs.LiteralValue.{BooleanValue, LiteralTyped};
 ghost use Rattle.odata_signatures.specs.TypeThere.{IsTypeThere};
 ghost use Rattle.odata_typing.specs.private.Answer.{IsReading};
 

@@ -3,17 +3,17 @@ ghost use Rattle.std.specs.Prelude.{◌<◌, ◌≤◌, [], ℕ, length, IfOk};
 ghost use Rattle.odata_syntax.specs.Tree.{Tree, node, negation, logical_not};
 ghost use Rattle.odata_syntax.specs.TreeView.{tree_of};
 ghost use Rattle.csdl_schema.specs.SchemaModel.{SchemaModel};
-ghost use Rattle.odata_typing.specs.FlatTree.{FlatTree};
+ghost use Rattle.odata_checked_filter.specs.FlatTree.{FlatTree};
 ghost use Rattle.odata_signatures.specs.TypeThere.{IsTypeThere};
 ghost use Rattle.odata_typing.specs.private.Answer.{IsAnswer, IsWalked};
-ghost use Rattle.odata_typing.specs.private.ListGrowth.{IsOpened};
+ghost use Rattle.odata_checked_filter.specs.ListGrowth.{IsOpened};
 
-use super::checked_node::NodeKind;
+use super::laws_below::laws_below;
 use super::node::{checked_tree, open_node};
-use super::node_list::NodeList;
-use super::refusal::{TypeFault, TypeFaultCode};
 use super::untyped::Untyped;
 use csdl_schema::{Schema, TypeId};
+use odata_checked_filter::{NodeKind, NodeList};
+use odata_expression_types::{TypeFault, TypeFaultCode};
 use odata_signatures::{EdmType, negated_type, opposite_type};
 use odata_syntax::Node;
 use odata_text::Span;
@@ -34,6 +34,7 @@ pub(crate) fn checked_negation(
     ensures there { IfOk result (IsTypeThere schema.now) }
     ensures grown { length list.old.nodes ≤ length list.new.nodes }
 {
+    laws_below();
     let place = match open_node(span, NodeKind::Neg, String::new(alloc), list) {
         Ok(place) => place,
         Err(untyped) => return Err(untyped),
@@ -59,6 +60,7 @@ fn close_negation(
     ensures there { (schema : SchemaModel) → IfOk result (IsTypeThere schema) }
     ensures grown { length list.old.nodes ≤ length list.new.nodes }
 {
+    laws_below();
     match negated_type(&operand) {
         Some(edm_type) => {
             list.close(place, NodeKind::Neg, span, &edm_type);
@@ -86,6 +88,7 @@ pub(crate) fn checked_not(
     ensures there { IfOk result (IsTypeThere schema.now) }
     ensures grown { length list.old.nodes ≤ length list.new.nodes }
 {
+    laws_below();
     let place = match open_node(span, NodeKind::Not, String::new(alloc), list) {
         Ok(place) => place,
         Err(untyped) => return Err(untyped),
@@ -111,6 +114,7 @@ fn close_not(
     ensures there { (schema : SchemaModel) → IfOk result (IsTypeThere schema) }
     ensures grown { length list.old.nodes ≤ length list.new.nodes }
 {
+    laws_below();
     match opposite_type(&operand) {
         Some(edm_type) => {
             list.close(place, NodeKind::Not, span, &edm_type);

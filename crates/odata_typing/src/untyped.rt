@@ -1,6 +1,6 @@
 ghost use Rattle.odata_typing.specs.private.EarlierFault.{IsEarlier, IsEarlierOf};
 
-use super::refusal::TypeFault;
+use odata_expression_types::TypeFault;
 use thiserror::Error;
 
 /// Why a tree is not typed.

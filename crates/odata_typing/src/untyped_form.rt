@@ -4,17 +4,18 @@ ghost use Rattle.csdl_schema.specs.SchemaModel.{Slots};
 ghost use Rattle.odata_syntax.specs.Spans.{list_of_trees};
 ghost use Rattle.odata_syntax.specs.Tree.{shape_of};
 ghost use Rattle.odata_syntax.specs.TreeView.{tree_of, trees_of};
-ghost use Rattle.odata_typing.specs.Considered.{children_in_scope};
-ghost use Rattle.odata_typing.specs.FirstUntypable.{IsReason};
-ghost use Rattle.odata_typing.specs.Typed.{Scope};
+ghost use Rattle.odata_expression_types.specs.Considered.{children_in_scope};
+ghost use Rattle.odata_expression_types.specs.FirstUntypable.{IsReason};
+ghost use Rattle.odata_expression_types.specs.Typed.{Scope};
 ghost use Rattle.odata_typing.specs.private.Answer.{HasFault};
 ghost use Rattle.odata_typing.specs.private.Judged.{IsToldOf, IsUnruled};
 
+use super::laws_below::laws_below;
 use super::node::checked_tree;
-use super::node_list::NodeList;
-use super::refusal::{TypeFault, TypeFaultCode};
 use super::untyped::{Untyped, earlier_of};
 use csdl_schema::{Schema, TypeId};
+use odata_checked_filter::NodeList;
+use odata_expression_types::{TypeFault, TypeFaultCode};
 use odata_syntax::Node;
 use std::alloc::Global;
 
@@ -31,6 +32,7 @@ pub(crate) fn untyped_form(
     ensures fault { HasFault schema.now filtered_type [] (tree_of node.now) result }
     ensures grown { length list.old.nodes ≤ length list.new.nodes }
 {
+    laws_below();
     match fault_below(alloc, schema, filtered_type, node, list) {
         Some(untyped) => untyped,
         None => Untyped::Fault(TypeFault {
@@ -72,6 +74,7 @@ fn fault_below(
     ensures told { IsToldOf schema.now filtered_type [] (children_in_scope (shape_of (tree_of node.now))) result }
     ensures grown { length list.old.nodes ≤ length list.new.nodes }
 {
+    laws_below();
     match node {
         Node::Lit { .. } | Node::It { .. } | Node::Name { .. } => unreachable!(),
         Node::Member { .. } | Node::Neg { .. } | Node::Not { .. } => unreachable!(),
@@ -112,6 +115,7 @@ fn fault_of(
     ensures told { IsToldOf schema.now filtered_type [] (tree_of node.now ∷ []) result }
     ensures grown { length list.old.nodes ≤ length list.new.nodes }
 {
+    laws_below();
     match checked_tree(alloc, schema, filtered_type, node, list) {
         Ok(_) => None,
         Err(untyped) => Some(untyped),
@@ -130,6 +134,7 @@ fn fault_of_all(
     ensures told { IsToldOf schema.now filtered_type [] (list_of_trees (trees_of nodes.now)) result }
     ensures grown { length list.old.nodes ≤ length list.new.nodes }
 {
+    laws_below();
     let mut told = None;
     for node in nodes {
         told = earlier_of(told, fault_of(alloc, schema, filtered_type, node, list));

@@ -10,7 +10,7 @@ use Rattle.odata_functions.specs.Promotion.{IsPromoted, negation_type, promotion
 use Rattle.odata_functions.specs.declared.arithmetic.ArithFault.{ArithFault}
 use Rattle.odata_functions.specs.declared.arithmetic.ArithmeticOperator.{ArithmeticOperator}
 use Rattle.odata_functions.specs.declared.comparison.ComparisonOperator.{ComparisonOperator}
-use Rattle.odata_typing.specs.Laws.{OneLiteralValue, OneType}
+use Rattle.odata_expression_types.specs.Laws.{OneLiteralValue, OneType}
 
 -- what makes outcomes the only ones
 pub record OneEach : Type 0 where

@@ -5,10 +5,10 @@ use Rattle.edm_values.specs.MomentParts.{MomentParts}
 use Rattle.odata_syntax.specs.Tree.{Tree, node, Shape, literal, it, name, member, negation, logical_not, binary}
 use Rattle.csdl_schema.specs.ExprType.{ExprType}
 use Rattle.csdl_schema.specs.SchemaModel.{Slots}
-use Rattle.odata_typing.specs.LiteralValue.{LiteralValue}
+use Rattle.odata_expression_types.specs.LiteralValue.{LiteralValue}
 use Rattle.odata_signatures.specs.OperatorClass.{class_of}
 use Rattle.odata_signatures.specs.OperatorTyped.{NegationTyped}
-use Rattle.odata_typing.specs.Typed.{OperandTyped, OperandsTyped, Typed}
+use Rattle.odata_expression_types.specs.Typed.{OperandTyped, OperandsTyped, Typed}
 use Rattle.odata_eval.specs.CalculationGives.{NegatedGives}
 use Rattle.odata_eval.specs.Environment.{Environment, scope_of, variable_value}
 use Rattle.odata_eval.specs.Means.{Means, ShapeMeans}

@@ -26,10 +26,10 @@ use Rattle.odata_functions.specs.declared.comparison.ComparisonOperator.{Compari
 use Rattle.odata_signatures.specs.declared.operator_class.Connective.{Connective}
 use Rattle.odata_signatures.specs.declared.operator_class.OperatorClass.{OperatorClass}
 use Rattle.odata_signatures.specs.ExprTypes.{boolean_type, string_type}
-use Rattle.odata_typing.specs.LiteralValue.{LiteralTyped, IntTyped}
+use Rattle.odata_expression_types.specs.LiteralValue.{LiteralTyped, IntTyped}
 use Rattle.odata_signatures.specs.OperatorClass.{class_of}
 use Rattle.odata_signatures.specs.OperatorTyped.{ClassTyped, NegationTyped, NotTyped}
-use Rattle.odata_typing.specs.Typed.{OperandTyped, OperandsTyped, Typed, PropertyTyped, StepTyped, variable_type, property_named}
+use Rattle.odata_expression_types.specs.Typed.{OperandTyped, OperandsTyped, Typed, PropertyTyped, StepTyped, variable_type, property_named}
 use Rattle.odata_eval.specs.CalculationGives.{CalculationGives, NegatedGives, number_outcome}
 use Rattle.odata_eval.specs.CompareGives.{CompareGives}
 use Rattle.odata_eval.specs.EndsOnce.{IsOutcomeOf}

@@ -15,10 +15,10 @@ use Rattle.odata_syntax.specs.ReadBack.{IsReadBack}
 use Rattle.odata_syntax.specs.Tree.{Shape, Tree, any_item, binary, call, count, has, in_list, in_path, it, lambda, literal, logical_not, member, name, negation, node}
 use Rattle.odata_syntax.specs.declared.node.BinaryOperator.{BinaryOperator}
 use Rattle.odata_syntax.specs.declared.node.LiteralKind.{LiteralKind}
-use Rattle.odata_typing.specs.LiteralValue.{LiteralValue}
+use Rattle.odata_expression_types.specs.LiteralValue.{LiteralValue}
 use Rattle.odata_signatures.specs.OperatorClass.{class_of}
 use Rattle.odata_signatures.specs.OperatorTyped.{NegationTyped}
-use Rattle.odata_typing.specs.Typed.{OperandTyped, OperandsTyped, Scope, Typed}
+use Rattle.odata_expression_types.specs.Typed.{OperandTyped, OperandsTyped, Scope, Typed}
 use Rattle.odata_eval.specs.CalculationGives.{NegatedGives}
 use Rattle.odata_eval.specs.Environment.{Environment, scope_of}
 use Rattle.odata_eval.specs.Means.{Means, ShapeMeans}

@@ -2,7 +2,7 @@
 use Rattle.std.proofs.Common.{◌↔◌, true, false, Some, None}
 use Rattle.edm_values.specs.Val.{Val, null, boolean}
 use Rattle.csdl_schema.specs.ExprType.{ExprType}
-use Rattle.odata_typing.specs.Typed.{OperandTyped, OperandsTyped}
+use Rattle.odata_expression_types.specs.Typed.{OperandTyped, OperandsTyped}
 use Rattle.odata_signatures.specs.declared.operator_class.Connective.{Connective}
 use Rattle.odata_signatures.specs.declared.operator_class.OperatorClass.{OperatorClass}
 use Rattle.odata_syntax.specs.declared.node.BinaryOperator.{BinaryOperator}

@@ -10,7 +10,7 @@ use Rattle.csdl_schema.specs.ExprType.{ExprType, null_type, single, collection, 
 use Rattle.csdl_schema.specs.SchemaModel.{Slots, slots_of}
 use Rattle.edm_entities.specs.Row.{Row, IsEntity, ValAtType, val_of, val_step}
 use Rattle.odata_functions.specs.KeptVal.{Contents, kept_val}
-use Rattle.odata_typing.specs.FlatTree.{FlatTree}
+use Rattle.odata_checked_filter.specs.FlatTree.{FlatTree}
 use Rattle.odata_eval.specs.EndsOnce.{EndsOnceOnEntities}
 use Rattle.odata_eval.specs.Outcome.{gives}
 use Rattle.odata_eval.specs.private.Place.{TypedStands}

@@ -12,9 +12,9 @@ use Rattle.odata_syntax.specs.declared.node.LiteralKind.{LiteralKind}
 use Rattle.csdl_schema.specs.ExprType.{ExprType}
 use Rattle.csdl_schema.specs.SchemaModel.{PropertyModel, Slots, opaque, properties_at, slot_named, slots_of}
 use Rattle.edm_entities.specs.Row.{Row, val_of}
-use Rattle.odata_typing.specs.declared.checked_node.NodeKind.{NodeKind}
-use Rattle.odata_typing.specs.FlatTree.{FlatTree}
-use Rattle.odata_typing.specs.Stands.{IsValueOf}
+use Rattle.odata_checked_filter.specs.declared.checked_node.NodeKind.{NodeKind}
+use Rattle.odata_checked_filter.specs.FlatTree.{FlatTree}
+use Rattle.odata_checked_filter.specs.Stands.{IsValueOf}
 use Rattle.odata_eval.specs.Outcome.{gives}
 use Rattle.odata_eval.specs.private.Place.{PartStands}
 use Rattle.odata_eval.specs.private.WalkAnswer.{AnswersKept, HoldsAt}

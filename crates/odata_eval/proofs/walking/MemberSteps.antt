@@ -11,11 +11,11 @@ use Rattle.csdl_schema.specs.SchemaModel.{Slots, slot_named, slots_of, type_name
 use Rattle.edm_entities.specs.HasType.{HasType}
 use Rattle.edm_entities.specs.Row.{Row, IsEntity, field_by_name, val_of}
 use Rattle.odata_functions.specs.DatumVal.{datum_val}
-use Rattle.odata_typing.specs.declared.checked_node.NodeKind.{NodeKind}
-use Rattle.odata_typing.specs.FlatTree.{FlatTree}
-use Rattle.odata_typing.specs.Laws.{OneType}
+use Rattle.odata_checked_filter.specs.declared.checked_node.NodeKind.{NodeKind}
+use Rattle.odata_checked_filter.specs.FlatTree.{FlatTree}
+use Rattle.odata_expression_types.specs.Laws.{OneType}
 use Rattle.odata_signatures.specs.TypeView.{expr_type}
-use Rattle.odata_typing.specs.Typed.{PropertyTyped, StepTyped}
+use Rattle.odata_expression_types.specs.Typed.{PropertyTyped, StepTyped}
 use Rattle.odata_eval.specs.EndsOnce.{EndsOnceOnEntities}
 use Rattle.odata_eval.specs.NameGives.{StepGives}
 use Rattle.odata_eval.specs.Outcome.{gives}

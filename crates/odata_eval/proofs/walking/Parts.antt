@@ -10,11 +10,11 @@ use Rattle.csdl_schema.specs.ExprType.{ExprType}
 use Rattle.csdl_schema.specs.SchemaModel.{Slots, slots_of, type_name_at}
 use Rattle.edm_entities.specs.Row.{Row, value_of}
 use Rattle.odata_signatures.specs.TypeView.{expr_type}
-use Rattle.odata_typing.specs.declared.checked_node.CheckedNode.{CheckedNode}
-use Rattle.odata_typing.specs.declared.checked_node.NodeKind.{NodeKind}
-use Rattle.odata_typing.specs.FlatTree.{FlatTree}
-use Rattle.odata_typing.specs.Stands.{Stands, IsKindOf}
-use Rattle.odata_typing.specs.Typed.{Scope, Typed}
+use Rattle.odata_checked_filter.specs.declared.checked_node.CheckedNode.{CheckedNode}
+use Rattle.odata_checked_filter.specs.declared.checked_node.NodeKind.{NodeKind}
+use Rattle.odata_checked_filter.specs.FlatTree.{FlatTree}
+use Rattle.odata_checked_filter.specs.Stands.{Stands, IsKindOf}
+use Rattle.odata_expression_types.specs.Typed.{Scope, Typed}
 use Rattle.odata_eval.specs.Means.{Means}
 use Rattle.odata_eval.specs.Outcome.{Outcome}
 use Rattle.odata_eval.specs.private.Place.{PartStands}

@@ -12,10 +12,10 @@ use Rattle.odata_signatures.specs.declared.operator_class.OperatorClass.{Operato
 use Rattle.odata_signatures.specs.ExprTypes.{IsBooleanOrNull}
 use Rattle.odata_signatures.specs.OperatorClass.{class_of}
 use Rattle.odata_signatures.specs.OperatorTyped.{ClassTyped}
-use Rattle.odata_typing.specs.declared.checked_node.CheckedNode.{CheckedNode}
-use Rattle.odata_typing.specs.declared.checked_node.NodeKind.{NodeKind}
-use Rattle.odata_typing.specs.FlatTree.{FlatTree}
-use Rattle.odata_typing.specs.Stands.{Stands}
+use Rattle.odata_checked_filter.specs.declared.checked_node.CheckedNode.{CheckedNode}
+use Rattle.odata_checked_filter.specs.declared.checked_node.NodeKind.{NodeKind}
+use Rattle.odata_checked_filter.specs.FlatTree.{FlatTree}
+use Rattle.odata_checked_filter.specs.Stands.{Stands}
 use Rattle.odata_eval.specs.declared.fault.EvalFault.{EvalFault}
 use Rattle.odata_eval.specs.declared.part.WalkClass.{WalkClass}
 use Rattle.odata_eval.specs.LeftFirst.{After}

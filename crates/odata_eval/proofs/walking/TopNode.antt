@@ -4,9 +4,9 @@ use Rattle.std.specs.Prelude.{IsSomeAnd, IfSome}
 use Rattle.edm_values.specs.MomentParts.{MomentParts}
 use Rattle.csdl_schema.specs.SchemaModel.{SchemaModel, slots_of, type_name_at}
 use Rattle.edm_entities.specs.Row.{Row, IsEntity}
-use Rattle.odata_typing.specs.Filter.{Filter, IsFilter, tree_of_filter}
-use Rattle.odata_typing.specs.Stands.{Stands}
-use Rattle.odata_typing.specs.Typed.{Typed}
+use Rattle.odata_checked_filter.specs.Filter.{Filter, IsFilter, tree_of_filter}
+use Rattle.odata_checked_filter.specs.Stands.{Stands}
+use Rattle.odata_expression_types.specs.Typed.{Typed}
 use Rattle.odata_eval.specs.declared.fault.EvalFault.{EvalFault}
 use Rattle.odata_eval.specs.EndsOnce.{EndsOnceOnEntities}
 use Rattle.odata_eval.specs.MeansOn.{IsTheOutcome}

@@ -10,7 +10,7 @@ use Rattle.csdl_schema.specs.SchemaModel.{slots_of}
 use Rattle.edm_entities.specs.HasType.{HasType}
 use Rattle.edm_entities.specs.Row.{Row, IsEntity, val_of}
 use Rattle.odata_functions.specs.DatumVal.{Reading, datum_val}
-use Rattle.odata_typing.specs.FlatTree.{FlatTree}
+use Rattle.odata_checked_filter.specs.FlatTree.{FlatTree}
 use Rattle.odata_eval.specs.EndsOnce.{EndsOnceOnEntities, IsOutcomeOf}
 use Rattle.odata_eval.specs.Outcome.{Outcome, gives}
 use Rattle.odata_eval.specs.private.DatumView.{IsDatumOf, reading_at}

@@ -9,9 +9,9 @@ use Rattle.csdl_schema.specs.SchemaModel.{slots_of, type_name_at}
 use Rattle.edm_entities.specs.Row.{Row, val_of, value_of}
 use Rattle.odata_functions.specs.DatumVal.{datum_val}
 use Rattle.odata_syntax.specs.Tree.{Tree}
-use Rattle.odata_typing.specs.FlatTree.{FlatTree}
-use Rattle.odata_typing.specs.Stands.{Stands}
-use Rattle.odata_typing.specs.Typed.{Typed}
+use Rattle.odata_checked_filter.specs.FlatTree.{FlatTree}
+use Rattle.odata_checked_filter.specs.Stands.{Stands}
+use Rattle.odata_expression_types.specs.Typed.{Typed}
 use Rattle.odata_eval.specs.declared.fault.EvalFault.{EvalFault}
 use Rattle.odata_eval.specs.declared.part.Part.{Part}
 use Rattle.odata_eval.specs.declared.part.WalkClass.{WalkClass}

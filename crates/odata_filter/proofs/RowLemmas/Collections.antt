@@ -14,7 +14,7 @@ use Rattle.line_filter.specs.Kept.{Filters, Stops}
 use Rattle.line_filter.specs.Places.{ItemJudge, places}
 use Rattle.line_filter.specs.declared.stop.Stop.{Stop}
 use Rattle.line_filter.specs.declared.tally.Tally.{Tally}
-use Rattle.odata_typing.specs.Filter.{Filter}
+use Rattle.odata_checked_filter.specs.Filter.{Filter}
 use Rattle.odata_filter.specs.Collection.{IsCollectionOf, OfCollection, StopsCollection, array_of}
 use Rattle.odata_filter.specs.RowJudgment.{JudgesValue}
 use Rattle.odata_filter.specs.RunStops.{StopsBy, run_stop}

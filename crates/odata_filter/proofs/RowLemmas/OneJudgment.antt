@@ -15,7 +15,7 @@ use Rattle.edm_entities.specs.declared.fault.RowFault.{RowFault}
 use Rattle.odata_eval.specs.Outcome.{Outcome, gives}
 use Rattle.odata_eval.specs.VerdictView.{fault_outcome}
 use Rattle.odata_eval.specs.declared.fault.EvalFault.{EvalFault}
-use Rattle.odata_typing.specs.Filter.{Filter}
+use Rattle.odata_checked_filter.specs.Filter.{Filter}
 use Rattle.line_filter.specs.declared.judge.Judgment.{Judgment}
 use Rattle.odata_filter.specs.declared.bad_row.BadRow.{BadRow}
 use Rattle.odata_filter.specs.RowJudgment.{FilterMeans, HasOutcome, JudgesValue, JudgesJson, JudgesRow}

@@ -15,7 +15,7 @@ use Rattle.odata_eval.specs.Means.{Means}
 use Rattle.odata_eval.specs.MeansOn.{IsTheOutcome}
 use Rattle.odata_eval.specs.Outcome.{Outcome, gives, overflow, divides_by_zero}
 use Rattle.odata_eval.specs.VerdictView.{verdict_val, fault_outcome}
-use Rattle.odata_typing.specs.Filter.{Filter, tree_of_filter}
+use Rattle.odata_checked_filter.specs.Filter.{Filter, tree_of_filter}
 use Rattle.odata_filter.specs.RowJudgment.{HasOutcome, JudgesValue}
 use Rattle.odata_filter.specs.private.Verdicts.{judgment_of}
 

@@ -1,7 +1,7 @@
 -- What is said by a judge's filter and moment is said by those that it was made of.
 use Rattle.std.proofs.Common.{◌≡◌, ℕ, List, Option, Some, None, subst, sym, IfSome}
 use Rattle.edm_values.specs.MomentParts.{MomentParts}
-use Rattle.odata_typing.specs.Filter.{Filter}
+use Rattle.odata_checked_filter.specs.Filter.{Filter}
 use Rattle.line_filter.specs.Growth.{Writes}
 use Rattle.line_filter.specs.Kept.{Stops}
 use Rattle.line_filter.specs.declared.stop.Stop.{Stop}

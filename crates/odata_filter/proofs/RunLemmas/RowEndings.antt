@@ -11,7 +11,7 @@ use Rattle.line_filter.specs.declared.judge.Judgment.{Judgment}
 use Rattle.line_filter.specs.declared.stop.Stop.{Stop}
 use Rattle.line_filter.specs.declared.tally.Tally.{Tally}
 use Rattle.serde_json.specs.Data.{Data}
-use Rattle.odata_typing.specs.Filter.{Filter}
+use Rattle.odata_checked_filter.specs.Filter.{Filter}
 use Rattle.odata_filter.specs.Collection.{IsNoCollection, OfCollection, StopsCollection, entities_of}
 use Rattle.odata_filter.specs.RowJudgment.{rows_of}
 use Rattle.odata_filter.specs.RunStops.{run_stop, StopsBy}

@@ -13,7 +13,7 @@ pub untyped_form::fault_below-returns-in-Has-clause-told : goal.untyped_form::fa
 untyped_form::fault_below-returns-in-Has-clause-told t c =
     let seen : tree_of (Has c.in-Has.span c.in-Has.left c.in-Has.right) ≡ node c.in-Has.span.start c.in-Has.span.stop (has (tree_of c.in-Has.left.value) (tree_of c.in-Has.right.value)) = search (rules, the_lemmas) in
     rw (c.in-Has.is, seen)
-    (told_both c.args.schema.now c.args.filtered_type [] (tree_of c.in-Has.left.value ∷ []) (tree_of c.in-Has.right.value ∷ []) c.fault_of-of_left.result c.fault_of-of_right.result c.earlier_of.result
+    (told_both c.laws_below.ensures c.args.schema.now c.args.filtered_type [] (tree_of c.in-Has.left.value ∷ []) (tree_of c.in-Has.right.value ∷ []) c.fault_of-of_left.result c.fault_of-of_right.result c.earlier_of.result
     (rw c.deref-in-Has.ensures at c.fault_of-of_left.ensures.told)
     (rw c.deref-in-Has-2.ensures at c.fault_of-of_right.ensures.told)
     c.earlier_of.ensures)
@@ -22,7 +22,7 @@ pub untyped_form::fault_below-returns-in-InList-clause-told : goal.untyped_form:
 untyped_form::fault_below-returns-in-InList-clause-told t c =
     let seen : tree_of (InList c.in-InList.span c.in-InList.left c.in-InList.items) ≡ node c.in-InList.span.start c.in-InList.span.stop (in_list (tree_of c.in-InList.left.value) (trees_of c.in-InList.items.items)) = search (rules, the_lemmas) in
     rw (c.in-InList.is, seen)
-    (told_both c.args.schema.now c.args.filtered_type [] (tree_of c.in-InList.left.value ∷ []) (list_of_trees (trees_of c.in-InList.items.items)) c.fault_of-of_element.result c.fault_of_all-of_items.result c.earlier_of-in-InList.result
+    (told_both c.laws_below.ensures c.args.schema.now c.args.filtered_type [] (tree_of c.in-InList.left.value ∷ []) (list_of_trees (trees_of c.in-InList.items.items)) c.fault_of-of_element.result c.fault_of_all-of_items.result c.earlier_of-in-InList.result
     (rw c.deref-in-InList.ensures at c.fault_of-of_element.ensures.told)
     (rw c.deref-in-InList-2.ensures.value at c.fault_of_all-of_items.ensures.told)
     c.earlier_of-in-InList.ensures)
@@ -31,18 +31,18 @@ pub untyped_form::fault_below-returns-in-InPath-clause-told : goal.untyped_form:
 untyped_form::fault_below-returns-in-InPath-clause-told t c =
     let seen : tree_of (InPath c.in-InPath.span c.in-InPath.left c.in-InPath.path) ≡ node c.in-InPath.span.start c.in-InPath.span.stop (in_path (tree_of c.in-InPath.left.value) (tree_of c.in-InPath.path.value)) = search (rules, the_lemmas) in
     rw (c.in-InPath.is, seen)
-    (told_both c.args.schema.now c.args.filtered_type [] (tree_of c.in-InPath.left.value ∷ []) (tree_of c.in-InPath.path.value ∷ []) c.fault_of-of_member.result c.fault_of-of_path.result c.earlier_of-in-InPath.result
+    (told_both c.laws_below.ensures c.args.schema.now c.args.filtered_type [] (tree_of c.in-InPath.left.value ∷ []) (tree_of c.in-InPath.path.value ∷ []) c.fault_of-of_member.result c.fault_of-of_path.result c.earlier_of-in-InPath.result
     (rw c.deref-in-InPath.ensures at c.fault_of-of_member.ensures.told)
     (rw c.deref-in-InPath-2.ensures at c.fault_of-of_path.ensures.told)
     c.earlier_of-in-InPath.ensures)
 
 pub untyped_form::untyped_form-returns-in-Some-clause-fault : goal.untyped_form::untyped_form-returns-in-Some-clause-fault
 untyped_form::untyped_form-returns-in-Some-clause-fault t c =
-    told_below c.args.schema.now c.args.filtered_type [] (tree_of c.args.node.now) c.in-Some.untyped c.in-Some.ensures.told
+    told_below c.laws_below.ensures c.args.schema.now c.args.filtered_type [] (tree_of c.args.node.now) c.in-Some.untyped c.in-Some.ensures.told
 
 pub untyped_form::untyped_form-returns-in-None-clause-fault : goal.untyped_form::untyped_form-returns-in-None-clause-fault
 untyped_form::untyped_form-returns-in-None-clause-fault t c =
-    unruled_itself c.args.schema.now c.args.filtered_type [] (tree_of c.args.node.now) c.span.result c.reason_of.result c.requires c.in-None.ensures.told
+    unruled_itself c.laws_below.ensures c.args.schema.now c.args.filtered_type [] (tree_of c.args.node.now) c.span.result c.reason_of.result c.requires c.in-None.ensures.told
     (c.reason_of.ensures (slots_of c.args.schema.now) (type_name_at c.args.schema.now c.args.filtered_type) [])
     c.span.ensures.starts c.span.ensures.stops
 
@@ -59,7 +59,7 @@ untyped_form::fault_of_all-loop-node-preserved t c =
     let behind : length c.loop-node.list.nodes ≤ length c.fault_of.new.list.nodes = c.fault_of.ensures.grown in
     record {
       told = subst P (sym same)
-          (told_both c.args.schema.now c.args.filtered_type [] (list_of_trees (trees_of so_far)) (tree_of c.node-item.result ∷ []) c.loop-node.told c.fault_of.result c.earlier_of-told.result
+          (told_both c.laws_below.ensures c.args.schema.now c.args.filtered_type [] (list_of_trees (trees_of so_far)) (tree_of c.node-item.result ∷ []) c.loop-node.told c.fault_of.result c.earlier_of-told.result
           c.loop-node.invariant.told c.fault_of.ensures.told c.earlier_of-told.ensures);
       grown = omega arith;
     }
@@ -69,7 +69,7 @@ node::checked_tree-returns-in-It-clause-there t c = c.checked_it.ensures.there c
 
 pub path_node::checked_member-returns-in-Err-checked_tree-clause-answer : goal.path_node::checked_member-returns-in-Err-checked_tree-clause-answer
 path_node::checked_member-returns-in-Err-checked_tree-clause-answer t c =
-    fault_of_only c.args.schema.now c.args.filtered_type [] (node c.args.span.start c.args.span.stop (member (tree_of c.args.base.now) c.args.asked.now)) (tree_of c.args.base.now)
+    fault_of_only c.laws_below.ensures c.args.schema.now c.args.filtered_type [] (node c.args.span.start c.args.span.stop (member (tree_of c.args.base.now) c.args.asked.now)) (tree_of c.args.base.now)
     c.in-Err-checked_tree.untyped refl c.in-Err-checked_tree.ensures.answer
 
 pub unary_node::checked_negation-returns-in-Ok-checked_tree-clause-there : goal.unary_node::checked_negation-returns-in-Ok-checked_tree-clause-there
@@ -77,7 +77,7 @@ unary_node::checked_negation-returns-in-Ok-checked_tree-clause-there t c = c.clo
 
 pub unary_node::checked_negation-returns-in-Err-checked_tree-clause-answer : goal.unary_node::checked_negation-returns-in-Err-checked_tree-clause-answer
 unary_node::checked_negation-returns-in-Err-checked_tree-clause-answer t c =
-    fault_of_only c.args.schema.now c.args.filtered_type [] (node c.args.span.start c.args.span.stop (negation (tree_of c.args.operand.now))) (tree_of c.args.operand.now)
+    fault_of_only c.laws_below.ensures c.args.schema.now c.args.filtered_type [] (node c.args.span.start c.args.span.stop (negation (tree_of c.args.operand.now))) (tree_of c.args.operand.now)
     c.in-Err-checked_tree.untyped refl c.in-Err-checked_tree.ensures.answer
 
 pub unary_node::checked_not-returns-in-Ok-checked_tree-clause-there : goal.unary_node::checked_not-returns-in-Ok-checked_tree-clause-there
@@ -85,5 +85,5 @@ unary_node::checked_not-returns-in-Ok-checked_tree-clause-there t c = c.close_no
 
 pub unary_node::checked_not-returns-in-Err-checked_tree-clause-answer : goal.unary_node::checked_not-returns-in-Err-checked_tree-clause-answer
 unary_node::checked_not-returns-in-Err-checked_tree-clause-answer t c =
-    fault_of_only c.args.schema.now c.args.filtered_type [] (node c.args.span.start c.args.span.stop (logical_not (tree_of c.args.operand.now))) (tree_of c.args.operand.now)
+    fault_of_only c.laws_below.ensures c.args.schema.now c.args.filtered_type [] (node c.args.span.start c.args.span.stop (logical_not (tree_of c.args.operand.now))) (tree_of c.args.operand.now)
     c.in-Err-checked_tree.untyped refl c.in-Err-checked_tree.ensures.answer

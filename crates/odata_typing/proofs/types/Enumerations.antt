@@ -18,9 +18,8 @@ use Rattle.odata_signatures.specs.declared.edm_type.EdmType.{EdmType}
 use Rattle.odata_typing.specs.declared.enumeration_literal.EnumerationNumber.{EnumerationNumber}
 use Rattle.odata_signatures.specs.declared.edm_type.ValueType.{ValueType}
 use Rattle.odata_typing.specs.private.Answer.{IsReading}
-use Rattle.odata_typing.specs.LiteralValue.{EnumerationLiteral, IsNameAndText, NamesNumber}
-use Rattle.odata_typing.proofs.types.OneType.{one_name}
-use Rattle.odata_typing.proofs.types.OneValue.{one_text}
+use Rattle.odata_expression_types.specs.Laws.{OneNameAndText}
+use Rattle.odata_expression_types.specs.LiteralValue.{EnumerationLiteral, IsNameAndText, NamesNumber}
 
 -- ---- quotes
 
@@ -100,11 +99,11 @@ valueless schema asked inner o id found named is same only none qualified n name
     no_number found n none (only n value)
 
 -- the name and the text of a literal are those that were cut
-pub cut_names : (schema : SchemaModel) (spelling asked inner : List ℕ) (qualified : List ℕ) (n : ℤ) → IsNameAndText spelling asked inner
+pub cut_names : OneNameAndText → (schema : SchemaModel) (spelling asked inner : List ℕ) (qualified : List ℕ) (n : ℤ) → IsNameAndText spelling asked inner
     → EnumerationLiteral (slots_of schema) spelling qualified n → NamesNumber (slots_of schema) asked inner qualified n
-cut_names schema spelling asked inner qualified n split literal =
-    let a : literal.asked ≡ asked = one_name spelling literal.asked asked literal.inner inner literal.split split in
-    let b : literal.inner ≡ inner = one_text spelling literal.asked asked literal.inner inner literal.split split in
+cut_names one schema spelling asked inner qualified n split literal =
+    let a : literal.asked ≡ asked = (one spelling literal.asked asked literal.inner inner literal.split split).0 in
+    let b : literal.inner ≡ inner = (one spelling literal.asked asked literal.inner inner literal.split split).1 in
     let P : List ℕ → Type 0 = λ (x : List ℕ). NamesNumber (slots_of schema) x literal.inner qualified n in
     let Q : List ℕ → Type 0 = λ (x : List ℕ). NamesNumber (slots_of schema) asked x qualified n in
     subst Q b (subst P a literal.names)
@@ -115,11 +114,11 @@ pub literal_some : (schema : SchemaModel) (spelling asked inner : List ℕ) (fou
 literal_some schema spelling asked inner (Some f) split names = record { asked = asked; inner = inner; split = split; names = names }
 literal_some schema spelling asked inner None split names = tt
 
-pub literal_none : (schema : SchemaModel) (spelling asked inner : List ℕ) (found : Option EnumerationNumber) → IsNameAndText spelling asked inner
+pub literal_none : OneNameAndText → (schema : SchemaModel) (spelling asked inner : List ℕ) (found : Option EnumerationNumber) → IsNameAndText spelling asked inner
     → IfNone found ((qualified : List ℕ) (n : ℤ) → ¬ NamesNumber (slots_of schema) asked inner qualified n)
     → IfNone found ((qualified : List ℕ) (n : ℤ) → ¬ EnumerationLiteral (slots_of schema) spelling qualified n)
-literal_none schema spelling asked inner (Some f) split none = tt
-literal_none schema spelling asked inner None split none = λ qualified n literal. none qualified n (cut_names schema spelling asked inner qualified n split literal)
+literal_none one schema spelling asked inner (Some f) split none = tt
+literal_none one schema spelling asked inner None split none = λ qualified n literal. none qualified n (cut_names one schema spelling asked inner qualified n split literal)
 
 -- ---- as a value
 

@@ -7,20 +7,20 @@ use Rattle.csdl_schema.specs.ExprType.{ExprType}
 use Rattle.csdl_schema.specs.PropertyView.{IsReadAs, PointsWithin, property_type}
 use Rattle.csdl_schema.specs.SchemaModel.{PropertyModel, PropertyType, SchemaModel, Slots, declared, slot_named}
 use Rattle.csdl_schema.specs.declared.property.Property.{Property}
-use Rattle.odata_typing.specs.declared.refusal.TypeFaultCode.{TypeFaultCode}
-use Rattle.odata_typing.specs.FirstUntypable.{IsFirstUntypable, NameReason, PropertyReason}
-use Rattle.odata_typing.specs.Typed.{PropertyTyped}
-use Rattle.odata_typing.proofs.untypable.Untypable.{first_itself}
+use Rattle.odata_expression_types.specs.declared.refusal.TypeFaultCode.{TypeFaultCode}
+use Rattle.odata_expression_types.specs.FirstUntypable.{IsFirstUntypable, NameReason, PropertyReason}
+use Rattle.odata_expression_types.specs.Typed.{PropertyTyped}
+use Rattle.odata_typing.specs.private.LawsBelow.{LawsBelow}
 use Rattle.odata_typing.proofs.untypable.PropertySlots.{slot_below, property_at, property_none}
 
 -- a name that has no type
 pub first_name :
-    (slots : Slots) (root asked : List ℕ) (span : Span) (code : TypeFaultCode)
+    LawsBelow → (slots : Slots) (root asked : List ℕ) (span : Span) (code : TypeFaultCode)
     → ((type : ExprType) → ¬ PropertyTyped (slots.properties root) asked type)
     → NameReason (slots.properties root) asked code
     → IsFirstUntypable slots root [] (node span.start span.stop (name asked)) (record { code = code; span = span })
-first_name slots root asked span code untyped reason =
-    first_itself slots root [] span.start span.stop (name asked) (record { code = code; span = span }) tt untyped reason refl refl
+first_name laws slots root asked span code untyped reason =
+    laws.itself slots root [] span.start span.stop (name asked) (record { code = code; span = span }) tt untyped reason refl refl
 
 -- there is no property of the name
 pub unknown_untyped : (properties : List PropertyModel) (asked : List ℕ) (type : ExprType) → slot_named properties asked ≡ None → ¬ PropertyTyped properties asked type

@@ -1,21 +1,21 @@
 -- For private clauses: what the walk over a tree answers.
-use Rattle.std.specs.Prelude.{◌≡◌, ◌≢◌, ◌⊎◌, ℕ, List, Some, Result, MatchResult, length, slice_get}
+use Rattle.std.specs.Prelude.{◌≡◌, ◌≢◌, ◌⊎◌, ℕ, List, Result, MatchResult, length}
 use Rattle.edm_values.specs.declared.value.Value.{Value}
 use Rattle.odata_syntax.specs.Tree.{Tree}
 use Rattle.odata_syntax.specs.declared.node.LiteralKind.{LiteralKind}
 use Rattle.odata_text.specs.declared.fault.TextFault.{TextFault}
 use Rattle.odata_syntax.specs.declared.syntax_fault.SyntaxFault.{SyntaxFault}
 use Rattle.csdl_schema.specs.SchemaModel.{SchemaModel, slots_of, type_name_at}
-use Rattle.odata_typing.specs.declared.checked_node.CheckedNode.{CheckedNode}
 use Rattle.odata_signatures.specs.declared.edm_type.EdmType.{EdmType}
-use Rattle.odata_typing.specs.declared.refusal.Refusal.{Refusal}
+use Rattle.odata_expression_types.specs.declared.refusal.Refusal.{Refusal}
 use Rattle.odata_typing.specs.declared.untyped.Untyped.{Untyped}
-use Rattle.odata_typing.specs.FirstUntypable.{IsFirstUntypable}
-use Rattle.odata_typing.specs.FlatTree.{FlatTree, tree_of_nodes}
-use Rattle.odata_typing.specs.HasTyping.{HasTree}
-use Rattle.odata_typing.specs.LiteralValue.{LiteralTyped}
-use Rattle.odata_typing.specs.Stands.{IsValueOf, Stands}
-use Rattle.odata_typing.specs.Typed.{Scope, Typed}
+use Rattle.odata_expression_types.specs.FirstUntypable.{IsFirstUntypable}
+use Rattle.odata_checked_filter.specs.FlatTree.{FlatTree, tree_of_nodes}
+use Rattle.odata_checked_filter.specs.ListGrowth.{IsGrownBy}
+use Rattle.odata_expression_types.specs.HasTyping.{HasTree}
+use Rattle.odata_expression_types.specs.LiteralValue.{LiteralTyped}
+use Rattle.odata_checked_filter.specs.Stands.{IsValueOf, Stands}
+use Rattle.odata_expression_types.specs.Typed.{Scope, Typed}
 use Rattle.odata_signatures.specs.TypeView.{expr_type}
 
 -- a literal with its value and its type
@@ -24,18 +24,11 @@ pub record IsReading
   pub value_of : IsValueOf (slots_of schema) kind spelling value
   pub typed : LiteralTyped (slots_of schema) kind spelling (expr_type schema type)
 
--- all that stood in the list stands there still
-pub record IsKept (old new : FlatTree) : Type 0 where
-  pub nodes : (k : ℕ) (found : CheckedNode) → slice_get old.nodes k ≡ Some found → slice_get new.nodes k ≡ Some found
-  pub values : (k : ℕ) (value : Value) → slice_get old.values k ≡ Some value → slice_get new.values k ≡ Some value
-  pub texts : (k : ℕ) (text : List ℕ) → slice_get old.texts k ≡ Some text → slice_get new.texts k ≡ Some text
-
 -- behind what stood in the list stand nodes for the tree, which has the type where these variables are in scope
 pub record IsWalked
     (schema : SchemaModel) (n : ℕ) (scope : Scope) (old : FlatTree) (tree : Tree) (new : FlatTree) (type : EdmType)
     : Type 0 where
-  pub kept : IsKept old new
-  pub stands : Stands schema n scope new (length old.nodes) (length new.nodes) tree
+  pub grown : IsGrownBy schema n scope old tree new
   pub typed : Typed (slots_of schema) (type_name_at schema n) scope tree (expr_type schema type)
 
 -- the whole list stands for its tree, which has the type

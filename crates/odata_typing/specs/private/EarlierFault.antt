@@ -1,6 +1,6 @@
 -- For private clauses: which of two faults is told.
 use Rattle.std.specs.Prelude.{◌≡◌, ◌<◌, ◌≤◌, ◌⊎◌, Option, Some, None, IsSomeAnd}
-use Rattle.odata_typing.specs.declared.refusal.TypeFault.{TypeFault}
+use Rattle.odata_expression_types.specs.declared.refusal.TypeFault.{TypeFault}
 use Rattle.odata_typing.specs.declared.untyped.Untyped.{Untyped}
 
 -- the second fault only where it starts before the first

@@ -1,6 +1,6 @@
 use Rattle.std.proofs.Common.{IfSome}
 use Rattle.edm_values.specs.MomentParts.{MomentParts}
-use Rattle.odata_typing.specs.Filter.{Filter}
+use Rattle.odata_checked_filter.specs.Filter.{Filter}
 use Rattle.line_filter.specs.Growth.{Writes}
 use Rattle.odata_filter.specs.RowJudgment.{rows_of}
 use Rattle.odata_filter.specs.RunStops.{StopsBy}

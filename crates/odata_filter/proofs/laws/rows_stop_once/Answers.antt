@@ -1,6 +1,6 @@
 use Rattle.std.proofs.Common.{◌≡◌, ℕ, List}
 use Rattle.edm_values.specs.MomentParts.{MomentParts}
-use Rattle.odata_typing.specs.Filter.{Filter}
+use Rattle.odata_checked_filter.specs.Filter.{Filter}
 use Rattle.line_filter.specs.Kept.{Filters}
 use Rattle.line_filter.specs.declared.tally.Tally.{Tally}
 use Rattle.odata_filter.specs.declared.run_fault.RunFault.{RunFault}

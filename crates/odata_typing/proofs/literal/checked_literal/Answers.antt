@@ -3,4 +3,4 @@ use Rattle.odata_typing.proofs.literal.checked_literal.Goals as goal
 
 pub returns-in-Err-Form-clause-answer : goal.returns-in-Err-Form-clause-answer
 returns-in-Err-Form-clause-answer c = λ n scope.
-    unread_literal c.args.schema.now n scope c.args.span c.args.kind c.args.spelling.now c.literal_reason.result (rw c.in-Err-Form.field-0-is at c.in-Err-Form.ensures.fault) c.literal_reason.ensures
+    unread_literal c.laws_below.ensures c.args.schema.now n scope c.args.span c.args.kind c.args.spelling.now c.literal_reason.result (rw c.in-Err-Form.field-0-is at c.in-Err-Form.ensures.fault) c.literal_reason.ensures

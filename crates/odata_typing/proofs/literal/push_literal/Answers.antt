@@ -6,7 +6,7 @@ use Rattle.odata_typing.proofs.literal.push_literal.Goals as goal
 
 pub returns-in-Ok-push-clause-answer : goal.returns-in-Ok-push-clause-answer
 returns-in-Ok-push-clause-answer c = λ schema n scope reading.
-    literal_pushed schema n scope c.args.list.now c.push_value.new.self c.push.new.self c.args.span c.args.kind c.args.spelling.now (string_bytes c.in-Ok.text) c.args.reading.value c.args.reading.edm_type (length c.values-place.result.now)
+    literal_pushed c.laws_below.ensures schema n scope c.args.list.now c.push_value.new.self c.push.new.self c.args.span c.args.kind c.args.spelling.now (string_bytes c.in-Ok.text) c.args.reading.value c.args.reading.edm_type (length c.values-place.result.now)
     c.in-Ok-push.ensures.beside
     reading
     (ap (λ (xs : List Value). length xs) c.values-place.ensures)

@@ -8,4 +8,4 @@ returns-in-Ok-clause-answer c =
 
 pub returns-in-Err-clause-answer : goal.returns-in-Err-clause-answer
 returns-in-Err-clause-answer c =
-    first_name (slots_of c.args.schema.now) (type_name_at c.args.schema.now c.args.filtered_type) c.args.asked.now c.args.span c.in-Err.code c.in-Err.ensures.untyped c.in-Err.ensures.reason
+    first_name c.laws_below.ensures (slots_of c.args.schema.now) (type_name_at c.args.schema.now c.args.filtered_type) c.args.asked.now c.args.span c.in-Err.code c.in-Err.ensures.untyped c.in-Err.ensures.reason

@@ -1,0 +1,3 @@
+pub mod flat
+pub mod canonical
+pub mod pre_orders

@@ -1,0 +1,51 @@
+-- Which shape a node of a kind stands for.
+use Rattle.std.proofs.Common.{◌≡◌, ◌∙◌, ℕ, List, Some, slice_get, refl, sym, subst, ap}
+use Rattle.edm_values.specs.declared.value.Value.{Value}
+use Rattle.odata_syntax.specs.Tree.{Shape, Tree, binary, it, literal, logical_not, member, name, negation, node}
+use Rattle.odata_syntax.specs.declared.node.LiteralKind.{LiteralKind}
+use Rattle.csdl_schema.specs.SchemaModel.{Slots, slots_of, type_name_at}
+use Rattle.odata_checked_filter.specs.declared.checked_node.CheckedNode.{CheckedNode}
+use Rattle.odata_checked_filter.specs.declared.checked_node.NodeKind.{NodeKind}
+use Rattle.odata_checked_filter.specs.FlatTree.{FlatTree}
+use Rattle.odata_checked_filter.specs.Stands.{IsKindOf}
+use Rattle.odata_expression_types.specs.Typed.{Scope}
+use Rattle.odata_checked_filter.specs.private.CanonicalWalk.{StandsThere}
+
+-- the shape is of the kind
+abbrev pub Matches : NodeKind → Shape → Type 0
+Matches (NodeKind.Literal kind value) shape = (spelling : List ℕ) × (shape ≡ literal kind spelling)
+Matches NodeKind.It shape = shape ≡ it
+Matches (NodeKind.Property slot) shape = (asked : List ℕ) × (shape ≡ name asked)
+Matches (NodeKind.Variable level) shape = (asked : List ℕ) × (shape ≡ name asked)
+Matches (NodeKind.Member slot) shape = (base : Tree) × (asked : List ℕ) × (shape ≡ member base asked)
+Matches NodeKind.Neg shape = (operand : Tree) × (shape ≡ negation operand)
+Matches NodeKind.Not shape = (operand : Tree) × (shape ≡ logical_not operand)
+Matches (NodeKind.Binary operator) shape = (left : Tree) × (right : Tree) × (shape ≡ binary operator left right)
+
+matched : (values : List Value) (slots : Slots) (root : List ℕ) (scope : Scope) (shape : Shape) (kind : NodeKind)
+    → IsKindOf values slots root scope shape kind → Matches kind shape
+matched values slots root scope (literal k spelling) (NodeKind.Literal kind value) is = (spelling, ap (λ (x : LiteralKind). literal x spelling) (sym is.0))
+matched values slots root scope (literal k spelling) _ is = absurd is
+matched values slots root scope it kind is = subst (λ (k : NodeKind). Matches k it) (sym is) refl
+matched values slots root scope (name asked) (NodeKind.Property slot) is = (asked, refl)
+matched values slots root scope (name asked) (NodeKind.Variable level) is = (asked, refl)
+matched values slots root scope (name asked) _ is = absurd is
+matched values slots root scope (member base asked) (NodeKind.Member slot) is = (base, asked, refl)
+matched values slots root scope (member base asked) _ is = absurd is
+matched values slots root scope (negation operand) kind is = subst (λ (k : NodeKind). Matches k (negation operand)) (sym is) (operand, refl)
+matched values slots root scope (logical_not operand) kind is = subst (λ (k : NodeKind). Matches k (logical_not operand)) (sym is) (operand, refl)
+matched values slots root scope (binary operator left right) kind is =
+    subst (λ (k : NodeKind). Matches k (binary operator left right)) (sym is) (left, right, refl)
+matched values slots root scope _ kind is = absurd is
+
+same_node : (nodes : List CheckedNode) (i : ℕ) (a b : CheckedNode) → slice_get nodes i ≡ Some a → slice_get nodes i ≡ Some b → a ≡ b
+same_node nodes i a b first second = cc
+
+-- the shape of the tree that stands there is of the node's kind
+pub shape_there : (list : FlatTree) (i : ℕ) (found : CheckedNode) (kind : NodeKind) (start stop : ℕ) (shape : Shape)
+    → slice_get list.nodes i ≡ Some found → found.kind ≡ kind → StandsThere list i (node start stop shape) → Matches kind shape
+shape_there list i found kind start stop shape at is there =
+    let top = there.stands.top in
+    let same : top.found.kind ≡ kind = ap (λ (f : CheckedNode). f.kind) (same_node list.nodes i top.found found top.stands_at at) ∙ is in
+    subst (λ (k : NodeKind). Matches k shape) same
+    (matched list.values (slots_of there.schema) (type_name_at there.schema there.filtered) there.scope shape top.found.kind top.kind)

@@ -1,0 +1,7 @@
+-- A list of nodes and the tree that it stands for.
+pub mod Forests
+pub mod Growth
+pub mod Numbered
+pub mod Parts
+pub mod Places
+pub mod Standing

@@ -1,0 +1,236 @@
+-- The node of a number, in the list and in the tree.
+use Rattle.std.proofs.Common.{◌≡◌, refl, sym, ap, ◌∙◌, subst, inl, inr, ℕ, ◌<◌, ◌≤◌, ◌+◌, List, [], ◌∷◌, Some, None, Option, slice_get, length, arith}
+use Rattle.std.specs.Option.{option_map}
+use Rattle.std.proofs.lemmas.Option.{none-some, slice_get-map, slice_get_cases, slice_get_past, slice_get_within}
+use Rattle.odata_syntax.specs.Tree.{Shape, Tree, node, literal, it, name, member, negation, logical_not, binary}
+use Rattle.odata_text.specs.declared.span.Span.{Span}
+use Rattle.csdl_schema.specs.ExprType.{single, structured}
+use Rattle.csdl_schema.specs.SchemaModel.{Slots, slots_of, type_name_at, slot_named}
+use Rattle.odata_checked_filter.specs.declared.checked_node.CheckedNode.{CheckedNode}
+use Rattle.odata_checked_filter.specs.declared.checked_node.NodeKind.{NodeKind}
+use Rattle.odata_expression_types.specs.Considered.{IsConsidered}
+use Rattle.odata_checked_filter.specs.Filter.{Filter, IsFilter, IsTypeAt, tree_of_filter}
+use Rattle.odata_checked_filter.specs.FlatTree.{FlatTree}
+use Rattle.odata_checked_filter.specs.Levels.{level_named}
+use Rattle.odata_checked_filter.specs.NameKinds.{NamesSlot, IsSlotAt, level_of_node, level_at}
+use Rattle.odata_expression_types.specs.Laws.{OneType}
+use Rattle.odata_expression_types.specs.PreOrder.{pre_order, span_of_tree}
+use Rattle.odata_checked_filter.specs.ScopedNodes.{ScopedNode, scoped_nodes}
+use Rattle.odata_checked_filter.specs.Stands.{Stands, IsKindOf, variable_names}
+use Rattle.odata_expression_types.specs.Typed.{Scope, Typed}
+use Rattle.odata_signatures.specs.TypeView.{expr_type}
+use Rattle.odata_checked_filter.proofs.flat.Places.{found_within, same_found}
+use Rattle.odata_checked_filter.proofs.flat.Parts.{IsPart, part_stands, parts_count, parts_of}
+use Rattle.odata_checked_filter.proofs.flat.Standing.{stands_size}
+
+-- the level that a kind has
+abbrev pub level_of_kind : NodeKind → Option ℕ
+level_of_kind (NodeKind.Variable level) = Some level
+level_of_kind _ = None
+
+-- the slot that a kind has
+abbrev pub slot_of_kind : NodeKind → Option ℕ
+slot_of_kind (NodeKind.Property slot) = Some slot
+slot_of_kind (NodeKind.Member slot) = Some slot
+slot_of_kind _ = None
+
+-- a kind without a slot
+slotless : (kind other : NodeKind) (slot : ℕ) → slot_of_kind other ≡ None → kind ≡ other → slot_of_kind kind ≡ Some slot → ⊥
+slotless kind other slot none is found =
+    let e : slot_of_kind kind ≡ None = ap slot_of_kind is ∙ none in
+    cc
+
+no_slot : (slot : ℕ) → None ≡ Some slot → ⊥
+no_slot slot found = cc
+
+names_slot :
+    (list : FlatTree) (slots : Slots) (root : List ℕ) (scope : Scope) (start stop : ℕ) (shape : Shape) (kind : NodeKind) (slot : ℕ)
+    → IsKindOf list.values slots root scope shape kind
+    → slot_of_kind kind ≡ Some slot
+    → NamesSlot slots root scope (node start stop shape) slot
+names_slot list slots root scope start stop (literal k spelling) (NodeKind.Literal l place) slot is found = absurd (no_slot slot found)
+names_slot list slots root scope start stop (literal k spelling) _ slot is found = absurd is
+names_slot list slots root scope start stop it kind slot is found = slotless kind NodeKind.It slot refl is found
+names_slot list slots root scope start stop (name asked) (NodeKind.Property other) slot is found = (is.0, is.1 ∙ found)
+names_slot list slots root scope start stop (name asked) (NodeKind.Variable level) slot is found = absurd (no_slot slot found)
+names_slot list slots root scope start stop (name asked) _ slot is found = absurd is
+names_slot list slots root scope start stop (member base asked) (NodeKind.Member other) slot is found = (is.0, is.1, is.2 ∙ found)
+names_slot list slots root scope start stop (member base asked) _ slot is found = absurd is
+names_slot list slots root scope start stop (negation operand) kind slot is found = slotless kind NodeKind.Neg slot refl is found
+names_slot list slots root scope start stop (logical_not operand) kind slot is found = slotless kind NodeKind.Not slot refl is found
+names_slot list slots root scope start stop (binary operator left right) kind slot is found = slotless kind (NodeKind.Binary operator) slot refl is found
+names_slot list slots root scope start stop _ kind slot is found = absurd is
+
+same_slot : (o : Option ℕ) (a b : ℕ) → o ≡ Some a → o ≡ Some b → Some a ≡ Some b
+same_slot o a b x y = cc
+
+none_some : (o : Option ℕ) (a : ℕ) → o ≡ Some a → o ≡ None → ⊥
+none_some o a x y = cc
+
+same_owner : (a b : List ℕ) → single (structured a) ≡ single (structured b) → a ≡ b
+same_owner a b same = cc
+
+only_slot :
+    OneType → (list : FlatTree) (slots : Slots) (root : List ℕ) (scope : Scope) (start stop : ℕ) (shape : Shape) (kind : NodeKind) (slot : ℕ)
+    → IsKindOf list.values slots root scope shape kind
+    → NamesSlot slots root scope (node start stop shape) slot
+    → slot_of_kind kind ≡ Some slot
+only_slot one list slots root scope start stop (name asked) (NodeKind.Property other) slot is names =
+    same_slot (slot_named (slots.properties root) asked) other slot is.1 names.1
+only_slot one list slots root scope start stop (name asked) (NodeKind.Variable level) slot is names =
+    absurd (none_some (level_named (variable_names scope) asked) level is names.0)
+only_slot one list slots root scope start stop (name asked) _ slot is names = absurd is
+only_slot one list slots root scope start stop (member base asked) (NodeKind.Member other) slot is names =
+    let owner : is.0 ≡ names.0 =
+    same_owner is.0 names.0 (one slots root scope base (single (structured is.0)) (single (structured names.0)) is.1 names.1) in
+    let P : List ℕ → Type 0 = λ (o : List ℕ). slot_named (slots.properties o) asked ≡ Some other in
+    same_slot (slot_named (slots.properties names.0) asked) other slot (subst P owner is.2) names.2
+only_slot one list slots root scope start stop (member base asked) _ slot is names = absurd is
+only_slot one list slots root scope start stop _ kind slot is names = absurd names
+
+level_of_top :
+    (list : FlatTree) (slots : Slots) (root : List ℕ) (scope : Scope) (start stop : ℕ) (shape : Shape) (kind : NodeKind)
+    → IsKindOf list.values slots root scope shape kind
+    → level_of_node (variable_names scope) (node start stop shape) ≡ level_of_kind kind
+level_of_top list slots root scope start stop (literal k spelling) (NodeKind.Literal l place) is = refl
+level_of_top list slots root scope start stop (literal k spelling) _ is = absurd is
+level_of_top list slots root scope start stop it kind is = rw is refl
+level_of_top list slots root scope start stop (name asked) (NodeKind.Variable level) is = is
+level_of_top list slots root scope start stop (name asked) (NodeKind.Property slot) is = is.0
+level_of_top list slots root scope start stop (name asked) _ is = absurd is
+level_of_top list slots root scope start stop (member base asked) (NodeKind.Member slot) is = refl
+level_of_top list slots root scope start stop (member base asked) _ is = absurd is
+level_of_top list slots root scope start stop (negation operand) kind is = rw is refl
+level_of_top list slots root scope start stop (logical_not operand) kind is = rw is refl
+level_of_top list slots root scope start stop (binary operator left right) kind is = rw is refl
+level_of_top list slots root scope start stop _ kind is = absurd is
+
+-- what a node of the list says of the tree that stands there
+pub record IsNodeOf (filter : Filter) (found : CheckedNode) (at : ScopedNode) : Type 0 where
+  pub span : found.span ≡ span_of_tree at.part
+  pub typed : Typed (slots_of filter.schema) (type_name_at filter.schema filter.filtered) [] at.part (expr_type filter.schema found.edm_type)
+  pub slots : (slot : ℕ) → slot_of_kind found.kind ≡ Some slot → NamesSlot (slots_of filter.schema) (type_name_at filter.schema filter.filtered) [] at.part slot
+  pub only_slots : OneType → (slot : ℕ) → NamesSlot (slots_of filter.schema) (type_name_at filter.schema filter.filtered) [] at.part slot → slot_of_kind found.kind ≡ Some slot
+  pub levels : level_of_node at.variables at.part ≡ level_of_kind found.kind
+
+span_same : (span : Span) (start stop : ℕ) → span.start ≡ start → span.stop ≡ stop → span ≡ record { start = start; stop = stop }
+span_same span start stop a b = rw (sym a, sym b) refl
+
+top_says :
+    (filter : Filter) (k j : ℕ) (tree : Tree)
+    → (stands : Stands filter.schema filter.filtered [] filter.list k j tree)
+    → (found : CheckedNode)
+    → slice_get filter.list.nodes k ≡ Some found
+    → IsNodeOf filter found (record { variables = []; part = tree })
+top_says filter k j (node start stop shape) stands found here =
+    let schema = filter.schema in
+    let root = type_name_at schema filter.filtered in
+    let top = stands.top in
+    let same : top.found ≡ found = same_found (slice_get filter.list.nodes k) top.found found top.stands_at here in
+    let P : CheckedNode → Type 0 = λ (f : CheckedNode). IsNodeOf filter f (record { variables = []; part = node start stop shape }) in
+    subst P same (record {
+      span = span_same top.found.span start stop top.starts top.stops;
+      typed = top.typed;
+      slots = λ slot is. names_slot filter.list (slots_of schema) root [] start stop shape top.found.kind slot top.kind is;
+      only_slots = λ one slot names. only_slot one filter.list (slots_of schema) root [] start stop shape top.found.kind slot top.kind names;
+      levels = level_of_top filter.list (slots_of schema) root [] start stop shape top.found.kind top.kind;
+    })
+
+-- as many nodes in the list as in the tree
+pub count_of : (filter : Filter) → IsFilter filter → length filter.list.nodes ≡ length (pre_order (tree_of_filter filter))
+count_of filter is =
+    let e : length filter.list.nodes ≡ 0 + length (pre_order (tree_of_filter filter)) =
+    stands_size filter.schema filter.filtered [] filter.list 0 (length filter.list.nodes) (tree_of_filter filter) is.stands in
+    omega arith
+
+-- a node of the list, and the part of the tree that it is of
+pub record IsNumbered (filter : Filter) (k : ℕ) (found : CheckedNode) : Type 0 where
+  pub at : ScopedNode
+  pub scoped : slice_get (scoped_nodes [] (tree_of_filter filter)) k ≡ Some at
+  pub ordered : slice_get (pre_order (tree_of_filter filter)) k ≡ Some at.part
+  pub unbound : slice_get (scoped_nodes [] (tree_of_filter filter)) k ≡ Some (record { variables = []; part = at.part })
+  pub considered : IsConsidered (slots_of filter.schema) (type_name_at filter.schema filter.filtered) [] (tree_of_filter filter) [] at.part
+  pub says : IsNodeOf filter found at
+
+scoped_same : (at : ScopedNode) → at.variables ≡ [] → record { variables = []; part = at.part } ≡ at
+scoped_same at none =
+    let of : List (List ℕ) → ScopedNode = λ (variables : List (List ℕ)). record { variables = variables; part = at.part } in ap of (sym none)
+
+pub numbered : (filter : Filter) (k : ℕ) (found : CheckedNode) → IsFilter filter → slice_get filter.list.nodes k ≡ Some found → IsNumbered filter k found
+numbered filter k found is here =
+    let tree = tree_of_filter filter in
+    let within : k < length filter.list.nodes = slice_get_within filter.list.nodes k found here in
+    let count : length filter.list.nodes ≡ length (pre_order tree) = count_of filter is in
+    let parts : length (scoped_nodes [] tree) ≡ length (pre_order tree) = parts_count [] tree in
+    let inside : k < length (scoped_nodes [] tree) = omega arith in
+    let s = found_within (scoped_nodes [] tree) k inside in
+    let P : ℕ → Type 0 = λ (x : ℕ). IsPart filter.schema filter.filtered [] filter.list tree x s.0 in
+    let zero_more : 0 + k ≡ k = omega arith in
+    let part = subst P zero_more (part_stands filter.schema filter.filtered [] filter.list 0 (length filter.list.nodes) tree k s.0 is.stands s.1) in
+    let Q : ScopedNode → Type 0 = λ (x : ScopedNode). IsNodeOf filter found x in
+    record {
+      at = s.0;
+      scoped = s.1;
+      ordered =
+          ap (λ (ts : List Tree). slice_get ts k) (sym (parts_of [] tree))
+          ∙ slice_get-map (λ (x : ScopedNode). x.part) (scoped_nodes [] tree) k
+          ∙ ap (option_map (λ (x : ScopedNode). x.part)) s.1;
+      unbound = s.1 ∙ ap Some (sym (scoped_same s.0 part.variables));
+      considered = part.considered;
+      says = subst Q (scoped_same s.0 part.variables) (top_says filter k part.j s.0.part part.stands found here);
+    }
+
+-- past the list's end is past the tree's
+pub past_ordered : (filter : Filter) (k : ℕ) → IsFilter filter → length filter.list.nodes ≤ k → slice_get (pre_order (tree_of_filter filter)) k ≡ None
+past_ordered filter k is past =
+    let count : length filter.list.nodes ≡ length (pre_order (tree_of_filter filter)) = count_of filter is in
+    slice_get_past (pre_order (tree_of_filter filter)) k (omega arith)
+
+pub past_scoped : (filter : Filter) (k : ℕ) → IsFilter filter → length filter.list.nodes ≤ k → slice_get (scoped_nodes [] (tree_of_filter filter)) k ≡ None
+past_scoped filter k is past =
+    let count : length filter.list.nodes ≡ length (pre_order (tree_of_filter filter)) = count_of filter is in
+    let parts : length (scoped_nodes [] (tree_of_filter filter)) ≡ length (pre_order (tree_of_filter filter)) = parts_count [] (tree_of_filter filter) in
+    slice_get_past (scoped_nodes [] (tree_of_filter filter)) k (omega arith)
+
+pub type_at : (filter : Filter) (k : ℕ) (found : CheckedNode) → IsNumbered filter k found → IsTypeAt filter k (expr_type filter.schema found.edm_type)
+type_at filter k found is = record { at = []; part = is.at.part; numbered = is.unbound; considered = is.considered; typed = is.says.typed }
+
+pub span_at : (filter : Filter) (k : ℕ) (found : CheckedNode) → IsNumbered filter k found → Some found.span ≡ option_map span_of_tree (slice_get (pre_order (tree_of_filter filter)) k)
+span_at filter k found is = ap Some is.says.span ∙ sym (ap (option_map span_of_tree) is.ordered)
+
+pub slot_at : (filter : Filter) (k slot : ℕ) (found : CheckedNode) → IsNumbered filter k found → slot_of_kind found.kind ≡ Some slot → IsSlotAt filter k slot
+slot_at filter k slot found is kind =
+    record { at = []; part = is.at.part; numbered = is.unbound; considered = is.considered; names = is.says.slots slot kind }
+
+same_scoped : (o : Option ScopedNode) (a b : ScopedNode) → o ≡ Some a → o ≡ Some b → a ≡ b
+same_scoped o a b x y = cc
+
+no_variables : (scope : Scope) → variable_names scope ≡ [] → scope ≡ []
+no_variables [] none = refl
+no_variables (bound ∷ scope) none = cc
+
+pub no_other_slot : OneType → (filter : Filter) (k slot : ℕ) (found : CheckedNode) → IsNumbered filter k found → IsSlotAt filter k slot → slot_of_kind found.kind ≡ Some slot
+no_other_slot one filter k slot found is other =
+    let named : ScopedNode = record { variables = variable_names other.at; part = other.part } in
+    let here : ScopedNode = record { variables = []; part = is.at.part } in
+    let same : named ≡ here = same_scoped (slice_get (scoped_nodes [] (tree_of_filter filter)) k) named here other.numbered is.unbound in
+    let scope : other.at ≡ [] = no_variables other.at (ap (λ (x : ScopedNode). x.variables) same) in
+    let part : other.part ≡ is.at.part = ap (λ (x : ScopedNode). x.part) same in
+    let P : Scope → Type 0 = λ (x : Scope). NamesSlot (slots_of filter.schema) (type_name_at filter.schema filter.filtered) x other.part slot in
+    let Q : Tree → Type 0 = λ (t : Tree). NamesSlot (slots_of filter.schema) (type_name_at filter.schema filter.filtered) [] t slot in
+    is.says.only_slots one slot (subst Q part (subst P scope other.names))
+
+pub level_found : (filter : Filter) (k : ℕ) (found : CheckedNode) → IsNumbered filter k found → level_at filter k ≡ level_of_kind found.kind
+level_found filter k found is = rw is.scoped is.says.levels
+
+pub no_slot_past : (filter : Filter) (k slot : ℕ) → IsFilter filter → length filter.list.nodes ≤ k → ¬ IsSlotAt filter k slot
+no_slot_past filter k slot is past names =
+    none-some (record { variables = variable_names names.at; part = names.part }) (sym (past_scoped filter k is past) ∙ names.numbered)
+
+pub no_level_past : (filter : Filter) (k : ℕ) → IsFilter filter → length filter.list.nodes ≤ k → level_at filter k ≡ None
+no_level_past filter k is past = rw (past_scoped filter k is past) refl
+
+-- what is not found is past the end
+pub past_end : (nodes : List CheckedNode) (k : ℕ) → None ≡ slice_get nodes k → length nodes ≤ k
+past_end nodes k none =
+    elim (slice_get_cases nodes k).1 [ inl x ↦ absurd (none-some x.0 (none ∙ x.2)) | inr y ↦ y.0 ]

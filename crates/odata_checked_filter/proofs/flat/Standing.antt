@@ -1,0 +1,163 @@
+-- What stands for a tree: how many nodes, and that it still does where they are kept.
+use Rattle.std.proofs.Common.{◌≡◌, ℕ, ◌<◌, ◌≤◌, ◌+◌, List, Some, None, slice_get, length, length-append, IsSomeAnd, Option, refl, arith}
+use Rattle.edm_values.specs.declared.value.Value.{Value}
+use Rattle.odata_syntax.specs.Tree.{Tree, node, Shape, literal, it, name, member, negation, logical_not, binary}
+use Rattle.csdl_schema.specs.SchemaModel.{SchemaModel, Slots}
+use Rattle.odata_checked_filter.specs.declared.checked_node.CheckedNode.{CheckedNode}
+use Rattle.odata_checked_filter.specs.declared.checked_node.NodeKind.{NodeKind}
+use Rattle.odata_checked_filter.specs.FlatTree.{FlatTree}
+use Rattle.odata_expression_types.specs.PreOrder.{pre_order}
+use Rattle.odata_checked_filter.specs.Stands.{ChildrenStand, Stands, IsTop, IsKindOf}
+use Rattle.odata_expression_types.specs.Typed.{Scope}
+use Rattle.odata_checked_filter.specs.ListGrowth.{IsKept}
+
+-- as many nodes as the tree has
+pub stands_size :
+    (schema : SchemaModel) (n : ℕ) (scope : Scope) (list : FlatTree) (i j : ℕ) (tree : Tree)
+    → Stands schema n scope list i j tree
+    → j ≡ i + length (pre_order tree)
+stands_size schema n scope list i j (node start stop (literal kind spelling)) stands = let e : i + 1 ≡ j = stands.children in omega arith
+stands_size schema n scope list i j (node start stop it) stands = let e : i + 1 ≡ j = stands.children in omega arith
+stands_size schema n scope list i j (node start stop (name asked)) stands = let e : i + 1 ≡ j = stands.children in omega arith
+stands_size schema n scope list i j (node start stop (member base asked)) stands =
+    let a : j ≡ i + 1 + length (pre_order base) = stands_size schema n scope list (i + 1) j base stands.children in omega arith
+stands_size schema n scope list i j (node start stop (negation operand)) stands =
+    let a : j ≡ i + 1 + length (pre_order operand) = stands_size schema n scope list (i + 1) j operand stands.children in omega arith
+stands_size schema n scope list i j (node start stop (logical_not operand)) stands =
+    let a : j ≡ i + 1 + length (pre_order operand) = stands_size schema n scope list (i + 1) j operand stands.children in omega arith
+stands_size schema n scope list i j (node start stop (binary operator left right)) stands =
+    let m = stands.children.middle in
+    let a : m ≡ i + 1 + length (pre_order left) = stands_size schema n scope list (i + 1) m left stands.children.left in
+    let b : j ≡ m + length (pre_order right) = stands_size schema n scope list m j right stands.children.right in
+    omega (arith, length-append (pre_order left) (pre_order right))
+stands_size schema n scope list i j (node start stop _) stands = absurd stands.children
+
+pub stands_nonempty :
+    (schema : SchemaModel) (n : ℕ) (scope : Scope) (list : FlatTree) (i j : ℕ) (tree : Tree)
+    → Stands schema n scope list i j tree
+    → i < j
+stands_nonempty schema n scope list i j (node start stop (literal kind spelling)) stands = let e : i + 1 ≡ j = stands.children in omega arith
+stands_nonempty schema n scope list i j (node start stop it) stands = let e : i + 1 ≡ j = stands.children in omega arith
+stands_nonempty schema n scope list i j (node start stop (name asked)) stands = let e : i + 1 ≡ j = stands.children in omega arith
+stands_nonempty schema n scope list i j (node start stop (member base asked)) stands =
+    let a : i + 1 < j = stands_nonempty schema n scope list (i + 1) j base stands.children in omega arith
+stands_nonempty schema n scope list i j (node start stop (negation operand)) stands =
+    let a : i + 1 < j = stands_nonempty schema n scope list (i + 1) j operand stands.children in omega arith
+stands_nonempty schema n scope list i j (node start stop (logical_not operand)) stands =
+    let a : i + 1 < j = stands_nonempty schema n scope list (i + 1) j operand stands.children in omega arith
+stands_nonempty schema n scope list i j (node start stop (binary operator left right)) stands =
+    let m = stands.children.middle in
+    let a : i + 1 < m = stands_nonempty schema n scope list (i + 1) m left stands.children.left in
+    let b : m < j = stands_nonempty schema n scope list m j right stands.children.right in
+    omega arith
+stands_nonempty schema n scope list i j (node start stop _) stands = absurd stands.children
+
+-- the nodes from a place on are kept
+pub record IsKeptFrom (from : ℕ) (old new : FlatTree) : Type 0 where
+  pub nodes : (k : ℕ) (found : CheckedNode) → from ≤ k → slice_get old.nodes k ≡ Some found → slice_get new.nodes k ≡ Some found
+  pub values : (k : ℕ) (value : Value) → slice_get old.values k ≡ Some value → slice_get new.values k ≡ Some value
+  pub texts : (k : ℕ) (text : List ℕ) → slice_get old.texts k ≡ Some text → slice_get new.texts k ≡ Some text
+
+pub all_kept : (old new : FlatTree) → IsKept old new → IsKeptFrom 0 old new
+all_kept old new kept = record { nodes = λ k found behind at. kept.nodes k found at; values = kept.values; texts = kept.texts }
+
+some_kept : (P : Value → Type 0) (old new : Option Value) → ((value : Value) → old ≡ Some value → new ≡ Some value) → IsSomeAnd old P → IsSomeAnd new P
+some_kept P (Some value) new kept holds = rw (kept value refl) holds
+some_kept P None new kept holds = absurd holds
+
+kind_kept :
+    (old new : FlatTree) (slots : Slots) (root : List ℕ) (scope : Scope) (shape : Shape) (kind : NodeKind)
+    → ((k : ℕ) (value : Value) → slice_get old.values k ≡ Some value → slice_get new.values k ≡ Some value)
+    → IsKindOf old.values slots root scope shape kind
+    → IsKindOf new.values slots root scope shape kind
+kind_kept old new slots root scope (literal k spelling) (NodeKind.Literal l place) kept is =
+    (is.0, some_kept _ (slice_get old.values place) (slice_get new.values place) (kept place) is.1)
+kind_kept old new slots root scope (literal k spelling) _ kept is = absurd is
+kind_kept old new slots root scope it kind kept is = is
+kind_kept old new slots root scope (name asked) kind kept is = is
+kind_kept old new slots root scope (member base asked) kind kept is = is
+kind_kept old new slots root scope (negation operand) kind kept is = is
+kind_kept old new slots root scope (logical_not operand) kind kept is = is
+kind_kept old new slots root scope (binary operator left right) kind kept is = is
+kind_kept old new slots root scope _ kind kept is = absurd is
+
+top_kept :
+    (from : ℕ) (old new : FlatTree) (schema : SchemaModel) (n : ℕ) (scope : Scope) (i j start stop : ℕ) (shape : Shape)
+    → IsKeptFrom from old new
+    → from ≤ i
+    → IsTop schema n scope old i j start stop shape
+    → IsTop schema n scope new i j start stop shape
+top_kept from old new schema n scope i j start stop shape kept behind top = record {
+  found = top.found;
+  stands_at = kept.nodes i top.found (omega arith) top.stands_at;
+  text_at = kept.texts i _ top.text_at;
+  kind = kind_kept old new _ _ _ shape top.found.kind kept.values top.kind;
+  starts = top.starts;
+  stops = top.stops;
+  last = top.last;
+  typed = top.typed;
+}
+
+-- behind the place all stands as it did
+pub stands_kept :
+    (from : ℕ) (old new : FlatTree) (schema : SchemaModel) (n : ℕ) (scope : Scope) (i j : ℕ) (tree : Tree)
+    → IsKeptFrom from old new
+    → from ≤ i
+    → Stands schema n scope old i j tree
+    → Stands schema n scope new i j tree
+stands_kept from old new schema n scope i j (node start stop (literal kind spelling)) kept behind stands =
+    record { top = top_kept from old new schema n scope i j start stop (literal kind spelling) kept behind stands.top; children = stands.children }
+stands_kept from old new schema n scope i j (node start stop it) kept behind stands =
+    record { top = top_kept from old new schema n scope i j start stop it kept behind stands.top; children = stands.children }
+stands_kept from old new schema n scope i j (node start stop (name asked)) kept behind stands =
+    record { top = top_kept from old new schema n scope i j start stop (name asked) kept behind stands.top; children = stands.children }
+stands_kept from old new schema n scope i j (node start stop (member base asked)) kept behind stands =
+    record {
+      top = top_kept from old new schema n scope i j start stop (member base asked) kept behind stands.top;
+      children = stands_kept from old new schema n scope (i + 1) j base kept (omega arith) stands.children;
+    }
+stands_kept from old new schema n scope i j (node start stop (negation operand)) kept behind stands =
+    record {
+      top = top_kept from old new schema n scope i j start stop (negation operand) kept behind stands.top;
+      children = stands_kept from old new schema n scope (i + 1) j operand kept (omega arith) stands.children;
+    }
+stands_kept from old new schema n scope i j (node start stop (logical_not operand)) kept behind stands =
+    record {
+      top = top_kept from old new schema n scope i j start stop (logical_not operand) kept behind stands.top;
+      children = stands_kept from old new schema n scope (i + 1) j operand kept (omega arith) stands.children;
+    }
+stands_kept from old new schema n scope i j (node start stop (binary operator left right)) kept behind stands =
+    let m = stands.children.middle in
+    let a : i + 1 < m = stands_nonempty schema n scope old (i + 1) m left stands.children.left in
+    record {
+      top = top_kept from old new schema n scope i j start stop (binary operator left right) kept behind stands.top;
+      children = record {
+        middle = m;
+        left = stands_kept from old new schema n scope (i + 1) m left kept (omega arith) stands.children.left;
+        right = stands_kept from old new schema n scope m j right kept (omega arith) stands.children.right;
+      };
+    }
+stands_kept from old new schema n scope i j (node start stop _) kept behind stands = absurd stands.children
+
+-- and so do the children of a node
+pub children_kept :
+    (from : ℕ) (old new : FlatTree) (schema : SchemaModel) (n : ℕ) (scope : Scope) (i j : ℕ) (shape : Shape)
+    → IsKeptFrom from old new
+    → from ≤ i
+    → ChildrenStand schema n scope old i j shape
+    → ChildrenStand schema n scope new i j shape
+children_kept from old new schema n scope i j (literal kind spelling) kept behind stands = stands
+children_kept from old new schema n scope i j it kept behind stands = stands
+children_kept from old new schema n scope i j (name asked) kept behind stands = stands
+children_kept from old new schema n scope i j (member base asked) kept behind stands = stands_kept from old new schema n scope i j base kept behind stands
+children_kept from old new schema n scope i j (negation operand) kept behind stands = stands_kept from old new schema n scope i j operand kept behind stands
+children_kept from old new schema n scope i j (logical_not operand) kept behind stands = stands_kept from old new schema n scope i j operand kept behind stands
+children_kept from old new schema n scope i j (binary operator left right) kept behind stands =
+    let m = stands.middle in
+    let a : i < m = stands_nonempty schema n scope old i m left stands.left in
+    record {
+      middle = m;
+      left = stands_kept from old new schema n scope i m left kept behind stands.left;
+      right = stands_kept from old new schema n scope m j right kept (omega arith) stands.right;
+    }
+children_kept from old new schema n scope i j _ kept behind stands = absurd stands

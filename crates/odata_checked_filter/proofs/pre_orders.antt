@@ -1,0 +1,2 @@
+-- Which nodes a tree has.
+pub mod Calls

@@ -1,0 +1,45 @@
+-- A checked filter.
+use Rattle.std.specs.Prelude.{◌≡◌, ℕ, ◌≤◌, [], Some, length, slice_get}
+use Rattle.odata_text.specs.Tokens.{token_limit}
+use Rattle.odata_syntax.specs.Tree.{Tree}
+use Rattle.csdl_schema.specs.ExprType.{ExprType}
+use Rattle.csdl_schema.specs.SchemaModel.{SchemaModel, HoldsType, slots_of, type_name_at}
+use Rattle.odata_expression_types.specs.Considered.{IsConsidered}
+use Rattle.odata_signatures.specs.ExprTypes.{IsBooleanOrNull}
+use Rattle.odata_checked_filter.specs.FlatTree.{FlatTree, tree_of_nodes}
+use Rattle.odata_expression_types.specs.PreOrder.{pre_order}
+use Rattle.odata_checked_filter.specs.ScopedNodes.{scoped_nodes}
+use Rattle.odata_checked_filter.specs.Stands.{Stands, variable_names}
+use Rattle.odata_expression_types.specs.Typed.{Scope, Typed}
+
+-- a filter of the n-th type of a schema, by the list of its nodes
+pub record Filter : Type 0 where
+  pub schema : SchemaModel
+  pub filtered : ℕ
+  pub list : FlatTree
+
+abbrev pub tree_of_filter : Filter → Tree
+tree_of_filter filter = tree_of_nodes filter.list
+
+-- the schema has the type; the whole list stands for its tree, which has type Boolean or Null; a tree has no more nodes
+-- than tokens
+pub record IsFilter (filter : Filter) : Type 0 where
+  pub held : HoldsType filter.schema filter.filtered
+  pub stands :
+      Stands filter.schema filter.filtered [] filter.list 0 (length filter.list.nodes) (tree_of_nodes filter.list)
+  pub type_of : ExprType
+  pub typed :
+      Typed (slots_of filter.schema) (type_name_at filter.schema filter.filtered) [] (tree_of_nodes filter.list) type_of
+  pub truth : IsBooleanOrNull type_of
+  pub few : length (pre_order (tree_of_nodes filter.list)) ≤ token_limit
+
+-- the filter's k-th node, in the scope that it is judged in, has the type
+pub record IsTypeAt (filter : Filter) (k : ℕ) (type : ExprType) : Type 0 where
+  pub at : Scope
+  pub part : Tree
+  pub numbered :
+      slice_get (scoped_nodes [] (tree_of_filter filter)) k ≡ Some (record { variables = variable_names at; part = part })
+  pub considered :
+      IsConsidered (slots_of filter.schema) (type_name_at filter.schema filter.filtered) []
+      (tree_of_filter filter) at part
+  pub typed : Typed (slots_of filter.schema) (type_name_at filter.schema filter.filtered) at part type

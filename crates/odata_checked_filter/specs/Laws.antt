@@ -1,0 +1,89 @@
+-- What follows from the definitions of a list of nodes alone, and an example that shows that they mean something.
+use Rattle.std.specs.Prelude.{◌≡◌, ℕ, ◌+◌, pos, List, [], ◌∷◌, codes, length}
+use Rattle.edm_values.specs.declared.primitive.PrimitiveType.{PrimitiveType}
+use Rattle.edm_values.specs.declared.value.Value.{Value}
+use Rattle.odata_syntax.specs.FirstRun.{active_and_id}
+use Rattle.odata_syntax.specs.Tree.{Shape, Tree, node}
+use Rattle.odata_syntax.specs.declared.node.BinaryOperator.{BinaryOperator}
+use Rattle.odata_syntax.specs.declared.node.LiteralKind.{LiteralKind}
+use Rattle.csdl_schema.specs.SchemaModel.{SchemaModel, slots_of, type_name_at}
+use Rattle.odata_signatures.specs.TypeView.{expr_type}
+use Rattle.odata_signatures.specs.declared.edm_type.EdmType.{EdmType}
+use Rattle.odata_signatures.specs.declared.edm_type.ValueType.{ValueType}
+use Rattle.odata_expression_types.specs.Typed.{Scope, Typed}
+use Rattle.odata_checked_filter.specs.declared.checked_node.CheckedNode.{CheckedNode}
+use Rattle.odata_checked_filter.specs.declared.checked_node.NodeKind.{NodeKind}
+use Rattle.odata_checked_filter.specs.FlatTree.{FlatTree, tree_of_nodes}
+use Rattle.odata_checked_filter.specs.ListGrowth.{IsGrownBy, IsKept, IsOpened, node_put, with_node}
+use Rattle.odata_checked_filter.specs.Stands.{ChildrenStand, IsKindOf, Stands, text_of_shape}
+
+-- a list of nodes stands for one tree at most, which is the tree of the list
+abbrev pub OneTree : Type 0
+OneTree =
+    (schema : SchemaModel) (n : ℕ) (scope : Scope) (list : FlatTree) (stop : ℕ) (tree : Tree)
+    → Stands schema n scope list 0 stop tree
+    → tree_of_nodes list ≡ tree
+
+-- a node of Edm.Boolean or another primitive type
+abbrev pub listed : NodeKind → PrimitiveType → ℕ → ℕ → ℕ → CheckedNode
+listed kind p start stop end =
+    record {
+      kind = kind;
+      span = record { start = start; stop = stop };
+      edm_type = EdmType.Single (ValueType.Prim p);
+      stop = end;
+    }
+
+-- `Active and ID eq 1` as a list
+abbrev pub item_list : FlatTree
+item_list =
+    record {
+      nodes =
+          listed (NodeKind.Binary BinaryOperator.And) PrimitiveType.Bool 0 18 5
+          ∷ listed (NodeKind.Property 0) PrimitiveType.Bool 0 6 2
+          ∷ listed (NodeKind.Binary BinaryOperator.Eq) PrimitiveType.Bool 11 18 5
+          ∷ listed (NodeKind.Property 1) PrimitiveType.Int32 11 13 4
+          ∷ listed (NodeKind.Literal LiteralKind.Int 0) PrimitiveType.Int32 17 18 5
+          ∷ [];
+      values = Value.Int (pos 1) ∷ [];
+      texts = [] ∷ codes "Active" ∷ [] ∷ codes "ID" ∷ codes "1" ∷ [];
+    }
+
+-- the list of `Active and ID eq 1` is read as its tree
+abbrev pub ItemListStands : Type 0
+ItemListStands = tree_of_nodes item_list ≡ active_and_id
+
+-- what stands for a tree stands for it still where the list has only grown
+abbrev pub KeptStands : Type 0
+KeptStands =
+    (schema : SchemaModel) (n : ℕ) (scope : Scope) (old new : FlatTree) (i j : ℕ) (tree : Tree)
+    → IsKept old new
+    → Stands schema n scope old i j tree
+    → Stands schema n scope new i j tree
+
+-- a node without children that is put behind a list stands there for its tree
+abbrev pub PushedStands : Type 0
+PushedStands =
+    (schema : SchemaModel) (n : ℕ) (scope : Scope) (list : FlatTree) (added : CheckedNode) (shape : Shape)
+    → length list.texts ≡ length list.nodes
+    → added.stop ≡ length list.nodes + 1
+    → IsKindOf list.values (slots_of schema) (type_name_at schema n) scope shape added.kind
+    → Typed (slots_of schema) (type_name_at schema n) scope (node added.span.start added.span.stop shape)
+    (expr_type schema added.edm_type)
+    → ((new : FlatTree) (i : ℕ) → ChildrenStand schema n scope new i i shape)
+    → IsGrownBy schema n scope list (node added.span.start added.span.stop shape)
+    (with_node list added (text_of_shape shape))
+
+-- a node that was opened, and is put in its place once its children stand behind it, stands there for its tree
+abbrev pub ClosedStands : Type 0
+ClosedStands =
+    (schema : SchemaModel) (n : ℕ) (scope : Scope) (start opened last : FlatTree) (place : ℕ) (put : CheckedNode)
+    (shape : Shape)
+    → IsOpened start place (text_of_shape shape) opened
+    → IsKept opened last
+    → put.stop ≡ length last.nodes
+    → IsKindOf last.values (slots_of schema) (type_name_at schema n) scope shape put.kind
+    → Typed (slots_of schema) (type_name_at schema n) scope (node put.span.start put.span.stop shape)
+    (expr_type schema put.edm_type)
+    → ChildrenStand schema n scope last (place + 1) (length last.nodes) shape
+    → IsGrownBy schema n scope start (node put.span.start put.span.stop shape) (node_put last place put)

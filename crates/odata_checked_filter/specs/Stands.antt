@@ -1,0 +1,107 @@
+-- When a part of a list of nodes stands for a tree, with the right types, values and slots.
+use Rattle.std.specs.Prelude.{◌≡◌, ℕ, ◌+◌, List, [], Some, None, map, slice_get, IsSomeAnd}
+use Rattle.edm_values.specs.PlainVal.{plain_val}
+use Rattle.edm_values.specs.Val.{Val}
+use Rattle.edm_values.specs.declared.value.Value.{Value}
+use Rattle.odata_syntax.specs.Tree.{Tree, node, Shape, literal, it, name, member, negation, logical_not, binary}
+use Rattle.odata_syntax.specs.declared.node.LiteralKind.{LiteralKind}
+use Rattle.csdl_schema.specs.ExprType.{ExprType, single, structured}
+use Rattle.csdl_schema.specs.SchemaModel.{PropertyModel, SchemaModel, Slots, slots_of, type_name_at, slot_named}
+use Rattle.odata_checked_filter.specs.declared.checked_node.CheckedNode.{CheckedNode}
+use Rattle.odata_checked_filter.specs.declared.checked_node.NodeKind.{NodeKind}
+use Rattle.odata_checked_filter.specs.FlatTree.{FlatTree}
+use Rattle.odata_checked_filter.specs.Levels.{level_named}
+use Rattle.odata_expression_types.specs.LiteralValue.{LiteralValue}
+use Rattle.odata_expression_types.specs.Typed.{Scope, Typed}
+use Rattle.odata_signatures.specs.TypeView.{expr_type}
+
+-- the names of a scope's variables
+abbrev pub variable_names : Scope → List (List ℕ)
+variable_names scope = map (λ bound. bound.0) scope
+
+-- a value of the code that a literal of this kind and spelling stands for
+pub record IsValueOf (slots : Slots) (kind : LiteralKind) (spelling : List ℕ) (value : Value) : Type 0 where
+  pub val : Val
+  pub plain : plain_val value ≡ Some val
+  pub value_of : LiteralValue slots kind spelling val
+
+-- the kind of a literal's node: it has the place of the literal's value
+abbrev pub IsLiteralNode : Slots → List Value → LiteralKind → List ℕ → NodeKind → Type 0
+IsLiteralNode slots values kind spelling (NodeKind.Literal k place) =
+    (k ≡ kind) × IsSomeAnd (slice_get values place) (IsValueOf slots kind spelling)
+IsLiteralNode slots values kind spelling _ = ⊥
+
+-- the kind of a name's node: a variable by its level, or else a property by its slot
+abbrev pub IsNameNode : List PropertyModel → List (List ℕ) → List ℕ → NodeKind → Type 0
+IsNameNode properties variables asked (NodeKind.Variable level) = level_named variables asked ≡ Some level
+IsNameNode properties variables asked (NodeKind.Property slot) =
+    (level_named variables asked ≡ None) × (slot_named properties asked ≡ Some slot)
+IsNameNode properties variables asked _ = ⊥
+
+-- the kind of a member's node: a property of its base's type, by its slot there
+abbrev pub IsMemberNode : Slots → (ExprType → Type 0) → List ℕ → NodeKind → Type 0
+IsMemberNode slots Base asked (NodeKind.Member slot) =
+    (owner : List ℕ) × Base (single (structured owner)) × (slot_named (slots.properties owner) asked ≡ Some slot)
+IsMemberNode slots Base asked _ = ⊥
+
+-- the kind of a node, where these values and types are, the filtered type is root and these variables are in scope; the
+-- other forms have none yet
+abbrev pub IsKindOf : List Value → Slots → List ℕ → Scope → Shape → NodeKind → Type 0
+IsKindOf values slots root scope (literal kind spelling) k = IsLiteralNode slots values kind spelling k
+IsKindOf values slots root scope it k = k ≡ NodeKind.It
+IsKindOf values slots root scope (name asked) k = IsNameNode (slots.properties root) (variable_names scope) asked k
+IsKindOf values slots root scope (member base asked) k = IsMemberNode slots (Typed slots root scope base) asked k
+IsKindOf values slots root scope (negation operand) k = k ≡ NodeKind.Neg
+IsKindOf values slots root scope (logical_not operand) k = k ≡ NodeKind.Not
+IsKindOf values slots root scope (binary operator left right) k = k ≡ NodeKind.Binary operator
+IsKindOf values slots root scope _ k = ⊥
+
+-- the text beside a node
+abbrev pub text_of_shape : Shape → List ℕ
+text_of_shape (literal kind spelling) = spelling
+text_of_shape (name asked) = asked
+text_of_shape (member base asked) = asked
+text_of_shape _ = []
+
+-- the i-th node is the tree's top node, with its text, and stops at j
+pub record IsTop
+    (schema : SchemaModel) (n : ℕ) (scope : Scope) (list : FlatTree) (i j start stop : ℕ) (shape : Shape) : Type 0 where
+  pub found : CheckedNode
+  pub stands_at : slice_get list.nodes i ≡ Some found
+  pub text_at : slice_get list.texts i ≡ Some (text_of_shape shape)
+  pub kind : IsKindOf list.values (slots_of schema) (type_name_at schema n) scope shape found.kind
+  pub starts : found.span.start ≡ start
+  pub stops : found.span.stop ≡ stop
+  pub last : found.stop ≡ j
+  pub typed :
+      Typed (slots_of schema) (type_name_at schema n) scope (node start stop shape) (expr_type schema found.edm_type)
+
+-- a node, and what stands behind it for its children
+pub record HasTop (Top Children : Type 0) : Type 0 where
+  pub top : Top
+  pub children : Children
+
+-- one part, and another from where that stops
+pub record SideBySide (Left Right : ℕ → Type 0) : Type 0 where
+  pub middle : ℕ
+  pub left : Left middle
+  pub right : Right middle
+
+-- the nodes from the i-th up to the j-th stand for the tree, or for the children of the shape, where the filtered type
+-- is the schema's n-th and these variables are in scope
+abbrev mutual
+  pub Stands : SchemaModel → ℕ → Scope → FlatTree → ℕ → ℕ → Tree → Type 0
+  Stands schema n scope list i j (node start stop shape) =
+      HasTop (IsTop schema n scope list i j start stop shape) (ChildrenStand schema n scope list (i + 1) j shape)
+
+  pub ChildrenStand : SchemaModel → ℕ → Scope → FlatTree → ℕ → ℕ → Shape → Type 0
+  ChildrenStand schema n scope list i j (literal kind spelling) = i ≡ j
+  ChildrenStand schema n scope list i j it = i ≡ j
+  ChildrenStand schema n scope list i j (name asked) = i ≡ j
+  ChildrenStand schema n scope list i j (member base asked) = Stands schema n scope list i j base
+  ChildrenStand schema n scope list i j (negation operand) = Stands schema n scope list i j operand
+  ChildrenStand schema n scope list i j (logical_not operand) = Stands schema n scope list i j operand
+  ChildrenStand schema n scope list i j (binary operator left right) =
+      SideBySide (λ middle. Stands schema n scope list i middle left)
+      (λ middle. Stands schema n scope list middle j right)
+  ChildrenStand schema n scope list i j shape = ⊥

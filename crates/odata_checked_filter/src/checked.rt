@@ -1,0 +1,195 @@
+ghost use Rattle.std.specs.Prelude.{◌≡◌, ◌<◌, ◌↔◌, ℕ, length, slice_get, string_bytes};
+ghost use Rattle.std.specs.Prelude.{IsTrue, IsSome, IfSome, IfNone, IfOk};
+ghost use Rattle.std.specs.Option.{option_map};
+ghost use Rattle.odata_syntax.specs.CanonicalText.{IsCanonicalText};
+ghost use Rattle.csdl_schema.specs.SchemaModel.{HoldsType};
+ghost use Rattle.odata_checked_filter.specs.Calls.{TakesMemory, UsesNow};
+ghost use Rattle.odata_checked_filter.specs.Filter.{IsFilter, IsTypeAt, tree_of_filter};
+ghost use Rattle.odata_checked_filter.specs.NameKinds.{IsSlotAt, level_at};
+ghost use Rattle.odata_expression_types.specs.PreOrder.{pre_order, span_of_tree};
+ghost use Rattle.odata_signatures.specs.TypeView.{expr_type};
+
+use super::canonical_text::text_of_list;
+use super::checked_node::{CheckedNode, NodeKind};
+use super::node_list::NodeList;
+use csdl_schema::{Schema, TypeId};
+use edm_values::Value;
+use odata_expression_types::trees_have_one_type;
+use odata_signatures::EdmType;
+use odata_text::Span;
+use std::alloc::{AllocError, Global};
+use std::marker::Model;
+
+/// A filter whose expression has type Boolean or Null for its type in its schema.
+#[derive(Drop)]
+pub struct Checked<'s> {
+    schema: &'s Schema,
+    filtered_type: TypeId,
+    list: NodeList,
+}
+
+impl<'s> Model for Checked<'s> {
+    ghost use Rattle.odata_checked_filter.specs.Filter.{Filter};
+    ghost use Rattle.odata_checked_filter.specs.contracts.checked_node.CheckedNode as checked_node;
+    ghost use Rattle.edm_values.specs.contracts.value.Value as value;
+    ghost use Rattle.std.specs.Coded.{codes};
+
+    ghost Value = { Filter };
+
+    ghost coded = { Prim.hlevel (codes, checked_node.the_row.coded, value.the_row.coded) };
+
+    ghost use Rattle.odata_checked_filter.specs.Filter.{IsFilter};
+
+    ghost view = { λ c. record { schema = c.schema.now; filtered = c.filtered_type; list = c.list } };
+
+    ghost invariant = { λ c. IsFilter
+        (record { schema = c.schema.now; filtered = c.filtered_type; list = c.list }) };
+}
+
+impl<'s> Checked<'s> {
+    /// The filter of a list that stands for a tree of type Boolean or Null.
+    pub fn new(schema: &'s Schema, filtered_type: TypeId, list: NodeList) -> Checked<'s>
+        requires { IsFilter (record { schema = schema.now; filtered = filtered_type; list = list }) }
+        ensures { result ≡ record { schema = schema.entry.now; filtered = filtered_type; list = list } }
+    {
+        Checked {
+            schema,
+            filtered_type,
+            list,
+        }
+    }
+
+    /// The schema that the filter was checked against.
+    pub fn schema(&self) -> &'s Schema
+        ensures { result.now ≡ self.now.schema }
+    {
+        self.schema
+    }
+
+    /// The type of the entities that it filters.
+    pub fn filtered_type(&self) -> TypeId
+        ensures same { result ≡ self.now.filtered }
+        ensures held { HoldsType self.now.schema result }
+    {
+        self.filtered_type
+    }
+
+    /// The nodes of the tree in pre-order, each with its kind, its span, its type and where it stops.
+    pub fn nodes(&self) -> &[CheckedNode]
+        ensures same { result.now ≡ self.now.list.nodes }
+        ensures right { IsFilter self.now }
+    {
+        self.list.nodes()
+    }
+
+    /// The values, to which the nodes of literals have the places.
+    pub fn values(&self) -> &[Value]
+        ensures { result.now ≡ self.now.list.values }
+    {
+        self.list.values()
+    }
+
+    /// The node of a number, counted from 0. `None` past the last node.
+    fn node_at(&self, number: usize) -> Option<&CheckedNode>
+        ensures same { option_map (λ found. found.now) result ≡ slice_get self.now.list.nodes number }
+        ensures right { IsFilter self.now }
+    {
+        self.nodes().get(number)
+    }
+
+    /// How many nodes the tree has.
+    pub fn node_count(&self) -> usize
+        ensures { result ≡ length (pre_order (tree_of_filter self.now)) }
+    {
+        self.nodes().len()
+    }
+
+    /// The type of a node, numbered from 0 in pre-order. `None` past the last node.
+    pub fn type_of(&self, node: usize) -> Option<EdmType>
+        ensures inside { IsSome result ↔ (node < length (pre_order (tree_of_filter self.now))) }
+        ensures typed { IfSome result (λ t. IsTypeAt self.now node (expr_type self.now.schema t)) }
+    {
+        match self.node_at(node) {
+            Some(found) => Some(found.edm_type),
+            None => None,
+        }
+    }
+
+    /// The span of a node, numbered from 0 in pre-order. `None` past the last node.
+    pub fn span_of(&self, node: usize) -> Option<Span>
+        ensures { result ≡ option_map span_of_tree (slice_get (pre_order (tree_of_filter self.now)) node) }
+    {
+        match self.node_at(node) {
+            Some(found) => Some(found.span),
+            None => None,
+        }
+    }
+
+    /// The slot of a node that names a property, numbered from 0 in pre-order: for a name its slot in the filtered type,
+    /// for a step that in the type of what stands before the slash. `None` for every other node and past the last one.
+    pub fn slot_of(&self, node: usize) -> Option<usize>
+        ensures found { IfSome result (IsSlotAt self.now node) }
+        ensures none { IfNone result ((slot : ℕ) → ¬ IsSlotAt self.now node slot) }
+    {
+        trees_have_one_type();
+        match self.node_at(node) {
+            Some(found) => match found.kind {
+                NodeKind::Property { slot } => Some(slot),
+                NodeKind::Member { slot } => Some(slot),
+                NodeKind::Literal { .. }
+                | NodeKind::It
+                | NodeKind::Variable { .. }
+                | NodeKind::Neg
+                | NodeKind::Not
+                | NodeKind::Binary { .. } => None,
+            },
+            None => None,
+        }
+    }
+
+    /// The level of a node that names a range variable: how many variables were in scope where its lambda operator
+    /// bound it. `None` for every other node and past the last one.
+    pub fn level_of(&self, node: usize) -> Option<usize>
+        ensures { result ≡ level_at self.now node }
+    {
+        match self.node_at(node) {
+            Some(found) => match found.kind {
+                NodeKind::Variable { level } => Some(level),
+                NodeKind::Literal { .. }
+                | NodeKind::It
+                | NodeKind::Property { .. }
+                | NodeKind::Member { .. }
+                | NodeKind::Neg
+                | NodeKind::Not
+                | NodeKind::Binary { .. } => None,
+            },
+            None => None,
+        }
+    }
+
+    /// The canonical text of the filter, as `print` gives it of its tree.
+    pub fn canonical(&self, alloc: Global) -> Result<String, AllocError>
+        ensures { IfOk result (λ text. IsCanonicalText (tree_of_filter self.now) (string_bytes text)) }
+    {
+        // What is known of every filter is known once its nodes have been asked for.
+        let _nodes = self.nodes();
+        text_of_list(alloc, &self.list)
+    }
+
+    /// Whether evaluating the filter makes texts.
+    pub fn takes_memory(&self) -> bool
+        ensures { IsTrue result ↔ TakesMemory (tree_of_filter self.now) }
+    {
+        // No call has a type yet.
+        let _nodes = self.nodes();
+        false
+    }
+
+    /// Whether the filter asks for the moment of its evaluation.
+    pub fn uses_now(&self) -> bool
+        ensures { IsTrue result ↔ UsesNow (tree_of_filter self.now) }
+    {
+        let _nodes = self.nodes();
+        false
+    }
+}

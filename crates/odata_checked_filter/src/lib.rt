@@ -1,0 +1,16 @@
+//! A checked filter: a tree as one list of its nodes, each with its type, and what is asked of it (OData URL Conventions
+//! 4.01, section 5.1.1).
+#![tactic(auto)]
+
+mod canonical_text;
+mod checked;
+mod checked_node;
+mod laws;
+mod node_list;
+
+pub use checked::Checked;
+pub use checked_node::{CheckedNode, NodeKind};
+pub use laws::{
+    a_list_is_read_as_its_tree, a_list_stands_for_one_tree, nodes_stand_where_they_are_put,
+};
+pub use node_list::NodeList;

@@ -1,0 +1,4 @@
+pub mod types
+pub mod untypable
+pub mod pre_orders
+pub mod printed

@@ -1,0 +1,8 @@
+use Rattle.odata_expression_types.proofs.untypable.Untypable.{first_below, first_itself}
+use Rattle.odata_expression_types.proofs.laws.children_come_first.Goals as goal
+
+pub returns-clause-below : goal.returns-clause-below
+returns-clause-below c = first_below
+
+pub returns-clause-itself : goal.returns-clause-itself
+returns-clause-itself c = first_itself

@@ -1,0 +1,5 @@
+use Rattle.odata_expression_types.proofs.types.OneType.{Typed-one}
+use Rattle.odata_expression_types.proofs.laws.trees_have_one_type.Goals as goal
+
+pub returns : goal.returns
+returns c = Typed-one

@@ -1,0 +1,2 @@
+-- How many nodes a tree has.
+pub mod Sizes

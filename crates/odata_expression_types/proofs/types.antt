@@ -1,0 +1,4 @@
+-- Which type a node has, and that it is one.
+pub mod Examples
+pub mod OneType
+pub mod OneValue

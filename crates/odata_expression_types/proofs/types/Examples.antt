@@ -1,0 +1,63 @@
+-- Two filters of items.
+use Rattle.std.proofs.Common.{◌≡◌, refl, sym, subst, inl, inr, pos, [], ◌∷◌, FitsSigned, w32, w64, lit<, rules}
+use Rattle.std.proofs.lemmas.Int.{fits_signed_from_abs}
+use Rattle.std.specs.Prelude.{codes}
+use Rattle.std.specs.Str.Parse.{IsNumeral}
+use Rattle.edm_values.specs.IntLiteral.{IntValue}
+use Rattle.csdl_schema.specs.ExprType.{ExprType, single, primitive}
+use Rattle.edm_values.specs.declared.primitive.PrimitiveType.{PrimitiveType}
+use Rattle.csdl_schema.specs.SchemaModel.{declared}
+use Rattle.odata_signatures.specs.ComparableTypes.{AreComparable}
+use Rattle.odata_signatures.specs.ExprTypes.{boolean_type, string_type}
+use Rattle.odata_expression_types.specs.Laws.{ItemFilterTyped, MixedFilterUntyped}
+
+-- Edm.Int32
+abbrev int32 : ExprType
+int32 = single (primitive PrimitiveType.Int32)
+
+numeral : IsNumeral 10 (codes "1")
+numeral = search rules
+
+one : IntValue (codes "1") (pos 1)
+one = (inr (inr (numeral, refl)), fits_signed_from_abs w64 (pos 1) (lit< tt))
+
+one_fits : FitsSigned w32 (pos 1)
+one_fits = fits_signed_from_abs w32 (pos 1) (lit< tt)
+
+pub item_filter_typed : ItemFilterTyped
+item_filter_typed = record {
+  left = boolean_type;
+  right = boolean_type;
+  left_typed = record {
+    left = boolean_type;
+    right = boolean_type;
+    left_typed = refl;
+    right_typed = record {
+      left = int32;
+      right = int32;
+      left_typed = refl;
+      right_typed = (pos 1, one, (PrimitiveType.Int32, inl (one_fits, refl), refl));
+      operator_typed = (inl (tt, tt), refl);
+    };
+    operator_typed = (inl refl, inl refl, refl);
+  };
+  right_typed = record {
+    left = string_type;
+    right = string_type;
+    left_typed = refl;
+    right_typed = (97 ∷ [], refl, refl);
+    operator_typed = (inr refl, refl);
+  };
+  operator_typed = (inl refl, inl refl, refl);
+}
+
+declared_one : (a b : ExprType) → declared a ≡ declared b → a ≡ b
+declared_one a b same = cc
+
+pub mixed_filter_untyped : MixedFilterUntyped
+mixed_filter_untyped type typed =
+    let P : ExprType → Type 0 = λ (t : ExprType). AreComparable t typed.right in
+    let Q : ExprType → Type 0 = λ (t : ExprType). AreComparable int32 t in
+    let compared : AreComparable int32 string_type =
+    subst Q typed.right_typed.2 (subst P (sym (declared_one int32 typed.left typed.left_typed)) typed.operator_typed.0) in
+    elim compared [ inl numbers ↦ absurd numbers.1 | inr same ↦ (let e : PrimitiveType.Int32 ≡ PrimitiveType.String = same in cc) ]

@@ -1,0 +1,22 @@
+-- The first fault among trees in one scope (OData URL Conventions 4.01, section 5.1.1).
+use Rattle.std.specs.Prelude.{◌≤◌, ℕ, List}
+use Rattle.odata_syntax.specs.Tree.{Tree, start_of}
+use Rattle.csdl_schema.specs.SchemaModel.{Slots}
+use Rattle.odata_expression_types.specs.declared.refusal.TypeFault.{TypeFault}
+use Rattle.odata_expression_types.specs.Considered.{IsAmong}
+use Rattle.odata_expression_types.specs.FirstUntypable.{IsFirstUntypable, IsUntypable}
+use Rattle.odata_expression_types.specs.Typed.{Scope}
+
+-- each untypable node of the tree starts at k or later
+abbrev pub StartFrom : Slots → List ℕ → Scope → Tree → ℕ → Type 0
+StartFrom slots root scope tree k =
+    (at : Scope) (other : Tree) → IsUntypable slots root scope tree at other → k ≤ start_of other
+
+-- of the untypable nodes of trees in one scope the one that starts first
+pub record IsFirstAmong
+    (slots : Slots) (root : List ℕ) (scope : Scope) (trees : List Tree) (fault : TypeFault) : Type 0 where
+  pub tree : Tree
+  pub among : IsAmong scope trees scope tree
+  pub found : IsFirstUntypable slots root scope tree fault
+  pub others :
+      (at : Scope) (other : Tree) → IsAmong scope trees at other → StartFrom slots root at other fault.span.start

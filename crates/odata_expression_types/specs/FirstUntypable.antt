@@ -1,0 +1,77 @@
+-- Where and why a tree is no filter (OData URL Conventions 4.01, section 5.1.1).
+use Rattle.std.specs.Prelude.{◌≡◌, ◌⊎◌, ℕ, ◌≤◌, List, [], MatchOption}
+use Rattle.odata_syntax.specs.Tree.{Tree, node, literal, it, name, member, call, start_of, stop_of}
+use Rattle.odata_syntax.specs.declared.node.LiteralKind.{LiteralKind}
+use Rattle.csdl_schema.specs.ExprType.{ExprType, single, structured}
+use Rattle.csdl_schema.specs.SchemaModel.{PropertyModel, PropertyType, declared, opaque, navigation, Slots}
+use Rattle.odata_expression_types.specs.declared.refusal.TypeFault.{TypeFault}
+use Rattle.odata_expression_types.specs.declared.refusal.TypeFaultCode.{TypeFaultCode}
+use Rattle.odata_expression_types.specs.Considered.{IsConsidered, ChildrenTyped}
+use Rattle.odata_signatures.specs.ExprTypes.{IsBooleanOrNull}
+use Rattle.odata_expression_types.specs.Typed.{Scope, Typed, IsUntyped, property_named}
+
+-- why a property has no type
+abbrev pub PropertyReason : PropertyType → TypeFaultCode → Type 0
+PropertyReason (declared type) code = ⊥
+PropertyReason opaque code = code ≡ TypeFaultCode.TypeLeftOut
+PropertyReason navigation code = code ≡ TypeFaultCode.Navigation
+
+-- why a name has no type
+abbrev pub NameReason : List PropertyModel → List ℕ → TypeFaultCode → Type 0
+NameReason properties asked code =
+    MatchOption (property_named properties asked)
+    (code ≡ TypeFaultCode.UnknownProperty)
+    (λ p. PropertyReason p.type_of code)
+
+-- why a step from a value of that type has none: only one value of a structured type has properties
+abbrev pub StepReason : Slots → List ℕ → ExprType → TypeFaultCode → Type 0
+StepReason slots asked (single (structured owner)) code = NameReason (slots.properties owner) asked code
+StepReason slots asked _ code = code ≡ TypeFaultCode.UnknownProperty
+
+-- why a literal has no type: it has no value
+abbrev pub LiteralReason : LiteralKind → TypeFaultCode → Type 0
+LiteralReason LiteralKind.EnumLit code = code ≡ TypeFaultCode.UnknownEnum
+LiteralReason _ code = code ≡ TypeFaultCode.LiteralRange
+
+-- why a node has no type though its considered children have; no function is known yet, and `$it` has a type
+abbrev pub IsReason : Slots → List ℕ → Scope → Tree → TypeFaultCode → Type 0
+IsReason slots root scope (node start stop (literal kind spelling)) code = LiteralReason kind code
+IsReason slots root scope (node start stop it) code = ⊥
+IsReason slots root scope (node start stop (name asked)) code = NameReason (slots.properties root) asked code
+IsReason slots root scope (node start stop (member base asked)) code =
+    (type : ExprType) × Typed slots root scope base type × StepReason slots asked type code
+IsReason slots root scope (node start stop (call asked arguments)) code = code ≡ TypeFaultCode.UnknownFunction
+IsReason slots root scope (node start stop shape) code = code ≡ TypeFaultCode.OperandTypes
+
+-- a considered node that has no type, while all its considered children have one
+pub record IsUntypable
+    (slots : Slots) (root : List ℕ) (scope : Scope) (tree : Tree) (at : Scope) (part : Tree) : Type 0 where
+  pub considered : IsConsidered slots root scope tree at part
+  pub untyped : IsUntyped slots root at part
+  pub children : ChildrenTyped slots root at part
+
+-- of these nodes the one that starts first, with its reason
+pub record IsFirstUntypable
+    (slots : Slots) (root : List ℕ) (scope : Scope) (tree : Tree) (fault : TypeFault) : Type 0 where
+  pub at : Scope
+  pub part : Tree
+  pub untypable : IsUntypable slots root scope tree at part
+  pub first :
+      (scope' : Scope) (other : Tree) → IsUntypable slots root scope tree scope' other → start_of part ≤ start_of other
+  pub reason : IsReason slots root at part fault.code
+  pub starts : fault.span.start ≡ start_of part
+  pub stops : fault.span.stop ≡ stop_of part
+
+-- the tree has a type, but neither Boolean nor Null; the span is the whole text
+pub record IsNotBoolean (slots : Slots) (root : List ℕ) (tree : Tree) (len : ℕ) (fault : TypeFault) : Type 0 where
+  pub type_of : ExprType
+  pub typed : Typed slots root [] tree type_of
+  pub other : ¬ IsBooleanOrNull type_of
+  pub reason : fault.code ≡ TypeFaultCode.NotBoolean
+  pub starts : fault.span.start ≡ 0
+  pub stops : fault.span.stop ≡ len
+
+-- why the tree of a text of this length is no filter
+abbrev pub IsTypeFault : Slots → List ℕ → Tree → ℕ → TypeFault → Type 0
+IsTypeFault slots root tree len fault =
+    IsFirstUntypable slots root [] tree fault ⊎ IsNotBoolean slots root tree len fault

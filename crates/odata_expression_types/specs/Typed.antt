@@ -1,0 +1,74 @@
+-- Which type an expression has (OData URL Conventions 4.01, sections 5.1.1.1, 5.1.1.2, 5.1.1.13 to 5.1.1.15 and
+-- 5.1.1.18).
+use Rattle.std.specs.Prelude.{◌≡◌, ℕ, List, Option, IsSomeAnd, MatchOption, find, nat_eq}
+use Rattle.std.specs.Option.{option_map}
+use Rattle.std.specs.Cmp.Lexicographic.{pointwise}
+use Rattle.odata_syntax.specs.Tree.{Tree, node, literal, it, name, member, negation, logical_not, binary}
+use Rattle.odata_syntax.specs.declared.node.BinaryOperator.{BinaryOperator}
+use Rattle.csdl_schema.specs.ExprType.{ExprType, single, structured}
+use Rattle.csdl_schema.specs.SchemaModel.{PropertyModel, Slots, declared}
+use Rattle.odata_expression_types.specs.LiteralValue.{LiteralTyped}
+use Rattle.odata_signatures.specs.OperatorTyped.{OperatorTyped, NegationTyped, NotTyped}
+
+-- the range variables that may be named, each with its type, the innermost first
+abbrev pub Scope : Type 0
+Scope = List (List ℕ × ExprType)
+
+-- the type of the innermost variable of a name
+abbrev pub variable_type : Scope → List ℕ → Option ExprType
+variable_type scope asked = option_map (λ bound. bound.1) (find (λ bound. pointwise nat_eq asked bound.0) scope)
+
+-- the property of a name
+abbrev pub property_named : List PropertyModel → List ℕ → Option PropertyModel
+property_named properties asked = find (λ p. pointwise nat_eq asked p.name) properties
+
+-- a property of that name has the type; one that is opaque or navigates has none
+abbrev pub PropertyTyped : List PropertyModel → List ℕ → ExprType → Type 0
+PropertyTyped properties asked type = IsSomeAnd (property_named properties asked) (λ p. p.type_of ≡ declared type)
+
+-- a name is a variable in scope, or else a property of the filtered type
+abbrev pub NameTyped : Slots → List ℕ → Scope → List ℕ → ExprType → Type 0
+NameTyped slots root scope asked type =
+    MatchOption (variable_type scope asked) (PropertyTyped (slots.properties root) asked type) (λ t. type ≡ t)
+
+-- a step from one value of a structured type leads to its property of that name
+abbrev pub StepTyped : Slots → List ℕ → ExprType → ExprType → Type 0
+StepTyped slots asked (single (structured owner)) type = PropertyTyped (slots.properties owner) asked type
+StepTyped slots asked _ type = ⊥
+
+-- the one operand has a type, and of this the node makes the type
+pub record OperandTyped
+    (Operand : ExprType → Type 0) (Makes : ExprType → ExprType → Type 0) (type : ExprType) : Type 0 where
+  pub operand : ExprType
+  pub operand_typed : Operand operand
+  pub makes : Makes operand type
+
+-- both operands have types, and of these the operator makes the type
+pub record OperandsTyped (operator : BinaryOperator) (Left Right : ExprType → Type 0) (type : ExprType) : Type 0 where
+  pub left : ExprType
+  pub right : ExprType
+  pub left_typed : Left left
+  pub right_typed : Right right
+  pub operator_typed : OperatorTyped operator left right type
+
+-- the tree has the type, where the filtered type is root and these variables are in scope; a node of a form that is not
+-- typed yet has none
+abbrev pub Typed : Slots → List ℕ → Scope → Tree → ExprType → Type 0
+Typed slots root scope (node start stop (literal kind spelling)) type = LiteralTyped slots kind spelling type
+Typed slots root scope (node start stop it) type = type ≡ single (structured root)
+Typed slots root scope (node start stop (name asked)) type = NameTyped slots root scope asked type
+Typed slots root scope (node start stop (member base asked)) type =
+    OperandTyped (Typed slots root scope base) (StepTyped slots asked) type
+Typed slots root scope (node start stop (negation operand)) type =
+    OperandTyped (Typed slots root scope operand) NegationTyped type
+Typed slots root scope (node start stop (logical_not operand)) type =
+    OperandTyped (Typed slots root scope operand) NotTyped type
+Typed slots root scope (node start stop (binary operator left right)) type =
+    OperandsTyped operator (Typed slots root scope left) (Typed slots root scope right) type
+Typed slots root scope (node start stop shape) type = ⊥
+
+abbrev pub IsTyped : Slots → List ℕ → Scope → Tree → Type 0
+IsTyped slots root scope tree = (type : ExprType) × Typed slots root scope tree type
+
+abbrev pub IsUntyped : Slots → List ℕ → Scope → Tree → Type 0
+IsUntyped slots root scope tree = (type : ExprType) → ¬ Typed slots root scope tree type

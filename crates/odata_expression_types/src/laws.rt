@@ -1,0 +1,75 @@
+ghost use Rattle.odata_expression_types.specs.Laws.{FewNodes, FirstBelow, FirstItself, ItemFilterTyped, MixedFilterUntyped};
+ghost use Rattle.odata_expression_types.specs.Laws.{OneLiteralValue, OneNameAndText, OneRefusal, OneType, OneUntypableStart};
+ghost use Rattle.odata_expression_types.specs.Laws.{RefusedIsUntyped, TypedIsClear};
+
+use odata_syntax::{
+    children_apart, fault_or_tree, one_fault, one_tree, spans_hold, spans_take_bytes,
+};
+use odata_text::{one_reading, tokens_are_spelled};
+
+/// A law: a tree has at most one type. The contract says it, and the body has nothing to do.
+pub fn trees_have_one_type()
+    ensures { OneType }
+{}
+
+/// A law: a literal stands for one value at most.
+pub fn literals_have_one_value()
+    ensures { OneLiteralValue }
+{
+    edm_values::texts_have_one_value();
+    edm_enumerations::texts_have_one_value();
+}
+
+/// A law: the spelling of an enumeration literal is of one name and one text at most.
+pub fn enumeration_literals_have_one_name()
+    ensures { OneNameAndText }
+{}
+
+/// A law: a tree that has a type has no untypable node.
+pub fn typed_trees_are_clear()
+    ensures { TypedIsClear }
+{}
+
+/// A law: the first fault among a node's children is the first of its tree; where its children have types, the node itself
+/// is at fault.
+pub fn children_come_first()
+    ensures below { FirstBelow }
+    ensures itself { FirstItself }
+{}
+
+/// A law: of an expression at most one untypable node starts in a place, so the first one is the only one there.
+pub fn untypable_nodes_start_apart()
+    ensures { OneUntypableStart }
+{
+    children_apart();
+    spans_hold();
+    spans_take_bytes();
+}
+
+/// A law: a text is refused for one reason at most, and then it is no filter.
+pub fn texts_have_one_refusal()
+    ensures one { OneRefusal }
+    ensures untyped { RefusedIsUntyped }
+{
+    one_reading();
+    tokens_are_spelled();
+    one_tree();
+    one_fault();
+    fault_or_tree();
+    untypable_nodes_start_apart();
+}
+
+/// A law: the tree of a text has no more nodes than a text may have tokens.
+pub fn texts_have_few_nodes()
+    ensures { FewNodes }
+{}
+
+/// A law: of an item with the properties Active, ID and Name, `Active and ID eq 1 and Name eq 'a'` has type Boolean.
+pub fn a_filter_of_items_is_boolean()
+    ensures { ItemFilterTyped }
+{}
+
+/// A law: of such an item `ID eq 'a'` has no type.
+pub fn a_number_is_no_text()
+    ensures { MixedFilterUntyped }
+{}

@@ -1,0 +1,16 @@
+//! Which type a tree has, which of its nodes are judged, and where and why a text is no filter (OData URL Conventions
+//! 4.01, section 5.1.1).
+#![tactic(auto)]
+
+mod laws;
+mod normal_form_laws;
+mod refusal;
+
+pub use laws::{
+    a_filter_of_items_is_boolean, a_number_is_no_text, children_come_first,
+    enumeration_literals_have_one_name, literals_have_one_value, texts_have_few_nodes,
+    texts_have_one_refusal, trees_have_one_type, typed_trees_are_clear,
+    untypable_nodes_start_apart,
+};
+pub use normal_form_laws::{canonical_texts_keep_types, normal_forms_keep_types};
+pub use refusal::{Refusal, TypeFault, TypeFaultCode};

@@ -1,0 +1,57 @@
+//! What the normal form of a tree, and so its canonical text, keeps of it.
+ghost use Rattle.std.specs.Prelude.{◌↔◌, ℕ, List};
+ghost use Rattle.edm_values.specs.Val.{Val};
+ghost use Rattle.odata_text.specs.LiteralSpelling.{IsLiteralSpelling};
+ghost use Rattle.odata_syntax.specs.CanonicalText.{IsCanonicalText};
+ghost use Rattle.odata_syntax.specs.NormalForm.{IsNormalForm, bare, literal_token};
+ghost use Rattle.odata_syntax.specs.Tree.{Tree};
+ghost use Rattle.odata_syntax.specs.declared.node.LiteralKind.{LiteralKind};
+ghost use Rattle.csdl_schema.specs.ExprType.{ExprType};
+ghost use Rattle.csdl_schema.specs.SchemaModel.{Slots};
+ghost use Rattle.odata_expression_types.specs.HasTyping.{HasTree, HasTyping};
+ghost use Rattle.odata_expression_types.specs.LiteralValue.{LiteralValue};
+ghost use Rattle.odata_expression_types.specs.PreOrder.{pre_order};
+ghost use Rattle.odata_expression_types.specs.SameTypes.{HaveSameTypesByNumber};
+ghost use Rattle.odata_expression_types.specs.Typed.{Scope, Typed};
+
+use edm_values::{guids_read_back, ints_read_back, moments_read_back, texts_have_one_value};
+use odata_syntax::{canonical_texts_read_back, one_tree};
+use odata_text::{one_list_of_any_length, tokens_are_spelled};
+
+/// A law: a literal's canonical spelling stands for the value of the literal, and a tree's normal form and the tree
+/// without its places have the types of the tree.
+pub fn normal_forms_keep_types()
+    ensures values { (slots : Slots) (kind : LiteralKind) (text spelling : List ℕ) (v : Val)
+        → IsLiteralSpelling (literal_token kind) text spelling
+        → LiteralValue slots kind text v ↔ LiteralValue slots kind spelling v }
+    ensures types { (slots : Slots) (root : List ℕ) (scope : Scope) (tree normal : Tree) (type : ExprType)
+        → IsNormalForm tree normal
+        → Typed slots root scope tree type ↔ Typed slots root scope normal type }
+    ensures places { (slots : Slots) (root : List ℕ) (scope : Scope) (tree : Tree) (type : ExprType)
+        → Typed slots root scope tree type ↔ Typed slots root scope (bare tree) type }
+{
+    texts_have_one_value();
+    ints_read_back();
+    moments_read_back();
+    guids_read_back();
+}
+
+/// A law: what is read of a text's canonical text has the types of the text's tree, node by node, and is a filter
+/// exactly if the text is one.
+pub fn canonical_texts_keep_types()
+    ensures nodes { (slots : Slots) (root text printed : List ℕ) (tree again : Tree)
+        → HasTree text tree → IsCanonicalText tree printed → HasTree printed again
+        → HaveSameTypesByNumber slots root (pre_order tree) (pre_order again) }
+    ensures filters { (slots : Slots) (root text printed : List ℕ) (tree again : Tree)
+        → HasTree text tree → IsCanonicalText tree printed → HasTree printed again
+        → HasTyping slots root text tree ↔ HasTyping slots root printed again }
+{
+    texts_have_one_value();
+    ints_read_back();
+    moments_read_back();
+    guids_read_back();
+    canonical_texts_read_back();
+    one_list_of_any_length();
+    tokens_are_spelled();
+    one_tree();
+}

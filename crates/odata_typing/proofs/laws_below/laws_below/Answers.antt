@@ -1,0 +1,12 @@
+use Rattle.odata_typing.proofs.laws_below.laws_below.Goals as goal
+
+pub returns : goal.returns
+returns c = record {
+  one_type = c.trees_have_one_type.ensures;
+  clear = c.typed_trees_are_clear.ensures;
+  below = c.children_come_first.ensures.below;
+  itself = c.children_come_first.ensures.itself;
+  kept = c.nodes_stand_where_they_are_put.ensures.kept;
+  pushed = c.nodes_stand_where_they_are_put.ensures.pushed;
+  closed = c.nodes_stand_where_they_are_put.ensures.closed;
+}

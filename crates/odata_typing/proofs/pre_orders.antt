@@ -1,3 +1,0 @@
--- What a tree's nodes are like.
-pub mod Calls
-pub mod Sizes
