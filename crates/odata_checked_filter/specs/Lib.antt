@@ -20,6 +20,9 @@ pub mod ListGrowth
 pub mod ScopedNodes
 pub mod Filter
 pub mod NameKinds
+pub mod Depths
+pub mod TypeText
+pub mod Explanation
 pub mod Calls
 pub mod Laws
 pub mod private

@@ -4,6 +4,7 @@ ghost use Rattle.std.specs.Option.{option_map};
 ghost use Rattle.odata_syntax.specs.CanonicalText.{IsCanonicalText};
 ghost use Rattle.csdl_schema.specs.SchemaModel.{HoldsType};
 ghost use Rattle.odata_checked_filter.specs.Calls.{TakesMemory, UsesNow};
+ghost use Rattle.odata_checked_filter.specs.Explanation.{IsExplanation};
 ghost use Rattle.odata_checked_filter.specs.Filter.{IsFilter, IsTypeAt, tree_of_filter};
 ghost use Rattle.odata_checked_filter.specs.NameKinds.{IsSlotAt, level_at};
 ghost use Rattle.odata_expression_types.specs.PreOrder.{pre_order, span_of_tree};
@@ -11,6 +12,7 @@ ghost use Rattle.odata_signatures.specs.TypeView.{expr_type};
 
 use super::canonical_text::text_of_list;
 use super::checked_node::{CheckedNode, NodeKind};
+use super::explanation::explanation_of;
 use super::node_list::NodeList;
 use csdl_schema::{Schema, TypeId};
 use edm_values::Value;
@@ -87,6 +89,14 @@ impl<'s> Checked<'s> {
         ensures { result.now ≡ self.now.list.values }
     {
         self.list.values()
+    }
+
+    /// The whole list.
+    pub(crate) fn list(&self) -> &NodeList
+        ensures same { result.now ≡ self.now.list }
+        ensures right { IsFilter self.now }
+    {
+        &self.list
     }
 
     /// The node of a number, counted from 0. `None` past the last node.
@@ -174,6 +184,14 @@ impl<'s> Checked<'s> {
         // What is known of every filter is known once its nodes have been asked for.
         let _nodes = self.nodes();
         text_of_list(alloc, &self.list)
+    }
+
+    /// A line a node, in pre-order: two spaces for each node around it, its span, what it is called and its type. Each
+    /// line ends with a line feed.
+    pub fn explain(&self, alloc: Global) -> Result<String, AllocError>
+        ensures { IfOk result (λ text. IsExplanation self.now (string_bytes text)) }
+    {
+        explanation_of(alloc, self)
     }
 
     /// Whether evaluating the filter makes texts.

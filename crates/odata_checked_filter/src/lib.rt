@@ -5,6 +5,7 @@
 mod canonical_text;
 mod checked;
 mod checked_node;
+mod explanation;
 mod laws;
 mod node_list;
 

@@ -12,12 +12,15 @@ pub use Rattle.edm_values.specs.PlainVal
 pub use Rattle.edm_values.specs.StringLiteral
 pub use Rattle.edm_values.specs.Val
 pub use Rattle.odata_checked_filter.specs.Calls
+pub use Rattle.odata_checked_filter.specs.Depths
+pub use Rattle.odata_checked_filter.specs.Explanation
 pub use Rattle.odata_checked_filter.specs.Filter
 pub use Rattle.odata_checked_filter.specs.FlatTree
 pub use Rattle.odata_checked_filter.specs.Levels
 pub use Rattle.odata_checked_filter.specs.NameKinds
 pub use Rattle.odata_checked_filter.specs.ScopedNodes
 pub use Rattle.odata_checked_filter.specs.Stands
+pub use Rattle.odata_checked_filter.specs.TypeText
 pub use Rattle.odata_expression_types.specs.Considered
 pub use Rattle.odata_expression_types.specs.FirstUntypable
 pub use Rattle.odata_expression_types.specs.HasTyping

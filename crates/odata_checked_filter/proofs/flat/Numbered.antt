@@ -151,6 +151,9 @@ pub record IsNumbered (filter : Filter) (k : ℕ) (found : CheckedNode) : Type 0
   pub unbound : slice_get (scoped_nodes [] (tree_of_filter filter)) k ≡ Some (record { variables = []; part = at.part })
   pub considered : IsConsidered (slots_of filter.schema) (type_name_at filter.schema filter.filtered) [] (tree_of_filter filter) [] at.part
   pub says : IsNodeOf filter found at
+  pub variables : at.variables ≡ []
+  pub stop : ℕ
+  pub stands : Stands filter.schema filter.filtered [] filter.list k stop at.part
 
 scoped_same : (at : ScopedNode) → at.variables ≡ [] → record { variables = []; part = at.part } ≡ at
 scoped_same at none =
@@ -178,6 +181,9 @@ numbered filter k found is here =
       unbound = s.1 ∙ ap Some (sym (scoped_same s.0 part.variables));
       considered = part.considered;
       says = subst Q (scoped_same s.0 part.variables) (top_says filter k part.j s.0.part part.stands found here);
+      variables = part.variables;
+      stop = part.j;
+      stands = part.stands;
     }
 
 -- past the list's end is past the tree's

@@ -1,0 +1,127 @@
+-- A node lies as deep as many nodes before it stop behind it.
+use Rattle.std.proofs.Common.{◌≡◌, refl, sym, ap, ◌∙◌, ℕ, ◌<◌, ◌≤◌, ◌+◌, List, [], ◌∷◌, ◌++◌, Some, true, false, append-nil, append_assoc, drop, length, length-append, nat_lt, slice_get, arith}
+use Rattle.std.specs.List.{AllByRecursion, filter}
+use Rattle.std.proofs.lemmas.Bool.Decides.{nat_tests}
+use Rattle.std.proofs.lemmas.List.Elements.{filter-append}
+use Rattle.odata_syntax.specs.Tree.{Tree, node, Shape, literal, it, name, member, negation, logical_not, binary}
+use Rattle.csdl_schema.specs.SchemaModel.{SchemaModel}
+use Rattle.odata_checked_filter.specs.declared.checked_node.CheckedNode.{CheckedNode}
+use Rattle.odata_checked_filter.specs.Depths.{depths, depths_below}
+use Rattle.odata_checked_filter.specs.FlatTree.{FlatTree}
+use Rattle.odata_checked_filter.specs.Stands.{ChildrenStand, IsTop, Stands}
+use Rattle.odata_expression_types.specs.Typed.{Scope}
+use Rattle.odata_checked_filter.specs.private.ExplanationWalk.{still_around}
+use Rattle.odata_checked_filter.proofs.flat.Places.{drop_at}
+use Rattle.odata_checked_filter.proofs.flat.Standing.{stands_nonempty}
+
+-- the depths that the walk tells of nodes from a place on, by where those before them stop
+abbrev pub told_depths : ℕ → List CheckedNode → List ℕ → List ℕ
+told_depths place [] stops = []
+told_depths place (found ∷ rest) stops =
+    length (still_around place stops) ∷ told_depths (place + 1) rest (still_around place stops ++ found.stop ∷ [])
+
+-- what stops there no longer counts
+told_alike : (place : ℕ) (nodes : List CheckedNode) (stops others : List ℕ) → still_around place stops ≡ still_around place others → told_depths place nodes stops ≡ told_depths place nodes others
+told_alike place [] stops others same = refl
+told_alike place (found ∷ rest) stops others same =
+    ap (λ (around : List ℕ). length around ∷ told_depths (place + 1) rest (around ++ found.stop ∷ [])) same
+
+-- none of these stops before that
+abbrev pub StopBehind : ℕ → List ℕ → Type 0
+StopBehind place stops = AllByRecursion (λ stop. place ≤ stop) stops
+
+earlier_too : (i j : ℕ) (stops : List ℕ) → i ≤ j → StopBehind j stops → StopBehind i stops
+earlier_too i j [] before all = tt
+earlier_too i j (stop ∷ stops) before all = (let h : j ≤ stop = all.0 in omega arith, earlier_too i j stops before all.1)
+
+one_more : (j : ℕ) (stops : List ℕ) → StopBehind j stops → StopBehind j (stops ++ j ∷ [])
+one_more j [] all = (omega arith, tt)
+one_more j (stop ∷ stops) all = (all.0, one_more j stops all.1)
+
+lt_true : (a b : ℕ) → a < b → nat_lt a b ≡ true
+lt_true a b below = grind (arith, nat_tests)
+
+not_below_itself : (a : ℕ) → nat_lt a a ≡ false
+not_below_itself a = grind (arith, nat_tests)
+
+-- all of them are around a place before that
+all_around : (i j : ℕ) (stops : List ℕ) → i < j → StopBehind j stops → still_around i stops ≡ stops
+all_around i j [] before all = refl
+all_around i j (stop ∷ stops) before all =
+    let h : j ≤ stop = all.0 in
+    let behind : i < stop = omega arith in
+    rw (lt_true i stop behind) (ap (λ (xs : List ℕ). stop ∷ xs) (all_around i j stops before all.1))
+
+-- where a node stops, it is not around
+stopped_alone : (j : ℕ) → still_around j (j ∷ []) ≡ []
+stopped_alone j = rw (not_below_itself j) refl
+
+passed : (j : ℕ) (stops : List ℕ) → still_around j (stops ++ j ∷ []) ≡ still_around j stops
+passed j stops =
+    filter-append (λ stop. nat_lt j stop) stops (j ∷ [])
+    ∙ ap (λ (xs : List ℕ). still_around j stops ++ xs) (stopped_alone j)
+    ∙ append-nil (still_around j stops)
+
+one_longer : (stops : List ℕ) (j : ℕ) → length (stops ++ j ∷ []) ≡ length stops + 1
+one_longer stops j = length-append stops (j ∷ [])
+
+-- a node at its place, and what is told behind it
+top_told :
+    (schema : SchemaModel) (n : ℕ) (scope : Scope) (list : FlatTree) (i j start stop : ℕ) (shape : Shape) (stops : List ℕ)
+    → IsTop schema n scope list i j start stop shape
+    → i < j
+    → StopBehind j stops
+    → told_depths i (drop i list.nodes) stops ≡ length stops ∷ told_depths (i + 1) (drop (i + 1) list.nodes) (stops ++ j ∷ [])
+top_told schema n scope list i j start stop shape stops top before all =
+    ap (λ (nodes : List CheckedNode). told_depths i nodes stops) (drop_at list.nodes i top.found top.stands_at)
+    ∙ ap (λ (around : List ℕ). length around ∷ told_depths (i + 1) (drop (i + 1) list.nodes) (around ++ top.found.stop ∷ [])) (all_around i j stops before all)
+    ∙ ap (λ (last : ℕ). length stops ∷ told_depths (i + 1) (drop (i + 1) list.nodes) (stops ++ last ∷ [])) top.last
+
+-- where its children have been told, the node has
+closed :
+    (list : FlatTree) (i j : ℕ) (stops below : List ℕ)
+    → told_depths i (drop i list.nodes) stops ≡ length stops ∷ told_depths (i + 1) (drop (i + 1) list.nodes) (stops ++ j ∷ [])
+    → told_depths (i + 1) (drop (i + 1) list.nodes) (stops ++ j ∷ []) ≡ below ++ told_depths j (drop j list.nodes) (stops ++ j ∷ [])
+    → told_depths i (drop i list.nodes) stops ≡ (length stops ∷ below) ++ told_depths j (drop j list.nodes) stops
+closed list i j stops below first rest =
+    first
+    ∙ ap (λ (xs : List ℕ). length stops ∷ xs)
+    (rest ∙ ap (λ (xs : List ℕ). below ++ xs) (told_alike j (drop j list.nodes) (stops ++ j ∷ []) stops (passed j stops)))
+
+-- the nodes of a tree are told its depths, and then those behind it
+mutual
+  pub tree_told :
+      (schema : SchemaModel) (n : ℕ) (scope : Scope) (list : FlatTree) (i j : ℕ) (tree : Tree) (stops : List ℕ)
+      → Stands schema n scope list i j tree
+      → StopBehind j stops
+      → told_depths i (drop i list.nodes) stops ≡ depths (length stops) tree ++ told_depths j (drop j list.nodes) stops
+  tree_told schema n scope list i j (node start stop shape) stops stands all =
+      closed list i j stops (depths_below (length stops + 1) shape)
+      (top_told schema n scope list i j start stop shape stops stands.top (stands_nonempty schema n scope list i j (node start stop shape) stands) all)
+      (below_told schema n scope list (i + 1) j shape (stops ++ j ∷ []) (length stops + 1) (one_longer stops j) stands.children (one_more j stops all))
+
+  below_told :
+      (schema : SchemaModel) (n : ℕ) (scope : Scope) (list : FlatTree) (i j : ℕ) (shape : Shape) (stops : List ℕ) (around : ℕ)
+      → length stops ≡ around
+      → ChildrenStand schema n scope list i j shape
+      → StopBehind j stops
+      → told_depths i (drop i list.nodes) stops ≡ depths_below around shape ++ told_depths j (drop j list.nodes) stops
+  below_told schema n scope list i j (literal kind spelling) stops around deep stand all = ap (λ (k : ℕ). told_depths k (drop k list.nodes) stops) stand
+  below_told schema n scope list i j it stops around deep stand all = ap (λ (k : ℕ). told_depths k (drop k list.nodes) stops) stand
+  below_told schema n scope list i j (name asked) stops around deep stand all = ap (λ (k : ℕ). told_depths k (drop k list.nodes) stops) stand
+  below_told schema n scope list i j (member base asked) stops around deep stand all =
+      rw (← deep) (tree_told schema n scope list i j base stops stand all)
+  below_told schema n scope list i j (negation operand) stops around deep stand all =
+      rw (← deep) (tree_told schema n scope list i j operand stops stand all)
+  below_told schema n scope list i j (logical_not operand) stops around deep stand all =
+      rw (← deep) (tree_told schema n scope list i j operand stops stand all)
+  below_told schema n scope list i j (binary operator left right) stops around deep stand all =
+      let m = stand.middle in
+      let last : m < j = stands_nonempty schema n scope list m j right stand.right in
+      let first = tree_told schema n scope list i m left stops stand.left (earlier_too m j stops (omega arith) all) in
+      let second = tree_told schema n scope list m j right stops stand.right all in
+      rw (← deep)
+      (first
+      ∙ ap (λ (xs : List ℕ). depths (length stops) left ++ xs) second
+      ∙ sym (append_assoc (depths (length stops) left) (depths (length stops) right) (told_depths j (drop j list.nodes) stops)))
+  below_told schema n scope list i j _ stops around deep stand all = absurd stand

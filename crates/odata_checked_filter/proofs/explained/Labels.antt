@@ -1,0 +1,27 @@
+-- What a node of the list is called, as the tree's.
+use Rattle.std.proofs.Common.{◌≡◌, refl, sym, ap, ◌∙◌, ℕ, List, Option, None, Some}
+use Rattle.odata_syntax.specs.Tree.{Shape, Tree, literal, it, name, member, negation, logical_not, binary}
+use Rattle.csdl_schema.specs.SchemaModel.{Slots}
+use Rattle.odata_checked_filter.specs.declared.checked_node.NodeKind.{NodeKind}
+use Rattle.odata_checked_filter.specs.Explanation.{name_label, node_label}
+use Rattle.odata_checked_filter.specs.FlatTree.{FlatTree}
+use Rattle.odata_checked_filter.specs.Stands.{IsKindOf, text_of_shape, variable_names}
+use Rattle.odata_expression_types.specs.Typed.{Scope}
+use Rattle.odata_checked_filter.specs.private.ExplanationWalk.{kind_label}
+
+pub label_told :
+    (list : FlatTree) (slots : Slots) (root : List ℕ) (scope : Scope) (shape : Shape) (kind : NodeKind)
+    → IsKindOf list.values slots root scope shape kind
+    → kind_label kind (text_of_shape shape) ≡ node_label (variable_names scope) shape
+label_told list slots root scope (literal k spelling) (NodeKind.Literal l place) is = refl
+label_told list slots root scope (literal k spelling) _ is = absurd is
+label_told list slots root scope it kind is = rw is refl
+label_told list slots root scope (name asked) (NodeKind.Variable level) is = sym (ap (λ (o : Option ℕ). name_label o asked) is)
+label_told list slots root scope (name asked) (NodeKind.Property slot) is = sym (ap (λ (o : Option ℕ). name_label o asked) is.0)
+label_told list slots root scope (name asked) _ is = absurd is
+label_told list slots root scope (member base asked) (NodeKind.Member slot) is = refl
+label_told list slots root scope (member base asked) _ is = absurd is
+label_told list slots root scope (negation operand) kind is = rw is refl
+label_told list slots root scope (logical_not operand) kind is = rw is refl
+label_told list slots root scope (binary operator left right) kind is = rw is refl
+label_told list slots root scope _ kind is = absurd is

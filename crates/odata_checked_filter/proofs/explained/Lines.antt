@@ -1,0 +1,173 @@
+-- The lines of the nodes up to a place.
+use Rattle.std.proofs.Common.{◌≡◌, refl, sym, ap, ◌∙◌, subst, inl, inr, ℕ, zero, suc, ◌<◌, ◌*◌, ◌+◌, List, [], ◌∷◌, ◌++◌, Some, append-nil, append_assoc, drop, length, length-append, slice_get, arith}
+use Rattle.std.specs.Prelude.{codes, replicate}
+use Rattle.std.specs.List.{flat_map}
+use Rattle.std.proofs.lemmas.List.{drop_all, flat_map_more, replicate-append-replicate}
+use Rattle.std.proofs.lemmas.Option.{none-some}
+use Rattle.odata_syntax.specs.Tree.{Tree, node, shape_of}
+use Rattle.odata_text.specs.declared.span.Span.{Span}
+use Rattle.csdl_schema.specs.SchemaModel.{SchemaModel, slots_of, type_name_at}
+use Rattle.odata_checked_filter.specs.declared.checked_node.CheckedNode.{CheckedNode}
+use Rattle.odata_checked_filter.specs.Depths.{depths}
+use Rattle.odata_checked_filter.specs.Explanation.{IsExplanation, IsNodeLine, node_label, node_line, span_text}
+use Rattle.odata_checked_filter.specs.Filter.{Filter, IsFilter, tree_of_filter}
+use Rattle.odata_checked_filter.specs.FlatTree.{FlatTree}
+use Rattle.odata_expression_types.specs.PreOrder.{span_of_tree}
+use Rattle.odata_checked_filter.specs.ScopedNodes.{ScopedNode}
+use Rattle.odata_checked_filter.specs.Stands.{Stands, text_of_shape}
+use Rattle.odata_checked_filter.specs.TypeText.{type_text}
+use Rattle.odata_checked_filter.specs.private.ExplanationWalk.{IsLinePut, kind_label, listed_line, still_around}
+use Rattle.odata_checked_filter.proofs.flat.Numbered.{IsNumbered, count_of, numbered, type_at}
+use Rattle.odata_checked_filter.proofs.flat.Places.{drop_at, get_front, get_last, get_parts, same_found}
+use Rattle.odata_checked_filter.proofs.explained.Depths.{told_depths, tree_told}
+use Rattle.odata_checked_filter.proofs.explained.Labels.{label_told}
+
+-- the lines of the nodes before a place are the text, and the depths of the others are still to be told
+pub record IsTold (filter : Filter) (place : ℕ) (stops text : List ℕ) : Type 0 where
+  pub lines : List (List ℕ)
+  pub as_many : length lines ≡ place
+  pub each : (k : ℕ) (line : List ℕ) → slice_get lines k ≡ Some line → IsNodeLine filter k line
+  pub whole : text ≡ flat_map (λ line. line ++ 10 ∷ []) lines
+  pub done : List ℕ
+  pub of_each : length done ≡ place
+  pub deep : depths 0 (tree_of_filter filter) ≡ done ++ told_depths place (drop place filter.list.nodes) stops
+
+pub begun : (filter : Filter) (text : List ℕ) → IsFilter filter → text ≡ [] → IsTold filter 0 [] text
+begun filter text is empty =
+    let nodes = filter.list.nodes in
+    let tree = tree_of_filter filter in
+    let told = tree_told filter.schema filter.filtered [] filter.list 0 (length nodes) tree [] is.stands tt in
+    let none : told_depths (length nodes) (drop (length nodes) nodes) [] ≡ [] =
+    ap (λ (rest : List CheckedNode). told_depths (length nodes) rest []) (drop_all (length nodes) nodes (omega arith)) in
+    record {
+      lines = [];
+      as_many = refl;
+      each = λ k line found. absurd (none-some line found);
+      whole = empty;
+      done = [];
+      of_each = refl;
+      deep = sym (told ∙ ap (λ (xs : List ℕ). depths 0 tree ++ xs) none ∙ append-nil (depths 0 tree));
+    }
+
+-- what a node of the list is called
+called :
+    (filter : Filter) (k j : ℕ) (tree : Tree) (found : CheckedNode) (beside : List ℕ)
+    → Stands filter.schema filter.filtered [] filter.list k j tree
+    → slice_get filter.list.nodes k ≡ Some found
+    → slice_get filter.list.texts k ≡ Some beside
+    → kind_label found.kind beside ≡ node_label [] (shape_of tree)
+called filter k j (node start stop shape) found beside stands here text =
+    let top = stands.top in
+    let same : top.found ≡ found = same_found (slice_get filter.list.nodes k) top.found found top.stands_at here in
+    let spelled : text_of_shape shape ≡ beside = same_found (slice_get filter.list.texts k) (text_of_shape shape) beside top.text_at text in
+    sym (ap (λ (f : CheckedNode). kind_label f.kind (text_of_shape shape)) same ∙ ap (kind_label found.kind) spelled)
+    ∙ label_told filter.list (slots_of filter.schema) (type_name_at filter.schema filter.filtered) [] shape top.found.kind top.kind
+
+-- its line
+line_same :
+    (schema : SchemaModel) (depth : ℕ) (found : CheckedNode) (beside : List ℕ) (at : ScopedNode) (variables : List (List ℕ))
+    → found.span ≡ span_of_tree at.part
+    → at.variables ≡ variables
+    → kind_label found.kind beside ≡ node_label variables (shape_of at.part)
+    → listed_line schema depth found beside ≡ node_line schema depth at found.edm_type
+line_same schema depth found beside at variables span none label =
+    let label' : kind_label found.kind beside ≡ node_label at.variables (shape_of at.part) =
+    label ∙ ap (λ (v : List (List ℕ)). node_label v (shape_of at.part)) (sym none) in
+    rw (span, label') refl
+
+-- the last line is that of the place
+each_more :
+    (filter : Filter) (lines : List (List ℕ)) (line : List ℕ) (place k : ℕ) (other : List ℕ)
+    → length lines ≡ place
+    → ((i : ℕ) (l : List ℕ) → slice_get lines i ≡ Some l → IsNodeLine filter i l)
+    → IsNodeLine filter place line
+    → slice_get (lines ++ line ∷ []) k ≡ Some other
+    → IsNodeLine filter k other
+each_more filter lines line place k other many each last found =
+    elim (get_parts lines (line ∷ []) k other found) [
+      | inl h ↦ each k other h
+      | inr h ↦ at_end h.0 h.1.0 h.1.1
+    ]
+  where
+    at_end : (j : ℕ) → k ≡ length lines + j → slice_get (line ∷ []) j ≡ Some other → IsNodeLine filter k other
+    at_end zero past is =
+        let same : line ≡ other = cc is in
+        let here : place ≡ k = omega arith in
+        subst (λ (i : ℕ). IsNodeLine filter i other) here (subst (IsNodeLine filter place) same last)
+    at_end (suc j) past is = absurd (none-some other is)
+
+-- one more line was put behind the others
+pub one_told :
+    (filter : Filter) (place : ℕ) (stops stops' text text' : List ℕ)
+    → IsFilter filter
+    → IsTold filter place stops text
+    → IsLinePut filter.schema filter.list place stops stops' text text'
+    → IsTold filter (place + 1) stops' text'
+one_told filter place stops stops' text text' is told put =
+    let nodes = filter.list.nodes in
+    let tree = tree_of_filter filter in
+    let around = still_around place stops in
+    let found = put.found in
+    let n : IsNumbered filter place found = numbered filter place found is put.at in
+    let line = listed_line filter.schema (length around) found put.beside in
+    let lined : List ℕ → List ℕ = λ (l : List ℕ). l ++ 10 ∷ [] in
+    let label = called filter place n.stop n.at.part found put.beside n.stands put.at put.text_at in
+    let rest = told_depths (place + 1) (drop (place + 1) nodes) (around ++ found.stop ∷ []) in
+    let deep : depths 0 tree ≡ (told.done ++ length around ∷ []) ++ rest =
+    told.deep
+    ∙ ap (λ (xs : List CheckedNode). told.done ++ told_depths place xs stops) (drop_at nodes place found put.at)
+    ∙ sym (append_assoc told.done (length around ∷ []) rest) in
+    let here : slice_get (depths 0 tree) place ≡ Some (length around) =
+    ap (λ (xs : List ℕ). slice_get xs place) deep
+    ∙ get_front (told.done ++ length around ∷ []) rest place (length around) (get_last told.done place (length around) (sym told.of_each)) in
+    let node : IsNodeLine filter place line = record {
+      at = n.at;
+      depth = length around;
+      type_of = found.edm_type;
+      numbered = n.scoped;
+      deep = here;
+      typed = type_at filter place found n;
+      spelled = line_same filter.schema (length around) found put.beside n.at [] n.says.span n.variables label;
+    } in
+    record {
+      lines = told.lines ++ line ∷ [];
+      as_many = length-append told.lines (line ∷ []) ∙ ap (λ (k : ℕ). k + 1) told.as_many;
+      each = λ k other at. each_more filter told.lines line place k other told.as_many told.each node at;
+      whole =
+          put.text
+          ∙ ap (λ (t : List ℕ). t ++ lined line) told.whole
+          ∙ flat_map_more lined [] told.lines line;
+      done = told.done ++ length around ∷ [];
+      of_each = length-append told.done (length around ∷ []) ∙ ap (λ (k : ℕ). k + 1) told.of_each;
+      deep = deep ∙ ap (λ (xs : List ℕ). (told.done ++ length around ∷ []) ++ told_depths (place + 1) (drop (place + 1) nodes) xs) (sym put.around);
+    }
+
+-- where each node has its line, the filter is explained
+pub all_told :
+    (filter : Filter) (place : ℕ) (stops text : List ℕ)
+    → IsFilter filter
+    → place ≡ length filter.list.nodes
+    → IsTold filter place stops text
+    → IsExplanation filter text
+all_told filter place stops text is all told = record {
+  lines = told.lines;
+  as_many = told.as_many ∙ all ∙ count_of filter is;
+  each = told.each;
+  whole = told.whole;
+}
+
+-- two more spaces
+pub one_deeper : (n : ℕ) → ◌≡◌ {A = List ℕ} (replicate (2 * n) 32 ++ codes "  ") (replicate (2 * (n + 1)) 32)
+one_deeper n =
+    let e : 2 * n + 2 ≡ 2 * (n + 1) = omega arith in
+    replicate-append-replicate (2 * n) 2 32 ∙ ap (λ (k : ℕ). replicate k 32) e
+
+-- the parts of a line, one behind another
+pub line_joined :
+    (before indent span label type : List ℕ)
+    → ((((before ++ indent) ++ span) ++ (32 ∷ (label ++ 32 ∷ []))) ++ type) ++ 10 ∷ []
+    ≡ before ++ ((indent ++ (span ++ (32 ∷ (label ++ (32 ∷ type))))) ++ 10 ∷ [])
+line_joined before indent span label type = simp append_assoc
+
+pub collection_joined : (before word name last : List ℕ) → ((before ++ word) ++ name) ++ last ≡ before ++ (word ++ (name ++ last))
+collection_joined before word name last = simp append_assoc
