@@ -2,5 +2,7 @@
 pub mod DatumView
 pub mod Operands
 pub mod Place
+pub mod Scene
+pub mod SceneModel
 pub mod WalkAnswer
 pub mod WalkClass

@@ -53,16 +53,13 @@ pub(crate) fn kept_truth(value: &Value) -> Option<bool>
 }
 
 /// What a record has in a slot; null of null.
-pub(crate) fn step<'e>(base: &Datum<'e>, slot: usize) -> Datum<'e>
-    requires { HasSlot base.now slot }
-    ensures { IsStepOf base.now slot result }
+pub(crate) fn step<'e>(base: Datum<'e>, slot: usize) -> Datum<'e>
+    requires { HasSlot base slot }
+    ensures { IsStepOf base.entry slot result }
 {
     match base {
         Datum::Null => Datum::Null,
-        Datum::Record(fields) => {
-            let fields = *fields;
-            datum_of(&fields[slot])
-        }
+        Datum::Record(fields) => datum_of(&fields[slot]),
         _ => unreachable!(),
     }
 }

@@ -7,11 +7,11 @@ ghost use Rattle.odata_checked_filter.specs.Calls.{TakesMemory};
 ghost use Rattle.odata_checked_filter.specs.Filter.{tree_of_filter};
 
 use super::fault::EvalFault;
-use super::laws::typed_trees_end_once_on_entities;
+use super::scene::Scene;
 use super::verdict::Verdict;
 use super::walk::truth_at;
 use edm_entities::Entity;
-use edm_values::Moment;
+use edm_values::{Moment, Value};
 use odata_typing::Checked;
 use std::alloc::Global;
 
@@ -40,12 +40,12 @@ pub fn evaluate(
         (IsTheOutcome entity.now now.now (tree_of_filter checked.now)) }
     ensures no_memory { ¬ TakesMemory (tree_of_filter checked.now) → result ≢ Err EvalFault.Memory }
 {
-    // What is known of every filter and entity is known once its nodes or its value have been asked for, and laws once
-    // they are cited.
-    typed_trees_end_once_on_entities();
+    // What is known of every filter is known once its nodes have been asked for.
     let _nodes = checked.nodes();
-    let _value = entity.value();
-    match truth_at(&*checked, &*entity, now, 0) {
+    let moment = Value::Moment(*now);
+    let scene = Scene::of(checked, entity, now, &moment);
+    scene.ends_once();
+    match truth_at(&scene, 0) {
         Ok(truth) => Ok(verdict_of(truth)),
         Err(fault) => Err(fault),
     }

@@ -8,6 +8,7 @@ mod laws;
 mod number_walk;
 mod operators;
 mod part;
+mod scene;
 mod verdict;
 mod walk;
 

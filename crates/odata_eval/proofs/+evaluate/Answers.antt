@@ -1,4 +1,4 @@
-use Rattle.std.proofs.Common.{◌≡◌, ◌<◌, ◌≤◌, ◌+◌, ◌-◌, ◌*◌, ℤ, [], Bool, Option, Some, Result, Ok, SFits, w64, ap, sym, subst, slice_get, length, rules, arith}
+use Rattle.std.proofs.Common.{◌≡◌, ◌<◌, ◌≤◌, ◌+◌, ◌-◌, ◌*◌, ℤ, Bool, Option, Some, Result, Ok, SFits, w64, ap, sym, subst, slice_get, length, rules, arith}
 use Rattle.edm_values.specs.declared.datum.Datum.{Datum}
 use Rattle.std.specs.Prelude.{◌↔◌, IsTrue}
 use Rattle.std.proofs.lemmas.Int.{to_z-of_z}
@@ -31,332 +31,322 @@ use Rattle.odata_eval.proofs.walking.WalkValues.{kept_datum, made_value, read_va
 use Rattle.odata_eval.proofs.+evaluate.Goals as goal
 
 pub walk::truth_at-returns : goal.walk::truth_at-returns
-walk::truth_at-returns t c = at_top (λ k. AnswersTruth c.args.entity.now c.args.now.now [] c.args.checked.now.list k c.loop-at.answer) c.loop-at.at c.args.place c.loop-at.invariant.above (omega arith) c.loop-at.invariant.answers
+walk::truth_at-returns t c = at_top (λ k. AnswersTruth c.args.scene.now k c.loop-at.answer) c.loop-at.at c.args.place c.loop-at.invariant.above (omega arith) c.loop-at.invariant.answers
 
 pub walk::eager_at-returns : goal.walk::eager_at-returns
-walk::eager_at-returns t c = at_top (λ k. AnswersDatum c.args.entity.now c.args.now.now [] c.args.checked.now.list k c.loop-at.answer) c.loop-at.at c.args.place c.loop-at.invariant.above (omega arith) c.loop-at.invariant.answers
+walk::eager_at-returns t c = at_top (λ k. AnswersDatum c.args.scene.now k c.loop-at.answer) c.loop-at.at c.args.place c.loop-at.invariant.above (omega arith) c.loop-at.invariant.answers
 
 pub walk::made_truth_at-truth_of-requires : goal.walk::made_truth_at-truth_of-requires
 walk::made_truth_at-truth_of-requires t c = λ reading.
-    let answers = subst (λ (r : Result Datum EvalFault). AnswersDatum c.args.entity.now c.args.now.now [] c.args.checked.now.list c.args.place r) c.in-Ok.is c.eager_at.ensures in
-    value_there c.args.entity.now c.args.now.now c.args.checked.now.list c.args.place truth_values c.typed_trees_end_once_on_entities.ensures c.requires.entity c.in-Ok.value c.requires.stands answers reading
+    value_there c.args.scene.now c.args.place truth_values c.ends_once.ensures c.in-Ok.value c.requires.stands c.in-Ok.ensures reading
 
 pub walk::made_truth_at-returns-in-Ok : goal.walk::made_truth_at-returns-in-Ok
 walk::made_truth_at-returns-in-Ok t c =
-    let answers = subst (λ (r : Result Datum EvalFault). AnswersDatum c.args.entity.now c.args.now.now [] c.args.checked.now.list c.args.place r) c.in-Ok.is c.eager_at.ensures in
-    read_value c.args.entity.now c.args.now.now c.args.checked.now.list c.args.place c.in-Ok.value (truth_val c.truth_of.result) answers c.truth_of.ensures
+    read_value c.args.scene.now c.args.place c.in-Ok.value (truth_val c.truth_of.result) c.in-Ok.ensures c.truth_of.ensures
 
 pub walk::operand_at-returns-in-Leaf : goal.walk::operand_at-returns-in-Leaf
-walk::operand_at-returns-in-Leaf t c = kept_datum c.args.entity.now c.args.now.now c.args.checked.now.list c.args.place c.in-Leaf.value.now c.datum_of.result (c.in-Leaf.ensures c.args.now.now) c.datum_of.ensures
+walk::operand_at-returns-in-Leaf t c = kept_datum c.args.scene.now c.args.place c.in-Leaf.value.now c.datum_of.result c.in-Leaf.ensures c.datum_of.ensures
 
 pub walk::operand_at-returns-in-Ok : goal.walk::operand_at-returns-in-Ok
-walk::operand_at-returns-in-Ok t c = made_value c.args.entity.now c.args.now.now c.args.checked.now.list c.args.place c.datum_of_truth.result (truth_val c.in-Ok.truth) c.in-Ok.ensures c.datum_of_truth.ensures
+walk::operand_at-returns-in-Ok t c = made_value c.args.scene.now c.args.place c.datum_of_truth.result (truth_val c.in-Ok.truth) c.in-Ok.ensures c.datum_of_truth.ensures
 
 pub walk::operand_at-returns-in-Ok-number_at : goal.walk::operand_at-returns-in-Ok-number_at
-walk::operand_at-returns-in-Ok-number_at t c = made_value c.args.entity.now c.args.now.now c.args.checked.now.list c.args.place c.datum_of_number.result (number_val c.in-Ok-number_at.number) c.in-Ok-number_at.ensures c.datum_of_number.ensures
+walk::operand_at-returns-in-Ok-number_at t c = made_value c.args.scene.now c.args.place c.datum_of_number.result (number_val c.in-Ok-number_at.number) c.in-Ok-number_at.ensures c.datum_of_number.ensures
 
 pub walk::truth_at-plain_truth_at-answer-requires : goal.walk::truth_at-plain_truth_at-answer-requires
 walk::truth_at-plain_truth_at-answer-requires t c =
     let below : c.args.place ≤ c.spine_bottom-bottom.result = c.spine_bottom-bottom.ensures.below in
-    let smaller : 16 * (length c.args.checked.now.list.nodes - c.spine_bottom-bottom.result) + 10 < 16 * (length c.args.checked.now.list.nodes - c.args.place) + 11 = omega arith in
-    let stands = typed_down c.args.entity.now c.args.checked.now.list WalkClass.Logical (λ leaf. cc) c.args.place c.spine_bottom-bottom.result below c.requires.stands c.spine_bottom-bottom.ensures.spine in
+    let smaller : 16 * (length c.args.scene.now.list.nodes - c.spine_bottom-bottom.result) + 10 < 16 * (length c.args.scene.now.list.nodes - c.args.place) + 11 = omega arith in
+    let stands = typed_down c.args.scene.now WalkClass.Logical (λ leaf. cc) c.args.place c.spine_bottom-bottom.result below c.requires.stands c.spine_bottom-bottom.ensures.spine in
     search rules
 
 pub walk::truth_at-logical_at-answer-requires : goal.walk::truth_at-logical_at-answer-requires
 walk::truth_at-logical_at-answer-requires t c =
     let l = c.loop-at in
     let above : c.args.place < l.at = omega arith in
-    let smaller : 16 * (length c.args.checked.now.list.nodes - (l.at - 1)) + 4 < 16 * (length c.args.checked.now.list.nodes - c.args.place) + 11 = omega arith in
-    let up : StepUp c.args.entity.now c.args.checked.now.list WalkClass.Logical (λ k. AnswersTruth c.args.entity.now c.args.now.now [] c.args.checked.now.list k l.answer) l.at = step_up c.args.entity.now c.args.checked.now.list WalkClass.Logical (λ leaf. cc) (λ k. AnswersTruth c.args.entity.now c.args.now.now [] c.args.checked.now.list k l.answer) c.args.place l.at c.spine_bottom-bottom.result above l.invariant.within (typed_part c.args.entity.now c.args.checked.now.list c.args.place IsBooleanOrNull c.requires.stands) c.spine_bottom-bottom.ensures.spine l.invariant.answers in
+    let smaller : 16 * (length c.args.scene.now.list.nodes - (l.at - 1)) + 4 < 16 * (length c.args.scene.now.list.nodes - c.args.place) + 11 = omega arith in
+    let up : StepUp c.args.scene.now WalkClass.Logical (λ k. AnswersTruth c.args.scene.now k l.answer) l.at = step_up c.args.scene.now WalkClass.Logical (λ leaf. cc) (λ k. AnswersTruth c.args.scene.now k l.answer) c.args.place l.at c.spine_bottom-bottom.result above l.invariant.within (typed_part c.args.scene.now c.args.place IsBooleanOrNull c.requires.stands) c.spine_bottom-bottom.ensures.spine l.invariant.answers in
     search rules
 
 pub walk::eager_at-made_at-answer-requires : goal.walk::eager_at-made_at-answer-requires
 walk::eager_at-made_at-answer-requires t c =
     let l = c.loop-at in
     let above : c.args.place < l.at = omega arith in
-    let smaller : 16 * (length c.args.checked.now.list.nodes - (l.at - 1)) + 4 < 16 * (length c.args.checked.now.list.nodes - c.args.place) + 5 = omega arith in
-    let up : StepUp c.args.entity.now c.args.checked.now.list WalkClass.Eager (λ k. AnswersDatum c.args.entity.now c.args.now.now [] c.args.checked.now.list k l.answer) l.at = step_up c.args.entity.now c.args.checked.now.list WalkClass.Eager (λ leaf. cc) (λ k. AnswersDatum c.args.entity.now c.args.now.now [] c.args.checked.now.list k l.answer) c.args.place l.at c.spine_bottom-bottom.result above l.invariant.within c.requires.stands c.spine_bottom-bottom.ensures.spine l.invariant.answers in
+    let smaller : 16 * (length c.args.scene.now.list.nodes - (l.at - 1)) + 4 < 16 * (length c.args.scene.now.list.nodes - c.args.place) + 5 = omega arith in
+    let up : StepUp c.args.scene.now WalkClass.Eager (λ k. AnswersDatum c.args.scene.now k l.answer) l.at = step_up c.args.scene.now WalkClass.Eager (λ leaf. cc) (λ k. AnswersDatum c.args.scene.now k l.answer) c.args.place l.at c.spine_bottom-bottom.result above l.invariant.within c.requires.stands c.spine_bottom-bottom.ensures.spine l.invariant.answers in
     search rules
 
 pub walk::eager_at-operand_at-answer-requires : goal.walk::eager_at-operand_at-answer-requires
 walk::eager_at-operand_at-answer-requires t c =
-    let inside : c.args.place < length c.args.checked.now.list.nodes = part_inside c.args.entity.now c.args.checked.now.list c.args.place c.requires.stands in
-    let behind : c.args.place < c.spine_bottom-bottom.result = below_bottom c.args.checked.now.list WalkClass.Eager c.args.place c.spine_bottom-bottom.result c.spine_bottom-bottom.ensures.below c.requires.eager c.spine_bottom-bottom.ensures.bottom in
-    let smaller : 16 * (length c.args.checked.now.list.nodes - c.spine_bottom-bottom.result) + 12 < 16 * (length c.args.checked.now.list.nodes - c.args.place) + 5 = omega arith in
-    let stands = part_down c.args.entity.now c.args.checked.now.list WalkClass.Eager (λ leaf. cc) c.args.place c.spine_bottom-bottom.result c.spine_bottom-bottom.ensures.below c.requires.stands c.spine_bottom-bottom.ensures.spine in
+    let inside : c.args.place < length c.args.scene.now.list.nodes = part_inside c.args.scene.now c.args.place c.requires.stands in
+    let behind : c.args.place < c.spine_bottom-bottom.result = below_bottom c.args.scene.now.list WalkClass.Eager c.args.place c.spine_bottom-bottom.result c.spine_bottom-bottom.ensures.below c.requires.eager c.spine_bottom-bottom.ensures.bottom in
+    let smaller : 16 * (length c.args.scene.now.list.nodes - c.spine_bottom-bottom.result) + 12 < 16 * (length c.args.scene.now.list.nodes - c.args.place) + 5 = omega arith in
+    let stands = part_down c.args.scene.now WalkClass.Eager (λ leaf. cc) c.args.place c.spine_bottom-bottom.result c.spine_bottom-bottom.ensures.below c.requires.stands c.spine_bottom-bottom.ensures.spine in
     search rules
-
-pub walk::made_truth_at-returns : goal.walk::made_truth_at-returns
-walk::made_truth_at-returns t c = subst (λ (r : Result Datum EvalFault). AnswersDatum c.args.entity.now c.args.now.now [] c.args.checked.now.list c.args.place r) c.in-Err.is c.eager_at.ensures
 
 -- ---- a node of truth values
 
 pub walk::logical_at-returns-in-Err : goal.walk::logical_at-returns-in-Err
-walk::logical_at-returns-in-Err t c = first_faults c.args.entity.now c.args.checked.now.list c.args.now.now c.args.place WalkClass.Logical c.in-Err.fault (λ leaf. cc) c.requires.logical (subst (λ (r : Result (Option Bool) EvalFault). AnswersTruth c.args.entity.now c.args.now.now [] c.args.checked.now.list (c.args.place + 1) r) c.in-Err.is c.requires.first)
+walk::logical_at-returns-in-Err t c = first_faults c.args.scene.now c.args.place WalkClass.Logical c.in-Err.fault (λ leaf. cc) c.requires.logical (subst (λ (r : Result (Option Bool) EvalFault). AnswersTruth c.args.scene.now (c.args.place + 1) r) c.in-Err.is c.requires.first)
 
-pub walk::logical_at-node_at-requires : goal.walk::logical_at-node_at-requires
-walk::logical_at-node_at-requires t c = part_inside c.args.entity.now c.args.checked.now.list c.args.place c.requires.stands
+pub walk::logical_at-node-requires : goal.walk::logical_at-node-requires
+walk::logical_at-node-requires t c = part_inside c.args.scene.now c.args.place c.requires.stands
 
 pub walk::connected_at-returns-then-decides : goal.walk::connected_at-returns-then-decides
-walk::connected_at-returns-then-decides t c = decided_answers c.args.entity.now c.args.now.now c.args.checked.now.list c.args.place c.args.operator c.requires.here c.connective_of-connective.result c.args.left c.connective_of-connective.ensures (c.decides.ensures.0 c.if-decides.true) c.requires.left
+walk::connected_at-returns-then-decides t c = decided_answers c.args.scene.now c.args.place c.args.operator c.requires.here c.connective_of-connective.result c.args.left c.connective_of-connective.ensures (c.decides.ensures.0 c.if-decides.true) c.requires.left
 
 pub walk::connected_at-right_of-requires : goal.walk::connected_at-right_of-requires
-walk::connected_at-right_of-requires t c = right_there c.args.entity.now c.args.checked.now.list c.args.place c.args.operator c.requires.here c.requires.stands
+walk::connected_at-right_of-requires t c = right_there c.args.scene.now c.args.place c.args.operator c.requires.here c.requires.stands
 
 pub walk::connected_at-side_at-requires : goal.walk::connected_at-side_at-requires
 walk::connected_at-side_at-requires t c =
-    let inside : c.args.place < length c.args.checked.now.list.nodes = part_inside c.args.entity.now c.args.checked.now.list c.args.place c.requires.stands in
-    let behind : c.args.place < c.right_of.result = right_further c.args.entity.now c.args.checked.now.list c.args.place c.args.operator c.requires.here c.requires.stands c.right_of.result c.right_of.ensures in
-    let smaller : 16 * (length c.args.checked.now.list.nodes - c.right_of.result) + 12 < 16 * (length c.args.checked.now.list.nodes - c.args.place) + 3 = omega arith in
-    let stands : TruthStands c.args.entity.now [] c.args.checked.now.list c.right_of.result = right_typed c.args.entity.now c.args.checked.now.list c.args.place c.args.operator c.requires.here c.requires.stands c.right_of.result c.right_of.ensures WalkClass.Logical c.requires.connective in
+    let inside : c.args.place < length c.args.scene.now.list.nodes = part_inside c.args.scene.now c.args.place c.requires.stands in
+    let behind : c.args.place < c.right_of.result = right_further c.args.scene.now c.args.place c.args.operator c.requires.here c.requires.stands c.right_of.result c.right_of.ensures in
+    let smaller : 16 * (length c.args.scene.now.list.nodes - c.right_of.result) + 12 < 16 * (length c.args.scene.now.list.nodes - c.args.place) + 3 = omega arith in
+    let stands : TruthStands c.args.scene.now c.right_of.result = right_typed c.args.scene.now c.args.place c.args.operator c.requires.here c.requires.stands c.right_of.result c.right_of.ensures WalkClass.Logical c.requires.connective in
     search rules
 
 pub walk::connected_at-returns-in-Ok : goal.walk::connected_at-returns-in-Ok
 walk::connected_at-returns-in-Ok t c =
-    subst (λ (r : Option Bool). AnswersTruth c.args.entity.now c.args.now.now [] c.args.checked.now.list c.args.place (Ok r)) (sym c.join.ensures) (joined_answers c.args.entity.now c.args.now.now c.args.checked.now.list c.args.place c.args.operator c.requires.here c.right_of.result c.right_of.ensures c.connective_of-connective.result c.args.left
+    subst (λ (r : Option Bool). AnswersTruth c.args.scene.now c.args.place (Ok r)) (sym c.join.ensures) (joined_answers c.args.scene.now c.args.place c.args.operator c.requires.here c.right_of.result c.right_of.ensures c.connective_of-connective.result c.args.left
     c.connective_of-connective.ensures (λ decided. let e = c.decides.ensures.1 decided in cc) c.requires.left c.in-Ok.right c.in-Ok.ensures)
 
 pub walk::connected_at-returns-in-Err : goal.walk::connected_at-returns-in-Err
-walk::connected_at-returns-in-Err t c = joined_faults c.args.entity.now c.args.now.now c.args.checked.now.list c.args.place c.args.operator c.requires.here c.right_of.result c.right_of.ensures c.connective_of-connective.result c.args.left c.connective_of-connective.ensures (λ decided. let e = c.decides.ensures.1 decided in cc) c.requires.left c.in-Err.fault c.in-Err.ensures
+walk::connected_at-returns-in-Err t c = joined_faults c.args.scene.now c.args.place c.args.operator c.requires.here c.right_of.result c.right_of.ensures c.connective_of-connective.result c.args.left c.connective_of-connective.ensures (λ decided. let e = c.decides.ensures.1 decided in cc) c.requires.left c.in-Err.fault c.in-Err.ensures
 
 -- ---- another node with operands
 
 pub walk::made_at-returns-in-Err : goal.walk::made_at-returns-in-Err
-walk::made_at-returns-in-Err t c = first_faults c.args.entity.now c.args.checked.now.list c.args.now.now c.args.place WalkClass.Eager c.in-Err.before (λ leaf. cc) c.requires.eager (subst (λ (r : Result Datum EvalFault). AnswersDatum c.args.entity.now c.args.now.now [] c.args.checked.now.list (c.args.place + 1) r) c.in-Err.is c.requires.first)
+walk::made_at-returns-in-Err t c = first_faults c.args.scene.now c.args.place WalkClass.Eager c.in-Err.before (λ leaf. cc) c.requires.eager (subst (λ (r : Result Datum EvalFault). AnswersDatum c.args.scene.now (c.args.place + 1) r) c.in-Err.is c.requires.first)
 
-pub walk::made_at-node_at-requires : goal.walk::made_at-node_at-requires
-walk::made_at-node_at-requires t c = part_inside c.args.entity.now c.args.checked.now.list c.args.place c.requires.stands
+pub walk::made_at-node-requires : goal.walk::made_at-node-requires
+walk::made_at-node-requires t c = part_inside c.args.scene.now c.args.place c.requires.stands
 
 pub walk::made_at-step-requires : goal.walk::made_at-step-requires
 walk::made_at-step-requires t c =
-    let first = subst (λ (r : Result Datum EvalFault). AnswersDatum c.args.entity.now c.args.now.now [] c.args.checked.now.list (c.args.place + 1) r) c.in-Ok.is c.requires.first in
-    let here = there_found (λ (f : CheckedNode). f.kind ≡ NodeKind.Member c.in-Member.slot) (slice_get c.args.checked.now.list.nodes c.args.place) c.node_at.result.now c.node_at.ensures c.in-Member.is in
-    step_slot c.typed_trees_end_once_on_entities.ensures c.trees_have_one_type.ensures c.args.entity.now c.args.now.now c.requires.entity c.args.checked.now.list c.args.place c.in-Member.slot here c.in-Ok.first c.requires.stands first
+    let first = subst (λ (r : Result Datum EvalFault). AnswersDatum c.args.scene.now (c.args.place + 1) r) c.in-Ok.is c.requires.first in
+    let here = there_found (λ (f : CheckedNode). f.kind ≡ NodeKind.Member c.in-Member.slot) (slice_get c.args.scene.now.list.nodes c.args.place) c.node.result.now c.node.ensures c.in-Member.is in
+    step_slot c.trees_have_one_type.ensures c.args.scene.now c.ends_once.ensures c.args.place c.in-Member.slot here c.in-Ok.first c.requires.stands first
 
 pub walk::made_at-returns-in-Member : goal.walk::made_at-returns-in-Member
 walk::made_at-returns-in-Member t c =
-    let first = subst (λ (r : Result Datum EvalFault). AnswersDatum c.args.entity.now c.args.now.now [] c.args.checked.now.list (c.args.place + 1) r) c.in-Ok.is c.requires.first in
-    let here = there_found (λ (f : CheckedNode). f.kind ≡ NodeKind.Member c.in-Member.slot) (slice_get c.args.checked.now.list.nodes c.args.place) c.node_at.result.now c.node_at.ensures c.in-Member.is in
-    step_answers c.typed_trees_end_once_on_entities.ensures c.trees_have_one_type.ensures c.args.entity.now c.args.now.now c.requires.entity c.args.checked.now.list c.args.place c.in-Member.slot here c.in-Ok.first c.step.result first c.step.ensures
+    let first = subst (λ (r : Result Datum EvalFault). AnswersDatum c.args.scene.now (c.args.place + 1) r) c.in-Ok.is c.requires.first in
+    let here = there_found (λ (f : CheckedNode). f.kind ≡ NodeKind.Member c.in-Member.slot) (slice_get c.args.scene.now.list.nodes c.args.place) c.node.result.now c.node.ensures c.in-Member.is in
+    step_answers c.trees_have_one_type.ensures c.args.scene.now c.ends_once.ensures c.args.place c.in-Member.slot here c.in-Ok.first c.step.result first c.step.ensures
 
 pub number_walk::made_number_at-number_of-requires : goal.number_walk::made_number_at-number_of-requires
 number_walk::made_number_at-number_of-requires t c = λ reading.
-    let answers = subst (λ (r : Result Datum EvalFault). AnswersDatum c.args.entity.now c.args.now.now [] c.args.checked.now.list c.args.place r) c.in-Ok.is c.operand_at.ensures in
-    value_there c.args.entity.now c.args.now.now c.args.checked.now.list c.args.place number_values c.typed_trees_end_once_on_entities.ensures c.requires.entity c.in-Ok.value c.requires.stands answers reading
+    value_there c.args.scene.now c.args.place number_values c.ends_once.ensures c.in-Ok.value c.requires.stands c.in-Ok.ensures reading
 
 pub number_walk::made_number_at-returns-in-Ok : goal.number_walk::made_number_at-returns-in-Ok
 number_walk::made_number_at-returns-in-Ok t c =
-    let answers = subst (λ (r : Result Datum EvalFault). AnswersDatum c.args.entity.now c.args.now.now [] c.args.checked.now.list c.args.place r) c.in-Ok.is c.operand_at.ensures in
-    read_value c.args.entity.now c.args.now.now c.args.checked.now.list c.args.place c.in-Ok.value (number_val c.number_of.result) answers c.number_of.ensures
-
-pub number_walk::made_number_at-returns : goal.number_walk::made_number_at-returns
-number_walk::made_number_at-returns t c = subst (λ (r : Result Datum EvalFault). AnswersDatum c.args.entity.now c.args.now.now [] c.args.checked.now.list c.args.place r) c.in-Err.is c.operand_at.ensures
+    read_value c.args.scene.now c.args.place c.in-Ok.value (number_val c.number_of.result) c.in-Ok.ensures c.number_of.ensures
 
 pub number_walk::numeric_at-returns-in-Err : goal.number_walk::numeric_at-returns-in-Err
-number_walk::numeric_at-returns-in-Err t c = first_faults c.args.entity.now c.args.checked.now.list c.args.now.now c.args.place WalkClass.Numeric c.in-Err.fault (λ leaf. cc) c.requires.numeric (subst (λ (r : Result (Option ℤ) EvalFault). AnswersNumber c.args.entity.now c.args.now.now [] c.args.checked.now.list (c.args.place + 1) r) c.in-Err.is c.requires.first)
+number_walk::numeric_at-returns-in-Err t c = first_faults c.args.scene.now c.args.place WalkClass.Numeric c.in-Err.fault (λ leaf. cc) c.requires.numeric (subst (λ (r : Result (Option ℤ) EvalFault). AnswersNumber c.args.scene.now (c.args.place + 1) r) c.in-Err.is c.requires.first)
 
-pub number_walk::numeric_at-node_at-node-requires : goal.number_walk::numeric_at-node_at-node-requires
-number_walk::numeric_at-node_at-node-requires t c = part_inside c.args.entity.now c.args.checked.now.list c.args.place c.requires.stands
+pub number_walk::numeric_at-node-node-requires : goal.number_walk::numeric_at-node-node-requires
+number_walk::numeric_at-node-node-requires t c = part_inside c.args.scene.now c.args.place c.requires.stands
 
 pub number_walk::calculated_at-right_of-requires : goal.number_walk::calculated_at-right_of-requires
-number_walk::calculated_at-right_of-requires t c = right_there c.args.entity.now c.args.checked.now.list c.args.place c.args.operator c.requires.here c.requires.stands
+number_walk::calculated_at-right_of-requires t c = right_there c.args.scene.now c.args.place c.args.operator c.requires.here c.requires.stands
 
 pub number_walk::calculated_at-number_operand_at-requires : goal.number_walk::calculated_at-number_operand_at-requires
 number_walk::calculated_at-number_operand_at-requires t c =
-    let inside : c.args.place < length c.args.checked.now.list.nodes = part_inside c.args.entity.now c.args.checked.now.list c.args.place c.requires.stands in
-    let behind : c.args.place < c.right_of.result = right_further c.args.entity.now c.args.checked.now.list c.args.place c.args.operator c.requires.here c.requires.stands c.right_of.result c.right_of.ensures in
-    let smaller : 16 * (length c.args.checked.now.list.nodes - c.right_of.result) + 14 < 16 * (length c.args.checked.now.list.nodes - c.args.place) + 3 = omega arith in
-    let stands : NumberStands c.args.entity.now [] c.args.checked.now.list c.right_of.result = right_typed c.args.entity.now c.args.checked.now.list c.args.place c.args.operator c.requires.here c.requires.stands c.right_of.result c.right_of.ensures WalkClass.Numeric c.requires.arithmetic in
+    let inside : c.args.place < length c.args.scene.now.list.nodes = part_inside c.args.scene.now c.args.place c.requires.stands in
+    let behind : c.args.place < c.right_of.result = right_further c.args.scene.now c.args.place c.args.operator c.requires.here c.requires.stands c.right_of.result c.right_of.ensures in
+    let smaller : 16 * (length c.args.scene.now.list.nodes - c.right_of.result) + 14 < 16 * (length c.args.scene.now.list.nodes - c.args.place) + 3 = omega arith in
+    let stands : NumberStands c.args.scene.now c.right_of.result = right_typed c.args.scene.now c.args.place c.args.operator c.requires.here c.requires.stands c.right_of.result c.right_of.ensures WalkClass.Numeric c.requires.arithmetic in
     search rules
 
 pub number_walk::calculated_at-calculated-requires : goal.number_walk::calculated_at-calculated-requires
 number_walk::calculated_at-calculated-requires t c =
     let promotes : Promotes = record { left = c.operands_lie_within_promotion.ensures.left; right = c.operands_lie_within_promotion.ensures.right; negation = c.operands_lie_within_promotion.ensures.negation; three = c.operands_lie_within_promotion.ensures.three } in
-    numbers_there c.args.entity.now c.args.now.now c.args.checked.now.list c.args.place c.args.operator c.requires.here c.right_of.result c.right_of.ensures c.args.left c.in-Ok.right c.requires.left c.in-Ok.ensures c.arithmetic_of.result c.arithmetic_of.ensures c.node_at-node.result.now c.node_at-node.ensures c.typed_trees_end_once_on_entities.ensures c.requires.entity promotes c.requires.stands
+    numbers_there c.args.scene.now c.args.place c.args.operator c.requires.here c.right_of.result c.right_of.ensures c.args.left c.in-Ok.right c.requires.left c.in-Ok.ensures c.arithmetic_of.result c.arithmetic_of.ensures c.node-node.result.now c.node-node.ensures c.ends_once.ensures promotes c.requires.stands
 
 pub number_walk::calculated_at-returns-in-Ok : goal.number_walk::calculated_at-returns-in-Ok
-number_walk::calculated_at-returns-in-Ok t c = calculation_answers c.args.entity.now c.args.now.now c.args.checked.now.list c.args.place c.args.operator c.requires.here c.right_of.result c.right_of.ensures c.args.left c.in-Ok.right c.requires.left c.in-Ok.ensures c.arithmetic_of.result c.arithmetic_of.ensures c.node_at-node.result.now c.node_at-node.ensures c.calculated.result c.trees_have_one_type.ensures c.calculated.ensures
+number_walk::calculated_at-returns-in-Ok t c = calculation_answers c.args.scene.now c.args.place c.args.operator c.requires.here c.right_of.result c.right_of.ensures c.args.left c.in-Ok.right c.requires.left c.in-Ok.ensures c.arithmetic_of.result c.arithmetic_of.ensures c.node-node.result.now c.node-node.ensures c.calculated.result c.trees_have_one_type.ensures c.calculated.ensures
 
 pub number_walk::calculated_at-returns-in-Err : goal.number_walk::calculated_at-returns-in-Err
-number_walk::calculated_at-returns-in-Err t c = both_faults c.args.entity.now c.args.now.now c.args.checked.now.list c.args.place c.args.operator c.requires.here c.right_of.result c.right_of.ensures (λ type. number_val c.args.left) c.in-Err.fault (numbers_taken (class_of c.args.operator) c.requires.arithmetic) c.requires.left c.in-Err.ensures
+number_walk::calculated_at-returns-in-Err t c = both_faults c.args.scene.now c.args.place c.args.operator c.requires.here c.right_of.result c.right_of.ensures (λ type. number_val c.args.left) c.in-Err.fault (numbers_taken (class_of c.args.operator) c.requires.arithmetic) c.requires.left c.in-Err.ensures
 
 -- ---- a comparison of values that are made
 
 pub walk::compared_at-right_of-right_place-requires : goal.walk::compared_at-right_of-right_place-requires
 walk::compared_at-right_of-right_place-requires t c =
-    let there = operator_of_class c.args.checked.now.list c.args.place (OperatorClass.Comparison c.args.comparison) c.requires.comparison in
-    right_there c.args.entity.now c.args.checked.now.list c.args.place there.operator there.here c.requires.stands
+    let there = operator_of_class c.args.scene.now.list c.args.place (OperatorClass.Comparison c.args.comparison) c.requires.comparison in
+    right_there c.args.scene.now c.args.place there.operator there.here c.requires.stands
 
 pub walk::compared_at-compare-requires : goal.walk::compared_at-compare-requires
 walk::compared_at-compare-requires t c =
-    may_compare c.args.entity.now c.args.now.now c.args.checked.now.list c.args.place c.args.comparison c.requires.comparison c.right_of-right_place.result c.right_of-right_place.ensures c.args.left.now c.datum_of.result c.requires.left
-    (kept_datum c.args.entity.now c.args.now.now c.args.checked.now.list c.right_of-right_place.result c.in-Leaf.value.now c.datum_of.result (c.in-Leaf.ensures c.args.now.now) c.datum_of.ensures) c.typed_trees_end_once_on_entities.ensures c.requires.entity c.comparisons_are_decided.ensures.any_reading c.requires.stands
+    may_compare c.args.scene.now c.args.place c.args.comparison c.requires.comparison c.right_of-right_place.result c.right_of-right_place.ensures c.args.left c.datum_of.result c.requires.left
+    (kept_datum c.args.scene.now c.right_of-right_place.result c.in-Leaf.value.now c.datum_of.result c.in-Leaf.ensures c.datum_of.ensures) c.ends_once.ensures c.comparisons_are_decided.ensures.any_reading c.requires.stands
 
 pub walk::compared_at-returns-in-Leaf : goal.walk::compared_at-returns-in-Leaf
 walk::compared_at-returns-in-Leaf t c =
-    truth_compared c.args.entity.now c.args.now.now c.args.checked.now.list c.args.place c.args.comparison c.requires.comparison c.right_of-right_place.result c.right_of-right_place.ensures c.args.left.now c.datum_of.result c.requires.left
-    (kept_datum c.args.entity.now c.args.now.now c.args.checked.now.list c.right_of-right_place.result c.in-Leaf.value.now c.datum_of.result (c.in-Leaf.ensures c.args.now.now) c.datum_of.ensures) c.typed_trees_end_once_on_entities.ensures c.requires.entity c.comparisons_are_decided.ensures.any_reading c.requires.stands c.compare.result c.compare.ensures
+    truth_compared c.args.scene.now c.args.place c.args.comparison c.requires.comparison c.right_of-right_place.result c.right_of-right_place.ensures c.args.left c.datum_of.result c.requires.left
+    (kept_datum c.args.scene.now c.right_of-right_place.result c.in-Leaf.value.now c.datum_of.result c.in-Leaf.ensures c.datum_of.ensures) c.ends_once.ensures c.comparisons_are_decided.ensures.any_reading c.requires.stands c.compare.result c.compare.ensures
 
 pub walk::compared_at-operand_at-requires : goal.walk::compared_at-operand_at-requires
 walk::compared_at-operand_at-requires t c =
-    let there = operator_of_class c.args.checked.now.list c.args.place (OperatorClass.Comparison c.args.comparison) c.requires.comparison in
-    let inside : c.args.place < length c.args.checked.now.list.nodes = part_inside c.args.entity.now c.args.checked.now.list c.args.place c.requires.stands in
-    let behind : c.args.place < c.right_of-right_place.result = right_further c.args.entity.now c.args.checked.now.list c.args.place there.operator there.here c.requires.stands c.right_of-right_place.result c.right_of-right_place.ensures in
-    let smaller : 16 * (length c.args.checked.now.list.nodes - c.right_of-right_place.result) + 12 < 16 * (length c.args.checked.now.list.nodes - c.args.place) + 3 = omega arith in
-    let stands : PartStands c.args.entity.now [] c.args.checked.now.list c.right_of-right_place.result = right_part c.args.entity.now c.args.checked.now.list c.args.place there.operator there.here c.requires.stands c.right_of-right_place.result c.right_of-right_place.ensures in
+    let there = operator_of_class c.args.scene.now.list c.args.place (OperatorClass.Comparison c.args.comparison) c.requires.comparison in
+    let inside : c.args.place < length c.args.scene.now.list.nodes = part_inside c.args.scene.now c.args.place c.requires.stands in
+    let behind : c.args.place < c.right_of-right_place.result = right_further c.args.scene.now c.args.place there.operator there.here c.requires.stands c.right_of-right_place.result c.right_of-right_place.ensures in
+    let smaller : 16 * (length c.args.scene.now.list.nodes - c.right_of-right_place.result) + 12 < 16 * (length c.args.scene.now.list.nodes - c.args.place) + 3 = omega arith in
+    let stands : PartStands c.args.scene.now c.right_of-right_place.result = right_part c.args.scene.now c.args.place there.operator there.here c.requires.stands c.right_of-right_place.result c.right_of-right_place.ensures in
     search rules
 
 pub walk::compared_at-compare-requires-in-Ok : goal.walk::compared_at-compare-requires-in-Ok
 walk::compared_at-compare-requires-in-Ok t c =
-    may_compare c.args.entity.now c.args.now.now c.args.checked.now.list c.args.place c.args.comparison c.requires.comparison c.right_of-right_place.result c.right_of-right_place.ensures c.args.left.now c.in-Ok.right c.requires.left
-    (subst (λ (r : Result Datum EvalFault). AnswersDatum c.args.entity.now c.args.now.now [] c.args.checked.now.list c.right_of-right_place.result r) c.in-Ok.is c.operand_at.ensures) c.typed_trees_end_once_on_entities.ensures c.requires.entity c.comparisons_are_decided.ensures.any_reading c.requires.stands
+    may_compare c.args.scene.now c.args.place c.args.comparison c.requires.comparison c.right_of-right_place.result c.right_of-right_place.ensures c.args.left c.in-Ok.right c.requires.left
+    c.in-Ok.ensures c.ends_once.ensures c.comparisons_are_decided.ensures.any_reading c.requires.stands
 
 pub walk::compared_at-returns-in-Ok : goal.walk::compared_at-returns-in-Ok
 walk::compared_at-returns-in-Ok t c =
-    truth_compared c.args.entity.now c.args.now.now c.args.checked.now.list c.args.place c.args.comparison c.requires.comparison c.right_of-right_place.result c.right_of-right_place.ensures c.args.left.now c.in-Ok.right c.requires.left
-    (subst (λ (r : Result Datum EvalFault). AnswersDatum c.args.entity.now c.args.now.now [] c.args.checked.now.list c.right_of-right_place.result r) c.in-Ok.is c.operand_at.ensures) c.typed_trees_end_once_on_entities.ensures c.requires.entity c.comparisons_are_decided.ensures.any_reading c.requires.stands c.compare-in-Ok.result c.compare-in-Ok.ensures
+    truth_compared c.args.scene.now c.args.place c.args.comparison c.requires.comparison c.right_of-right_place.result c.right_of-right_place.ensures c.args.left c.in-Ok.right c.requires.left
+    c.in-Ok.ensures c.ends_once.ensures c.comparisons_are_decided.ensures.any_reading c.requires.stands c.compare-in-Ok.result c.compare-in-Ok.ensures
 
 pub walk::compared_at-returns : goal.walk::compared_at-returns
 walk::compared_at-returns t c =
-    let there = operator_of_class c.args.checked.now.list c.args.place (OperatorClass.Comparison c.args.comparison) c.requires.comparison in
-    both_faults c.args.entity.now c.args.now.now c.args.checked.now.list c.args.place there.operator there.here c.right_of-right_place.result c.right_of-right_place.ensures (λ type. datum_val (reading_at (slots_of c.args.entity.now.schema) type) c.args.left.now) c.in-Err.behind (subst TakesBoth (sym there.class_is) tt) c.requires.left
-    (subst (λ (r : Result Datum EvalFault). AnswersDatum c.args.entity.now c.args.now.now [] c.args.checked.now.list c.right_of-right_place.result r) c.in-Err.is c.operand_at.ensures)
+    let there = operator_of_class c.args.scene.now.list c.args.place (OperatorClass.Comparison c.args.comparison) c.requires.comparison in
+    both_faults c.args.scene.now c.args.place there.operator there.here c.right_of-right_place.result c.right_of-right_place.ensures (λ type. datum_val (reading_at (slots_of c.args.scene.now.row.schema) type) c.args.left) c.in-Err.behind (subst TakesBoth (sym there.class_is) tt) c.requires.left
+    c.in-Err.ensures
 
 -- ---- a node that is none of truth values
 
 pub walk::plain_truth_at-kept_truth-requires : goal.walk::plain_truth_at-kept_truth-requires
-walk::plain_truth_at-kept_truth-requires t c = value_kept c.args.entity.now c.args.now.now c.args.checked.now.list c.args.place c.in-Leaf.value.now (c.in-Leaf.ensures c.args.now.now) truth_values c.typed_trees_end_once_on_entities.ensures c.requires.entity c.requires.stands
+walk::plain_truth_at-kept_truth-requires t c = value_kept c.args.scene.now c.args.place c.in-Leaf.value.now c.in-Leaf.ensures truth_values c.ends_once.ensures c.requires.stands
 
 pub walk::plain_truth_at-returns-in-Leaf : goal.walk::plain_truth_at-returns-in-Leaf
-walk::plain_truth_at-returns-in-Leaf t c = kept_value c.args.entity.now c.args.now.now c.args.checked.now.list c.args.place c.in-Leaf.value.now (c.in-Leaf.ensures c.args.now.now) (truth_val c.kept_truth.result) c.kept_truth.ensures
+walk::plain_truth_at-returns-in-Leaf t c = kept_value c.args.scene.now c.args.place c.in-Leaf.value.now c.in-Leaf.ensures (truth_val c.kept_truth.result) c.kept_truth.ensures
 
 pub walk::numeric_truth_at-truth_of-requires : goal.walk::numeric_truth_at-truth_of-requires
-walk::numeric_truth_at-truth_of-requires t c = λ reading. value_there c.args.entity.now c.args.now.now c.args.checked.now.list c.args.place truth_values c.typed_trees_end_once_on_entities.ensures c.requires.entity c.datum_of_number.result c.requires.stands (made_value c.args.entity.now c.args.now.now c.args.checked.now.list c.args.place c.datum_of_number.result (number_val c.in-Ok.number) c.in-Ok.ensures c.datum_of_number.ensures) reading
+walk::numeric_truth_at-truth_of-requires t c = λ reading. value_there c.args.scene.now c.args.place truth_values c.ends_once.ensures c.datum_of_number.result c.requires.stands (made_value c.args.scene.now c.args.place c.datum_of_number.result (number_val c.in-Ok.number) c.in-Ok.ensures c.datum_of_number.ensures) reading
 
 pub walk::numeric_truth_at-returns-in-Ok : goal.walk::numeric_truth_at-returns-in-Ok
-walk::numeric_truth_at-returns-in-Ok t c = read_value c.args.entity.now c.args.now.now c.args.checked.now.list c.args.place c.datum_of_number.result (truth_val c.truth_of.result) (made_value c.args.entity.now c.args.now.now c.args.checked.now.list c.args.place c.datum_of_number.result (number_val c.in-Ok.number) c.in-Ok.ensures c.datum_of_number.ensures) c.truth_of.ensures
+walk::numeric_truth_at-returns-in-Ok t c = read_value c.args.scene.now c.args.place c.datum_of_number.result (truth_val c.truth_of.result) (made_value c.args.scene.now c.args.place c.datum_of_number.result (number_val c.in-Ok.number) c.in-Ok.ensures c.datum_of_number.ensures) c.truth_of.ensures
 
 -- ---- a comparison in place
 
 pub walk::compared_truth_at-right_of-right_place-requires : goal.walk::compared_truth_at-right_of-right_place-requires
-walk::compared_truth_at-right_of-right_place-requires t c = right_there c.args.entity.now c.args.checked.now.list c.args.place c.args.operator c.requires.here (typed_part c.args.entity.now c.args.checked.now.list c.args.place IsBooleanOrNull c.requires.stands)
+walk::compared_truth_at-right_of-right_place-requires t c = right_there c.args.scene.now c.args.place c.args.operator c.requires.here (typed_part c.args.scene.now c.args.place IsBooleanOrNull c.requires.stands)
 
 pub walk::compared_truth_at-overflow_add-place : goal.walk::compared_truth_at-overflow_add-place
 walk::compared_truth_at-overflow_add-place t c =
-    let behind = right_further c.args.entity.now c.args.checked.now.list c.args.place c.args.operator c.requires.here (typed_part c.args.entity.now c.args.checked.now.list c.args.place IsBooleanOrNull c.requires.stands) c.right_of-right_place.result c.right_of-right_place.ensures in
+    let behind = right_further c.args.scene.now c.args.place c.args.operator c.requires.here (typed_part c.args.scene.now c.args.place IsBooleanOrNull c.requires.stands) c.right_of-right_place.result c.right_of-right_place.ensures in
     omega (arith, behind, c.right_of-right_place.type_inv)
 
 pub walk::compared_truth_at-compare_kept-requires : goal.walk::compared_truth_at-compare_kept-requires
 walk::compared_truth_at-compare_kept-requires t c =
-    let here = class_of_operator c.args.checked.now.list c.args.place c.args.operator (OperatorClass.Comparison c.comparison_of.result) c.requires.here c.comparison_of.ensures in
-    may_compare_kept c.args.entity.now c.args.now.now c.args.checked.now.list c.args.place c.comparison_of.result here c.right_of-right_place.result c.right_of-right_place.ensures c.in-Leaf.left.now c.in-Leaf-part_at.right.now (c.in-Leaf.ensures c.args.now.now) (c.in-Leaf-part_at.ensures c.args.now.now) c.typed_trees_end_once_on_entities.ensures c.requires.entity c.comparisons_are_decided.ensures.any_contents (typed_part c.args.entity.now c.args.checked.now.list c.args.place IsBooleanOrNull c.requires.stands)
+    let here = class_of_operator c.args.scene.now.list c.args.place c.args.operator (OperatorClass.Comparison c.comparison_of.result) c.requires.here c.comparison_of.ensures in
+    may_compare_kept c.args.scene.now c.args.place c.comparison_of.result here c.right_of-right_place.result c.right_of-right_place.ensures c.in-Leaf.left.now c.in-Leaf-part_at.right.now c.in-Leaf.ensures c.in-Leaf-part_at.ensures c.ends_once.ensures c.comparisons_are_decided.ensures.any_contents (typed_part c.args.scene.now c.args.place IsBooleanOrNull c.requires.stands)
 
 pub walk::compared_truth_at-returns-in-Leaf-part_at : goal.walk::compared_truth_at-returns-in-Leaf-part_at
 walk::compared_truth_at-returns-in-Leaf-part_at t c =
-    let here = class_of_operator c.args.checked.now.list c.args.place c.args.operator (OperatorClass.Comparison c.comparison_of.result) c.requires.here c.comparison_of.ensures in
-    kept_compared c.args.entity.now c.args.now.now c.args.checked.now.list c.args.place c.comparison_of.result here c.right_of-right_place.result c.right_of-right_place.ensures c.in-Leaf.left.now c.in-Leaf-part_at.right.now (c.in-Leaf.ensures c.args.now.now) (c.in-Leaf-part_at.ensures c.args.now.now) c.typed_trees_end_once_on_entities.ensures c.requires.entity c.comparisons_are_decided.ensures.any_contents (typed_part c.args.entity.now c.args.checked.now.list c.args.place IsBooleanOrNull c.requires.stands) c.compare_kept.result c.compare_kept.ensures
+    let here = class_of_operator c.args.scene.now.list c.args.place c.args.operator (OperatorClass.Comparison c.comparison_of.result) c.requires.here c.comparison_of.ensures in
+    kept_compared c.args.scene.now c.args.place c.comparison_of.result here c.right_of-right_place.result c.right_of-right_place.ensures c.in-Leaf.left.now c.in-Leaf-part_at.right.now c.in-Leaf.ensures c.in-Leaf-part_at.ensures c.ends_once.ensures c.comparisons_are_decided.ensures.any_contents (typed_part c.args.scene.now c.args.place IsBooleanOrNull c.requires.stands) c.compare_kept.result c.compare_kept.ensures
 
 pub walk::numbers_truth_at-right_of-right_place-requires : goal.walk::numbers_truth_at-right_of-right_place-requires
-walk::numbers_truth_at-right_of-right_place-requires t c = right_there c.args.entity.now c.args.checked.now.list c.args.place c.args.operator c.requires.here (typed_part c.args.entity.now c.args.checked.now.list c.args.place IsBooleanOrNull c.requires.stands)
+walk::numbers_truth_at-right_of-right_place-requires t c = right_there c.args.scene.now c.args.place c.args.operator c.requires.here (typed_part c.args.scene.now c.args.place IsBooleanOrNull c.requires.stands)
 
 pub walk::numbers_truth_at-overflow_add-place : goal.walk::numbers_truth_at-overflow_add-place
 walk::numbers_truth_at-overflow_add-place t c =
-    let behind = right_further c.args.entity.now c.args.checked.now.list c.args.place c.args.operator c.requires.here (typed_part c.args.entity.now c.args.checked.now.list c.args.place IsBooleanOrNull c.requires.stands) c.right_of-right_place.result c.right_of-right_place.ensures in
+    let behind = right_further c.args.scene.now c.args.place c.args.operator c.requires.here (typed_part c.args.scene.now c.args.place IsBooleanOrNull c.requires.stands) c.right_of-right_place.result c.right_of-right_place.ensures in
     omega (arith, behind, c.right_of-right_place.type_inv)
 
 pub walk::numbers_truth_at-number_chain_at-requires : goal.walk::numbers_truth_at-number_chain_at-requires
 walk::numbers_truth_at-number_chain_at-requires t c =
-    let part = typed_part c.args.entity.now c.args.checked.now.list c.args.place IsBooleanOrNull c.requires.stands in
-    let inside : c.args.place < length c.args.checked.now.list.nodes = part_inside c.args.entity.now c.args.checked.now.list c.args.place part in
-    let smaller : 16 * (length c.args.checked.now.list.nodes - (c.args.place + 1)) + 10 < 16 * (length c.args.checked.now.list.nodes - c.args.place) + 8 = omega arith in
-    let left : PartStands c.args.entity.now [] c.args.checked.now.list (c.args.place + 1) = first_part c.args.entity.now c.args.checked.now.list c.args.place WalkClass.Eager (λ leaf. cc) (walks_by c.args.checked.now.list c.args.place c.args.operator WalkClass.Eager c.requires.here c.requires.comparison) part in
+    let part = typed_part c.args.scene.now c.args.place IsBooleanOrNull c.requires.stands in
+    let inside : c.args.place < length c.args.scene.now.list.nodes = part_inside c.args.scene.now c.args.place part in
+    let smaller : 16 * (length c.args.scene.now.list.nodes - (c.args.place + 1)) + 10 < 16 * (length c.args.scene.now.list.nodes - c.args.place) + 8 = omega arith in
+    let left : PartStands c.args.scene.now (c.args.place + 1) = first_part c.args.scene.now c.args.place WalkClass.Eager (λ leaf. cc) (walks_by c.args.scene.now.list c.args.place c.args.operator WalkClass.Eager c.requires.here c.requires.comparison) part in
     search rules
 
 pub walk::numbers_truth_at-returns-in-Err : goal.walk::numbers_truth_at-returns-in-Err
-walk::numbers_truth_at-returns-in-Err t c = first_faults c.args.entity.now c.args.checked.now.list c.args.now.now c.args.place WalkClass.Eager c.in-Err.fault (λ leaf. cc) (walks_by c.args.checked.now.list c.args.place c.args.operator WalkClass.Eager c.requires.here c.requires.comparison) c.in-Err.ensures
+walk::numbers_truth_at-returns-in-Err t c = first_faults c.args.scene.now c.args.place WalkClass.Eager c.in-Err.fault (λ leaf. cc) (walks_by c.args.scene.now.list c.args.place c.args.operator WalkClass.Eager c.requires.here c.requires.comparison) c.in-Err.ensures
 
 pub walk::numbers_truth_at-number_at-requires : goal.walk::numbers_truth_at-number_at-requires
 walk::numbers_truth_at-number_at-requires t c =
-    let part = typed_part c.args.entity.now c.args.checked.now.list c.args.place IsBooleanOrNull c.requires.stands in
-    let inside : c.args.place < length c.args.checked.now.list.nodes = part_inside c.args.entity.now c.args.checked.now.list c.args.place part in
-    let behind : c.args.place < c.right_of-right_place.result = right_further c.args.entity.now c.args.checked.now.list c.args.place c.args.operator c.requires.here part c.right_of-right_place.result c.right_of-right_place.ensures in
-    let smaller : 16 * (length c.args.checked.now.list.nodes - c.right_of-right_place.result) + 8 < 16 * (length c.args.checked.now.list.nodes - c.args.place) + 8 = omega arith in
-    let right : PartStands c.args.entity.now [] c.args.checked.now.list c.right_of-right_place.result = right_part c.args.entity.now c.args.checked.now.list c.args.place c.args.operator c.requires.here part c.right_of-right_place.result c.right_of-right_place.ensures in
+    let part = typed_part c.args.scene.now c.args.place IsBooleanOrNull c.requires.stands in
+    let inside : c.args.place < length c.args.scene.now.list.nodes = part_inside c.args.scene.now c.args.place part in
+    let behind : c.args.place < c.right_of-right_place.result = right_further c.args.scene.now c.args.place c.args.operator c.requires.here part c.right_of-right_place.result c.right_of-right_place.ensures in
+    let smaller : 16 * (length c.args.scene.now.list.nodes - c.right_of-right_place.result) + 8 < 16 * (length c.args.scene.now.list.nodes - c.args.place) + 8 = omega arith in
+    let right : PartStands c.args.scene.now c.right_of-right_place.result = right_part c.args.scene.now c.args.place c.args.operator c.requires.here part c.right_of-right_place.result c.right_of-right_place.ensures in
     search rules
 
 pub walk::numbers_truth_at-returns-in-Err-number_at : goal.walk::numbers_truth_at-returns-in-Err-number_at
-walk::numbers_truth_at-returns-in-Err-number_at t c = both_faults c.args.entity.now c.args.now.now c.args.checked.now.list c.args.place c.args.operator c.requires.here c.right_of-right_place.result c.right_of-right_place.ensures (λ type. number_val c.in-Ok.left) c.in-Err-number_at.fault (values_taken (class_of c.args.operator) c.requires.comparison) c.in-Ok.ensures c.in-Err-number_at.ensures
+walk::numbers_truth_at-returns-in-Err-number_at t c = both_faults c.args.scene.now c.args.place c.args.operator c.requires.here c.right_of-right_place.result c.right_of-right_place.ensures (λ type. number_val c.in-Ok.left) c.in-Err-number_at.fault (values_taken (class_of c.args.operator) c.requires.comparison) c.in-Ok.ensures c.in-Err-number_at.ensures
 
 -- ---- `not`, and `-`
 
 pub walk::logical_at-returns-in_default : goal.walk::logical_at-returns-in_default
 walk::logical_at-returns-in_default t c =
-    let first = subst (λ (r : Result (Option Bool) EvalFault). AnswersTruth c.args.entity.now c.args.now.now [] c.args.checked.now.list (c.args.place + 1) r) c.in-Ok.is c.requires.first in
-    let walk = found_there (λ (f : CheckedNode). walk_of_kind f.kind ≡ WalkClass.Logical) (slice_get c.args.checked.now.list.nodes c.args.place) c.node_at.result.now c.node_at.ensures c.requires.logical in
-    let here = there_found (λ (f : CheckedNode). f.kind ≡ NodeKind.Not) (slice_get c.args.checked.now.list.nodes c.args.place) c.node_at.result.now c.node_at.ensures (only_not c.node_at.result.now.kind walk c.in_default.not-Binary) in
-    subst (λ (r : Option Bool). AnswersTruth c.args.entity.now c.args.now.now [] c.args.checked.now.list c.args.place (Ok r)) (sym c.not3.ensures) (not_answers c.args.entity.now c.args.now.now c.args.checked.now.list c.args.place c.in-Ok.first here first)
+    let first = subst (λ (r : Result (Option Bool) EvalFault). AnswersTruth c.args.scene.now (c.args.place + 1) r) c.in-Ok.is c.requires.first in
+    let walk = found_there (λ (f : CheckedNode). walk_of_kind f.kind ≡ WalkClass.Logical) (slice_get c.args.scene.now.list.nodes c.args.place) c.node.result.now c.node.ensures c.requires.logical in
+    let here = there_found (λ (f : CheckedNode). f.kind ≡ NodeKind.Not) (slice_get c.args.scene.now.list.nodes c.args.place) c.node.result.now c.node.ensures (only_not c.node.result.now.kind walk c.in_default.not-Binary) in
+    subst (λ (r : Option Bool). AnswersTruth c.args.scene.now c.args.place (Ok r)) (sym c.not3.ensures) (not_answers c.args.scene.now c.args.place c.in-Ok.first here first)
 
 pub number_walk::numeric_at-negated-requires : goal.number_walk::numeric_at-negated-requires
 number_walk::numeric_at-negated-requires t c =
-    let first = subst (λ (r : Result (Option ℤ) EvalFault). AnswersNumber c.args.entity.now c.args.now.now [] c.args.checked.now.list (c.args.place + 1) r) c.in-Ok.is c.requires.first in
-    let walk = found_there (λ (f : CheckedNode). walk_of_kind f.kind ≡ WalkClass.Numeric) (slice_get c.args.checked.now.list.nodes c.args.place) c.node_at-node.result.now c.node_at-node.ensures c.requires.numeric in
-    let here = there_found (λ (f : CheckedNode). f.kind ≡ NodeKind.Neg) (slice_get c.args.checked.now.list.nodes c.args.place) c.node_at-node.result.now c.node_at-node.ensures (only_neg c.node_at-node.result.now.kind walk c.in_default.not-Binary) in
+    let first = subst (λ (r : Result (Option ℤ) EvalFault). AnswersNumber c.args.scene.now (c.args.place + 1) r) c.in-Ok.is c.requires.first in
+    let walk = found_there (λ (f : CheckedNode). walk_of_kind f.kind ≡ WalkClass.Numeric) (slice_get c.args.scene.now.list.nodes c.args.place) c.node-node.result.now c.node-node.ensures c.requires.numeric in
+    let here = there_found (λ (f : CheckedNode). f.kind ≡ NodeKind.Neg) (slice_get c.args.scene.now.list.nodes c.args.place) c.node-node.result.now c.node-node.ensures (only_neg c.node-node.result.now.kind walk c.in_default.not-Binary) in
     let promotes : Promotes = record { left = c.operands_lie_within_promotion.ensures.left; right = c.operands_lie_within_promotion.ensures.right; negation = c.operands_lie_within_promotion.ensures.negation; three = c.operands_lie_within_promotion.ensures.three } in
-    negated_operand c.args.entity.now c.args.now.now c.args.checked.now.list c.args.place c.in-Ok.first c.node_at-node.result.now c.node_at-node.ensures here first c.typed_trees_end_once_on_entities.ensures c.requires.entity promotes c.requires.stands
+    negated_operand c.args.scene.now c.args.place c.in-Ok.first c.node-node.result.now c.node-node.ensures here first c.ends_once.ensures promotes c.requires.stands
 
 pub number_walk::numeric_at-returns-in_default : goal.number_walk::numeric_at-returns-in_default
 number_walk::numeric_at-returns-in_default t c =
-    let first = subst (λ (r : Result (Option ℤ) EvalFault). AnswersNumber c.args.entity.now c.args.now.now [] c.args.checked.now.list (c.args.place + 1) r) c.in-Ok.is c.requires.first in
-    let walk = found_there (λ (f : CheckedNode). walk_of_kind f.kind ≡ WalkClass.Numeric) (slice_get c.args.checked.now.list.nodes c.args.place) c.node_at-node.result.now c.node_at-node.ensures c.requires.numeric in
-    let here = there_found (λ (f : CheckedNode). f.kind ≡ NodeKind.Neg) (slice_get c.args.checked.now.list.nodes c.args.place) c.node_at-node.result.now c.node_at-node.ensures (only_neg c.node_at-node.result.now.kind walk c.in_default.not-Binary) in
-    negation_answers c.args.entity.now c.args.now.now c.args.checked.now.list c.args.place c.in-Ok.first c.node_at-node.result.now c.node_at-node.ensures here first c.negated.result c.trees_have_one_type.ensures c.negated.ensures
+    let first = subst (λ (r : Result (Option ℤ) EvalFault). AnswersNumber c.args.scene.now (c.args.place + 1) r) c.in-Ok.is c.requires.first in
+    let walk = found_there (λ (f : CheckedNode). walk_of_kind f.kind ≡ WalkClass.Numeric) (slice_get c.args.scene.now.list.nodes c.args.place) c.node-node.result.now c.node-node.ensures c.requires.numeric in
+    let here = there_found (λ (f : CheckedNode). f.kind ≡ NodeKind.Neg) (slice_get c.args.scene.now.list.nodes c.args.place) c.node-node.result.now c.node-node.ensures (only_neg c.node-node.result.now.kind walk c.in_default.not-Binary) in
+    negation_answers c.args.scene.now c.args.place c.in-Ok.first c.node-node.result.now c.node-node.ensures here first c.negated.result c.trees_have_one_type.ensures c.negated.ensures
 
 -- ---- chains of numbers
 
 pub number_walk::number_at-returns : goal.number_walk::number_at-returns
-number_walk::number_at-returns t c = at_top (λ k. AnswersNumber c.args.entity.now c.args.now.now [] c.args.checked.now.list k c.loop-at.answer) c.loop-at.at c.args.place c.loop-at.invariant.above (omega arith) c.loop-at.invariant.answers
+number_walk::number_at-returns t c = at_top (λ k. AnswersNumber c.args.scene.now k c.loop-at.answer) c.loop-at.at c.args.place c.loop-at.invariant.above (omega arith) c.loop-at.invariant.answers
 
 pub number_walk::number_at-number_operand_at-answer-requires : goal.number_walk::number_at-number_operand_at-answer-requires
 number_walk::number_at-number_operand_at-answer-requires t c =
-    let inside : c.args.place < length c.args.checked.now.list.nodes = part_inside c.args.entity.now c.args.checked.now.list c.args.place c.requires.stands in
-    let behind : c.args.place < c.spine_bottom-bottom.result = below_bottom c.args.checked.now.list WalkClass.Numeric c.args.place c.spine_bottom-bottom.result c.spine_bottom-bottom.ensures.below c.requires.numeric c.spine_bottom-bottom.ensures.bottom in
-    let smaller : 16 * (length c.args.checked.now.list.nodes - c.spine_bottom-bottom.result) + 14 < 16 * (length c.args.checked.now.list.nodes - c.args.place) + 8 = omega arith in
-    let stands : NumberStands c.args.entity.now [] c.args.checked.now.list c.spine_bottom-bottom.result = bottom_down c.args.entity.now c.args.checked.now.list WalkClass.Numeric (λ leaf. cc) c.args.place c.spine_bottom-bottom.result behind c.requires.stands c.spine_bottom-bottom.ensures.spine in
+    let inside : c.args.place < length c.args.scene.now.list.nodes = part_inside c.args.scene.now c.args.place c.requires.stands in
+    let behind : c.args.place < c.spine_bottom-bottom.result = below_bottom c.args.scene.now.list WalkClass.Numeric c.args.place c.spine_bottom-bottom.result c.spine_bottom-bottom.ensures.below c.requires.numeric c.spine_bottom-bottom.ensures.bottom in
+    let smaller : 16 * (length c.args.scene.now.list.nodes - c.spine_bottom-bottom.result) + 14 < 16 * (length c.args.scene.now.list.nodes - c.args.place) + 8 = omega arith in
+    let stands : NumberStands c.args.scene.now c.spine_bottom-bottom.result = bottom_down c.args.scene.now WalkClass.Numeric (λ leaf. cc) c.args.place c.spine_bottom-bottom.result behind c.requires.stands c.spine_bottom-bottom.ensures.spine in
     search rules
 
 pub number_walk::number_at-numeric_at-answer-requires : goal.number_walk::number_at-numeric_at-answer-requires
 number_walk::number_at-numeric_at-answer-requires t c =
     let l = c.loop-at in
     let above : c.args.place < l.at = omega arith in
-    let smaller : 16 * (length c.args.checked.now.list.nodes - (l.at - 1)) + 4 < 16 * (length c.args.checked.now.list.nodes - c.args.place) + 8 = omega arith in
-    let up : StepUp c.args.entity.now c.args.checked.now.list WalkClass.Numeric (λ k. AnswersNumber c.args.entity.now c.args.now.now [] c.args.checked.now.list k l.answer) l.at = step_up c.args.entity.now c.args.checked.now.list WalkClass.Numeric (λ leaf. cc) (λ k. AnswersNumber c.args.entity.now c.args.now.now [] c.args.checked.now.list k l.answer) c.args.place l.at c.spine_bottom-bottom.result above l.invariant.within c.requires.stands c.spine_bottom-bottom.ensures.spine l.invariant.answers in
+    let smaller : 16 * (length c.args.scene.now.list.nodes - (l.at - 1)) + 4 < 16 * (length c.args.scene.now.list.nodes - c.args.place) + 8 = omega arith in
+    let up : StepUp c.args.scene.now WalkClass.Numeric (λ k. AnswersNumber c.args.scene.now k l.answer) l.at = step_up c.args.scene.now WalkClass.Numeric (λ leaf. cc) (λ k. AnswersNumber c.args.scene.now k l.answer) c.args.place l.at c.spine_bottom-bottom.result above l.invariant.within c.requires.stands c.spine_bottom-bottom.ensures.spine l.invariant.answers in
     search rules
 
 pub number_walk::number_on_leaf_at-kept_number-requires : goal.number_walk::number_on_leaf_at-kept_number-requires
-number_walk::number_on_leaf_at-kept_number-requires t c = value_kept c.args.entity.now c.args.now.now c.args.checked.now.list (c.args.place + 1) c.in-Leaf.first.now (c.in-Leaf.ensures c.args.now.now) number_values c.typed_trees_end_once_on_entities.ensures c.requires.entity (first_step c.args.entity.now c.args.checked.now.list c.args.place WalkClass.Numeric (λ leaf. cc) c.requires.numeric c.requires.stands)
+number_walk::number_on_leaf_at-kept_number-requires t c = value_kept c.args.scene.now (c.args.place + 1) c.in-Leaf.first.now c.in-Leaf.ensures number_values c.ends_once.ensures (first_step c.args.scene.now c.args.place WalkClass.Numeric (λ leaf. cc) c.requires.numeric c.requires.stands)
 
 pub number_walk::number_on_leaf_at-numeric_at-requires : goal.number_walk::number_on_leaf_at-numeric_at-requires
 number_walk::number_on_leaf_at-numeric_at-requires t c =
-    let smaller : 16 * (length c.args.checked.now.list.nodes - c.args.place) + 4 < 16 * (length c.args.checked.now.list.nodes - c.args.place) + 9 = omega arith in
-    let first : AnswersNumber c.args.entity.now c.args.now.now [] c.args.checked.now.list (c.args.place + 1) (Ok c.kept_number.result) = kept_value c.args.entity.now c.args.now.now c.args.checked.now.list (c.args.place + 1) c.in-Leaf.first.now (c.in-Leaf.ensures c.args.now.now) (number_val c.kept_number.result) c.kept_number.ensures in
+    let smaller : 16 * (length c.args.scene.now.list.nodes - c.args.place) + 4 < 16 * (length c.args.scene.now.list.nodes - c.args.place) + 9 = omega arith in
+    let first : AnswersNumber c.args.scene.now (c.args.place + 1) (Ok c.kept_number.result) = kept_value c.args.scene.now (c.args.place + 1) c.in-Leaf.first.now c.in-Leaf.ensures (number_val c.kept_number.result) c.kept_number.ensures in
     search rules
 
 pub number_walk::number_operand_at-kept_number-requires : goal.number_walk::number_operand_at-kept_number-requires
-number_walk::number_operand_at-kept_number-requires t c = value_kept c.args.entity.now c.args.now.now c.args.checked.now.list c.args.place c.in-Leaf.value.now (c.in-Leaf.ensures c.args.now.now) number_values c.typed_trees_end_once_on_entities.ensures c.requires.entity c.requires.stands
+number_walk::number_operand_at-kept_number-requires t c = value_kept c.args.scene.now c.args.place c.in-Leaf.value.now c.in-Leaf.ensures number_values c.ends_once.ensures c.requires.stands
 
 pub number_walk::number_operand_at-returns-in-Leaf : goal.number_walk::number_operand_at-returns-in-Leaf
-number_walk::number_operand_at-returns-in-Leaf t c = kept_value c.args.entity.now c.args.now.now c.args.checked.now.list c.args.place c.in-Leaf.value.now (c.in-Leaf.ensures c.args.now.now) (number_val c.kept_number.result) c.kept_number.ensures
+number_walk::number_operand_at-returns-in-Leaf t c = kept_value c.args.scene.now c.args.place c.in-Leaf.value.now c.in-Leaf.ensures (number_val c.kept_number.result) c.kept_number.ensures
 
 pub walk::numbers_truth_at-returns-in-Int : goal.walk::numbers_truth_at-returns-in-Int
 walk::numbers_truth_at-returns-in-Int t c =
-    let here = class_of_operator c.args.checked.now.list c.args.place c.args.operator (OperatorClass.Comparison c.comparison_of.result) c.requires.here c.comparison_of.ensures in
-    let right = kept_value c.args.entity.now c.args.now.now c.args.checked.now.list c.right_of-right_place.result c.in-Leaf.value.now (c.in-Leaf.ensures c.args.now.now) (number_val (Some c.in-Int.right)) (ap plain_val c.in-Int.is) in
+    let here = class_of_operator c.args.scene.now.list c.args.place c.args.operator (OperatorClass.Comparison c.comparison_of.result) c.requires.here c.comparison_of.ensures in
+    let right = kept_value c.args.scene.now c.right_of-right_place.result c.in-Leaf.value.now c.in-Leaf.ensures (number_val (Some c.in-Int.right)) (ap plain_val c.in-Int.is) in
     let fits : SFits w64 c.in-Int.right = search rules in
     let compared : IsTrue c.compare_numbers.result ↔ ComparesTrue c.comparison_of.result (number_val c.in-Ok.left) (number_val (Some c.in-Int.right)) =
     subst (λ (n : ℤ). IsTrue c.compare_numbers.result ↔ ComparesTrue c.comparison_of.result (number_val c.in-Ok.left) (number_val (Some n))) (to_z-of_z w64 c.in-Int.right fits) c.compare_numbers.ensures in
-    numbers_compared c.args.entity.now c.args.now.now c.args.checked.now.list c.args.place c.comparison_of.result here c.right_of-right_place.result c.right_of-right_place.ensures c.in-Ok.left (Some c.in-Int.right) c.compare_numbers.result c.in-Ok.ensures right compared
+    numbers_compared c.args.scene.now c.args.place c.comparison_of.result here c.right_of-right_place.result c.right_of-right_place.ensures c.in-Ok.left (Some c.in-Int.right) c.compare_numbers.result c.in-Ok.ensures right compared
 
 pub walk::numbers_truth_at-returns-in-Ok-number_at : goal.walk::numbers_truth_at-returns-in-Ok-number_at
 walk::numbers_truth_at-returns-in-Ok-number_at t c =
-    let here = class_of_operator c.args.checked.now.list c.args.place c.args.operator (OperatorClass.Comparison c.comparison_of-in-Ok-number_at.result) c.requires.here c.comparison_of-in-Ok-number_at.ensures in
-    numbers_compared c.args.entity.now c.args.now.now c.args.checked.now.list c.args.place c.comparison_of-in-Ok-number_at.result here c.right_of-right_place.result c.right_of-right_place.ensures c.in-Ok.left c.in-Ok-number_at.right c.compare_numbers-in-Ok-number_at.result c.in-Ok.ensures c.in-Ok-number_at.ensures c.compare_numbers-in-Ok-number_at.ensures
+    let here = class_of_operator c.args.scene.now.list c.args.place c.args.operator (OperatorClass.Comparison c.comparison_of-in-Ok-number_at.result) c.requires.here c.comparison_of-in-Ok-number_at.ensures in
+    numbers_compared c.args.scene.now c.args.place c.comparison_of-in-Ok-number_at.result here c.right_of-right_place.result c.right_of-right_place.ensures c.in-Ok.left c.in-Ok-number_at.right c.compare_numbers-in-Ok-number_at.result c.in-Ok.ensures c.in-Ok-number_at.ensures c.compare_numbers-in-Ok-number_at.ensures

@@ -1,73 +1,73 @@
-use Rattle.std.proofs.Common.{◌≤◌, ◌+◌, ◌-◌, ◌*◌, [], length}
+use Rattle.std.proofs.Common.{◌≤◌, ◌+◌, ◌-◌, ◌*◌, length}
 use Rattle.odata_eval.specs.private.WalkAnswer.{AnswersDatum, AnswersNumber, AnswersTruth}
 use Rattle.odata_eval.proofs.+evaluate.Given as goal
 
 -- what is left of the list counts first, and in one place the order of the calls
 abbrev pub decreases-number_walk::number_operand_at : goal.decreases-number_walk::number_operand_at
-decreases-number_walk::number_operand_at l = 16 * (length l.checked.now.list.nodes - l.place) + 14
+decreases-number_walk::number_operand_at l = 16 * (length l.scene.now.list.nodes - l.place) + 14
 
 abbrev pub decreases-number_walk::made_number_at : goal.decreases-number_walk::made_number_at
-decreases-number_walk::made_number_at l = 16 * (length l.checked.now.list.nodes - l.place) + 13
+decreases-number_walk::made_number_at l = 16 * (length l.scene.now.list.nodes - l.place) + 13
 
 abbrev pub decreases-walk::operand_at : goal.decreases-walk::operand_at
-decreases-walk::operand_at l = 16 * (length l.checked.now.list.nodes - l.place) + 12
+decreases-walk::operand_at l = 16 * (length l.scene.now.list.nodes - l.place) + 12
 
 abbrev pub decreases-walk::side_at : goal.decreases-walk::side_at
-decreases-walk::side_at l = 16 * (length l.checked.now.list.nodes - l.place) + 12
+decreases-walk::side_at l = 16 * (length l.scene.now.list.nodes - l.place) + 12
 
 abbrev pub decreases-walk::truth_at : goal.decreases-walk::truth_at
-decreases-walk::truth_at l = 16 * (length l.checked.now.list.nodes - l.place) + 11
+decreases-walk::truth_at l = 16 * (length l.scene.now.list.nodes - l.place) + 11
 
 abbrev pub decreases-walk::plain_truth_at : goal.decreases-walk::plain_truth_at
-decreases-walk::plain_truth_at l = 16 * (length l.checked.now.list.nodes - l.place) + 10
+decreases-walk::plain_truth_at l = 16 * (length l.scene.now.list.nodes - l.place) + 10
 
 abbrev pub decreases-walk::numbers_truth_at : goal.decreases-walk::numbers_truth_at
-decreases-walk::numbers_truth_at l = 16 * (length l.checked.now.list.nodes - l.place) + 8
+decreases-walk::numbers_truth_at l = 16 * (length l.scene.now.list.nodes - l.place) + 8
 
 abbrev pub decreases-walk::compared_truth_at : goal.decreases-walk::compared_truth_at
-decreases-walk::compared_truth_at l = 16 * (length l.checked.now.list.nodes - l.place) + 9
+decreases-walk::compared_truth_at l = 16 * (length l.scene.now.list.nodes - l.place) + 9
 
 abbrev pub decreases-walk::numeric_truth_at : goal.decreases-walk::numeric_truth_at
-decreases-walk::numeric_truth_at l = 16 * (length l.checked.now.list.nodes - l.place) + 9
+decreases-walk::numeric_truth_at l = 16 * (length l.scene.now.list.nodes - l.place) + 9
 
 abbrev pub decreases-walk::made_truth_at : goal.decreases-walk::made_truth_at
-decreases-walk::made_truth_at l = 16 * (length l.checked.now.list.nodes - l.place) + 7
+decreases-walk::made_truth_at l = 16 * (length l.scene.now.list.nodes - l.place) + 7
 
 abbrev pub decreases-number_walk::number_at : goal.decreases-number_walk::number_at
-decreases-number_walk::number_at l = 16 * (length l.checked.now.list.nodes - l.place) + 8
+decreases-number_walk::number_at l = 16 * (length l.scene.now.list.nodes - l.place) + 8
 
 abbrev pub decreases-number_walk::number_chain_at : goal.decreases-number_walk::number_chain_at
-decreases-number_walk::number_chain_at l = 16 * (length l.checked.now.list.nodes - l.place) + 10
+decreases-number_walk::number_chain_at l = 16 * (length l.scene.now.list.nodes - l.place) + 10
 
 abbrev pub decreases-number_walk::number_on_leaf_at : goal.decreases-number_walk::number_on_leaf_at
-decreases-number_walk::number_on_leaf_at l = 16 * (length l.checked.now.list.nodes - l.place) + 9
+decreases-number_walk::number_on_leaf_at l = 16 * (length l.scene.now.list.nodes - l.place) + 9
 
 abbrev pub decreases-walk::eager_at : goal.decreases-walk::eager_at
-decreases-walk::eager_at l = 16 * (length l.checked.now.list.nodes - l.place) + 5
+decreases-walk::eager_at l = 16 * (length l.scene.now.list.nodes - l.place) + 5
 
 abbrev pub decreases-walk::logical_at : goal.decreases-walk::logical_at
-decreases-walk::logical_at l = 16 * (length l.checked.now.list.nodes - l.place) + 4
+decreases-walk::logical_at l = 16 * (length l.scene.now.list.nodes - l.place) + 4
 
 abbrev pub decreases-walk::made_at : goal.decreases-walk::made_at
-decreases-walk::made_at l = 16 * (length l.checked.now.list.nodes - l.place) + 4
+decreases-walk::made_at l = 16 * (length l.scene.now.list.nodes - l.place) + 4
 
 abbrev pub decreases-number_walk::numeric_at : goal.decreases-number_walk::numeric_at
-decreases-number_walk::numeric_at l = 16 * (length l.checked.now.list.nodes - l.place) + 4
+decreases-number_walk::numeric_at l = 16 * (length l.scene.now.list.nodes - l.place) + 4
 
 abbrev pub decreases-number_walk::calculated_at : goal.decreases-number_walk::calculated_at
-decreases-number_walk::calculated_at l = 16 * (length l.checked.now.list.nodes - l.place) + 3
+decreases-number_walk::calculated_at l = 16 * (length l.scene.now.list.nodes - l.place) + 3
 
 abbrev pub decreases-walk::compared_at : goal.decreases-walk::compared_at
-decreases-walk::compared_at l = 16 * (length l.checked.now.list.nodes - l.place) + 3
+decreases-walk::compared_at l = 16 * (length l.scene.now.list.nodes - l.place) + 3
 
 abbrev pub decreases-walk::connected_at : goal.decreases-walk::connected_at
-decreases-walk::connected_at l = 16 * (length l.checked.now.list.nodes - l.place) + 3
+decreases-walk::connected_at l = 16 * (length l.scene.now.list.nodes - l.place) + 3
 
 abbrev pub invariant-walk::truth_at-loop-at : goal.invariant-walk::truth_at-loop-at
 invariant-walk::truth_at-loop-at l = record {
   above : l.place ≤ l.at;
   within : l.at ≤ l.bottom;
-  answers : AnswersTruth l.entity l.now [] l.checked.list l.at l.answer;
+  answers : AnswersTruth l.scene l.at l.answer;
 }
 
 abbrev pub decreases-walk::truth_at-loop-at : goal.decreases-walk::truth_at-loop-at
@@ -77,7 +77,7 @@ abbrev pub invariant-number_walk::number_at-loop-at : goal.invariant-number_walk
 invariant-number_walk::number_at-loop-at l = record {
   above : l.place ≤ l.at;
   within : l.at ≤ l.bottom;
-  answers : AnswersNumber l.entity l.now [] l.checked.list l.at l.answer;
+  answers : AnswersNumber l.scene l.at l.answer;
 }
 
 abbrev pub decreases-number_walk::number_at-loop-at : goal.decreases-number_walk::number_at-loop-at
@@ -87,7 +87,7 @@ abbrev pub invariant-walk::eager_at-loop-at : goal.invariant-walk::eager_at-loop
 invariant-walk::eager_at-loop-at l = record {
   above : l.place ≤ l.at;
   within : l.at ≤ l.bottom;
-  answers : AnswersDatum l.entity l.now [] l.checked.list l.at l.answer;
+  answers : AnswersDatum l.scene l.at l.answer;
 }
 
 abbrev pub decreases-walk::eager_at-loop-at : goal.decreases-walk::eager_at-loop-at

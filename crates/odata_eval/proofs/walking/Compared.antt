@@ -1,14 +1,13 @@
 -- What a comparison comes to, of two values, of two that are kept, and of two numbers.
-use Rattle.std.proofs.Common.{◌≡◌, ℕ, ℤ, ◌+◌, [], Bool, Option, Some, None, Ok, slice_get, refl, subst}
+use Rattle.std.proofs.Common.{◌≡◌, ℕ, ℤ, ◌+◌, Bool, Option, Some, None, Ok, slice_get, refl, subst}
 use Rattle.std.specs.Prelude.{IsTrue, ◌↔◌}
-use Rattle.edm_values.specs.MomentParts.{MomentParts}
 use Rattle.edm_values.specs.Val.{Val, boolean}
 use Rattle.edm_values.specs.declared.datum.Datum.{Datum}
 use Rattle.edm_values.specs.declared.datum.Datum.TheVariants as datum
 use Rattle.edm_values.specs.declared.value.Value.{Value}
 use Rattle.csdl_schema.specs.ExprType.{ExprType}
 use Rattle.csdl_schema.specs.SchemaModel.{slots_of}
-use Rattle.edm_entities.specs.Row.{Row, IsEntity, val_of}
+use Rattle.edm_entities.specs.Row.{val_of}
 use Rattle.odata_functions.specs.Comparable.{AreComparableBy, HaveEquality, HaveOrder}
 use Rattle.odata_functions.specs.Comparison.{ComparesTrue}
 use Rattle.odata_functions.specs.DatumVal.{Reading, datum_val}
@@ -19,13 +18,13 @@ use Rattle.odata_signatures.specs.OperatorTyped.{ClassTyped}
 use Rattle.odata_signatures.specs.TypeView.{expr_type}
 use Rattle.odata_checked_filter.specs.declared.checked_node.CheckedNode.{CheckedNode}
 use Rattle.odata_checked_filter.specs.declared.checked_node.NodeKind.{NodeKind}
-use Rattle.odata_checked_filter.specs.FlatTree.{FlatTree}
 use Rattle.odata_eval.specs.CalculationGives.{number_val}
-use Rattle.odata_eval.specs.EndsOnce.{EndsOnceOnEntities}
 use Rattle.odata_eval.specs.Outcome.{gives}
 use Rattle.odata_eval.specs.TruthGives.{truth_val}
 use Rattle.odata_eval.specs.private.DatumView.{reading_at}
 use Rattle.odata_eval.specs.private.Place.{HasOperatorOf, IsRightOf, PartStands}
+use Rattle.odata_eval.specs.private.Scene.{EndsOnceHere}
+use Rattle.odata_eval.specs.private.SceneModel.{SceneModel}
 use Rattle.odata_eval.specs.private.WalkAnswer.{AnswersAtPlace, AnswersDatum, AnswersKept, AnswersNumber, AnswersTruth}
 use Rattle.odata_eval.proofs.meaning.Kinds.{comparable_values}
 use Rattle.odata_eval.proofs.walking.KeptValues.{at_contents, at_types}
@@ -58,67 +57,67 @@ numbers_comparable ComparisonOperator.Eq left right = (numbers_alike left right)
 numbers_comparable ComparisonOperator.Ne left right = (numbers_alike left right).0
 numbers_comparable _ left right = (numbers_alike left right).1
 
-module _ (row : Row) (now : MomentParts) (list : FlatTree) (place : ℕ) (comparison : ComparisonOperator) (here : HasOperatorOf list place (OperatorClass.Comparison comparison))
-    (right_place : ℕ) (is_right : IsRightOf list place right_place) where
-  module _ (l r : ExprType → Val) (first : AnswersAtPlace row now [] list (place + 1) (λ type. Some (gives (l type))))
-      (second : AnswersAtPlace row now [] list right_place (λ type. Some (gives (r type)))) where
+module _ (scene : SceneModel) (place : ℕ) (comparison : ComparisonOperator) (here : HasOperatorOf scene.list place (OperatorClass.Comparison comparison))
+    (right_place : ℕ) (is_right : IsRightOf scene.list place right_place) where
+  module _ (l r : ExprType → Val) (first : AnswersAtPlace scene (place + 1) (λ type. Some (gives (l type))))
+      (second : AnswersAtPlace scene right_place (λ type. Some (gives (r type)))) where
     -- the types of the sides are compared, so the values at these are
-    comparable_sides : EndsOnceOnEntities → IsEntity row → PartStands row [] list place → (s t : ExprType) × AreComparableBy comparison (l s) (r t)
-    comparable_sides ends entity part =
-        let there = operator_of_class list place (OperatorClass.Comparison comparison) here in
-        let found = some_there (λ (f : CheckedNode). f.kind ≡ NodeKind.Binary there.operator) (slice_get list.nodes place) there.here in
-        let sides = sides_there row now list place there.operator there.here right_place is_right l r first second ends entity found.0 found.1.0 part in
-        let compared = subst (λ (c : OperatorClass). ClassTyped c sides.0 sides.1 (expr_type row.schema found.0.edm_type)) there.class_is sides.2.0 in
-        (sides.0, sides.1, comparable_values (slots_of row.schema) comparison sides.0 sides.1 (l sides.0) (r sides.1) compared.0 sides.2.1 sides.2.2)
+    comparable_sides : EndsOnceHere scene → PartStands scene place → (s t : ExprType) × AreComparableBy comparison (l s) (r t)
+    comparable_sides ends part =
+        let there = operator_of_class scene.list place (OperatorClass.Comparison comparison) here in
+        let found = some_there (λ (f : CheckedNode). f.kind ≡ NodeKind.Binary there.operator) (slice_get scene.list.nodes place) there.here in
+        let sides = sides_there scene place there.operator there.here right_place is_right l r first second ends found.0 found.1.0 part in
+        let compared = subst (λ (c : OperatorClass). ClassTyped c sides.0 sides.1 (expr_type scene.row.schema found.0.edm_type)) there.class_is sides.2.0 in
+        (sides.0, sides.1, comparable_values (slots_of scene.row.schema) comparison sides.0 sides.1 (l sides.0) (r sides.1) compared.0 sides.2.1 sides.2.2)
 
     comparison_answers : (answer : Bool) → ((s t : ExprType) → AreComparableBy comparison (l s) (r t))
-        → ((s t : ExprType) → IsTrue answer ↔ ComparesTrue comparison (l s) (r t)) → AnswersTruth row now [] list place (Ok (Some answer))
+        → ((s t : ExprType) → IsTrue answer ↔ ComparesTrue comparison (l s) (r t)) → AnswersTruth scene place (Ok (Some answer))
     comparison_answers answer may compared =
-        let there = operator_of_class list place (OperatorClass.Comparison comparison) here in
-        of_sides row now list place there.operator there.here right_place is_right (OperatorClass.Comparison comparison) there.class_is
+        let there = operator_of_class scene.list place (OperatorClass.Comparison comparison) here in
+        of_sides scene place there.operator there.here right_place is_right (OperatorClass.Comparison comparison) there.class_is
         l (λ type. Some (gives (r type))) (λ type. Some (gives (boolean answer))) first second
         (λ stop whole s t type Right stands typed given. (gives (r t), (given, (may s t, compared s t))))
 
-  pub numbers_compared : (left right : Option ℤ) (answer : Bool) → AnswersNumber row now [] list (place + 1) (Ok left) → AnswersNumber row now [] list right_place (Ok right)
-      → (IsTrue answer ↔ ComparesTrue comparison (number_val left) (number_val right)) → AnswersTruth row now [] list place (Ok (Some answer))
+  pub numbers_compared : (left right : Option ℤ) (answer : Bool) → AnswersNumber scene (place + 1) (Ok left) → AnswersNumber scene right_place (Ok right)
+      → (IsTrue answer ↔ ComparesTrue comparison (number_val left) (number_val right)) → AnswersTruth scene place (Ok (Some answer))
   numbers_compared left right answer first second compared =
       comparison_answers (λ type. number_val left) (λ type. number_val right) first second answer (λ s t. numbers_comparable comparison left right) (λ s t. compared)
 
   -- of two values that are kept
-  module _ (left right : Value) (first : AnswersKept row now [] list (place + 1) left) (second : AnswersKept row now [] list right_place right) where
-    pub may_compare_kept : EndsOnceOnEntities → IsEntity row → KeptAnyhow → PartStands row [] list place
+  module _ (left right : Value) (first : AnswersKept scene (place + 1) left) (second : AnswersKept scene right_place right) where
+    pub may_compare_kept : EndsOnceHere scene → KeptAnyhow → PartStands scene place
         → (q m : Contents) → AreComparableBy comparison (kept_val q left) (kept_val m right)
-    may_compare_kept ends entity anyhow part q m =
-        let slots = slots_of row.schema in
-        let sides = comparable_sides (val_of left slots) (val_of right slots) first second ends entity part in
+    may_compare_kept ends anyhow part q m =
+        let slots = slots_of scene.row.schema in
+        let sides = comparable_sides (val_of left slots) (val_of right slots) first second ends part in
         let may = at_contents (AreComparableBy comparison) slots sides.0 sides.1 left right sides.2 in
         anyhow comparison left right may.0 may.1 q m may.2
 
-    pub kept_compared : EndsOnceOnEntities → IsEntity row → KeptAnyhow → PartStands row [] list place → (answer : Bool)
-        → ((q m : Contents) → IsTrue answer ↔ ComparesTrue comparison (kept_val q left) (kept_val m right)) → AnswersTruth row now [] list place (Ok (Some answer))
-    kept_compared ends entity anyhow part answer compared =
-        let slots = slots_of row.schema in
-        let may = may_compare_kept ends entity anyhow part in
+    pub kept_compared : EndsOnceHere scene → KeptAnyhow → PartStands scene place → (answer : Bool)
+        → ((q m : Contents) → IsTrue answer ↔ ComparesTrue comparison (kept_val q left) (kept_val m right)) → AnswersTruth scene place (Ok (Some answer))
+    kept_compared ends anyhow part answer compared =
+        let slots = slots_of scene.row.schema in
+        let may = may_compare_kept ends anyhow part in
         comparison_answers (val_of left slots) (val_of right slots) first second answer (λ s t. at_types (AreComparableBy comparison) slots s t left right may)
         (λ s t. at_types (λ v w. IsTrue answer ↔ ComparesTrue comparison v w) slots s t left right compared)
 
   -- of two that are made
-  module _ (left right : Datum) (first : AnswersDatum row now [] list (place + 1) (Ok left)) (second : AnswersDatum row now [] list right_place (Ok right)) where
+  module _ (left right : Datum) (first : AnswersDatum scene (place + 1) (Ok left)) (second : AnswersDatum scene right_place (Ok right)) where
     abbrev made : Datum → ExprType → Val
-    made value type = datum_val (reading_at (slots_of row.schema) type) value
+    made value type = datum_val (reading_at (slots_of scene.row.schema) type) value
 
-    pub may_compare : EndsOnceOnEntities → IsEntity row → ComparedAnyhow → PartStands row [] list place
+    pub may_compare : EndsOnceHere scene → ComparedAnyhow → PartStands scene place
         → (q s : Reading) → AreComparableBy comparison (datum_val q left) (datum_val s right)
-    may_compare ends entity anyhow part q s =
-        let slots = slots_of row.schema in
-        let sides = comparable_sides (made left) (made right) first second ends entity part in
+    may_compare ends anyhow part q s =
+        let slots = slots_of scene.row.schema in
+        let sides = comparable_sides (made left) (made right) first second ends part in
         anyhow comparison left right (reading_at slots sides.0) (reading_at slots sides.1) q s sides.2
 
-    pub truth_compared : EndsOnceOnEntities → IsEntity row → ComparedAnyhow → PartStands row [] list place → (answer : Bool)
-        → ((q s : Reading) → IsTrue answer ↔ ComparesTrue comparison (datum_val q left) (datum_val s right)) → AnswersDatum row now [] list place (Ok (datum.Bool answer))
-    truth_compared ends entity anyhow part answer compared =
-        let slots = slots_of row.schema in
-        let may = may_compare ends entity anyhow part in
-        made_value row now list place (datum.Bool answer) (truth_val (Some answer))
+    pub truth_compared : EndsOnceHere scene → ComparedAnyhow → PartStands scene place → (answer : Bool)
+        → ((q s : Reading) → IsTrue answer ↔ ComparesTrue comparison (datum_val q left) (datum_val s right)) → AnswersDatum scene place (Ok (datum.Bool answer))
+    truth_compared ends anyhow part answer compared =
+        let slots = slots_of scene.row.schema in
+        let may = may_compare ends anyhow part in
+        made_value scene place (datum.Bool answer) (truth_val (Some answer))
         (comparison_answers (made left) (made right) first second answer (λ s t. may (reading_at slots s) (reading_at slots t)) (λ s t. compared (reading_at slots s) (reading_at slots t)))
         (λ reading. refl)

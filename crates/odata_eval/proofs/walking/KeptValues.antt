@@ -1,19 +1,18 @@
 -- Values that are kept: a truth value, a number or null is known by what it stands for.
-use Rattle.std.proofs.Common.{◌≡◌, ◌∙◌, ℕ, List, [], Some, ap, refl, sym, subst}
+use Rattle.std.proofs.Common.{◌≡◌, ◌∙◌, ℕ, List, Some, ap, refl, sym, subst}
 use Rattle.std.specs.Prelude.{string_bytes}
-use Rattle.edm_values.specs.MomentParts.{MomentParts}
 use Rattle.edm_values.specs.PlainVal.{plain_val}
 use Rattle.edm_values.specs.Val.{Val, null, boolean, whole, text, date, moment, guid, member, fields, items, FieldVal, absent, Vals, no_items}
 use Rattle.edm_values.specs.declared.value.Value.{Value, Null, Bool as BoolValue, Int, Text, Date, Moment, Guid, Enum, Record', List', fold_out-Value}
 use Rattle.edm_values.specs.declared.value.Value as views
 use Rattle.csdl_schema.specs.ExprType.{ExprType, null_type, single, collection, primitive, enumeration, structured}
 use Rattle.csdl_schema.specs.SchemaModel.{Slots, slots_of}
-use Rattle.edm_entities.specs.Row.{Row, IsEntity, ValAtType, val_of, val_step}
+use Rattle.edm_entities.specs.Row.{ValAtType, val_of, val_step}
 use Rattle.odata_functions.specs.KeptVal.{Contents, kept_val}
-use Rattle.odata_checked_filter.specs.FlatTree.{FlatTree}
-use Rattle.odata_eval.specs.EndsOnce.{EndsOnceOnEntities}
 use Rattle.odata_eval.specs.Outcome.{gives}
 use Rattle.odata_eval.specs.private.Place.{TypedStands}
+use Rattle.odata_eval.specs.private.Scene.{EndsOnceHere}
+use Rattle.odata_eval.specs.private.SceneModel.{SceneModel}
 use Rattle.odata_eval.specs.private.WalkAnswer.{AnswersAtPlace, AnswersKept}
 use Rattle.odata_eval.proofs.walking.Leaves.{plain_is}
 use Rattle.odata_eval.proofs.walking.Readings.{IsPlain, PlainValues}
@@ -75,16 +74,16 @@ plain_contents contents (Record' shape all) v plain is = absurd (subst IsPlain (
 plain_contents contents (List' shape all) v plain is = absurd (subst IsPlain (sym is) plain)
 plain_contents contents _ v plain is = ap Some is
 
-module _ (row : Row) (now : MomentParts) (list : FlatTree) (place : ℕ) (value : Value) (kept : AnswersKept row now [] list place value) where
+module _ (scene : SceneModel) (place : ℕ) (value : Value) (kept : AnswersKept scene place value) where
   -- as what a truth value or a number is kept, where the node's type allows these
-  pub value_kept : {Held : Type 0} (values : PlainValues Held) → EndsOnceOnEntities → IsEntity row → TypedStands row [] list place values.Allowed
+  pub value_kept : {Held : Type 0} (values : PlainValues Held) → EndsOnceHere scene → TypedStands scene place values.Allowed
       → (held : Held) × (plain_val value ≡ Some (values.val held))
-  value_kept values ends entity stands =
-      let slots = slots_of row.schema in
+  value_kept values ends stands =
+      let slots = slots_of scene.row.schema in
       let contents = kept_contents slots stands.type_of value in
-      let held = typed_value row now list place (val_of value slots) kept values ends entity stands in
+      let held = typed_value scene place (val_of value slots) kept values ends stands in
       (held.0, plain_contents contents.0 value (values.val held.0) (values.plain held.0) (sym contents.1 ∙ held.1))
 
   -- a value without parts is the outcome itself
-  pub kept_value : (v : Val) → plain_val value ≡ Some v → AnswersAtPlace row now [] list place (λ type. Some (gives v))
-  kept_value v is = same_values row now list place (val_of value (slots_of row.schema)) (λ type. v) (λ type. plain_is (slots_of row.schema) type value v is) kept
+  pub kept_value : (v : Val) → plain_val value ≡ Some v → AnswersAtPlace scene place (λ type. Some (gives v))
+  kept_value v is = same_values scene place (val_of value (slots_of scene.row.schema)) (λ type. v) (λ type. plain_is (slots_of scene.row.schema) type value v is) kept

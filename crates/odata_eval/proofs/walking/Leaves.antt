@@ -3,7 +3,6 @@ use Rattle.std.proofs.Common.{◌≡◌, ℕ, ◌<◌, List, [], false, Some, le
 use Rattle.std.specs.Prelude.{slice_get, string_bytes}
 use Rattle.std.specs.Cmp.Lexicographic.{pointwise}
 use Rattle.std.proofs.lemmas.List.Quantifiers.{position-Some}
-use Rattle.edm_values.specs.MomentParts.{MomentParts}
 use Rattle.edm_values.specs.PlainVal.{plain_val}
 use Rattle.edm_values.specs.Val.{Val, null, boolean, whole, text, date, moment, guid, member}
 use Rattle.edm_values.specs.declared.value.Value.{Value, Null, Bool, Int, Text, Date, Moment, Guid, Enum, Record', List', the_lemmas}
@@ -11,14 +10,15 @@ use Rattle.odata_syntax.specs.Tree.{literal, name}
 use Rattle.odata_syntax.specs.declared.node.LiteralKind.{LiteralKind}
 use Rattle.csdl_schema.specs.ExprType.{ExprType}
 use Rattle.csdl_schema.specs.SchemaModel.{PropertyModel, Slots, opaque, properties_at, slot_named, slots_of}
-use Rattle.edm_entities.specs.Row.{Row, val_of}
+use Rattle.edm_entities.specs.Row.{val_of}
 use Rattle.odata_checked_filter.specs.declared.checked_node.NodeKind.{NodeKind}
-use Rattle.odata_checked_filter.specs.FlatTree.{FlatTree}
 use Rattle.odata_checked_filter.specs.Stands.{IsValueOf}
 use Rattle.odata_eval.specs.Outcome.{gives}
 use Rattle.odata_eval.specs.private.Place.{PartStands}
-use Rattle.odata_eval.specs.private.WalkAnswer.{AnswersKept, HoldsAt}
-use Rattle.odata_eval.proofs.walking.Parts.{HasKind, MeansAt, TypedAt, by_kind, found_there, inside, kind_there}
+use Rattle.odata_eval.specs.private.Scene.{HoldsAt, MeansHere, TypedHere}
+use Rattle.odata_eval.specs.private.SceneModel.{SceneModel}
+use Rattle.odata_eval.specs.private.WalkAnswer.{AnswersKept}
+use Rattle.odata_eval.proofs.walking.Parts.{HasKind, by_kind, found_there, inside, kind_there}
 use Rattle.odata_eval.proofs.walking.SlotValue.{slot_value}
 
 -- a value without parts stands for the same at each type
@@ -38,47 +38,47 @@ slot_below : (asked : List ℕ) (slot : ℕ) (properties : List PropertyModel) �
 slot_below asked slot properties named =
     (position-Some (λ p. pointwise nat_eq asked p.name) properties slot (record { name = []; type_of = opaque; many = false; nullable = false }) named).0
 
-module _ (row : Row) (list : FlatTree) (place : ℕ) where
-  pub literal_within : (kind : LiteralKind) (value : ℕ) → HasKind list place (NodeKind.Literal kind value) → PartStands row [] list place → value < length list.values
+module _ (scene : SceneModel) (place : ℕ) where
+  pub literal_within : (kind : LiteralKind) (value : ℕ) → HasKind scene.list place (NodeKind.Literal kind value) → PartStands scene place → value < length scene.list.values
   literal_within kind value here part =
-      by_kind row list place (NodeKind.Literal kind value) here (λ stop tree. value < length list.values)
+      by_kind scene place (NodeKind.Literal kind value) here (λ stop tree. value < length scene.list.values)
       (λ k spelling stop from to stands.
-      inside (IsValueOf (slots_of row.schema) k spelling) list.values value (kind_there row list place (NodeKind.Literal kind value) here stop from to (literal k spelling) stands).1)
+      inside (IsValueOf (slots_of scene.row.schema) k spelling) scene.list.values value (kind_there scene place (NodeKind.Literal kind value) here stop from to (literal k spelling) stands).1)
       part.stop part.tree part.stands
 
-  pub literal_answers : (kind : LiteralKind) (value : ℕ) → HasKind list place (NodeKind.Literal kind value) → (now : MomentParts) (v : Value) → slice_get list.values value ≡ Some v
-      → AnswersKept row now [] list place v
-  literal_answers kind value here now v at = record {
+  pub literal_answers : (kind : LiteralKind) (value : ℕ) → HasKind scene.list place (NodeKind.Literal kind value) → (v : Value) → slice_get scene.list.values value ≡ Some v
+      → AnswersKept scene place v
+  literal_answers kind value here v at = record {
     of_tree = λ stop tree type stands typed.
-        by_kind row list place (NodeKind.Literal kind value) here (λ stop tree. MeansAt row now tree (gives (val_of v (slots_of row.schema) type)))
+        by_kind scene place (NodeKind.Literal kind value) here (λ stop tree. MeansHere scene tree (gives (val_of v (slots_of scene.row.schema) type)))
         (λ k spelling stop from to stands.
-        let read : IsValueOf (slots_of row.schema) k spelling v =
-        found_there (IsValueOf (slots_of row.schema) k spelling) (slice_get list.values value) v at
-        (kind_there row list place (NodeKind.Literal kind value) here stop from to (literal k spelling) stands).1 in
-        rw (plain_is (slots_of row.schema) type v read.val read.plain) read.value_of)
+        let read : IsValueOf (slots_of scene.row.schema) k spelling v =
+        found_there (IsValueOf (slots_of scene.row.schema) k spelling) (slice_get scene.list.values value) v at
+        (kind_there scene place (NodeKind.Literal kind value) here stop from to (literal k spelling) stands).1 in
+        rw (plain_is (slots_of scene.row.schema) type v read.val read.plain) read.value_of)
         stop tree stands;
   }
 
-  pub it_answers : (now : MomentParts) → HasKind list place NodeKind.It → AnswersKept row now [] list place row.value
-  it_answers now here = record {
+  pub it_answers : HasKind scene.list place NodeKind.It → AnswersKept scene place scene.row.value
+  it_answers here = record {
     of_tree = λ stop tree type stands typed.
-        by_kind row list place NodeKind.It here (λ stop tree. (t : ExprType) → TypedAt row tree t → MeansAt row now tree (gives (val_of row.value (slots_of row.schema) t)))
-        (λ stop from to stands t typed. ap (λ (s : ExprType). gives (val_of row.value (slots_of row.schema) s)) typed)
+        by_kind scene place NodeKind.It here (λ stop tree. (t : ExprType) → TypedHere scene tree t → MeansHere scene tree (gives (val_of scene.row.value (slots_of scene.row.schema) t)))
+        (λ stop from to stands t typed. ap (λ (s : ExprType). gives (val_of scene.row.value (slots_of scene.row.schema) s)) typed)
         stop tree stands type typed;
   }
 
-  pub property_within : (slot : ℕ) → HasKind list place (NodeKind.Property slot) → PartStands row [] list place → slot < length (properties_at row.schema row.type_id)
+  pub property_within : (slot : ℕ) → HasKind scene.list place (NodeKind.Property slot) → PartStands scene place → slot < length (properties_at scene.row.schema scene.row.type_id)
   property_within slot here part =
-      by_kind row list place (NodeKind.Property slot) here (λ stop tree. slot < length (properties_at row.schema row.type_id))
+      by_kind scene place (NodeKind.Property slot) here (λ stop tree. slot < length (properties_at scene.row.schema scene.row.type_id))
       (λ asked stop from to stands.
-      slot_below asked slot (properties_at row.schema row.type_id) (kind_there row list place (NodeKind.Property slot) here stop from to (name asked) stands).1)
+      slot_below asked slot (properties_at scene.row.schema scene.row.type_id) (kind_there scene place (NodeKind.Property slot) here stop from to (name asked) stands).1)
       part.stop part.tree part.stands
 
-  pub property_answers : (slot : ℕ) → HasKind list place (NodeKind.Property slot) → (now : MomentParts) (v : Value) → HoldsAt row slot v → AnswersKept row now [] list place v
-  property_answers slot here now v holds = record {
+  pub property_answers : (slot : ℕ) → HasKind scene.list place (NodeKind.Property slot) → (v : Value) → HoldsAt scene.row slot v → AnswersKept scene place v
+  property_answers slot here v holds = record {
     of_tree = λ stop tree type stands typed.
-        by_kind row list place (NodeKind.Property slot) here (λ stop tree. (t : ExprType) → TypedAt row tree t → MeansAt row now tree (gives (val_of v (slots_of row.schema) t)))
+        by_kind scene place (NodeKind.Property slot) here (λ stop tree. (t : ExprType) → TypedHere scene tree t → MeansHere scene tree (gives (val_of v (slots_of scene.row.schema) t)))
         (λ asked stop from to stands t typed.
-        slot_value row slot v asked t holds (kind_there row list place (NodeKind.Property slot) here stop from to (name asked) stands).1 typed)
+        slot_value scene.row slot v asked t holds (kind_there scene place (NodeKind.Property slot) here stop from to (name asked) stands).1 typed)
         stop tree stands type typed;
   }

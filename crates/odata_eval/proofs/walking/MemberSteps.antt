@@ -1,7 +1,6 @@
 -- What a step to a property comes to.
 use Rattle.std.proofs.Common.{◌≡◌, ℕ, ◌<◌, ◌+◌, List, [], Some, Ok, length, map, refl, sym, subst}
 use Rattle.std.specs.Prelude.{slice_get}
-use Rattle.edm_values.specs.MomentParts.{MomentParts}
 use Rattle.edm_values.specs.Val.{Val, fields}
 use Rattle.edm_values.specs.declared.datum.Datum.{Datum}
 use Rattle.edm_values.specs.declared.datum.Datum.TheVariants as datum
@@ -9,21 +8,21 @@ use Rattle.odata_syntax.specs.Tree.{member}
 use Rattle.csdl_schema.specs.ExprType.{ExprType, single, structured}
 use Rattle.csdl_schema.specs.SchemaModel.{Slots, slot_named, slots_of, type_name_at}
 use Rattle.edm_entities.specs.HasType.{HasType}
-use Rattle.edm_entities.specs.Row.{Row, IsEntity, field_by_name, val_of}
+use Rattle.edm_entities.specs.Row.{field_by_name, val_of}
 use Rattle.odata_functions.specs.DatumVal.{datum_val}
 use Rattle.odata_checked_filter.specs.declared.checked_node.NodeKind.{NodeKind}
-use Rattle.odata_checked_filter.specs.FlatTree.{FlatTree}
 use Rattle.odata_expression_types.specs.Laws.{OneType}
 use Rattle.odata_signatures.specs.TypeView.{expr_type}
 use Rattle.odata_expression_types.specs.Typed.{PropertyTyped, StepTyped}
-use Rattle.odata_eval.specs.EndsOnce.{EndsOnceOnEntities}
 use Rattle.odata_eval.specs.NameGives.{StepGives}
 use Rattle.odata_eval.specs.Outcome.{gives}
 use Rattle.odata_eval.specs.private.DatumView.{HasSlot, IsDatumOf, IsStepOf, reading_at}
 use Rattle.odata_eval.specs.private.Place.{PartStands}
+use Rattle.odata_eval.specs.private.Scene.{EndsOnceHere, MeansHere, TypedHere}
+use Rattle.odata_eval.specs.private.SceneModel.{SceneModel}
 use Rattle.odata_eval.specs.private.WalkAnswer.{AnswersDatum}
 use Rattle.odata_eval.proofs.meaning.Progress.{field_gives, held_present}
-use Rattle.odata_eval.proofs.walking.Parts.{HasKind, MeansAt, TypedAt, by_kind, kind_there, some_there}
+use Rattle.odata_eval.proofs.walking.Parts.{HasKind, by_kind, kind_there, some_there}
 use Rattle.odata_eval.proofs.walking.SlotValue.{field_at, found_slot, slot_within}
 use Rattle.odata_eval.proofs.walking.WalkValues.{value_has}
 
@@ -48,29 +47,29 @@ step_gives slots name asked slot type (datum.Record held) stepped named typed is
     (field_gives (field_by_name slots (slots.properties name) (map val_of held.now)) asked (val_of there.0 slots type) here)
 step_gives slots name asked slot type _ stepped named typed is = absurd is
 
-module _ (ends : EndsOnceOnEntities) (types : OneType) (row : Row) (now : MomentParts) (entity : IsEntity row) (list : FlatTree) (place slot : ℕ) (here : HasKind list place (NodeKind.Member slot)) where
-  pub step_slot : (made : Datum) → PartStands row [] list place → AnswersDatum row now [] list (place + 1) (Ok made) → HasSlot made slot
+module _ (types : OneType) (scene : SceneModel) (ends : EndsOnceHere scene) (place slot : ℕ) (here : HasKind scene.list place (NodeKind.Member slot)) where
+  pub step_slot : (made : Datum) → PartStands scene place → AnswersDatum scene (place + 1) (Ok made) → HasSlot made slot
   step_slot made part first =
-      by_kind row list place (NodeKind.Member slot) here (λ stop tree. HasSlot made slot)
+      by_kind scene place (NodeKind.Member slot) here (λ stop tree. HasSlot made slot)
       (λ base asked stop from to stands.
-      let slots = slots_of row.schema in
-      let root = type_name_at row.schema row.type_id in
-      let there = kind_there row list place (NodeKind.Member slot) here stop from to (member base asked) stands in
+      let slots = slots_of scene.row.schema in
+      let root = type_name_at scene.row.schema scene.row.type_id in
+      let there = kind_there scene place (NodeKind.Member slot) here stop from to (member base asked) stands in
       let typed = stands.top.typed in
       let same : typed.operand ≡ single (structured there.0) = types slots root [] base typed.operand (single (structured there.0)) typed.operand_typed there.1 in
-      slot_in slots there.0 asked slot (expr_type row.schema stands.top.found.edm_type) made there.2
-      (subst (λ (t : ExprType). StepTyped slots asked t (expr_type row.schema stands.top.found.edm_type)) same typed.makes)
-      (value_has ends row now entity base (single (structured there.0)) (datum_val (reading_at slots (single (structured there.0))) made) there.1 (first.of_tree stop base (single (structured there.0)) stands.children there.1)))
+      slot_in slots there.0 asked slot (expr_type scene.row.schema stands.top.found.edm_type) made there.2
+      (subst (λ (t : ExprType). StepTyped slots asked t (expr_type scene.row.schema stands.top.found.edm_type)) same typed.makes)
+      (value_has scene ends base (single (structured there.0)) (datum_val (reading_at slots (single (structured there.0))) made) there.1 (first.of_tree stop base (single (structured there.0)) stands.children there.1)))
       part.stop part.tree part.stands
 
-  pub step_answers : (made stepped : Datum) → AnswersDatum row now [] list (place + 1) (Ok made) → IsStepOf made slot stepped → AnswersDatum row now [] list place (Ok stepped)
+  pub step_answers : (made stepped : Datum) → AnswersDatum scene (place + 1) (Ok made) → IsStepOf made slot stepped → AnswersDatum scene place (Ok stepped)
   step_answers made stepped first is = record {
     of_tree = λ stop tree type stands typed.
-        by_kind row list place (NodeKind.Member slot) here (λ stop tree. (t : ExprType) → TypedAt row tree t → MeansAt row now tree (gives (datum_val (reading_at (slots_of row.schema) t) stepped)))
+        by_kind scene place (NodeKind.Member slot) here (λ stop tree. (t : ExprType) → TypedHere scene tree t → MeansHere scene tree (gives (datum_val (reading_at (slots_of scene.row.schema) t) stepped)))
         (λ base asked stop from to stands t typed.
-        let slots = slots_of row.schema in
-        let root = type_name_at row.schema row.type_id in
-        let there = kind_there row list place (NodeKind.Member slot) here stop from to (member base asked) stands in
+        let slots = slots_of scene.row.schema in
+        let root = type_name_at scene.row.schema scene.row.type_id in
+        let there = kind_there scene place (NodeKind.Member slot) here stop from to (member base asked) stands in
         let same : typed.operand ≡ single (structured there.0) = types slots root [] base typed.operand (single (structured there.0)) typed.operand_typed there.1 in (
           gives (datum_val (reading_at slots (single (structured there.0))) made),
           (

@@ -2,29 +2,22 @@
 use Rattle.std.proofs.Common.{◌≡◌, ℕ, ◌<◌, List, [], Option, Some, None, length, refl, sym, subst}
 use Rattle.std.specs.Prelude.{IsSomeAnd, slice_get}
 use Rattle.std.proofs.lemmas.Option.{slice_get_within}
-use Rattle.edm_values.specs.MomentParts.{MomentParts}
 use Rattle.edm_values.specs.declared.value.Value.{Value}
 use Rattle.odata_syntax.specs.Tree.{Tree, node, Shape, literal, it, name, member, negation, logical_not, binary}
 use Rattle.odata_syntax.specs.declared.node.LiteralKind.{LiteralKind}
 use Rattle.csdl_schema.specs.ExprType.{ExprType}
 use Rattle.csdl_schema.specs.SchemaModel.{Slots, slots_of, type_name_at}
-use Rattle.edm_entities.specs.Row.{Row, value_of}
 use Rattle.odata_signatures.specs.TypeView.{expr_type}
 use Rattle.odata_checked_filter.specs.declared.checked_node.CheckedNode.{CheckedNode}
 use Rattle.odata_checked_filter.specs.declared.checked_node.NodeKind.{NodeKind}
 use Rattle.odata_checked_filter.specs.FlatTree.{FlatTree}
-use Rattle.odata_checked_filter.specs.Stands.{Stands, IsKindOf}
-use Rattle.odata_expression_types.specs.Typed.{Scope, Typed}
-use Rattle.odata_eval.specs.Means.{Means}
+use Rattle.odata_checked_filter.specs.Stands.{IsKindOf}
+use Rattle.odata_expression_types.specs.Typed.{Scope}
 use Rattle.odata_eval.specs.Outcome.{Outcome}
 use Rattle.odata_eval.specs.private.Place.{PartStands}
-
--- what a tree comes to on an entity, and its type
-abbrev pub MeansAt : Row → MomentParts → Tree → Outcome → Type 0
-MeansAt row now = Means (slots_of row.schema) (type_name_at row.schema row.type_id) now (value_of row) []
-
-abbrev pub TypedAt : Row → Tree → ExprType → Type 0
-TypedAt row = Typed (slots_of row.schema) (type_name_at row.schema row.type_id) []
+use Rattle.odata_eval.specs.private.Scene.{StandsHere, TypedHere}
+use Rattle.odata_eval.specs.private.SceneModel.{SceneModel}
+use Rattle.odata_eval.specs.private.WalkAnswer.{Tells}
 
 -- a fact of what is held, and back
 pub found_there : {X : Type 0} (P : X → Type 0) (held : Option X) (x : X) → held ≡ Some x → IsSomeAnd held P → P x
@@ -41,6 +34,16 @@ some_there P None holds = absurd holds
 pub goes_there : {X : Type 0} (held : Option X) (P Q : X → Type 0) → ((x : X) → P x → Q x) → IsSomeAnd held P → IsSomeAnd held Q
 goes_there (Some x) P Q goes holds = goes x holds
 goes_there None P Q goes holds = absurd holds
+
+-- what is told of a part is told of the whole
+pub tells_there : (told : Option Outcome) (Part Whole : Type 0) (P Q : Outcome → Type 0) → (Part → Whole) → ((o : Outcome) → P o → Q o)
+    → Tells Part P told → Tells Whole Q told
+tells_there (Some o) Part Whole P Q takes goes is = goes o is
+tells_there None Part Whole P Q takes goes is = takes is
+
+pub some_tells : (told : Option Outcome) (Takes : Type 0) (P : Outcome → Type 0) → IsSomeAnd told P → Tells Takes P told
+some_tells (Some o) Takes P is = is
+some_tells None Takes P is = absurd is
 
 pub inside : {X : Type 0} (P : X → Type 0) (xs : List X) (k : ℕ) → IsSomeAnd (slice_get xs k) P → k < length xs
 inside P xs k holds = let there = some_there P (slice_get xs k) holds in slice_get_within xs k there.0 there.1.0
@@ -72,37 +75,34 @@ by_case values slots root scope P _ _ is cases = absurd is
 abbrev pub HasKind : FlatTree → ℕ → NodeKind → Type 0
 HasKind list place kind = IsSomeAnd (slice_get list.nodes place) (λ found. found.kind ≡ kind)
 
-module _ (row : Row) (list : FlatTree) (place : ℕ) where
-  abbrev pub StandsHere : ℕ → Tree → Type 0
-  StandsHere stop tree = Stands row.schema row.type_id [] list place stop tree
-
+module _ (scene : SceneModel) (place : ℕ) where
   -- the kind is that of the node there
-  pub kind_there : (kind : NodeKind) → HasKind list place kind → (stop from to : ℕ) (shape : Shape) → StandsHere stop (node from to shape)
-      → IsKindOf list.values (slots_of row.schema) (type_name_at row.schema row.type_id) [] shape kind
+  pub kind_there : (kind : NodeKind) → HasKind scene.list place kind → (stop from to : ℕ) (shape : Shape) → StandsHere scene place stop (node from to shape)
+      → IsKindOf scene.list.values (slots_of scene.row.schema) (type_name_at scene.row.schema scene.row.type_id) [] shape kind
   kind_there kind here stop from to shape stands =
-      subst (λ (k : NodeKind). IsKindOf list.values (slots_of row.schema) (type_name_at row.schema row.type_id) [] shape k)
-      (found_there (λ found. found.kind ≡ kind) (slice_get list.nodes place) stands.top.found stands.top.stands_at here)
+      subst (λ (k : NodeKind). IsKindOf scene.list.values (slots_of scene.row.schema) (type_name_at scene.row.schema scene.row.type_id) [] shape k)
+      (found_there (λ found. found.kind ≡ kind) (slice_get scene.list.nodes place) stands.top.found stands.top.stands_at here)
       stands.top.kind
 
   -- so the tree there is of one form
-  pub by_kind : (kind : NodeKind) → HasKind list place kind → (P : ℕ → Tree → Type 0)
-      → CasesOf kind (λ s. (stop from to : ℕ) → StandsHere stop (node from to s) → P stop (node from to s))
-      → (stop : ℕ) (tree : Tree) → StandsHere stop tree → P stop tree
+  pub by_kind : (kind : NodeKind) → HasKind scene.list place kind → (P : ℕ → Tree → Type 0)
+      → CasesOf kind (λ s. (stop from to : ℕ) → StandsHere scene place stop (node from to s) → P stop (node from to s))
+      → (stop : ℕ) (tree : Tree) → StandsHere scene place stop tree → P stop tree
   by_kind kind here P cases stop (node from to shape) stands =
-      by_case list.values (slots_of row.schema) (type_name_at row.schema row.type_id) []
-      (λ (s : Shape). (stop from to : ℕ) → StandsHere stop (node from to s) → P stop (node from to s)) shape kind
+      by_case scene.list.values (slots_of scene.row.schema) (type_name_at scene.row.schema scene.row.type_id) []
+      (λ (s : Shape). (stop from to : ℕ) → StandsHere scene place stop (node from to s) → P stop (node from to s)) shape kind
       (kind_there kind here stop from to shape stands) cases stop from to stands
 
   -- and it has the type that the node there tells
-  pub type_there : (found : CheckedNode) → slice_get list.nodes place ≡ Some found → (stop : ℕ) (tree : Tree) → StandsHere stop tree
-      → TypedAt row tree (expr_type row.schema found.edm_type)
+  pub type_there : (found : CheckedNode) → slice_get scene.list.nodes place ≡ Some found → (stop : ℕ) (tree : Tree) → StandsHere scene place stop tree
+      → TypedHere scene tree (expr_type scene.row.schema found.edm_type)
   type_there found at stop (node from to shape) stands =
       let same : Some stands.top.found ≡ Some found = cc (stands.top.stands_at, at) in
       let is : stands.top.found ≡ found = cc in
-      subst (λ (f : CheckedNode). TypedAt row (node from to shape) (expr_type row.schema f.edm_type)) is stands.top.typed
+      subst (λ (f : CheckedNode). TypedHere scene (node from to shape) (expr_type scene.row.schema f.edm_type)) is stands.top.typed
 
-  stands_inside : (stop : ℕ) (tree : Tree) → StandsHere stop tree → place < length list.nodes
-  stands_inside stop (node from to shape) stands = slice_get_within list.nodes place stands.top.found stands.top.stands_at
+  stands_inside : (stop : ℕ) (tree : Tree) → StandsHere scene place stop tree → place < length scene.list.nodes
+  stands_inside stop (node from to shape) stands = slice_get_within scene.list.nodes place stands.top.found stands.top.stands_at
 
-  pub part_inside : PartStands row [] list place → place < length list.nodes
+  pub part_inside : PartStands scene place → place < length scene.list.nodes
   part_inside part = stands_inside part.stop part.tree part.stands

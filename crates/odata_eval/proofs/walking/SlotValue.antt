@@ -13,8 +13,8 @@ use Rattle.csdl_schema.specs.SchemaModel.{Slots, PropertyModel, declared, slot_n
 use Rattle.edm_entities.specs.Row.{Row, val_of, value_of, field_of, field_by_name, record_of}
 use Rattle.odata_eval.specs.NameGives.{StepGives}
 use Rattle.odata_eval.specs.Outcome.{gives}
-use Rattle.odata_eval.specs.private.WalkAnswer.{HoldsAt}
 use Rattle.odata_expression_types.specs.Typed.{PropertyTyped, property_named}
+use Rattle.odata_eval.specs.private.Scene.{HoldsAt}
 use Rattle.odata_eval.proofs.meaning.Progress.{field_gives}
 
 pub val_of-Record : (slots : Slots) (type : ExprType) (v : Vec Value Global) → val_of (Record v) slots type ≡ record_of slots type (map val_of v.items)

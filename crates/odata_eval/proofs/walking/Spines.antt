@@ -1,30 +1,31 @@
 -- What stands behind a node, and down a chain of nodes of one class.
-use Rattle.std.proofs.Common.{◌≡◌, ◌∙◌, ℕ, zero, suc, ◌<◌, ◌≤◌, ◌+◌, ◌-◌, [], slice_get, ap, refl, sym, subst, inl, inr, arith}
-use Rattle.std.specs.Prelude.{IsSomeAnd}
+use Rattle.std.proofs.Common.{◌≡◌, ◌∙◌, ℕ, zero, suc, ◌<◌, ◌≤◌, ◌+◌, ◌-◌, List, [], ◌∷◌, slice_get, ap, refl, sym, subst, inl, inr, arith}
+use Rattle.std.specs.Prelude.{Contains, IsSomeAnd}
 use Rattle.std.proofs.lemmas.Bool.{cases_lt}
-use Rattle.edm_values.specs.MomentParts.{MomentParts}
 use Rattle.edm_values.specs.Val.{Val}
-use Rattle.odata_syntax.specs.Tree.{Tree, node, literal, it, name, member, negation, logical_not, binary}
+use Rattle.odata_syntax.specs.Spans.{children_of, in_child}
+use Rattle.odata_syntax.specs.Tree.{Tree, node, shape_of, literal, it, name, member, negation, logical_not, binary}
 use Rattle.odata_syntax.specs.declared.node.BinaryOperator.{BinaryOperator}
 use Rattle.csdl_schema.specs.ExprType.{ExprType}
-use Rattle.edm_entities.specs.Row.{Row}
 use Rattle.odata_signatures.specs.declared.operator_class.OperatorClass.{OperatorClass}
 use Rattle.odata_signatures.specs.ExprTypes.{IsBooleanOrNull}
 use Rattle.odata_signatures.specs.OperatorClass.{class_of}
 use Rattle.odata_signatures.specs.OperatorTyped.{ClassTyped}
+use Rattle.odata_checked_filter.specs.Calls.{TakesMemory}
 use Rattle.odata_checked_filter.specs.declared.checked_node.CheckedNode.{CheckedNode}
 use Rattle.odata_checked_filter.specs.declared.checked_node.NodeKind.{NodeKind}
 use Rattle.odata_checked_filter.specs.FlatTree.{FlatTree}
-use Rattle.odata_checked_filter.specs.Stands.{Stands}
 use Rattle.odata_eval.specs.declared.fault.EvalFault.{EvalFault}
 use Rattle.odata_eval.specs.declared.part.WalkClass.{WalkClass}
 use Rattle.odata_eval.specs.LeftFirst.{After}
 use Rattle.odata_eval.specs.Outcome.{Outcome, overflow, divides_by_zero}
 use Rattle.odata_eval.specs.VerdictView.{fault_outcome}
 use Rattle.odata_eval.specs.private.Place.{HasOperatorOf, IsClassAt, IsNumberOperand, IsOperatorOf, IsRightOf, PartStands, TypedStands}
-use Rattle.odata_eval.specs.private.WalkAnswer.{AnswersAtPlace}
+use Rattle.odata_eval.specs.private.Scene.{MeansHere, StandsHere, TypedHere}
+use Rattle.odata_eval.specs.private.SceneModel.{SceneModel}
+use Rattle.odata_eval.specs.private.WalkAnswer.{AnswersAtPlace, Tells}
 use Rattle.odata_eval.specs.private.WalkClass.{walk_of_kind, walk_of_operator}
-use Rattle.odata_eval.proofs.walking.Parts.{HasKind, MeansAt, TypedAt, by_kind, found_there, goes_there, some_there, there_found}
+use Rattle.odata_eval.proofs.walking.Parts.{HasKind, by_kind, found_there, goes_there, some_there, there_found}
 
 -- which operator of the class it is
 pub record OperatorThere (list : FlatTree) (place : ℕ) (class : OperatorClass) : Type 0 where
@@ -67,11 +68,29 @@ only_neg (NodeKind.Binary operator) numeric other = absurd (other operator refl)
 only_neg _ numeric other = absurd (cc)
 
 -- a fault of an operand stays
-pub fault_stays : (fault : EvalFault) (Operand : Outcome → Type 0) (Goes : Val → Outcome → Type 0)
-    → IsSomeAnd (fault_outcome fault) Operand → IsSomeAnd (fault_outcome fault) (After Operand Goes)
-fault_stays EvalFault.Overflow Operand Goes is = (overflow, (is, refl))
-fault_stays EvalFault.DivideByZero Operand Goes is = (divides_by_zero, (is, refl))
-fault_stays EvalFault.Memory Operand Goes is = absurd is
+pub fault_stays : (fault : EvalFault) (Part Whole : Type 0) (Operand : Outcome → Type 0) (Goes : Val → Outcome → Type 0) → (Part → Whole)
+    → Tells Part Operand (fault_outcome fault) → Tells Whole (After Operand Goes) (fault_outcome fault)
+fault_stays EvalFault.Overflow Part Whole Operand Goes takes is = (overflow, (is, refl))
+fault_stays EvalFault.DivideByZero Part Whole Operand Goes takes is = (divides_by_zero, (is, refl))
+fault_stays EvalFault.Memory Part Whole Operand Goes takes is = takes is
+
+-- the first two children
+first_child : (tree : Tree) (more : List Tree) → Contains (tree ∷ more) tree
+first_child tree more = (0, omega arith, refl)
+
+pub second_child : (first tree : Tree) (more : List Tree) → Contains (first ∷ tree ∷ more) tree
+second_child first tree more = (1, omega arith, refl)
+
+-- a tree takes the memory that a child of it takes
+pub child_takes : (tree child : Tree) → Contains (children_of (shape_of tree)) child → TakesMemory child → TakesMemory tree
+child_takes tree child is_child takes = record {
+  part = takes.part;
+  within = in_child is_child takes.within;
+  called = takes.called;
+  arguments = takes.arguments;
+  is_call = takes.is_call;
+  one = takes.one;
+}
 
 -- the types of operands by the class of their node
 abbrev pub AllowedBy : WalkClass → ExprType → Type 0
@@ -86,86 +105,87 @@ operands_allowed (OperatorClass.Comparison comparison) left right type typed = (
 operands_allowed (OperatorClass.Arithmetic arithmetic) left right type typed = ((typed.left_number, typed.left_is), (typed.right_number, typed.right_is))
 
 -- the first operand of a node: its faults are those of the node
-pub record FirstOperand (row : Row) (list : FlatTree) (place : ℕ) (class : WalkClass) (tree : Tree) : Type 0 where
+pub record FirstOperand (scene : SceneModel) (place : ℕ) (class : WalkClass) (tree : Tree) : Type 0 where
   pub stop : ℕ
   pub operand : Tree
-  pub stands : Stands row.schema row.type_id [] list (place + 1) stop operand
-  pub typed : (type : ExprType) → TypedAt row tree type → (first : ExprType) × (TypedAt row operand first × AllowedBy class first)
-  pub faults : (now : MomentParts) (fault : EvalFault) → IsSomeAnd (fault_outcome fault) (MeansAt row now operand) → IsSomeAnd (fault_outcome fault) (MeansAt row now tree)
+  pub stands : StandsHere scene (place + 1) stop operand
+  pub typed : (type : ExprType) → TypedHere scene tree type → (first : ExprType) × (TypedHere scene operand first × AllowedBy class first)
+  pub faults : (fault : EvalFault) → Tells (TakesMemory operand) (MeansHere scene operand) (fault_outcome fault)
+      → Tells (TakesMemory tree) (MeansHere scene tree) (fault_outcome fault)
 
-pub typed_part : (row : Row) (list : FlatTree) (place : ℕ) (Allowed : ExprType → Type 0) → TypedStands row [] list place Allowed → PartStands row [] list place
-typed_part row list place Allowed typed = record { stop = typed.stop; tree = typed.tree; stands = typed.stands }
+pub typed_part : (scene : SceneModel) (place : ℕ) (Allowed : ExprType → Type 0) → TypedStands scene place Allowed → PartStands scene place
+typed_part scene place Allowed typed = record { stop = typed.stop; tree = typed.tree; stands = typed.stands }
 
-module _ (row : Row) (list : FlatTree) where
-  first_of_kind : (place : ℕ) (kind : NodeKind) → ¬ (walk_of_kind kind ≡ WalkClass.Leaf) → HasKind list place kind
-      → (stop : ℕ) (tree : Tree) → Stands row.schema row.type_id [] list place stop tree → FirstOperand row list place (walk_of_kind kind) tree
-  first_of_kind place (NodeKind.Member slot) inner here = by_kind row list place (NodeKind.Member slot) here (λ stop tree. FirstOperand row list place WalkClass.Eager tree)
+module _ (scene : SceneModel) where
+  first_of_kind : (place : ℕ) (kind : NodeKind) → ¬ (walk_of_kind kind ≡ WalkClass.Leaf) → HasKind scene.list place kind
+      → (stop : ℕ) (tree : Tree) → StandsHere scene place stop tree → FirstOperand scene place (walk_of_kind kind) tree
+  first_of_kind place (NodeKind.Member slot) inner here = by_kind scene place (NodeKind.Member slot) here (λ stop tree. FirstOperand scene place WalkClass.Eager tree)
       (λ base asked stop from to stands. record {
         stop = stop;
         operand = base;
         stands = stands.children;
         typed = λ type typed. (typed.operand, (typed.operand_typed, tt));
-        faults = λ now fault. fault_stays fault (MeansAt row now base) _;
+        faults = λ fault. fault_stays fault (TakesMemory base) (TakesMemory (node from to (member base asked))) (MeansHere scene base) _ (child_takes (node from to (member base asked)) base (first_child base []));
       })
-  first_of_kind place NodeKind.Neg inner here = by_kind row list place NodeKind.Neg here (λ stop tree. FirstOperand row list place WalkClass.Numeric tree)
+  first_of_kind place NodeKind.Neg inner here = by_kind scene place NodeKind.Neg here (λ stop tree. FirstOperand scene place WalkClass.Numeric tree)
       (λ operand stop from to stands. record {
         stop = stop;
         operand = operand;
         stands = stands.children;
         typed = λ type typed. (typed.operand, (typed.operand_typed, (typed.makes.number, typed.makes.operand_is)));
-        faults = λ now fault. fault_stays fault (MeansAt row now operand) _;
+        faults = λ fault. fault_stays fault (TakesMemory operand) (TakesMemory (node from to (negation operand))) (MeansHere scene operand) _ (child_takes (node from to (negation operand)) operand (first_child operand []));
       })
-  first_of_kind place NodeKind.Not inner here = by_kind row list place NodeKind.Not here (λ stop tree. FirstOperand row list place WalkClass.Logical tree)
+  first_of_kind place NodeKind.Not inner here = by_kind scene place NodeKind.Not here (λ stop tree. FirstOperand scene place WalkClass.Logical tree)
       (λ operand stop from to stands. record {
         stop = stop;
         operand = operand;
         stands = stands.children;
         typed = λ type typed. (typed.operand, (typed.operand_typed, typed.makes.0));
-        faults = λ now fault. fault_stays fault (MeansAt row now operand) _;
+        faults = λ fault. fault_stays fault (TakesMemory operand) (TakesMemory (node from to (logical_not operand))) (MeansHere scene operand) _ (child_takes (node from to (logical_not operand)) operand (first_child operand []));
       })
-  first_of_kind place (NodeKind.Binary operator) inner here = by_kind row list place (NodeKind.Binary operator) here (λ stop tree. FirstOperand row list place (walk_of_operator (class_of operator)) tree)
+  first_of_kind place (NodeKind.Binary operator) inner here = by_kind scene place (NodeKind.Binary operator) here (λ stop tree. FirstOperand scene place (walk_of_operator (class_of operator)) tree)
       (λ left right stop from to stands. record {
         stop = stands.children.middle;
         operand = left;
         stands = stands.children.left;
         typed = λ type typed. (typed.left, (typed.left_typed, (operands_allowed (class_of operator) typed.left typed.right type typed.operator_typed).0));
-        faults = λ now fault. fault_stays fault (MeansAt row now left) _;
+        faults = λ fault. fault_stays fault (TakesMemory left) (TakesMemory (node from to (binary operator left right))) (MeansHere scene left) _ (child_takes (node from to (binary operator left right)) left (first_child left (right ∷ [])));
       })
   first_of_kind place _ inner here = absurd (inner refl)
 
-  first_operand : (place : ℕ) (class : WalkClass) → ¬ (class ≡ WalkClass.Leaf) → IsClassAt list class place
-      → (stop : ℕ) (tree : Tree) → Stands row.schema row.type_id [] list place stop tree → FirstOperand row list place class tree
+  first_operand : (place : ℕ) (class : WalkClass) → ¬ (class ≡ WalkClass.Leaf) → IsClassAt scene.list class place
+      → (stop : ℕ) (tree : Tree) → StandsHere scene place stop tree → FirstOperand scene place class tree
   first_operand place class inner is stop tree stands =
-      let found = some_there (λ (f : CheckedNode). walk_of_kind f.kind ≡ class) (slice_get list.nodes place) is in
+      let found = some_there (λ (f : CheckedNode). walk_of_kind f.kind ≡ class) (slice_get scene.list.nodes place) is in
       let kind = found.0.kind in
-      subst (λ (c : WalkClass). FirstOperand row list place c tree) found.1.1
+      subst (λ (c : WalkClass). FirstOperand scene place c tree) found.1.1
       (first_of_kind place kind (λ leaf. inner (sym found.1.1 ∙ leaf))
-      (there_found (λ (f : CheckedNode). f.kind ≡ kind) (slice_get list.nodes place) found.0 found.1.0 refl) stop tree stands)
+      (there_found (λ (f : CheckedNode). f.kind ≡ kind) (slice_get scene.list.nodes place) found.0 found.1.0 refl) stop tree stands)
 
   -- a fault of the first operand is the outcome
-  pub first_faults : (now : MomentParts) (place : ℕ) (class : WalkClass) (fault : EvalFault) → ¬ (class ≡ WalkClass.Leaf) → IsClassAt list class place
-      → AnswersAtPlace row now [] list (place + 1) (λ type. fault_outcome fault) → AnswersAtPlace row now [] list place (λ type. fault_outcome fault)
-  first_faults now place class fault inner is first = record {
+  pub first_faults : (place : ℕ) (class : WalkClass) (fault : EvalFault) → ¬ (class ≡ WalkClass.Leaf) → IsClassAt scene.list class place
+      → AnswersAtPlace scene (place + 1) (λ type. fault_outcome fault) → AnswersAtPlace scene place (λ type. fault_outcome fault)
+  first_faults place class fault inner is first = record {
     of_tree = λ stop tree type stands typed.
         let it = first_operand place class inner is stop tree stands in
         let of_it = it.typed type typed in
-        it.faults now fault (first.of_tree it.stop it.operand of_it.0 it.stands of_it.1.0);
+        it.faults fault (first.of_tree it.stop it.operand of_it.0 it.stands of_it.1.0);
   }
 
   -- the next node is the first operand
-  has_type : (place stop : ℕ) (tree : Tree) → Stands row.schema row.type_id [] list place stop tree → (type : ExprType) × TypedAt row tree type
+  has_type : (place stop : ℕ) (tree : Tree) → StandsHere scene place stop tree → (type : ExprType) × TypedHere scene tree type
   has_type place stop (node from to shape) stands = (_, stands.top.typed)
 
-  pub first_step : (place : ℕ) (class : WalkClass) → ¬ (class ≡ WalkClass.Leaf) → IsClassAt list class place → PartStands row [] list place
-      → TypedStands row [] list (place + 1) (AllowedBy class)
+  pub first_step : (place : ℕ) (class : WalkClass) → ¬ (class ≡ WalkClass.Leaf) → IsClassAt scene.list class place → PartStands scene place
+      → TypedStands scene (place + 1) (AllowedBy class)
   first_step place class inner is part =
       let it = first_operand place class inner is part.stop part.tree part.stands in
       let typed = has_type place part.stop part.tree part.stands in
       let of_it = it.typed typed.0 typed.1 in
       record { stop = it.stop; tree = it.operand; stands = it.stands; type_of = of_it.0; typed = of_it.1.0; allowed = of_it.1.1 }
 
-  pub first_part : (place : ℕ) (class : WalkClass) → ¬ (class ≡ WalkClass.Leaf) → IsClassAt list class place → PartStands row [] list place → PartStands row [] list (place + 1)
-  first_part place class inner is part = typed_part row list (place + 1) (AllowedBy class) (first_step place class inner is part)
+  pub first_part : (place : ℕ) (class : WalkClass) → ¬ (class ≡ WalkClass.Leaf) → IsClassAt scene.list class place → PartStands scene place → PartStands scene (place + 1)
+  first_part place class inner is part = typed_part scene (place + 1) (AllowedBy class) (first_step place class inner is part)
 
   -- what goes on from each place to the next goes down a chain
   down : (P Q : ℕ → Type 0) → ((i : ℕ) → P i → Q i → P (i + 1)) → (top d k : ℕ) → k ≡ top + d → P top → ((i : ℕ) → i < k → top ≤ i → Q i) → P k
@@ -175,30 +195,30 @@ module _ (row : Row) (list : FlatTree) where
       subst P e (step (top + d) (down P Q step top d (top + d) refl first (λ i before from. all i (omega arith) from)) (all (top + d) (omega arith) (omega arith)))
 
   module _ (class : WalkClass) (inner : ¬ (class ≡ WalkClass.Leaf)) (top k : ℕ) where
-    pub typed_down : top ≤ k → TypedStands row [] list top (AllowedBy class) → ((i : ℕ) → i < k → top ≤ i → IsClassAt list class i)
-        → TypedStands row [] list k (AllowedBy class)
+    pub typed_down : top ≤ k → TypedStands scene top (AllowedBy class) → ((i : ℕ) → i < k → top ≤ i → IsClassAt scene.list class i)
+        → TypedStands scene k (AllowedBy class)
     typed_down below first all =
-        down (λ i. TypedStands row [] list i (AllowedBy class)) (IsClassAt list class)
-        (λ i typed is. first_step i class inner is (typed_part row list i (AllowedBy class) typed)) top (k - top) k (omega arith) first all
+        down (λ i. TypedStands scene i (AllowedBy class)) (IsClassAt scene.list class)
+        (λ i typed is. first_step i class inner is (typed_part scene i (AllowedBy class) typed)) top (k - top) k (omega arith) first all
 
-    pub part_down : top ≤ k → PartStands row [] list top → ((i : ℕ) → i < k → top ≤ i → IsClassAt list class i) → PartStands row [] list k
+    pub part_down : top ≤ k → PartStands scene top → ((i : ℕ) → i < k → top ≤ i → IsClassAt scene.list class i) → PartStands scene k
     part_down below first all =
-        down (PartStands row [] list) (IsClassAt list class) (λ i part is. first_part i class inner is part) top (k - top) k (omega arith) first all
+        down (PartStands scene) (IsClassAt scene.list class) (λ i part is. first_part i class inner is part) top (k - top) k (omega arith) first all
 
   -- the bottom of a chain, behind its top
-  pub bottom_down : (class : WalkClass) → ¬ (class ≡ WalkClass.Leaf) → (top k : ℕ) → top < k → PartStands row [] list top
-      → ((i : ℕ) → i < k → top ≤ i → IsClassAt list class i) → TypedStands row [] list k (AllowedBy class)
+  pub bottom_down : (class : WalkClass) → ¬ (class ≡ WalkClass.Leaf) → (top k : ℕ) → top < k → PartStands scene top
+      → ((i : ℕ) → i < k → top ≤ i → IsClassAt scene.list class i) → TypedStands scene k (AllowedBy class)
   bottom_down class inner top k below first all =
       typed_down class inner (top + 1) k (omega arith) (first_step top class inner (all top below (omega arith)) first) (λ i before from. all i before (omega arith))
 
   -- a step up a chain to the node before, with what was answered behind that
   pub record StepUp (class : WalkClass) (Answers : ℕ → Type 0) (at : ℕ) : Type 0 where
-    pub stands : PartStands row [] list (at - 1)
-    pub here : IsClassAt list class (at - 1)
+    pub stands : PartStands scene (at - 1)
+    pub here : IsClassAt scene.list class (at - 1)
     pub first : Answers (at - 1 + 1)
 
   pub step_up : (class : WalkClass) → ¬ (class ≡ WalkClass.Leaf) → (Answers : ℕ → Type 0) (top at bottom : ℕ) → top < at → at ≤ bottom
-      → PartStands row [] list top → ((i : ℕ) → i < bottom → top ≤ i → IsClassAt list class i) → Answers at → StepUp class Answers at
+      → PartStands scene top → ((i : ℕ) → i < bottom → top ≤ i → IsClassAt scene.list class i) → Answers at → StepUp class Answers at
   step_up class inner Answers top at bottom above within part all answers =
       let e : at ≡ at - 1 + 1 = omega arith in
       record {
@@ -207,7 +227,7 @@ module _ (row : Row) (list : FlatTree) where
         first = subst Answers e answers;
       }
 
-  further : (i j : ℕ) (tree : Tree) → Stands row.schema row.type_id [] list i j tree → i < j
+  further : (i j : ℕ) (tree : Tree) → StandsHere scene i j tree → i < j
   further i j (node from to (literal kind spelling)) stands = let e : i + 1 ≡ j = stands.children in omega arith
   further i j (node from to it) stands = let e : i + 1 ≡ j = stands.children in omega arith
   further i j (node from to (name asked)) stands = let e : i + 1 ≡ j = stands.children in omega arith
@@ -222,33 +242,33 @@ module _ (row : Row) (list : FlatTree) where
   further i j (node from to _) stands = absurd stands.children
 
   -- where a node says that it stops
-  stops_there : (i j right : ℕ) (tree : Tree) → Stands row.schema row.type_id [] list i j tree
-      → IsSomeAnd (slice_get list.nodes i) (λ found. found.stop ≡ right) → j ≡ right
+  stops_there : (i j right : ℕ) (tree : Tree) → StandsHere scene i j tree
+      → IsSomeAnd (slice_get scene.list.nodes i) (λ found. found.stop ≡ right) → j ≡ right
   stops_there i j right (node from to shape) stands is =
-      let e : stands.top.found.stop ≡ right = found_there (λ found. found.stop ≡ right) (slice_get list.nodes i) stands.top.found stands.top.stands_at is in
+      let e : stands.top.found.stop ≡ right = found_there (λ found. found.stop ≡ right) (slice_get scene.list.nodes i) stands.top.found stands.top.stands_at is in
       sym stands.top.last ∙ e
 
-  stops_here : (i j : ℕ) (tree : Tree) → Stands row.schema row.type_id [] list i j tree → IsSomeAnd (slice_get list.nodes i) (λ found. found.stop ≡ j)
-  stops_here i j (node from to shape) stands = there_found (λ found. found.stop ≡ j) (slice_get list.nodes i) stands.top.found stands.top.stands_at stands.top.last
+  stops_here : (i j : ℕ) (tree : Tree) → StandsHere scene i j tree → IsSomeAnd (slice_get scene.list.nodes i) (λ found. found.stop ≡ j)
+  stops_here i j (node from to shape) stands = there_found (λ found. found.stop ≡ j) (slice_get scene.list.nodes i) stands.top.found stands.top.stands_at stands.top.last
 
   module _ (place : ℕ) where
     -- the right operand stands where the left one says that it stops
-    pub right_stands : (right stop from to : ℕ) (operator : BinaryOperator) (l r : Tree) → IsRightOf list place right
-        → Stands row.schema row.type_id [] list place stop (node from to (binary operator l r))
-        → Stands row.schema row.type_id [] list right stop r
+    pub right_stands : (right stop from to : ℕ) (operator : BinaryOperator) (l r : Tree) → IsRightOf scene.list place right
+        → StandsHere scene place stop (node from to (binary operator l r))
+        → StandsHere scene right stop r
     right_stands right stop from to operator l r is stands =
-        subst (λ (m : ℕ). Stands row.schema row.type_id [] list m stop r)
+        subst (λ (m : ℕ). StandsHere scene m stop r)
         (stops_there (place + 1) stands.children.middle right l stands.children.left is) stands.children.right
 
-    module _ (operator : BinaryOperator) (here : HasKind list place (NodeKind.Binary operator)) (part : PartStands row [] list place) where
-      pub right_there : (right : ℕ) × IsRightOf list place right
-      right_there = by_kind row list place (NodeKind.Binary operator) here (λ stop tree. (right : ℕ) × IsRightOf list place right)
+    module _ (operator : BinaryOperator) (here : HasKind scene.list place (NodeKind.Binary operator)) (part : PartStands scene place) where
+      pub right_there : (right : ℕ) × IsRightOf scene.list place right
+      right_there = by_kind scene place (NodeKind.Binary operator) here (λ stop tree. (right : ℕ) × IsRightOf scene.list place right)
           (λ left right stop from to stands. (stands.children.middle, stops_here (place + 1) stands.children.middle left stands.children.left))
           part.stop part.tree part.stands
 
-      module _ (right_place : ℕ) (is_right : IsRightOf list place right_place) where
-        pub right_typed : (class : WalkClass) → walk_of_operator (class_of operator) ≡ class → TypedStands row [] list right_place (AllowedBy class)
-        right_typed class class_is = by_kind row list place (NodeKind.Binary operator) here (λ stop tree. TypedStands row [] list right_place (AllowedBy class))
+      module _ (right_place : ℕ) (is_right : IsRightOf scene.list place right_place) where
+        pub right_typed : (class : WalkClass) → walk_of_operator (class_of operator) ≡ class → TypedStands scene right_place (AllowedBy class)
+        right_typed class class_is = by_kind scene place (NodeKind.Binary operator) here (λ stop tree. TypedStands scene right_place (AllowedBy class))
             (λ left right stop from to stands. record {
               stop = stop;
               tree = right;
@@ -260,11 +280,11 @@ module _ (row : Row) (list : FlatTree) where
             })
             part.stop part.tree part.stands
 
-        pub right_part : PartStands row [] list right_place
-        right_part = let walk = walk_of_operator (class_of operator) in typed_part row list right_place (AllowedBy walk) (right_typed walk refl)
+        pub right_part : PartStands scene right_place
+        right_part = let walk = walk_of_operator (class_of operator) in typed_part scene right_place (AllowedBy walk) (right_typed walk refl)
 
         pub right_further : place < right_place
-        right_further = by_kind row list place (NodeKind.Binary operator) here (λ stop tree. place < right_place)
+        right_further = by_kind scene place (NodeKind.Binary operator) here (λ stop tree. place < right_place)
             (λ left right stop from to stands.
             let e : stands.children.middle ≡ right_place = stops_there (place + 1) stands.children.middle right_place left stands.children.left is_right in
             let f : place + 1 < stands.children.middle = further (place + 1) stands.children.middle left stands.children.left in

@@ -1,36 +1,42 @@
 -- What a filter's whole list comes to.
 use Rattle.std.proofs.Common.{◌≡◌, ◌∙◌, ℕ, [], Option, Some, None, Result, Err, Bool, length, sym, subst}
-use Rattle.std.specs.Prelude.{IsSomeAnd, IfSome}
+use Rattle.std.specs.Prelude.{IfSome}
 use Rattle.edm_values.specs.MomentParts.{MomentParts}
 use Rattle.csdl_schema.specs.SchemaModel.{SchemaModel, slots_of, type_name_at}
-use Rattle.edm_entities.specs.Row.{Row, IsEntity}
+use Rattle.edm_entities.specs.Row.{Row}
+use Rattle.odata_checked_filter.specs.Calls.{TakesMemory}
 use Rattle.odata_checked_filter.specs.Filter.{Filter, IsFilter, tree_of_filter}
+use Rattle.odata_checked_filter.specs.FlatTree.{FlatTree}
 use Rattle.odata_checked_filter.specs.Stands.{Stands}
 use Rattle.odata_expression_types.specs.Typed.{Typed}
 use Rattle.odata_eval.specs.declared.fault.EvalFault.{EvalFault}
-use Rattle.odata_eval.specs.EndsOnce.{EndsOnceOnEntities}
 use Rattle.odata_eval.specs.MeansOn.{IsTheOutcome}
 use Rattle.odata_eval.specs.Outcome.{Outcome}
 use Rattle.odata_eval.specs.TruthGives.{truth_val}
 use Rattle.odata_eval.specs.VerdictView.{fault_outcome}
 use Rattle.odata_eval.specs.private.DatumView.{answer_outcome}
 use Rattle.odata_eval.specs.private.Place.{TruthStands}
-use Rattle.odata_eval.specs.private.WalkAnswer.{AnswersTruth}
-use Rattle.odata_eval.proofs.walking.Parts.{MeansAt}
+use Rattle.odata_eval.specs.private.Scene.{EndsOnceHere, MeansHere, StandsHere, TypedHere}
+use Rattle.odata_eval.specs.private.SceneModel.{SceneModel}
+use Rattle.odata_eval.specs.private.WalkAnswer.{AnswersTruth, Tells}
 
-module _ (filter : Filter) (row : Row) (right : IsFilter filter) (one_schema : filter.schema ≡ row.schema) (one_type : filter.filtered ≡ row.type_id) where
-  whole_stands : Stands row.schema row.type_id [] filter.list 0 (length filter.list.nodes) (tree_of_filter filter)
+module _ (filter : Filter) (row : Row) (moment : MomentParts) (scene : SceneModel) (right : IsFilter filter) (one_schema : filter.schema ≡ row.schema)
+    (one_type : filter.filtered ≡ row.type_id) (is_row : scene.row ≡ row) (is_moment : scene.moment ≡ moment) (is_list : scene.list ≡ filter.list) where
+  whole_stands : StandsHere scene 0 (length filter.list.nodes) (tree_of_filter filter)
   whole_stands =
-      subst (λ (s : SchemaModel). Stands s row.type_id [] filter.list 0 (length filter.list.nodes) (tree_of_filter filter)) one_schema
-      (subst (λ (n : ℕ). Stands filter.schema n [] filter.list 0 (length filter.list.nodes) (tree_of_filter filter)) one_type right.stands)
+      subst (λ (r : Row). Stands r.schema r.type_id [] scene.list 0 (length filter.list.nodes) (tree_of_filter filter)) (sym is_row)
+      (subst (λ (l : FlatTree). Stands row.schema row.type_id [] l 0 (length filter.list.nodes) (tree_of_filter filter)) (sym is_list)
+      (subst (λ (s : SchemaModel). Stands s row.type_id [] filter.list 0 (length filter.list.nodes) (tree_of_filter filter)) one_schema
+      (subst (λ (n : ℕ). Stands filter.schema n [] filter.list 0 (length filter.list.nodes) (tree_of_filter filter)) one_type right.stands)))
 
-  whole_typed : Typed (slots_of row.schema) (type_name_at row.schema row.type_id) [] (tree_of_filter filter) right.type_of
+  whole_typed : TypedHere scene (tree_of_filter filter) right.type_of
   whole_typed =
-      subst (λ (s : SchemaModel). Typed (slots_of s) (type_name_at s row.type_id) [] (tree_of_filter filter) right.type_of) one_schema
-      (subst (λ (n : ℕ). Typed (slots_of filter.schema) (type_name_at filter.schema n) [] (tree_of_filter filter) right.type_of) one_type right.typed)
+      subst (λ (r : Row). Typed (slots_of r.schema) (type_name_at r.schema r.type_id) [] (tree_of_filter filter) right.type_of) (sym is_row)
+      (subst (λ (s : SchemaModel). Typed (slots_of s) (type_name_at s row.type_id) [] (tree_of_filter filter) right.type_of) one_schema
+      (subst (λ (n : ℕ). Typed (slots_of filter.schema) (type_name_at filter.schema n) [] (tree_of_filter filter) right.type_of) one_type right.typed))
 
   -- the whole is of type Boolean or Null
-  pub top_stands : TruthStands row [] filter.list 0
+  pub top_stands : TruthStands scene 0
   top_stands = record {
     stop = length filter.list.nodes;
     tree = tree_of_filter filter;
@@ -40,24 +46,27 @@ module _ (filter : Filter) (row : Row) (right : IsFilter filter) (one_schema : f
     allowed = right.truth;
   }
 
-  only_told : EndsOnceOnEntities → IsEntity row → (now : MomentParts) (told : Option Outcome)
-      → IsSomeAnd told (MeansAt row now (tree_of_filter filter)) → IfSome told (IsTheOutcome row now (tree_of_filter filter))
-  only_told ends entity now (Some o) related =
-      let e = ends row now [] (tree_of_filter filter) right.type_of entity tt whole_typed in
+  only_told : EndsOnceHere scene → (told : Option Outcome)
+      → Tells (TakesMemory (tree_of_filter filter)) (MeansHere scene (tree_of_filter filter)) told → IfSome told (IsTheOutcome scene.row scene.moment (tree_of_filter filter))
+  only_told ends (Some o) related =
+      let e = ends (tree_of_filter filter) right.type_of whole_typed in
       record { related = related; only = λ other of_other. e.only other of_other ∙ sym (e.only o related) }
-  only_told ends entity now None related = absurd related
+  only_told ends None related = tt
 
-  no_memory_told : (fault : EvalFault) (Told : Outcome → Type 0) → IsSomeAnd (fault_outcome fault) Told → fault ≡ EvalFault.Memory → ⊥
-  no_memory_told fault Told is same = subst (λ (f : EvalFault). IsSomeAnd (fault_outcome f) Told) same is
+  memory_told : (fault : EvalFault) (Takes : Type 0) (Means : Outcome → Type 0) → Tells Takes Means (fault_outcome fault) → fault ≡ EvalFault.Memory → Takes
+  memory_told fault Takes Means is same = subst (λ (f : EvalFault). Tells Takes Means (fault_outcome f)) same is
 
-  -- the walk takes no memory
-  pub top_no_memory : (now : MomentParts) (fault : EvalFault) → AnswersTruth row now [] filter.list 0 (Err fault) → fault ≡ EvalFault.Memory → ⊥
-  top_no_memory now fault answers =
-      no_memory_told fault (MeansAt row now (tree_of_filter filter))
+  -- the walk tells want of memory only where the filter takes memory
+  pub top_memory : (fault : EvalFault) → AnswersTruth scene 0 (Err fault) → fault ≡ EvalFault.Memory → TakesMemory (tree_of_filter filter)
+  top_memory fault answers =
+      memory_told fault (TakesMemory (tree_of_filter filter)) (MeansHere scene (tree_of_filter filter))
       (answers.of_tree (length filter.list.nodes) (tree_of_filter filter) right.type_of whole_stands whole_typed)
 
   -- what the walk answers of it is the filter's one outcome
-  pub top_outcome : EndsOnceOnEntities → IsEntity row → (now : MomentParts) (answer : Result (Option Bool) EvalFault)
-      → AnswersTruth row now [] filter.list 0 answer → IfSome (answer_outcome truth_val answer) (IsTheOutcome row now (tree_of_filter filter))
-  top_outcome ends entity now answer answers =
-      only_told ends entity now (answer_outcome truth_val answer) (answers.of_tree (length filter.list.nodes) (tree_of_filter filter) right.type_of whole_stands whole_typed)
+  pub top_outcome : EndsOnceHere scene → (answer : Result (Option Bool) EvalFault)
+      → AnswersTruth scene 0 answer → IfSome (answer_outcome truth_val answer) (IsTheOutcome row moment (tree_of_filter filter))
+  top_outcome ends answer answers =
+      subst (λ (r : Row). IfSome (answer_outcome truth_val answer) (IsTheOutcome r moment (tree_of_filter filter))) is_row
+      (subst (λ (m : MomentParts). IfSome (answer_outcome truth_val answer) (IsTheOutcome scene.row m (tree_of_filter filter))) is_moment
+      (only_told ends (answer_outcome truth_val answer)
+      (answers.of_tree (length filter.list.nodes) (tree_of_filter filter) right.type_of whole_stands whole_typed)))

@@ -1,21 +1,19 @@
 -- What the walk answers at a node with operands, from what it found of these.
 use Rattle.std.proofs.Common.{◌≡◌, ℕ, ℤ, ◌+◌, [], Bool, Option, Some, Result, Ok, slice_get, refl, sym, subst}
 use Rattle.std.specs.Prelude.{IsSomeAnd}
-use Rattle.edm_values.specs.MomentParts.{MomentParts}
+use Rattle.odata_checked_filter.specs.Calls.{TakesMemory}
 use Rattle.edm_values.specs.Val.{Val}
 use Rattle.odata_syntax.specs.Tree.{Tree, node, negation, binary}
 use Rattle.odata_syntax.specs.declared.node.BinaryOperator.{BinaryOperator}
 use Rattle.csdl_schema.specs.ExprType.{ExprType}
 use Rattle.csdl_schema.specs.SchemaModel.{SchemaModel, slots_of, type_name_at}
 use Rattle.edm_entities.specs.HasType.{HasType}
-use Rattle.edm_entities.specs.Row.{Row, IsEntity}
 use Rattle.odata_functions.specs.Connectives.{not3}
 use Rattle.odata_functions.specs.declared.arithmetic.ArithmeticOperator.{ArithmeticOperator}
 use Rattle.odata_checked_filter.specs.declared.checked_node.CheckedNode.{CheckedNode}
 use Rattle.odata_checked_filter.specs.declared.checked_node.NodeKind.{NodeKind}
 use Rattle.odata_signatures.specs.declared.operator_class.Connective.{Connective}
 use Rattle.odata_signatures.specs.declared.operator_class.OperatorClass.{OperatorClass}
-use Rattle.odata_checked_filter.specs.FlatTree.{FlatTree}
 use Rattle.odata_expression_types.specs.Laws.{OneType}
 use Rattle.odata_signatures.specs.TypeView.{expr_type}
 use Rattle.odata_signatures.specs.OperatorClass.{class_of}
@@ -24,7 +22,6 @@ use Rattle.odata_eval.specs.declared.fault.EvalFault.{EvalFault}
 use Rattle.odata_eval.specs.declared.part.WalkClass.{WalkClass}
 use Rattle.odata_eval.specs.CalculationGives.{CalculationGives, NegatedGives, number_val}
 use Rattle.odata_eval.specs.CompareGives.{CompareGives}
-use Rattle.odata_eval.specs.EndsOnce.{EndsOnceOnEntities}
 use Rattle.odata_eval.specs.LeftFirst.{After}
 use Rattle.odata_eval.specs.OperatorGives.{ClassGives, InType}
 use Rattle.odata_eval.specs.Outcome.{Outcome, gives}
@@ -33,23 +30,25 @@ use Rattle.odata_eval.specs.VerdictView.{fault_outcome}
 use Rattle.odata_eval.specs.private.DatumView.{answer_outcome}
 use Rattle.odata_eval.specs.private.Operands.{AreNumbers, IsOneNumber}
 use Rattle.odata_eval.specs.private.Place.{IsRightOf, PartStands}
-use Rattle.odata_eval.specs.private.WalkAnswer.{AnswersAtPlace, AnswersNumber, AnswersTruth}
+use Rattle.odata_eval.specs.private.Scene.{EndsOnceHere, MeansHere, StandsHere, TypedHere}
+use Rattle.odata_eval.specs.private.SceneModel.{SceneModel}
+use Rattle.odata_eval.specs.private.WalkAnswer.{AnswersAtPlace, AnswersNumber, AnswersTruth, Tells}
 use Rattle.odata_eval.specs.private.WalkClass.{IsDecided, walk_of_operator}
 use Rattle.odata_eval.proofs.meaning.LawsBelow.{Promotes}
 use Rattle.odata_eval.proofs.meaning.Numbers.{calculated_values, negated_value}
 use Rattle.odata_eval.proofs.meaning.Progress.{decided_gives, join_gives, not_gives, undecided_goes}
-use Rattle.odata_eval.proofs.walking.Parts.{HasKind, MeansAt, StandsHere, TypedAt, by_kind, goes_there, type_there}
-use Rattle.odata_eval.proofs.walking.Spines.{fault_stays, right_stands}
+use Rattle.odata_eval.proofs.walking.Parts.{HasKind, by_kind, goes_there, some_tells, tells_there, type_there}
+use Rattle.odata_eval.proofs.walking.Spines.{child_takes, fault_stays, right_stands, second_child}
 use Rattle.odata_eval.proofs.walking.Readings.{numbers_anywhere, one_number_anywhere}
 use Rattle.odata_eval.proofs.walking.WalkValues.{value_has}
 
 -- ---- faults of the right side
 
-undecided_faults : (connective : Connective) (left : Option Bool) (Right : Outcome → Type 0) (fault : EvalFault) → ¬ (IsDecided connective (truth_val left))
-    → IsSomeAnd (fault_outcome fault) Right → IsSomeAnd (fault_outcome fault) (ConnectiveGives connective (truth_val left) Right)
-undecided_faults connective left Right fault undecided is =
-    goes_there (fault_outcome fault) (After Right (JoinGives connective left)) (ConnectiveGives connective (truth_val left) Right)
-    (λ o goes. undecided_goes connective left Right o undecided goes) (fault_stays fault Right (JoinGives connective left) is)
+undecided_faults : (connective : Connective) (left : Option Bool) (Takes : Type 0) (Right : Outcome → Type 0) (fault : EvalFault) → ¬ (IsDecided connective (truth_val left))
+    → Tells Takes Right (fault_outcome fault) → Tells Takes (ConnectiveGives connective (truth_val left) Right) (fault_outcome fault)
+undecided_faults connective left Takes Right fault undecided is =
+    tells_there (fault_outcome fault) Takes Takes (After Right (JoinGives connective left)) (ConnectiveGives connective (truth_val left) Right) (λ takes. takes)
+    (λ o goes. undecided_goes connective left Right o undecided goes) (fault_stays fault Takes Takes Right (JoinGives connective left) (λ takes. takes) is)
 
 -- the operator takes the values of both sides
 abbrev pub TakesBoth : OperatorClass → Type 0
@@ -65,54 +64,56 @@ pub numbers_taken : (class : OperatorClass) → walk_of_operator class ≡ WalkC
 numbers_taken (OperatorClass.Arithmetic arithmetic) numeric = tt
 numbers_taken _ numeric = absurd (cc)
 
-both_fault : (class : OperatorClass) (NodeTyped : ExprType → Type 0) (l : Val) (Right : Outcome → Type 0) (fault : EvalFault)
-    → TakesBoth class → IsSomeAnd (fault_outcome fault) Right → IsSomeAnd (fault_outcome fault) (ClassGives class NodeTyped l Right)
-both_fault (OperatorClass.Connective connective) NodeTyped l Right fault both is = absurd both
-both_fault (OperatorClass.Comparison comparison) NodeTyped l Right fault both is = fault_stays fault Right (CompareGives comparison l) is
-both_fault (OperatorClass.Arithmetic arithmetic) NodeTyped l Right fault both is =
-    fault_stays fault Right (λ r. InType NodeTyped (λ type. CalculationGives arithmetic type l r)) is
+both_fault : (class : OperatorClass) (NodeTyped : ExprType → Type 0) (l : Val) (Takes : Type 0) (Right : Outcome → Type 0) (fault : EvalFault)
+    → TakesBoth class → Tells Takes Right (fault_outcome fault) → Tells Takes (ClassGives class NodeTyped l Right) (fault_outcome fault)
+both_fault (OperatorClass.Connective connective) NodeTyped l Takes Right fault both is = absurd both
+both_fault (OperatorClass.Comparison comparison) NodeTyped l Takes Right fault both is = fault_stays fault Takes Takes Right (CompareGives comparison l) (λ takes. takes) is
+both_fault (OperatorClass.Arithmetic arithmetic) NodeTyped l Takes Right fault both is =
+    fault_stays fault Takes Takes Right (λ r. InType NodeTyped (λ type. CalculationGives arithmetic type l r)) (λ takes. takes) is
 
-module _ (row : Row) (now : MomentParts) (list : FlatTree) (place : ℕ) where
+module _ (scene : SceneModel) (place : ℕ) where
   -- ---- `not`, and `-`
 
-  pub not_answers : (truth : Option Bool) → HasKind list place NodeKind.Not → AnswersTruth row now [] list (place + 1) (Ok truth) → AnswersTruth row now [] list place (Ok (not3 truth))
+  pub not_answers : (truth : Option Bool) → HasKind scene.list place NodeKind.Not → AnswersTruth scene (place + 1) (Ok truth) → AnswersTruth scene place (Ok (not3 truth))
   not_answers truth here first = record {
     of_tree = λ stop tree type stands typed.
-        by_kind row list place NodeKind.Not here (λ stop tree. TypedAt row tree type → MeansAt row now tree (gives (truth_val (not3 truth))))
+        by_kind scene place NodeKind.Not here (λ stop tree. TypedHere scene tree type → MeansHere scene tree (gives (truth_val (not3 truth))))
         (λ operand stop from to stands typed. (gives (truth_val truth), (first.of_tree stop operand typed.operand stands.children typed.operand_typed, not_gives truth)))
         stop tree stands typed;
   }
 
   -- the one type of the tree is that which the node tells
-  type_is : OneType → (found : CheckedNode) → slice_get list.nodes place ≡ Some found → (stop : ℕ) (tree : Tree) (type : ExprType) → StandsHere row list place stop tree → TypedAt row tree type
-      → expr_type row.schema found.edm_type ≡ type
+  type_is : OneType → (found : CheckedNode) → slice_get scene.list.nodes place ≡ Some found → (stop : ℕ) (tree : Tree) (type : ExprType) → StandsHere scene place stop tree → TypedHere scene tree type
+      → expr_type scene.row.schema found.edm_type ≡ type
   type_is types found at stop tree type stands typed =
-      types (slots_of row.schema) (type_name_at row.schema row.type_id) [] tree (expr_type row.schema found.edm_type) type
-      (type_there row list place found at stop tree stands) typed
+      types (slots_of scene.row.schema) (type_name_at scene.row.schema scene.row.type_id) [] tree (expr_type scene.row.schema found.edm_type) type
+      (type_there scene place found at stop tree stands) typed
 
-  module _ (number : Option ℤ) (found : CheckedNode) (at : slice_get list.nodes place ≡ Some found) (here : HasKind list place NodeKind.Neg)
-      (first : AnswersNumber row now [] list (place + 1) (Ok number)) where
+  module _ (number : Option ℤ) (found : CheckedNode) (at : slice_get scene.list.nodes place ≡ Some found) (here : HasKind scene.list place NodeKind.Neg)
+      (first : AnswersNumber scene (place + 1) (Ok number)) where
     -- a number or null before which `-` stands
-    pub negated_operand : EndsOnceOnEntities → IsEntity row → Promotes → PartStands row [] list place
+    pub negated_operand : EndsOnceHere scene → Promotes → PartStands scene place
         → (other : SchemaModel) → IsOneNumber (expr_type other found.edm_type) (number_val number)
-    negated_operand ends entity promotes part other =
-        let type = expr_type row.schema found.edm_type in
-        by_kind row list place NodeKind.Neg here (λ stop tree. TypedAt row tree type → IsOneNumber (expr_type other found.edm_type) (number_val number))
+    negated_operand ends promotes part other =
+        let type = expr_type scene.row.schema found.edm_type in
+        by_kind scene place NodeKind.Neg here (λ stop tree. TypedHere scene tree type → IsOneNumber (expr_type other found.edm_type) (number_val number))
         (λ operand stop from to stands typed.
-        let has = value_has ends row now entity operand typed.operand (number_val number) typed.operand_typed (first.of_tree stop operand typed.operand stands.children typed.operand_typed) in
-        one_number_anywhere row.schema other found.edm_type (number_val number)
-        (negated_value promotes (slots_of row.schema) typed.operand type (number_val number) typed.makes has))
-        part.stop part.tree part.stands (type_there row list place found at part.stop part.tree part.stands)
+        let has = value_has scene ends operand typed.operand (number_val number) typed.operand_typed (first.of_tree stop operand typed.operand stands.children typed.operand_typed) in
+        one_number_anywhere scene.row.schema other found.edm_type (number_val number)
+        (negated_value promotes (slots_of scene.row.schema) typed.operand type (number_val number) typed.makes has))
+        part.stop part.tree part.stands (type_there scene place found at part.stop part.tree part.stands)
 
     pub negation_answers : (answer : Result (Option ℤ) EvalFault) → OneType
         → ((schema : SchemaModel) → IsSomeAnd (answer_outcome number_val answer) (NegatedGives (expr_type schema found.edm_type) (number_val number)))
-        → AnswersNumber row now [] list place answer
+        → AnswersNumber scene place answer
     negation_answers answer types given = record {
       of_tree = λ stop tree type stands typed.
           let is = type_is types found at stop tree type stands typed in
-          by_kind row list place NodeKind.Neg here (λ stop tree. TypedAt row tree type → IsSomeAnd (answer_outcome number_val answer) (MeansAt row now tree))
+          by_kind scene place NodeKind.Neg here (λ stop tree. TypedHere scene tree type → Tells (TakesMemory tree) (MeansHere scene tree) (answer_outcome number_val answer))
           (λ operand stop from to stands typed.
-          goes_there (answer_outcome number_val answer) (NegatedGives (expr_type row.schema found.edm_type) (number_val number)) (MeansAt row now (node from to (negation operand)))
+          let whole = node from to (negation operand) in
+          some_tells (answer_outcome number_val answer) (TakesMemory whole) (MeansHere scene whole)
+          (goes_there (answer_outcome number_val answer) (NegatedGives (expr_type scene.row.schema found.edm_type) (number_val number)) (MeansHere scene whole)
           (λ o gives_it. (
             gives (number_val number),
             (
@@ -120,31 +121,31 @@ module _ (row : Row) (now : MomentParts) (list : FlatTree) (place : ℕ) where
               (type, typed, subst (λ (s : ExprType). NegatedGives s (number_val number) o) is gives_it),
             ),
           ))
-          (given row.schema))
+          (given scene.row.schema)))
           stop tree stands typed;
     }
 
   -- ---- operators with two operands
 
-  module _ (operator : BinaryOperator) (here : HasKind list place (NodeKind.Binary operator)) where
+  module _ (operator : BinaryOperator) (here : HasKind scene.list place (NodeKind.Binary operator)) where
     -- behind the left side's value goes what the class says of it and of the right side
     of_left : (class : OperatorClass) → class_of operator ≡ class → (l : ExprType → Val) (told : ExprType → Option Outcome)
-        → AnswersAtPlace row now [] list (place + 1) (λ type. Some (gives (l type)))
-        → ((stop from to : ℕ) (a b : Tree) (type : ExprType) → StandsHere row list place stop (node from to (binary operator a b))
-        → (typed : TypedAt row (node from to (binary operator a b)) type)
-        → IsSomeAnd (told type) (ClassGives class (TypedAt row (node from to (binary operator a b))) (l typed.left) (MeansAt row now b)))
-        → AnswersAtPlace row now [] list place told
+        → AnswersAtPlace scene (place + 1) (λ type. Some (gives (l type)))
+        → ((stop from to : ℕ) (a b : Tree) (type : ExprType) → StandsHere scene place stop (node from to (binary operator a b))
+        → (typed : TypedHere scene (node from to (binary operator a b)) type)
+        → Tells (TakesMemory (node from to (binary operator a b))) (ClassGives class (TypedHere scene (node from to (binary operator a b))) (l typed.left) (MeansHere scene b)) (told type))
+        → AnswersAtPlace scene place told
     of_left class class_is l told first goes = record {
       of_tree = λ stop tree type stands typed.
-          by_kind row list place (NodeKind.Binary operator) here (λ stop tree. TypedAt row tree type → IsSomeAnd (told type) (MeansAt row now tree))
+          by_kind scene place (NodeKind.Binary operator) here (λ stop tree. TypedHere scene tree type → Tells (TakesMemory tree) (MeansHere scene tree) (told type))
           (λ a b stop from to stands typed.
           let whole = node from to (binary operator a b) in
-          goes_there (told type) (ClassGives class (TypedAt row whole) (l typed.left) (MeansAt row now b)) (MeansAt row now whole)
+          tells_there (told type) (TakesMemory whole) (TakesMemory whole) (ClassGives class (TypedHere scene whole) (l typed.left) (MeansHere scene b)) (MeansHere scene whole) (λ takes. takes)
           (λ o gives_it. (
             gives (l typed.left),
             (
               first.of_tree stands.children.middle a typed.left stands.children.left typed.left_typed,
-              subst (λ (c : OperatorClass). ClassGives c (TypedAt row whole) (l typed.left) (MeansAt row now b) o) (sym class_is) gives_it,
+              subst (λ (c : OperatorClass). ClassGives c (TypedHere scene whole) (l typed.left) (MeansHere scene b) o) (sym class_is) gives_it,
             ),
           ))
           (goes stop from to a b type stands typed))
@@ -153,86 +154,89 @@ module _ (row : Row) (now : MomentParts) (list : FlatTree) (place : ℕ) where
 
     -- a connective whose left side decides
     pub decided_answers : (connective : Connective) (left : Option Bool) → class_of operator ≡ OperatorClass.Connective connective → IsDecided connective (truth_val left)
-        → AnswersTruth row now [] list (place + 1) (Ok left) → AnswersTruth row now [] list place (Ok left)
+        → AnswersTruth scene (place + 1) (Ok left) → AnswersTruth scene place (Ok left)
     decided_answers connective left class decided first =
         of_left (OperatorClass.Connective connective) class (λ type. truth_val left) (λ type. Some (gives (truth_val left))) first
-        (λ stop from to a b type stands typed. decided_gives connective left (MeansAt row now b) decided)
+        (λ stop from to a b type stands typed. decided_gives connective left (MeansHere scene b) decided)
 
-    module _ (right_place : ℕ) (is_right : IsRightOf list place right_place) where
+    module _ (right_place : ℕ) (is_right : IsRightOf scene.list place right_place) where
       -- and behind both answers what the class says of them
       pub of_sides : (class : OperatorClass) → class_of operator ≡ class → (l : ExprType → Val) (beside told : ExprType → Option Outcome)
-          → AnswersAtPlace row now [] list (place + 1) (λ type. Some (gives (l type))) → AnswersAtPlace row now [] list right_place beside
-          → ((stop : ℕ) (whole : Tree) (s t type : ExprType) (Right : Outcome → Type 0) → StandsHere row list place stop whole → TypedAt row whole type
-          → IsSomeAnd (beside t) Right → IsSomeAnd (told type) (ClassGives class (TypedAt row whole) (l s) Right))
-          → AnswersAtPlace row now [] list place told
+          → AnswersAtPlace scene (place + 1) (λ type. Some (gives (l type))) → AnswersAtPlace scene right_place beside
+          → ((stop : ℕ) (whole : Tree) (s t type : ExprType) (Right : Outcome → Type 0) → StandsHere scene place stop whole → TypedHere scene whole type
+          → Tells (TakesMemory whole) Right (beside t) → Tells (TakesMemory whole) (ClassGives class (TypedHere scene whole) (l s) Right) (told type))
+          → AnswersAtPlace scene place told
       of_sides class class_is l beside told first second goes =
           of_left class class_is l told first
           (λ stop from to a b type stands typed.
-          goes stop (node from to (binary operator a b)) typed.left typed.right type (MeansAt row now b) stands typed
-          (second.of_tree stop b typed.right (right_stands row list place right_place stop from to operator a b is_right stands) typed.right_typed))
+          goes stop (node from to (binary operator a b)) typed.left typed.right type (MeansHere scene b) stands typed
+          (tells_there (beside typed.right) (TakesMemory b) (TakesMemory (node from to (binary operator a b))) (MeansHere scene b) (MeansHere scene b)
+          (child_takes (node from to (binary operator a b)) b (second_child a b [])) (λ o is. is)
+          (second.of_tree stop b typed.right (right_stands scene place right_place stop from to operator a b is_right stands) typed.right_typed)))
 
       module _ (connective : Connective) (left : Option Bool) (class : class_of operator ≡ OperatorClass.Connective connective)
-          (undecided : ¬ (IsDecided connective (truth_val left))) (first : AnswersTruth row now [] list (place + 1) (Ok left)) where
-        pub joined_answers : (right : Option Bool) → AnswersTruth row now [] list right_place (Ok right) → AnswersTruth row now [] list place (Ok (joined connective left right))
+          (undecided : ¬ (IsDecided connective (truth_val left))) (first : AnswersTruth scene (place + 1) (Ok left)) where
+        pub joined_answers : (right : Option Bool) → AnswersTruth scene right_place (Ok right) → AnswersTruth scene place (Ok (joined connective left right))
         joined_answers right second =
             of_sides (OperatorClass.Connective connective) class (λ type. truth_val left) (λ type. Some (gives (truth_val right)))
             (λ type. Some (gives (truth_val (joined connective left right)))) first second
             (λ stop whole s t type Right stands typed given.
             undecided_goes connective left Right (gives (truth_val (joined connective left right))) undecided (gives (truth_val right), (given, join_gives connective left right)))
 
-        pub joined_faults : (fault : EvalFault) → AnswersAtPlace row now [] list right_place (λ type. fault_outcome fault) → AnswersAtPlace row now [] list place (λ type. fault_outcome fault)
+        pub joined_faults : (fault : EvalFault) → AnswersAtPlace scene right_place (λ type. fault_outcome fault) → AnswersAtPlace scene place (λ type. fault_outcome fault)
         joined_faults fault second =
             of_sides (OperatorClass.Connective connective) class (λ type. truth_val left) (λ type. fault_outcome fault) (λ type. fault_outcome fault) first second
-            (λ stop whole s t type Right stands typed is. undecided_faults connective left Right fault undecided is)
+            (λ stop whole s t type Right stands typed is. undecided_faults connective left (TakesMemory whole) Right fault undecided is)
 
       -- any other operator: the right side's fault, and what comes of both values, each by the type of its side
       pub both_faults : (l : ExprType → Val) (fault : EvalFault) → TakesBoth (class_of operator)
-          → AnswersAtPlace row now [] list (place + 1) (λ type. Some (gives (l type))) → AnswersAtPlace row now [] list right_place (λ type. fault_outcome fault)
-          → AnswersAtPlace row now [] list place (λ type. fault_outcome fault)
+          → AnswersAtPlace scene (place + 1) (λ type. Some (gives (l type))) → AnswersAtPlace scene right_place (λ type. fault_outcome fault)
+          → AnswersAtPlace scene place (λ type. fault_outcome fault)
       both_faults l fault both first second =
           of_sides (class_of operator) refl l (λ type. fault_outcome fault) (λ type. fault_outcome fault) first second
-          (λ stop whole s t type Right stands typed is. both_fault (class_of operator) (TypedAt row whole) (l s) Right fault both is)
+          (λ stop whole s t type Right stands typed is. both_fault (class_of operator) (TypedHere scene whole) (l s) (TakesMemory whole) Right fault both is)
 
       -- the operator makes a type of those of its sides, and the values have these
-      pub sides_there : (l r : ExprType → Val) → AnswersAtPlace row now [] list (place + 1) (λ type. Some (gives (l type)))
-          → AnswersAtPlace row now [] list right_place (λ type. Some (gives (r type)))
-          → EndsOnceOnEntities → IsEntity row → (found : CheckedNode) → slice_get list.nodes place ≡ Some found → PartStands row [] list place
-          → (left right : ExprType) × (ClassTyped (class_of operator) left right (expr_type row.schema found.edm_type)
-          × HasType (slots_of row.schema) left (l left) × HasType (slots_of row.schema) right (r right))
-      sides_there l r first second ends entity found at part =
-          let type = expr_type row.schema found.edm_type in
-          by_kind row list place (NodeKind.Binary operator) here (λ stop tree. TypedAt row tree type → (left right : ExprType) × (ClassTyped (class_of operator) left right type
-          × HasType (slots_of row.schema) left (l left) × HasType (slots_of row.schema) right (r right)))
+      pub sides_there : (l r : ExprType → Val) → AnswersAtPlace scene (place + 1) (λ type. Some (gives (l type)))
+          → AnswersAtPlace scene right_place (λ type. Some (gives (r type)))
+          → EndsOnceHere scene → (found : CheckedNode) → slice_get scene.list.nodes place ≡ Some found → PartStands scene place
+          → (left right : ExprType) × (ClassTyped (class_of operator) left right (expr_type scene.row.schema found.edm_type)
+          × HasType (slots_of scene.row.schema) left (l left) × HasType (slots_of scene.row.schema) right (r right))
+      sides_there l r first second ends found at part =
+          let type = expr_type scene.row.schema found.edm_type in
+          by_kind scene place (NodeKind.Binary operator) here (λ stop tree. TypedHere scene tree type → (left right : ExprType) × (ClassTyped (class_of operator) left right type
+          × HasType (slots_of scene.row.schema) left (l left) × HasType (slots_of scene.row.schema) right (r right)))
           (λ a b stop from to stands typed. (
             typed.left,
             typed.right,
             (
               typed.operator_typed,
-              value_has ends row now entity a typed.left (l typed.left) typed.left_typed (first.of_tree stands.children.middle a typed.left stands.children.left typed.left_typed),
-              value_has ends row now entity b typed.right (r typed.right) typed.right_typed
-                  (second.of_tree stop b typed.right (right_stands row list place right_place stop from to operator a b is_right stands) typed.right_typed),
+              value_has scene ends a typed.left (l typed.left) typed.left_typed (first.of_tree stands.children.middle a typed.left stands.children.left typed.left_typed),
+              value_has scene ends b typed.right (r typed.right) typed.right_typed
+                  (second.of_tree stop b typed.right (right_stands scene place right_place stop from to operator a b is_right stands) typed.right_typed),
             ),
           ))
-          part.stop part.tree part.stands (type_there row list place found at part.stop part.tree part.stands)
+          part.stop part.tree part.stands (type_there scene place found at part.stop part.tree part.stands)
 
-      module _ (left right : Option ℤ) (first : AnswersNumber row now [] list (place + 1) (Ok left)) (second : AnswersNumber row now [] list right_place (Ok right))
-          (arithmetic : ArithmeticOperator) (class : class_of operator ≡ OperatorClass.Arithmetic arithmetic) (found : CheckedNode) (at : slice_get list.nodes place ≡ Some found) where
-        pub numbers_there : EndsOnceOnEntities → IsEntity row → Promotes → PartStands row [] list place
+      module _ (left right : Option ℤ) (first : AnswersNumber scene (place + 1) (Ok left)) (second : AnswersNumber scene right_place (Ok right))
+          (arithmetic : ArithmeticOperator) (class : class_of operator ≡ OperatorClass.Arithmetic arithmetic) (found : CheckedNode) (at : slice_get scene.list.nodes place ≡ Some found) where
+        pub numbers_there : EndsOnceHere scene → Promotes → PartStands scene place
             → (other : SchemaModel) → AreNumbers (expr_type other found.edm_type) (number_val left) (number_val right)
-        numbers_there ends entity promotes part other =
-            let there = sides_there (λ type. number_val left) (λ type. number_val right) first second ends entity found at part in
-            numbers_anywhere row.schema other found.edm_type (number_val left) (number_val right)
-            (calculated_values promotes (slots_of row.schema) there.0 there.1 (expr_type row.schema found.edm_type) (number_val left) (number_val right)
-            (subst (λ (c : OperatorClass). ClassTyped c there.0 there.1 (expr_type row.schema found.edm_type)) class there.2.0) there.2.1 there.2.2)
+        numbers_there ends promotes part other =
+            let there = sides_there (λ type. number_val left) (λ type. number_val right) first second ends found at part in
+            numbers_anywhere scene.row.schema other found.edm_type (number_val left) (number_val right)
+            (calculated_values promotes (slots_of scene.row.schema) there.0 there.1 (expr_type scene.row.schema found.edm_type) (number_val left) (number_val right)
+            (subst (λ (c : OperatorClass). ClassTyped c there.0 there.1 (expr_type scene.row.schema found.edm_type)) class there.2.0) there.2.1 there.2.2)
 
         pub calculation_answers : (answer : Result (Option ℤ) EvalFault) → OneType
             → ((schema : SchemaModel) → IsSomeAnd (answer_outcome number_val answer) (CalculationGives arithmetic (expr_type schema found.edm_type) (number_val left) (number_val right)))
-            → AnswersNumber row now [] list place answer
+            → AnswersNumber scene place answer
         calculation_answers answer types given =
             of_sides (OperatorClass.Arithmetic arithmetic) class (λ type. number_val left) (λ type. Some (gives (number_val right))) (λ type. answer_outcome number_val answer) first second
             (λ stop whole s t type Right stands typed is.
-            goes_there (answer_outcome number_val answer) (CalculationGives arithmetic (expr_type row.schema found.edm_type) (number_val left) (number_val right))
-            (ClassGives (OperatorClass.Arithmetic arithmetic) (TypedAt row whole) (number_val left) Right)
+            some_tells (answer_outcome number_val answer) (TakesMemory whole) (ClassGives (OperatorClass.Arithmetic arithmetic) (TypedHere scene whole) (number_val left) Right)
+            (goes_there (answer_outcome number_val answer) (CalculationGives arithmetic (expr_type scene.row.schema found.edm_type) (number_val left) (number_val right))
+            (ClassGives (OperatorClass.Arithmetic arithmetic) (TypedHere scene whole) (number_val left) Right)
             (λ o gives_it. (
               gives (number_val right),
               (
@@ -244,4 +248,4 @@ module _ (row : Row) (now : MomentParts) (list : FlatTree) (place : ℕ) where
                 ),
               ),
             ))
-            (given row.schema))
+            (given scene.row.schema)))

@@ -1,6 +1,5 @@
 -- What the walk answers at a node, from what it found of the operands.
-use Rattle.std.proofs.Common.{◌≡◌, ℕ, [], Some, Ok, sym, subst}
-use Rattle.edm_values.specs.MomentParts.{MomentParts}
+use Rattle.std.proofs.Common.{◌≡◌, ℕ, Some, Ok, sym, subst}
 use Rattle.edm_values.specs.Val.{Val}
 use Rattle.edm_values.specs.declared.datum.Datum.{Datum}
 use Rattle.edm_values.specs.declared.value.Value.{Value}
@@ -8,63 +7,63 @@ use Rattle.odata_syntax.specs.Tree.{Tree}
 use Rattle.csdl_schema.specs.ExprType.{ExprType}
 use Rattle.csdl_schema.specs.SchemaModel.{slots_of}
 use Rattle.edm_entities.specs.HasType.{HasType}
-use Rattle.edm_entities.specs.Row.{Row, IsEntity, val_of}
+use Rattle.edm_entities.specs.Row.{val_of}
 use Rattle.odata_functions.specs.DatumVal.{Reading, datum_val}
-use Rattle.odata_checked_filter.specs.FlatTree.{FlatTree}
-use Rattle.odata_eval.specs.EndsOnce.{EndsOnceOnEntities, IsOutcomeOf}
+use Rattle.odata_eval.specs.EndsOnce.{IsOutcomeOf}
 use Rattle.odata_eval.specs.Outcome.{Outcome, gives}
 use Rattle.odata_eval.specs.private.DatumView.{IsDatumOf, reading_at}
 use Rattle.odata_eval.specs.private.Place.{TypedStands}
+use Rattle.odata_eval.specs.private.Scene.{EndsOnceHere, MeansHere, TypedHere}
+use Rattle.odata_eval.specs.private.SceneModel.{SceneModel}
 use Rattle.odata_eval.specs.private.WalkAnswer.{AnswersAtPlace, AnswersDatum, AnswersKept}
-use Rattle.odata_eval.proofs.walking.Parts.{MeansAt, TypedAt}
 use Rattle.odata_eval.proofs.walking.Readings.{PlainValues, value_read}
 
 -- what a tree comes to is of its type
-pub value_has : EndsOnceOnEntities → (row : Row) (now : MomentParts) → IsEntity row
-    → (tree : Tree) (type : ExprType) (v : Val) → TypedAt row tree type → MeansAt row now tree (gives v) → HasType (slots_of row.schema) type v
-value_has ends row now entity tree type v typed related =
-    let e = ends row now [] tree type entity tt typed in
-    subst (λ (o : Outcome). IsOutcomeOf (slots_of row.schema) type o) (sym (e.only (gives v) related)) e.of_type
+pub value_has : (scene : SceneModel) → EndsOnceHere scene
+    → (tree : Tree) (type : ExprType) (v : Val) → TypedHere scene tree type → MeansHere scene tree (gives v) → HasType (slots_of scene.row.schema) type v
+value_has scene ends tree type v typed related =
+    let e = ends tree type typed in
+    subst (λ (o : Outcome). IsOutcomeOf (slots_of scene.row.schema) type o) (sym (e.only (gives v) related)) e.of_type
 
-module _ (row : Row) (now : MomentParts) (list : FlatTree) (place : ℕ) where
+module _ (scene : SceneModel) (place : ℕ) where
   -- an answer is one by any other name
   pub same_values : (v w : ExprType → Val) → ((type : ExprType) → v type ≡ w type)
-      → AnswersAtPlace row now [] list place (λ type. Some (gives (v type))) → AnswersAtPlace row now [] list place (λ type. Some (gives (w type)))
+      → AnswersAtPlace scene place (λ type. Some (gives (v type))) → AnswersAtPlace scene place (λ type. Some (gives (w type)))
   same_values v w same answers = record {
-    of_tree = λ stop tree type stands typed. subst (λ (u : Val). MeansAt row now tree (gives u)) (same type) (answers.of_tree stop tree type stands typed);
+    of_tree = λ stop tree type stands typed. subst (λ (u : Val). MeansHere scene tree (gives u)) (same type) (answers.of_tree stop tree type stands typed);
   }
 
   -- a kept value, as it is passed on
-  pub kept_datum : (value : Value) (made : Datum) → AnswersKept row now [] list place value → IsDatumOf value made → AnswersDatum row now [] list place (Ok made)
+  pub kept_datum : (value : Value) (made : Datum) → AnswersKept scene place value → IsDatumOf value made → AnswersDatum scene place (Ok made)
   kept_datum value made kept same =
-      let slots = slots_of row.schema in
+      let slots = slots_of scene.row.schema in
       same_values (val_of value slots) (λ type. datum_val (reading_at slots type) made) (λ type. sym (same slots type)) kept
 
   -- what is made stands for one value under each reading, and back
-  pub read_value : (made : Datum) (v : Val) → AnswersDatum row now [] list place (Ok made) → ((reading : Reading) → datum_val reading made ≡ v)
-      → AnswersAtPlace row now [] list place (λ type. Some (gives v))
+  pub read_value : (made : Datum) (v : Val) → AnswersDatum scene place (Ok made) → ((reading : Reading) → datum_val reading made ≡ v)
+      → AnswersAtPlace scene place (λ type. Some (gives v))
   read_value made v answers same =
-      let slots = slots_of row.schema in
+      let slots = slots_of scene.row.schema in
       same_values (λ type. datum_val (reading_at slots type) made) (λ type. v) (λ type. same (reading_at slots type)) answers
 
-  pub made_value : (made : Datum) (v : Val) → AnswersAtPlace row now [] list place (λ type. Some (gives v)) → ((reading : Reading) → datum_val reading made ≡ v)
-      → AnswersDatum row now [] list place (Ok made)
+  pub made_value : (made : Datum) (v : Val) → AnswersAtPlace scene place (λ type. Some (gives v)) → ((reading : Reading) → datum_val reading made ≡ v)
+      → AnswersDatum scene place (Ok made)
   made_value made v answers same =
-      let slots = slots_of row.schema in
+      let slots = slots_of scene.row.schema in
       same_values (λ type. v) (λ type. datum_val (reading_at slots type) made) (λ type. sym (same (reading_at slots type))) answers
 
   -- a value that the type of its node allows, and so what is made, under each reading
-  pub typed_value : (v : ExprType → Val) → AnswersAtPlace row now [] list place (λ type. Some (gives (v type)))
-      → {Held : Type 0} (values : PlainValues Held) → EndsOnceOnEntities → IsEntity row → (stands : TypedStands row [] list place values.Allowed)
+  pub typed_value : (v : ExprType → Val) → AnswersAtPlace scene place (λ type. Some (gives (v type)))
+      → {Held : Type 0} (values : PlainValues Held) → EndsOnceHere scene → (stands : TypedStands scene place values.Allowed)
       → (held : Held) × (v stands.type_of ≡ values.val held)
-  typed_value v answers values ends entity stands =
-      values.has (slots_of row.schema) stands.type_of (v stands.type_of) stands.allowed
-      (value_has ends row now entity stands.tree stands.type_of (v stands.type_of) stands.typed
+  typed_value v answers values ends stands =
+      values.has (slots_of scene.row.schema) stands.type_of (v stands.type_of) stands.allowed
+      (value_has scene ends stands.tree stands.type_of (v stands.type_of) stands.typed
       (answers.of_tree stands.stop stands.tree stands.type_of stands.stands stands.typed))
 
-  pub value_there : {Held : Type 0} (values : PlainValues Held) → EndsOnceOnEntities → IsEntity row → (made : Datum) → TypedStands row [] list place values.Allowed
-      → AnswersDatum row now [] list place (Ok made) → (reading : Reading) → (held : Held) × (datum_val reading made ≡ values.val held)
-  value_there values ends entity made stands answers reading =
-      let slots = slots_of row.schema in
-      let held = typed_value (λ type. datum_val (reading_at slots type) made) answers values ends entity stands in
+  pub value_there : {Held : Type 0} (values : PlainValues Held) → EndsOnceHere scene → (made : Datum) → TypedStands scene place values.Allowed
+      → AnswersDatum scene place (Ok made) → (reading : Reading) → (held : Held) × (datum_val reading made ≡ values.val held)
+  value_there values ends made stands answers reading =
+      let slots = slots_of scene.row.schema in
+      let held = typed_value (λ type. datum_val (reading_at slots type) made) answers values ends stands in
       (held.0, value_read (reading_at slots stands.type_of) reading made (values.val held.0) (values.plain held.0) held.1)

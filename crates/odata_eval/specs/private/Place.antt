@@ -1,47 +1,44 @@
--- For private clauses: what stands in a place of a filter's list, seen from an entity of the filtered type.
+-- For private clauses: what stands in a place of a filter's list, seen from where it is evaluated.
 use Rattle.std.specs.Prelude.{◌≡◌, ℕ, ◌+◌, Option, IsSomeAnd, slice_get}
 use Rattle.edm_values.specs.declared.primitive.PrimitiveType.{PrimitiveType}
 use Rattle.odata_syntax.specs.Tree.{Tree}
 use Rattle.odata_syntax.specs.declared.node.BinaryOperator.{BinaryOperator}
 use Rattle.csdl_schema.specs.ExprType.{ExprType}
-use Rattle.csdl_schema.specs.SchemaModel.{slots_of, type_name_at}
-use Rattle.edm_entities.specs.Row.{Row}
 use Rattle.odata_checked_filter.specs.declared.checked_node.NodeKind.{NodeKind}
 use Rattle.odata_signatures.specs.declared.operator_class.OperatorClass.{OperatorClass}
 use Rattle.odata_signatures.specs.OperatorClass.{class_of}
 use Rattle.odata_signatures.specs.ExprTypes.{IsBooleanOrNull, IsNumberOrNull}
 use Rattle.odata_checked_filter.specs.FlatTree.{FlatTree}
-use Rattle.odata_checked_filter.specs.Stands.{Stands}
-use Rattle.odata_expression_types.specs.Typed.{Scope, Typed}
 use Rattle.odata_eval.specs.declared.part.WalkClass.{WalkClass}
+use Rattle.odata_eval.specs.private.Scene.{StandsHere, TypedHere}
+use Rattle.odata_eval.specs.private.SceneModel.{SceneModel}
 use Rattle.odata_eval.specs.private.WalkClass.{walk_of_kind}
 
--- something stands there, where these variables are in scope
-pub record PartStands (row : Row) (scope : Scope) (list : FlatTree) (place : ℕ) : Type 0 where
+-- something stands there
+pub record PartStands (scene : SceneModel) (place : ℕ) : Type 0 where
   pub stop : ℕ
   pub tree : Tree
-  pub stands : Stands row.schema row.type_id scope list place stop tree
+  pub stands : StandsHere scene place stop tree
 
 -- and it has a type that is allowed there
-pub record TypedStands
-    (row : Row) (scope : Scope) (list : FlatTree) (place : ℕ) (Allowed : ExprType → Type 0) : Type 0 where
+pub record TypedStands (scene : SceneModel) (place : ℕ) (Allowed : ExprType → Type 0) : Type 0 where
   pub stop : ℕ
   pub tree : Tree
-  pub stands : Stands row.schema row.type_id scope list place stop tree
+  pub stands : StandsHere scene place stop tree
   pub type_of : ExprType
-  pub typed : Typed (slots_of row.schema) (type_name_at row.schema row.type_id) scope tree type_of
+  pub typed : TypedHere scene tree type_of
   pub allowed : Allowed type_of
 
 -- Boolean or Null
-abbrev pub TruthStands : Row → Scope → FlatTree → ℕ → Type 0
-TruthStands row scope list place = TypedStands row scope list place IsBooleanOrNull
+abbrev pub TruthStands : SceneModel → ℕ → Type 0
+TruthStands scene place = TypedStands scene place IsBooleanOrNull
 
 -- a number type or Null
 abbrev pub IsNumberOperand : ExprType → Type 0
 IsNumberOperand type = (number : Option PrimitiveType) × IsNumberOrNull type number
 
-abbrev pub NumberStands : Row → Scope → FlatTree → ℕ → Type 0
-NumberStands row scope list place = TypedStands row scope list place IsNumberOperand
+abbrev pub NumberStands : SceneModel → ℕ → Type 0
+NumberStands scene place = TypedStands scene place IsNumberOperand
 
 -- the walk takes the node there so
 abbrev pub IsClassAt : FlatTree → WalkClass → ℕ → Type 0

@@ -6,13 +6,13 @@ use Rattle.odata_eval.proofs.walking.Parts.{there_found}
 use Rattle.odata_eval.proofs.part.leaf_at.Goals as goal
 
 pub returns-in-Literal : goal.returns-in-Literal
-returns-in-Literal c = λ now.
-    literal_answers c.args.entity.now c.args.checked.now.list c.args.place _ c.in-Literal.value
-    (there_found (λ (f : CheckedNode). f.kind ≡ NodeKind.Literal _ c.in-Literal.value) _ c.node_at.result.now c.node_at.ensures c.in-Literal.is) now
-    c.literal_at.result.now c.literal_at.ensures
+returns-in-Literal c =
+    literal_answers c.args.scene.now c.args.place _ c.in-Literal.value
+    (there_found (λ (f : CheckedNode). f.kind ≡ NodeKind.Literal _ c.in-Literal.value) _ c.node.result.now c.node.ensures c.in-Literal.is)
+    c.literal.result.now c.literal.ensures
 
 pub returns-in-Property : goal.returns-in-Property
-returns-in-Property c = λ now.
-    property_answers c.args.entity.now c.args.checked.now.list c.args.place c.in-Property.slot
-    (there_found (λ (f : CheckedNode). f.kind ≡ NodeKind.Property c.in-Property.slot) _ c.node_at.result.now c.node_at.ensures c.in-Property.is) now
-    c.value_at.result.now c.value_at.ensures
+returns-in-Property c =
+    property_answers c.args.scene.now c.args.place c.in-Property.slot
+    (there_found (λ (f : CheckedNode). f.kind ≡ NodeKind.Property c.in-Property.slot) _ c.node.result.now c.node.ensures c.in-Property.is)
+    c.property.result.now c.property.ensures

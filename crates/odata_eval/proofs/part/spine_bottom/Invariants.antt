@@ -5,7 +5,7 @@ use Rattle.odata_eval.proofs.part.spine_bottom.Given as goal
 abbrev pub invariant-loop-place : goal.invariant-loop-place
 invariant-loop-place l = record {
   below : l.top ≤ l.place;
-  spine : (k : ℕ) → k < l.place → l.top ≤ k → IsClassAt l.checked.list l.class k;
+  spine : (k : ℕ) → k < l.place → l.top ≤ k → IsClassAt l.scene.list l.class k;
 }
 
 abbrev pub decreases-loop-place : goal.decreases-loop-place

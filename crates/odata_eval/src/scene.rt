@@ -1,0 +1,140 @@
+//! What does not change on a walk of a filter's list.
+ghost use Rattle.std.specs.Prelude.{◌≡◌, ◌<◌, Some, Vec, length, slice_get};
+ghost use Rattle.std.specs.declared.alloc.Global.{Global};
+ghost use Rattle.edm_values.specs.declared.value.Value.{Value, Record, Moment as MomentValue};
+ghost use Rattle.csdl_schema.specs.SchemaModel.{properties_at};
+ghost use Rattle.edm_entities.specs.Row.{IsEntity};
+ghost use Rattle.odata_checked_filter.specs.Filter.{IsFilter};
+ghost use Rattle.odata_eval.specs.private.Scene.{EndsOnceHere, HoldsAt};
+
+use super::laws::typed_trees_end_once_on_entities;
+use edm_entities::Entity;
+use edm_values::{Moment, Value};
+use odata_typing::{Checked, CheckedNode};
+use std::marker::Model;
+
+/// A filter, an entity of its type and a moment, with what the walk reads of them at hand.
+#[derive(Drop)]
+pub(crate) struct Scene<'e, 'c, 'r> {
+    checked: &'e Checked<'c>,
+    entity: &'e Entity<'r>,
+    moment: &'e Moment,
+    nodes: &'e [CheckedNode],
+    values: &'e [Value],
+    slots: &'e [Value],
+    now_value: &'e Value,
+}
+
+impl<'e, 'c, 'r> Model for Scene<'e, 'c, 'r> {
+    ghost use Rattle.odata_checked_filter.specs.contracts.checked_node.CheckedNode as checked_node;
+    ghost use Rattle.edm_values.specs.contracts.value.Value as value;
+    ghost use Rattle.std.specs.Coded.{codes};
+    ghost use Rattle.odata_eval.specs.private.SceneModel.{SceneModel, IsScene};
+
+    ghost Value = { SceneModel };
+
+    ghost coded = { Prim.hlevel (codes, checked_node.the_row.coded, value.the_row.coded) };
+
+    ghost view = { λ s. record { row = s.entity.now; moment = s.moment.now; list = s.checked.now.list } };
+
+    ghost invariant = { λ s. IsScene (record { row = s.entity.now; moment = s.moment.now; list = s.checked.now.list })
+        s.nodes.now s.values.now s.slots.now s.now_value.now };
+}
+
+impl<'e, 'c, 'r> Scene<'e, 'c, 'r> {
+    /// The scene of a filter, an entity and a moment. `now_value` is the moment as a value, which the caller keeps.
+    pub(crate) fn of(
+        checked: &'e Checked<'c>,
+        entity: &'e Entity<'r>,
+        moment: &'e Moment,
+        now_value: &'e Value,
+    ) -> Scene<'e, 'c, 'r>
+        requires { now_value.now ≡ MomentValue moment.now }
+        ensures row { result.row ≡ entity.entry.now }
+        ensures moment { result.moment ≡ moment.entry.now }
+        ensures list { result.list ≡ checked.entry.now.list }
+    {
+        let slots = match entity.value() {
+            Value::Record(slots) => slots.as_slice(),
+            _ => unreachable!(),
+        };
+        Scene {
+            checked,
+            entity,
+            moment,
+            nodes: checked.nodes(),
+            values: checked.values(),
+            slots,
+            now_value,
+        }
+    }
+
+    /// A law: an expression that has a type has exactly one outcome here.
+    pub(crate) fn ends_once(&self)
+        ensures { EndsOnceHere self.now }
+    {
+        typed_trees_end_once_on_entities();
+        let _entity = &self.entity;
+    }
+
+    /// The nodes of the filter's list.
+    pub(crate) fn nodes(&self) -> &'e [CheckedNode]
+        ensures { result.now ≡ self.now.list.nodes }
+    {
+        self.nodes
+    }
+
+    /// The node in a place.
+    pub(crate) fn node(&self, place: usize) -> &'e CheckedNode
+        requires { place < length self.now.list.nodes }
+        ensures { slice_get self.now.list.nodes place ≡ Some result.now }
+    {
+        &self.nodes()[place]
+    }
+
+    /// The values of the filter's literals.
+    fn values(&self) -> &'e [Value]
+        ensures { result.now ≡ self.now.list.values }
+    {
+        self.values
+    }
+
+    /// A literal's value.
+    pub(crate) fn literal(&self, place: usize) -> &'e Value
+        requires { place < length self.now.list.values }
+        ensures { slice_get self.now.list.values place ≡ Some result.now }
+    {
+        &self.values()[place]
+    }
+
+    /// The entity's values by slot.
+    fn slots(&self) -> &'e [Value]
+        ensures held { (held : Vec Value Global)
+            × ((self.now.row.value ≡ Record held) × (result.now ≡ held.items)) }
+        ensures count { length result.now ≡ length (properties_at self.now.row.schema self.now.row.type_id) }
+    {
+        self.slots
+    }
+
+    /// The value in a slot of the entity.
+    pub(crate) fn property(&self, slot: usize) -> &'e Value
+        requires { slot < length (properties_at self.now.row.schema self.now.row.type_id) }
+        ensures { HoldsAt self.now.row slot result.now }
+    {
+        &self.slots()[slot]
+    }
+
+    /// The entity's value.
+    pub(crate) fn value(&self) -> &'e Value
+        ensures { result.now ≡ self.now.row.value }
+    {
+        self.entity.value()
+    }
+
+    /// The moment that `now` stands for.
+    pub(crate) fn now_value(&self) -> &'e Value
+        ensures { result.now ≡ MomentValue self.now.moment }
+    {
+        self.now_value
+    }
+}
