@@ -1,1 +1,2 @@
+pub mod functions
 pub mod types

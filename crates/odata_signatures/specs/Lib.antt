@@ -2,10 +2,13 @@ pub use Rattle.csdl_schema.specs.ExprType
 pub use Rattle.csdl_schema.specs.SchemaModel
 pub use Rattle.edm_values.specs.NumberTypes
 pub use Rattle.odata_functions.specs.Promotion
-pub mod ExprTypes
+pub mod ArgumentTypes
+pub mod CallTyped
 pub mod ComparableTypes
+pub mod ExprTypes
+pub mod Functions
+pub mod ManyValues
 pub mod OperatorClass
 pub mod OperatorTyped
-pub mod TypeView
-pub mod ManyValues
 pub mod TypeThere
+pub mod TypeView

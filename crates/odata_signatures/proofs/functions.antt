@@ -1,0 +1,4 @@
+-- Functions by their names, and the types of calls.
+pub mod Arguments
+pub mod Calls
+pub mod Names
