@@ -67,7 +67,7 @@ less_four base c d xs ys h = ⊎_elim
     (digits c d h)
 
 -- how a character is encoded, by its size
-data Form (c : ℕ) : Type 0 where
+pub data Form (c : ℕ) : Type 0 where
   one : c < 128 → encode c ≡ c ∷ [] → Form c
   two : 128 ≤ c → c < 2048 → encode c ≡ (192 + c / 64) ∷ (128 + c % 64) ∷ [] → Form c
   three : 2048 ≤ c → c < 65536 → encode c ≡ (224 + c / 64 / 64) ∷ (128 + c / 64 % 64) ∷ (128 + c % 64) ∷ [] → Form c
@@ -88,7 +88,7 @@ encode-four : (c : ℕ) → 65536 ≤ c
 unfolding encode
 encode-four c low = sym (cond_above c 128 _ _ _ (omega arith) (cond_above c 2048 _ _ _ (omega arith) (cond_above c 65536 _ _ _ low refl)))
 
-form : (c : ℕ) → Form c
+pub form : (c : ℕ) → Form c
 form c =
     let by_64 : c / 4096 ≡ c / 64 / 64 = omega arith in
     let by_4096 : c / 262144 ≡ c / 64 / 64 / 64 = omega arith in

@@ -4,3 +4,4 @@ pub mod Encodings
 pub mod Numbers
 pub mod TextOrder
 pub mod Widening
+pub mod texts

@@ -11,3 +11,5 @@ pub mod DatumVal
 pub mod Division
 pub mod KeptVal
 pub mod Promotion
+pub mod Texts
+pub mod private

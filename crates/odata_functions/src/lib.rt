@@ -6,15 +6,23 @@ mod arithmetic;
 mod comparability;
 mod comparison;
 mod connectives;
+mod kept_text;
 mod laws;
+mod made_text;
 mod promoting;
+mod text_parts;
+mod text_search;
 
 pub use arithmetic::{ArithFault, ArithmeticOperator, arith, negate};
 pub use comparability::comparable;
 pub use comparison::{ComparisonOperator, compare, compare_values};
 pub use connectives::{and3, not3, or3};
+pub use kept_text::{part_of_text, rest_of_text, trim_text};
 pub use laws::{
     arithmetic_has_one_answer, comparisons_are_decided, divisions_are_unique,
     operands_lie_within_promotion, texts_in_byte_order,
 };
+pub use made_text::{concat, to_lower, to_upper};
 pub use promoting::{negation_type, promotion};
+pub use text_parts::{part_from, rest_from, trim};
+pub use text_search::{contains, ends_with, index_of, starts_with, text_length};

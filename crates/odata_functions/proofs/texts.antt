@@ -1,0 +1,6 @@
+-- Functions of texts: bytes and the characters that they spell.
+pub mod Characters
+pub mod Letters
+pub mod Offsets
+pub mod Searches
+pub mod Trims
