@@ -21,7 +21,7 @@ use Rattle.odata_functions.proofs.TextOrder.{only_greater}
 abbrev pub Told : Type 0 → Type 0
 Told P = (answer : Bool) × (IsTrue answer ↔ P)
 
-never : {P : Type 0} → (P → ⊥) → Told P
+pub never : {P : Type 0} → (P → ⊥) → Told P
 never none = (false, (λ is. cc, λ p. absurd (none p)))
 
 told_not : {P : Type 0} → Told P → Told (¬ P)

@@ -1,3 +1,4 @@
+pub mod Calendar
 pub mod Decided
 pub mod Divisions
 pub mod Encodings

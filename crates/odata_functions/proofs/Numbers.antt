@@ -10,6 +10,7 @@ use Rattle.edm_values.specs.declared.primitive.PrimitiveType.TheVariants as type
 use Rattle.odata_functions.specs.Arithmetic.{MakesNumber, IsDividing, ComesWithin, NumbersGive, ArithmeticGives, NegationGives}
 use Rattle.odata_functions.specs.Division.{IsDivision}
 use Rattle.odata_functions.specs.Promotion.{IsPromoted}
+use Rattle.odata_functions.specs.Texts.{CountComes}
 use Rattle.odata_functions.specs.declared.arithmetic.ArithFault.{ArithFault}
 use Rattle.odata_functions.specs.declared.arithmetic.ArithFault.TheVariants.{Overflow, DivideByZero}
 use Rattle.odata_functions.specs.declared.arithmetic.ArithmeticOperator.{ArithmeticOperator}
@@ -103,6 +104,18 @@ module _ (n : ℤ) where
 
   comes_to : (kind : PrimitiveType) → IsPromoted kind → (x : Result (Option ℤ) ArithFault) × ComesWithin kind n x
   comes_to kind is = ⊎_elim (λ h. (Ok (Some n), (refl, h))) (λ no. (Err Overflow, (refl, no))) (within_or_not kind is)
+
+pub count_there : (n : ℤ) → (x : Result ℤ ArithFault) × CountComes n x
+count_there n = ⊎_elim (λ h. (Ok n, (refl, h))) (λ no. (Err Overflow, (refl, no))) (within_or_not n type.Int32 tt)
+
+pub count_once : (n : ℤ) (x y : Result ℤ ArithFault) → CountComes n x → CountComes n y → x ≡ y
+count_once n (Ok x) (Ok y) first second =
+    let same : Some x ≡ Some y = first.0 ∙ sym second.0 in
+    let f : x ≡ y = cc in
+    ap Ok f
+count_once n (Ok x) (Err y) first second = absurd (second.1 first.1)
+count_once n (Err x) (Ok y) first second = absurd (first.1 second.1)
+count_once n (Err x) (Err y) first second = ap Err (first.0 ∙ sym second.0)
 
 pub negation_there : (kind : PrimitiveType) (operand : Option ℤ) → IsPromoted kind → (x : Result (Option ℤ) ArithFault) × NegationGives kind operand x
 negation_there kind None is = (Ok None, refl)

@@ -1,6 +1,8 @@
 -- Functions of texts: bytes and the characters that they spell.
 pub mod Characters
+pub mod Decisions
 pub mod Letters
 pub mod Offsets
+pub mod OneTrim
 pub mod Searches
 pub mod Trims

@@ -7,8 +7,10 @@ pub mod Arithmetic
 pub mod Comparable
 pub mod Comparison
 pub mod Connectives
+pub mod DateParts
 pub mod DatumVal
 pub mod Division
+pub mod Gregorian
 pub mod KeptVal
 pub mod Promotion
 pub mod Texts

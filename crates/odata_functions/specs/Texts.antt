@@ -1,4 +1,5 @@
--- Texts as lists of characters, which are Unicode scalar values (OData URL Conventions 4.01, section 5.1.1.5).
+-- Texts as lists of characters, which are Unicode scalar values (OData URL Conventions 4.01, sections 5.1.1.5 and
+-- 5.1.1.7).
 use Rattle.std.specs.Prelude.{◌≡◌, ◌<◌, ℕ, ℤ, pos, negsuc, List, [], ◌∷◌, ◌++◌, IsTrue, length, take, drop, Some, Result}
 use Rattle.std.specs.Char.{is_whitespace}
 use Rattle.std.specs.List.{AllByRecursion}

@@ -1,11 +1,14 @@
-//! What the operators of a filter make of values: logic, comparison and arithmetic (OData URL Conventions 4.01,
-//! sections 5.1.1.1 and 5.1.1.2). Nothing here takes memory.
+//! What the operators and functions of a filter make of values: logic, comparison, arithmetic, texts and dates (OData
+//! URL Conventions 4.01, sections 5.1.1.1, 5.1.1.2, 5.1.1.5, 5.1.1.7 and 5.1.1.8). Only `concat`, `to_lower` and `to_upper`
+//! take memory.
 #![tactic(auto)]
 
 mod arithmetic;
 mod comparability;
 mod comparison;
 mod connectives;
+mod date_parts;
+mod function_laws;
 mod kept_text;
 mod laws;
 mod made_text;
@@ -17,6 +20,10 @@ pub use arithmetic::{ArithFault, ArithmeticOperator, arith, negate};
 pub use comparability::comparable;
 pub use comparison::{ComparisonOperator, compare, compare_values};
 pub use connectives::{and3, not3, or3};
+pub use date_parts::{
+    date_of, day_of, hour_of, minute_of, month_of, offset_of, second_of, year_of,
+};
+pub use function_laws::{day_numbers_have_one_date, texts_have_one_answer};
 pub use kept_text::{part_of_text, rest_of_text, trim_text};
 pub use laws::{
     arithmetic_has_one_answer, comparisons_are_decided, divisions_are_unique,

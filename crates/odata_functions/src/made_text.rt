@@ -15,14 +15,14 @@ pub fn concat(alloc: Global, left: &str, right: &str) -> Result<String, AllocErr
     Ok(made)
 }
 
-/// The text with its ASCII letters in lower case (section 5.1.1.5.9). Other letters stay.
+/// The text with its ASCII letters in lower case (section 5.1.1.7.2). Other letters stay.
 pub fn to_lower(alloc: Global, text: &str) -> Result<String, AllocError>
     ensures { IfOk result (λ made. chars (string_bytes made) ≡ map to_ascii_lowercase (chars text.now)) }
 {
     text.to_ascii_lowercase(alloc)
 }
 
-/// The text with its ASCII letters in upper case (section 5.1.1.5.10). Other letters stay.
+/// The text with its ASCII letters in upper case (section 5.1.1.7.3). Other letters stay.
 pub fn to_upper(alloc: Global, text: &str) -> Result<String, AllocError>
     ensures { IfOk result (λ made. chars (string_bytes made) ≡ map to_ascii_uppercase (chars text.now)) }
 {

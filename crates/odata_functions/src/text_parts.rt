@@ -4,7 +4,7 @@ ghost use Rattle.std.specs.Str.{chars};
 ghost use Rattle.odata_functions.specs.Texts.{IsTrimmed, from_zero, part_from, rest_from};
 ghost use Rattle.odata_functions.specs.private.Cuts.{IsOffset, IsRest};
 
-/// The text from a place on (section 5.1.1.5.8). A place before the text counts as its start, and behind its end there
+/// The text from a place on (section 5.1.1.5.7). A place before the text counts as its start, and behind its end there
 /// is nothing.
 pub fn rest_from(text: &str, start: i64) -> &str
     ensures { chars result.now ≡ rest_from start (chars text.now) }
@@ -20,7 +20,7 @@ pub fn part_from(text: &str, start: i64, most: i64) -> &str
     &rest[..offset_of(rest, from_zero(most))]
 }
 
-/// The text without the white space at both ends (section 5.1.1.5.11).
+/// The text without the white space at both ends (section 5.1.1.7.4).
 pub fn trim(text: &str) -> &str
     ensures { IsTrimmed (chars text.now) (chars result.now) }
 {

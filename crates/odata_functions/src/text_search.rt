@@ -10,13 +10,10 @@ use crate::ArithFault;
 pub fn contains(text: &str, part: &str) -> bool
     ensures { IsTrue result ↔ HasPart (chars text.now) (chars part.now) }
 {
-    match found_at(text, part) {
-        Some(_) => true,
-        None => false,
-    }
+    found_at(text, part).is_some()
 }
 
-/// Whether the text begins with the part (section 5.1.1.5.7).
+/// Whether the text begins with the part (section 5.1.1.5.6).
 pub fn starts_with(text: &str, part: &str) -> bool
     ensures { IsTrue result ↔ HasStart (chars text.now) (chars part.now) }
 {
