@@ -27,7 +27,7 @@ use Rattle.csdl_schema.proofs.Kept.{each_empty, each_at, own_ordered, name_there
 
 module _ (ds : List DeclaredType) where
   -- what ends within so many bases is a chain
-  is_chain : (k : ℕ) (t : DeclaredType) → length (bases_within k ds t) < k → IsBaseChain ds t (bases_within k ds t)
+  pub is_chain : (k : ℕ) (t : DeclaredType) → length (bases_within k ds t) < k → IsBaseChain ds t (bases_within k ds t)
   is_chain zero t h = absurd (omega (arith, h))
   is_chain (suc k) t h = by (base_of ds t) refl h (λ u lower. is_chain k u lower)
     where

@@ -9,5 +9,6 @@ pub mod SlotSteps
 pub mod Pieces
 pub mod Walks
 pub mod DeclaredSlots
+pub mod BaseLaws
 pub mod SchemaLaws
 pub mod SchemaWorked

@@ -122,7 +122,7 @@ abbrev pub body_passes : (ModelBody → Bool) → Option TypeModel → Bool
 body_passes test None = false
 body_passes test (Some t) = test t.body
 
--- whether there is a type at the index, and it body_passes the test
+-- whether there is a type at the index, and its body passes the test
 abbrev pub is_kind_at : (ModelBody → Bool) → SchemaModel → ℕ → Bool
 is_kind_at test schema n = body_passes test (slice_get schema.types n)
 
@@ -148,7 +148,7 @@ abbrev pub place_if : Bool → ℕ → Option ℕ
 place_if true n = Some n
 place_if false n = None
 
--- the index of the first type of the asked name, if it body_passes the test
+-- the index of the first type of the asked name, if it passes the test
 abbrev pub index_of_kind : (ModelBody → Bool) → SchemaModel → List ℕ → Option ℕ
 index_of_kind test schema asked =
     option_and_then (λ n. place_if (is_kind_at test schema n) n) (position (λ t. is_named t asked) schema.types)
@@ -176,7 +176,7 @@ properties_at schema n = (slots_of schema).properties (type_name_at schema n)
 abbrev pub name_if : (ModelBody → Bool) → TypeModel → Option (List ℕ)
 name_if test t = if test t.body then Some t.name else None
 
--- the qualified name of the type at an index, if it body_passes the test
+-- the qualified name of the type at an index, if it passes the test
 abbrev pub name_of_kind : (ModelBody → Bool) → SchemaModel → ℕ → Option (List ℕ)
 name_of_kind test schema n = option_and_then (name_if test) (slice_get schema.types n)
 

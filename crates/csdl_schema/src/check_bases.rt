@@ -1,5 +1,5 @@
 //! The faults in the bases of types and in the properties along their chains (CSDL JSON 4.01, sections 6.1 and 9.1).
-ghost use Rattle.std.specs.Prelude.{◌≡◌, ◌≤◌, ◌||◌, ⊤, not, is_some, length, map, option_map, slice_get, Some, string_bytes};
+ghost use Rattle.std.specs.Prelude.{◌≡◌, ◌≤◌, ◌<◌, ◌||◌, ⊤, IfErr, not, is_some, length, map, option_map, slice_get, Some, string_bytes};
 ghost use Rattle.csdl_declarations.specs.FaultView.{Reads};
 ghost use Rattle.csdl_schema.specs.private.Placed.{all_places, base_faults_at, chain_at, chain_faults_at, chains_from, count_at, faults_from, firsts_from, inherited_faults_at, length_faults};
 ghost use Rattle.csdl_schema.specs.private.PlacedView.{placed_of};
@@ -47,7 +47,8 @@ fn check_length(
     places: &[usize],
     types: usize,
 ) -> Result<(), SchemaFault>
-    ensures { Reads result (length_faults name.now (length places.now) types) (λ _. ⊤) }
+    ensures told { Reads result (length_faults name.now (length places.now) types) (λ _. ⊤) }
+    ensures no_memory { length places.now < types → IfErr result (λ fault. fault ≡ SchemaFault.TooLarge) }
 {
     if places.len() >= types {
         return Err(base_cycle(alloc, name));

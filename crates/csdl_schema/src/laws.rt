@@ -1,13 +1,16 @@
 //! Laws of documents, stated on functions that do nothing, or that only cite other laws.
-ghost use Rattle.std.specs.Prelude.{◌≡◌, ◌≢◌, ◌≤◌, ℕ, List, [], length, position, slice_get, Some, codes};
+ghost use Rattle.std.specs.Prelude.{◌≡◌, ◌≢◌, ◌≤◌, ◌<◌, ℕ, List, [], ◌∷◌, length, position, slice_get, Some, None, codes};
 ghost use Rattle.std.specs.List.{AllByRecursion};
+ghost use Rattle.std.specs.Ordering.{nat_cmp};
+ghost use Rattle.std.specs.Cmp.Lexicographic.{slice_cmp};
+ghost use Rattle.std.specs.declared.cmp.Ordering.TheVariants.{Less};
 ghost use Rattle.csdl_declarations.specs.DeclaredType.{DeclaredType, declared_types};
 ghost use Rattle.csdl_declarations.specs.Fault.{Fault, not_object};
-ghost use Rattle.csdl_schema.specs.BaseFaults.{base_limit, bases_of};
+ghost use Rattle.csdl_schema.specs.BaseFaults.{base_limit, bases_of, first_name, names_twice};
 ghost use Rattle.csdl_schema.specs.SchemaModel.{SchemaModel, is_named, slots_of, HasDistinctNames, IsInNameOrder};
 ghost use Rattle.csdl_schema.specs.Document.{StandsFor, IsFirstDocumentFault};
 ghost use Rattle.csdl_schema.specs.Resolution.{goes_by};
-ghost use Rattle.csdl_schema.specs.TypeMembers.{IsBaseChain, chain_members, own_members};
+ghost use Rattle.csdl_schema.specs.TypeMembers.{IsBaseChain, IsOwnedTwice, chain_members, own_members};
 ghost use Rattle.csdl_schema.specs.Worked as worked;
 
 use csdl_declarations::declared_in_order;
@@ -38,6 +41,26 @@ pub fn bases_end()
         → length (bases_of (declared_types stands.json) t) ≤ base_limit }
     ensures only { (types : List DeclaredType) (t : DeclaredType) (us vs : List DeclaredType)
         → IsBaseChain types t us → IsBaseChain types t vs → us ≡ vs }
+{}
+
+/// What `BaseCycle` tells, by a count: a type has as many bases as there are types exactly where no list is its chain.
+pub fn cycles_have_no_chain()
+    ensures cycle { (types : List DeclaredType) (n : ℕ) (t : DeclaredType) (bases : List DeclaredType)
+        → slice_get types n ≡ Some t → length types ≤ length (bases_of types t) → IsBaseChain types t bases → ⊥ }
+    ensures chain { (types : List DeclaredType) (t : DeclaredType)
+        → length (bases_of types t) < length types → IsBaseChain types t (bases_of types t) }
+{}
+
+/// What `PropertyTwice` tells of a chain that ends: the name that two types of it have, and that none before it in byte
+/// order has; where no name is told there is none.
+pub fn least_name_stands_twice()
+    ensures least { (types : List DeclaredType) (n : ℕ) (t : DeclaredType) (bases : List DeclaredType) (name : List ℕ)
+        → slice_get types n ≡ Some t → IsBaseChain types t bases → first_name (names_twice types t) ≡ Some name
+        → IsOwnedTwice name (t ∷ bases)
+        × ((other : List ℕ) → IsOwnedTwice other (t ∷ bases) → slice_cmp nat_cmp other name ≡ Less → ⊥) }
+    ensures none { (types : List DeclaredType) (n : ℕ) (t : DeclaredType) (bases : List DeclaredType)
+        → slice_get types n ≡ Some t → IsBaseChain types t bases → first_name (names_twice types t) ≡ None
+        → (name : List ℕ) → IsOwnedTwice name (t ∷ bases) → ⊥ }
 {}
 
 /// The slots of a declared type's name are the members of its chain, each once, and those that the types of the chain

@@ -22,7 +22,7 @@ returns-in-Err c =
     let lent : length c.deref.result.now ≡ length (all_places ps n) = ap length (c.deref.ensures.value ∙ c.in_ok-places.ensures.places ∙ ap (λ k. places_within k ps n) (sym many)) in
     let same : length_faults name (length c.deref.result.now) (length c.args.types.now) ≡ length_faults name (length (all_places ps n)) (length ps) = λ j. length_faults name (lent j) (sym many j) in
     behind_none (fault_of c.in-Err.fault) (unless known (unknown_base name)) (length_faults name (length (all_places ps n)) (length ps)) (unless_none known (unknown_base name) (sym c.is_known.ensures ∙ c.if-not-is_known.false))
-    (subst (λ fs. IsFirstOf fs (fault_of c.in-Err.fault)) same c.in-Err.ensures)
+    (subst (λ fs. IsFirstOf fs (fault_of c.in-Err.fault)) same c.in-Err.ensures.told)
 
 pub returns-in-Ok : goal.returns-in-Ok
 returns-in-Ok c =
@@ -34,5 +34,5 @@ returns-in-Ok c =
     let lent : length c.deref.result.now ≡ length (all_places ps n) = ap length (c.deref.ensures.value ∙ c.in_ok-places.ensures.places ∙ ap (λ k. places_within k ps n) (sym many)) in
     let same : length_faults name (length c.deref.result.now) (length c.args.types.now) ≡ length_faults name (length (all_places ps n)) (length ps) = λ j. length_faults name (lent j) (sym many j) in
     let is_known = unless_none known (unknown_base name) (sym c.is_known.ensures ∙ c.if-not-is_known.false) in
-    let short = sym same ∙ c.in-Ok.ensures.0 in
+    let short = sym same ∙ c.in-Ok.ensures.told.0 in
     ((λ j. is_known j ++ short j), c.in_ok-places.ensures.places ∙ ap (λ k. places_within k ps n) (sym many))
