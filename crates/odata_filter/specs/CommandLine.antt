@@ -33,18 +33,22 @@ verb_app word = with_rule (with_rule (with_rule (with_rule (new_app word)
     (text_rule (codes "schema") true)) (text_rule (codes "type") true))
     (text_rule (codes "filter") false)) (text_rule (codes "query") false)
 
--- the subcommands: `check`, and `filter`, which may name its rows and say that they are a collection
+-- the subcommands: `check`, `explain`, and `filter`, which may name its rows, say what stands for now, and say that the
+-- rows are a collection
 abbrev pub check_app : App
 check_app = verb_app (codes "check")
 
-abbrev pub filter_app : App
-filter_app =
-    with_rule (with_rule (verb_app (codes "filter")) (text_rule (codes "rows") false)) (flag_rule (codes "collection"))
+abbrev pub explain_app : App
+explain_app = verb_app (codes "explain")
 
--- the subcommand of a verb, a row a verb; that of explain is still to come
+abbrev pub filter_app : App
+filter_app = with_rule (with_rule (with_rule (verb_app (codes "filter"))
+    (text_rule (codes "rows") false)) (text_rule (codes "now") false)) (flag_rule (codes "collection"))
+
+-- the subcommand of a verb, a row a verb
 abbrev pub app_of_verb : Verb → App
 app_of_verb Check = check_app
-app_of_verb Explain = verb_app (codes "explain")
+app_of_verb Explain = explain_app
 app_of_verb Filter = filter_app
 
 -- the command answers `--version`, which its subcommands do not
@@ -55,12 +59,16 @@ with_version a = record a { top = record a.top { has_version = true } }
 abbrev pub with_required_subcommand : App → App
 with_required_subcommand a = record a { top = record a.top { subcommand_required = true } }
 
--- the program's command
-abbrev pub odfilter_app : App
-odfilter_app =
+-- the program's command, up to the subcommands that read no rows
+abbrev pub rowless_app : App
+rowless_app =
     with_subcommand
     (with_subcommand (with_required_subcommand (with_version (new_app (codes "odfilter")))) check_app.top)
-    filter_app.top
+    explain_app.top
+
+-- and with the one that does
+abbrev pub odfilter_app : App
+odfilter_app = with_subcommand rowless_app filter_app.top
 
 -- `clap` takes the words: no step of its reading fails
 abbrev pub IsTaken : List Text → Type 0
@@ -77,7 +85,8 @@ abbrev pub matches_if_verb : Option (Text × List Row) → List Row
 matches_if_verb None = []
 matches_if_verb (Some entered) =
     if bytes_eq entered.0 (codes "filter") then entered.1
-    else if bytes_eq entered.0 (codes "check") then entered.1 else []
+    else if bytes_eq entered.0 (codes "check") then entered.1
+    else if bytes_eq entered.0 (codes "explain") then entered.1 else []
 
 -- what the words say behind their verb, option by option
 abbrev pub verb_matches : List Text → List Row

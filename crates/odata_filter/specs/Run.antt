@@ -1,7 +1,8 @@
 -- What a run says by its status: of its plan, of its schema's bytes, and of what standard output got.
-use Rattle.std.specs.Prelude.{◌≡◌, ℕ, pos, ◌⊎◌, Bool, false, true, List, [], ◌∷◌, ◌++◌, Option, Some, None, IfSome, IsSomeAnd, codes}
+use Rattle.std.specs.Prelude.{◌≡◌, ℕ, pos, ◌⊎◌, Bool, false, true, List, [], ◌∷◌, ◌++◌, Option, Some, None, IfSome, IsNone, IsSomeAnd, MatchOption, codes}
 use Rattle.std.specs.Io.KnownBytes.{Keeps}
 use Rattle.edm_values.specs.Civil.{IsYmd, IsHms}
+use Rattle.edm_values.specs.MomentLiteral.{MomentValue}
 use Rattle.edm_values.specs.MomentParts.{MomentParts}
 use Rattle.odata_text.specs.Query.{IsFilterOf, IsQueryFault}
 use Rattle.odata_text.specs.declared.query_fault.QueryFault.{QueryFault}
@@ -22,10 +23,12 @@ use Rattle.odata_filter.specs.declared.command.command_line.Plan.{Plan}
 use Rattle.odata_filter.specs.declared.command.command_line.Verb.{Verb}
 use Rattle.odata_filter.specs.declared.command.command_line.Verb.TheVariants.{Check, Explain, Filter as ByRows}
 use Rattle.odata_syntax.specs.CanonicalText.{IsCanonicalText}
+use Rattle.odata_checked_filter.specs.Calls.{UsesNow}
+use Rattle.odata_checked_filter.specs.Explanation.{IsExplanation}
 use Rattle.odata_checked_filter.specs.Filter.{Filter, tree_of_filter}
 use Rattle.odata_expression_types.specs.HasTyping.{HasTyping, HasNoTyping}
 
--- the moment that is handed in where none is given: 0001-01-01T00:00:00Z
+-- the moment that is handed in where none is given and none is asked for: 0001-01-01T00:00:00Z
 abbrev pub IsFirstMoment : MomentParts → Type 0
 IsFirstMoment now =
     IsYmd (pos 1) (pos 1) (pos 1) now.civil.date
@@ -53,6 +56,28 @@ pub record IsPlanFilter (plan : Plan) (document : List ℕ) (filter : Filter) : 
   pub asked : AsksFor plan text
   pub typing :
       HasTyping (slots_of filter.schema) (type_name_at filter.schema filter.filtered) text (tree_of_filter filter)
+
+-- The moment that is handed in with a filter: the one that the plan gives; where it gives none and the filter does not
+-- ask for it, the first (OData URL Conventions 4.01, section 5.1.1.8.7).
+abbrev pub IsMomentFor : Plan → Filter → MomentParts → Type 0
+IsMomentFor plan filter now =
+    MatchOption plan.now ((¬ UsesNow (tree_of_filter filter)) × IsFirstMoment now) (λ given. MomentValue given.now now)
+
+-- The plan's text is this filter, and this is the moment for it.
+pub record IsReady (plan : Plan) (document : List ℕ) (filter : Filter) (now : MomentParts) : Type 0 where
+  pub is_filter : IsPlanFilter plan document filter
+  pub is_moment : IsMomentFor plan filter now
+
+-- the plan has such a filter and moment
+abbrev pub HasReadyFilter : Plan → List ℕ → Type 0
+HasReadyFilter plan document = (filter : Filter) × (now : MomentParts) × IsReady plan document filter now
+
+-- The plan's text is a filter that asks for the moment, and the plan gives none.
+pub record LacksMoment (plan : Plan) (document : List ℕ) : Type 0 where
+  pub filter : Filter
+  pub is_filter : IsPlanFilter plan document filter
+  pub asks : UsesNow (tree_of_filter filter)
+  pub none : IsNone plan.now
 
 -- the plan's text is a filter
 abbrev pub HasCheckedFilter : Plan → List ℕ → Type 0
@@ -117,9 +142,8 @@ HoldsOfRows true P filter now bytes text = OfCollection filter now bytes (λ ite
 -- The plan's text is a filter, and P holds of the rows by that filter and of the text that was written.
 pub record ByFilter (P : OfRows) (plan : Plan) (document : List ℕ) (streams : Streams) : Type 0 where
   pub filter : Filter
-  pub is_filter : IsPlanFilter plan document filter
   pub now : MomentParts
-  pub is_first : IsFirstMoment now
+  pub is_ready : IsReady plan document filter now
   pub written : OverRows streams (HoldsOfRows plan.collection P filter now)
 
 -- no row is at fault, and the text is that of the kept ones
@@ -137,7 +161,7 @@ BeginsKept X rows text = StopsWithin rows text
 
 -- The plan's text is a filter, it asks for a collection, what the rows had to give is none, and nothing was written.
 pub record ReadsNoCollection (plan : Plan) (document : List ℕ) (streams : Streams) : Type 0 where
-  pub has_filter : HasCheckedFilter plan document
+  pub has_filter : HasReadyFilter plan document
   pub asked : plan.collection ≡ true
   pub is_none : IsSomeAnd streams.rows (λ known. IfSome known IsNoCollection)
   pub nothing : WroteNothing streams
@@ -149,10 +173,11 @@ pub record IsAccepted (filter : Filter) (text : List ℕ) : Type 0 where
   pub lines : text ≡ codes "accepted" ++ (10 ∷ (canonical ++ 10 ∷ []))
 
 -- The plan's text is a filter, and that was written of it.
-pub record TellsFilter (plan : Plan) (document : List ℕ) (streams : Streams) : Type 0 where
+pub record TellsFilter
+    (Says : Filter → List ℕ → Type 0) (plan : Plan) (document : List ℕ) (streams : Streams) : Type 0 where
   pub filter : Filter
   pub is_filter : IsPlanFilter plan document filter
-  pub written : Writes streams.old streams.new (IsAccepted filter)
+  pub written : Writes streams.old streams.new (Says filter)
 
 -- how a run ends
 pub data Status : Type 0 where
@@ -174,16 +199,21 @@ status_number at_fault = 4
 status_number without_device = 5
 status_number without_memory = 6
 
--- what a run by a verb says that is done: all rows were filtered, or the filter was told
+-- what a run by a verb says that is done: all rows were filtered, or the filter was told, or each of its nodes
 abbrev pub Completes : Verb → Plan → List ℕ → Streams → Type 0
 Completes ByRows plan document streams = ByFilter FiltersAll plan document streams
-Completes Check plan document streams = TellsFilter plan document streams
-Completes Explain plan document streams = ⊥
+Completes Check plan document streams = TellsFilter IsAccepted plan document streams
+Completes Explain plan document streams = TellsFilter IsExplanation plan document streams
 
--- nothing was written where there is no filter; to `check` that is an answer, which it writes
+-- nothing was written where there is no filter; to a verb that reads no rows that is an answer, which it writes
 abbrev pub RefusalSays : Verb → Streams → Type 0
-RefusalSays Check streams = Unit {0}
-RefusalSays verb streams = WroteNothing streams
+RefusalSays ByRows streams = WroteNothing streams
+RefusalSays verb streams = Unit {0}
+
+-- a verb that reads rows needs a moment where its filter asks for it; another never does
+abbrev pub NeedsMoment : Verb → Plan → List ℕ → Type 0
+NeedsMoment ByRows plan document = LacksMoment plan document
+NeedsMoment verb plan document = ⊥
 
 -- a verb that reads rows stopped at one, or they were to be a collection and are none; another never does
 abbrev pub StopsAtRow : Verb → Plan → List ℕ → Streams → Type 0
@@ -191,18 +221,19 @@ StopsAtRow ByRows plan document streams =
     ByFilter StopsAtFault plan document streams ⊎ ReadsNoCollection plan document streams
 StopsAtRow verb plan document streams = ⊥
 
--- there is a filter; or there is none, and standard output did not take that answer of `check`
+-- there is a filter, with its moment where rows are read; or there is none, and standard output did not take that answer
 abbrev pub LacksDevice : Verb → Plan → List ℕ → Type 0
-LacksDevice Check plan document = HasCheckedFilter plan document ⊎ HasNoFilter plan document
-LacksDevice verb plan document = HasCheckedFilter plan document
+LacksDevice ByRows plan document = HasReadyFilter plan document
+LacksDevice verb plan document = HasCheckedFilter plan document ⊎ HasNoFilter plan document
 
--- What each says: the run is done; the text is no filter; the plan is none or its query has no filter; there is no such
--- entity type; a row is at fault; a device failed, and of rows nothing is said; nothing is said.
+-- What each says: the run is done; the text is no filter; the plan is none, or its query has no filter, or it gives no
+-- moment and its filter asks for it; there is no such entity type; a row is at fault; a device failed, and of rows
+-- nothing is said; nothing is said.
 abbrev pub StatusSays : Status → Verb → Plan → List ℕ → Streams → Type 0
 StatusSays complete verb plan document streams = Completes verb plan document streams
 StatusSays without_filter verb plan document streams = HasNoFilter plan document × RefusalSays verb streams
 StatusSays without_plan verb plan document streams =
-    ((¬ IsPlanned plan) ⊎ HasNoOption plan document) × WroteNothing streams
+    ((¬ IsPlanned plan) ⊎ (HasNoOption plan document ⊎ NeedsMoment verb plan document)) × WroteNothing streams
 StatusSays without_type verb plan document streams = IsPlanned plan × (HasNoType plan document × WroteNothing streams)
 StatusSays at_fault verb plan document streams = StopsAtRow verb plan document streams
 StatusSays without_device verb plan document streams = LacksDevice verb plan document

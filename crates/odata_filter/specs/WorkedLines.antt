@@ -26,9 +26,13 @@ with_both = whole ++ codes "--query=x" ∷ []
 abbrev pub with_collection : List Text
 with_collection = whole ++ codes "--collection" ∷ []
 
+-- with what stands for now
+abbrev pub with_now : List Text
+with_now = whole ++ codes "--now=m" ∷ []
+
 -- with an option that the program does not have
 abbrev pub with_unknown_option : List Text
-with_unknown_option = whole ++ codes "--now=x" ∷ []
+with_unknown_option = whole ++ codes "--later=x" ∷ []
 
 -- `odfilter --version`
 abbrev pub version_alone : List Text
@@ -55,3 +59,11 @@ check_with_now = whole_check ++ codes "--now=x" ∷ []
 
 abbrev pub check_with_collection : List Text
 check_with_collection = whole_check ++ codes "--collection" ∷ []
+
+-- the same of `odfilter explain`
+abbrev pub whole_explain : List Text
+whole_explain =
+    codes "odfilter" ∷ codes "explain" ∷ codes "--type" ∷ codes "N.T" ∷ codes "--schema=s" ∷ codes "--query=x" ∷ []
+
+abbrev pub explain_with_now : List Text
+explain_with_now = whole_explain ++ codes "--now=m" ∷ []

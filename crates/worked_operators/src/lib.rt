@@ -16,6 +16,8 @@ mod comparisons;
 #[cfg(test)]
 mod connectives;
 #[cfg(test)]
+mod explained;
+#[cfg(test)]
 mod faults;
 #[cfg(test)]
 mod kinds;

@@ -24,6 +24,33 @@ fn is_by_filter(plan: &Plan<'_>) -> bool {
         && !plan.collection
 }
 
+const BY_NOW: &[&str] = &[
+    "odfilter", "filter", "--schema", "s", "--type", "N.T", "--query", "x", "--now", "m",
+];
+
+const TO_EXPLAIN: &[&str] = &[
+    "odfilter", "explain", "--schema", "s", "--type", "N.T", "--query", "x",
+];
+
+/// Whether a plan is that of the words with a moment.
+fn is_by_now(plan: &Plan<'_>) -> bool {
+    plan.verb == Verb::Filter && plan.now == Some("m") && plan.query == Some("x")
+}
+
+/// Whether a plan is that of the words that ask for an explanation.
+fn is_to_explain(plan: &Plan<'_>) -> bool {
+    plan.verb == Verb::Explain && plan.query == Some("x") && plan.now.is_none()
+}
+
+#[test]
+fn further_command_lines(rt: HostRuntime) -> Result<(), Fail> {
+    let by_now = plan(rt.alloc(), BY_NOW)?;
+    assert!(rt; is_by_now(&by_now));
+    let to_explain = plan(rt.alloc(), TO_EXPLAIN)?;
+    assert!(rt; is_to_explain(&to_explain));
+    Ok(())
+}
+
 /// Whether a plan is that of the others.
 fn is_by_query(plan: &Plan<'_>) -> bool {
     plan.query == Some("x") && plan.filter.is_none()
@@ -47,7 +74,7 @@ const NOT_ONE: &[&[&str]] = &[
 ];
 
 const UNKNOWN_OPTION: &[&str] = &[
-    "odfilter", "filter", "--schema", "s", "--type", "N.T", "--now", "x",
+    "odfilter", "filter", "--schema", "s", "--type", "N.T", "--later", "x",
 ];
 
 /// Whether the words are refused for the number of filters and queries.

@@ -259,14 +259,65 @@ fn is_misused(alloc: Global, plan: &Plan<'_>, line: &str) -> Result<(), Fail> {
     ends(told, line, "", line, 2)
 }
 
+/// Texts for now that are no moments: told before the schema's faults, needed or not.
+const NO_MOMENTS: &[&str] = &["x", "", "2020-01-01", "2020-02-30T00:00:00Z"];
+
 #[test]
-fn what_is_still_to_come(rt: HostRuntime) -> Result<(), Fail> {
+fn no_moments(rt: HostRuntime) -> Result<(), Fail> {
+    for &text in NO_MOMENTS {
+        let mut plan = plan_of("Mini.Thing", FIRST);
+        plan.now = Some(text);
+        is_misused(rt.alloc(), &plan, "usage now is not a moment\n")?;
+    }
+    Ok(())
+}
+
+#[test]
+fn a_moment(rt: HostRuntime) -> Result<(), Fail> {
     let mut plan = plan_of("Mini.Item", FIRST);
+    plan.now = Some("2020-01-01t00:00+01:00");
+    let told = outcome_of(rt.alloc(), SCHEMA, &plan, Some(A.as_bytes()));
+    ends(told, "a moment", A, "", 0)
+}
+
+/// What `explain` says of each filter, and its status.
+const EXPLAINED: &[(&str, &str, u8)] = &[
+    (
+        "Active and (ID)eq -1",
+        "0..20 and Edm.Boolean\n  0..6 property Active Edm.Boolean\n  11..20 eq Edm.Boolean\n    11..15 property ID Edm.Int32\n    18..20 literal Edm.Int32\n",
+        0,
+    ),
+    ("null", "0..4 literal Null\n", 0),
+    ("ID eq 'a'", "refused OperandTypes 0..9\n", 1),
+    ("Active and", "refused Unexpected 10..10\n", 1),
+];
+
+/// Fails if `explain` says something else, where there are rows or where there are none.
+fn is_explained(alloc: Global, filter: &str, lines: &str, status: u8) -> Result<(), Fail> {
+    let mut plan = plan_of("Mini.Item", filter);
     plan.verb = Verb::Explain;
-    is_misused(rt.alloc(), &plan, "usage explain is still to come\n")?;
-    plan.verb = Verb::Filter;
-    plan.now = Some("2020-01-01T00:00:00Z");
-    is_misused(rt.alloc(), &plan, "usage now is still to come\n")
+    ends(
+        outcome_of(alloc, SCHEMA, &plan, Some(A.as_bytes())),
+        filter,
+        lines,
+        "",
+        status,
+    )?;
+    ends(
+        outcome_of(alloc, SCHEMA, &plan, None),
+        filter,
+        lines,
+        "",
+        status,
+    )
+}
+
+#[test]
+fn explained(rt: HostRuntime) -> Result<(), Fail> {
+    for &(filter, lines, status) in EXPLAINED {
+        is_explained(rt.alloc(), filter, lines, status)?;
+    }
+    Ok(())
 }
 
 /// What `check` says of each filter, and its status.

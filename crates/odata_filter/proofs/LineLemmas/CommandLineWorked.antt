@@ -98,3 +98,27 @@ check_now = refl
 pub check_collection : fault_of odfilter_app worked.check_with_collection ≡ kind.UnknownArgument ∷ []
 unfolding clap_on_literals
 check_collection = refl
+
+pub now_taken : IsTaken worked.with_now
+unfolding clap_on_literals
+now_taken = refl
+
+pub now_found : first_of (codes "now") (verb_matches worked.with_now) ≡ Some (codes "m")
+unfolding clap_on_literals
+now_found = refl
+
+pub explain_taken : IsTaken worked.whole_explain
+unfolding clap_on_literals
+explain_taken = refl
+
+pub explain_enters : Enters worked.whole_explain Verb.Explain
+unfolding clap_on_literals
+explain_enters = refl
+
+pub explain_query : first_of (codes "query") (verb_matches worked.whole_explain) ≡ Some (codes "x")
+unfolding clap_on_literals
+explain_query = refl
+
+pub explain_now : fault_of odfilter_app worked.explain_with_now ≡ kind.UnknownArgument ∷ []
+unfolding clap_on_literals
+explain_now = refl

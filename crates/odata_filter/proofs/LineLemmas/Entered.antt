@@ -1,9 +1,10 @@
 -- The subcommand that a command line entered, and its plan.
-use Rattle.std.proofs.Common.{◌≡◌, ◌∙◌, [], true, false, List, Option, None, Some, Result, Ok, Err, IfOk, MatchResult, refl, sym, subst, ap, codes, option_map, cond}
+use Rattle.std.proofs.Common.{◌≡◌, ◌∙◌, [], true, false, List, Option, None, Some, Result, Ok, Err, IfOk, MatchResult, inl, inr, refl, sym, subst, ap, codes, option_map, cond}
 use Rattle.std.specs.Box.{box_value}
 use Rattle.std.specs.Str.{bytes_eq}
 use Rattle.std.proofs.lemmas.Slice.Eq.{bytes_eq-Decides}
-use Rattle.clap.specs.Words.{App, HasMatchesOf, Row, Text, app_of, fault_of, is_simple, is_simple_and_free, subcommand_name_of, subcommand_of, subcommand_rows, subcommand_rows_of}
+use Rattle.clap.specs.declared.error.Error.{Error}
+use Rattle.clap.specs.Words.{App, HasKind, HasMatchesOf, IsAmong, kind_of, Row, Text, app_of, fault_of, is_simple, is_simple_and_free, subcommand_name_of, subcommand_of, subcommand_rows, subcommand_rows_of}
 use Rattle.clap.specs.declared.builder.command.Command.{Command}
 use Rattle.clap.specs.declared.parser.matches.ArgMatches.{ArgMatches}
 use Rattle.clap.specs.declared.parser.matches.ArgMatches.TheViews.{out-ArgMatches, out-SubCommand}
@@ -13,7 +14,7 @@ use Rattle.odata_filter.specs.declared.command.command_line.Plan.{Plan}
 use Rattle.odata_filter.specs.declared.command.command_line.PlanFault.{PlanFault}
 use Rattle.odata_filter.specs.declared.command.command_line.PlanFault.TheVariants.{Clap, Memory, OneOf}
 use Rattle.odata_filter.specs.declared.command.command_line.Verb.{Verb}
-use Rattle.odata_filter.specs.private.PlanSteps.{IsApp, IsNotOneFault}
+use Rattle.odata_filter.specs.private.PlanSteps.{IsApp, IsClapFault, IsNotOneFault}
 
 -- the program's command is one of those of which `clap` tells its matches and its faults
 pub is_plain : is_simple odfilter_app ≡ true
@@ -56,6 +57,20 @@ read_by command words m app matches kinds = record {
   matches = subst (λ (a : App). HasMatchesOf a words m) app.whole matches;
 }
 
+-- words that `clap` refuses ask for no plan
+pub refused_by : (command : Command) (words : List Text) (error : Error) (fault : PlanFault) → IsApp odfilter_app command
+    → (is_simple_and_free (app_of command) ≡ true → HasKind (fault_of (app_of command) words) error) → IsClapFault error fault
+    → IsRefusedBy words fault
+refused_by command words error (Clap e) app kinds is =
+    let has : HasKind (fault_of odfilter_app words) error =
+    subst (λ (a : App). HasKind (fault_of a words) error) app.whole (kinds (ap is_simple_and_free app.whole ∙ is_free)) in
+    elim has [
+      | inl memory ↦ absurd (is.1 (ap kind_of is.0 ∙ memory))
+      | inr among ↦ subst (λ x. IsAmong (kind_of x) (fault_of odfilter_app words)) (sym is.0) among
+    ]
+refused_by command words error OneOf app kinds is = absurd is
+refused_by command words error Memory app kinds is = tt
+
 -- a plan of a verb's matches is one of the words
 pub planned_by : (words : List Text) (verb : Verb) (rows : List Row) (result : Result Plan PlanFault)
     → IsTaken words → subcommand_of odfilter_app words ≡ Some (verb_word verb, rows) → matches_if_verb (Some (verb_word verb, rows)) ≡ rows
@@ -71,24 +86,28 @@ planned_by words verb rows (Err OneOf) taken entered here is_verb values =
 planned_by words verb rows (Err (Clap e)) taken entered here is_verb values = absurd values
 planned_by words verb rows (Err Memory) taken entered here is_verb values = absurd values
 
--- where neither verb was entered, there are no matches
-pub none_entered : (o : Option (Text × List Row))
-    → (option_map (λ p. p.0) o ≡ Some (codes "filter") → ⊥) → (option_map (λ p. p.0) o ≡ Some (codes "check") → ⊥) → matches_if_verb o ≡ []
-none_entered None other another = refl
-none_entered (Some entered) other another =
-    elim (bytes_eq entered.0 (codes "filter")) as (λ b. bytes_eq entered.0 (codes "filter") ≡ b
-    → cond b entered.1 (cond (bytes_eq entered.0 (codes "check")) entered.1 []) ≡ []) [
-      | true ↦ λ same. absurd (other (ap Some ((bytes_eq-Decides entered.0 (codes "filter")).0 same)))
-      | false ↦ λ apart. elim (bytes_eq entered.0 (codes "check")) as (λ b. bytes_eq entered.0 (codes "check") ≡ b → cond b entered.1 [] ≡ []) [
-        | true ↦ λ same. absurd (another (ap Some ((bytes_eq-Decides entered.0 (codes "check")).0 same)))
-        | false ↦ λ _. refl
-      ] refl
+-- where this verb was not entered, the matches are those of another
+passed_over : (entered : Text × List Row) (word : Text) (others : List Row)
+    → (Some entered.0 ≡ Some word → ⊥) → others ≡ [] → cond (bytes_eq entered.0 word) entered.1 others ≡ []
+passed_over entered word others other none =
+    elim (bytes_eq entered.0 word) as (λ b. bytes_eq entered.0 word ≡ b → cond b entered.1 others ≡ []) [
+      | true ↦ λ same. absurd (other (ap Some ((bytes_eq-Decides entered.0 word).0 same)))
+      | false ↦ λ apart. none
     ] refl
+
+-- where no verb was entered, there are no matches
+pub none_entered : (o : Option (Text × List Row))
+    → (option_map (λ p. p.0) o ≡ Some (codes "filter") → ⊥) → (option_map (λ p. p.0) o ≡ Some (codes "check") → ⊥)
+    → (option_map (λ p. p.0) o ≡ Some (codes "explain") → ⊥) → matches_if_verb o ≡ []
+none_entered None filter check explain = refl
+none_entered (Some entered) filter check explain =
+    passed_over entered (codes "filter") _ filter
+    (passed_over entered (codes "check") _ check (passed_over entered (codes "explain") [] explain refl))
 
 pub nothing_entered : (words : List Text) (m : ArgMatches) → HasMatchesOf odfilter_app words m
     → (subcommand_name_of m ≡ Some (codes "filter") → ⊥) → (subcommand_name_of m ≡ Some (codes "check") → ⊥)
-    → LacksOneOf (matches_if_verb (subcommand_of odfilter_app words))
-nothing_entered words m has other another =
+    → (subcommand_name_of m ≡ Some (codes "explain") → ⊥) → LacksOneOf (matches_if_verb (subcommand_of odfilter_app words))
+nothing_entered words m has filter check explain =
     let none : matches_if_verb (subcommand_rows_of m) ≡ [] =
-    none_entered (subcommand_rows_of m) (λ same. other (name_beside m ∙ same)) (λ same. another (name_beside m ∙ same)) in
+    none_entered (subcommand_rows_of m) (λ same. filter (name_beside m ∙ same)) (λ same. check (name_beside m ∙ same)) (λ same. explain (name_beside m ∙ same)) in
     subst (λ o. LacksOneOf (matches_if_verb o)) (has is_plain).1 (subst LacksOneOf (sym none) (λ one. one))

@@ -12,8 +12,7 @@ use Rattle.clap.specs.declared.parser.matches.Found.{Found}
 use Rattle.clap.proofs.WalkLemmas.{first_value-rows}
 use Rattle.odata_filter.specs.CommandLine.{LacksOneOf, option_value, text_rule}
 use Rattle.odata_filter.specs.Planned.{IsOneOf}
-use Rattle.odata_filter.specs.declared.command.command_line.Verb.{Verb}
-use Rattle.odata_filter.specs.declared.command.command_line.Verb.TheVariants.{Check, Explain, Filter}
+use Rattle.odata_filter.specs.declared.command.command_line.Verb.TheVariants.{Filter}
 use Rattle.odata_filter.specs.private.PlanSteps.{IsApp}
 
 -- ---- a command grows
@@ -92,14 +91,5 @@ text_or_empty f id (Some x) t other same is empty =
 pub rows_of_filter : (found : List Row) → option_value Filter (codes "rows") found ≡ first_of (codes "rows") found
 rows_of_filter found = refl
 
-pub rows_of_check : (found : List Row) → option_value Check (codes "rows") found ≡ None
-rows_of_check found = refl
-
-pub rows_of_explain : (found : List Row) → option_value Explain (codes "rows") found ≡ None
-rows_of_explain found = refl
-
--- no verb has a moment so far
-pub no_moment : (verb : Verb) (found : List Row) → option_value verb (codes "now") found ≡ None
-no_moment Check found = refl
-no_moment Explain found = refl
-no_moment Filter found = refl
+pub now_of_filter : (found : List Row) → option_value Filter (codes "now") found ≡ first_of (codes "now") found
+now_of_filter found = refl

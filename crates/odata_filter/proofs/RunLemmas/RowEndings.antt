@@ -15,13 +15,13 @@ use Rattle.odata_checked_filter.specs.Filter.{Filter}
 use Rattle.odata_filter.specs.Collection.{IsNoCollection, OfCollection, StopsCollection, entities_of}
 use Rattle.odata_filter.specs.RowJudgment.{rows_of}
 use Rattle.odata_filter.specs.RunStops.{run_stop, StopsBy}
-use Rattle.odata_filter.specs.Run.{BeginsAs, BeginsKept, ByFilter, FiltersAll, HoldsOfRows, IsFirstMoment, IsPlanFilter, OfRows, OverRows, Status, StatusSays, StopsAtFault, Streams, streams, without_device, without_memory}
+use Rattle.odata_filter.specs.Run.{BeginsAs, BeginsKept, ByFilter, FiltersAll, HoldsOfRows, IsReady, OfRows, OverRows, Status, StatusSays, StopsAtFault, Streams, streams, without_device, without_memory}
 use Rattle.odata_filter.specs.private.RunFailures.{AnswerSays, IsUnwritten, IsReadWhole, StopsOver, status_of, status_of_rows}
 use Rattle.odata_filter.specs.declared.bad_row.BadRow.{BadRow}
 use Rattle.odata_filter.specs.declared.command.command_line.Plan.{Plan}
 use Rattle.odata_filter.specs.declared.command.command_line.Verb.{Verb}
 use Rattle.odata_filter.specs.declared.command.failure.Failure.{Failure}
-use Rattle.odata_filter.specs.declared.command.failure.Failure.TheVariants.{NotYet, OneOf, Schema, UnknownType, Query, NoOption, Refused, RowsFile, Rows}
+use Rattle.odata_filter.specs.declared.command.failure.Failure.TheVariants.{NotAMoment, OneOf, Schema, UnknownType, Query, NoOption, Refused, NoMoment, RowsFile, Rows}
 use Rattle.odata_filter.specs.declared.run_fault.RunFault.{RunFault}
 use Rattle.odata_filter.specs.declared.run_fault.RunFault.TheVariants.{Json, Row, Arithmetic, LineTooLong, NotACollection, Read, Write, Memory}
 
@@ -78,23 +78,23 @@ wrote_none (Some x) None text wrote none = absurd wrote
 wrote_none (Some x) (Some y) text wrote none = wrote ∙ ap (λ l. x ++ l) none ∙ append-nil x
 
 -- rows of a collection were not read whole
-unread_status : (plan : Plan) (document : List ℕ) (filter : Filter) (s : Streams) (status : Status) → IsPlanFilter plan document filter → IsUnwritten status → StatusSays status Verb.Filter plan document s
-unread_status plan document filter s without_device is_filter unread = (filter, is_filter)
-unread_status plan document filter s without_memory is_filter unread = tt
-unread_status plan document filter s _ is_filter unread = absurd unread
+unread_status : (plan : Plan) (document : List ℕ) (filter : Filter) (now : MomentParts) (s : Streams) (status : Status)
+    → IsReady plan document filter now → IsUnwritten status → StatusSays status Verb.Filter plan document s
+unread_status plan document filter now s without_device is_ready unread = (filter, now, is_ready)
+unread_status plan document filter now s without_memory is_ready unread = tt
+unread_status plan document filter now s _ is_ready unread = absurd unread
 
-pub unread_says : (plan : Plan) (document : List ℕ) (filter : Filter) (s : Streams) (failure : Failure) → IsPlanFilter plan document filter → IsUnwritten (status_of failure)
-    → StatusSays (status_of failure) Verb.Filter plan document s
-unread_says plan document filter s failure is_filter unread = unread_status plan document filter s (status_of failure) is_filter unread
+pub unread_says : (plan : Plan) (document : List ℕ) (filter : Filter) (now : MomentParts) (s : Streams) (failure : Failure)
+    → IsReady plan document filter now → IsUnwritten (status_of failure) → StatusSays (status_of failure) Verb.Filter plan document s
+unread_says plan document filter now s failure is_ready unread = unread_status plan document filter now s (status_of failure) is_ready unread
 
-module _ (plan : Plan) (document : List ℕ) (filter : Filter) (now : MomentParts) (is_filter : IsPlanFilter plan document filter) (is_first : IsFirstMoment now) where
+module _ (plan : Plan) (document : List ℕ) (filter : Filter) (now : MomentParts) (is_ready : IsReady plan document filter now) where
   by_filter : (P : List ℕ → List ℕ → Type 0) (Q : OfRows) (s : Streams)
       → ((bytes text : List ℕ) → P bytes text → HoldsOfRows plan.collection Q filter now bytes text) → OverRows s P → ByFilter Q plan document s
   by_filter P Q s f held = record {
     filter = filter;
-    is_filter = is_filter;
     now = now;
-    is_first = is_first;
+    is_ready = is_ready;
     written = over_from s.rows s.old s.new P (HoldsOfRows plan.collection Q filter now) f held;
   }
 
@@ -115,14 +115,15 @@ module _ (plan : Plan) (document : List ℕ) (filter : Filter) (now : MomentPart
         (λ bytes text stops. of_lines StopsAtFault bytes text (line, Finding.Judged (Judgment.Fault bad), (λ sound. sound), subst (λ t. IsSomeAnd t (Stops (rows_of filter now bytes) text)) told stops)) held
 
     line_failed : (s : Streams) (failure : Failure) → StopsOver SaysOfLines failure s → StatusSays (status_of failure) Verb.Filter plan document s
-    line_failed s (NotYet option) held = absurd held
+    line_failed s NotAMoment held = absurd held
+    line_failed s NoMoment held = absurd held
     line_failed s OneOf held = absurd held
     line_failed s (Query fault) held = absurd held
     line_failed s NoOption held = absurd held
     line_failed s (Schema fault) held = absurd held
     line_failed s (UnknownType name) held = absurd held
     line_failed s (Refused fault) held = absurd held
-    line_failed s (RowsFile name) held = (filter, is_filter)
+    line_failed s (RowsFile name) held = (filter, now, is_ready)
     line_failed s (Rows (Json line)) held = inl (line_at_fault s (Json line) line BadRow.NotJson refl held)
     line_failed s (Rows (Row line fault)) held = inl (line_at_fault s (Row line fault) line (BadRow.NoEntity fault) refl held)
     line_failed s (Rows (Arithmetic line fault)) held = inl (line_at_fault s (Arithmetic line fault) line (BadRow.NoValue fault) refl held)
@@ -130,8 +131,8 @@ module _ (plan : Plan) (document : List ℕ) (filter : Filter) (now : MomentPart
         inl (by_filter (λ bytes text. SaysOfLines bytes text (LineTooLong line)) StopsAtFault s
         (λ bytes text stops. of_lines StopsAtFault bytes text (line, Finding.TooLong, (λ sound. sound), stops)) held)
     line_failed s (Rows NotACollection) held = inl (by_filter (λ bytes text. SaysOfLines bytes text NotACollection) StopsAtFault s (λ bytes text stops. absurd stops) held)
-    line_failed s (Rows (Read line)) held = (filter, is_filter)
-    line_failed s (Rows Write) held = (filter, is_filter)
+    line_failed s (Rows (Read line)) held = (filter, now, is_ready)
+    line_failed s (Rows Write) held = (filter, now, is_ready)
     line_failed s (Rows (Memory line)) held = tt
 
     pub lines_say : (s : Streams) (answer : Result Tally Failure) → IfOk answer (λ tally. OverRows s (λ bytes text. Filters (rows_of filter now bytes) text tally))
@@ -149,7 +150,8 @@ module _ (plan : Plan) (document : List ℕ) (filter : Filter) (now : MomentPart
         inr (by_filter (λ bytes text. SaysOfLines bytes text fault) BeginsKept s
         (λ bytes text stops. of_lines BeginsKept bytes text (within_stops (rows_of filter now bytes) text (run_stop fault) stops)) stopped)
     lines_begin s (Err (RowsFile name)) held stopped = inl stopped
-    lines_begin s (Err (NotYet option)) held stopped = absurd stopped
+    lines_begin s (Err NotAMoment) held stopped = absurd stopped
+    lines_begin s (Err NoMoment) held stopped = absurd stopped
     lines_begin s (Err OneOf) held stopped = absurd stopped
     lines_begin s (Err (Query fault)) held stopped = absurd stopped
     lines_begin s (Err NoOption) held stopped = absurd stopped
@@ -184,12 +186,12 @@ module _ (plan : Plan) (document : List ℕ) (filter : Filter) (now : MomentPart
     places_fail (Row line fault) wrote = inl (item_at_fault (Row line fault) line (BadRow.NoEntity fault) refl wrote)
     places_fail (Arithmetic line fault) wrote = inl (item_at_fault (Arithmetic line fault) line (BadRow.NoValue fault) refl wrote)
     places_fail NotACollection (text, wrote, (none, empty)) = inr (record {
-      has_filter = (filter, is_filter);
+      has_filter = (filter, now, is_ready);
       asked = is_collection;
       is_none = whole_is rows bytes IsNoCollection whole none;
       nothing = wrote_none old new text wrote empty;
     })
-    places_fail Write wrote = (filter, is_filter)
+    places_fail Write wrote = (filter, now, is_ready)
     places_fail (Memory line) wrote = tt
 
     pub places_done : (tally : Tally) → Writes old new (λ text. OfCollection filter now bytes (λ items. Filters items text tally)) → ByFilter FiltersAll plan document these

@@ -1,21 +1,27 @@
 -- What a run answers, by its first failure.
 use Rattle.std.proofs.Common.{◌≡◌, ◌∙◌, ◌⊎◌, ◌≢◌, ℕ, List, Option, None, Some, Result, Ok, Err, inl, inr, refl, sym, subst, arith}
 use Rattle.std.specs.Borrow.{Bor}
-use Rattle.std.specs.Prelude.{IfErr, OnOk, IsSomeAnd}
-use Rattle.std.specs.Io.KnownBytes.{Keeps}
+use Rattle.std.specs.Prelude.{IfErr, IfSome, IsNone, MatchOption, OnOk, IsSomeAnd}
+use Rattle.std.proofs.lemmas.Option.{none-some}
+use Rattle.std.specs.Io.KnownBytes.{Appends, Keeps}
 use Rattle.std.proofs.KnownBytes.{Keeps-trans, Appends-kept}
+use Rattle.edm_values.specs.MomentLiteral.{MomentValue}
+use Rattle.edm_values.specs.MomentParts.{MomentParts}
 use Rattle.odata_text.specs.Query.{IsQueryFault}
 use Rattle.odata_text.specs.declared.query_fault.QueryFault.{QueryFault}
 use Rattle.odata_text.specs.declared.query_fault.QueryFault.TheVariants as query
 use Rattle.line_filter.specs.Growth.{Writes}
+use Rattle.odata_filter.specs.Planned.{IsMomentText, IsPlanned}
 use Rattle.odata_filter.specs.declared.command.command_line.Verb.{Verb}
-use Rattle.odata_filter.specs.private.RunFailures.{AnswerSays, IsAnswerOfCheck, IsTold, IsUnwritten, LacksFilter, status_of, status_of_query, status_of_refusal}
-use Rattle.odata_filter.specs.Run.{Answers, BeginsAs, BeginsBy, BeginsKept, HoldsOfRows, Completes, IsAccepted, NamesType, AsksFor, IsPlanFilter, HasNoFilter, RefusalSays, Streams, streams, TellsFilter, WroteNothing, OverRows, OfRows, ByFilter, FiltersAll, StopsAtFault, StopsAtRow, Status, complete, without_filter, without_plan, without_type, at_fault, without_device, without_memory, status_number, StatusSays, Begins}
+use Rattle.odata_filter.specs.private.RunFailures.{AnswerSays, GivesMoment, IsAnswerOf, IsMomentUnlessAsked, IsTold, IsUnwritten, LacksFilter, ReadsNoRows, status_of, status_of_query, status_of_refusal}
+use Rattle.odata_filter.specs.Run.{Answers, BeginsAs, BeginsBy, BeginsKept, HoldsOfRows, Completes, IsAccepted, IsFirstMoment, NamesType, AsksFor, IsPlanFilter, IsReady, LacksMoment, HasNoFilter, RefusalSays, Streams, streams, TellsFilter, WroteNothing, OverRows, OfRows, ByFilter, FiltersAll, StopsAtFault, StopsAtRow, Status, complete, without_filter, without_plan, without_type, at_fault, without_device, without_memory, status_number, StatusSays, Begins}
 use Rattle.csdl_schema.specs.SchemaModel.{SchemaModel, slots_of, type_name_at}
 use Rattle.odata_filter.specs.declared.command.command_line.Plan.{Plan}
 use Rattle.odata_filter.specs.declared.command.failure.Failure.{Failure}
 use Rattle.odata_expression_types.specs.declared.refusal.Refusal.{Refusal}
 use Rattle.odata_expression_types.specs.declared.refusal.Refusal.TheVariants as refusal
+use Rattle.odata_checked_filter.specs.Calls.{UsesNow}
+use Rattle.odata_checked_filter.specs.Explanation.{IsExplanation}
 use Rattle.odata_checked_filter.specs.Filter.{Filter, tree_of_filter}
 use Rattle.odata_expression_types.specs.HasTyping.{HasTyping, HasNoTyping, UnlessMemory}
 
@@ -79,24 +85,38 @@ query_lacking plan document schema index given (query.OtherOption n) names is at
 pub lacks_says : (status : Status) (verb : Verb) (plan : Plan) (document : List ℕ) (s : Streams)
     → LacksFilter status plan document → WroteNothing s → StatusSays status verb plan document s
 lacks_says without_filter Verb.Check plan document s lacks wrote = (lacks, tt)
-lacks_says without_filter Verb.Explain plan document s lacks wrote = (lacks, wrote)
+lacks_says without_filter Verb.Explain plan document s lacks wrote = (lacks, tt)
 lacks_says without_filter Verb.Filter plan document s lacks wrote = (lacks, wrote)
-lacks_says without_plan verb plan document s lacks wrote = (inr lacks, wrote)
+lacks_says without_plan verb plan document s lacks wrote = (inr (inl lacks), wrote)
 lacks_says without_memory verb plan document s lacks wrote = tt
 lacks_says _ verb plan document s lacks wrote = absurd lacks
 
 -- what was told of the filter
-unwritten_says : (status : Status) (plan : Plan) (document : List ℕ) (s : Streams) (filter : Filter)
-    → IsPlanFilter plan document filter → IsUnwritten status → StatusSays status Verb.Check plan document s
-unwritten_says without_device plan document s filter is_filter unwritten = inl (filter, is_filter)
-unwritten_says without_memory plan document s filter is_filter unwritten = tt
-unwritten_says _ plan document s filter is_filter unwritten = absurd unwritten
+unwritten_says : (status : Status) (verb : Verb) (plan : Plan) (document : List ℕ) (s : Streams) (filter : Filter)
+    → ReadsNoRows verb → IsPlanFilter plan document filter → IsUnwritten status → StatusSays status verb plan document s
+unwritten_says without_device Verb.Check plan document s filter reads_none is_filter unwritten = inl (filter, is_filter)
+unwritten_says without_device Verb.Explain plan document s filter reads_none is_filter unwritten = inl (filter, is_filter)
+unwritten_says without_device Verb.Filter plan document s filter reads_none is_filter unwritten = absurd reads_none
+unwritten_says without_memory verb plan document s filter reads_none is_filter unwritten = tt
+unwritten_says _ verb plan document s filter reads_none is_filter unwritten = absurd unwritten
 
-pub told_says : {X : Type 0} (plan : Plan) (document : List ℕ) (s : Streams) (filter : Filter) (answer : Result X Failure)
+pub accepted_says : {X : Type 0} (plan : Plan) (document : List ℕ) (s : Streams) (filter : Filter) (answer : Result X Failure)
     → IsPlanFilter plan document filter → OnOk answer (Writes s.old s.new (IsAccepted filter)) → IfErr answer (λ failure. IsUnwritten (status_of failure))
     → AnswerSays answer Verb.Check plan document s
-told_says plan document s filter (Ok done) is_filter told unwritten = record { filter = filter; is_filter = is_filter; written = told }
-told_says plan document s filter (Err failure) is_filter told unwritten = unwritten_says (status_of failure) plan document s filter is_filter unwritten
+accepted_says plan document s filter (Ok done) is_filter told unwritten = record { filter = filter; is_filter = is_filter; written = told }
+accepted_says plan document s filter (Err failure) is_filter told unwritten = unwritten_says (status_of failure) Verb.Check plan document s filter tt is_filter unwritten
+
+pub explained_says : {X : Type 0} (plan : Plan) (document : List ℕ) (s : Streams) (filter : Filter) (answer : Result X Failure)
+    → IsPlanFilter plan document filter → OnOk answer (Writes s.old s.new (IsExplanation filter)) → IfErr answer (λ failure. IsUnwritten (status_of failure))
+    → AnswerSays answer Verb.Explain plan document s
+explained_says plan document s filter (Ok done) is_filter told unwritten = record { filter = filter; is_filter = is_filter; written = told }
+explained_says plan document s filter (Err failure) is_filter told unwritten = unwritten_says (status_of failure) Verb.Explain plan document s filter tt is_filter unwritten
+
+-- a text was written of which P holds
+pub writes_on : {X : Type 0} (answer : Result X Failure) (old new : Option (List ℕ)) (text : List ℕ) (P : List ℕ → Type 0)
+    → OnOk answer (Appends old new text) → P text → OnOk answer (Writes old new P)
+writes_on (Ok done) old new text P wrote is = (text, wrote, is)
+writes_on (Err failure) old new text P wrote is = tt
 
 -- ---- standard output was flushed
 
@@ -110,27 +130,26 @@ by_filter_kept : (P : OfRows) (plan : Plan) (document : List ℕ) (rows : Option
     → ByFilter P plan document (streams rows a b) → Keeps b c → ByFilter P plan document (streams rows a c)
 by_filter_kept P plan document rows a b c by kept = record {
   filter = by.filter;
-  is_filter = by.is_filter;
   now = by.now;
-  is_first = by.is_first;
+  is_ready = by.is_ready;
   written = over_kept rows a b c (HoldsOfRows plan.collection P by.filter by.now) by.written kept;
 }
 
-told_kept : (plan : Plan) (document : List ℕ) (rows : Option (Option (List ℕ))) (a b c : Option (List ℕ))
-    → TellsFilter plan document (streams rows a b) → Keeps b c → TellsFilter plan document (streams rows a c)
-told_kept plan document rows a b c tells kept =
+told_kept : (Says : Filter → List ℕ → Type 0) (plan : Plan) (document : List ℕ) (rows : Option (Option (List ℕ))) (a b c : Option (List ℕ))
+    → TellsFilter Says plan document (streams rows a b) → Keeps b c → TellsFilter Says plan document (streams rows a c)
+told_kept Says plan document rows a b c tells kept =
     let (text, wrote, is) = tells.written in
     record { filter = tells.filter; is_filter = tells.is_filter; written = (text, Appends-kept a b c text wrote kept, is) }
 
 completes_kept : (verb : Verb) (plan : Plan) (document : List ℕ) (rows : Option (Option (List ℕ))) (a b c : Option (List ℕ))
     → Completes verb plan document (streams rows a b) → Keeps b c → Completes verb plan document (streams rows a c)
 completes_kept Verb.Filter plan document rows a b c ends kept = by_filter_kept FiltersAll plan document rows a b c ends kept
-completes_kept Verb.Check plan document rows a b c ends kept = told_kept plan document rows a b c ends kept
-completes_kept Verb.Explain plan document rows a b c ends kept = absurd ends
+completes_kept Verb.Check plan document rows a b c ends kept = told_kept IsAccepted plan document rows a b c ends kept
+completes_kept Verb.Explain plan document rows a b c ends kept = told_kept IsExplanation plan document rows a b c ends kept
 
 refuses_kept : (verb : Verb) (rows : Option (Option (List ℕ))) (a b c : Option (List ℕ)) → RefusalSays verb (streams rows a b) → Keeps b c → RefusalSays verb (streams rows a c)
-refuses_kept Verb.Check rows a b c wrote kept = tt
-refuses_kept _ rows a b c wrote kept = Keeps-trans a b c wrote kept
+refuses_kept Verb.Filter rows a b c wrote kept = Keeps-trans a b c wrote kept
+refuses_kept _ rows a b c wrote kept = tt
 
 stops_kept : (verb : Verb) (plan : Plan) (document : List ℕ) (rows : Option (Option (List ℕ))) (a b c : Option (List ℕ))
     → StopsAtRow verb plan document (streams rows a b) → Keeps b c → StopsAtRow verb plan document (streams rows a c)
@@ -183,41 +202,104 @@ refusal_numbered at_fault one = absurd (omega arith)
 refusal_numbered without_device one = absurd (omega arith)
 refusal_numbered without_memory one = absurd (omega arith)
 
-pub answered : (verb : Verb) (status : Status) (number : ℕ) → verb ≡ Verb.Check → number ≡ status_number status → number ≡ 1
-    → IsAnswerOfCheck verb status
-answered verb status number is_check same one =
-    record { is_check = is_check; is_refusal = refusal_numbered status (sym same ∙ one) }
+pub answered : (verb : Verb) (status : Status) (number : ℕ) → ReadsNoRows verb → number ≡ status_number status → number ≡ 1
+    → IsAnswerOf verb status
+answered verb status number reads_none same one =
+    record { reads_none = reads_none; is_refusal = refusal_numbered status (sym same ∙ one) }
 
--- what a refusal says, as an answer of `check`
+-- what a refusal says, as an answer
 answer_says : (status : Status) (verb : Verb) (plan : Plan) (document : List ℕ) (s : Streams)
-    → StatusSays status verb plan document s → IsAnswerOfCheck verb status → HasNoFilter plan document
+    → StatusSays status verb plan document s → IsAnswerOf verb status → HasNoFilter plan document
 answer_says status verb plan document s says is =
-    let here : StatusSays without_filter Verb.Check plan document s =
-    subst (λ st. StatusSays st Verb.Check plan document s) is.is_refusal (subst (λ v. StatusSays status v plan document s) is.is_check says) in
+    let here : StatusSays without_filter verb plan document s = subst (λ st. StatusSays st verb plan document s) is.is_refusal says in
     here.0
 
-answers_of_check : (number : ℕ) (status : Status) (verb : Verb) (plan : Plan) (document : List ℕ) (s : Streams)
-    → number ≡ status_number status → verb ≡ Verb.Check → StatusSays status Verb.Check plan document s
-    → plan.verb ≡ verb → Answers number plan document s
-answers_of_check number status verb plan document s is_answer is_check says same = record {
-  status = status;
-  is_answer = is_answer;
-  says = subst (λ v. StatusSays status v plan document s) (sym (same ∙ is_check)) says;
-  begins = inr (subst (λ v. BeginsBy v plan document s) (sym (same ∙ is_check)) tt);
-}
+refused_says : (verb : Verb) (plan : Plan) (document : List ℕ) (s : Streams) → ReadsNoRows verb → HasNoFilter plan document
+    → StatusSays without_filter verb plan document s
+refused_says Verb.Check plan document s reads_none none = (none, tt)
+refused_says Verb.Explain plan document s reads_none none = (none, tt)
+refused_says Verb.Filter plan document s reads_none none = absurd reads_none
+
+untold_says : (verb : Verb) (plan : Plan) (document : List ℕ) (s : Streams) → ReadsNoRows verb → HasNoFilter plan document
+    → StatusSays without_device verb plan document s
+untold_says Verb.Check plan document s reads_none none = inr none
+untold_says Verb.Explain plan document s reads_none none = inr none
+untold_says Verb.Filter plan document s reads_none none = absurd reads_none
+
+begins_any : (verb : Verb) (plan : Plan) (document : List ℕ) (s : Streams) → ReadsNoRows verb → BeginsBy verb plan document s
+begins_any Verb.Check plan document s reads_none = tt
+begins_any Verb.Explain plan document s reads_none = tt
+begins_any Verb.Filter plan document s reads_none = absurd reads_none
 
 pub Answers-told : (number : ℕ) (status : Status) (plan : Plan) (document : List ℕ) (rows : Option (Option (List ℕ))) (a b c : Option (List ℕ))
     → StatusSays status plan.verb plan document (streams rows a b) → Begins plan document (streams rows a b)
     → IsTold number status plan.verb b c → Answers number plan document (streams rows a c)
 Answers-told number status plan document rows a b c says begins (inl (is, inl one)) =
-    answers_of_check number without_filter plan.verb plan document (streams rows a c) one is.is_check
-    (answer_says status plan.verb plan document (streams rows a b) says is, tt) refl
+    record {
+      status = without_filter;
+      is_answer = one;
+      says = refused_says plan.verb plan document (streams rows a c) is.reads_none (answer_says status plan.verb plan document (streams rows a b) says is);
+      begins = inr (begins_any plan.verb plan document (streams rows a c) is.reads_none);
+    }
 Answers-told number status plan document rows a b c says begins (inl (is, inr five)) =
-    answers_of_check number without_device plan.verb plan document (streams rows a c) five is.is_check
-    (inr (answer_says status plan.verb plan document (streams rows a b) says is)) refl
+    record {
+      status = without_device;
+      is_answer = five;
+      says = untold_says plan.verb plan document (streams rows a c) is.reads_none (answer_says status plan.verb plan document (streams rows a b) says is);
+      begins = inr (begins_any plan.verb plan document (streams rows a c) is.reads_none);
+    }
 Answers-told number status plan document rows a b c says begins (inr (exact, kept)) = record {
   status = status;
   is_answer = exact;
   says = StatusSays-kept status plan.verb plan document rows a b c says kept;
   begins = begins_kept plan.verb plan document rows a b c begins kept;
 }
+
+-- ---- the moment that is given
+
+pub moment_there : (given : Option (Bor (List ℕ))) (text : Bor (List ℕ)) (moment : MomentParts)
+    → given ≡ Some text → MomentValue text.now moment → IfSome given (λ g. IsMomentText g.now)
+moment_there given text moment is value = subst (λ g. IfSome g (λ t. IsMomentText t.now)) (sym is) (moment, value)
+
+pub no_moment : (plan : Plan) (text : Bor (List ℕ))
+    → plan.now ≡ Some text → ((moment : MomentParts) → MomentValue text.now moment → None ≡ Some moment) → ¬ IsPlanned plan
+no_moment plan text is none planned =
+    let there : IsMomentText text.now = subst (λ g. IfSome g (λ t. IsMomentText t.now)) is planned.moment in
+    none-some there.0 (none there.0 there.1)
+
+-- ---- the moment for a filter
+
+-- where the given moment is the plan's, the one for the filter is that or the first
+pub is_ready : (plan : Plan) (document : List ℕ) (filter : Filter) (given : Option MomentParts) (now : MomentParts)
+    → GivesMoment plan given → IsMomentUnlessAsked filter given now → IsPlanFilter plan document filter → IsReady plan document filter now
+is_ready plan document filter given now gives is is_filter = record { is_filter = is_filter; is_moment = moment_given plan.now given gives is }
+  where
+    moment_given : (text : Option (Bor (List ℕ))) (g : Option MomentParts)
+        → MatchOption text (g ≡ None) (λ t. IsSomeAnd g (MomentValue t.now)) → IsMomentUnlessAsked filter g now
+        → MatchOption text ((¬ UsesNow (tree_of_filter filter)) × IsFirstMoment now) (λ t. MomentValue t.now now)
+    moment_given None None gives is = is
+    moment_given None (Some moment) gives is = cc
+    moment_given (Some t) (Some moment) gives is = subst (MomentValue t.now) (sym is) gives
+    moment_given (Some t) None gives is = absurd gives
+
+-- where none is given and the filter asks for it, the plan lacks it
+pub lacks_moment : (plan : Plan) (document : List ℕ) (filter : Filter) (given : Option MomentParts)
+    → GivesMoment plan given → given ≡ None → UsesNow (tree_of_filter filter) → IsPlanFilter plan document filter → LacksMoment plan document
+lacks_moment plan document filter given gives none asks is_filter = record {
+  filter = filter;
+  is_filter = is_filter;
+  asks = asks;
+  none = not_given plan.now given gives none;
+}
+  where
+    not_given : (text : Option (Bor (List ℕ))) (g : Option MomentParts)
+        → MatchOption text (g ≡ None) (λ t. IsSomeAnd g (MomentValue t.now)) → g ≡ None → IsNone text
+    not_given None g gives none = refl
+    not_given (Some t) None gives none = absurd gives
+    not_given (Some t) (Some moment) gives none = cc
+
+-- so a run over its rows ends
+pub without_moment : (plan : Plan) (document : List ℕ) (failure : Failure) (s : Streams)
+    → failure ≡ Failure.NoMoment → LacksMoment plan document → WroteNothing s → StatusSays (status_of failure) Verb.Filter plan document s
+without_moment plan document failure s is lacks wrote =
+    subst (λ (f : Failure). StatusSays (status_of f) Verb.Filter plan document s) (sym is) (inr (inr lacks), wrote)

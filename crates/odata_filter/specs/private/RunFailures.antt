@@ -1,16 +1,20 @@
 -- The failures of a run. Private clauses alone cite these.
-use Rattle.std.specs.Prelude.{◌≡◌, ◌⊎◌, ℕ, List, Option, Result, Ok, Err, IfSome, IsSomeAnd}
+use Rattle.std.specs.Prelude.{◌≡◌, ◌⊎◌, ℕ, List, Option, None, Result, Ok, Err, IfSome, IsSomeAnd, MatchOption}
 use Rattle.std.specs.Io.KnownBytes.{Keeps}
+use Rattle.edm_values.specs.MomentLiteral.{MomentValue}
+use Rattle.edm_values.specs.MomentParts.{MomentParts}
 use Rattle.odata_text.specs.declared.query_fault.QueryFault.{QueryFault}
 use Rattle.odata_text.specs.declared.query_fault.QueryFault.TheVariants as query
 use Rattle.odata_filter.specs.declared.command.command_line.Verb.{Verb}
-use Rattle.odata_filter.specs.declared.command.command_line.Verb.TheVariants.{Check}
-use Rattle.odata_filter.specs.Run.{HasNoFilter, HasNoOption, Streams, WroteNothing, OverRows, Status, StatusSays, status_number, complete, without_filter, without_plan, without_type, at_fault, without_device, without_memory}
+use Rattle.odata_filter.specs.declared.command.command_line.Verb.TheVariants.{Filter as ByRows}
+use Rattle.odata_checked_filter.specs.Calls.{UsesNow}
+use Rattle.odata_checked_filter.specs.Filter.{Filter, tree_of_filter}
+use Rattle.odata_filter.specs.Run.{IsFirstMoment, HasNoFilter, HasNoOption, Streams, WroteNothing, OverRows, Status, StatusSays, status_number, complete, without_filter, without_plan, without_type, at_fault, without_device, without_memory}
 use Rattle.csdl_declarations.specs.declared.fault.SchemaFault.{SchemaFault}
 use Rattle.csdl_declarations.specs.declared.fault.SchemaFault.TheVariants as schema
 use Rattle.odata_filter.specs.declared.command.command_line.Plan.{Plan}
 use Rattle.odata_filter.specs.declared.command.failure.Failure.{Failure}
-use Rattle.odata_filter.specs.declared.command.failure.Failure.TheVariants.{NotYet, OneOf, Schema, UnknownType, Query, NoOption, Refused, RowsFile, Rows}
+use Rattle.odata_filter.specs.declared.command.failure.Failure.TheVariants.{NotAMoment, OneOf, Schema, UnknownType, Query, NoOption, Refused, NoMoment, RowsFile, Rows}
 use Rattle.odata_filter.specs.declared.run_fault.RunFault.{RunFault}
 use Rattle.odata_filter.specs.declared.run_fault.RunFault.TheVariants as rows
 use Rattle.odata_expression_types.specs.declared.refusal.Refusal.{Refusal}
@@ -40,13 +44,14 @@ status_of_rows fault = at_fault
 
 -- how a run ends by a failure
 abbrev pub status_of : Failure → Status
-status_of (NotYet option) = without_plan
+status_of NotAMoment = without_plan
 status_of OneOf = without_plan
 status_of (Schema fault) = status_of_schema fault
 status_of (UnknownType name) = without_type
 status_of (Query fault) = status_of_query fault
 status_of NoOption = without_plan
 status_of (Refused refusal) = status_of_refusal refusal
+status_of NoMoment = without_plan
 status_of (RowsFile name) = without_device
 status_of (Rows fault) = status_of_rows fault
 
@@ -78,14 +83,28 @@ IsUnwritten without_device = Unit {0}
 IsUnwritten without_memory = Unit {0}
 IsUnwritten _ = ⊥
 
--- a refusal is an answer of `check`
-pub record IsAnswerOfCheck (verb : Verb) (status : Status) : Type 0 where
-  pub is_check : verb ≡ Check
+-- the moment that a plan gives, if it gives one
+abbrev pub GivesMoment : Plan → Option MomentParts → Type 0
+GivesMoment plan moment = MatchOption plan.now (moment ≡ None) (λ text. IsSomeAnd moment (MomentValue text.now))
+
+-- the moment for a filter: the given one, or the first where none is given and the filter does not ask for it
+abbrev pub IsMomentUnlessAsked : Filter → Option MomentParts → MomentParts → Type 0
+IsMomentUnlessAsked filter given now =
+    MatchOption given ((¬ UsesNow (tree_of_filter filter)) × IsFirstMoment now) (λ moment. now ≡ moment)
+
+-- the verb reads no rows
+abbrev pub ReadsNoRows : Verb → Type 0
+ReadsNoRows ByRows = ⊥
+ReadsNoRows verb = Unit {0}
+
+-- a refusal is an answer of such a verb
+pub record IsAnswerOf (verb : Verb) (status : Status) : Type 0 where
+  pub reads_none : ReadsNoRows verb
   pub is_refusal : status ≡ without_filter
 
--- A failure was told, and the program ends with this number: standard output took the answer of `check`, or did not;
--- else it stays as it is.
+-- A failure was told, and the program ends with this number: standard output took the answer of a verb that reads no
+-- rows, or did not; else it stays as it is.
 abbrev pub IsTold : ℕ → Status → Verb → Option (List ℕ) → Option (List ℕ) → Type 0
 IsTold number status verb old new =
-    (IsAnswerOfCheck verb status × ((number ≡ 1) ⊎ (number ≡ 5)))
+    (IsAnswerOf verb status × ((number ≡ 1) ⊎ (number ≡ 5)))
     ⊎ ((number ≡ status_number status) × Keeps old new)

@@ -12,8 +12,8 @@ use thiserror::Error;
 /// wherever it comes from.
 #[derive(Debug, Drop, Error)]
 pub enum Failure<'p> {
-    #[error("usage {0} is still to come")]
-    NotYet(&'static str),
+    #[error("usage now is not a moment")]
+    NotAMoment,
     #[error("usage give one of filter and query")]
     OneOf,
     #[error("{}{}", unless(matches!(.0, SchemaFault::Memory), "schema "), .0)]
@@ -26,6 +26,8 @@ pub enum Failure<'p> {
     NoOption,
     #[error("{}{}", unless(matches!(.0, Refusal::Memory), "refused "), .0)]
     Refused(Refusal),
+    #[error("usage now is needed")]
+    NoMoment,
     #[error("read {0}")]
     RowsFile(&'p str),
     #[error("{0}")]
@@ -49,7 +51,7 @@ impl Failure<'_> {
             Failure::Schema(SchemaFault::Memory) | Failure::Query(QueryFault::Memory) => 6,
             Failure::Refused(Refusal::Memory) | Failure::Rows(RunFault::Memory { .. }) => 6,
             Failure::Query(_) | Failure::Refused(_) => 1,
-            Failure::NotYet(_) | Failure::OneOf | Failure::NoOption => 2,
+            Failure::NotAMoment | Failure::OneOf | Failure::NoOption | Failure::NoMoment => 2,
             Failure::Schema(_) | Failure::UnknownType(_) => 3,
             Failure::RowsFile(_)
             | Failure::Rows(RunFault::Read { .. })

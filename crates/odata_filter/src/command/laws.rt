@@ -6,11 +6,11 @@ ghost use Rattle.odata_filter.specs.CommandLine.{Enters, GivesNotOne, IsTaken, i
 ghost use Rattle.odata_filter.specs.declared.command.command_line.Verb.{Verb};
 ghost use Rattle.odata_filter.specs.WorkedLines as worked;
 
-/// A whole line is taken with its four values and no collection, one with `--collection` behind it with that, and one
-/// with a query in place of the filter with that. Lines with
-/// neither and with both are taken and give not one of them. Lines without a schema and with an unknown option are not
-/// taken. `check` takes a filter, and no rows, no moment and no collection. The program tells its version, its
-/// subcommand has none of its own, and help goes before what is missing.
+/// A whole line is taken with its four values and no collection, one with `--collection` or `--now` behind it with that,
+/// and one with a query in place of the filter with that. Lines with neither and with both are taken and give not one of
+/// them. Lines without a schema and with an unknown option are not taken. `check` takes a filter, and no rows, no moment
+/// and no collection; `explain` a query, and no moment. The program tells its version, its subcommand has none of its
+/// own, and help goes before what is missing.
 pub fn worked_lines()
     ensures taken { IsTaken worked.whole }
     ensures schema { first_of (codes "schema") (verb_matches worked.whole) ≡ Some (codes "s") }
@@ -20,6 +20,8 @@ pub fn worked_lines()
     ensures lines { is_flag_set Verb.Filter (codes "collection") (verb_matches worked.whole) ≡ false }
     ensures collection_taken { IsTaken worked.with_collection }
     ensures collection { is_flag_set Verb.Filter (codes "collection") (verb_matches worked.with_collection) ≡ true }
+    ensures now_taken { IsTaken worked.with_now }
+    ensures now { first_of (codes "now") (verb_matches worked.with_now) ≡ Some (codes "m") }
     ensures query_taken { IsTaken worked.with_query }
     ensures query { first_of (codes "query") (verb_matches worked.with_query) ≡ Some (codes "x") }
     ensures neither { GivesNotOne worked.without_filter }
@@ -34,5 +36,9 @@ pub fn worked_lines()
     ensures check_has_no_rows { fault_of odfilter_app worked.check_with_rows ≡ kind.UnknownArgument ∷ [] }
     ensures check_has_no_now { fault_of odfilter_app worked.check_with_now ≡ kind.UnknownArgument ∷ [] }
     ensures check_has_no_collection { fault_of odfilter_app worked.check_with_collection ≡ kind.UnknownArgument ∷ [] }
+    ensures explain_taken { IsTaken worked.whole_explain }
+    ensures explain_enters { Enters worked.whole_explain Verb.Explain }
+    ensures explain_query { first_of (codes "query") (verb_matches worked.whole_explain) ≡ Some (codes "x") }
+    ensures explain_has_no_now { fault_of odfilter_app worked.explain_with_now ≡ kind.UnknownArgument ∷ [] }
     ensures help { fault_of odfilter_app worked.help_of_filter ≡ kind.DisplayHelp ∷ [] }
 {}

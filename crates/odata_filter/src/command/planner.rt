@@ -1,9 +1,8 @@
 ghost use Rattle.std.specs.Prelude.{◌≡◌, IfOk, MatchResult, codes, false, map, option_map};
 ghost use Rattle.clap.specs.Words.{found_of, rows_of, rule_of};
-ghost use Rattle.odata_filter.specs.Planned.{IsCarriedOut, IsPlanned};
 ghost use Rattle.odata_filter.specs.CommandLine.{HasValues, IsPlanOf, IsRefusedBy};
-ghost use Rattle.odata_filter.specs.CommandLine.{check_app, filter_app, flag_rule, is_flag_set, odfilter_app, option_value, text_rule};
-ghost use Rattle.odata_filter.specs.CommandLine.{verb_app};
+ghost use Rattle.odata_filter.specs.CommandLine.{check_app, explain_app, filter_app, flag_rule, is_flag_set};
+ghost use Rattle.odata_filter.specs.CommandLine.{odfilter_app, option_value, rowless_app, text_rule, verb_app};
 ghost use Rattle.odata_filter.specs.private.PlanSteps.{IsApp, IsClapFault, IsNotOneFault};
 
 use super::command_line::{Plan, PlanFault, Verb};
@@ -18,6 +17,7 @@ const VERSION: &str = "0.1.0";
 const AFTER_HELP: &str = "\
 Examples:
   odfilter check --schema schema.json --type Mini.Item --filter \"Name eq 'a'\"
+  odfilter explain --schema schema.json --type Mini.Item --filter \"Name eq 'a'\"
   odfilter filter --schema schema.json --type Mini.Item --filter \"Name eq 'a'\" --rows rows.json
   odfilter filter --schema schema.json --type Mini.Item --query '$filter=ID%20eq%201' <rows.json
   odfilter filter --schema schema.json --type Mini.Item --filter \"Name eq 'a'\" --collection <answer.json
@@ -95,7 +95,18 @@ fn check_command<'a>(alloc: Global) -> Result<Command<'a>, AllocError>
     )
 }
 
-/// The subcommand `filter`, which may name its rows and say that they are a collection.
+/// The subcommand `explain`.
+fn explain_command<'a>(alloc: Global) -> Result<Command<'a>, AllocError>
+    ensures { IfOk result (IsApp explain_app) }
+{
+    verb_command(
+        alloc,
+        "explain",
+        "Says of each node of a filter where it stands, what it is, and its type",
+    )
+}
+
+/// The subcommand `filter`, which may name its rows, say what stands for now, and say that the rows are a collection.
 fn filter_command<'a>(alloc: Global) -> Result<Command<'a>, AllocError>
     ensures { IfOk result (IsApp filter_app) }
 {
@@ -105,6 +116,12 @@ fn filter_command<'a>(alloc: Global) -> Result<Command<'a>, AllocError>
         "FILE",
         "Rows, one JSON object a line; else standard input",
     );
+    let now = text_option(
+        alloc,
+        "now",
+        "MOMENT",
+        "What now() stands for, as 2020-01-01T00:00:00Z; needed by a filter that calls it",
+    );
     let collection = flag(
         alloc,
         "collection",
@@ -112,12 +129,12 @@ fn filter_command<'a>(alloc: Global) -> Result<Command<'a>, AllocError>
     );
     let about = "Writes the rows whose outcome is true, as they come";
     let command = verb_command(alloc, "filter", about)?;
-    command.arg(rows)?.arg(collection)
+    command.arg(rows)?.arg(now)?.arg(collection)
 }
 
-/// The command line as `clap` reads it.
-fn command<'a>(alloc: Global) -> Result<Command<'a>, AllocError>
-    ensures { IfOk result (IsApp odfilter_app) }
+/// The command with the subcommands that read no rows.
+fn rowless_command<'a>(alloc: Global) -> Result<Command<'a>, AllocError>
+    ensures { IfOk result (IsApp rowless_app) }
 {
     Command::new(alloc, "odfilter")
         .about("Checks an OData $filter against a type, and filters rows by it")
@@ -125,7 +142,14 @@ fn command<'a>(alloc: Global) -> Result<Command<'a>, AllocError>
         .version(VERSION)
         .subcommand_required(true)
         .subcommand(check_command(alloc)?)?
-        .subcommand(filter_command(alloc)?)
+        .subcommand(explain_command(alloc)?)
+}
+
+/// The command line as `clap` reads it.
+fn command<'a>(alloc: Global) -> Result<Command<'a>, AllocError>
+    ensures { IfOk result (IsApp odfilter_app) }
+{
+    rowless_command(alloc)?.subcommand(filter_command(alloc)?)
 }
 
 fn fault_of(error: Error) -> PlanFault
@@ -148,6 +172,17 @@ fn rows_file<'a>(verb: Verb, matches: &ArgMatches<'a>) -> Option<&'a str>
     }
 }
 
+/// What stands for now, which `filter` alone may say.
+fn moment_text<'a>(verb: Verb, matches: &ArgMatches<'a>) -> Option<&'a str>
+    ensures { option_map (λ s. s.now) result
+        ≡ option_value verb (codes "now") (rows_of (found_of matches.now)) }
+{
+    match verb {
+        Verb::Filter => matches.get_str("now"),
+        Verb::Check | Verb::Explain => None,
+    }
+}
+
 /// Whether the rows are a collection, which `filter` alone may say.
 fn is_collection(verb: Verb, matches: &ArgMatches<'_>) -> bool
     ensures { result ≡ is_flag_set verb (codes "collection") (rows_of (found_of matches.now)) }
@@ -160,9 +195,7 @@ fn is_collection(verb: Verb, matches: &ArgMatches<'_>) -> bool
 
 /// The plan of what stands behind a verb.
 fn plan_of<'a>(verb: Verb, matches: &ArgMatches<'a>) -> Result<Plan<'a>, PlanFault>
-    requires { IsCarriedOut verb }
     ensures verb { IfOk result (λ plan. plan.verb ≡ verb) }
-    ensures planned { IfOk result IsPlanned }
     ensures values { MatchResult result (HasValues (rows_of (found_of matches.now)))
         (IsNotOneFault (rows_of (found_of matches.now))) }
 {
@@ -178,7 +211,7 @@ fn plan_of<'a>(verb: Verb, matches: &ArgMatches<'a>) -> Result<Plan<'a>, PlanFau
         filter,
         query,
         rows: rows_file(verb, matches),
-        now: None,
+        now: moment_text(verb, matches),
         collection: is_collection(verb, matches),
     })
 }
@@ -188,8 +221,7 @@ fn plan_of<'a>(verb: Verb, matches: &ArgMatches<'a>) -> Result<Plan<'a>, PlanFau
 /// `OneOf` comes where not exactly one of filter and query is given, `Clap` where `clap` refuses the words or is asked
 /// for help or the version.
 pub fn plan<'a>(alloc: Global, words: &'a [&'a str]) -> Result<Plan<'a>, PlanFault>
-    ensures planned { IfOk result IsPlanned }
-    ensures asked { MatchResult result (IsPlanOf (map (λ s. s.now) words.entry.now))
+    ensures { MatchResult result (IsPlanOf (map (λ s. s.now) words.entry.now))
         (IsRefusedBy (map (λ s. s.now) words.entry.now)) }
 {
     let command = match command(alloc) {
@@ -204,7 +236,10 @@ pub fn plan<'a>(alloc: Global, words: &'a [&'a str]) -> Result<Plan<'a>, PlanFau
         Some(inner) => plan_of(Verb::Filter, inner),
         None => match matches.subcommand_matches("check") {
             Some(inner) => plan_of(Verb::Check, inner),
-            None => Err(PlanFault::OneOf),
+            None => match matches.subcommand_matches("explain") {
+                Some(inner) => plan_of(Verb::Explain, inner),
+                None => Err(PlanFault::OneOf),
+            },
         },
     }
 }

@@ -1,10 +1,13 @@
 //! The rows of a plan, filtered: each a line, or all of them in one collection.
-ghost use Rattle.std.specs.Prelude.{◌≡◌, false, true, ℕ, List, option_map, IfOk, IfErr};
+ghost use Rattle.std.specs.Prelude.{◌≡◌, false, true, ℕ, List, None, option_map, IfOk, IfErr};
 ghost use Rattle.line_filter.specs.Kept.{Filters};
 ghost use Rattle.odata_filter.specs.RowJudgment.{rows_of};
-ghost use Rattle.odata_filter.specs.Run.{BeginsAs, IsFirstMoment, IsPlanFilter, OverRows, streams};
+ghost use Rattle.odata_checked_filter.specs.Calls.{UsesNow};
+ghost use Rattle.odata_checked_filter.specs.Filter.{tree_of_filter};
+ghost use Rattle.odata_filter.specs.Run.{BeginsAs, IsFirstMoment, IsPlanFilter, IsReady, OverRows, streams};
 ghost use Rattle.odata_filter.specs.RunStops.{StopsBy};
-ghost use Rattle.odata_filter.specs.private.RunFailures.{AnswerSays, IsUnwritten, IsReadWhole, StopsOver, status_of};
+ghost use Rattle.odata_filter.specs.private.RunFailures.{AnswerSays, GivesMoment, IsMomentUnlessAsked, IsUnwritten};
+ghost use Rattle.odata_filter.specs.private.RunFailures.{IsReadWhole, StopsOver, status_of};
 
 use super::command_line::{Plan, Verb};
 use super::failure::Failure;
@@ -19,6 +22,22 @@ use odata_typing::Checked;
 use std::alloc::Global;
 use std::io::{Read, Write};
 
+/// A plan, its checked filter, and the moment that it gives, if it gives one.
+#[derive(Drop)]
+pub(crate) struct Asked<'a, 's, 'p> {
+    pub(crate) checked: &'a Checked<'s>,
+    pub(crate) given: Option<Moment>,
+    pub(crate) plan: &'a Plan<'p>,
+}
+
+/// A plan, its checked filter, and the moment for that.
+#[derive(Drop)]
+struct Ready<'a, 's, 'p> {
+    checked: &'a Checked<'s>,
+    now: Moment,
+    plan: &'a Plan<'p>,
+}
+
 /// The moment that is handed in where none is given, the first one of year 1.
 fn first_moment() -> Moment
     ensures { IsFirstMoment result }
@@ -29,49 +48,64 @@ fn first_moment() -> Moment
     }
 }
 
+/// The moment for a filter: the given one, or the first where the filter does not ask for it.
+fn moment_for<'p>(checked: &Checked<'_>, given: Option<Moment>) -> Result<Moment, Failure<'p>>
+    ensures moment { IfOk result (IsMomentUnlessAsked checked.now given) }
+    ensures needed { IfErr result (λ failure. failure ≡ Failure.NoMoment) }
+    ensures asks { IfErr result (λ _. UsesNow (tree_of_filter checked.now)) }
+    ensures none { IfErr result (λ _. given ≡ None) }
+{
+    match given {
+        Some(moment) => Ok(moment),
+        None => if checked.uses_now() {
+            Err(Failure::NoMoment)
+        } else {
+            Ok(first_moment())
+        },
+    }
+}
+
 /// The rows of the plan, a line each, by its checked filter.
 fn lines_by_filter<'p, R: Read + Drop, W: Write>(
     alloc: Global,
-    checked: &Checked<'_>,
-    now: &Moment,
-    plan: &Plan<'p>,
+    ready: &Ready<'_, '_, 'p>,
     rows: Option<R>,
     out: &mut W,
 ) -> Result<Tally, Failure<'p>>
     ensures done { IfOk result (λ tally. OverRows
         (streams (option_map (λ r. R.remaining r) rows) (W.contents out.old) (W.contents out.new))
-        (λ bytes text. Filters (rows_of checked.now now.now bytes) text tally)) }
+        (λ bytes text. Filters (rows_of ready.entry.now.checked.now ready.entry.now.now bytes) text tally)) }
     ensures failed { IfErr result (λ failure.
-        StopsOver (λ bytes. StopsBy (rows_of checked.now now.now bytes)) failure
+        StopsOver (λ bytes. StopsBy (rows_of ready.entry.now.checked.now ready.entry.now.now bytes)) failure
         (streams (option_map (λ r. R.remaining r) rows) (W.contents out.old) (W.contents out.new))) }
 {
     match rows {
-        Some(rows) => match filter_lines(alloc, checked, now, rows, out) {
+        Some(rows) => match filter_lines(alloc, ready.checked, &ready.now, rows, out) {
             Ok(tally) => Ok(tally),
             Err(fault) => Err(Failure::Rows(fault)),
         },
-        None => Err(Failure::RowsFile(plan.rows.unwrap_or("rows"))),
+        None => Err(Failure::RowsFile(ready.plan.rows.unwrap_or("rows"))),
     }
 }
 
 /// The lines that the filter keeps.
 fn filter_by_line<'p, R: Read + Drop, W: Write>(
     alloc: Global,
-    checked: &Checked<'_>,
-    plan: &Plan<'p>,
+    ready: &Ready<'_, '_, 'p>,
     rows: Option<R>,
     out: &mut W,
 ) -> Result<(), Failure<'p>>
-    requires { plan.now.collection ≡ false }
-    ensures says { (document : List ℕ) → IsPlanFilter plan.entry.now document checked.now
-        → AnswerSays result Verb.Filter plan.entry.now document
+    requires { ready.now.plan.now.collection ≡ false }
+    ensures says { (document : List ℕ)
+        → IsReady ready.entry.now.plan.now document ready.entry.now.checked.now ready.entry.now.now
+        → AnswerSays result Verb.Filter ready.entry.now.plan.now document
         (streams (option_map (λ r. R.remaining r) rows) (W.contents out.old) (W.contents out.new)) }
-    ensures begins { (document : List ℕ) → IsPlanFilter plan.entry.now document checked.now
-        → BeginsAs Verb.Filter plan.entry.now document
+    ensures begins { (document : List ℕ)
+        → IsReady ready.entry.now.plan.now document ready.entry.now.checked.now ready.entry.now.now
+        → BeginsAs Verb.Filter ready.entry.now.plan.now document
         (streams (option_map (λ r. R.remaining r) rows) (W.contents out.old) (W.contents out.new)) }
 {
-    let now = first_moment();
-    match lines_by_filter(alloc, checked, &now, plan, rows, out) {
+    match lines_by_filter(alloc, ready, rows, out) {
         Ok(_) => Ok(()),
         Err(failure) => Err(failure),
     }
@@ -110,48 +144,76 @@ fn whole_rows<'p, R: Read + Drop>(
 /// The places of the entities that the filter keeps of a collection.
 fn filter_by_place<'p, R: Read + Drop, W: Write>(
     alloc: Global,
-    checked: &Checked<'_>,
-    plan: &Plan<'p>,
+    ready: &Ready<'_, '_, 'p>,
     rows: Option<R>,
     out: &mut W,
 ) -> Result<(), Failure<'p>>
-    requires { plan.now.collection ≡ true }
-    ensures says { (document : List ℕ) → IsPlanFilter plan.entry.now document checked.now
-        → AnswerSays result Verb.Filter plan.entry.now document
+    requires { ready.now.plan.now.collection ≡ true }
+    ensures says { (document : List ℕ)
+        → IsReady ready.entry.now.plan.now document ready.entry.now.checked.now ready.entry.now.now
+        → AnswerSays result Verb.Filter ready.entry.now.plan.now document
         (streams (option_map (λ r. R.remaining r) rows) (W.contents out.old) (W.contents out.new)) }
-    ensures begins { (document : List ℕ) → IsPlanFilter plan.entry.now document checked.now
-        → BeginsAs Verb.Filter plan.entry.now document
+    ensures begins { (document : List ℕ)
+        → IsReady ready.entry.now.plan.now document ready.entry.now.checked.now ready.entry.now.now
+        → BeginsAs Verb.Filter ready.entry.now.plan.now document
         (streams (option_map (λ r. R.remaining r) rows) (W.contents out.old) (W.contents out.new)) }
 {
-    let document = match whole_rows(alloc, plan, rows) {
+    let document = match whole_rows(alloc, ready.plan, rows) {
         Ok(document) => document,
         Err(failure) => return Err(failure),
     };
-    let now = first_moment();
-    match filter_collection(alloc, checked, &now, &document, out) {
+    match filter_collection(alloc, ready.checked, &ready.now, &document, out) {
         Ok(_) => Ok(()),
         Err(fault) => Err(Failure::Rows(fault)),
     }
 }
 
-/// The rows that the filter keeps.
-pub fn filter_rows<'p, R: Read + Drop, W: Write>(
+/// The rows that the filter keeps, where the moment for it is there.
+fn filter_ready<'p, R: Read + Drop, W: Write>(
     alloc: Global,
-    checked: &Checked<'_>,
-    plan: &Plan<'p>,
+    ready: &Ready<'_, '_, 'p>,
     rows: Option<R>,
     out: &mut W,
 ) -> Result<(), Failure<'p>>
-    ensures says { (document : List ℕ) → IsPlanFilter plan.entry.now document checked.now
-        → AnswerSays result Verb.Filter plan.entry.now document
+    ensures says { (document : List ℕ)
+        → IsReady ready.entry.now.plan.now document ready.entry.now.checked.now ready.entry.now.now
+        → AnswerSays result Verb.Filter ready.entry.now.plan.now document
         (streams (option_map (λ r. R.remaining r) rows) (W.contents out.old) (W.contents out.new)) }
-    ensures begins { (document : List ℕ) → IsPlanFilter plan.entry.now document checked.now
-        → BeginsAs Verb.Filter plan.entry.now document
+    ensures begins { (document : List ℕ)
+        → IsReady ready.entry.now.plan.now document ready.entry.now.checked.now ready.entry.now.now
+        → BeginsAs Verb.Filter ready.entry.now.plan.now document
         (streams (option_map (λ r. R.remaining r) rows) (W.contents out.old) (W.contents out.new)) }
 {
-    if plan.collection {
-        filter_by_place(alloc, checked, plan, rows, out)
+    if ready.plan.collection {
+        filter_by_place(alloc, ready, rows, out)
     } else {
-        filter_by_line(alloc, checked, plan, rows, out)
+        filter_by_line(alloc, ready, rows, out)
     }
+}
+
+/// The rows that the filter keeps.
+pub(crate) fn filter_rows<'p, R: Read + Drop, W: Write>(
+    alloc: Global,
+    asked: &Asked<'_, '_, 'p>,
+    rows: Option<R>,
+    out: &mut W,
+) -> Result<(), Failure<'p>>
+    requires { GivesMoment asked.now.plan.now asked.now.given }
+    ensures says { (document : List ℕ) → IsPlanFilter asked.entry.now.plan.now document asked.entry.now.checked.now
+        → AnswerSays result Verb.Filter asked.entry.now.plan.now document
+        (streams (option_map (λ r. R.remaining r) rows) (W.contents out.old) (W.contents out.new)) }
+    ensures begins { (document : List ℕ) → IsPlanFilter asked.entry.now.plan.now document asked.entry.now.checked.now
+        → BeginsAs Verb.Filter asked.entry.now.plan.now document
+        (streams (option_map (λ r. R.remaining r) rows) (W.contents out.old) (W.contents out.new)) }
+{
+    let now = match moment_for(asked.checked, asked.given) {
+        Ok(now) => now,
+        Err(failure) => return Err(failure),
+    };
+    let ready = Ready {
+        checked: asked.checked,
+        now,
+        plan: asked.plan,
+    };
+    filter_ready(alloc, &ready, rows, out)
 }

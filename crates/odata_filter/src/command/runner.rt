@@ -1,61 +1,51 @@
-ghost use Rattle.std.specs.Prelude.{◌≡◌, ◌<◌, ◌↔◌, ◌⊎◌, ℕ, List, Some, option_map, string_bytes};
-ghost use Rattle.std.specs.Prelude.{MatchOption, IfOk, IfErr, IsTrue, OnOk, OnErr, IsNone};
+ghost use Rattle.std.specs.Prelude.{◌≡◌, ◌<◌, ◌↔◌, ◌⊎◌, ℕ, List, Option, Some, option_map, string_bytes};
+ghost use Rattle.std.specs.Prelude.{IfOk, IfErr, IfSome, IsTrue, OnOk, OnErr};
+ghost use Rattle.std.specs.Io.KnownBytes.{Appends};
 ghost use Rattle.line_filter.specs.Growth.{Writes};
-ghost use Rattle.odata_filter.specs.Planned.{IsCarriedOut, IsPlanned};
+ghost use Rattle.odata_checked_filter.specs.Explanation.{IsExplanation};
+ghost use Rattle.odata_filter.specs.Planned.{IsMomentText, IsPlanned};
 ghost use Rattle.odata_filter.specs.Run.{Answers, AsksFor, Begins, IsAccepted, IsPlanFilter, NamesType};
 ghost use Rattle.odata_filter.specs.Run.{streams, without_plan, without_type};
-ghost use Rattle.odata_filter.specs.private.RunFailures.{AnswerSays, IsTold, IsUnwritten, LacksFilter};
-ghost use Rattle.odata_filter.specs.private.RunFailures.{status_of};
+ghost use Rattle.odata_filter.specs.private.RunFailures.{AnswerSays, GivesMoment, IsTold, IsUnwritten, LacksFilter};
+ghost use Rattle.odata_filter.specs.private.RunFailures.{ReadsNoRows, status_of};
 ghost use Rattle.csdl_schema.specs.SchemaModel.{HoldsType, IsEntityAt, index_named};
 
 use super::command_line::{Plan, Verb};
 use super::failure::Failure;
-use super::rows::filter_rows;
+use super::rows::{Asked, filter_rows};
 use crate::run_fault::RunFault;
 use csdl_schema::{Schema, TypeId};
+use edm_values::{Moment, read_moment};
 use odata_text::filter_of_query;
 use odata_typing::{Checked, Refusal, check};
 use std::alloc::{AllocError, Global};
 use std::io::{Read, Write};
 
-/// Whether the verb is carried out.
-fn is_carried_out(verb: Verb) -> bool
-    ensures { IsTrue result ↔ IsCarriedOut verb }
-{
-    match verb {
-        Verb::Check => true,
-        Verb::Filter => true,
-        Verb::Explain => false,
-    }
-}
-
-/// What a plan asks for that is not there yet.
-fn not_yet(plan: &Plan<'_>) -> Option<&'static str>
-    ensures { MatchOption result
-        (IsNone plan.entry.now.now × IsCarriedOut plan.entry.now.verb)
-        (λ option. ¬ IsPlanned plan.entry.now) }
-{
-    if !is_carried_out(plan.verb) {
-        return Some("explain");
-    }
-    if plan.now.is_some() {
-        Some("now")
-    } else {
-        None
-    }
-}
-
-/// Whether the plan is one that can be carried out.
-fn is_planned<'p>(plan: &Plan<'p>) -> Result<(), Failure<'p>>
-    ensures planned { OnOk result (IsPlanned plan.entry.now) }
+/// The moment that the plan gives, if it gives one.
+fn given_moment<'p>(plan: &Plan<'p>) -> Result<Option<Moment>, Failure<'p>>
+    ensures moment { OnOk result (IfSome plan.entry.now.now (λ given. IsMomentText given.now)) }
+    ensures given { IfOk result (GivesMoment plan.entry.now) }
     ensures other { OnErr result (¬ IsPlanned plan.entry.now) }
     ensures status { IfErr result (λ failure. status_of failure ≡ without_plan) }
 {
-    if let Some(option) = not_yet(plan) {
-        return Err(Failure::NotYet(option));
+    match plan.now {
+        Some(text) => match read_moment(text) {
+            Some(moment) => Ok(Some(moment)),
+            None => Err(Failure::NotAMoment),
+        },
+        None => Ok(None),
     }
+}
+
+/// The same of a plan that can be carried out.
+fn planned_moment<'p>(plan: &Plan<'p>) -> Result<Option<Moment>, Failure<'p>>
+    ensures planned { OnOk result (IsPlanned plan.entry.now) }
+    ensures given { IfOk result (GivesMoment plan.entry.now) }
+    ensures other { OnErr result (¬ IsPlanned plan.entry.now) }
+    ensures status { IfErr result (λ failure. status_of failure ≡ without_plan) }
+{
     match (plan.filter, plan.query) {
-        (Some(_), None) | (None, Some(_)) => Ok(()),
+        (Some(_), None) | (None, Some(_)) => given_moment(plan),
         _ => Err(Failure::OneOf),
     }
 }
@@ -139,19 +129,11 @@ fn accepted_text(alloc: Global, checked: &Checked<'_>) -> Result<String, AllocEr
     Ok(text)
 }
 
-/// Tells the filter.
-fn tell_filter<'p, W: Write>(
-    alloc: Global,
-    checked: &Checked<'_>,
-    out: &mut W,
-) -> Result<(), Failure<'p>>
-    ensures told { OnOk result (Writes (W.contents out.old) (W.contents out.new) (IsAccepted checked.now)) }
+/// Writes what is told of a filter.
+fn write_told<'p, W: Write>(text: &str, out: &mut W) -> Result<(), Failure<'p>>
+    ensures told { OnOk result (Appends (W.contents out.old) (W.contents out.new) text.now) }
     ensures unwritten { IfErr result (λ failure. IsUnwritten (status_of failure)) }
 {
-    let text = match accepted_text(alloc, checked) {
-        Ok(text) => text,
-        Err(_) => return Err(Failure::Refused(Refusal::Memory)),
-    };
     if out.write_all(text.as_bytes()).is_err() {
         return Err(Failure::Rows(RunFault::Write));
     }
@@ -161,28 +143,56 @@ fn tell_filter<'p, W: Write>(
     }
 }
 
-/// What the plan's verb makes of its filter. `check` looks at no rows.
-fn by_verb<'p, R: Read + Drop, W: Write>(
+/// Tells the filter.
+fn tell_filter<'p, W: Write>(
     alloc: Global,
     checked: &Checked<'_>,
-    plan: &Plan<'p>,
+    out: &mut W,
+) -> Result<(), Failure<'p>>
+    ensures told { OnOk result (Writes (W.contents out.old) (W.contents out.new) (IsAccepted checked.now)) }
+    ensures unwritten { IfErr result (λ failure. IsUnwritten (status_of failure)) }
+{
+    match accepted_text(alloc, checked) {
+        Ok(text) => write_told(&text, out),
+        Err(_) => Err(Failure::Refused(Refusal::Memory)),
+    }
+}
+
+/// Tells each node of the filter.
+fn tell_nodes<'p, W: Write>(
+    alloc: Global,
+    checked: &Checked<'_>,
+    out: &mut W,
+) -> Result<(), Failure<'p>>
+    ensures told { OnOk result (Writes (W.contents out.old) (W.contents out.new) (IsExplanation checked.now)) }
+    ensures unwritten { IfErr result (λ failure. IsUnwritten (status_of failure)) }
+{
+    match checked.explain(alloc) {
+        Ok(text) => write_told(&text, out),
+        Err(_) => Err(Failure::Refused(Refusal::Memory)),
+    }
+}
+
+/// What the plan's verb makes of its filter. `check` and `explain` look at no rows.
+fn by_verb<'p, R: Read + Drop, W: Write>(
+    alloc: Global,
+    asked: &Asked<'_, '_, 'p>,
     rows: Option<R>,
     out: &mut W,
 ) -> Result<(), Failure<'p>>
-    requires { IsCarriedOut plan.now.verb }
-    ensures says { (document : List ℕ) → IsPlanFilter plan.entry.now document checked.now
-        → AnswerSays result plan.entry.now.verb plan.entry.now document
+    requires { GivesMoment asked.now.plan.now asked.now.given }
+    ensures says { (document : List ℕ) → IsPlanFilter asked.entry.now.plan.now document asked.entry.now.checked.now
+        → AnswerSays result asked.entry.now.plan.now.verb asked.entry.now.plan.now document
         (streams (option_map (λ r. R.remaining r) rows) (W.contents out.old) (W.contents out.new)) }
-    ensures begins { (document : List ℕ) → IsPlanFilter plan.entry.now document checked.now
-        → Begins plan.entry.now document
+    ensures begins { (document : List ℕ) → IsPlanFilter asked.entry.now.plan.now document asked.entry.now.checked.now
+        → Begins asked.entry.now.plan.now document
         (streams (option_map (λ r. R.remaining r) rows) (W.contents out.old) (W.contents out.new)) }
 {
-    match plan.verb {
-        Verb::Check => return tell_filter(alloc, checked, out),
-        Verb::Filter => {}
-        Verb::Explain => unreachable!(),
+    match asked.plan.verb {
+        Verb::Check => tell_filter(alloc, asked.checked, out),
+        Verb::Explain => tell_nodes(alloc, asked.checked, out),
+        Verb::Filter => filter_rows(alloc, asked, rows, out),
     }
-    filter_rows(alloc, checked, plan, rows, out)
 }
 
 /// The whole run, up to its first failure.
@@ -198,9 +208,10 @@ fn carry_out<'p, R: Read + Drop, W: Write>(
     ensures begins { Begins plan.entry.now document.now
         (streams (option_map (λ r. R.remaining r) rows) (W.contents out.old) (W.contents out.new)) }
 {
-    if let Err(failure) = is_planned(plan) {
-        return Err(failure);
-    }
+    let given = match planned_moment(plan) {
+        Ok(given) => given,
+        Err(failure) => return Err(failure),
+    };
     let schema = match Schema::read(alloc, document) {
         Ok(schema) => schema,
         Err(fault) => return Err(Failure::Schema(fault)),
@@ -210,7 +221,16 @@ fn carry_out<'p, R: Read + Drop, W: Write>(
         Err(failure) => return Err(failure),
     };
     match checked_plan(alloc, &schema, id, plan) {
-        Ok(checked) => by_verb(alloc, &checked, plan, rows, out),
+        Ok(checked) => by_verb(
+            alloc,
+            &Asked {
+                checked: &checked,
+                given,
+                plan,
+            },
+            rows,
+            out,
+        ),
         Err(failure) => Err(failure),
     }
 }
@@ -226,14 +246,24 @@ fn tell_answer<W: Write, E: Write>(failure: &Failure<'_>, out: &mut W, err: &mut
     5
 }
 
-/// Tells a failure and answers the status: to `check` a refusal is an answer, for standard output; every other goes to
-/// standard error, behind a flush of standard output.
+/// Whether the verb reads no rows.
+fn reads_no_rows(verb: Verb) -> bool
+    ensures { IsTrue result ↔ ReadsNoRows verb }
+{
+    match verb {
+        Verb::Check | Verb::Explain => true,
+        Verb::Filter => false,
+    }
+}
+
+/// Tells a failure and answers the status: to a verb that reads no rows a refusal is an answer, for standard output;
+/// every other goes to standard error, behind a flush of standard output.
 fn tell<W: Write, E: Write>(verb: Verb, failure: &Failure<'_>, out: &mut W, err: &mut E) -> u8
     ensures known { result < 7 }
     ensures told { IsTold result (status_of failure.now) verb (W.contents out.old) (W.contents out.new) }
 {
     let status = failure.status();
-    if verb == Verb::Check && status == 1 {
+    if reads_no_rows(verb) && status == 1 {
         return tell_answer(failure, out, err);
     }
     let _ = out.flush();
@@ -244,7 +274,7 @@ fn tell<W: Write, E: Write>(verb: Verb, failure: &Failure<'_>, out: &mut W, err:
 /// Carries out a plan over the bytes of its schema file and answers the status that the program ends with.
 ///
 /// `rows` is `None` where the rows file cannot be opened, which is told last. `out` and `err` stand for standard output
-/// and error: kept rows and what `check` says go to `out`, and the line of another failure to `err`, behind a flush of
+/// and error: kept rows and what `check` and `explain` say go to `out`, and the line of another failure to `err`, behind a flush of
 /// `out`.
 pub fn run<R: Read + Drop, W: Write, E: Write>(
     alloc: Global,

@@ -69,3 +69,21 @@ returns-clause-check_has_no_now c = line.check_now
 
 pub returns-clause-check_has_no_collection : goal.returns-clause-check_has_no_collection
 returns-clause-check_has_no_collection c = line.check_collection
+
+pub returns-clause-now_taken : goal.returns-clause-now_taken
+returns-clause-now_taken c = line.now_taken
+
+pub returns-clause-now : goal.returns-clause-now
+returns-clause-now c = line.now_found
+
+pub returns-clause-explain_taken : goal.returns-clause-explain_taken
+returns-clause-explain_taken c = line.explain_taken
+
+pub returns-clause-explain_enters : goal.returns-clause-explain_enters
+returns-clause-explain_enters c = line.explain_enters
+
+pub returns-clause-explain_query : goal.returns-clause-explain_query
+returns-clause-explain_query c = line.explain_query
+
+pub returns-clause-explain_has_no_now : goal.returns-clause-explain_has_no_now
+returns-clause-explain_has_no_now c = line.explain_now

@@ -1,7 +1,7 @@
-use Rattle.std.proofs.Common.{◌∙◌, rules, refl, sym, ap₂, codes}
+use Rattle.std.proofs.Common.{◌∙◌, refl, sym, ap₂, codes}
 use Rattle.std.proofs.Math.Bool.{beq}
-use Rattle.clap.specs.Words.{found_of, rows_of}
-use Rattle.odata_filter.proofs.LineLemmas.PlanLemmas.{no_moment, one_found, one_found-not, text_found, text_or_empty}
+use Rattle.clap.specs.Words.{found_of}
+use Rattle.odata_filter.proofs.LineLemmas.PlanLemmas.{one_found, one_found-not, text_found, text_or_empty}
 use Rattle.odata_filter.proofs.command.planner.plan_of.Goals as goal
 
 pub returns-then-is_some-clause-values : goal.returns-then-is_some-clause-values
@@ -9,14 +9,6 @@ returns-then-is_some-clause-values c =
     one_found-not (found_of c.args.matches.now) c.get_str-filter.result c.get_str-query.result
     c.get_str-filter.ensures c.get_str-query.ensures
     (sym (ap₂ beq c.is_some.ensures c.is_some-2.ensures) ∙ c.if-is_some.true)
-
-pub returns-clause-planned : goal.returns-clause-planned
-returns-clause-planned c = record {
-  carried_out = c.requires;
-  one_of = one_found c.get_str-filter.result c.get_str-query.result
-      (sym (ap₂ beq c.is_some.ensures c.is_some-2.ensures) ∙ c.if-is_some.false);
-  has_no_moment = search rules;
-}
 
 pub returns-clause-values : goal.returns-clause-values
 returns-clause-values c =
@@ -33,6 +25,6 @@ returns-clause-values c =
       filter = text_found found (codes "filter") filter c.get_str-filter.ensures;
       query = text_found found (codes "query") query c.get_str-query.ensures;
       rows = c.rows_file.ensures;
-      now = sym (no_moment c.args.verb (rows_of found));
+      now = c.moment_text.ensures;
       collection = c.is_collection.ensures;
     }

@@ -1,24 +1,37 @@
 use Rattle.std.proofs.Common.{inr, option_map}
+use Rattle.odata_filter.specs.Run.{streams}
 use Rattle.odata_filter.specs.declared.command.command_line.Verb.{Verb}
-use Rattle.odata_filter.proofs.RunLemmas.RunEndings.{begins_as, says_as, told_says}
+use Rattle.odata_filter.proofs.RunLemmas.RunEndings.{accepted_says, begins_as, explained_says, says_as}
 use Rattle.odata_filter.proofs.command.runner.by_verb.Goals as goal
 
-pub returns-clause-says : goal.returns-clause-says
-returns-clause-says g c document is_filter =
-    says_as c.filter_rows.result Verb.Filter c.args.plan.now document (record { rows = option_map (λ r. g.R.Read.remaining r) c.args.rows; old = g.W.Write.contents c.args.out.now; new = g.W.Write.contents c.filter_rows.new.out })
+pub returns-in-Filter-clause-says : goal.returns-in-Filter-clause-says
+returns-in-Filter-clause-says g c document is_filter =
+    says_as c.filter_rows.result Verb.Filter c.args.asked.now.plan.now document (streams (option_map (λ r. g.R.Read.remaining r) c.args.rows) (g.W.Write.contents c.args.out.now) (g.W.Write.contents c.filter_rows.new.out))
     c.in-Filter.is (c.filter_rows.ensures.says document is_filter)
 
-pub returns-clause-begins : goal.returns-clause-begins
-returns-clause-begins g c document is_filter =
-    begins_as Verb.Filter c.args.plan.now document (record { rows = option_map (λ r. g.R.Read.remaining r) c.args.rows; old = g.W.Write.contents c.args.out.now; new = g.W.Write.contents c.filter_rows.new.out })
+pub returns-in-Filter-clause-begins : goal.returns-in-Filter-clause-begins
+returns-in-Filter-clause-begins g c document is_filter =
+    begins_as Verb.Filter c.args.asked.now.plan.now document (streams (option_map (λ r. g.R.Read.remaining r) c.args.rows) (g.W.Write.contents c.args.out.now) (g.W.Write.contents c.filter_rows.new.out))
     c.in-Filter.is (c.filter_rows.ensures.begins document is_filter)
 
 pub returns-in-Check-clause-says : goal.returns-in-Check-clause-says
 returns-in-Check-clause-says g c document is_filter =
-    says_as c.tell_filter.result Verb.Check c.args.plan.now document (record { rows = option_map (λ r. g.R.Read.remaining r) c.args.rows; old = g.W.Write.contents c.args.out.now; new = g.W.Write.contents c.tell_filter.new.out })
-    c.in-Check.is (told_says c.args.plan.now document (record { rows = option_map (λ r. g.R.Read.remaining r) c.args.rows; old = g.W.Write.contents c.args.out.now; new = g.W.Write.contents c.tell_filter.new.out })
-    c.args.checked.now c.tell_filter.result is_filter c.tell_filter.ensures.told c.tell_filter.ensures.unwritten)
+    let written = streams (option_map (λ r. g.R.Read.remaining r) c.args.rows) (g.W.Write.contents c.args.out.now) (g.W.Write.contents c.tell_filter.new.out) in
+    says_as c.tell_filter.result Verb.Check c.args.asked.now.plan.now document written
+    c.in-Check.is (accepted_says c.args.asked.now.plan.now document written
+    c.args.asked.now.checked.now c.tell_filter.result is_filter c.tell_filter.ensures.told c.tell_filter.ensures.unwritten)
 
 pub returns-in-Check-clause-begins : goal.returns-in-Check-clause-begins
 returns-in-Check-clause-begins g c document is_filter =
-    begins_as Verb.Check c.args.plan.now document (record { rows = option_map (λ r. g.R.Read.remaining r) c.args.rows; old = g.W.Write.contents c.args.out.now; new = g.W.Write.contents c.tell_filter.new.out }) c.in-Check.is (inr tt)
+    begins_as Verb.Check c.args.asked.now.plan.now document (streams (option_map (λ r. g.R.Read.remaining r) c.args.rows) (g.W.Write.contents c.args.out.now) (g.W.Write.contents c.tell_filter.new.out)) c.in-Check.is (inr tt)
+
+pub returns-in-Explain-clause-says : goal.returns-in-Explain-clause-says
+returns-in-Explain-clause-says g c document is_filter =
+    let written = streams (option_map (λ r. g.R.Read.remaining r) c.args.rows) (g.W.Write.contents c.args.out.now) (g.W.Write.contents c.tell_nodes.new.out) in
+    says_as c.tell_nodes.result Verb.Explain c.args.asked.now.plan.now document written
+    c.in-Explain.is (explained_says c.args.asked.now.plan.now document written
+    c.args.asked.now.checked.now c.tell_nodes.result is_filter c.tell_nodes.ensures.told c.tell_nodes.ensures.unwritten)
+
+pub returns-in-Explain-clause-begins : goal.returns-in-Explain-clause-begins
+returns-in-Explain-clause-begins g c document is_filter =
+    begins_as Verb.Explain c.args.asked.now.plan.now document (streams (option_map (λ r. g.R.Read.remaining r) c.args.rows) (g.W.Write.contents c.args.out.now) (g.W.Write.contents c.tell_nodes.new.out)) c.in-Explain.is (inr tt)
