@@ -1,7 +1,8 @@
 -- A tree as one list of its nodes in pre-order.
-use Rattle.std.specs.Prelude.{ℕ, ◌+◌, List, [], ◌∷◌, slice_get, nat_lt, unwrap_or, if◌then◌else◌}
+use Rattle.std.specs.Prelude.{ℕ, ◌+◌, List, [], ◌∷◌, slice_get, nat_lt, unwrap_or, if◌then◌else◌, codes}
 use Rattle.edm_values.specs.declared.value.Value.{Value}
-use Rattle.odata_syntax.specs.Tree.{Tree, node, Shape, literal, it, name, member, negation, logical_not, binary}
+use Rattle.odata_syntax.specs.Tree.{Tree, node, Shape, literal, it, name, member, negation, logical_not, binary, call, trees_of_list}
+use Rattle.odata_signatures.specs.Functions.{row_of}
 use Rattle.odata_checked_filter.specs.declared.checked_node.CheckedNode.{CheckedNode}
 use Rattle.odata_checked_filter.specs.declared.checked_node.NodeKind.{NodeKind}
 
@@ -19,6 +20,8 @@ shape_of_kind (NodeKind.Member slot) text (base ∷ []) = member base text
 shape_of_kind NodeKind.Neg text (operand ∷ []) = negation operand
 shape_of_kind NodeKind.Not text (operand ∷ []) = logical_not operand
 shape_of_kind (NodeKind.Binary operator) text (left ∷ right ∷ []) = binary operator left right
+shape_of_kind NodeKind.Now text children = call (codes "now") (trees_of_list children)
+shape_of_kind (NodeKind.Call function) text children = call (row_of function).name (trees_of_list children)
 shape_of_kind kind text children = name text
 
 -- a tree, and the number of its first node

@@ -7,6 +7,7 @@ pub use Rattle.odata_expression_types.specs.LiteralValue
 pub use Rattle.odata_expression_types.specs.PreOrder
 pub use Rattle.odata_expression_types.specs.Typed
 pub use Rattle.odata_signatures.specs.ExprTypes
+pub use Rattle.odata_signatures.specs.Functions
 pub use Rattle.odata_signatures.specs.TypeView
 pub use Rattle.odata_syntax.specs.CanonicalText
 pub use Rattle.odata_syntax.specs.FirstRun

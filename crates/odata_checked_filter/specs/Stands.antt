@@ -1,9 +1,9 @@
 -- When a part of a list of nodes stands for a tree, with the right types, values and slots.
-use Rattle.std.specs.Prelude.{◌≡◌, ℕ, ◌+◌, List, [], Some, None, map, slice_get, IsSomeAnd}
+use Rattle.std.specs.Prelude.{◌≡◌, ◌≢◌, ℕ, ◌+◌, List, [], Some, None, map, slice_get, IsSomeAnd}
 use Rattle.edm_values.specs.PlainVal.{plain_val}
 use Rattle.edm_values.specs.Val.{Val}
 use Rattle.edm_values.specs.declared.value.Value.{Value}
-use Rattle.odata_syntax.specs.Tree.{Tree, node, Shape, literal, it, name, member, negation, logical_not, binary}
+use Rattle.odata_syntax.specs.Tree.{Tree, Trees, node, Shape, literal, it, name, member, negation, logical_not, binary, call, more_trees, no_trees}
 use Rattle.odata_syntax.specs.declared.node.LiteralKind.{LiteralKind}
 use Rattle.csdl_schema.specs.ExprType.{ExprType, single, structured}
 use Rattle.csdl_schema.specs.SchemaModel.{PropertyModel, SchemaModel, Slots, slots_of, type_name_at, slot_named}
@@ -13,7 +13,9 @@ use Rattle.odata_checked_filter.specs.FlatTree.{FlatTree}
 use Rattle.odata_checked_filter.specs.Levels.{level_named}
 use Rattle.odata_expression_types.specs.LiteralValue.{LiteralValue}
 use Rattle.odata_expression_types.specs.Typed.{Scope, Typed}
+use Rattle.odata_signatures.specs.Functions.{IsNamed}
 use Rattle.odata_signatures.specs.TypeView.{expr_type}
+use Rattle.odata_signatures.specs.declared.function.Function.{Function}
 
 -- the names of a scope's variables
 abbrev pub variable_names : Scope → List (List ℕ)
@@ -44,6 +46,12 @@ IsMemberNode slots Base asked (NodeKind.Member slot) =
     (owner : List ℕ) × Base (single (structured owner)) × (slot_named (slots.properties owner) asked ≡ Some slot)
 IsMemberNode slots Base asked _ = ⊥
 
+-- the kind of a call's node: the function of that name, `now` by itself
+abbrev pub IsCallNode : List ℕ → NodeKind → Type 0
+IsCallNode asked NodeKind.Now = IsNamed Function.Now asked
+IsCallNode asked (NodeKind.Call function) = IsNamed function asked × (function ≢ Function.Now)
+IsCallNode asked _ = ⊥
+
 -- the kind of a node, where these values and types are, the filtered type is root and these variables are in scope; the
 -- other forms have none yet
 abbrev pub IsKindOf : List Value → Slots → List ℕ → Scope → Shape → NodeKind → Type 0
@@ -54,6 +62,7 @@ IsKindOf values slots root scope (member base asked) k = IsMemberNode slots (Typ
 IsKindOf values slots root scope (negation operand) k = k ≡ NodeKind.Neg
 IsKindOf values slots root scope (logical_not operand) k = k ≡ NodeKind.Not
 IsKindOf values slots root scope (binary operator left right) k = k ≡ NodeKind.Binary operator
+IsKindOf values slots root scope (call asked arguments) k = IsCallNode asked k
 IsKindOf values slots root scope _ k = ⊥
 
 -- the text beside a node
@@ -104,4 +113,12 @@ abbrev mutual
   ChildrenStand schema n scope list i j (binary operator left right) =
       SideBySide (λ middle. Stands schema n scope list i middle left)
       (λ middle. Stands schema n scope list middle j right)
+  ChildrenStand schema n scope list i j (call asked arguments) = AllStand schema n scope list i j arguments
   ChildrenStand schema n scope list i j shape = ⊥
+
+  -- likewise for trees one behind another
+  pub AllStand : SchemaModel → ℕ → Scope → FlatTree → ℕ → ℕ → Trees → Type 0
+  AllStand schema n scope list i j no_trees = i ≡ j
+  AllStand schema n scope list i j (more_trees tree trees) =
+      SideBySide (λ middle. Stands schema n scope list i middle tree)
+      (λ middle. AllStand schema n scope list middle j trees)

@@ -1,3 +1,4 @@
 -- Definitions that private clauses alone cite.
+pub mod CalledKinds
 pub mod CanonicalWalk
 pub mod ExplanationWalk

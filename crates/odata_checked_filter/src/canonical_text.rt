@@ -1,12 +1,12 @@
 //! The canonical text of a checked filter, written from its list.
-ghost use Rattle.std.specs.Prelude.{◌≡◌, ◌+◌, ◌∷◌, [], ◌++◌, ◌<◌, IfOk, OnOk, length, string_bytes};
+ghost use Rattle.std.specs.Prelude.{◌≡◌, ℕ, ◌+◌, ◌∷◌, [], ◌++◌, ◌<◌, IfOk, OnOk, length, string_bytes};
 ghost use Rattle.odata_syntax.specs.CanonicalText.{IsCanonicalText};
 ghost use Rattle.odata_syntax.specs.Grammar.{operator_level};
 ghost use Rattle.odata_syntax.specs.Lexeme.{operator_word};
 ghost use Rattle.odata_checked_filter.specs.FlatTree.{tree_of_nodes};
-ghost use Rattle.odata_checked_filter.specs.private.CanonicalWalk.{HasTreeAt, IsBinaryAt, IsPieceOf, IsSignAt};
+ghost use Rattle.odata_checked_filter.specs.private.CanonicalWalk.{AreFurtherPut, HasTreeAt, IsBinaryAt, IsCallAt, IsPieceOf, IsSignAt};
 ghost use Rattle.odata_checked_filter.specs.private.CanonicalWalk.{IsSignPut, IsStepAdded, IsTextAdded, Piece, StandsThere};
-ghost use Rattle.odata_checked_filter.specs.private.CanonicalWalk.{WritesPart, operands_of, step_parts};
+ghost use Rattle.odata_checked_filter.specs.private.CanonicalWalk.{WritesPart, arguments_of, operands_of, step_parts};
 
 use super::checked_node::NodeKind;
 use super::node_list::NodeList;
@@ -22,6 +22,8 @@ pub(crate) enum Part {
     Operator(BinaryOperator),
     /// A slash and the name beside the node at a place.
     Step { place: usize },
+    /// Further arguments, from a place up to another, each behind a comma.
+    Further { place: usize, stop: usize },
     /// The end of a group.
     Close,
 }
@@ -62,6 +64,7 @@ fn write_part(
         Part::Operand { place, needed } => write_operand(list, place, needed, text, pending),
         Part::Operator(operator) => write_operator(text, operator),
         Part::Step { place } => write_step(list, place, text),
+        Part::Further { place, stop } => write_further(list, place, stop, text, pending),
         Part::Close => write_close(text),
     }
 }
@@ -110,9 +113,13 @@ fn write_operand(
         NodeKind::Property { .. } => write_name(list, place, text),
         NodeKind::Variable { .. } => write_name(list, place, text),
         NodeKind::Member { .. } => put_step(list, place, pending),
+        NodeKind::Now => write_call(list, place, "now", text, pending),
         NodeKind::Neg => write_sign(list, place, needed, "- ", text, pending),
         NodeKind::Not => write_sign(list, place, needed, "not ", text, pending),
         NodeKind::Binary { operator } => write_binary(list, place, needed, operator, text, pending),
+        NodeKind::Call { function } => {
+            write_call(list, place, function.signature().name, text, pending)
+        }
     }
 }
 
@@ -122,6 +129,62 @@ fn write_name(list: &NodeList, place: usize, text: &mut String) -> Result<(), Al
     ensures { OnOk result (IsTextAdded list.now place (string_bytes text.old) (string_bytes text.new)) }
 {
     text.push_str(list.text(place))
+}
+
+/// Writes the name of a function and `(`, and puts its arguments on the stack, and `)` below them.
+fn write_call(
+    list: &NodeList,
+    place: usize,
+    name: &str,
+    text: &mut String,
+    pending: &mut Vec<Part>,
+) -> Result<(), AllocError>
+    requires there { HasTreeAt list.now place }
+    requires called { IsCallAt list.now place name.now }
+    ensures { (needed : ℕ) → OnOk result (WritesPart list.now (Part.Operand place needed)
+        (string_bytes text.old) (string_bytes text.new) pending.old.items pending.new.items) }
+{
+    let count = list.nodes().len();
+    prove!(place < count);
+    text.push_str(name)?;
+    open_group(text, pending)?;
+    put_arguments(list, place + 1, list.node(place).stop, pending)
+}
+
+/// Writes a comma and puts the arguments behind it on the stack; nothing where there is none.
+fn write_further(
+    list: &NodeList,
+    place: usize,
+    stop: usize,
+    text: &mut String,
+    pending: &mut Vec<Part>,
+) -> Result<(), AllocError>
+    requires { place < stop → place < length list.now.nodes }
+    ensures { OnOk result (AreFurtherPut list.now place stop (string_bytes text.old) (string_bytes text.new)
+        pending.old.items pending.new.items) }
+{
+    if place < stop {
+        text.push(',')?;
+    }
+    put_arguments(list, place, stop, pending)
+}
+
+/// Puts arguments on the stack, the first on top; nothing where there is none.
+fn put_arguments(
+    list: &NodeList,
+    place: usize,
+    stop: usize,
+    pending: &mut Vec<Part>,
+) -> Result<(), AllocError>
+    requires { place < stop → place < length list.now.nodes }
+    ensures { OnOk result (pending.new.items ≡ pending.old.items ++ arguments_of list.now place stop) }
+{
+    if place < stop {
+        let next = list.node(place).stop;
+        pending.push(Part::Further { place: next, stop })?;
+        pending.push(Part::Operand { place, needed: 0 })?;
+    }
+    Ok(())
 }
 
 /// Puts the step to a member on the stack, and on top what stands before the slash.

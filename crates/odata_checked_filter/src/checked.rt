@@ -10,6 +10,7 @@ ghost use Rattle.odata_checked_filter.specs.NameKinds.{IsSlotAt, level_at};
 ghost use Rattle.odata_expression_types.specs.PreOrder.{pre_order, span_of_tree};
 ghost use Rattle.odata_signatures.specs.TypeView.{expr_type};
 
+use super::called::{any_maker, any_now};
 use super::canonical_text::text_of_list;
 use super::checked_node::{CheckedNode, NodeKind};
 use super::explanation::explanation_of;
@@ -17,7 +18,7 @@ use super::node_list::NodeList;
 use csdl_schema::{Schema, TypeId};
 use edm_values::Value;
 use odata_expression_types::trees_have_one_type;
-use odata_signatures::EdmType;
+use odata_signatures::{EdmType, calls_have_one_type};
 use odata_text::Span;
 use std::alloc::{AllocError, Global};
 use std::marker::Model;
@@ -149,9 +150,11 @@ impl<'s> Checked<'s> {
                 NodeKind::Literal { .. }
                 | NodeKind::It
                 | NodeKind::Variable { .. }
+                | NodeKind::Now
                 | NodeKind::Neg
                 | NodeKind::Not
-                | NodeKind::Binary { .. } => None,
+                | NodeKind::Binary { .. }
+                | NodeKind::Call { .. } => None,
             },
             None => None,
         }
@@ -169,9 +172,11 @@ impl<'s> Checked<'s> {
                 | NodeKind::It
                 | NodeKind::Property { .. }
                 | NodeKind::Member { .. }
+                | NodeKind::Now
                 | NodeKind::Neg
                 | NodeKind::Not
-                | NodeKind::Binary { .. } => None,
+                | NodeKind::Binary { .. }
+                | NodeKind::Call { .. } => None,
             },
             None => None,
         }
@@ -198,16 +203,15 @@ impl<'s> Checked<'s> {
     pub fn takes_memory(&self) -> bool
         ensures { IsTrue result ↔ TakesMemory (tree_of_filter self.now) }
     {
-        // No call has a type yet.
-        let _nodes = self.nodes();
-        false
+        calls_have_one_type();
+        any_maker(self.nodes())
     }
 
     /// Whether the filter asks for the moment of its evaluation.
     pub fn uses_now(&self) -> bool
         ensures { IsTrue result ↔ UsesNow (tree_of_filter self.now) }
     {
-        let _nodes = self.nodes();
-        false
+        calls_have_one_type();
+        any_now(self.nodes())
     }
 }

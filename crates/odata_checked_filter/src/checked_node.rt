@@ -1,4 +1,4 @@
-use odata_signatures::EdmType;
+use odata_signatures::{EdmType, Function};
 use odata_syntax::{BinaryOperator, LiteralKind};
 use odata_text::Span;
 
@@ -16,12 +16,16 @@ pub enum NodeKind {
     Variable { level: usize },
     /// A property of the type of what stands before the slash, by its slot there.
     Member { slot: usize },
+    /// `now()`, the moment of the evaluation.
+    Now,
     /// `-`. Its operand stands behind it.
     Neg,
     /// `not`.
     Not,
     /// An operator. Its operands stand behind it.
     Binary { operator: BinaryOperator },
+    /// A call of any function but `now`. Its arguments stand behind it.
+    Call { function: Function },
 }
 
 /// A node of a checked filter. Its first child is the next node of the list, and each other child stands where the one

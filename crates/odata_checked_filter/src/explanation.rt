@@ -10,7 +10,7 @@ use super::checked_node::{CheckedNode, NodeKind};
 use csdl_schema::Schema;
 use edm_values::Prim;
 use itoa::Buffer;
-use odata_signatures::{EdmType, ValueType};
+use odata_signatures::{EdmType, Function, ValueType};
 use odata_syntax::operator_word;
 use odata_text::Span;
 use std::alloc::{AllocError, Global};
@@ -134,6 +134,8 @@ fn push_label(text: &mut String, kind: NodeKind, beside: &str) -> Result<(), All
         NodeKind::Neg => text.push_str("-"),
         NodeKind::Not => text.push_str("not"),
         NodeKind::Binary { operator } => text.push_str(operator_word(operator)),
+        NodeKind::Call { function } => text.push_str(function.name()),
+        NodeKind::Now => text.push_str(Function::Now.name()),
     }
 }
 

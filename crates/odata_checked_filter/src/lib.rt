@@ -2,6 +2,7 @@
 //! 4.01, section 5.1.1).
 #![tactic(auto)]
 
+mod called;
 mod canonical_text;
 mod checked;
 mod checked_node;

@@ -1,5 +1,12 @@
 -- What a tree comes to: at most one outcome, and one where it has a type.
+pub mod AllTrees
+pub mod ArgumentForms
+pub mod CallEnds
+pub mod CallLaws
+pub mod Ends
 pub mod FirstRunLaws
+pub mod FunctionEnds
+pub mod FunctionLaws
 pub mod Kinds
 pub mod LawsBelow
 pub mod Numbers

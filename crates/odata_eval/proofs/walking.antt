@@ -1,4 +1,6 @@
 -- The walk of a filter's list: what stands in a place, and what is answered there.
+pub mod CallSteps
+pub mod CallValues
 pub mod Compared
 pub mod KeptValues
 pub mod Leaves

@@ -1,12 +1,14 @@
 -- What an expression comes to on an entity (OData URL Conventions 4.01, section 5.1.1).
-use Rattle.std.specs.Prelude.{◌≡◌, ℕ, List}
+use Rattle.std.specs.Prelude.{◌≡◌, ℕ, List, [], ◌∷◌}
 use Rattle.edm_values.specs.Val.{Val}
 use Rattle.edm_values.specs.MomentParts.{MomentParts}
-use Rattle.odata_syntax.specs.Tree.{Tree, node, Shape, literal, it, name, member, negation, logical_not, binary}
+use Rattle.odata_syntax.specs.Tree.{Tree, node, Shape, literal, it, name, member, negation, logical_not, binary, call}
+use Rattle.odata_syntax.specs.Tree.{Trees, no_trees, more_trees}
 use Rattle.csdl_schema.specs.SchemaModel.{Slots}
 use Rattle.odata_signatures.specs.OperatorTyped.{NegationTyped}
 use Rattle.odata_expression_types.specs.Typed.{OperandTyped, OperandsTyped, Typed}
 use Rattle.odata_eval.specs.CalculationGives.{NegatedGives}
+use Rattle.odata_eval.specs.CallGives.{CallMeans}
 use Rattle.odata_eval.specs.Environment.{Environment, scope_of}
 use Rattle.odata_eval.specs.LeftFirst.{After}
 use Rattle.odata_eval.specs.LiteralGives.{LiteralGives}
@@ -40,4 +42,14 @@ abbrev mutual
       (OperandsTyped operator (Typed slots root (scope_of environment) left)
       (Typed slots root (scope_of environment) right))
       l (Means slots root now entity environment right))
+  ShapeMeans slots root now entity environment (call asked arguments) =
+      CallMeans now asked (ArgumentsMean slots root now entity environment arguments)
   ShapeMeans slots root now entity environment shape = NoOutcome
+
+  -- the arguments of a call one after another, and what follows their values
+  pub ArgumentsMean :
+      Slots → List ℕ → MomentParts → Val → Environment → Trees → (List Val → Outcome → Type 0) → Outcome → Type 0
+  ArgumentsMean slots root now entity environment no_trees Goes = Goes []
+  ArgumentsMean slots root now entity environment (more_trees tree more) Goes =
+      After (Means slots root now entity environment tree)
+      (λ v. ArgumentsMean slots root now entity environment more (λ values. Goes (v ∷ values)))

@@ -1,4 +1,5 @@
 -- Definitions that private clauses alone cite.
+pub mod Arguments
 pub mod DatumView
 pub mod Operands
 pub mod Place

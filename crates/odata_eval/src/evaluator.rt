@@ -12,7 +12,7 @@ use super::verdict::Verdict;
 use super::walk::truth_at;
 use edm_entities::Entity;
 use edm_values::{Moment, Value};
-use odata_typing::Checked;
+use odata_checked_filter::Checked;
 use std::alloc::Global;
 
 /// The verdict of a truth value, None standing for null.
@@ -29,7 +29,7 @@ fn verdict_of(truth: Option<bool>) -> Verdict
 /// What the filter says of the entity. `now` is the moment that `now()` stands for. `Memory` is answered only where the
 /// filter makes texts.
 pub fn evaluate(
-    _alloc: Global,
+    alloc: Global,
     checked: &Checked<'_>,
     entity: &Entity<'_>,
     now: &Moment,
@@ -43,7 +43,7 @@ pub fn evaluate(
     // What is known of every filter is known once its nodes have been asked for.
     let _nodes = checked.nodes();
     let moment = Value::Moment(*now);
-    let scene = Scene::of(checked, entity, now, &moment);
+    let scene = Scene::of(alloc, checked, entity, now, &moment);
     scene.ends_once();
     match truth_at(&scene, 0) {
         Ok(truth) => Ok(verdict_of(truth)),

@@ -8,12 +8,16 @@ ghost use Rattle.odata_eval.specs.Outcome.{gives};
 ghost use Rattle.odata_eval.specs.SameMeaning.{NormalFormsKeepOutcomes, CanonicalTextsKeepOutcomes};
 
 use edm_entities::what_fits_has_its_type;
-use odata_functions::{
-    arithmetic_has_one_answer, comparisons_are_decided, operands_lie_within_promotion,
+use odata_expression_types::{
+    literals_have_one_value, normal_forms_keep_types, trees_have_one_type,
 };
+use odata_functions::{
+    arithmetic_has_one_answer, comparisons_are_decided, day_numbers_have_one_date,
+    operands_lie_within_promotion, texts_have_one_answer,
+};
+use odata_signatures::calls_have_one_type;
 use odata_syntax::{canonical_texts_read_back, one_tree};
 use odata_text::one_list_of_any_length;
-use odata_typing::{literals_have_one_value, normal_forms_keep_types, trees_have_one_type};
 
 /// A law: an expression that has a type has exactly one outcome on every value of the filtered type, whatever the range
 /// variables around it hold: a value of its type, or the fault of an arithmetic operator.
@@ -25,6 +29,9 @@ pub fn typed_trees_end_once()
     arithmetic_has_one_answer();
     comparisons_are_decided();
     operands_lie_within_promotion();
+    calls_have_one_type();
+    texts_have_one_answer();
+    day_numbers_have_one_date();
 }
 
 /// A law: so it has on every entity of that type.
@@ -59,4 +66,7 @@ pub fn first_run_comes_to()
     literals_have_one_value();
     trees_have_one_type();
     arithmetic_has_one_answer();
+    calls_have_one_type();
+    texts_have_one_answer();
+    day_numbers_have_one_date();
 }

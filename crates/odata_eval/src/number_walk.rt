@@ -11,9 +11,10 @@ use super::operators::{arithmetic_of, calculated, negated};
 use super::part::{Part, WalkClass, class_at, is_class_at, part_at, right_of, spine_bottom};
 use super::scene::Scene;
 use super::walk::operand_at;
+use odata_checked_filter::NodeKind;
+use odata_expression_types::trees_have_one_type;
 use odata_functions::operands_lie_within_promotion;
 use odata_syntax::BinaryOperator;
-use odata_typing::{NodeKind, trees_have_one_type};
 
 /// What a node of numbers comes to.
 #[cycle(evaluate)]

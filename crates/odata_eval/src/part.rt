@@ -3,8 +3,8 @@ ghost use Rattle.std.specs.Prelude.{◌≡◌, ◌<◌, ◌≤◌, ◌↔◌, �
 
 use super::scene::Scene;
 use edm_values::Value;
+use odata_checked_filter::NodeKind;
 use odata_signatures::{OperatorClass, class_of};
-use odata_typing::NodeKind;
 
 /// How the walk takes a node: as a value that is there, by the truth values of its operands, by their numbers, or by
 /// their values.
@@ -29,7 +29,7 @@ pub(crate) enum Part<'e> {
     Eager,
 }
 
-ghost use Rattle.odata_eval.specs.private.Place.{IsClassAt, IsRightOf, PartStands};
+ghost use Rattle.odata_eval.specs.private.Place.{IsClassAt, IsRightOf, IsStopOf, PartStands};
 ghost use Rattle.odata_eval.specs.private.WalkAnswer.{AnswersKept, IsPart};
 ghost use Rattle.odata_eval.specs.private.WalkClass.{walk_of_kind};
 
@@ -45,6 +45,8 @@ fn walk_of_kind(kind: NodeKind) -> WalkClass
         NodeKind::Member { .. } => WalkClass::Eager,
         NodeKind::Neg => WalkClass::Numeric,
         NodeKind::Not => WalkClass::Logical,
+        NodeKind::Call { .. } => WalkClass::Eager,
+        NodeKind::Now => WalkClass::Leaf,
         NodeKind::Binary { operator } => match class_of(operator) {
             OperatorClass::Connective(_) => WalkClass::Logical,
             OperatorClass::Comparison(_) => WalkClass::Eager,
@@ -83,6 +85,7 @@ fn leaf_at<'e>(scene: &Scene<'e, '_, '_>, place: usize) -> &'e Value
     match scene.node(place).kind {
         NodeKind::Literal { value, .. } => scene.literal(value),
         NodeKind::It => scene.value(),
+        NodeKind::Now => scene.now_value(),
         NodeKind::Property { slot } => scene.property(slot),
         _ => unreachable!(),
     }
@@ -129,4 +132,12 @@ pub(crate) fn right_of(scene: &Scene<'_, '_, '_>, place: usize) -> usize
 {
     let nodes = scene.nodes();
     nodes[place + 1].stop
+}
+
+/// The place behind a node and its descendants.
+pub(crate) fn stop_of(scene: &Scene<'_, '_, '_>, place: usize) -> usize
+    requires { place < length scene.now.list.nodes }
+    ensures { IsStopOf scene.now.list place result }
+{
+    scene.node(place).stop
 }

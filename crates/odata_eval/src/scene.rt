@@ -10,7 +10,8 @@ ghost use Rattle.odata_eval.specs.private.Scene.{EndsOnceHere, HoldsAt};
 use super::laws::typed_trees_end_once_on_entities;
 use edm_entities::Entity;
 use edm_values::{Moment, Value};
-use odata_typing::{Checked, CheckedNode};
+use odata_checked_filter::{Checked, CheckedNode};
+use std::alloc::Global;
 use std::marker::Model;
 
 /// A filter, an entity of its type and a moment, with what the walk reads of them at hand.
@@ -23,6 +24,7 @@ pub(crate) struct Scene<'e, 'c, 'r> {
     values: &'e [Value],
     slots: &'e [Value],
     now_value: &'e Value,
+    alloc: Global,
 }
 
 impl<'e, 'c, 'r> Model for Scene<'e, 'c, 'r> {
@@ -44,6 +46,7 @@ impl<'e, 'c, 'r> Model for Scene<'e, 'c, 'r> {
 impl<'e, 'c, 'r> Scene<'e, 'c, 'r> {
     /// The scene of a filter, an entity and a moment. `now_value` is the moment as a value, which the caller keeps.
     pub(crate) fn of(
+        alloc: Global,
         checked: &'e Checked<'c>,
         entity: &'e Entity<'r>,
         moment: &'e Moment,
@@ -66,6 +69,7 @@ impl<'e, 'c, 'r> Scene<'e, 'c, 'r> {
             values: checked.values(),
             slots,
             now_value,
+            alloc,
         }
     }
 
@@ -129,6 +133,11 @@ impl<'e, 'c, 'r> Scene<'e, 'c, 'r> {
         ensures { result.now ≡ self.now.row.value }
     {
         self.entity.value()
+    }
+
+    /// What texts that are made take their memory from.
+    pub(crate) fn alloc(&self) -> Global {
+        self.alloc
     }
 
     /// The moment that `now` stands for.

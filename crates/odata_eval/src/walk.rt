@@ -5,25 +5,27 @@
 //! What is asked at each node is marked to be inlined, so that an answer is not passed on through memory.
 ghost use Rattle.std.specs.Prelude.{◌≡◌, ◌+◌, Ok};
 ghost use Rattle.odata_signatures.specs.OperatorClass.{class_of};
-ghost use Rattle.odata_eval.specs.private.Place.{HasOperator, HasOperatorOf, IsClassAt, PartStands, TruthStands};
+ghost use Rattle.odata_eval.specs.private.Place.{HasCall, HasOperator, HasOperatorOf, IsClassAt, PartStands, TruthStands};
 ghost use Rattle.odata_eval.specs.private.WalkClass.{walk_of_operator};
 ghost use Rattle.odata_eval.specs.private.WalkAnswer.{AnswersDatum, AnswersTruth};
 
+use super::calls::{called_on_one, called_on_three, called_on_two};
 use super::datum::{datum_of, datum_of_number, datum_of_truth, kept_truth, step, truth_of};
 use super::fault::EvalFault;
 use super::number_walk::{number_at, number_chain_at};
 use super::operators::{
     compare_kept, compare_numbers, comparison_of, connective_of, decides, join,
 };
-use super::part::{Part, WalkClass, class_at, part_at, right_of, spine_bottom};
+use super::part::{Part, WalkClass, class_at, part_at, right_of, spine_bottom, stop_of};
 use super::scene::Scene;
 use edm_values::{Datum, Value};
+use odata_checked_filter::NodeKind;
+use odata_expression_types::trees_have_one_type;
 use odata_functions::{
     ComparisonOperator, compare, comparisons_are_decided, not3, operands_lie_within_promotion,
 };
-use odata_signatures::{OperatorClass, class_of};
+use odata_signatures::{Function, OperatorClass, calls_have_one_type, class_of};
 use odata_syntax::BinaryOperator;
-use odata_typing::{NodeKind, trees_have_one_type};
 
 /// What a node of type Boolean or Null comes to on an entity of the filtered type.
 #[cycle(evaluate)]
@@ -269,6 +271,7 @@ fn made_at<'e>(
     };
     match scene.node(place).kind {
         NodeKind::Member { slot } => Ok(step(first, slot)),
+        NodeKind::Call { function } => called_at(scene, place, function, first),
         NodeKind::Binary { operator } => match class_of(operator) {
             OperatorClass::Comparison(comparison) => {
                 compared_at(scene, place, comparison, first)
@@ -302,5 +305,40 @@ fn compared_at<'e>(
     match operand_at(scene, right_place) {
         Ok(right) => Ok(Datum::Bool(compare(comparison, &left, &right))),
         Err(behind) => Err(behind),
+    }
+}
+
+/// What a call comes to, whose first argument has been answered.
+#[cycle(evaluate)]
+fn called_at<'e>(
+    scene: &Scene<'e, '_, '_>,
+    place: usize,
+    function: Function,
+    first: Datum<'e>,
+) -> Result<Datum<'e>, EvalFault>
+    requires stands { PartStands scene.now place }
+    requires here { HasCall scene.now.list place function }
+    requires first { AnswersDatum scene.now (place + 1) (Ok first) }
+    ensures { AnswersDatum scene.now place result }
+{
+    scene.ends_once();
+    calls_have_one_type();
+    let _nodes = scene.nodes();
+    let own_stop = stop_of(scene, place);
+    let second_place = stop_of(scene, place + 1);
+    if second_place == own_stop {
+        return called_on_one(scene.alloc(), function, first);
+    }
+    let second = match operand_at(scene, second_place) {
+        Ok(second) => second,
+        Err(further) => return Err(further),
+    };
+    let third_place = stop_of(scene, second_place);
+    if third_place == own_stop {
+        return called_on_two(scene.alloc(), function, first, second);
+    }
+    match operand_at(scene, third_place) {
+        Ok(third) => called_on_three(function, first, second, third),
+        Err(fault) => Err(fault),
     }
 }

@@ -8,7 +8,9 @@ use Rattle.odata_expression_types.specs.declared.refusal.TypeFault.{TypeFault}
 use Rattle.odata_expression_types.specs.declared.refusal.TypeFaultCode.{TypeFaultCode}
 use Rattle.odata_expression_types.specs.Considered.{IsConsidered, ChildrenTyped}
 use Rattle.odata_signatures.specs.ExprTypes.{IsBooleanOrNull}
-use Rattle.odata_expression_types.specs.Typed.{Scope, Typed, IsUntyped, property_named}
+use Rattle.odata_signatures.specs.CallTyped.{CallReason}
+use Rattle.odata_signatures.specs.declared.call.CallFault.{CallFault}
+use Rattle.odata_expression_types.specs.Typed.{AreTyped, Scope, Typed, IsUntyped, property_named}
 
 -- why a property has no type
 abbrev pub PropertyReason : PropertyType → TypeFaultCode → Type 0
@@ -33,14 +35,29 @@ abbrev pub LiteralReason : LiteralKind → TypeFaultCode → Type 0
 LiteralReason LiteralKind.EnumLit code = code ≡ TypeFaultCode.UnknownEnum
 LiteralReason _ code = code ≡ TypeFaultCode.LiteralRange
 
--- why a node has no type though its considered children have; no function is known yet, and `$it` has a type
+-- a fault of a call
+abbrev pub code_of_call : CallFault → TypeFaultCode
+code_of_call CallFault.UnknownFunction = TypeFaultCode.UnknownFunction
+code_of_call CallFault.ArgumentCount = TypeFaultCode.ArgumentCount
+code_of_call CallFault.ArgumentType = TypeFaultCode.ArgumentType
+
+-- the arguments have types, and these are the reason why a call of that name has none
+pub record IsCallReason (asked : List ℕ) (Arguments : List ExprType → Type 0) (code : TypeFaultCode) : Type 0 where
+  pub types : List ExprType
+  pub arguments_typed : Arguments types
+  pub fault : CallFault
+  pub reason : CallReason asked types fault
+  pub same : code ≡ code_of_call fault
+
+-- why a node has no type though its considered children have; `$it` has a type
 abbrev pub IsReason : Slots → List ℕ → Scope → Tree → TypeFaultCode → Type 0
 IsReason slots root scope (node start stop (literal kind spelling)) code = LiteralReason kind code
 IsReason slots root scope (node start stop it) code = ⊥
 IsReason slots root scope (node start stop (name asked)) code = NameReason (slots.properties root) asked code
 IsReason slots root scope (node start stop (member base asked)) code =
     (type : ExprType) × Typed slots root scope base type × StepReason slots asked type code
-IsReason slots root scope (node start stop (call asked arguments)) code = code ≡ TypeFaultCode.UnknownFunction
+IsReason slots root scope (node start stop (call asked arguments)) code =
+    IsCallReason asked (AreTyped slots root scope arguments) code
 IsReason slots root scope (node start stop shape) code = code ≡ TypeFaultCode.OperandTypes
 
 -- a considered node that has no type, while all its considered children have one

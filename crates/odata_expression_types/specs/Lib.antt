@@ -11,8 +11,11 @@ pub use Rattle.edm_values.specs.NumberTypes
 pub use Rattle.edm_values.specs.StringLiteral
 pub use Rattle.edm_values.specs.Val
 pub use Rattle.odata_functions.specs.Promotion
+pub use Rattle.odata_signatures.specs.ArgumentTypes
+pub use Rattle.odata_signatures.specs.CallTyped
 pub use Rattle.odata_signatures.specs.ComparableTypes
 pub use Rattle.odata_signatures.specs.ExprTypes
+pub use Rattle.odata_signatures.specs.Functions
 pub use Rattle.odata_signatures.specs.OperatorClass
 pub use Rattle.odata_signatures.specs.OperatorTyped
 pub use Rattle.odata_syntax.specs.CanonicalText

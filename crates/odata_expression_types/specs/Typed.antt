@@ -1,13 +1,14 @@
 -- Which type an expression has (OData URL Conventions 4.01, sections 5.1.1.1, 5.1.1.2, 5.1.1.13 to 5.1.1.15 and
 -- 5.1.1.18).
-use Rattle.std.specs.Prelude.{◌≡◌, ℕ, List, Option, IsSomeAnd, MatchOption, find, nat_eq}
+use Rattle.std.specs.Prelude.{◌≡◌, ℕ, List, [], ◌∷◌, Option, IsSomeAnd, MatchOption, find, nat_eq}
 use Rattle.std.specs.Option.{option_map}
 use Rattle.std.specs.Cmp.Lexicographic.{pointwise}
-use Rattle.odata_syntax.specs.Tree.{Tree, node, literal, it, name, member, negation, logical_not, binary}
+use Rattle.odata_syntax.specs.Tree.{Tree, Trees, node, literal, it, name, member, negation, logical_not, binary, call, more_trees, no_trees}
 use Rattle.odata_syntax.specs.declared.node.BinaryOperator.{BinaryOperator}
 use Rattle.csdl_schema.specs.ExprType.{ExprType, single, structured}
 use Rattle.csdl_schema.specs.SchemaModel.{PropertyModel, Slots, declared}
 use Rattle.odata_expression_types.specs.LiteralValue.{LiteralTyped}
+use Rattle.odata_signatures.specs.CallTyped.{CallTyped}
 use Rattle.odata_signatures.specs.OperatorTyped.{OperatorTyped, NegationTyped, NotTyped}
 
 -- the range variables that may be named, each with its type, the innermost first
@@ -51,21 +52,37 @@ pub record OperandsTyped (operator : BinaryOperator) (Left Right : ExprType → 
   pub right_typed : Right right
   pub operator_typed : OperatorTyped operator left right type
 
--- the tree has the type, where the filtered type is root and these variables are in scope; a node of a form that is not
--- typed yet has none
-abbrev pub Typed : Slots → List ℕ → Scope → Tree → ExprType → Type 0
-Typed slots root scope (node start stop (literal kind spelling)) type = LiteralTyped slots kind spelling type
-Typed slots root scope (node start stop it) type = type ≡ single (structured root)
-Typed slots root scope (node start stop (name asked)) type = NameTyped slots root scope asked type
-Typed slots root scope (node start stop (member base asked)) type =
-    OperandTyped (Typed slots root scope base) (StepTyped slots asked) type
-Typed slots root scope (node start stop (negation operand)) type =
-    OperandTyped (Typed slots root scope operand) NegationTyped type
-Typed slots root scope (node start stop (logical_not operand)) type =
-    OperandTyped (Typed slots root scope operand) NotTyped type
-Typed slots root scope (node start stop (binary operator left right)) type =
-    OperandsTyped operator (Typed slots root scope left) (Typed slots root scope right) type
-Typed slots root scope (node start stop shape) type = ⊥
+-- the arguments have types, and of these the function of that name makes the type
+pub record ArgumentsTyped (asked : List ℕ) (Arguments : List ExprType → Type 0) (type : ExprType) : Type 0 where
+  pub types : List ExprType
+  pub arguments_typed : Arguments types
+  pub call_typed : CallTyped asked types type
+
+abbrev mutual
+  -- the tree has the type, where the filtered type is root and these variables are in scope; a node of a form that is
+  -- not typed yet has none
+  pub Typed : Slots → List ℕ → Scope → Tree → ExprType → Type 0
+  Typed slots root scope (node start stop (literal kind spelling)) type = LiteralTyped slots kind spelling type
+  Typed slots root scope (node start stop it) type = type ≡ single (structured root)
+  Typed slots root scope (node start stop (name asked)) type = NameTyped slots root scope asked type
+  Typed slots root scope (node start stop (member base asked)) type =
+      OperandTyped (Typed slots root scope base) (StepTyped slots asked) type
+  Typed slots root scope (node start stop (negation operand)) type =
+      OperandTyped (Typed slots root scope operand) NegationTyped type
+  Typed slots root scope (node start stop (logical_not operand)) type =
+      OperandTyped (Typed slots root scope operand) NotTyped type
+  Typed slots root scope (node start stop (binary operator left right)) type =
+      OperandsTyped operator (Typed slots root scope left) (Typed slots root scope right) type
+  Typed slots root scope (node start stop (call asked arguments)) type =
+      ArgumentsTyped asked (AreTyped slots root scope arguments) type
+  Typed slots root scope (node start stop shape) type = ⊥
+
+  -- trees one behind another have these types
+  pub AreTyped : Slots → List ℕ → Scope → Trees → List ExprType → Type 0
+  AreTyped slots root scope no_trees [] = Unit {0}
+  AreTyped slots root scope (more_trees tree trees) (type ∷ types) =
+      Typed slots root scope tree type × AreTyped slots root scope trees types
+  AreTyped slots root scope _ _ = ⊥
 
 abbrev pub IsTyped : Slots → List ℕ → Scope → Tree → Type 0
 IsTyped slots root scope tree = (type : ExprType) × Typed slots root scope tree type

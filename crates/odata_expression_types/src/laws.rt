@@ -2,15 +2,18 @@ ghost use Rattle.odata_expression_types.specs.Laws.{FewNodes, FirstBelow, FirstI
 ghost use Rattle.odata_expression_types.specs.Laws.{OneLiteralValue, OneNameAndText, OneRefusal, OneType, OneUntypableStart};
 ghost use Rattle.odata_expression_types.specs.Laws.{RefusedIsUntyped, TypedIsClear};
 
+use odata_signatures::calls_have_one_type;
 use odata_syntax::{
     children_apart, fault_or_tree, one_fault, one_tree, spans_hold, spans_take_bytes,
 };
 use odata_text::{one_reading, tokens_are_spelled};
 
-/// A law: a tree has at most one type. The contract says it, and the body has nothing to do.
+/// A law: a tree has at most one type. The contract says it, and the body has nothing to do but to cite what it rests on.
 pub fn trees_have_one_type()
     ensures { OneType }
-{}
+{
+    calls_have_one_type();
+}
 
 /// A law: a literal stands for one value at most.
 pub fn literals_have_one_value()
@@ -56,6 +59,7 @@ pub fn texts_have_one_refusal()
     one_tree();
     one_fault();
     fault_or_tree();
+    calls_have_one_type();
     untypable_nodes_start_apart();
 }
 

@@ -1,3 +1,4 @@
+pub mod calls
 pub mod flat
 pub mod types
 pub mod untypable

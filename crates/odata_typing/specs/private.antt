@@ -1,5 +1,6 @@
 -- Definitions that private clauses alone cite.
 pub mod Answer
+pub mod Arguments
 pub mod EarlierFault
 pub mod Judged
 pub mod LawsBelow

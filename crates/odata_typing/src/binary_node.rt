@@ -1,67 +1,52 @@
 //! Nodes of operators between two operands.
-ghost use Rattle.std.specs.Prelude.{◌≡◌, ◌<◌, ◌≤◌, [], ℕ, length, IfOk, IfErr};
+ghost use Rattle.std.specs.Prelude.{◌<◌, ◌≤◌, [], ℕ, length, IfOk};
 ghost use Rattle.odata_syntax.specs.Tree.{Tree, node, binary};
-ghost use Rattle.csdl_schema.specs.SchemaModel.{SchemaModel};
-ghost use Rattle.odata_checked_filter.specs.FlatTree.{FlatTree};
 ghost use Rattle.odata_signatures.specs.TypeThere.{IsTypeThere};
-ghost use Rattle.odata_typing.specs.private.Answer.{IsAnswer, IsWalked};
+ghost use Rattle.odata_checked_filter.specs.FlatTree.{FlatTree};
 ghost use Rattle.odata_checked_filter.specs.ListGrowth.{IsOpened};
+ghost use Rattle.odata_typing.specs.private.Answer.{IsAnswer, IsWalked};
 
 use super::laws_below::laws_below;
-use super::node::open_node;
+use super::opened_node::Opened;
 use super::untyped::{Untyped, earlier};
 use csdl_schema::Schema;
 use odata_checked_filter::{NodeKind, NodeList};
 use odata_expression_types::{TypeFault, TypeFaultCode};
 use odata_signatures::{EdmType, made_type};
 use odata_syntax::BinaryOperator;
-use odata_text::Span;
-use std::alloc::Global;
 
-/// Puts an operator's node behind the others, to be closed once its operands stand behind it.
-pub(crate) fn open_operator(
-    alloc: Global,
-    span: Span,
-    operator: BinaryOperator,
-    list: &mut NodeList,
-) -> Result<usize, Untyped>
-    ensures opened { IfOk result (λ place. IsOpened list.old place [] list.new) }
-    ensures grown { length list.old.nodes ≤ length list.new.nodes }
-    ensures memory { IfErr result (λ untyped. untyped ≡ Untyped.Memory) }
-{
-    open_node(
-        span,
-        NodeKind::Binary { operator },
-        String::new(alloc),
-        list,
-    )
+/// What was answered of the two operands.
+#[derive(Clone, Copy)]
+pub(crate) struct Operands {
+    pub(crate) left: Result<EdmType, Untyped>,
+    pub(crate) right: Result<EdmType, Untyped>,
 }
 
 /// The operator's node, from what was answered of its two operands.
 pub(crate) fn close_binary(
     schema: &Schema,
-    place: usize,
-    span: Span,
+    opened: Opened,
     operator: BinaryOperator,
-    left: Result<EdmType, Untyped>,
-    right: Result<EdmType, Untyped>,
+    operands: Operands,
     list: &mut NodeList,
 ) -> Result<EdmType, Untyped>
-    requires place { place < length list.old.nodes }
-    requires left { IfOk left (IsTypeThere schema.now) }
-    requires right { IfOk right (IsTypeThere schema.now) }
-    ensures answer { (n : ℕ) (l r : Tree) (start opened between : FlatTree)
-        → IsOpened start place [] opened
-        → IsAnswer schema.now n [] opened l between left
-        → IsAnswer schema.now n [] between r list.old right
-        → IsAnswer schema.now n [] start (node span.start span.stop (binary operator l r)) list.new result }
+    requires place { opened.place < length list.old.nodes }
+    requires left { IfOk operands.left (IsTypeThere schema.now) }
+    requires right { IfOk operands.right (IsTypeThere schema.now) }
+    ensures answer { (n : ℕ) (l r : Tree) (start before between : FlatTree)
+        → IsOpened start opened.place [] before
+        → IsAnswer schema.now n [] before l between operands.left
+        → IsAnswer schema.now n [] between r list.old operands.right
+        → IsAnswer schema.now n [] start (node opened.span.start opened.span.stop (binary operator l r))
+        list.new result }
     ensures there { IfOk result (IsTypeThere schema.now) }
     ensures grown { length list.old.nodes ≤ length list.new.nodes }
 {
     laws_below();
+    let Operands { left, right } = operands;
     match left {
         Ok(left) => match right {
-            Ok(right) => close_operator(schema, place, span, operator, left, right, list),
+            Ok(right) => close_operator(schema, opened, operator, (left, right), list),
             Err(behind) => Err(behind),
         },
         Err(before) => match right {
@@ -74,33 +59,38 @@ pub(crate) fn close_binary(
 /// The operator between operands of these types.
 fn close_operator(
     schema: &Schema,
-    place: usize,
-    span: Span,
+    opened: Opened,
     operator: BinaryOperator,
-    left: EdmType,
-    right: EdmType,
+    types: (EdmType, EdmType),
     list: &mut NodeList,
 ) -> Result<EdmType, Untyped>
-    requires place { place < length list.old.nodes }
-    requires left { IsTypeThere schema.now left }
-    requires right { IsTypeThere schema.now right }
-    ensures answer { (n : ℕ) (l r : Tree) (start opened between : FlatTree)
-        → IsOpened start place [] opened
-        → IsWalked schema.now n [] opened l between left
-        → IsWalked schema.now n [] between r list.old right
-        → IsAnswer schema.now n [] start (node span.start span.stop (binary operator l r)) list.new result }
+    requires place { opened.place < length list.old.nodes }
+    requires left { IsTypeThere schema.now types.0 }
+    requires right { IsTypeThere schema.now types.1 }
+    ensures answer { (n : ℕ) (l r : Tree) (start before between : FlatTree)
+        → IsOpened start opened.place [] before
+        → IsWalked schema.now n [] before l between types.0
+        → IsWalked schema.now n [] between r list.old types.1
+        → IsAnswer schema.now n [] start (node opened.span.start opened.span.stop (binary operator l r))
+        list.new result }
     ensures there { IfOk result (IsTypeThere schema.now) }
     ensures grown { length list.old.nodes ≤ length list.new.nodes }
 {
     laws_below();
+    let (left, right) = types;
     match made_type(schema, operator, &left, &right) {
         Some(edm_type) => {
-            list.close(place, NodeKind::Binary { operator }, span, &edm_type);
+            list.close(
+                opened.place,
+                NodeKind::Binary { operator },
+                opened.span,
+                &edm_type,
+            );
             Ok(edm_type)
         }
         None => Err(Untyped::Fault(TypeFault {
             code: TypeFaultCode::OperandTypes,
-            span,
+            span: opened.span,
         })),
     }
 }

@@ -13,6 +13,7 @@ ghost use Rattle.odata_expression_types.specs.HasTyping.{HasTree, HasTyping, Has
 
 use super::laws_below::laws_below;
 use super::node::checked_tree;
+use super::setting::Setting;
 use super::untyped::Untyped;
 use csdl_schema::{Schema, TypeId};
 use odata_checked_filter::{Checked, NodeList, a_list_stands_for_one_tree};
@@ -50,7 +51,12 @@ pub fn check<'s>(
         Err(refusal) => return Err(refusal),
     };
     let mut list = NodeList::new(alloc);
-    match checked_tree(alloc, schema, filtered_type, expr.root(), &mut list) {
+    let setting = Setting {
+        alloc,
+        schema,
+        filtered_type,
+    };
+    match checked_tree(&setting, expr.root(), &mut list) {
         Ok(edm_type) => match filter_of(schema, filtered_type, list, edm_type, text.len()) {
             Ok(checked) => Ok(checked),
             Err(fault) => Err(Refusal::Typing(fault)),

@@ -2,15 +2,19 @@
 //! Conventions 4.01, section 5.1.1).
 #![tactic(auto)]
 
+mod argument_types;
 mod binary_node;
+mod call_node;
 mod checker;
 mod enumeration_literal;
 mod laws_below;
 mod literal;
 mod node;
+mod opened_node;
 mod path_node;
 mod property;
 mod reading;
+mod setting;
 mod unary_node;
 mod untyped;
 mod untyped_form;

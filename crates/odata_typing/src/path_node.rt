@@ -3,43 +3,42 @@ ghost use Rattle.std.specs.Prelude.{◌<◌, ◌≤◌, [], ℕ, length, IfOk, I
 ghost use Rattle.odata_syntax.specs.Tree.{Tree, node, it, member};
 ghost use Rattle.odata_syntax.specs.TreeView.{tree_of};
 ghost use Rattle.csdl_schema.specs.ExprType.{ExprType};
-ghost use Rattle.csdl_schema.specs.SchemaModel.{SchemaModel, slots_of};
+ghost use Rattle.csdl_schema.specs.SchemaModel.{slots_of};
 ghost use Rattle.odata_expression_types.specs.FirstUntypable.{StepReason};
 ghost use Rattle.odata_checked_filter.specs.FlatTree.{FlatTree};
 ghost use Rattle.odata_expression_types.specs.Typed.{StepTyped};
 ghost use Rattle.odata_signatures.specs.TypeView.{expr_type};
 ghost use Rattle.odata_signatures.specs.TypeThere.{IsTypeThere};
-ghost use Rattle.odata_typing.specs.private.Answer.{IsAnswer, IsWalked};
+ghost use Rattle.odata_typing.specs.private.Answer.{Answers, IsAnswer, IsWalked};
 ghost use Rattle.odata_checked_filter.specs.ListGrowth.{IsOpened};
 ghost use Rattle.odata_typing.specs.private.StepFound.{IsStepSlot};
 
 use super::laws_below::laws_below;
-use super::node::{checked_tree, open_node};
+use super::node::checked_tree;
+use super::opened_node::{Opened, open_node};
 use super::property::{NamedProperty, property_named};
+use super::setting::Setting;
 use super::untyped::Untyped;
-use csdl_schema::{Schema, TypeId};
+use csdl_schema::Schema;
 use odata_checked_filter::{NodeKind, NodeList};
 use odata_expression_types::{TypeFault, TypeFaultCode};
 use odata_signatures::{EdmType, ValueType};
 use odata_syntax::Node;
 use odata_text::Span;
-use std::alloc::Global;
 
 /// Puts the node of `$it` behind the others, and answers the filtered type.
 pub(crate) fn checked_it(
-    alloc: Global,
-    filtered_type: TypeId,
+    setting: &Setting<'_>,
     span: Span,
     list: &mut NodeList,
 ) -> Result<EdmType, Untyped>
-    ensures answer { (schema : SchemaModel)
-        → IsAnswer schema filtered_type [] list.old (node span.start span.stop it) list.new result }
-    ensures there { (schema : SchemaModel) → IfOk result (IsTypeThere schema) }
+    ensures answer { Answers setting.now list.old (node span.start span.stop it) list.new result }
+    ensures there { IfOk result (IsTypeThere setting.now.schema.now) }
     ensures grown { length list.old.nodes ≤ length list.new.nodes }
 {
     laws_below();
-    let edm_type = EdmType::Single(ValueType::Structured(filtered_type));
-    match list.push(NodeKind::It, span, &edm_type, String::new(alloc)) {
+    let edm_type = EdmType::Single(ValueType::Structured(setting.filtered_type));
+    match list.push(NodeKind::It, span, &edm_type, String::new(setting.alloc)) {
         Ok(()) => Ok(edm_type),
         Err(_) => Err(Untyped::Memory),
     }
@@ -48,31 +47,29 @@ pub(crate) fn checked_it(
 /// The node of a step to the property of that name, and those of what stands before the slash behind it.
 #[cycle(typing)]
 pub(crate) fn checked_member(
-    alloc: Global,
-    schema: &Schema,
-    filtered_type: TypeId,
+    setting: &Setting<'_>,
     span: Span,
     base: &Node,
     asked: &str,
     list: &mut NodeList,
 ) -> Result<EdmType, Untyped>
-    ensures answer { IsAnswer schema.now filtered_type [] list.old
+    ensures answer { Answers setting.now list.old
         (node span.start span.stop (member (tree_of base.now) asked.now)) list.new result }
-    ensures there { IfOk result (IsTypeThere schema.now) }
+    ensures there { IfOk result (IsTypeThere setting.now.schema.now) }
     ensures grown { length list.old.nodes ≤ length list.new.nodes }
 {
     laws_below();
-    let text = match String::from_str(alloc, asked) {
+    let text = match String::from_str(setting.alloc, asked) {
         Ok(text) => text,
         Err(_) => return Err(Untyped::Memory),
     };
     // The slot is put in once the type of what stands before the slash is known.
-    let place = match open_node(span, NodeKind::Member { slot: 0 }, text, list) {
-        Ok(place) => place,
+    let opened = match open_node(span, NodeKind::Member { slot: 0 }, text, list) {
+        Ok(opened) => opened,
         Err(untyped) => return Err(untyped),
     };
-    match checked_tree(alloc, schema, filtered_type, base, list) {
-        Ok(base) => close_member(schema, place, span, base, asked, list),
+    match checked_tree(setting, base, list) {
+        Ok(base) => close_member(setting.schema, opened, base, asked, list),
         Err(untyped) => Err(untyped),
     }
 }
@@ -80,17 +77,17 @@ pub(crate) fn checked_member(
 /// The step from a value of that type.
 fn close_member(
     schema: &Schema,
-    place: usize,
-    span: Span,
+    opened: Opened,
     base: EdmType,
     asked: &str,
     list: &mut NodeList,
 ) -> Result<EdmType, Untyped>
-    requires { place < length list.old.nodes }
-    ensures answer { (n : ℕ) (b : Tree) (start opened : FlatTree)
-        → IsOpened start place asked.now opened
-        → IsWalked schema.now n [] opened b list.old base
-        → IsAnswer schema.now n [] start (node span.start span.stop (member b asked.now)) list.new result }
+    requires { opened.place < length list.old.nodes }
+    ensures answer { (n : ℕ) (b : Tree) (start before : FlatTree)
+        → IsOpened start opened.place asked.now before
+        → IsWalked schema.now n [] before b list.old base
+        → IsAnswer schema.now n [] start (node opened.span.start opened.span.stop (member b asked.now))
+        list.new result }
     ensures there { IfOk result (IsTypeThere schema.now) }
     ensures grown { length list.old.nodes ≤ length list.new.nodes }
 {
@@ -100,10 +97,13 @@ fn close_member(
             let kind = NodeKind::Member {
                 slot: property.slot,
             };
-            list.close(place, kind, span, &property.edm_type);
+            list.close(opened.place, kind, opened.span, &property.edm_type);
             Ok(property.edm_type)
         }
-        Err(code) => Err(Untyped::Fault(TypeFault { code, span })),
+        Err(code) => Err(Untyped::Fault(TypeFault {
+            code,
+            span: opened.span,
+        })),
     }
 }
 

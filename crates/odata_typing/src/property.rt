@@ -5,12 +5,13 @@ ghost use Rattle.csdl_schema.specs.ExprType.{ExprType};
 ghost use Rattle.csdl_schema.specs.PropertyView.{PointsWithin, property_type};
 ghost use Rattle.csdl_schema.specs.SchemaModel.{SchemaModel, declared, properties_at, slot_named};
 ghost use Rattle.odata_signatures.specs.TypeThere.{IsTypeThere};
-ghost use Rattle.odata_typing.specs.private.Answer.{IsAnswer};
+ghost use Rattle.odata_typing.specs.private.Answer.{Answers, IsAnswer};
 ghost use Rattle.odata_expression_types.specs.FirstUntypable.{NameReason, PropertyReason};
 ghost use Rattle.odata_signatures.specs.TypeView.{expr_type};
 ghost use Rattle.odata_expression_types.specs.Typed.{PropertyTyped};
 
 use super::laws_below::laws_below;
+use super::setting::Setting;
 use super::untyped::Untyped;
 use csdl_schema::{Property, PropertyKind, Schema, TypeId};
 use odata_checked_filter::{NodeKind, NodeList};
@@ -28,21 +29,19 @@ pub(crate) struct NamedProperty {
 
 /// Puts the node of the property of that name of the filtered type behind the others, and answers its type.
 pub(crate) fn checked_name(
-    alloc: Global,
-    schema: &Schema,
-    filtered_type: TypeId,
+    setting: &Setting<'_>,
     span: Span,
     asked: &str,
     list: &mut NodeList,
 ) -> Result<EdmType, Untyped>
-    ensures answer { IsAnswer schema.now filtered_type [] list.old
+    ensures answer { Answers setting.now list.old
         (node span.start span.stop (name asked.now)) list.new result }
-    ensures there { IfOk result (IsTypeThere schema.now) }
+    ensures there { IfOk result (IsTypeThere setting.now.schema.now) }
     ensures grown { length list.old.nodes ≤ length list.new.nodes }
 {
     laws_below();
-    match property_named(schema, filtered_type, asked) {
-        Ok(property) => push_property(alloc, span, asked, property, list),
+    match property_named(setting.schema, setting.filtered_type, asked) {
+        Ok(property) => push_property(setting.alloc, span, asked, property, list),
         Err(code) => Err(Untyped::Fault(TypeFault { code, span })),
     }
 }

@@ -1,4 +1,4 @@
-//! Nodes of the forms that are not typed yet: `$count`, `has`, `in`, calls and lambda operators.
+//! Nodes of the forms that are not typed yet: `$count`, `has`, `in` and lambda operators.
 ghost use Rattle.std.specs.Prelude.{◌≤◌, ℕ, List, [], ◌∷◌, length};
 ghost use Rattle.csdl_schema.specs.SchemaModel.{Slots};
 ghost use Rattle.odata_syntax.specs.Spans.{list_of_trees};
@@ -12,28 +12,21 @@ ghost use Rattle.odata_typing.specs.private.Judged.{IsToldOf, IsUnruled};
 
 use super::laws_below::laws_below;
 use super::node::checked_tree;
+use super::setting::Setting;
 use super::untyped::{Untyped, earlier_of};
-use csdl_schema::{Schema, TypeId};
 use odata_checked_filter::NodeList;
 use odata_expression_types::{TypeFault, TypeFaultCode};
 use odata_syntax::Node;
-use std::alloc::Global;
 
 /// The first untypable node of a tree whose top is of such a form: that of its children, or the top itself.
 #[cycle(typing)]
-pub(crate) fn untyped_form(
-    alloc: Global,
-    schema: &Schema,
-    filtered_type: TypeId,
-    node: &Node,
-    list: &mut NodeList,
-) -> Untyped
+pub(crate) fn untyped_form(setting: &Setting<'_>, node: &Node, list: &mut NodeList) -> Untyped
     requires { IsUnruled (shape_of (tree_of node.now)) }
-    ensures fault { HasFault schema.now filtered_type [] (tree_of node.now) result }
+    ensures fault { HasFault setting.now.schema.now setting.now.filtered_type [] (tree_of node.now) result }
     ensures grown { length list.old.nodes ≤ length list.new.nodes }
 {
     laws_below();
-    match fault_below(alloc, schema, filtered_type, node, list) {
+    match fault_below(setting, node, list) {
         Some(untyped) => untyped,
         None => Untyped::Fault(TypeFault {
             code: reason_of(node),
@@ -48,10 +41,9 @@ fn reason_of(node: &Node) -> TypeFaultCode
     ensures { (slots : Slots) (root : List ℕ) (scope : Scope) → IsReason slots root scope (tree_of node.now) result }
 {
     match node {
-        Node::Call { .. } => TypeFaultCode::UnknownFunction,
         Node::Lit { .. } | Node::It { .. } | Node::Name { .. } => unreachable!(),
         Node::Member { .. } | Node::Neg { .. } | Node::Not { .. } => unreachable!(),
-        Node::Binary { .. } => unreachable!(),
+        Node::Binary { .. } | Node::Call { .. } => unreachable!(),
         Node::Count { .. } => TypeFaultCode::OperandTypes,
         Node::Has { .. } => TypeFaultCode::OperandTypes,
         Node::InList { .. } => TypeFaultCode::OperandTypes,
@@ -63,81 +55,60 @@ fn reason_of(node: &Node) -> TypeFaultCode
 
 /// The first untypable node of such a node's children that are judged. `None` where each has a type.
 #[cycle(typing)]
-fn fault_below(
-    alloc: Global,
-    schema: &Schema,
-    filtered_type: TypeId,
-    node: &Node,
-    list: &mut NodeList,
-) -> Option<Untyped>
+fn fault_below(setting: &Setting<'_>, node: &Node, list: &mut NodeList) -> Option<Untyped>
     requires { IsUnruled (shape_of (tree_of node.now)) }
-    ensures told { IsToldOf schema.now filtered_type [] (children_in_scope (shape_of (tree_of node.now))) result }
+    ensures told { IsToldOf setting.now.schema.now setting.now.filtered_type [] (children_in_scope (shape_of (tree_of node.now))) result }
     ensures grown { length list.old.nodes ≤ length list.new.nodes }
 {
     laws_below();
     match node {
         Node::Lit { .. } | Node::It { .. } | Node::Name { .. } => unreachable!(),
         Node::Member { .. } | Node::Neg { .. } | Node::Not { .. } => unreachable!(),
-        Node::Binary { .. } => unreachable!(),
-        Node::Count { base, .. } => fault_of(alloc, schema, filtered_type, base, list),
+        Node::Binary { .. } | Node::Call { .. } => unreachable!(),
+        Node::Count { base, .. } => fault_of(setting, base, list),
         Node::Has { left, right, .. } => {
-            let of_left = fault_of(alloc, schema, filtered_type, left, list);
-            let of_right = fault_of(alloc, schema, filtered_type, right, list);
+            let of_left = fault_of(setting, left, list);
+            let of_right = fault_of(setting, right, list);
             earlier_of(of_left, of_right)
         }
         Node::InList { left, items, .. } => {
-            let of_element = fault_of(alloc, schema, filtered_type, left, list);
-            let of_items = fault_of_all(alloc, schema, filtered_type, items, list);
+            let of_element = fault_of(setting, left, list);
+            let of_items = fault_of_all(setting, items, list);
             earlier_of(of_element, of_items)
         }
         Node::InPath { left, path, .. } => {
-            let of_member = fault_of(alloc, schema, filtered_type, left, list);
-            let of_path = fault_of(alloc, schema, filtered_type, path, list);
+            let of_member = fault_of(setting, left, list);
+            let of_path = fault_of(setting, path, list);
             earlier_of(of_member, of_path)
         }
-        Node::Call { arguments, .. } => {
-            fault_of_all(alloc, schema, filtered_type, arguments, list)
-        }
-        Node::Any { base, .. } => fault_of(alloc, schema, filtered_type, base, list),
-        Node::All { base, .. } => fault_of(alloc, schema, filtered_type, base, list),
+        Node::Any { base, .. } => fault_of(setting, base, list),
+        Node::All { base, .. } => fault_of(setting, base, list),
     }
 }
 
 /// The first untypable node of a tree.
 #[cycle(typing)]
-fn fault_of(
-    alloc: Global,
-    schema: &Schema,
-    filtered_type: TypeId,
-    node: &Node,
-    list: &mut NodeList,
-) -> Option<Untyped>
-    ensures told { IsToldOf schema.now filtered_type [] (tree_of node.now ∷ []) result }
+fn fault_of(setting: &Setting<'_>, node: &Node, list: &mut NodeList) -> Option<Untyped>
+    ensures told { IsToldOf setting.now.schema.now setting.now.filtered_type [] (tree_of node.now ∷ []) result }
     ensures grown { length list.old.nodes ≤ length list.new.nodes }
 {
     laws_below();
-    match checked_tree(alloc, schema, filtered_type, node, list) {
+    match checked_tree(setting, node, list) {
         Ok(_) => None,
         Err(untyped) => Some(untyped),
     }
 }
 
-/// The first untypable node of the items of a list or the arguments of a call.
+/// The first untypable node of the items of a list.
 #[cycle(typing)]
-fn fault_of_all(
-    alloc: Global,
-    schema: &Schema,
-    filtered_type: TypeId,
-    nodes: &[Node],
-    list: &mut NodeList,
-) -> Option<Untyped>
-    ensures told { IsToldOf schema.now filtered_type [] (list_of_trees (trees_of nodes.now)) result }
+fn fault_of_all(setting: &Setting<'_>, nodes: &[Node], list: &mut NodeList) -> Option<Untyped>
+    ensures told { IsToldOf setting.now.schema.now setting.now.filtered_type [] (list_of_trees (trees_of nodes.now)) result }
     ensures grown { length list.old.nodes ≤ length list.new.nodes }
 {
     laws_below();
     let mut told = None;
     for node in nodes {
-        told = earlier_of(told, fault_of(alloc, schema, filtered_type, node, list));
+        told = earlier_of(told, fault_of(setting, node, list));
     }
     told
 }

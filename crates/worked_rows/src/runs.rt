@@ -58,7 +58,7 @@ const REFUSED: &[(&str, &str)] = &[
     ("$top", "refused Unexpected 0..4\n"),
     ("$it", "refused NotBoolean 0..3\n"),
     ("Name eq N.Color'Red'", "refused UnknownEnum 8..20\n"),
-    ("Name eq tolower(Name)", "refused UnknownFunction 8..21\n"),
+    ("Name eq lower(Name)", "refused UnknownFunction 8..19\n"),
     ("Name eq duration'PT1S'", "refused LeftOutLiteral 8..22\n"),
     ("Price gt 1.5", "refused LeftOutLiteral 9..12\n"),
     ("2020-01-01 eq 1", "refused OperandTypes 0..15\n"),
@@ -72,7 +72,8 @@ const REFUSED: &[(&str, &str)] = &[
     ("Foo", "refused UnknownProperty 0..3\n"),
     ("ID eq 'x' and Foo", "refused OperandTypes 0..9\n"),
     ("not ID eq 3", "refused OperandTypes 0..6\n"),
-    ("length(Name) eq 1", "refused UnknownFunction 0..12\n"),
+    ("length(ID) eq 1", "refused ArgumentType 0..10\n"),
+    ("length(Name,1) eq 1", "refused ArgumentCount 0..14\n"),
     ("length(Foo) eq 1", "refused UnknownProperty 7..10\n"),
     ("Active Active", "refused Unexpected 7..13\n"),
 ];
@@ -331,7 +332,8 @@ const CHECKED: &[(&str, &str, u8)] = &[
     ("ID eq 'a'", "refused OperandTypes 0..9\n", 1),
     ("NOT(Active)", "accepted\nnot Active\n", 0),
     ("not ID", "refused OperandTypes 0..6\n", 1),
-    ("Active and now()", "refused UnknownFunction 11..16\n", 1),
+    ("Active and now()", "refused OperandTypes 0..16\n", 1),
+    ("Active and today()", "refused UnknownFunction 11..18\n", 1),
     ("(Active", "refused Unexpected 7..7\n", 1),
     ("Name eq 'a", "refused UnclosedString 8..10\n", 1),
 ];

@@ -1,13 +1,15 @@
 -- Which shape a node of a kind stands for.
 use Rattle.std.proofs.Common.{◌≡◌, ◌∙◌, ℕ, List, Some, slice_get, refl, sym, subst, ap}
 use Rattle.edm_values.specs.declared.value.Value.{Value}
-use Rattle.odata_syntax.specs.Tree.{Shape, Tree, binary, it, literal, logical_not, member, name, negation, node}
+use Rattle.odata_syntax.specs.Tree.{Shape, Tree, Trees, binary, call, it, literal, logical_not, member, name, negation, node}
 use Rattle.odata_syntax.specs.declared.node.LiteralKind.{LiteralKind}
 use Rattle.csdl_schema.specs.SchemaModel.{Slots, slots_of, type_name_at}
 use Rattle.odata_checked_filter.specs.declared.checked_node.CheckedNode.{CheckedNode}
 use Rattle.odata_checked_filter.specs.declared.checked_node.NodeKind.{NodeKind}
 use Rattle.odata_checked_filter.specs.FlatTree.{FlatTree}
 use Rattle.odata_checked_filter.specs.Stands.{IsKindOf}
+use Rattle.std.specs.Prelude.{codes}
+use Rattle.odata_signatures.specs.Functions.{row_of}
 use Rattle.odata_expression_types.specs.Typed.{Scope}
 use Rattle.odata_checked_filter.specs.private.CanonicalWalk.{StandsThere}
 
@@ -18,6 +20,8 @@ Matches NodeKind.It shape = shape ≡ it
 Matches (NodeKind.Property slot) shape = (asked : List ℕ) × (shape ≡ name asked)
 Matches (NodeKind.Variable level) shape = (asked : List ℕ) × (shape ≡ name asked)
 Matches (NodeKind.Member slot) shape = (base : Tree) × (asked : List ℕ) × (shape ≡ member base asked)
+Matches NodeKind.Now shape = (arguments : Trees) × (shape ≡ call (codes "now") arguments)
+Matches (NodeKind.Call function) shape = (arguments : Trees) × (shape ≡ call (row_of function).name arguments)
 Matches NodeKind.Neg shape = (operand : Tree) × (shape ≡ negation operand)
 Matches NodeKind.Not shape = (operand : Tree) × (shape ≡ logical_not operand)
 Matches (NodeKind.Binary operator) shape = (left : Tree) × (right : Tree) × (shape ≡ binary operator left right)
@@ -36,6 +40,9 @@ matched values slots root scope (negation operand) kind is = subst (λ (k : Node
 matched values slots root scope (logical_not operand) kind is = subst (λ (k : NodeKind). Matches k (logical_not operand)) (sym is) (operand, refl)
 matched values slots root scope (binary operator left right) kind is =
     subst (λ (k : NodeKind). Matches k (binary operator left right)) (sym is) (left, right, refl)
+matched values slots root scope (call asked arguments) NodeKind.Now is = (arguments, ap (λ (called : List ℕ). call called arguments) (sym is))
+matched values slots root scope (call asked arguments) (NodeKind.Call function) is = (arguments, ap (λ (called : List ℕ). call called arguments) (sym is.0))
+matched values slots root scope (call asked arguments) _ is = absurd is
 matched values slots root scope _ kind is = absurd is
 
 same_node : (nodes : List CheckedNode) (i : ℕ) (a b : CheckedNode) → slice_get nodes i ≡ Some a → slice_get nodes i ≡ Some b → a ≡ b

@@ -1,6 +1,6 @@
 -- What the walk that writes canonical text writes of a node without children.
 use Rattle.std.proofs.lemmas.Bool.Decides.{nat_tests}
-use Rattle.std.proofs.Common.{◌≡◌, ◌∙◌, ℕ, ◌*◌, ◌-◌, ◌<◌, ◌≤◌, List, [], ◌∷◌, ◌++◌, Option, Some, Result, Ok, Err, OnOk, append-nil, slice_get, false, true, refl, sym, subst, ap, arith, unwrap_or, option_map, length}
+use Rattle.std.proofs.Common.{◌≡◌, ◌∙◌, ℕ, ◌<◌, ◌≤◌, List, [], ◌∷◌, ◌++◌, Option, Some, Result, Ok, Err, OnOk, append-nil, slice_get, false, true, refl, sym, subst, ap, arith, unwrap_or, option_map, length}
 use Rattle.std.specs.Prelude.{codes, if◌then◌else◌, is_ok, nat_lt}
 use Rattle.odata_text.specs.LiteralSpelling.{IsLiteralSpelling}
 use Rattle.odata_syntax.specs.Appended.{IsAppended}
@@ -17,10 +17,9 @@ use Rattle.odata_checked_filter.specs.declared.checked_node.NodeKind.{NodeKind}
 use Rattle.odata_checked_filter.specs.FlatTree.{FlatTree}
 use Rattle.odata_checked_filter.specs.Stands.{Stands}
 use Rattle.odata_expression_types.specs.Typed.{Scope}
-use Rattle.odata_checked_filter.specs.private.CanonicalWalk.{GoesOn, HasTreeAt, IsPieceOf, IsPieceText, IsTextAdded, Piece, StandsThere, WritesPart, behind_slash, between, closing, operand, stop_at}
+use Rattle.odata_checked_filter.specs.private.CanonicalWalk.{GoesOn, HasTreeAt, IsPieceOf, IsPieceText, IsTextAdded, Piece, StandsThere, WritesPart, behind_slash, between, closing, further, operand, stop_at}
 use Rattle.odata_checked_filter.proofs.canonical.Kinds.{Matches, shape_there}
 use Rattle.odata_checked_filter.proofs.flat.Places.{found_before}
-use Rattle.odata_checked_filter.proofs.flat.Standing.{stands_nonempty}
 
 pub on_ok : {A E P Q : Type 0} (r : Result A E) → (P → Q) → OnOk r P → OnOk r Q
 on_ok (Ok x) f given = f given
@@ -33,7 +32,7 @@ pushed_ok (Err e) x a b given = tt
 
 -- ---- where a node stops
 
-stop_found : (list : FlatTree) (i j : ℕ) (found : CheckedNode) → slice_get list.nodes i ≡ Some found → found.stop ≡ j → stop_at list i ≡ j
+pub stop_found : (list : FlatTree) (i j : ℕ) (found : CheckedNode) → slice_get list.nodes i ≡ Some found → found.stop ≡ j → stop_at list i ≡ j
 stop_found list i j found at last = ap (λ (o : Option CheckedNode). unwrap_or (option_map (λ (f : CheckedNode). f.stop) o) i) at ∙ last
 
 pub stop_is : (schema : SchemaModel) (n : ℕ) (scope : Scope) (list : FlatTree) (i j : ℕ) (tree : Tree) → Stands schema n scope list i j tree → stop_at list i ≡ j
@@ -44,13 +43,6 @@ place_of schema n scope list i j (node start stop shape) stands = found_before l
 
 pub there_within : (list : FlatTree) (i : ℕ) → HasTreeAt list i → i < length list.nodes
 there_within list i has = place_of has.1.schema has.1.filtered has.1.scope list i has.1.stop has.0 has.1.stands
-
-has_weight : (list : FlatTree) (i : ℕ) → HasTreeAt list i → 0 < 3 * (stop_at list i - i)
-has_weight list i has =
-    let there = has.1 in
-    let stops : stop_at list i ≡ there.stop = stop_is there.schema there.filtered there.scope list i there.stop has.0 there.stands in
-    let some : i < there.stop = stands_nonempty there.schema there.filtered there.scope list i there.stop has.0 there.stands in
-    omega arith
 
 -- ---- groups
 
@@ -126,6 +118,7 @@ whole_operand : (list : FlatTree) (i needed : ℕ) (text : List ℕ) (piece : Pi
     → IsPieceOf list (Operand i needed) piece → GoesOn list [] text piece
 whole_operand list i needed text (between operator) written is = absurd is
 whole_operand list i needed text closing written is = absurd is
+whole_operand list i needed text (further trees) written is = absurd is
 whole_operand list i needed text (behind_slash asked) written is = absurd is
 whole_operand list i needed text (operand level tree) written is = record {
   pieces = [];
@@ -140,7 +133,7 @@ whole_written : (list : FlatTree) (i needed : ℕ) (text before after : List ℕ
 whole_written list i needed text before after parts has written is = record {
   parts = [];
   pushed = sym (append-nil parts);
-  lighter = has_weight list i has;
+  lighter = omega arith;
   text = text;
   written = written;
   goes_on = λ piece of. whole_operand list i needed text piece is of;
@@ -172,5 +165,6 @@ name_written list i needed found before after parts has at named text =
 pub operand_there : (list : FlatTree) (i needed : ℕ) (piece : Piece) → IsPieceOf list (Operand i needed) piece → HasTreeAt list i
 operand_there list i needed (between operator) is = absurd is
 operand_there list i needed closing is = absurd is
+operand_there list i needed (further trees) is = absurd is
 operand_there list i needed (behind_slash asked) is = absurd is
 operand_there list i needed (operand level tree) is = (tree, is.there)

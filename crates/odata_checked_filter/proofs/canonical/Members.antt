@@ -8,7 +8,7 @@ use Rattle.odata_checked_filter.specs.declared.canonical_text.Part.TheVariants.{
 use Rattle.odata_checked_filter.specs.declared.checked_node.CheckedNode.{CheckedNode}
 use Rattle.odata_checked_filter.specs.declared.checked_node.NodeKind.{NodeKind}
 use Rattle.odata_checked_filter.specs.FlatTree.{FlatTree}
-use Rattle.odata_checked_filter.specs.private.CanonicalWalk.{ArePieceTexts, GoesOn, HasTreeAt, IsPieceOf, IsPieceText, Piece, StandsThere, WritesPart, behind_slash, between, closing, operand, step_parts, stop_at}
+use Rattle.odata_checked_filter.specs.private.CanonicalWalk.{ArePieceTexts, GoesOn, HasTreeAt, IsPieceOf, IsPieceText, Piece, StandsThere, WritesPart, behind_slash, between, closing, further, operand, step_parts, stop_at}
 use Rattle.odata_checked_filter.proofs.canonical.Kinds.{shape_there}
 use Rattle.odata_checked_filter.proofs.canonical.Leaves.{below, path_text, place_of, ungrouped}
 use Rattle.odata_checked_filter.proofs.canonical.Signs.{HasChild, child_there}
@@ -63,12 +63,13 @@ module _ (list : FlatTree) (i needed slot : ℕ) (is : IsMemberAt list i slot) w
   at_piece (between o) of = absurd of
   at_piece (behind_slash asked) of = absurd of
   at_piece closing of = absurd of
+  at_piece (further trees) of = absurd of
   at_piece (operand level tree) of =
       let within : needed ≤ base_level = subst (λ (n : ℕ). n ≤ base_level) (sym of.same) of.within in
       subst (λ (n : ℕ). GoesOn list (step_parts i) [] (operand n tree)) of.same (at_tree tree within of.there)
 
 light : (list : FlatTree) (i slot : ℕ) (tree : Tree) → IsMemberAt list i slot → StandsThere list i tree
-    → 3 * (stop_at list (i + 1) - (i + 1)) + 2 < 3 * (stop_at list i - i)
+    → 3 * (stop_at list (i + 1) - (i + 1 + 1)) + 3 < 3 * (stop_at list i - (i + 1)) + 2
 light list i slot (node start stop shape) is there =
     let m = shape_there list i is.found (NodeKind.Member slot) start stop shape is.at is.is there in
     let P : Shape → Type 0 = λ (s : Shape). StandsThere list i (node start stop s) in
@@ -80,7 +81,7 @@ pub member_written : (list : FlatTree) (i needed slot : ℕ) (found : CheckedNod
     → new ≡ parts ++ step_parts i → WritesPart list (Operand i needed) text text parts new
 member_written list i needed slot found text parts new has at kind pushed =
     let is : IsMemberAt list i slot = record { found = found; at = at; is = kind } in
-    let lighter : 3 * (stop_at list (i + 1) - (i + 1)) + 2 < 3 * (stop_at list i - i) = light list i slot has.0 is has.1 in
+    let lighter : 3 * (stop_at list (i + 1) - (i + 1 + 1)) + 3 < 3 * (stop_at list i - (i + 1)) + 2 = light list i slot has.0 is has.1 in
     record {
       parts = step_parts i;
       pushed = pushed;

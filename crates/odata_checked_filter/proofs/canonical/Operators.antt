@@ -13,7 +13,7 @@ use Rattle.odata_checked_filter.specs.declared.canonical_text.Part.TheVariants.{
 use Rattle.odata_checked_filter.specs.declared.checked_node.NodeKind.{NodeKind}
 use Rattle.odata_checked_filter.specs.FlatTree.{FlatTree}
 use Rattle.odata_checked_filter.specs.Stands.{Stands}
-use Rattle.odata_checked_filter.specs.private.CanonicalWalk.{ArePieceTexts, ArePiecesOf, GoesOn, HasTreeAt, IsBinaryAt, IsPieceOf, Piece, StandsThere, WritesPart, behind_slash, between, closing, operand, operands_of, stop_at}
+use Rattle.odata_checked_filter.specs.private.CanonicalWalk.{ArePieceTexts, ArePiecesOf, GoesOn, HasTreeAt, IsBinaryAt, IsPieceOf, Piece, StandsThere, WritesPart, behind_slash, between, closing, further, operand, operands_of, stop_at}
 use Rattle.odata_checked_filter.proofs.flat.Standing.{stands_nonempty}
 use Rattle.odata_checked_filter.proofs.canonical.Kinds.{shape_there}
 use Rattle.odata_checked_filter.proofs.canonical.Leaves.{above, below, in_group, place_of, stop_is, ungrouped}
@@ -145,20 +145,22 @@ module _ (list : FlatTree) (i needed : ℕ) (operator : BinaryOperator) (parts :
   at_piece (between o) of = absurd of
   at_piece (behind_slash asked) of = absurd of
   at_piece closing of = absurd of
+  at_piece (further trees) of = absurd of
   at_piece (operand level tree) of = subst (λ (n : ℕ). GoesOn list parts text (operand n tree)) of.same (at_tree tree of.there)
 
 -- ---- how much is left
 
-sums : (a b c i m j : ℕ) → a ≡ j → b ≡ m → c ≡ j → i + 1 < m → m < j → 3 * (a - b) + 1 + 3 * (b - (i + 1)) + 1 < 3 * (c - i)
+sums : (a b c i m j : ℕ) → a ≡ j → b ≡ m → c ≡ j → i + 1 < m → m < j → 3 * (a - (b + 1)) + 2 + 1 + (3 * (b - (i + 1 + 1)) + 2) + 1 < 3 * (c - (i + 1)) + 2
 sums a b c i m j ea eb ec first second = omega arith
 
 abbrev operand_sum : FlatTree → ℕ → ℕ
-operand_sum list i = 3 * (stop_at list (stop_at list (i + 1)) - stop_at list (i + 1)) + 1 + 3 * (stop_at list (i + 1) - (i + 1)) + 1
+operand_sum list i =
+    3 * (stop_at list (stop_at list (i + 1)) - (stop_at list (i + 1) + 1)) + 2 + 1 + (3 * (stop_at list (i + 1) - (i + 1 + 1)) + 2) + 1
 
 -- what an operator has behind it
 record HasOperands (list : FlatTree) (i : ℕ) : Type 0 where
   within : i + 1 < length list.nodes
-  lighter : operand_sum list i < 3 * (stop_at list i - i)
+  lighter : operand_sum list i < 3 * (stop_at list i - (i + 1)) + 2
 
 operands_behind : (list : FlatTree) (i start stop : ℕ) (operator : BinaryOperator) (left right : Tree)
     → StandsThere list i (node start stop (binary operator left right)) → HasOperands list i
@@ -194,7 +196,7 @@ pub operator_written : (list : FlatTree) (i needed : ℕ) (operator : BinaryOper
     → new ≡ parts ++ operands_of list i operator → WritesPart list (Operand i needed) text text parts new
 operator_written list i needed operator text parts new has is fits pushed =
     let behind = has_operands list i operator has.0 is has.1 in
-    let light : operand_sum list i < 3 * (stop_at list i - i) = behind.lighter in
+    let light : operand_sum list i < 3 * (stop_at list i - (i + 1)) + 2 = behind.lighter in
     record {
       parts = operands_of list i operator;
       pushed = pushed;
@@ -211,7 +213,7 @@ pub group_written : (list : FlatTree) (i needed : ℕ) (operator : BinaryOperato
     → WritesPart list (Operand i needed) before after parts new
 group_written list i needed operator before after parts new has is tight written pushed =
     let behind = has_operands list i operator has.0 is has.1 in
-    let light : operand_sum list i < 3 * (stop_at list i - i) = behind.lighter in
+    let light : operand_sum list i < 3 * (stop_at list i - (i + 1)) + 2 = behind.lighter in
     record {
       parts = Close ∷ operands_of list i operator;
       pushed = pushed ∙ append_assoc parts (Close ∷ []) (operands_of list i operator);

@@ -10,7 +10,7 @@ use Rattle.odata_syntax.specs.declared.node.BinaryOperator.{BinaryOperator}
 use Rattle.odata_checked_filter.specs.declared.canonical_text.Part.{Part}
 use Rattle.odata_checked_filter.specs.declared.canonical_text.Part.TheVariants.{Close, Operand, Operator, Step}
 use Rattle.odata_checked_filter.specs.FlatTree.{FlatTree}
-use Rattle.odata_checked_filter.specs.private.CanonicalWalk.{ArePieceTexts, ArePiecesOf, GoesOn, IsBehind, IsPending, IsPieceOf, IsPieceText, IsStepAdded, Piece, StandsThere, WritesPart, behind_slash, between, closing, operand, part_weight, weight}
+use Rattle.odata_checked_filter.specs.private.CanonicalWalk.{ArePieceTexts, ArePiecesOf, GoesOn, IsBehind, IsPending, IsPieceOf, IsPieceText, IsStepAdded, Piece, StandsThere, WritesPart, behind_slash, between, closing, further, operand, part_weight, weight}
 use Rattle.odata_checked_filter.proofs.canonical.Leaves.{below, ungrouped}
 
 -- ---- pieces of two lists of parts
@@ -163,12 +163,14 @@ operator_goes list operator (between other) is =
     word_goes list (32 ∷ (operator_word operator ++ 32 ∷ [])) (between other) (ap (λ (o : BinaryOperator). 32 ∷ (operator_word o ++ 32 ∷ [])) is)
 operator_goes list operator (behind_slash asked) is = absurd is
 operator_goes list operator closing is = absurd is
+operator_goes list operator (further trees) is = absurd is
 operator_goes list operator (operand level tree) is = absurd is
 
 close_goes : (list : FlatTree) (piece : Piece) → IsPieceOf list Close piece → GoesOn list [] (41 ∷ []) piece
 close_goes list closing is = word_goes list (41 ∷ []) closing refl
 close_goes list (between other) is = absurd is
 close_goes list (behind_slash asked) is = absurd is
+close_goes list (further trees) is = absurd is
 close_goes list (operand level tree) is = absurd is
 
 same_name : (texts : List (List ℕ)) (i : ℕ) (a b : List ℕ) → slice_get texts i ≡ Some a → slice_get texts i ≡ Some b → a ≡ b
@@ -180,6 +182,7 @@ step_goes list i asked beside (behind_slash other) is =
     word_goes list (47 ∷ asked) (behind_slash other) (ap (λ (t : List ℕ). 47 ∷ t) (same_name list.texts i asked other beside is.beside))
 step_goes list i asked beside (between other) is = absurd is
 step_goes list i asked beside closing is = absurd is
+step_goes list i asked beside (further trees) is = absurd is
 step_goes list i asked beside (operand level tree) is = absurd is
 
 -- the node of a step is there
@@ -187,6 +190,7 @@ pub step_there : (list : FlatTree) (i : ℕ) (piece : Piece) → IsPieceOf list 
 step_there list i (behind_slash asked) is = is.within
 step_there list i (between other) is = absurd is
 step_there list i closing is = absurd is
+step_there list i (further trees) is = absurd is
 step_there list i (operand level tree) is = absurd is
 
 pub operator_part : (list : FlatTree) (operator : BinaryOperator) (before after : List ℕ) (parts : List Part)

@@ -10,7 +10,7 @@ use Rattle.odata_checked_filter.specs.declared.canonical_text.Part.TheVariants.{
 use Rattle.odata_checked_filter.specs.declared.checked_node.NodeKind.{NodeKind}
 use Rattle.odata_checked_filter.specs.FlatTree.{FlatTree}
 use Rattle.odata_checked_filter.specs.Stands.{Stands}
-use Rattle.odata_checked_filter.specs.private.CanonicalWalk.{ArePieceTexts, GoesOn, HasTreeAt, IsPieceOf, IsSign, IsSignAt, Piece, StandsThere, WritesPart, behind_slash, between, closing, operand, operand_of, stop_at}
+use Rattle.odata_checked_filter.specs.private.CanonicalWalk.{ArePieceTexts, GoesOn, HasTreeAt, IsPieceOf, IsSign, IsSignAt, Piece, StandsThere, WritesPart, behind_slash, between, closing, further, operand, operand_of, stop_at}
 use Rattle.odata_checked_filter.proofs.flat.Standing.{stands_nonempty}
 use Rattle.odata_checked_filter.proofs.canonical.Kinds.{Matches, shape_there}
 use Rattle.odata_checked_filter.proofs.canonical.Leaves.{above, below, in_group, stop_is, ungrouped}
@@ -20,9 +20,9 @@ use Rattle.odata_checked_filter.proofs.canonical.Leaves.{above, below, in_group,
 -- the one child of the node at a place, which stops where that stops
 pub record HasChild (list : FlatTree) (i : ℕ) (child : Tree) : Type 0 where
   pub there : StandsThere list (i + 1) child
-  pub lighter : 3 * (stop_at list (i + 1) - (i + 1)) + 2 < 3 * (stop_at list i - i)
+  pub lighter : 3 * (stop_at list (i + 1) - (i + 1 + 1)) + 3 < 3 * (stop_at list i - (i + 1)) + 2
 
-less : (a b i s : ℕ) → a ≡ s → b ≡ s → i + 1 < s → 3 * (a - (i + 1)) + 2 < 3 * (b - i)
+less : (a b i s : ℕ) → a ≡ s → b ≡ s → i + 1 < s → 3 * (a - (i + 1 + 1)) + 3 < 3 * (b - (i + 1)) + 2
 less a b i s ea eb some = omega arith
 
 pub child_there : (list : FlatTree) (i : ℕ) (tree child : Tree) → (there : StandsThere list i tree)
@@ -148,10 +148,11 @@ module _ (list : FlatTree) (i needed : ℕ) (sign : List ℕ) (parts : List Part
   at_piece (between o) of = absurd of
   at_piece (behind_slash asked) of = absurd of
   at_piece closing of = absurd of
+  at_piece (further trees) of = absurd of
   at_piece (operand level tree) of = subst (λ (n : ℕ). GoesOn list parts text (operand n tree)) of.same (at_tree tree of.there)
 
 light : (list : FlatTree) (i : ℕ) (sign : List ℕ) (tree : Tree) → IsSignAt list i sign → StandsThere list i tree
-    → 3 * (stop_at list (i + 1) - (i + 1)) + 2 < 3 * (stop_at list i - i)
+    → 3 * (stop_at list (i + 1) - (i + 1 + 1)) + 3 < 3 * (stop_at list i - (i + 1)) + 2
 light list i sign (node start stop shape) is there =
     let s = signed is.found.kind sign shape is.is (shape_there list i is.found is.found.kind start stop shape is.at refl there) in
     let P : Shape → Type 0 = λ (x : Shape). StandsThere list i (node start stop x) in
@@ -165,7 +166,7 @@ pub sign_written : (list : FlatTree) (i needed : ℕ) (sign before after : List 
     → after ≡ before ++ sign → new ≡ parts ++ operand_of (i + 1)
     → WritesPart list (Operand i needed) before after parts new
 sign_written list i needed sign before after parts new has is fits written pushed =
-    let lighter : 3 * (stop_at list (i + 1) - (i + 1)) + 2 < 3 * (stop_at list i - i) = light list i sign has.0 is has.1 in
+    let lighter : 3 * (stop_at list (i + 1) - (i + 1 + 1)) + 3 < 3 * (stop_at list i - (i + 1)) + 2 = light list i sign has.0 is has.1 in
     record {
       parts = operand_of (i + 1);
       pushed = pushed;
@@ -182,7 +183,7 @@ pub signed_group_written : (list : FlatTree) (i needed : ℕ) (sign before betwe
     → more ≡ parts ++ Close ∷ [] → new ≡ more ++ operand_of (i + 1)
     → WritesPart list (Operand i needed) before after parts new
 signed_group_written list i needed sign before between_texts after parts more new has is tight opened written closed pushed =
-    let lighter : 3 * (stop_at list (i + 1) - (i + 1)) + 2 < 3 * (stop_at list i - i) = light list i sign has.0 is has.1 in
+    let lighter : 3 * (stop_at list (i + 1) - (i + 1 + 1)) + 3 < 3 * (stop_at list i - (i + 1)) + 2 = light list i sign has.0 is has.1 in
     record {
       parts = Close ∷ operand_of (i + 1);
       pushed = pushed ∙ ap (λ (ps : List Part). ps ++ operand_of (i + 1)) closed ∙ append_assoc parts (Close ∷ []) (operand_of (i + 1));

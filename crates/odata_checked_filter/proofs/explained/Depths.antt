@@ -3,16 +3,16 @@ use Rattle.std.proofs.Common.{◌≡◌, refl, sym, ap, ◌∙◌, ℕ, ◌<◌,
 use Rattle.std.specs.List.{AllByRecursion, filter}
 use Rattle.std.proofs.lemmas.Bool.Decides.{nat_tests}
 use Rattle.std.proofs.lemmas.List.Elements.{filter-append}
-use Rattle.odata_syntax.specs.Tree.{Tree, node, Shape, literal, it, name, member, negation, logical_not, binary}
+use Rattle.odata_syntax.specs.Tree.{Tree, Trees, node, Shape, literal, it, name, member, negation, logical_not, binary, call, no_trees, more_trees}
 use Rattle.csdl_schema.specs.SchemaModel.{SchemaModel}
 use Rattle.odata_checked_filter.specs.declared.checked_node.CheckedNode.{CheckedNode}
-use Rattle.odata_checked_filter.specs.Depths.{depths, depths_below}
+use Rattle.odata_checked_filter.specs.Depths.{depths, depths_among, depths_below}
 use Rattle.odata_checked_filter.specs.FlatTree.{FlatTree}
-use Rattle.odata_checked_filter.specs.Stands.{ChildrenStand, IsTop, Stands}
+use Rattle.odata_checked_filter.specs.Stands.{AllStand, ChildrenStand, IsTop, Stands}
 use Rattle.odata_expression_types.specs.Typed.{Scope}
 use Rattle.odata_checked_filter.specs.private.ExplanationWalk.{still_around}
 use Rattle.odata_checked_filter.proofs.flat.Places.{drop_at}
-use Rattle.odata_checked_filter.proofs.flat.Standing.{stands_nonempty}
+use Rattle.odata_checked_filter.proofs.flat.Standing.{stand_onward, stands_nonempty}
 
 -- the depths that the walk tells of nodes from a place on, by where those before them stop
 abbrev pub told_depths : ℕ → List CheckedNode → List ℕ → List ℕ
@@ -124,4 +124,21 @@ mutual
       (first
       ∙ ap (λ (xs : List ℕ). depths (length stops) left ++ xs) second
       ∙ sym (append_assoc (depths (length stops) left) (depths (length stops) right) (told_depths j (drop j list.nodes) stops)))
+  below_told schema n scope list i j (call asked arguments) stops around deep stand all =
+      rw (← deep) (among_told schema n scope list i j arguments stops stand all)
   below_told schema n scope list i j _ stops around deep stand all = absurd stand
+
+  among_told :
+      (schema : SchemaModel) (n : ℕ) (scope : Scope) (list : FlatTree) (i j : ℕ) (trees : Trees) (stops : List ℕ)
+      → AllStand schema n scope list i j trees
+      → StopBehind j stops
+      → told_depths i (drop i list.nodes) stops ≡ depths_among (length stops) trees ++ told_depths j (drop j list.nodes) stops
+  among_told schema n scope list i j no_trees stops stand all = ap (λ (k : ℕ). told_depths k (drop k list.nodes) stops) stand
+  among_told schema n scope list i j (more_trees tree trees) stops stand all =
+      let m = stand.middle in
+      let last : m ≤ j = stand_onward schema n scope list m j trees stand.right in
+      let first = tree_told schema n scope list i m tree stops stand.left (earlier_too m j stops last all) in
+      let second = among_told schema n scope list m j trees stops stand.right all in
+      first
+      ∙ ap (λ (xs : List ℕ). depths (length stops) tree ++ xs) second
+      ∙ sym (append_assoc (depths (length stops) tree) (depths_among (length stops) trees) (told_depths j (drop j list.nodes) stops))

@@ -2,7 +2,7 @@
 use Rattle.std.proofs.Common.{◌≡◌, refl, sym, ap, ◌∙◌, subst, inl, inr, ℕ, ◌<◌, ◌≤◌, ◌+◌, List, [], ◌∷◌, Some, None, Option, slice_get, length, arith}
 use Rattle.std.specs.Option.{option_map}
 use Rattle.std.proofs.lemmas.Option.{none-some, slice_get-map, slice_get_cases, slice_get_past, slice_get_within}
-use Rattle.odata_syntax.specs.Tree.{Shape, Tree, node, literal, it, name, member, negation, logical_not, binary}
+use Rattle.odata_syntax.specs.Tree.{Shape, Tree, node, literal, it, name, member, negation, logical_not, binary, call}
 use Rattle.odata_text.specs.declared.span.Span.{Span}
 use Rattle.csdl_schema.specs.ExprType.{single, structured}
 use Rattle.csdl_schema.specs.SchemaModel.{Slots, slots_of, type_name_at, slot_named}
@@ -59,6 +59,9 @@ names_slot list slots root scope start stop (member base asked) _ slot is found 
 names_slot list slots root scope start stop (negation operand) kind slot is found = slotless kind NodeKind.Neg slot refl is found
 names_slot list slots root scope start stop (logical_not operand) kind slot is found = slotless kind NodeKind.Not slot refl is found
 names_slot list slots root scope start stop (binary operator left right) kind slot is found = slotless kind (NodeKind.Binary operator) slot refl is found
+names_slot list slots root scope start stop (call asked arguments) NodeKind.Now slot is found = absurd (no_slot slot found)
+names_slot list slots root scope start stop (call asked arguments) (NodeKind.Call function) slot is found = absurd (no_slot slot found)
+names_slot list slots root scope start stop (call asked arguments) _ slot is found = absurd is
 names_slot list slots root scope start stop _ kind slot is found = absurd is
 
 same_slot : (o : Option ℕ) (a b : ℕ) → o ≡ Some a → o ≡ Some b → Some a ≡ Some b
@@ -103,6 +106,9 @@ level_of_top list slots root scope start stop (member base asked) _ is = absurd 
 level_of_top list slots root scope start stop (negation operand) kind is = rw is refl
 level_of_top list slots root scope start stop (logical_not operand) kind is = rw is refl
 level_of_top list slots root scope start stop (binary operator left right) kind is = rw is refl
+level_of_top list slots root scope start stop (call asked arguments) NodeKind.Now is = refl
+level_of_top list slots root scope start stop (call asked arguments) (NodeKind.Call function) is = refl
+level_of_top list slots root scope start stop (call asked arguments) _ is = absurd is
 level_of_top list slots root scope start stop _ kind is = absurd is
 
 -- what a node of the list says of the tree that stands there

@@ -1,56 +1,84 @@
 -- What stands for a tree: how many nodes, and that it still does where they are kept.
 use Rattle.std.proofs.Common.{◌≡◌, ℕ, ◌<◌, ◌≤◌, ◌+◌, List, Some, None, slice_get, length, length-append, IsSomeAnd, Option, refl, arith}
 use Rattle.edm_values.specs.declared.value.Value.{Value}
-use Rattle.odata_syntax.specs.Tree.{Tree, node, Shape, literal, it, name, member, negation, logical_not, binary}
+use Rattle.odata_syntax.specs.Tree.{Tree, Trees, node, Shape, literal, it, name, member, negation, logical_not, binary, call, more_trees, no_trees}
 use Rattle.csdl_schema.specs.SchemaModel.{SchemaModel, Slots}
 use Rattle.odata_checked_filter.specs.declared.checked_node.CheckedNode.{CheckedNode}
 use Rattle.odata_checked_filter.specs.declared.checked_node.NodeKind.{NodeKind}
 use Rattle.odata_checked_filter.specs.FlatTree.{FlatTree}
-use Rattle.odata_expression_types.specs.PreOrder.{pre_order}
-use Rattle.odata_checked_filter.specs.Stands.{ChildrenStand, Stands, IsTop, IsKindOf}
+use Rattle.odata_expression_types.specs.PreOrder.{nodes_among, pre_order}
+use Rattle.odata_checked_filter.specs.Stands.{AllStand, ChildrenStand, Stands, IsTop, IsKindOf}
 use Rattle.odata_expression_types.specs.Typed.{Scope}
 use Rattle.odata_checked_filter.specs.ListGrowth.{IsKept}
 
 -- as many nodes as the tree has
-pub stands_size :
-    (schema : SchemaModel) (n : ℕ) (scope : Scope) (list : FlatTree) (i j : ℕ) (tree : Tree)
-    → Stands schema n scope list i j tree
-    → j ≡ i + length (pre_order tree)
-stands_size schema n scope list i j (node start stop (literal kind spelling)) stands = let e : i + 1 ≡ j = stands.children in omega arith
-stands_size schema n scope list i j (node start stop it) stands = let e : i + 1 ≡ j = stands.children in omega arith
-stands_size schema n scope list i j (node start stop (name asked)) stands = let e : i + 1 ≡ j = stands.children in omega arith
-stands_size schema n scope list i j (node start stop (member base asked)) stands =
-    let a : j ≡ i + 1 + length (pre_order base) = stands_size schema n scope list (i + 1) j base stands.children in omega arith
-stands_size schema n scope list i j (node start stop (negation operand)) stands =
-    let a : j ≡ i + 1 + length (pre_order operand) = stands_size schema n scope list (i + 1) j operand stands.children in omega arith
-stands_size schema n scope list i j (node start stop (logical_not operand)) stands =
-    let a : j ≡ i + 1 + length (pre_order operand) = stands_size schema n scope list (i + 1) j operand stands.children in omega arith
-stands_size schema n scope list i j (node start stop (binary operator left right)) stands =
-    let m = stands.children.middle in
-    let a : m ≡ i + 1 + length (pre_order left) = stands_size schema n scope list (i + 1) m left stands.children.left in
-    let b : j ≡ m + length (pre_order right) = stands_size schema n scope list m j right stands.children.right in
-    omega (arith, length-append (pre_order left) (pre_order right))
-stands_size schema n scope list i j (node start stop _) stands = absurd stands.children
+mutual
+  pub stands_size :
+      (schema : SchemaModel) (n : ℕ) (scope : Scope) (list : FlatTree) (i j : ℕ) (tree : Tree)
+      → Stands schema n scope list i j tree
+      → j ≡ i + length (pre_order tree)
+  stands_size schema n scope list i j (node start stop (literal kind spelling)) stands = let e : i + 1 ≡ j = stands.children in omega arith
+  stands_size schema n scope list i j (node start stop it) stands = let e : i + 1 ≡ j = stands.children in omega arith
+  stands_size schema n scope list i j (node start stop (name asked)) stands = let e : i + 1 ≡ j = stands.children in omega arith
+  stands_size schema n scope list i j (node start stop (member base asked)) stands =
+      let a : j ≡ i + 1 + length (pre_order base) = stands_size schema n scope list (i + 1) j base stands.children in omega arith
+  stands_size schema n scope list i j (node start stop (negation operand)) stands =
+      let a : j ≡ i + 1 + length (pre_order operand) = stands_size schema n scope list (i + 1) j operand stands.children in omega arith
+  stands_size schema n scope list i j (node start stop (logical_not operand)) stands =
+      let a : j ≡ i + 1 + length (pre_order operand) = stands_size schema n scope list (i + 1) j operand stands.children in omega arith
+  stands_size schema n scope list i j (node start stop (binary operator left right)) stands =
+      let m = stands.children.middle in
+      let a : m ≡ i + 1 + length (pre_order left) = stands_size schema n scope list (i + 1) m left stands.children.left in
+      let b : j ≡ m + length (pre_order right) = stands_size schema n scope list m j right stands.children.right in
+      omega (arith, length-append (pre_order left) (pre_order right))
+  stands_size schema n scope list i j (node start stop (call asked arguments)) stands =
+      let a : j ≡ i + 1 + length (nodes_among arguments) = stand_size schema n scope list (i + 1) j arguments stands.children in omega arith
+  stands_size schema n scope list i j (node start stop _) stands = absurd stands.children
 
-pub stands_nonempty :
-    (schema : SchemaModel) (n : ℕ) (scope : Scope) (list : FlatTree) (i j : ℕ) (tree : Tree)
-    → Stands schema n scope list i j tree
-    → i < j
-stands_nonempty schema n scope list i j (node start stop (literal kind spelling)) stands = let e : i + 1 ≡ j = stands.children in omega arith
-stands_nonempty schema n scope list i j (node start stop it) stands = let e : i + 1 ≡ j = stands.children in omega arith
-stands_nonempty schema n scope list i j (node start stop (name asked)) stands = let e : i + 1 ≡ j = stands.children in omega arith
-stands_nonempty schema n scope list i j (node start stop (member base asked)) stands =
-    let a : i + 1 < j = stands_nonempty schema n scope list (i + 1) j base stands.children in omega arith
-stands_nonempty schema n scope list i j (node start stop (negation operand)) stands =
-    let a : i + 1 < j = stands_nonempty schema n scope list (i + 1) j operand stands.children in omega arith
-stands_nonempty schema n scope list i j (node start stop (logical_not operand)) stands =
-    let a : i + 1 < j = stands_nonempty schema n scope list (i + 1) j operand stands.children in omega arith
-stands_nonempty schema n scope list i j (node start stop (binary operator left right)) stands =
-    let m = stands.children.middle in
-    let a : i + 1 < m = stands_nonempty schema n scope list (i + 1) m left stands.children.left in
-    let b : m < j = stands_nonempty schema n scope list m j right stands.children.right in
-    omega arith
-stands_nonempty schema n scope list i j (node start stop _) stands = absurd stands.children
+  pub stand_size :
+      (schema : SchemaModel) (n : ℕ) (scope : Scope) (list : FlatTree) (i j : ℕ) (trees : Trees)
+      → AllStand schema n scope list i j trees
+      → j ≡ i + length (nodes_among trees)
+  stand_size schema n scope list i j no_trees stand = let e : i ≡ j = stand in omega arith
+  stand_size schema n scope list i j (more_trees tree trees) stand =
+      let m = stand.middle in
+      let a : m ≡ i + length (pre_order tree) = stands_size schema n scope list i m tree stand.left in
+      let b : j ≡ m + length (nodes_among trees) = stand_size schema n scope list m j trees stand.right in
+      omega (arith, length-append (pre_order tree) (nodes_among trees))
+
+mutual
+  pub stands_nonempty :
+      (schema : SchemaModel) (n : ℕ) (scope : Scope) (list : FlatTree) (i j : ℕ) (tree : Tree)
+      → Stands schema n scope list i j tree
+      → i < j
+  stands_nonempty schema n scope list i j (node start stop (literal kind spelling)) stands = let e : i + 1 ≡ j = stands.children in omega arith
+  stands_nonempty schema n scope list i j (node start stop it) stands = let e : i + 1 ≡ j = stands.children in omega arith
+  stands_nonempty schema n scope list i j (node start stop (name asked)) stands = let e : i + 1 ≡ j = stands.children in omega arith
+  stands_nonempty schema n scope list i j (node start stop (member base asked)) stands =
+      let a : i + 1 < j = stands_nonempty schema n scope list (i + 1) j base stands.children in omega arith
+  stands_nonempty schema n scope list i j (node start stop (negation operand)) stands =
+      let a : i + 1 < j = stands_nonempty schema n scope list (i + 1) j operand stands.children in omega arith
+  stands_nonempty schema n scope list i j (node start stop (logical_not operand)) stands =
+      let a : i + 1 < j = stands_nonempty schema n scope list (i + 1) j operand stands.children in omega arith
+  stands_nonempty schema n scope list i j (node start stop (binary operator left right)) stands =
+      let m = stands.children.middle in
+      let a : i + 1 < m = stands_nonempty schema n scope list (i + 1) m left stands.children.left in
+      let b : m < j = stands_nonempty schema n scope list m j right stands.children.right in
+      omega arith
+  stands_nonempty schema n scope list i j (node start stop (call asked arguments)) stands =
+      let a : i + 1 ≤ j = stand_onward schema n scope list (i + 1) j arguments stands.children in omega arith
+  stands_nonempty schema n scope list i j (node start stop _) stands = absurd stands.children
+
+  pub stand_onward :
+      (schema : SchemaModel) (n : ℕ) (scope : Scope) (list : FlatTree) (i j : ℕ) (trees : Trees)
+      → AllStand schema n scope list i j trees
+      → i ≤ j
+  stand_onward schema n scope list i j no_trees stand = let e : i ≡ j = stand in omega arith
+  stand_onward schema n scope list i j (more_trees tree trees) stand =
+      let m = stand.middle in
+      let a : i < m = stands_nonempty schema n scope list i m tree stand.left in
+      let b : m ≤ j = stand_onward schema n scope list m j trees stand.right in
+      omega arith
 
 -- the nodes from a place on are kept
 pub record IsKeptFrom (from : ℕ) (old new : FlatTree) : Type 0 where
@@ -79,6 +107,7 @@ kind_kept old new slots root scope (member base asked) kind kept is = is
 kind_kept old new slots root scope (negation operand) kind kept is = is
 kind_kept old new slots root scope (logical_not operand) kind kept is = is
 kind_kept old new slots root scope (binary operator left right) kind kept is = is
+kind_kept old new slots root scope (call asked arguments) kind kept is = is
 kind_kept old new slots root scope _ kind kept is = absurd is
 
 top_kept :
@@ -99,45 +128,67 @@ top_kept from old new schema n scope i j start stop shape kept behind top = reco
 }
 
 -- behind the place all stands as it did
-pub stands_kept :
-    (from : ℕ) (old new : FlatTree) (schema : SchemaModel) (n : ℕ) (scope : Scope) (i j : ℕ) (tree : Tree)
-    → IsKeptFrom from old new
-    → from ≤ i
-    → Stands schema n scope old i j tree
-    → Stands schema n scope new i j tree
-stands_kept from old new schema n scope i j (node start stop (literal kind spelling)) kept behind stands =
-    record { top = top_kept from old new schema n scope i j start stop (literal kind spelling) kept behind stands.top; children = stands.children }
-stands_kept from old new schema n scope i j (node start stop it) kept behind stands =
-    record { top = top_kept from old new schema n scope i j start stop it kept behind stands.top; children = stands.children }
-stands_kept from old new schema n scope i j (node start stop (name asked)) kept behind stands =
-    record { top = top_kept from old new schema n scope i j start stop (name asked) kept behind stands.top; children = stands.children }
-stands_kept from old new schema n scope i j (node start stop (member base asked)) kept behind stands =
-    record {
-      top = top_kept from old new schema n scope i j start stop (member base asked) kept behind stands.top;
-      children = stands_kept from old new schema n scope (i + 1) j base kept (omega arith) stands.children;
-    }
-stands_kept from old new schema n scope i j (node start stop (negation operand)) kept behind stands =
-    record {
-      top = top_kept from old new schema n scope i j start stop (negation operand) kept behind stands.top;
-      children = stands_kept from old new schema n scope (i + 1) j operand kept (omega arith) stands.children;
-    }
-stands_kept from old new schema n scope i j (node start stop (logical_not operand)) kept behind stands =
-    record {
-      top = top_kept from old new schema n scope i j start stop (logical_not operand) kept behind stands.top;
-      children = stands_kept from old new schema n scope (i + 1) j operand kept (omega arith) stands.children;
-    }
-stands_kept from old new schema n scope i j (node start stop (binary operator left right)) kept behind stands =
-    let m = stands.children.middle in
-    let a : i + 1 < m = stands_nonempty schema n scope old (i + 1) m left stands.children.left in
-    record {
-      top = top_kept from old new schema n scope i j start stop (binary operator left right) kept behind stands.top;
-      children = record {
+mutual
+  pub stands_kept :
+      (from : ℕ) (old new : FlatTree) (schema : SchemaModel) (n : ℕ) (scope : Scope) (i j : ℕ) (tree : Tree)
+      → IsKeptFrom from old new
+      → from ≤ i
+      → Stands schema n scope old i j tree
+      → Stands schema n scope new i j tree
+  stands_kept from old new schema n scope i j (node start stop (literal kind spelling)) kept behind stands =
+      record { top = top_kept from old new schema n scope i j start stop (literal kind spelling) kept behind stands.top; children = stands.children }
+  stands_kept from old new schema n scope i j (node start stop it) kept behind stands =
+      record { top = top_kept from old new schema n scope i j start stop it kept behind stands.top; children = stands.children }
+  stands_kept from old new schema n scope i j (node start stop (name asked)) kept behind stands =
+      record { top = top_kept from old new schema n scope i j start stop (name asked) kept behind stands.top; children = stands.children }
+  stands_kept from old new schema n scope i j (node start stop (member base asked)) kept behind stands =
+      record {
+        top = top_kept from old new schema n scope i j start stop (member base asked) kept behind stands.top;
+        children = stands_kept from old new schema n scope (i + 1) j base kept (omega arith) stands.children;
+      }
+  stands_kept from old new schema n scope i j (node start stop (negation operand)) kept behind stands =
+      record {
+        top = top_kept from old new schema n scope i j start stop (negation operand) kept behind stands.top;
+        children = stands_kept from old new schema n scope (i + 1) j operand kept (omega arith) stands.children;
+      }
+  stands_kept from old new schema n scope i j (node start stop (logical_not operand)) kept behind stands =
+      record {
+        top = top_kept from old new schema n scope i j start stop (logical_not operand) kept behind stands.top;
+        children = stands_kept from old new schema n scope (i + 1) j operand kept (omega arith) stands.children;
+      }
+  stands_kept from old new schema n scope i j (node start stop (binary operator left right)) kept behind stands =
+      let m = stands.children.middle in
+      let a : i + 1 < m = stands_nonempty schema n scope old (i + 1) m left stands.children.left in
+      record {
+        top = top_kept from old new schema n scope i j start stop (binary operator left right) kept behind stands.top;
+        children = record {
+          middle = m;
+          left = stands_kept from old new schema n scope (i + 1) m left kept (omega arith) stands.children.left;
+          right = stands_kept from old new schema n scope m j right kept (omega arith) stands.children.right;
+        };
+      }
+  stands_kept from old new schema n scope i j (node start stop (call asked arguments)) kept behind stands =
+      record {
+        top = top_kept from old new schema n scope i j start stop (call asked arguments) kept behind stands.top;
+        children = stand_kept from old new schema n scope (i + 1) j arguments kept (omega arith) stands.children;
+      }
+  stands_kept from old new schema n scope i j (node start stop _) kept behind stands = absurd stands.children
+
+  pub stand_kept :
+      (from : ℕ) (old new : FlatTree) (schema : SchemaModel) (n : ℕ) (scope : Scope) (i j : ℕ) (trees : Trees)
+      → IsKeptFrom from old new
+      → from ≤ i
+      → AllStand schema n scope old i j trees
+      → AllStand schema n scope new i j trees
+  stand_kept from old new schema n scope i j no_trees kept behind stand = stand
+  stand_kept from old new schema n scope i j (more_trees tree trees) kept behind stand =
+      let m = stand.middle in
+      let a : i < m = stands_nonempty schema n scope old i m tree stand.left in
+      record {
         middle = m;
-        left = stands_kept from old new schema n scope (i + 1) m left kept (omega arith) stands.children.left;
-        right = stands_kept from old new schema n scope m j right kept (omega arith) stands.children.right;
-      };
-    }
-stands_kept from old new schema n scope i j (node start stop _) kept behind stands = absurd stands.children
+        left = stands_kept from old new schema n scope i m tree kept behind stand.left;
+        right = stand_kept from old new schema n scope m j trees kept (omega arith) stand.right;
+      }
 
 -- and so do the children of a node
 pub children_kept :
@@ -160,4 +211,5 @@ children_kept from old new schema n scope i j (binary operator left right) kept 
       left = stands_kept from old new schema n scope i m left kept behind stands.left;
       right = stands_kept from old new schema n scope m j right kept (omega arith) stands.right;
     }
+children_kept from old new schema n scope i j (call asked arguments) kept behind stands = stand_kept from old new schema n scope i j arguments kept behind stands
 children_kept from old new schema n scope i j _ kept behind stands = absurd stands

@@ -1,58 +1,264 @@
--- No tree that has a type calls a function: no call is typed yet.
-use Rattle.std.proofs.Common.{◌≡◌, ℕ, List}
-use Rattle.std.specs.List.{AllByRecursion}
-use Rattle.std.proofs.lemmas.List.Elements.{All-contains, All-from_recursion}
-use Rattle.odata_syntax.specs.Spans.{IsWithin, children_of, in_child, is_root}
-use Rattle.odata_syntax.specs.Tree.{Tree, Trees, binary, call, it, literal, logical_not, member, name, negation, node, shape_of}
-use Rattle.csdl_schema.specs.ExprType.{ExprType}
-use Rattle.csdl_schema.specs.SchemaModel.{Slots}
-use Rattle.odata_checked_filter.specs.Calls.{CallsOne}
-use Rattle.odata_expression_types.specs.Typed.{Scope, Typed, IsTyped}
+-- A tree calls a function where a node of its list does.
+use Rattle.std.proofs.Common.{◌≡◌, ◌≢◌, ◌↔◌, ◌∙◌, refl, sym, ap, subst, inl, inr, ℕ, zero, suc, ◌<◌, ◌+◌, List, [], ◌∷◌, ◌++◌, Bool, true, false, Some, append-nil, append_assoc, length, slice_get, arith}
+use Rattle.std.specs.Prelude.{◌||◌, Contains, codes, slice_index_or}
+use Rattle.std.specs.List.{flat_map, list_any}
+use Rattle.std.proofs.lemmas.Option.{none-some, slice_get_within}
+use Rattle.odata_syntax.specs.Spans.{IsWithin, children_of, in_child, is_root, list_of_trees}
+use Rattle.odata_syntax.specs.Tree.{Shape, Tree, Trees, any_item, binary, call, count, has, in_list, in_path, it, lambda, literal, logical_not, member, more_trees, name, negation, no_trees, node, shape_of}
+use Rattle.csdl_schema.specs.SchemaModel.{Slots, slots_of, type_name_at}
+use Rattle.odata_signatures.specs.Functions.{IsNamed, row_of}
+use Rattle.odata_signatures.specs.declared.function.Function.{Function}
+use Rattle.edm_values.specs.declared.value.Value.{Value}
+use Rattle.odata_expression_types.specs.Considered.{IsAmong, IsConsidered, children_in_scope, considers_below, considers_itself}
+use Rattle.odata_expression_types.specs.PreOrder.{nodes_among, nodes_below, pre_order}
+use Rattle.odata_expression_types.specs.Typed.{Scope}
+use Rattle.odata_checked_filter.specs.declared.checked_node.CheckedNode.{CheckedNode}
+use Rattle.odata_checked_filter.specs.declared.checked_node.NodeKind.{NodeKind}
+use Rattle.odata_checked_filter.specs.Calls.{CallsOne, TakesMemory, UsesNow}
+use Rattle.odata_checked_filter.specs.Filter.{Filter, IsFilter, tree_of_filter}
+use Rattle.odata_checked_filter.specs.Stands.{IsKindOf, Stands}
+use Rattle.odata_checked_filter.specs.private.CalledKinds.{function_makes_text, kind_is_now, kind_makes_text}
+use Rattle.odata_checked_filter.proofs.flat.Numbered.{IsNumbered, count_of, numbered}
+use Rattle.odata_checked_filter.proofs.flat.Places.{found_within, same_found}
 
-typed_children :
-    (slots : Slots) (root : List ℕ) (scope : Scope) (tree : Tree) (type : ExprType)
-    → Typed slots root scope tree type
-    → AllByRecursion (IsTyped slots root scope) (children_of (shape_of tree))
-typed_children slots root scope (node start stop (literal kind spelling)) type typed = tt
-typed_children slots root scope (node start stop it) type typed = tt
-typed_children slots root scope (node start stop (name asked)) type typed = tt
-typed_children slots root scope (node start stop (member base asked)) type typed = ((typed.operand, typed.operand_typed), tt)
-typed_children slots root scope (node start stop (negation operand)) type typed = ((typed.operand, typed.operand_typed), tt)
-typed_children slots root scope (node start stop (logical_not operand)) type typed = ((typed.operand, typed.operand_typed), tt)
-typed_children slots root scope (node start stop (binary operator left right)) type typed =
-    ((typed.left, typed.left_typed), ((typed.right, typed.right_typed), tt))
-typed_children slots root scope (node start stop _) type typed = absurd typed
+-- ---- nodes below and nodes in order
 
-within_typed :
-    (slots : Slots) (root : List ℕ) (scope : Scope) (tree part : Tree)
-    → IsWithin part tree
-    → IsTyped slots root scope tree
-    → IsTyped slots root scope part
-within_typed slots root scope tree part is_root typed = typed
-within_typed slots root scope tree part (in_child {child = child} contains within) typed =
-    within_typed slots root scope child part within
-    (All-contains (IsTyped slots root scope) (children_of (shape_of tree)) child
-    (All-from_recursion (IsTyped slots root scope) (children_of (shape_of tree)) (typed_children slots root scope tree typed.0 typed.1))
-    contains)
+among_flat : (trees : Trees) → nodes_among trees ≡ flat_map pre_order (list_of_trees trees)
+among_flat no_trees = refl
+among_flat (more_trees tree trees) = ap (λ (ts : List Tree). pre_order tree ++ ts) (among_flat trees)
 
-no_typed_call :
-    (slots : Slots) (root : List ℕ) (scope : Scope) (tree : Tree) (type : ExprType) (called : List ℕ) (arguments : Trees)
-    → Typed slots root scope tree type
-    → shape_of tree ≡ call called arguments
-    → ⊥
-no_typed_call slots root scope (node start stop (literal kind spelling)) type called arguments typed same = cc
-no_typed_call slots root scope (node start stop it) type called arguments typed same = cc
-no_typed_call slots root scope (node start stop (name asked)) type called arguments typed same = cc
-no_typed_call slots root scope (node start stop (member base asked)) type called arguments typed same = cc
-no_typed_call slots root scope (node start stop (negation operand)) type called arguments typed same = cc
-no_typed_call slots root scope (node start stop (logical_not operand)) type called arguments typed same = cc
-no_typed_call slots root scope (node start stop (binary operator left right)) type called arguments typed same = cc
-no_typed_call slots root scope (node start stop _) type called arguments typed same = absurd typed
+alone_flat : (tree : Tree) → pre_order tree ≡ flat_map pre_order (tree ∷ [])
+alone_flat tree = sym (append-nil (pre_order tree))
 
-pub no_calls :
-    (slots : Slots) (root : List ℕ) (scope : Scope) (tree : Tree) (type : ExprType) (functions : List (List ℕ))
-    → Typed slots root scope tree type
-    → ¬ CallsOne functions tree
-no_calls slots root scope tree type functions typed calls =
-    let of_part = within_typed slots root scope tree calls.part calls.within (type, typed) in
-    no_typed_call slots root scope calls.part of_part.0 calls.called calls.arguments of_part.1 calls.is_call
+both_flat : (left right : Tree) → pre_order left ++ pre_order right ≡ flat_map pre_order (left ∷ right ∷ [])
+both_flat left right = ap (λ (ts : List Tree). pre_order left ++ ts) (alone_flat right)
+
+below_flat : (shape : Shape) → nodes_below shape ≡ flat_map pre_order (children_of shape)
+below_flat (literal kind spelling) = refl
+below_flat it = refl
+below_flat (name asked) = refl
+below_flat (member base asked) = alone_flat base
+below_flat (count base) = alone_flat base
+below_flat (negation operand) = alone_flat operand
+below_flat (logical_not operand) = alone_flat operand
+below_flat (binary operator left right) = both_flat left right
+below_flat (has left right) = both_flat left right
+below_flat (in_list left items) = ap (λ (ts : List Tree). pre_order left ++ ts) (among_flat items)
+below_flat (in_path left path) = both_flat left path
+below_flat (call asked arguments) = among_flat arguments
+below_flat (any_item base) = alone_flat base
+below_flat (lambda quantifier base variable body) = both_flat base body
+
+get_left : {X : Type 0} (xs ys : List X) (k : ℕ) (x : X) → slice_get xs k ≡ Some x → slice_get (xs ++ ys) k ≡ Some x
+get_left [] ys k x found = absurd (none-some x found)
+get_left (y ∷ xs) ys zero x found = found
+get_left (y ∷ xs) ys (suc k) x found = get_left xs ys k x found
+
+get_right : {X : Type 0} (xs ys : List X) (k : ℕ) (x : X) → slice_get ys k ≡ Some x → (j : ℕ) × (slice_get (xs ++ ys) j ≡ Some x)
+get_right [] ys k x found = (k, found)
+get_right (y ∷ xs) ys k x found = let rest = get_right xs ys k x found in (suc rest.0, rest.1)
+
+-- what stands in the list of one of some trees stands in the list of all
+in_flat : (trees : List Tree) (child part : Tree) (i k : ℕ) → i < length trees → slice_index_or trees i child ≡ child
+    → slice_get (pre_order child) k ≡ Some part → (j : ℕ) × (slice_get (flat_map pre_order trees) j ≡ Some part)
+in_flat [] child part i k within is found = let h : i < 0 = within in absurd (omega arith)
+in_flat (tree ∷ trees) child part zero k within is found =
+    let same : tree ≡ child = is in
+    (k, get_left (pre_order tree) (flat_map pre_order trees) k part (subst (λ (t : Tree). slice_get (pre_order t) k ≡ Some part) (sym same) found))
+in_flat (tree ∷ trees) child part (suc i) k within is found =
+    let rest = in_flat trees child part i k (let h : suc i < suc (length trees) = within in omega arith) is found in
+    get_right (pre_order tree) (flat_map pre_order trees) rest.0 part rest.1
+
+-- each node of a tree has its number
+ordered : (tree part : Tree) → IsWithin part tree → (k : ℕ) × (slice_get (pre_order tree) k ≡ Some part)
+ordered (node start stop shape) part is_root = (0, refl)
+ordered (node start stop shape) part (in_child {child = child} contains within) =
+    let k = ordered child part within in
+    let j = in_flat (children_of shape) child part contains.0 k.0 contains.1 contains.2 k.1 in
+    (suc j.0, subst (λ (ts : List Tree). slice_get ts j.0 ≡ Some part) (sym (below_flat shape)) j.1)
+
+-- ---- what is judged is a node
+
+among_contained : (scope at : Scope) (trees : List Tree) (child : Tree) → IsAmong scope trees at child → Contains trees child
+among_contained scope at [] child among = absurd among
+among_contained scope at (tree ∷ trees) child (inl same) = (0, omega arith, sym same.1)
+among_contained scope at (tree ∷ trees) child (inr among) =
+    let rest = among_contained scope at trees child among in
+    let h : rest.0 < length trees = rest.1 in
+    (suc rest.0, omega arith, rest.2)
+
+child_contained : (scope at : Scope) (shape : Shape) (child : Tree) → IsAmong scope (children_in_scope shape) at child → Contains (children_of shape) child
+child_contained scope at (lambda quantifier base variable body) child (inl same) = (0, omega arith, sym same.1)
+child_contained scope at (lambda quantifier base variable body) child (inr none) = absurd none
+child_contained scope at (literal kind spelling) child among = absurd among
+child_contained scope at it child among = absurd among
+child_contained scope at (name asked) child among = absurd among
+child_contained scope at (member base asked) child among = among_contained scope at (base ∷ []) child among
+child_contained scope at (count base) child among = among_contained scope at (base ∷ []) child among
+child_contained scope at (negation operand) child among = among_contained scope at (operand ∷ []) child among
+child_contained scope at (logical_not operand) child among = among_contained scope at (operand ∷ []) child among
+child_contained scope at (binary operator left right) child among = among_contained scope at (left ∷ right ∷ []) child among
+child_contained scope at (has left right) child among = among_contained scope at (left ∷ right ∷ []) child among
+child_contained scope at (in_list left items) child among = among_contained scope at (left ∷ list_of_trees items) child among
+child_contained scope at (in_path left path) child among = among_contained scope at (left ∷ path ∷ []) child among
+child_contained scope at (call asked arguments) child among = among_contained scope at (list_of_trees arguments) child among
+child_contained scope at (any_item base) child among = among_contained scope at (base ∷ []) child among
+
+within_considered : (slots : Slots) (root : List ℕ) (scope : Scope) (tree : Tree) (at : Scope) (part : Tree) → IsConsidered slots root scope tree at part → IsWithin part tree
+within_considered slots root scope tree at part considers_itself = is_root
+within_considered slots root scope tree at part (considers_below {inner = inner} {child = child} among below) =
+    in_child {child = child} (child_contained scope inner (shape_of tree) child among) (within_considered slots root inner child at part below)
+
+-- ---- a test of kinds
+
+any_found : (test : CheckedNode → Bool) (xs : List CheckedNode) → list_any test xs ≡ true
+    → (k : ℕ) × (x : CheckedNode) × (slice_get xs k ≡ Some x) × (test x ≡ true)
+any_found test [] any = cc
+any_found test (x ∷ xs) any =
+    elim (test x) as (λ b. test x ≡ b → (b || list_any test xs) ≡ true → (k : ℕ) × (y : CheckedNode) × (slice_get (x ∷ xs) k ≡ Some y) × (test y ≡ true)) [
+      | true ↦ λ here all. (0, x, refl, here)
+      | false ↦ λ here rest. let r = any_found test xs rest in (suc r.0, r.1, r.2, r.3)
+    ] refl any
+
+found_any : (test : CheckedNode → Bool) (xs : List CheckedNode) (k : ℕ) (x : CheckedNode) → slice_get xs k ≡ Some x → test x ≡ true → list_any test xs ≡ true
+found_any test [] k x found here = absurd (none-some x found)
+found_any test (y ∷ xs) zero x found here =
+    let same : y ≡ x = cc found in
+    let passes : test y ≡ true = ap test same ∙ here in
+    ap (λ (b : Bool). b || list_any test xs) passes
+found_any test (y ∷ xs) (suc k) x found here =
+    elim (test y) as (λ b. (b || list_any test xs) ≡ true) [ true ↦ refl | false ↦ found_any test xs k x found here ]
+
+-- the test passes just the kinds of calls of these functions
+pub record Tests (test : NodeKind → Bool) (functions : List (List ℕ)) : Type 0 where
+  pub sound :
+      (values : List Value) (slots : Slots) (root : List ℕ) (scope : Scope) (shape : Shape) (kind : NodeKind)
+      → IsKindOf values slots root scope shape kind → test kind ≡ true
+      → (called : List ℕ) × (arguments : Trees) × (shape ≡ call called arguments) × Contains functions called
+  pub complete :
+      (values : List Value) (slots : Slots) (root : List ℕ) (scope : Scope) (called : List ℕ) (arguments : Trees) (kind : NodeKind)
+      → IsKindOf values slots root scope (call called arguments) kind → Contains functions called → test kind ≡ true
+
+node_calls : (test : NodeKind → Bool) (functions : List (List ℕ)) (filter : Filter) (k stop : ℕ) (part : Tree) (found : CheckedNode)
+    → Tests test functions → Stands filter.schema filter.filtered [] filter.list k stop part → slice_get filter.list.nodes k ≡ Some found
+    → test found.kind ≡ true → IsWithin part (tree_of_filter filter) → CallsOne functions (tree_of_filter filter)
+node_calls test functions filter k stop (node s e shape) found tests stands here passes within =
+    let top = stands.top in
+    let same : top.found ≡ found = same_found (slice_get filter.list.nodes k) top.found found top.stands_at here in
+    let is = tests.sound filter.list.values (slots_of filter.schema) (type_name_at filter.schema filter.filtered) [] shape top.found.kind top.kind
+    (ap (λ (f : CheckedNode). test f.kind) same ∙ passes) in
+    record { part = node s e shape; within = within; called = is.0; arguments = is.1; is_call = is.2; one = is.3 }
+
+call_passes : (test : NodeKind → Bool) (functions : List (List ℕ)) (filter : Filter) (k stop : ℕ) (part : Tree) (found : CheckedNode) (called : List ℕ) (arguments : Trees)
+    → Tests test functions → Stands filter.schema filter.filtered [] filter.list k stop part → slice_get filter.list.nodes k ≡ Some found
+    → shape_of part ≡ call called arguments → Contains functions called → test found.kind ≡ true
+call_passes test functions filter k stop (node s e shape) found called arguments tests stands here is_call one =
+    let top = stands.top in
+    let same : top.found ≡ found = same_found (slice_get filter.list.nodes k) top.found found top.stands_at here in
+    let K : Shape → Type 0 = λ (x : Shape). IsKindOf filter.list.values (slots_of filter.schema) (type_name_at filter.schema filter.filtered) [] x top.found.kind in
+    ap (λ (f : CheckedNode). test f.kind) (sym same)
+    ∙ tests.complete filter.list.values (slots_of filter.schema) (type_name_at filter.schema filter.filtered) [] called arguments top.found.kind (subst K is_call top.kind) one
+
+pub calls_by_nodes : (test : NodeKind → Bool) (functions : List (List ℕ)) (filter : Filter) → Tests test functions → IsFilter filter
+    → (list_any (λ (n : CheckedNode). test n.kind) filter.list.nodes ≡ true) ↔ CallsOne functions (tree_of_filter filter)
+calls_by_nodes test functions filter tests is =
+    let nodes = filter.list.nodes in
+    let tree = tree_of_filter filter in (
+      λ any.
+          let f = any_found (λ (n : CheckedNode). test n.kind) nodes any in
+          let n = numbered filter f.0 f.1 is f.2 in
+          node_calls test functions filter f.0 n.stop n.at.part f.1 tests n.stands f.2 f.3
+          (within_considered (slots_of filter.schema) (type_name_at filter.schema filter.filtered) [] tree [] n.at.part n.considered),
+      λ calls.
+          let k = ordered tree calls.part calls.within in
+          let count : length nodes ≡ length (pre_order tree) = count_of filter is in
+          let within : k.0 < length (pre_order tree) = slice_get_within (pre_order tree) k.0 calls.part k.1 in
+          let f = found_within nodes k.0 (omega arith) in
+          let n = numbered filter k.0 f.0 is f.1 in
+          let same : calls.part ≡ n.at.part = same_found (slice_get (pre_order tree) k.0) calls.part n.at.part k.1 n.ordered in
+          found_any (λ (m : CheckedNode). test m.kind) nodes k.0 f.0 f.1
+          (call_passes test functions filter k.0 n.stop n.at.part f.0 calls.called calls.arguments tests n.stands f.1
+          (sym (ap shape_of same) ∙ calls.is_call) calls.one),
+    )
+
+-- ---- the two tests
+
+abbrev pub AreDistinct : Type 0
+AreDistinct = (f g : Function) (name : List ℕ) → IsNamed f name → IsNamed g name → f ≡ g
+
+maker_named : (function : Function) (asked : List ℕ) → function_makes_text function ≡ true → IsNamed function asked
+    → Contains (codes "concat" ∷ codes "tolower" ∷ codes "toupper" ∷ []) asked
+maker_named Function.Concat asked passes named = (0, omega arith, named)
+maker_named Function.ToLower asked passes named = (1, omega arith, named)
+maker_named Function.ToUpper asked passes named = (2, omega arith, named)
+maker_named _ asked passes named = cc
+
+named_maker : AreDistinct → (function : Function) (asked : List ℕ) → IsNamed function asked
+    → Contains (codes "concat" ∷ codes "tolower" ∷ codes "toupper" ∷ []) asked → function_makes_text function ≡ true
+named_maker distinct function asked named (zero, within, is) = ap function_makes_text (distinct function Function.Concat asked named is)
+named_maker distinct function asked named (suc zero, within, is) = ap function_makes_text (distinct function Function.ToLower asked named is)
+named_maker distinct function asked named (suc (suc zero), within, is) = ap function_makes_text (distinct function Function.ToUpper asked named is)
+named_maker distinct function asked named (suc (suc (suc k)), within, is) = let h : suc (suc (suc k)) < 3 = within in absurd (omega arith)
+
+no_maker : (b : Bool) → b ≡ false → b ≡ true → ⊥
+no_maker b fails passes = cc
+
+maker_sound :
+    (values : List Value) (slots : Slots) (root : List ℕ) (scope : Scope) (shape : Shape) (kind : NodeKind)
+    → IsKindOf values slots root scope shape kind → kind_makes_text kind ≡ true
+    → (called : List ℕ) × (arguments : Trees) × (shape ≡ call called arguments) × Contains (codes "concat" ∷ codes "tolower" ∷ codes "toupper" ∷ []) called
+maker_sound values slots root scope (call called arguments) (NodeKind.Call function) is passes = (called, arguments, refl, maker_named function called passes is.0)
+maker_sound values slots root scope (literal k spelling) (NodeKind.Call function) is passes = absurd is
+maker_sound values slots root scope it (NodeKind.Call function) is passes = cc
+maker_sound values slots root scope (name asked) (NodeKind.Call function) is passes = absurd is
+maker_sound values slots root scope (member base asked) (NodeKind.Call function) is passes = absurd is
+maker_sound values slots root scope (negation operand) (NodeKind.Call function) is passes = cc
+maker_sound values slots root scope (logical_not operand) (NodeKind.Call function) is passes = cc
+maker_sound values slots root scope (binary operator left right) (NodeKind.Call function) is passes = cc
+maker_sound values slots root scope _ (NodeKind.Call function) is passes = absurd is
+maker_sound values slots root scope shape _ is passes = cc
+
+maker_complete : AreDistinct →
+    (values : List Value) (slots : Slots) (root : List ℕ) (scope : Scope) (called : List ℕ) (arguments : Trees) (kind : NodeKind)
+    → IsKindOf values slots root scope (call called arguments) kind → Contains (codes "concat" ∷ codes "tolower" ∷ codes "toupper" ∷ []) called
+    → kind_makes_text kind ≡ true
+maker_complete distinct values slots root scope called arguments (NodeKind.Call function) is one = named_maker distinct function called is.0 one
+maker_complete distinct values slots root scope called arguments NodeKind.Now is one =
+    absurd (no_maker (function_makes_text Function.Now) refl (named_maker distinct Function.Now called is one))
+maker_complete distinct values slots root scope called arguments _ is one = absurd is
+
+now_sound :
+    (values : List Value) (slots : Slots) (root : List ℕ) (scope : Scope) (shape : Shape) (kind : NodeKind)
+    → IsKindOf values slots root scope shape kind → kind_is_now kind ≡ true
+    → (called : List ℕ) × (arguments : Trees) × (shape ≡ call called arguments) × Contains (codes "now" ∷ []) called
+now_sound values slots root scope (call called arguments) NodeKind.Now is passes = (called, arguments, refl, (0, omega arith, is))
+now_sound values slots root scope (literal k spelling) NodeKind.Now is passes = absurd is
+now_sound values slots root scope it NodeKind.Now is passes = cc
+now_sound values slots root scope (name asked) NodeKind.Now is passes = absurd is
+now_sound values slots root scope (member base asked) NodeKind.Now is passes = absurd is
+now_sound values slots root scope (negation operand) NodeKind.Now is passes = cc
+now_sound values slots root scope (logical_not operand) NodeKind.Now is passes = cc
+now_sound values slots root scope (binary operator left right) NodeKind.Now is passes = cc
+now_sound values slots root scope _ NodeKind.Now is passes = absurd is
+now_sound values slots root scope shape _ is passes = cc
+
+now_complete : AreDistinct →
+    (values : List Value) (slots : Slots) (root : List ℕ) (scope : Scope) (called : List ℕ) (arguments : Trees) (kind : NodeKind)
+    → IsKindOf values slots root scope (call called arguments) kind → Contains (codes "now" ∷ []) called → kind_is_now kind ≡ true
+now_complete distinct values slots root scope called arguments (NodeKind.Call function) is (zero, within, named) =
+    absurd (is.1 (distinct function Function.Now called is.0 named))
+now_complete distinct values slots root scope called arguments (NodeKind.Call function) is (suc k, within, named) =
+    let h : suc k < 1 = within in absurd (omega arith)
+now_complete distinct values slots root scope called arguments NodeKind.Now is one = refl
+now_complete distinct values slots root scope called arguments _ is one = absurd is
+
+pub makers_told : AreDistinct → (filter : Filter) → IsFilter filter
+    → (list_any (λ (n : CheckedNode). kind_makes_text n.kind) filter.list.nodes ≡ true) ↔ TakesMemory (tree_of_filter filter)
+makers_told distinct filter is =
+    calls_by_nodes kind_makes_text (codes "concat" ∷ codes "tolower" ∷ codes "toupper" ∷ []) filter
+    (record { sound = maker_sound; complete = maker_complete distinct }) is
+
+pub now_told : AreDistinct → (filter : Filter) → IsFilter filter
+    → (list_any (λ (n : CheckedNode). kind_is_now n.kind) filter.list.nodes ≡ true) ↔ UsesNow (tree_of_filter filter)
+now_told distinct filter is =
+    calls_by_nodes kind_is_now (codes "now" ∷ []) filter (record { sound = now_sound; complete = now_complete distinct }) is

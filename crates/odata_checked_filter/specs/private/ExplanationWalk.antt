@@ -2,6 +2,8 @@
 use Rattle.std.specs.Prelude.{◌≡◌, ℕ, ◌*◌, List, [], ◌∷◌, ◌++◌, Some, codes, filter, length, nat_lt, replicate, slice_get}
 use Rattle.odata_syntax.specs.Lexeme.{operator_word}
 use Rattle.csdl_schema.specs.SchemaModel.{SchemaModel}
+use Rattle.odata_signatures.specs.Functions.{row_of}
+use Rattle.odata_signatures.specs.declared.function.Function.{Function}
 use Rattle.odata_checked_filter.specs.declared.checked_node.CheckedNode.{CheckedNode}
 use Rattle.odata_checked_filter.specs.declared.checked_node.NodeKind.{NodeKind}
 use Rattle.odata_checked_filter.specs.Explanation.{span_text}
@@ -18,6 +20,8 @@ kind_label (NodeKind.Member slot) beside = codes "member " ++ beside
 kind_label NodeKind.Neg beside = codes "-"
 kind_label NodeKind.Not beside = codes "not"
 kind_label (NodeKind.Binary operator) beside = operator_word operator
+kind_label (NodeKind.Call function) beside = (row_of function).name
+kind_label NodeKind.Now beside = (row_of Function.Now).name
 
 -- the line of a node of the list
 abbrev pub listed_line : SchemaModel → ℕ → CheckedNode → List ℕ → List ℕ

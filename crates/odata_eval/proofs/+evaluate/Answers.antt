@@ -1,4 +1,4 @@
-use Rattle.std.proofs.Common.{◌≡◌, ◌<◌, ◌≤◌, ◌+◌, ◌-◌, ◌*◌, ℤ, Bool, Option, Some, Result, Ok, SFits, w64, ap, sym, subst, slice_get, length, rules, arith}
+use Rattle.std.proofs.Common.{◌≡◌, ◌<◌, ◌≤◌, ◌+◌, ◌-◌, ◌*◌, ℕ, ℤ, [], ◌∷◌, refl, Bool, Option, Some, Result, Ok, SFits, w64, ap, sym, subst, slice_get, length, rules, arith}
 use Rattle.edm_values.specs.declared.datum.Datum.{Datum}
 use Rattle.std.specs.Prelude.{◌↔◌, IsTrue}
 use Rattle.std.proofs.lemmas.Int.{to_z-of_z}
@@ -10,16 +10,19 @@ use Rattle.odata_checked_filter.specs.declared.checked_node.CheckedNode.{Checked
 use Rattle.odata_checked_filter.specs.declared.checked_node.NodeKind.{NodeKind}
 use Rattle.odata_signatures.specs.ExprTypes.{IsBooleanOrNull}
 use Rattle.odata_signatures.specs.OperatorClass.{class_of}
+use Rattle.odata_signatures.specs.declared.function.Function.{Function}
 use Rattle.odata_signatures.specs.declared.operator_class.OperatorClass.{OperatorClass}
 use Rattle.odata_eval.specs.declared.fault.EvalFault.{EvalFault}
 use Rattle.odata_eval.specs.declared.part.WalkClass.{WalkClass}
 use Rattle.odata_eval.specs.CalculationGives.{number_val}
 use Rattle.odata_eval.specs.TruthGives.{truth_val}
 use Rattle.odata_eval.specs.private.DatumView.{reading_at}
-use Rattle.odata_eval.specs.private.Place.{NumberStands, PartStands, TruthStands}
+use Rattle.odata_eval.specs.private.Place.{HasCall, IsStopOf, NumberStands, PartStands, TruthStands}
 use Rattle.odata_eval.specs.private.WalkClass.{walk_of_kind}
-use Rattle.odata_eval.specs.private.WalkAnswer.{AnswersDatum, AnswersNumber, AnswersTruth}
+use Rattle.odata_eval.specs.private.WalkAnswer.{AllAnswered, AnswersDatum, AnswersNumber, AnswersTruth}
+use Rattle.odata_eval.specs.private.SceneModel.{SceneModel}
 use Rattle.odata_eval.proofs.walking.Parts.{found_there, part_inside, there_found}
+use Rattle.odata_eval.proofs.walking.CallSteps.{OneName, argument_behind, argument_faults, argument_stands, call_answers, call_applies, first_argument, third_is_last}
 use Rattle.odata_eval.proofs.meaning.LawsBelow.{Promotes}
 use Rattle.odata_eval.proofs.walking.MemberSteps.{step_answers, step_slot}
 use Rattle.odata_eval.proofs.walking.Compared.{kept_compared, may_compare, may_compare_kept, numbers_compared, truth_compared}
@@ -350,3 +353,120 @@ pub walk::numbers_truth_at-returns-in-Ok-number_at : goal.walk::numbers_truth_at
 walk::numbers_truth_at-returns-in-Ok-number_at t c =
     let here = class_of_operator c.args.scene.now.list c.args.place c.args.operator (OperatorClass.Comparison c.comparison_of-in-Ok-number_at.result) c.requires.here c.comparison_of-in-Ok-number_at.ensures in
     numbers_compared c.args.scene.now c.args.place c.comparison_of-in-Ok-number_at.result here c.right_of-right_place.result c.right_of-right_place.ensures c.in-Ok.left c.in-Ok-number_at.right c.compare_numbers-in-Ok-number_at.result c.in-Ok.ensures c.in-Ok-number_at.ensures c.compare_numbers-in-Ok-number_at.ensures
+
+pub walk::compared_truth_at-part_at-requires : goal.walk::compared_truth_at-part_at-requires
+walk::compared_truth_at-part_at-requires t c = record {
+  stands = first_part c.args.scene.now c.args.place WalkClass.Eager (λ leaf. cc) (walks_by c.args.scene.now.list c.args.place c.args.operator WalkClass.Eager c.requires.here c.requires.comparison)
+      (typed_part c.args.scene.now c.args.place IsBooleanOrNull c.requires.stands);
+}
+
+pub walk::compared_truth_at-part_at-requires-in-Leaf : goal.walk::compared_truth_at-part_at-requires-in-Leaf
+walk::compared_truth_at-part_at-requires-in-Leaf t c = record {
+  stands = right_part c.args.scene.now c.args.place c.args.operator c.requires.here (typed_part c.args.scene.now c.args.place IsBooleanOrNull c.requires.stands) c.right_of-right_place.result
+      c.right_of-right_place.ensures;
+}
+
+-- ---- a call
+
+pub walk::made_at-called_at-requires : goal.walk::made_at-called_at-requires
+walk::made_at-called_at-requires t c =
+    let first : AnswersDatum c.args.scene.now (c.args.place + 1) (Ok c.in-Ok.first) = subst (λ (r : Result Datum EvalFault). AnswersDatum c.args.scene.now (c.args.place + 1) r) c.in-Ok.is c.requires.first in
+    let here : HasCall c.args.scene.now.list c.args.place c.in-Call.function = there_found (λ (f : CheckedNode). f.kind ≡ NodeKind.Call c.in-Call.function) (slice_get c.args.scene.now.list.nodes c.args.place) c.node.result.now c.node.ensures c.in-Call.is in
+    let smaller : 16 * (length c.args.scene.now.list.nodes - c.args.place) + 3 < 16 * (length c.args.scene.now.list.nodes - c.args.place) + 4 = omega arith in
+    search rules
+
+pub walk::called_at-stop_of-own_stop-requires : goal.walk::called_at-stop_of-own_stop-requires
+walk::called_at-stop_of-own_stop-requires t c = part_inside c.args.scene.now c.args.place c.requires.stands
+
+-- the first argument stands there
+first_there : (scene : SceneModel) → OneName → (place : ℕ) (function : Function) → HasCall scene.list place function → (own : ℕ) → IsStopOf scene.list place own → PartStands scene place
+    → PartStands scene (place + 1)
+first_there scene names place function here own is_own part =
+    argument_stands scene names place function here own is_own (place + 1) [] part refl (first_argument scene names place function here own is_own part)
+
+pub walk::called_at-stop_of-second_place-requires : goal.walk::called_at-stop_of-second_place-requires
+walk::called_at-stop_of-second_place-requires t c =
+    part_inside c.args.scene.now (c.args.place + 1) (first_there c.args.scene.now c.calls_have_one_type.ensures.named c.args.place c.args.function c.requires.here c.stop_of-own_stop.result c.stop_of-own_stop.ensures c.requires.stands)
+
+-- the first argument, the first two, and three
+one_answered : (scene : SceneModel) → OneName → (place : ℕ) (function : Function) → HasCall scene.list place function → (own : ℕ) → IsStopOf scene.list place own → PartStands scene place
+    → (second : ℕ) → IsStopOf scene.list (place + 1) second → (first : Datum) → AnswersDatum scene (place + 1) (Ok first) → AllAnswered scene (place + 1) second own (first ∷ [])
+one_answered scene names place function here own is_own part second is_second first answers =
+    (second, is_second, first_argument scene names place function here own is_own part, answers, refl)
+
+two_answered : (scene : SceneModel) → OneName → (place : ℕ) (function : Function) → HasCall scene.list place function → (own : ℕ) → IsStopOf scene.list place own → PartStands scene place
+    → (second : ℕ) → IsStopOf scene.list (place + 1) second → (first : Datum) → AnswersDatum scene (place + 1) (Ok first)
+    → ¬ (second ≡ own) → (third : ℕ) → IsStopOf scene.list second third → (next : Datum) → AnswersDatum scene second (Ok next) → AllAnswered scene (place + 1) third own (first ∷ next ∷ [])
+two_answered scene names place function here own is_own part second is_second first answers further third is_third next next_answers =
+    (second, is_second, first_argument scene names place function here own is_own part, answers, (third, is_third, further, next_answers, refl))
+
+three_answered : (scene : SceneModel) → OneName → (place : ℕ) (function : Function) → HasCall scene.list place function → (own : ℕ) → IsStopOf scene.list place own → PartStands scene place
+    → (second : ℕ) → IsStopOf scene.list (place + 1) second → (first : Datum) → AnswersDatum scene (place + 1) (Ok first)
+    → ¬ (second ≡ own) → (third : ℕ) → IsStopOf scene.list second third → (next : Datum) → AnswersDatum scene second (Ok next)
+    → ¬ (third ≡ own) → (last : Datum) → AnswersDatum scene third (Ok last) → AllAnswered scene (place + 1) own own (first ∷ next ∷ last ∷ [])
+three_answered scene names place function here own is_own part second is_second first answers further third is_third next next_answers later last last_answers =
+    let two : AllAnswered scene (place + 1) third own (first ∷ next ∷ []) = two_answered scene names place function here own is_own part second is_second first answers further third is_third next next_answers in
+    let stops : IsStopOf scene.list third own = third_is_last scene names place function here own is_own third first next part two later in
+    (second, is_second, first_argument scene names place function here own is_own part, answers, (third, is_third, further, next_answers, (own, stops, later, last_answers, refl)))
+
+pub walk::called_at-called_on_one-requires : goal.walk::called_at-called_on_one-requires
+walk::called_at-called_on_one-requires t c =
+    call_applies c.args.scene.now c.calls_have_one_type.ensures.named c.args.place c.args.function c.requires.here c.stop_of-own_stop.result c.stop_of-own_stop.ensures c.ends_once.ensures (c.args.first ∷ [])
+    (subst (λ (k : ℕ). AllAnswered c.args.scene.now (c.args.place + 1) k c.stop_of-own_stop.result (c.args.first ∷ [])) c.if-second_place-own_stop.true
+    (one_answered c.args.scene.now c.calls_have_one_type.ensures.named c.args.place c.args.function c.requires.here c.stop_of-own_stop.result c.stop_of-own_stop.ensures c.requires.stands c.stop_of-second_place.result c.stop_of-second_place.ensures c.args.first c.requires.first)) c.requires.stands
+
+pub walk::called_at-returns-then-second_place-own_stop : goal.walk::called_at-returns-then-second_place-own_stop
+walk::called_at-returns-then-second_place-own_stop t c =
+    call_answers c.args.scene.now c.calls_have_one_type.ensures.named c.args.place c.args.function c.requires.here c.stop_of-own_stop.result c.stop_of-own_stop.ensures c.ends_once.ensures (c.args.first ∷ [])
+    (subst (λ (k : ℕ). AllAnswered c.args.scene.now (c.args.place + 1) k c.stop_of-own_stop.result (c.args.first ∷ [])) c.if-second_place-own_stop.true
+    (one_answered c.args.scene.now c.calls_have_one_type.ensures.named c.args.place c.args.function c.requires.here c.stop_of-own_stop.result c.stop_of-own_stop.ensures c.requires.stands c.stop_of-second_place.result c.stop_of-second_place.ensures c.args.first c.requires.first)) c.called_on_one.result (λ r s. c.called_on_one.ensures c.args.scene.now.moment r s)
+
+pub walk::called_at-operand_at-requires : goal.walk::called_at-operand_at-requires
+walk::called_at-operand_at-requires t c =
+    let inside : c.args.place < length c.args.scene.now.list.nodes = part_inside c.args.scene.now c.args.place c.requires.stands in
+    let behind : c.args.place < c.stop_of-second_place.result = argument_behind c.args.scene.now c.calls_have_one_type.ensures.named c.args.place c.args.function c.requires.here c.stop_of-own_stop.result c.stop_of-own_stop.ensures c.stop_of-second_place.result (c.args.first ∷ []) c.requires.stands (one_answered c.args.scene.now c.calls_have_one_type.ensures.named c.args.place c.args.function c.requires.here c.stop_of-own_stop.result c.stop_of-own_stop.ensures c.requires.stands c.stop_of-second_place.result c.stop_of-second_place.ensures c.args.first c.requires.first) in
+    let smaller : 16 * (length c.args.scene.now.list.nodes - c.stop_of-second_place.result) + 12 < 16 * (length c.args.scene.now.list.nodes - c.args.place) + 3 = omega arith in
+    let stands : PartStands c.args.scene.now c.stop_of-second_place.result = argument_stands c.args.scene.now c.calls_have_one_type.ensures.named c.args.place c.args.function c.requires.here c.stop_of-own_stop.result c.stop_of-own_stop.ensures c.stop_of-second_place.result (c.args.first ∷ []) c.requires.stands (one_answered c.args.scene.now c.calls_have_one_type.ensures.named c.args.place c.args.function c.requires.here c.stop_of-own_stop.result c.stop_of-own_stop.ensures c.requires.stands c.stop_of-second_place.result c.stop_of-second_place.ensures c.args.first c.requires.first) c.if-second_place-own_stop.false in
+    search rules
+
+pub walk::called_at-returns-in-Err : goal.walk::called_at-returns-in-Err
+walk::called_at-returns-in-Err t c =
+    argument_faults c.args.scene.now c.calls_have_one_type.ensures.named c.args.place c.args.function c.requires.here c.stop_of-own_stop.result c.stop_of-own_stop.ensures c.stop_of-second_place.result (c.args.first ∷ []) c.in-Err.further (one_answered c.args.scene.now c.calls_have_one_type.ensures.named c.args.place c.args.function c.requires.here c.stop_of-own_stop.result c.stop_of-own_stop.ensures c.requires.stands c.stop_of-second_place.result c.stop_of-second_place.ensures c.args.first c.requires.first) c.if-second_place-own_stop.false c.in-Err.ensures
+
+pub walk::called_at-stop_of-third_place-requires : goal.walk::called_at-stop_of-third_place-requires
+walk::called_at-stop_of-third_place-requires t c =
+    part_inside c.args.scene.now c.stop_of-second_place.result (argument_stands c.args.scene.now c.calls_have_one_type.ensures.named c.args.place c.args.function c.requires.here c.stop_of-own_stop.result c.stop_of-own_stop.ensures c.stop_of-second_place.result (c.args.first ∷ []) c.requires.stands (one_answered c.args.scene.now c.calls_have_one_type.ensures.named c.args.place c.args.function c.requires.here c.stop_of-own_stop.result c.stop_of-own_stop.ensures c.requires.stands c.stop_of-second_place.result c.stop_of-second_place.ensures c.args.first c.requires.first) c.if-second_place-own_stop.false)
+
+pub walk::called_at-called_on_two-requires : goal.walk::called_at-called_on_two-requires
+walk::called_at-called_on_two-requires t c =
+    call_applies c.args.scene.now c.calls_have_one_type.ensures.named c.args.place c.args.function c.requires.here c.stop_of-own_stop.result c.stop_of-own_stop.ensures c.ends_once.ensures (c.args.first ∷ c.in-Ok.second ∷ [])
+    (subst (λ (k : ℕ). AllAnswered c.args.scene.now (c.args.place + 1) k c.stop_of-own_stop.result (c.args.first ∷ c.in-Ok.second ∷ [])) c.if-third_place-own_stop.true
+    (two_answered c.args.scene.now c.calls_have_one_type.ensures.named c.args.place c.args.function c.requires.here c.stop_of-own_stop.result c.stop_of-own_stop.ensures c.requires.stands c.stop_of-second_place.result c.stop_of-second_place.ensures c.args.first c.requires.first c.if-second_place-own_stop.false c.stop_of-third_place.result c.stop_of-third_place.ensures c.in-Ok.second c.in-Ok.ensures)) c.requires.stands
+
+pub walk::called_at-returns-then-third_place-own_stop : goal.walk::called_at-returns-then-third_place-own_stop
+walk::called_at-returns-then-third_place-own_stop t c =
+    call_answers c.args.scene.now c.calls_have_one_type.ensures.named c.args.place c.args.function c.requires.here c.stop_of-own_stop.result c.stop_of-own_stop.ensures c.ends_once.ensures (c.args.first ∷ c.in-Ok.second ∷ [])
+    (subst (λ (k : ℕ). AllAnswered c.args.scene.now (c.args.place + 1) k c.stop_of-own_stop.result (c.args.first ∷ c.in-Ok.second ∷ [])) c.if-third_place-own_stop.true
+    (two_answered c.args.scene.now c.calls_have_one_type.ensures.named c.args.place c.args.function c.requires.here c.stop_of-own_stop.result c.stop_of-own_stop.ensures c.requires.stands c.stop_of-second_place.result c.stop_of-second_place.ensures c.args.first c.requires.first c.if-second_place-own_stop.false c.stop_of-third_place.result c.stop_of-third_place.ensures c.in-Ok.second c.in-Ok.ensures)) c.called_on_two.result (λ r s. c.called_on_two.ensures c.args.scene.now.moment r s)
+
+pub walk::called_at-operand_at-requires-2 : goal.walk::called_at-operand_at-requires-2
+walk::called_at-operand_at-requires-2 t c =
+    let inside : c.args.place < length c.args.scene.now.list.nodes = part_inside c.args.scene.now c.args.place c.requires.stands in
+    let behind : c.args.place < c.stop_of-third_place.result = argument_behind c.args.scene.now c.calls_have_one_type.ensures.named c.args.place c.args.function c.requires.here c.stop_of-own_stop.result c.stop_of-own_stop.ensures c.stop_of-third_place.result (c.args.first ∷ c.in-Ok.second ∷ []) c.requires.stands (two_answered c.args.scene.now c.calls_have_one_type.ensures.named c.args.place c.args.function c.requires.here c.stop_of-own_stop.result c.stop_of-own_stop.ensures c.requires.stands c.stop_of-second_place.result c.stop_of-second_place.ensures c.args.first c.requires.first c.if-second_place-own_stop.false c.stop_of-third_place.result c.stop_of-third_place.ensures c.in-Ok.second c.in-Ok.ensures) in
+    let smaller : 16 * (length c.args.scene.now.list.nodes - c.stop_of-third_place.result) + 12 < 16 * (length c.args.scene.now.list.nodes - c.args.place) + 3 = omega arith in
+    let stands : PartStands c.args.scene.now c.stop_of-third_place.result = argument_stands c.args.scene.now c.calls_have_one_type.ensures.named c.args.place c.args.function c.requires.here c.stop_of-own_stop.result c.stop_of-own_stop.ensures c.stop_of-third_place.result (c.args.first ∷ c.in-Ok.second ∷ []) c.requires.stands (two_answered c.args.scene.now c.calls_have_one_type.ensures.named c.args.place c.args.function c.requires.here c.stop_of-own_stop.result c.stop_of-own_stop.ensures c.requires.stands c.stop_of-second_place.result c.stop_of-second_place.ensures c.args.first c.requires.first c.if-second_place-own_stop.false c.stop_of-third_place.result c.stop_of-third_place.ensures c.in-Ok.second c.in-Ok.ensures) c.if-third_place-own_stop.false in
+    search rules
+
+pub walk::called_at-called_on_three-requires : goal.walk::called_at-called_on_three-requires
+walk::called_at-called_on_three-requires t c =
+    call_applies c.args.scene.now c.calls_have_one_type.ensures.named c.args.place c.args.function c.requires.here c.stop_of-own_stop.result c.stop_of-own_stop.ensures c.ends_once.ensures (c.args.first ∷ c.in-Ok.second ∷ c.in-Ok-operand_at.third ∷ [])
+    (three_answered c.args.scene.now c.calls_have_one_type.ensures.named c.args.place c.args.function c.requires.here c.stop_of-own_stop.result c.stop_of-own_stop.ensures c.requires.stands c.stop_of-second_place.result c.stop_of-second_place.ensures c.args.first c.requires.first c.if-second_place-own_stop.false c.stop_of-third_place.result c.stop_of-third_place.ensures c.in-Ok.second c.in-Ok.ensures c.if-third_place-own_stop.false c.in-Ok-operand_at.third c.in-Ok-operand_at.ensures) c.requires.stands
+
+pub walk::called_at-returns-in-Ok-operand_at : goal.walk::called_at-returns-in-Ok-operand_at
+walk::called_at-returns-in-Ok-operand_at t c =
+    call_answers c.args.scene.now c.calls_have_one_type.ensures.named c.args.place c.args.function c.requires.here c.stop_of-own_stop.result c.stop_of-own_stop.ensures c.ends_once.ensures (c.args.first ∷ c.in-Ok.second ∷ c.in-Ok-operand_at.third ∷ [])
+    (three_answered c.args.scene.now c.calls_have_one_type.ensures.named c.args.place c.args.function c.requires.here c.stop_of-own_stop.result c.stop_of-own_stop.ensures c.requires.stands c.stop_of-second_place.result c.stop_of-second_place.ensures c.args.first c.requires.first c.if-second_place-own_stop.false c.stop_of-third_place.result c.stop_of-third_place.ensures c.in-Ok.second c.in-Ok.ensures c.if-third_place-own_stop.false c.in-Ok-operand_at.third c.in-Ok-operand_at.ensures) c.called_on_three.result (λ r s. c.called_on_three.ensures c.args.scene.now.moment r s)
+
+pub walk::called_at-returns : goal.walk::called_at-returns
+walk::called_at-returns t c =
+    argument_faults c.args.scene.now c.calls_have_one_type.ensures.named c.args.place c.args.function c.requires.here c.stop_of-own_stop.result c.stop_of-own_stop.ensures c.stop_of-third_place.result (c.args.first ∷ c.in-Ok.second ∷ []) c.in-Err-operand_at.fault (two_answered c.args.scene.now c.calls_have_one_type.ensures.named c.args.place c.args.function c.requires.here c.stop_of-own_stop.result c.stop_of-own_stop.ensures c.requires.stands c.stop_of-second_place.result c.stop_of-second_place.ensures c.args.first c.requires.first c.if-second_place-own_stop.false c.stop_of-third_place.result c.stop_of-third_place.ensures c.in-Ok.second c.in-Ok.ensures) c.if-third_place-own_stop.false c.in-Err-operand_at.ensures

@@ -60,6 +60,9 @@ decreases-number_walk::calculated_at l = 16 * (length l.scene.now.list.nodes - l
 abbrev pub decreases-walk::compared_at : goal.decreases-walk::compared_at
 decreases-walk::compared_at l = 16 * (length l.scene.now.list.nodes - l.place) + 3
 
+abbrev pub decreases-walk::called_at : goal.decreases-walk::called_at
+decreases-walk::called_at l = 16 * (length l.scene.now.list.nodes - l.place) + 3
+
 abbrev pub decreases-walk::connected_at : goal.decreases-walk::connected_at
 decreases-walk::connected_at l = 16 * (length l.scene.now.list.nodes - l.place) + 3
 

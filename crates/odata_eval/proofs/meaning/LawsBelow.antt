@@ -1,15 +1,20 @@
 -- What is known of the layers below.
-use Rattle.std.proofs.Common.{◌≡◌, ◌↔◌, ℤ, Bool, IsTrue, Option, Some, Result}
+use Rattle.std.proofs.Common.{◌≡◌, ◌↔◌, ℕ, ℤ, List, Bool, IsTrue, Option, Some, Result}
 use Rattle.std.specs.Prelude.{IfSome}
+use Rattle.edm_values.specs.Civil.{Date, epoch_day}
 use Rattle.edm_values.specs.NumberTypes.{IsNumberOf, IsNumberType}
 use Rattle.edm_values.specs.Val.{Val}
 use Rattle.edm_values.specs.declared.primitive.PrimitiveType.{PrimitiveType}
 use Rattle.odata_functions.specs.Arithmetic.{ArithmeticGives, NegationGives}
 use Rattle.odata_functions.specs.Comparison.{ComparesTrue}
 use Rattle.odata_functions.specs.Promotion.{IsPromoted, negation_type, promotion}
+use Rattle.odata_functions.specs.Gregorian.{IsDateOf}
+use Rattle.odata_functions.specs.Texts.{HasEnd, HasPart, HasStart, IsPlaceOf, IsTrimmed}
 use Rattle.odata_functions.specs.declared.arithmetic.ArithFault.{ArithFault}
 use Rattle.odata_functions.specs.declared.arithmetic.ArithmeticOperator.{ArithmeticOperator}
 use Rattle.odata_functions.specs.declared.comparison.ComparisonOperator.{ComparisonOperator}
+use Rattle.odata_signatures.specs.Functions.{IsNamed}
+use Rattle.odata_signatures.specs.declared.function.Function.{Function}
 use Rattle.odata_expression_types.specs.Laws.{OneLiteralValue, OneType}
 
 -- what makes outcomes the only ones
@@ -20,6 +25,10 @@ pub record OneEach : Type 0 where
       → ArithmeticGives operator kind left right x → ArithmeticGives operator kind left right y → x ≡ y
   pub negation : (kind : PrimitiveType) (operand : Option ℤ) (x y : Result (Option ℤ) ArithFault)
       → NegationGives kind operand x → NegationGives kind operand y → x ≡ y
+  pub place : (text part : List ℕ) (n m : ℤ) → IsPlaceOf text part n → IsPlaceOf text part m → n ≡ m
+  pub trimmed : (text part other : List ℕ) → IsTrimmed text part → IsTrimmed text other → part ≡ other
+  pub dates : (number y y' : ℤ) (m m' d d' : ℕ) → IsDateOf number y m d → IsDateOf number y' m' d' → (y ≡ y') × (m ≡ m') × (d ≡ d')
+  pub names : (f g : Function) (text : List ℕ) → IsNamed f text → IsNamed g text → f ≡ g
 
 -- what gives outcomes
 pub record SomeEach : Type 0 where
@@ -28,6 +37,12 @@ pub record SomeEach : Type 0 where
       → (x : Result (Option ℤ) ArithFault) × ArithmeticGives operator kind left right x
   pub negation : (kind : PrimitiveType) (operand : Option ℤ) → IsPromoted kind
       → (x : Result (Option ℤ) ArithFault) × NegationGives kind operand x
+  pub part : (text part : List ℕ) → (answer : Bool) × (IsTrue answer ↔ HasPart text part)
+  pub start : (text part : List ℕ) → (answer : Bool) × (IsTrue answer ↔ HasStart text part)
+  pub end : (text part : List ℕ) → (answer : Bool) × (IsTrue answer ↔ HasEnd text part)
+  pub place : (text part : List ℕ) → (n : ℤ) × IsPlaceOf text part n
+  pub trimmed : (text : List ℕ) → (part : List ℕ) × IsTrimmed text part
+  pub dates : (date : Date) → IsDateOf (epoch_day date) date.year date.month date.day
 
 -- where operands lie
 pub record Promotes : Type 0 where

@@ -51,7 +51,7 @@ NotGives-one null a b p q = same_one (gives (truth_val (not3 None))) a b p q
 NotGives-one (boolean x) a b p q = same_one (gives (truth_val (not3 (Some x)))) a b p q
 NotGives-one _ a b p q = absurd p
 
-same_number : (x y : Result (Option ℤ) ArithFault) (a b : Outcome) → x ≡ y → a ≡ number_outcome x → b ≡ number_outcome y → a ≡ b
+pub same_number : (x y : Result (Option ℤ) ArithFault) (a b : Outcome) → x ≡ y → a ≡ number_outcome x → b ≡ number_outcome y → a ≡ b
 same_number x y a b same is_a is_b = is_a ∙ ap number_outcome same ∙ sym is_b
 
 module _ (known : OneEach) where

@@ -11,7 +11,7 @@ use Rattle.edm_values.specs.IntLiteral.{IntValue}
 use Rattle.edm_values.specs.NumberTypes.{IsIntLiteralType, IsNumberOf}
 use Rattle.edm_values.specs.Val.{Val, null, boolean, whole, date, moment, guid, member, text, fields, FieldVal, absent, present}
 use Rattle.edm_values.specs.declared.primitive.PrimitiveType.{PrimitiveType}
-use Rattle.odata_syntax.specs.Tree.{Tree, node, literal, it, name, negation, logical_not, binary}
+use Rattle.odata_syntax.specs.Tree.{Tree, node, literal, it, name, negation, logical_not, binary, call, Trees, no_trees, more_trees}
 use Rattle.odata_syntax.specs.Tree as tree
 use Rattle.odata_syntax.specs.declared.node.LiteralKind.{LiteralKind}
 use Rattle.csdl_schema.specs.ExprType.{ExprType, single, primitive, enumeration, structured}
@@ -29,37 +29,27 @@ use Rattle.odata_signatures.specs.ExprTypes.{boolean_type, string_type}
 use Rattle.odata_expression_types.specs.LiteralValue.{LiteralTyped, IntTyped}
 use Rattle.odata_signatures.specs.OperatorClass.{class_of}
 use Rattle.odata_signatures.specs.OperatorTyped.{ClassTyped, NegationTyped, NotTyped}
-use Rattle.odata_expression_types.specs.Typed.{OperandTyped, OperandsTyped, Typed, PropertyTyped, StepTyped, variable_type, property_named}
+use Rattle.odata_expression_types.specs.Typed.{AreTyped, OperandTyped, OperandsTyped, Typed, PropertyTyped, StepTyped, variable_type, property_named}
 use Rattle.odata_eval.specs.CalculationGives.{CalculationGives, NegatedGives, number_outcome}
+use Rattle.odata_eval.specs.CallGives.{CallGives}
 use Rattle.odata_eval.specs.CompareGives.{CompareGives}
 use Rattle.odata_eval.specs.EndsOnce.{IsOutcomeOf}
 use Rattle.odata_eval.specs.Environment.{Environment, variable_value, scope_of, IsFitting}
 use Rattle.odata_eval.specs.LeftFirst.{After}
 use Rattle.odata_eval.specs.LiteralGives.{LiteralGives}
-use Rattle.odata_eval.specs.Means.{Means}
+use Rattle.odata_eval.specs.Means.{ArgumentsMean, Means}
 use Rattle.odata_eval.specs.NameGives.{FoundGives, StepGives, FieldGives}
 use Rattle.odata_eval.specs.OperatorGives.{ClassGives, InType}
 use Rattle.odata_eval.specs.Outcome.{Outcome, gives, overflow, divides_by_zero}
 use Rattle.odata_eval.specs.TruthGives.{ConnectiveGives, JoinGives, NotGives, joined, truth_val}
 use Rattle.odata_eval.specs.private.Operands.{AreNumbers, IsOneNumber}
 use Rattle.odata_eval.specs.private.WalkClass.{IsDecided}
+use Rattle.odata_eval.proofs.meaning.AllTrees.{AllTyped}
+use Rattle.odata_eval.proofs.meaning.CallEnds.{HaveTypes, call_ends}
+use Rattle.odata_eval.proofs.meaning.Ends.{Ends, after_ends, typed_value}
 use Rattle.odata_eval.proofs.meaning.Kinds.{IsTruth, comparable_values, truth_of}
 use Rattle.odata_eval.proofs.meaning.LawsBelow.{Promotes, SomeEach}
 use Rattle.odata_eval.proofs.meaning.Numbers.{calculated_values, negated_value}
-
--- some outcome of the type
-abbrev pub Ends : Slots → ExprType → (Outcome → Type 0) → Type 0
-Ends slots type Gives = (o : Outcome) × (Gives o × IsOutcomeOf slots type o)
-
--- what follows an operand's outcome: a fault stays
-pub after_ends : (slots : Slots) (operand type : ExprType) (Operand : Outcome → Type 0) (Goes : Val → Outcome → Type 0)
-    → Ends slots operand Operand → ((v : Val) → HasType slots operand v → Ends slots type (Goes v)) → Ends slots type (After Operand Goes)
-after_ends slots operand type Operand Goes (gives v, ends) goes = let e = goes v ends.1 in (e.0, ((gives v, (ends.0, e.1.0)), e.1.1))
-after_ends slots operand type Operand Goes (overflow, ends) goes = (overflow, ((overflow, (ends.0, refl)), tt))
-after_ends slots operand type Operand Goes (divides_by_zero, ends) goes = (divides_by_zero, ((divides_by_zero, (ends.0, refl)), tt))
-
-typed_value : (slots : Slots) (given type : ExprType) (v : Val) → type ≡ given → HasType slots given v → HasType slots type v
-typed_value slots given type v same has = subst (λ (t : ExprType). HasType slots t v) (sym same) has
 
 int_has : (slots : Slots) (n : ℤ) (p : PrimitiveType) → FitsSigned w64 n → IsIntLiteralType n p → HasType slots (single (primitive p)) (whole n)
 int_has slots n p fits (inl small) = subst (λ (q : PrimitiveType). HasType slots (single (primitive q)) (whole n)) (sym small.1) small.0
@@ -258,33 +248,57 @@ class_ends some promotes slots (OperatorClass.Arithmetic arithmetic) NodeTyped l
     (λ r of_r. in_type slots NodeTyped (λ t. CalculationGives arithmetic t l r) type is
     (calculation_ends some slots arithmetic type l r (calculated_values promotes slots left right type l r typed of_l of_r)))
 
+-- behind arguments that have outcomes
+behind_arguments : (slots : Slots) (root : List ℕ) (now : MomentParts) (entity : Val) (environment : Environment) (arguments : Trees) (types : List ExprType) (type : ExprType)
+    (Goes : List Val → Outcome → Type 0) → AllTyped (λ tree t. Ends slots t (Means slots root now entity environment tree)) arguments types
+    → ((values : List Val) → HaveTypes slots types values → Ends slots type (Goes values)) → Ends slots type (ArgumentsMean slots root now entity environment arguments Goes)
+behind_arguments slots root now entity environment no_trees [] type Goes all goes = goes [] tt
+behind_arguments slots root now entity environment (more_trees argument more) (t ∷ types) type Goes all goes =
+    after_ends slots t type (Means slots root now entity environment argument)
+    (λ v. ArgumentsMean slots root now entity environment more (λ values. Goes (v ∷ values))) all.0
+    (λ v has. behind_arguments slots root now entity environment more types type (λ values. Goes (v ∷ values)) all.1 (λ values have. goes (v ∷ values) (has, have)))
+behind_arguments slots root now entity environment _ _ type Goes all goes = absurd all
+
 module _ (some : SomeEach) (promotes : Promotes) (slots : Slots) (root : List ℕ) (now : MomentParts) (entity : Val) (environment : Environment)
     (conforms : HasType slots (single (structured root)) entity) (fitting : IsFitting slots environment) where
-  pub tree_ends : (tree : Tree) (type : ExprType) → Typed slots root (scope_of environment) tree type
-      → Ends slots type (Means slots root now entity environment tree)
-  tree_ends (node start stop (literal kind spelling)) type typed = literal_ends slots kind spelling type typed
-  tree_ends (node start stop it) type typed = (gives entity, (refl, typed_value slots (single (structured root)) type entity typed conforms))
-  tree_ends (node start stop (name asked)) type typed =
-      found_ends slots root entity asked type (variable_type (scope_of environment) asked) (variable_value environment asked)
-      conforms (variable_fits slots environment asked fitting) typed
-  tree_ends (node start stop (tree.member base asked)) type typed =
-      after_ends slots typed.operand type (Means slots root now entity environment base) (λ v. StepGives v asked)
-      (tree_ends base typed.operand typed.operand_typed) (λ v has. member_ends slots typed.operand v asked type typed.makes has)
-  tree_ends (node start stop (negation operand)) type typed =
-      let NodeTyped : ExprType → Type 0 = OperandTyped (Typed slots root (scope_of environment) operand) NegationTyped in
-      after_ends slots typed.operand type (Means slots root now entity environment operand) (λ v. InType NodeTyped (λ t. NegatedGives t v))
-      (tree_ends operand typed.operand typed.operand_typed)
-      (λ v has. in_type slots NodeTyped (λ t. NegatedGives t v) type typed
-      (negation_ends some slots type v (negated_value promotes slots typed.operand type v typed.makes has)))
-  tree_ends (node start stop (logical_not operand)) type typed =
-      after_ends slots typed.operand type (Means slots root now entity environment operand) NotGives
-      (tree_ends operand typed.operand typed.operand_typed) (λ v has. not_ends slots typed.operand type v typed.makes has)
-  tree_ends (node start stop (binary operator left right)) type typed =
-      let NodeTyped : ExprType → Type 0 =
-      OperandsTyped operator (Typed slots root (scope_of environment) left) (Typed slots root (scope_of environment) right) in
-      after_ends slots typed.left type (Means slots root now entity environment left)
-      (λ l. ClassGives (class_of operator) NodeTyped l (Means slots root now entity environment right))
-      (tree_ends left typed.left typed.left_typed)
-      (λ l of_l. class_ends some promotes slots (class_of operator) NodeTyped typed.left typed.right type l (Means slots root now entity environment right)
-      typed.operator_typed typed of_l (tree_ends right typed.right typed.right_typed))
-  tree_ends (node start stop _) type typed = absurd typed
+  mutual
+    pub tree_ends : (tree : Tree) (type : ExprType) → Typed slots root (scope_of environment) tree type
+        → Ends slots type (Means slots root now entity environment tree)
+    tree_ends (node start stop (literal kind spelling)) type typed = literal_ends slots kind spelling type typed
+    tree_ends (node start stop it) type typed = (gives entity, (refl, typed_value slots (single (structured root)) type entity typed conforms))
+    tree_ends (node start stop (name asked)) type typed =
+        found_ends slots root entity asked type (variable_type (scope_of environment) asked) (variable_value environment asked)
+        conforms (variable_fits slots environment asked fitting) typed
+    tree_ends (node start stop (tree.member base asked)) type typed =
+        after_ends slots typed.operand type (Means slots root now entity environment base) (λ v. StepGives v asked)
+        (tree_ends base typed.operand typed.operand_typed) (λ v has. member_ends slots typed.operand v asked type typed.makes has)
+    tree_ends (node start stop (negation operand)) type typed =
+        let NodeTyped : ExprType → Type 0 = OperandTyped (Typed slots root (scope_of environment) operand) NegationTyped in
+        after_ends slots typed.operand type (Means slots root now entity environment operand) (λ v. InType NodeTyped (λ t. NegatedGives t v))
+        (tree_ends operand typed.operand typed.operand_typed)
+        (λ v has. in_type slots NodeTyped (λ t. NegatedGives t v) type typed
+        (negation_ends some slots type v (negated_value promotes slots typed.operand type v typed.makes has)))
+    tree_ends (node start stop (logical_not operand)) type typed =
+        after_ends slots typed.operand type (Means slots root now entity environment operand) NotGives
+        (tree_ends operand typed.operand typed.operand_typed) (λ v has. not_ends slots typed.operand type v typed.makes has)
+    tree_ends (node start stop (binary operator left right)) type typed =
+        let NodeTyped : ExprType → Type 0 =
+        OperandsTyped operator (Typed slots root (scope_of environment) left) (Typed slots root (scope_of environment) right) in
+        after_ends slots typed.left type (Means slots root now entity environment left)
+        (λ l. ClassGives (class_of operator) NodeTyped l (Means slots root now entity environment right))
+        (tree_ends left typed.left typed.left_typed)
+        (λ l of_l. class_ends some promotes slots (class_of operator) NodeTyped typed.left typed.right type l (Means slots root now entity environment right)
+        typed.operator_typed typed of_l (tree_ends right typed.right typed.right_typed))
+    tree_ends (node start stop (call asked arguments)) type typed =
+        let called = typed.call_typed in
+        let ends = behind_arguments slots root now entity environment arguments typed.types type (CallGives now called.function) (arguments_end arguments typed.types typed.arguments_typed)
+        (λ values have. call_ends some slots now called.function typed.types type values called.typed have) in
+        (ends.0, (record { function = called.function; named = called.named; given = ends.1.0 }, ends.1.1))
+    tree_ends (node start stop _) type typed = absurd typed
+
+    -- each argument of a call
+    arguments_end : (arguments : Trees) (types : List ExprType) → AreTyped slots root (scope_of environment) arguments types
+        → AllTyped (λ tree type. Ends slots type (Means slots root now entity environment tree)) arguments types
+    arguments_end no_trees [] typed = tt
+    arguments_end (more_trees argument more) (type ∷ types) typed = (tree_ends argument type typed.0, arguments_end more types typed.1)
+    arguments_end _ _ typed = absurd typed

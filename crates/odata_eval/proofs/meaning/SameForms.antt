@@ -1,5 +1,5 @@
 -- A tree, its normal form and the tree of its printed text have the same outcomes.
-use Rattle.std.proofs.Common.{◌≡◌, ◌↔◌, ℕ, List, sym, subst}
+use Rattle.std.proofs.Common.{◌≡◌, ◌↔◌, ℕ, List, ◌∷◌, sym, subst}
 use Rattle.edm_values.specs.MomentParts.{MomentParts}
 use Rattle.edm_values.specs.Val.{Val}
 use Rattle.csdl_schema.specs.ExprType.{ExprType}
@@ -9,10 +9,11 @@ use Rattle.odata_text.specs.TokenModel.{TokenModel}
 use Rattle.odata_text.specs.TokenSequence.{AreTokensOf}
 use Rattle.odata_syntax.specs.CanonicalText.{IsCanonicalText}
 use Rattle.odata_syntax.specs.Grammar.{Derives, or_level}
-use Rattle.odata_syntax.specs.NormalForm.{IsNormalForm, IsNormalShape, bare, bare_shape, literal_token}
+use Rattle.odata_syntax.specs.NormalForm.{AreNormalForms, IsNormalForm, IsNormalShape, bare, bare_shape, bare_trees, literal_token}
 use Rattle.odata_syntax.specs.Parse.{IsExpression}
 use Rattle.odata_syntax.specs.ReadBack.{IsReadBack}
 use Rattle.odata_syntax.specs.Tree.{Shape, Tree, any_item, binary, call, count, has, in_list, in_path, it, lambda, literal, logical_not, member, name, negation, node}
+use Rattle.odata_syntax.specs.Tree.{Trees, no_trees, more_trees}
 use Rattle.odata_syntax.specs.declared.node.BinaryOperator.{BinaryOperator}
 use Rattle.odata_syntax.specs.declared.node.LiteralKind.{LiteralKind}
 use Rattle.odata_expression_types.specs.LiteralValue.{LiteralValue}
@@ -20,13 +21,15 @@ use Rattle.odata_signatures.specs.OperatorClass.{class_of}
 use Rattle.odata_signatures.specs.OperatorTyped.{NegationTyped}
 use Rattle.odata_expression_types.specs.Typed.{OperandTyped, OperandsTyped, Scope, Typed}
 use Rattle.odata_eval.specs.CalculationGives.{NegatedGives}
+use Rattle.odata_eval.specs.CallGives.{CallGives, CallMeans}
 use Rattle.odata_eval.specs.Environment.{Environment, scope_of}
-use Rattle.odata_eval.specs.Means.{Means, ShapeMeans}
+use Rattle.odata_eval.specs.Means.{ArgumentsMean, Means, ShapeMeans}
 use Rattle.odata_eval.specs.NameGives.{StepGives}
 use Rattle.odata_eval.specs.OperatorGives.{InType, OperatorGives}
 use Rattle.odata_eval.specs.Outcome.{Outcome}
 use Rattle.odata_eval.specs.SameMeaning.{HaveOneMeaning, NormalFormsKeepOutcomes, CanonicalTextsKeepOutcomes}
 use Rattle.odata_eval.specs.TruthGives.{NotGives}
+use Rattle.odata_eval.proofs.meaning.AllTrees.{AllPaired}
 use Rattle.odata_eval.proofs.meaning.SameGives.{Both, BothTyped, after_both, class_both, in_turn, in_type_both, itself, operand_both, operands_both, some_both, turned}
 
 -- what normal forms and places leave as it is
@@ -48,6 +51,9 @@ module _ (kept : KeptForms) (slots : Slots) (root : List ℕ) (now : MomentParts
   abbrev T : Tree → ExprType → Type 0
   T = Typed slots root (scope_of environment)
 
+  abbrev A : Trees → (List Val → Outcome → Type 0) → Outcome → Type 0
+  A = ArgumentsMean slots root now entity environment
+
   -- of operands with the same outcomes and types a node comes to the same
   member_same : (base other : Tree) (asked : List ℕ) → Both (M base) (M other) → Both (S (member base asked)) (S (member other asked))
   member_same base other asked same = after_both (M base) (M other) (λ v. StepGives v asked) (λ v. StepGives v asked) same (λ v. itself (StepGives v asked))
@@ -68,6 +74,19 @@ module _ (kept : KeptForms) (slots : Slots) (root : List ℕ) (now : MomentParts
       (λ v. OperatorGives operator (OperandsTyped operator (T l) (T r)) v (M r)) (λ v. OperatorGives operator (OperandsTyped operator (T m) (T s)) v (M s)) left
       (λ v. class_both (class_of operator) (OperandsTyped operator (T l) (T r)) (OperandsTyped operator (T m) (T s)) v (M r) (M s)
       (operands_both operator (T l) (T m) (T r) (T s) left_typed right_typed) right)
+
+  arguments_same : (items others : Trees) (Goes : List Val → Outcome → Type 0) → AllPaired (λ tree other. Both (M tree) (M other)) items others → Both (A items Goes) (A others Goes)
+  arguments_same no_trees no_trees Goes same = itself (A no_trees Goes)
+  arguments_same (more_trees tree more) (more_trees other others) Goes same =
+      after_both (M tree) (M other) (λ v. A more (λ values. Goes (v ∷ values))) (λ v. A others (λ values. Goes (v ∷ values))) same.0
+      (λ v. arguments_same more others (λ values. Goes (v ∷ values)) same.1)
+  arguments_same _ _ Goes same = absurd same
+
+  call_same : (asked : List ℕ) (items others : Trees) → AllPaired (λ tree other. Both (M tree) (M other)) items others → Both (S (call asked items)) (S (call asked others))
+  call_same asked items others same o = (
+    λ means. record { function = means.function; named = means.named; given = (arguments_same items others (CallGives now means.function) same o).0 means.given },
+    λ means. record { function = means.function; named = means.named; given = (arguments_same items others (CallGives now means.function) same o).1 means.given },
+  )
 
   -- the shape is that
   at_shape : (shape known other : Shape) → other ≡ known → Both (S shape) (S known) → Both (S shape) (S other)
@@ -100,10 +119,16 @@ module _ (kept : KeptForms) (slots : Slots) (root : List ℕ) (now : MomentParts
     normal_shape_same (has left right) other (l, r, left_is, right_is, is) = at_shape (has left right) (has l r) other is (itself (S (has left right)))
     normal_shape_same (in_list left items) other (l, rest, left_is, items_are, is) = at_shape (in_list left items) (in_list l rest) other is (itself (S (in_list left items)))
     normal_shape_same (in_path left path) other (l, p, left_is, path_is, is) = at_shape (in_path left path) (in_path l p) other is (itself (S (in_path left path)))
-    normal_shape_same (call asked arguments) other (rest, items_are, is) = at_shape (call asked arguments) (call asked rest) other is (itself (S (call asked arguments)))
+    normal_shape_same (call asked arguments) other (rest, items_are, is) =
+        at_shape (call asked arguments) (call asked rest) other is (call_same asked arguments rest (normal_arguments_same arguments rest items_are))
     normal_shape_same (any_item base) other (b, base_is, is) = at_shape (any_item base) (any_item b) other is (itself (S (any_item base)))
     normal_shape_same (lambda quantifier base variable body) other (b, e, base_is, body_is, is) =
         at_shape (lambda quantifier base variable body) (lambda quantifier b variable e) other is (itself (S (lambda quantifier base variable body)))
+
+    normal_arguments_same : (items rest : Trees) → AreNormalForms items rest → AllPaired (λ tree other. Both (M tree) (M other)) items rest
+    normal_arguments_same no_trees rest is = subst (λ (ts : Trees). AllPaired (λ tree other. Both (M tree) (M other)) no_trees ts) (sym is) tt
+    normal_arguments_same (more_trees tree more) rest (t, ts, tree_is, more_are, is) =
+        subst (λ (us : Trees). AllPaired (λ tree other. Both (M tree) (M other)) (more_trees tree more) us) (sym is) (normal_same tree t tree_is, normal_arguments_same more ts more_are)
 
   -- places say nothing
   types_bare : (tree : Tree) → BothTyped (T tree) (T (bare tree))
@@ -119,7 +144,12 @@ module _ (kept : KeptForms) (slots : Slots) (root : List ℕ) (now : MomentParts
     bare_shape_same (logical_not operand) = not_same operand (bare operand) (bare_same operand)
     bare_shape_same (binary operator left right) =
         binary_same operator left right (bare left) (bare right) (bare_same left) (bare_same right) (types_bare left) (types_bare right)
+    bare_shape_same (call asked arguments) = call_same asked arguments (bare_trees arguments) (bare_arguments_same arguments)
     bare_shape_same _ = λ o. (λ is. is, λ is. is)
+
+    bare_arguments_same : (items : Trees) → AllPaired (λ tree other. Both (M tree) (M other)) items (bare_trees items)
+    bare_arguments_same no_trees = tt
+    bare_arguments_same (more_trees tree more) = (bare_same tree, bare_arguments_same more)
 
   again_same : (tree normal again : Tree) → IsNormalForm tree normal → bare again ≡ bare normal → Both (M tree) (M again)
   again_same tree normal again is same =

@@ -1,24 +1,29 @@
 -- What a node without operands comes to: the value that is kept for it.
-use Rattle.std.proofs.Common.{◌≡◌, ℕ, ◌<◌, List, [], false, Some, length, nat_eq, ap, rules}
+use Rattle.std.proofs.Common.{◌≡◌, ◌∙◌, ℕ, ◌<◌, ◌≤◌, [], ◌∷◌, arith, subst, sym, List, false, Some, length, nat_eq, ap, rules}
 use Rattle.std.specs.Prelude.{slice_get, string_bytes}
 use Rattle.std.specs.Cmp.Lexicographic.{pointwise}
 use Rattle.std.proofs.lemmas.List.Quantifiers.{position-Some}
 use Rattle.edm_values.specs.PlainVal.{plain_val}
 use Rattle.edm_values.specs.Val.{Val, null, boolean, whole, text, date, moment, guid, member}
 use Rattle.edm_values.specs.declared.value.Value.{Value, Null, Bool, Int, Text, Date, Moment, Guid, Enum, Record', List', the_lemmas}
-use Rattle.odata_syntax.specs.Tree.{literal, name}
+use Rattle.odata_syntax.specs.Tree.{Trees, literal, more_trees, name, no_trees}
 use Rattle.odata_syntax.specs.declared.node.LiteralKind.{LiteralKind}
 use Rattle.csdl_schema.specs.ExprType.{ExprType}
 use Rattle.csdl_schema.specs.SchemaModel.{PropertyModel, Slots, opaque, properties_at, slot_named, slots_of}
 use Rattle.edm_entities.specs.Row.{val_of}
 use Rattle.odata_checked_filter.specs.declared.checked_node.NodeKind.{NodeKind}
 use Rattle.odata_checked_filter.specs.Stands.{IsValueOf}
-use Rattle.odata_eval.specs.Outcome.{gives}
+use Rattle.odata_eval.specs.Outcome.{Outcome, gives}
 use Rattle.odata_eval.specs.private.Place.{PartStands}
 use Rattle.odata_eval.specs.private.Scene.{HoldsAt, MeansHere, TypedHere}
 use Rattle.odata_eval.specs.private.SceneModel.{SceneModel}
 use Rattle.odata_eval.specs.private.WalkAnswer.{AnswersKept}
+use Rattle.odata_signatures.specs.Functions.{IsNamed, row_of}
+use Rattle.odata_signatures.specs.declared.function.Function.{Function}
+use Rattle.odata_signatures.specs.CallTyped.{CallTyped}
+use Rattle.odata_eval.specs.CallGives.{CallGives}
 use Rattle.odata_eval.proofs.walking.Parts.{HasKind, by_kind, found_there, inside, kind_there}
+use Rattle.odata_eval.proofs.walking.Spines.{MeanAll, TypedAll, only_now}
 use Rattle.odata_eval.proofs.walking.SlotValue.{slot_value}
 
 -- a value without parts stands for the same at each type
@@ -64,6 +69,33 @@ module _ (scene : SceneModel) (place : ℕ) where
     of_tree = λ stop tree type stands typed.
         by_kind scene place NodeKind.It here (λ stop tree. (t : ExprType) → TypedHere scene tree t → MeansHere scene tree (gives (val_of scene.row.value (slots_of scene.row.schema) t)))
         (λ stop from to stands t typed. ap (λ (s : ExprType). gives (val_of scene.row.value (slots_of scene.row.schema) s)) typed)
+        stop tree stands type typed;
+  }
+
+  -- `now()` has no argument
+  now_means : (arguments : Trees) (types : List ExprType) (o : Outcome) → length types ≤ 0 → TypedAll scene arguments types → CallGives scene.moment Function.Now [] o
+      → MeanAll scene arguments (CallGives scene.moment Function.Now) o
+  now_means no_trees types o few typed given = given
+  now_means (more_trees argument more) [] o few typed given = absurd typed
+  now_means (more_trees argument more) (type ∷ types) o few typed given = absurd (omega arith)
+
+  now_takes : (asked : List ℕ) (types : List ExprType) (type : ExprType) → IsNamed Function.Now asked → CallTyped asked types type → length types ≤ 0
+  now_takes asked types type named called =
+      let is : called.function ≡ Function.Now = only_now called.function (called.named ∙ sym named) in
+      let most : length types ≤ length (row_of Function.Now).arguments =
+      subst (λ (f : Function). length types ≤ length (row_of f).arguments) is called.typed.count.most in
+      most
+
+  pub now_answers : HasKind scene.list place NodeKind.Now → (v : Value) → v ≡ Moment scene.moment → AnswersKept scene place v
+  now_answers here v is = record {
+    of_tree = λ stop tree type stands typed.
+        by_kind scene place NodeKind.Now here (λ stop tree. (t : ExprType) → TypedHere scene tree t → MeansHere scene tree (gives (val_of v (slots_of scene.row.schema) t)))
+        (λ asked arguments named stop from to stands t typed. record {
+          function = Function.Now;
+          named = named;
+          given = now_means arguments typed.types _ (now_takes asked typed.types t named typed.call_typed) typed.arguments_typed
+              (ap gives (plain_is (slots_of scene.row.schema) t v (moment scene.moment) (ap plain_val is)));
+        })
         stop tree stands type typed;
   }
 

@@ -3,10 +3,12 @@ use Rattle.std.proofs.Common.{◌≡◌, ℕ, ◌<◌, List, [], Option, Some, N
 use Rattle.std.specs.Prelude.{IsSomeAnd, slice_get}
 use Rattle.std.proofs.lemmas.Option.{slice_get_within}
 use Rattle.edm_values.specs.declared.value.Value.{Value}
-use Rattle.odata_syntax.specs.Tree.{Tree, node, Shape, literal, it, name, member, negation, logical_not, binary}
+use Rattle.odata_syntax.specs.Tree.{Tree, node, Shape, literal, it, name, member, negation, logical_not, binary, call, Trees}
 use Rattle.odata_syntax.specs.declared.node.LiteralKind.{LiteralKind}
 use Rattle.csdl_schema.specs.ExprType.{ExprType}
 use Rattle.csdl_schema.specs.SchemaModel.{Slots, slots_of, type_name_at}
+use Rattle.odata_signatures.specs.Functions.{IsNamed}
+use Rattle.odata_signatures.specs.declared.function.Function.{Function}
 use Rattle.odata_signatures.specs.TypeView.{expr_type}
 use Rattle.odata_checked_filter.specs.declared.checked_node.CheckedNode.{CheckedNode}
 use Rattle.odata_checked_filter.specs.declared.checked_node.NodeKind.{NodeKind}
@@ -57,6 +59,8 @@ CasesOf (NodeKind.Variable level) P = (asked : List ℕ) → P (name asked)
 CasesOf (NodeKind.Member slot) P = (base : Tree) (asked : List ℕ) → P (member base asked)
 CasesOf NodeKind.Neg P = (operand : Tree) → P (negation operand)
 CasesOf NodeKind.Not P = (operand : Tree) → P (logical_not operand)
+CasesOf (NodeKind.Call function) P = (asked : List ℕ) (arguments : Trees) → IsNamed function asked → ¬ (function ≡ Function.Now) → P (call asked arguments)
+CasesOf NodeKind.Now P = (asked : List ℕ) (arguments : Trees) → IsNamed Function.Now asked → P (call asked arguments)
 CasesOf (NodeKind.Binary operator) P = (left right : Tree) → P (binary operator left right)
 
 by_case : (values : List Value) (slots : Slots) (root : List ℕ) (scope : Scope) (P : Shape → Type 0) (shape : Shape) (kind : NodeKind)
@@ -69,6 +73,8 @@ by_case values slots root scope P (member base asked) (NodeKind.Member slot) is 
 by_case values slots root scope P (negation operand) kind is cases = subst (λ (k : NodeKind). CasesOf k P) is cases operand
 by_case values slots root scope P (logical_not operand) kind is cases = subst (λ (k : NodeKind). CasesOf k P) is cases operand
 by_case values slots root scope P (binary operator left right) kind is cases = subst (λ (k : NodeKind). CasesOf k P) is cases left right
+by_case values slots root scope P (call asked arguments) (NodeKind.Call function) is cases = cases asked arguments is.0 is.1
+by_case values slots root scope P (call asked arguments) NodeKind.Now is cases = cases asked arguments is
 by_case values slots root scope P _ _ is cases = absurd is
 
 -- a node of that kind is there

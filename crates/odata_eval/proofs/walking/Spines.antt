@@ -1,10 +1,10 @@
 -- What stands behind a node, and down a chain of nodes of one class.
-use Rattle.std.proofs.Common.{◌≡◌, ◌∙◌, ℕ, zero, suc, ◌<◌, ◌≤◌, ◌+◌, ◌-◌, List, [], ◌∷◌, slice_get, ap, refl, sym, subst, inl, inr, arith}
+use Rattle.std.proofs.Common.{◌≡◌, ◌∙◌, ℕ, zero, suc, ◌<◌, ◌≤◌, ◌+◌, ◌-◌, List, [], ◌∷◌, length, slice_get, slice_index_or, ap, refl, sym, subst, inl, inr, arith}
 use Rattle.std.specs.Prelude.{Contains, IsSomeAnd}
 use Rattle.std.proofs.lemmas.Bool.{cases_lt}
 use Rattle.edm_values.specs.Val.{Val}
-use Rattle.odata_syntax.specs.Spans.{children_of, in_child}
-use Rattle.odata_syntax.specs.Tree.{Tree, node, shape_of, literal, it, name, member, negation, logical_not, binary}
+use Rattle.odata_syntax.specs.Spans.{children_of, in_child, list_of_trees}
+use Rattle.odata_syntax.specs.Tree.{Tree, node, shape_of, literal, it, name, member, negation, logical_not, binary, call, Trees, no_trees, more_trees}
 use Rattle.odata_syntax.specs.declared.node.BinaryOperator.{BinaryOperator}
 use Rattle.csdl_schema.specs.ExprType.{ExprType}
 use Rattle.odata_signatures.specs.declared.operator_class.OperatorClass.{OperatorClass}
@@ -25,7 +25,16 @@ use Rattle.odata_eval.specs.private.Scene.{MeansHere, StandsHere, TypedHere}
 use Rattle.odata_eval.specs.private.SceneModel.{SceneModel}
 use Rattle.odata_eval.specs.private.WalkAnswer.{AnswersAtPlace, Tells}
 use Rattle.odata_eval.specs.private.WalkClass.{walk_of_kind, walk_of_operator}
-use Rattle.odata_eval.proofs.walking.Parts.{HasKind, by_kind, found_there, goes_there, some_there, there_found}
+use Rattle.odata_signatures.specs.Functions.{IsNamed, row_of}
+use Rattle.odata_signatures.specs.declared.function.Function.{Function}
+use Rattle.odata_signatures.specs.CallTyped.{CallTyped}
+use Rattle.odata_checked_filter.specs.Stands.{AllStand}
+use Rattle.odata_expression_types.specs.Typed.{AreTyped}
+use Rattle.odata_eval.specs.Means.{ArgumentsMean}
+use Rattle.odata_eval.specs.CallGives.{CallGives}
+use Rattle.csdl_schema.specs.SchemaModel.{slots_of, type_name_at}
+use Rattle.edm_entities.specs.Row.{value_of}
+use Rattle.odata_eval.proofs.walking.Parts.{HasKind, by_kind, found_there, goes_there, some_there, tells_there, there_found}
 
 -- which operator of the class it is
 pub record OperatorThere (list : FlatTree) (place : ℕ) (class : OperatorClass) : Type 0 where
@@ -75,7 +84,7 @@ fault_stays EvalFault.DivideByZero Part Whole Operand Goes takes is = (divides_b
 fault_stays EvalFault.Memory Part Whole Operand Goes takes is = takes is
 
 -- the first two children
-first_child : (tree : Tree) (more : List Tree) → Contains (tree ∷ more) tree
+pub first_child : (tree : Tree) (more : List Tree) → Contains (tree ∷ more) tree
 first_child tree more = (0, omega arith, refl)
 
 pub second_child : (first tree : Tree) (more : List Tree) → Contains (first ∷ tree ∷ more) tree
@@ -116,7 +125,90 @@ pub record FirstOperand (scene : SceneModel) (place : ℕ) (class : WalkClass) (
 pub typed_part : (scene : SceneModel) (place : ℕ) (Allowed : ExprType → Type 0) → TypedStands scene place Allowed → PartStands scene place
 typed_part scene place Allowed typed = record { stop = typed.stop; tree = typed.tree; stands = typed.stands }
 
+-- only `now` is called so, and only it takes nothing
+pub only_now : (function : Function) → (row_of function).name ≡ (row_of Function.Now).name → function ≡ Function.Now
+only_now Function.Now is = refl
+only_now Function.Contains is = let lengths : 8 ≡ 3 = ap length is in absurd (omega (arith, lengths))
+only_now Function.StartsWith is = let lengths : 10 ≡ 3 = ap length is in absurd (omega (arith, lengths))
+only_now Function.EndsWith is = let lengths : 8 ≡ 3 = ap length is in absurd (omega (arith, lengths))
+only_now Function.Concat is = let lengths : 6 ≡ 3 = ap length is in absurd (omega (arith, lengths))
+only_now Function.Length is = let lengths : 6 ≡ 3 = ap length is in absurd (omega (arith, lengths))
+only_now Function.IndexOf is = let lengths : 7 ≡ 3 = ap length is in absurd (omega (arith, lengths))
+only_now Function.Substring is = let lengths : 9 ≡ 3 = ap length is in absurd (omega (arith, lengths))
+only_now Function.Trim is = let lengths : 4 ≡ 3 = ap length is in absurd (omega (arith, lengths))
+only_now Function.ToLower is = let lengths : 7 ≡ 3 = ap length is in absurd (omega (arith, lengths))
+only_now Function.ToUpper is = let lengths : 7 ≡ 3 = ap length is in absurd (omega (arith, lengths))
+only_now Function.Year is = let lengths : 4 ≡ 3 = ap length is in absurd (omega (arith, lengths))
+only_now Function.Month is = let lengths : 5 ≡ 3 = ap length is in absurd (omega (arith, lengths))
+only_now Function.Hour is = let lengths : 4 ≡ 3 = ap length is in absurd (omega (arith, lengths))
+only_now Function.Minute is = let lengths : 6 ≡ 3 = ap length is in absurd (omega (arith, lengths))
+only_now Function.Second is = let lengths : 6 ≡ 3 = ap length is in absurd (omega (arith, lengths))
+only_now Function.TotalOffsetMinutes is = let lengths : 18 ≡ 3 = ap length is in absurd (omega (arith, lengths))
+only_now Function.Date is = let lengths : 4 ≡ 3 = ap length is in absurd (omega (arith, lengths))
+only_now Function.Day is = let letters : 100 ≡ 110 = ap (λ (name : List ℕ). slice_index_or name 0 0) is in absurd (omega (arith, letters))
+
+pub some_taken : (function : Function) → ¬ (function ≡ Function.Now) → 1 ≤ (row_of function).least
+some_taken Function.Now later = absurd (later refl)
+some_taken Function.Contains later = omega arith
+some_taken Function.StartsWith later = omega arith
+some_taken Function.EndsWith later = omega arith
+some_taken Function.Concat later = omega arith
+some_taken Function.Length later = omega arith
+some_taken Function.IndexOf later = omega arith
+some_taken Function.Substring later = omega arith
+some_taken Function.Trim later = omega arith
+some_taken Function.ToLower later = omega arith
+some_taken Function.ToUpper later = omega arith
+some_taken Function.Year later = omega arith
+some_taken Function.Month later = omega arith
+some_taken Function.Hour later = omega arith
+some_taken Function.Minute later = omega arith
+some_taken Function.Second later = omega arith
+some_taken Function.TotalOffsetMinutes later = omega arith
+some_taken Function.Date later = omega arith
+some_taken Function.Day later = omega arith
+
+-- the arguments of a scene's list
+abbrev pub StandsAll : SceneModel → ℕ → ℕ → Trees → Type 0
+StandsAll scene = AllStand scene.row.schema scene.row.type_id [] scene.list
+
+abbrev pub TypedAll : SceneModel → Trees → List ExprType → Type 0
+TypedAll scene = AreTyped (slots_of scene.row.schema) (type_name_at scene.row.schema scene.row.type_id) []
+
+abbrev pub MeanAll : SceneModel → Trees → (List Val → Outcome → Type 0) → Outcome → Type 0
+MeanAll scene = ArgumentsMean (slots_of scene.row.schema) (type_name_at scene.row.schema scene.row.type_id) scene.moment (value_of scene.row) []
+
 module _ (scene : SceneModel) where
+  no_empty_call : (asked : List ℕ) (types : List ExprType) (type : ExprType) → ¬ (IsNamed Function.Now asked) → TypedAll scene no_trees types → CallTyped asked types type → ⊥
+  no_empty_call asked [] type later typed called =
+      let some : 1 ≤ (row_of called.function).least = some_taken called.function (λ is. later (subst (λ (f : Function). IsNamed f asked) is called.named)) in
+      let least : (row_of called.function).least ≤ 0 = called.typed.count.least in
+      omega arith
+  no_empty_call asked (type ∷ types) t later typed called = typed
+
+  first_typed : (argument : Tree) (more : Trees) (types : List ExprType) → TypedAll scene (more_trees argument more) types
+      → (first : ExprType) × (TypedHere scene argument first × AllowedBy WalkClass.Eager first)
+  first_typed argument more [] typed = absurd typed
+  first_typed argument more (type ∷ types) typed = (type, (typed.0, tt))
+
+  -- a call of another function than `now` has a first argument
+  call_first : (place : ℕ) (asked : List ℕ) (arguments : Trees) (stop from to : ℕ) → ¬ (IsNamed Function.Now asked)
+      → StandsHere scene place stop (node from to (call asked arguments)) → FirstOperand scene place WalkClass.Eager (node from to (call asked arguments))
+  call_first place asked no_trees stop from to later stands = absurd (no_empty_call asked stands.top.typed.types _ later stands.top.typed.arguments_typed stands.top.typed.call_typed)
+  call_first place asked (more_trees argument more) stop from to later stands =
+      let whole = node from to (call asked (more_trees argument more)) in
+      record {
+        stop = stands.children.middle;
+        operand = argument;
+        stands = stands.children.left;
+        typed = λ type typed. first_typed argument more typed.types typed.arguments_typed;
+        faults = λ fault is.
+            let called = stands.top.typed.call_typed in
+            tells_there (fault_outcome fault) (TakesMemory whole) (TakesMemory whole) (After (MeansHere scene argument) (λ v. MeanAll scene more (λ values. CallGives scene.moment called.function (v ∷ values)))) (MeansHere scene whole) (λ takes. takes)
+            (λ o given. record { function = called.function; named = called.named; given = given })
+            (fault_stays fault (TakesMemory argument) (TakesMemory whole) (MeansHere scene argument) _ (child_takes whole argument (first_child argument (list_of_trees more))) is);
+      }
+
   first_of_kind : (place : ℕ) (kind : NodeKind) → ¬ (walk_of_kind kind ≡ WalkClass.Leaf) → HasKind scene.list place kind
       → (stop : ℕ) (tree : Tree) → StandsHere scene place stop tree → FirstOperand scene place (walk_of_kind kind) tree
   first_of_kind place (NodeKind.Member slot) inner here = by_kind scene place (NodeKind.Member slot) here (λ stop tree. FirstOperand scene place WalkClass.Eager tree)
@@ -151,6 +243,8 @@ module _ (scene : SceneModel) where
         typed = λ type typed. (typed.left, (typed.left_typed, (operands_allowed (class_of operator) typed.left typed.right type typed.operator_typed).0));
         faults = λ fault. fault_stays fault (TakesMemory left) (TakesMemory (node from to (binary operator left right))) (MeansHere scene left) _ (child_takes (node from to (binary operator left right)) left (first_child left (right ∷ [])));
       })
+  first_of_kind place (NodeKind.Call function) inner here = by_kind scene place (NodeKind.Call function) here (λ stop tree. FirstOperand scene place WalkClass.Eager tree)
+      (λ asked arguments named later stop from to stands. call_first place asked arguments stop from to (λ of_now. later (only_now function (named ∙ sym of_now))) stands)
   first_of_kind place _ inner here = absurd (inner refl)
 
   first_operand : (place : ℕ) (class : WalkClass) → ¬ (class ≡ WalkClass.Leaf) → IsClassAt scene.list class place
@@ -227,28 +321,37 @@ module _ (scene : SceneModel) where
         first = subst Answers e answers;
       }
 
-  further : (i j : ℕ) (tree : Tree) → StandsHere scene i j tree → i < j
-  further i j (node from to (literal kind spelling)) stands = let e : i + 1 ≡ j = stands.children in omega arith
-  further i j (node from to it) stands = let e : i + 1 ≡ j = stands.children in omega arith
-  further i j (node from to (name asked)) stands = let e : i + 1 ≡ j = stands.children in omega arith
-  further i j (node from to (member base asked)) stands = let a : i + 1 < j = further (i + 1) j base stands.children in omega arith
-  further i j (node from to (negation operand)) stands = let a : i + 1 < j = further (i + 1) j operand stands.children in omega arith
-  further i j (node from to (logical_not operand)) stands = let a : i + 1 < j = further (i + 1) j operand stands.children in omega arith
-  further i j (node from to (binary operator left right)) stands =
-      let m = stands.children.middle in
-      let a : i + 1 < m = further (i + 1) m left stands.children.left in
-      let b : m < j = further m j right stands.children.right in
-      omega arith
-  further i j (node from to _) stands = absurd stands.children
+  mutual
+    pub further : (i j : ℕ) (tree : Tree) → StandsHere scene i j tree → i < j
+    further i j (node from to (literal kind spelling)) stands = let e : i + 1 ≡ j = stands.children in omega arith
+    further i j (node from to it) stands = let e : i + 1 ≡ j = stands.children in omega arith
+    further i j (node from to (name asked)) stands = let e : i + 1 ≡ j = stands.children in omega arith
+    further i j (node from to (member base asked)) stands = let a : i + 1 < j = further (i + 1) j base stands.children in omega arith
+    further i j (node from to (negation operand)) stands = let a : i + 1 < j = further (i + 1) j operand stands.children in omega arith
+    further i j (node from to (logical_not operand)) stands = let a : i + 1 < j = further (i + 1) j operand stands.children in omega arith
+    further i j (node from to (binary operator left right)) stands =
+        let m = stands.children.middle in
+        let a : i + 1 < m = further (i + 1) m left stands.children.left in
+        let b : m < j = further m j right stands.children.right in
+        omega arith
+    further i j (node from to (call asked arguments)) stands = let a : i + 1 ≤ j = all_further (i + 1) j arguments stands.children in omega arith
+    further i j (node from to _) stands = absurd stands.children
+
+    pub all_further : (i j : ℕ) (trees : Trees) → StandsAll scene i j trees → i ≤ j
+    all_further i j no_trees stand = let same : i ≡ j = stand in omega arith
+    all_further i j (more_trees tree more) stand =
+        let a : i < stand.middle = further i stand.middle tree stand.left in
+        let b : stand.middle ≤ j = all_further stand.middle j more stand.right in
+        omega arith
 
   -- where a node says that it stops
-  stops_there : (i j right : ℕ) (tree : Tree) → StandsHere scene i j tree
+  pub stops_there : (i j right : ℕ) (tree : Tree) → StandsHere scene i j tree
       → IsSomeAnd (slice_get scene.list.nodes i) (λ found. found.stop ≡ right) → j ≡ right
   stops_there i j right (node from to shape) stands is =
       let e : stands.top.found.stop ≡ right = found_there (λ found. found.stop ≡ right) (slice_get scene.list.nodes i) stands.top.found stands.top.stands_at is in
       sym stands.top.last ∙ e
 
-  stops_here : (i j : ℕ) (tree : Tree) → StandsHere scene i j tree → IsSomeAnd (slice_get scene.list.nodes i) (λ found. found.stop ≡ j)
+  pub stops_here : (i j : ℕ) (tree : Tree) → StandsHere scene i j tree → IsSomeAnd (slice_get scene.list.nodes i) (λ found. found.stop ≡ j)
   stops_here i j (node from to shape) stands = there_found (λ found. found.stop ≡ j) (slice_get scene.list.nodes i) stands.top.found stands.top.stands_at stands.top.last
 
   module _ (place : ℕ) where

@@ -5,6 +5,7 @@ use Rattle.odata_syntax.specs.Tree.{Tree}
 use Rattle.odata_syntax.specs.declared.node.BinaryOperator.{BinaryOperator}
 use Rattle.csdl_schema.specs.ExprType.{ExprType}
 use Rattle.odata_checked_filter.specs.declared.checked_node.NodeKind.{NodeKind}
+use Rattle.odata_signatures.specs.declared.function.Function.{Function}
 use Rattle.odata_signatures.specs.declared.operator_class.OperatorClass.{OperatorClass}
 use Rattle.odata_signatures.specs.OperatorClass.{class_of}
 use Rattle.odata_signatures.specs.ExprTypes.{IsBooleanOrNull, IsNumberOrNull}
@@ -57,6 +58,15 @@ pub record IsOperatorOf (class : OperatorClass) (kind : NodeKind) : Type 0 where
 
 abbrev pub HasOperatorOf : FlatTree → ℕ → OperatorClass → Type 0
 HasOperatorOf list place class = IsSomeAnd (slice_get list.nodes place) (λ found. IsOperatorOf class found.kind)
+
+-- the node there calls that function
+abbrev pub HasCall : FlatTree → ℕ → Function → Type 0
+HasCall list place function =
+    IsSomeAnd (slice_get list.nodes place) (λ found. found.kind ≡ NodeKind.Call function)
+
+-- the node there stops in that place
+abbrev pub IsStopOf : FlatTree → ℕ → ℕ → Type 0
+IsStopOf list place stop = IsSomeAnd (slice_get list.nodes place) (λ found. found.stop ≡ stop)
 
 -- the first operand of the node there stops where the second one stands
 abbrev pub IsRightOf : FlatTree → ℕ → ℕ → Type 0

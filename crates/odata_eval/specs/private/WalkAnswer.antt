@@ -1,5 +1,5 @@
 -- For private clauses: what the walk of a filter's list answers.
-use Rattle.std.specs.Prelude.{ℕ, ℤ, Option, Some, None, Result, Bool}
+use Rattle.std.specs.Prelude.{◌≡◌, ℕ, ℤ, List, [], ◌∷◌, Option, Some, None, Result, Ok, Bool}
 use Rattle.edm_values.specs.declared.datum.Datum.{Datum}
 use Rattle.edm_values.specs.declared.value.Value.{Value}
 use Rattle.csdl_schema.specs.ExprType.{ExprType}
@@ -15,7 +15,7 @@ use Rattle.odata_eval.specs.CalculationGives.{number_val}
 use Rattle.odata_eval.specs.Outcome.{Outcome, gives}
 use Rattle.odata_eval.specs.TruthGives.{truth_val}
 use Rattle.odata_eval.specs.private.DatumView.{answer_outcome, reading_at}
-use Rattle.odata_eval.specs.private.Place.{IsClassAt}
+use Rattle.odata_eval.specs.private.Place.{IsClassAt, IsStopOf}
 use Rattle.odata_eval.specs.private.Scene.{MeansHere, StandsHere, TypedHere}
 use Rattle.odata_eval.specs.private.SceneModel.{SceneModel}
 
@@ -34,6 +34,13 @@ pub record AnswersAtPlace (scene : SceneModel) (place : ℕ) (told : ExprType �
 abbrev pub AnswersDatum : SceneModel → ℕ → Result Datum EvalFault → Type 0
 AnswersDatum scene place answer =
     AnswersAtPlace scene place (λ type. answer_outcome (datum_val (reading_at (slots_of scene.row.schema) type)) answer)
+
+-- from the first place on, arguments that lie before the last place have been answered one behind another, up to a place
+abbrev pub AllAnswered : SceneModel → ℕ → ℕ → ℕ → List Datum → Type 0
+AllAnswered scene first at last [] = first ≡ at
+AllAnswered scene first at last (answer ∷ more) =
+    (stop : ℕ) × IsStopOf scene.list first stop × ¬ (first ≡ last) × AnswersDatum scene first (Ok answer)
+    × AllAnswered scene stop at last more
 
 -- and one that is a truth value or null
 abbrev pub AnswersTruth : SceneModel → ℕ → Result (Option Bool) EvalFault → Type 0

@@ -6,16 +6,17 @@ use Rattle.edm_values.specs.NumberTypes.{IsIntLiteralType}
 use Rattle.edm_values.specs.StringLiteral.{quote}
 use Rattle.edm_values.specs.declared.primitive.PrimitiveType.{PrimitiveType}
 use Rattle.odata_functions.specs.Promotion.{promotion, negation_type}
-use Rattle.odata_syntax.specs.Tree.{Tree, node, literal, it, name, member, negation, logical_not, binary}
+use Rattle.odata_syntax.specs.Tree.{Tree, Trees, node, literal, it, name, member, negation, logical_not, binary, call, more_trees, no_trees}
 use Rattle.odata_syntax.specs.declared.node.LiteralKind.{LiteralKind}
 use Rattle.csdl_schema.specs.ExprType.{ExprType, null_type, single, collection, primitive, enumeration, structured}
 use Rattle.csdl_schema.specs.SchemaModel.{PropertyModel, Slots, declared}
 use Rattle.odata_signatures.specs.declared.operator_class.OperatorClass.{OperatorClass}
 use Rattle.odata_signatures.specs.ExprTypes.{IsNumberOrNull, number_or_null}
 use Rattle.odata_expression_types.specs.LiteralValue.{EnumerationLiteral, IntTyped, IsNameAndText, LiteralTyped}
+use Rattle.odata_signatures.specs.CallTyped.{CallTyped}
 use Rattle.odata_signatures.specs.OperatorClass.{class_of}
 use Rattle.odata_signatures.specs.OperatorTyped.{ArithmeticTyped, ClassTyped, NegationTyped, OperatorTyped}
-use Rattle.odata_expression_types.specs.Typed.{Scope, StepTyped, Typed, PropertyTyped, variable_type, property_named}
+use Rattle.odata_expression_types.specs.Typed.{AreTyped, Scope, StepTyped, Typed, PropertyTyped, variable_type, property_named}
 
 -- an Int literal stands for one number at most
 one_number : (text : List ℕ) (m n : ℤ) → IntNumber text m → IntNumber text n → m ≡ n
@@ -120,21 +121,40 @@ ClassTyped-one (OperatorClass.Connective connective) l r a b x y = x.2 ∙ sym y
 ClassTyped-one (OperatorClass.Comparison comparison) l r a b x y = x.1 ∙ sym y.1
 ClassTyped-one (OperatorClass.Arithmetic arithmetic) l r a b x y = ArithmeticTyped-one l r a b x y
 
-pub Typed-one : (slots : Slots) (root : List ℕ) (scope : Scope) (tree : Tree) (a b : ExprType) → Typed slots root scope tree a → Typed slots root scope tree b → a ≡ b
-Typed-one slots root scope (node start stop (literal kind spelling)) a b x y = LiteralTyped-one slots kind spelling a b x y
-Typed-one slots root scope (node start stop it) a b x y = x ∙ sym y
-Typed-one slots root scope (node start stop (name asked)) a b x y = BoundTyped-one (variable_type scope asked) (slots.properties root) asked a b x y
-Typed-one slots root scope (node start stop (member base asked)) a b x y =
-    let P : ExprType → Type 0 = λ (t : ExprType). StepTyped slots asked t b in
-    StepTyped-one slots asked x.operand a b x.makes (subst P (Typed-one slots root scope base y.operand x.operand y.operand_typed x.operand_typed) y.makes)
-Typed-one slots root scope (node start stop (negation operand)) a b x y =
-    let P : ExprType → Type 0 = λ (t : ExprType). NegationTyped t b in
-    NegationTyped-one x.operand a b x.makes (subst P (Typed-one slots root scope operand y.operand x.operand y.operand_typed x.operand_typed) y.makes)
-Typed-one slots root scope (node start stop (logical_not operand)) a b x y = x.makes.1 ∙ sym y.makes.1
-Typed-one slots root scope (node start stop (binary operator left right)) a b x y =
-    let P : ExprType → Type 0 = λ (t : ExprType). OperatorTyped operator t y.right b in
-    let Q : ExprType → Type 0 = λ (t : ExprType). OperatorTyped operator x.left t b in
-    ClassTyped-one (class_of operator) x.left x.right a b x.operator_typed
-    (subst Q (Typed-one slots root scope right y.right x.right y.right_typed x.right_typed)
-    (subst P (Typed-one slots root scope left y.left x.left y.left_typed x.left_typed) y.operator_typed))
-Typed-one slots root scope (node start stop _) a b x y = absurd x
+-- a call has at most one type
+abbrev pub OneCallType : Type 0
+OneCallType = (name : List ℕ) (types : List ExprType) (a b : ExprType) → CallTyped name types a → CallTyped name types b → a ≡ b
+
+module _ (one_call : OneCallType) where
+  mutual
+    pub Typed-one : (slots : Slots) (root : List ℕ) (scope : Scope) (tree : Tree) (a b : ExprType) → Typed slots root scope tree a → Typed slots root scope tree b → a ≡ b
+    Typed-one slots root scope (node start stop (literal kind spelling)) a b x y = LiteralTyped-one slots kind spelling a b x y
+    Typed-one slots root scope (node start stop it) a b x y = x ∙ sym y
+    Typed-one slots root scope (node start stop (name asked)) a b x y = BoundTyped-one (variable_type scope asked) (slots.properties root) asked a b x y
+    Typed-one slots root scope (node start stop (member base asked)) a b x y =
+        let P : ExprType → Type 0 = λ (t : ExprType). StepTyped slots asked t b in
+        StepTyped-one slots asked x.operand a b x.makes (subst P (Typed-one slots root scope base y.operand x.operand y.operand_typed x.operand_typed) y.makes)
+    Typed-one slots root scope (node start stop (negation operand)) a b x y =
+        let P : ExprType → Type 0 = λ (t : ExprType). NegationTyped t b in
+        NegationTyped-one x.operand a b x.makes (subst P (Typed-one slots root scope operand y.operand x.operand y.operand_typed x.operand_typed) y.makes)
+    Typed-one slots root scope (node start stop (logical_not operand)) a b x y = x.makes.1 ∙ sym y.makes.1
+    Typed-one slots root scope (node start stop (binary operator left right)) a b x y =
+        let P : ExprType → Type 0 = λ (t : ExprType). OperatorTyped operator t y.right b in
+        let Q : ExprType → Type 0 = λ (t : ExprType). OperatorTyped operator x.left t b in
+        ClassTyped-one (class_of operator) x.left x.right a b x.operator_typed
+        (subst Q (Typed-one slots root scope right y.right x.right y.right_typed x.right_typed)
+        (subst P (Typed-one slots root scope left y.left x.left y.left_typed x.left_typed) y.operator_typed))
+    Typed-one slots root scope (node start stop (call asked arguments)) a b x y =
+        let P : List ExprType → Type 0 = λ (ts : List ExprType). CallTyped asked ts b in
+        one_call asked x.types a b x.call_typed
+        (subst P (AreTyped-one slots root scope arguments y.types x.types y.arguments_typed x.arguments_typed) y.call_typed)
+    Typed-one slots root scope (node start stop _) a b x y = absurd x
+
+    pub AreTyped-one : (slots : Slots) (root : List ℕ) (scope : Scope) (trees : Trees) (a b : List ExprType) → AreTyped slots root scope trees a → AreTyped slots root scope trees b → a ≡ b
+    AreTyped-one slots root scope no_trees [] [] x y = refl
+    AreTyped-one slots root scope no_trees [] (t ∷ ts) x y = absurd y
+    AreTyped-one slots root scope no_trees (t ∷ ts) b x y = absurd x
+    AreTyped-one slots root scope (more_trees tree trees) [] b x y = absurd x
+    AreTyped-one slots root scope (more_trees tree trees) (t ∷ ts) [] x y = absurd y
+    AreTyped-one slots root scope (more_trees tree trees) (t ∷ ts) (u ∷ us) x y =
+        ap (λ (v : ExprType). v ∷ ts) (Typed-one slots root scope tree t u x.0 y.0) ∙ ap (λ (vs : List ExprType). u ∷ vs) (AreTyped-one slots root scope trees ts us x.1 y.1)

@@ -15,12 +15,14 @@ use Rattle.csdl_schema.specs.SchemaModel.{PropertyModel, PropertyType, Slots, de
 use Rattle.odata_expression_types.specs.declared.refusal.Refusal.{Refusal}
 use Rattle.odata_expression_types.specs.declared.refusal.TypeFault.{TypeFault}
 use Rattle.odata_expression_types.specs.declared.refusal.TypeFaultCode.{TypeFaultCode}
+use Rattle.odata_signatures.specs.CallTyped.{CallReason}
+use Rattle.odata_signatures.specs.declared.call.CallFault.{CallFault}
 use Rattle.odata_signatures.specs.ExprTypes.{IsBooleanOrNull}
-use Rattle.odata_expression_types.specs.FirstUntypable.{IsFirstUntypable, IsNotBoolean, IsReason, IsTypeFault, LiteralReason, PropertyReason, StepReason}
+use Rattle.odata_expression_types.specs.FirstUntypable.{code_of_call, IsFirstUntypable, IsNotBoolean, IsReason, IsTypeFault, LiteralReason, PropertyReason, StepReason}
 use Rattle.odata_expression_types.specs.HasTyping.{HasNoTyping, HasTree, HasTypeFault, IsRefusal}
 use Rattle.odata_expression_types.specs.Laws.{OneUntypableStart}
 use Rattle.odata_expression_types.specs.Typed.{Scope, Typed, property_named}
-use Rattle.odata_expression_types.proofs.types.OneType.{Typed-one}
+use Rattle.odata_expression_types.proofs.types.OneType.{AreTyped-one, OneCallType, Typed-one}
 use Rattle.odata_expression_types.proofs.untypable.Untypable.{untypable_blocks}
 
 -- what is known of texts, tokens and trees
@@ -33,6 +35,8 @@ pub record Readings : Type 0 where
   pub syntax_fault : (ts : List TokenModel) (len : ℕ) (a b : SyntaxFault) → IsSyntaxFault ts len a → IsSyntaxFault ts len b → a ≡ b
   pub fault_or_tree : (ts : List TokenModel) (len : ℕ) (fault : SyntaxFault) → IsSyntaxFault ts len fault → HasNoParse ts
   pub start : OneUntypableStart
+  pub call_type : OneCallType
+  pub call_reason : (name : List ℕ) (types : List ExprType) (a b : CallFault) → CallReason name types a → CallReason name types b → a ≡ b
 
 -- one reason for a node
 literal_reason : (kind : LiteralKind) (a b : TypeFaultCode) → LiteralReason kind a → LiteralReason kind b → a ≡ b
@@ -56,15 +60,18 @@ step_reason : (slots : Slots) (asked : List ℕ) (type : ExprType) (a b : TypeFa
 step_reason slots asked (single (structured owner)) a b x y = found_reason (property_named (slots.properties owner) asked) a b x y
 step_reason slots asked _ a b x y = x ∙ sym y
 
-one_reason : (slots : Slots) (root : List ℕ) (scope : Scope) (tree : Tree) (a b : TypeFaultCode) → IsReason slots root scope tree a → IsReason slots root scope tree b → a ≡ b
-one_reason slots root scope (node start stop (literal kind spelling)) a b x y = literal_reason kind a b x y
-one_reason slots root scope (node start stop it) a b x y = absurd x
-one_reason slots root scope (node start stop (name asked)) a b x y = found_reason (property_named (slots.properties root) asked) a b x y
-one_reason slots root scope (node start stop (member base asked)) a b x y =
-    let same : y.0 ≡ x.0 = Typed-one slots root scope base y.0 x.0 y.1 x.1 in
+one_reason : Readings → (slots : Slots) (root : List ℕ) (scope : Scope) (tree : Tree) (a b : TypeFaultCode) → IsReason slots root scope tree a → IsReason slots root scope tree b → a ≡ b
+one_reason known slots root scope (node start stop (literal kind spelling)) a b x y = literal_reason kind a b x y
+one_reason known slots root scope (node start stop it) a b x y = absurd x
+one_reason known slots root scope (node start stop (name asked)) a b x y = found_reason (property_named (slots.properties root) asked) a b x y
+one_reason known slots root scope (node start stop (member base asked)) a b x y =
+    let same : y.0 ≡ x.0 = Typed-one known.call_type slots root scope base y.0 x.0 y.1 x.1 in
     step_reason slots asked x.0 a b x.2 (subst (λ (t : ExprType). StepReason slots asked t b) same y.2)
-one_reason slots root scope (node start stop (call asked arguments)) a b x y = x ∙ sym y
-one_reason slots root scope (node start stop shape) a b x y = x ∙ sym y
+one_reason known slots root scope (node start stop (call asked arguments)) a b x y =
+    let same : y.types ≡ x.types = AreTyped-one known.call_type slots root scope arguments y.types x.types y.arguments_typed x.arguments_typed in
+    let reason : CallReason asked x.types y.fault = subst (λ (ts : List ExprType). CallReason asked ts y.fault) same y.reason in
+    x.same ∙ ap code_of_call (known.call_reason asked x.types x.fault y.fault x.reason reason) ∙ sym y.same
+one_reason known slots root scope (node start stop shape) a b x y = x ∙ sym y
 
 same_span : (a b : Span) → a.start ≡ b.start → a.stop ≡ b.stop → a ≡ b
 same_span a b s e =
@@ -84,7 +91,7 @@ one_first known slots root scope tree a b e x y =
     let one = known.start slots root scope tree x.at y.at x.part y.part e x.untypable y.untypable (omega arith) in
     let there : IsReason slots root x.at y.part b.code = subst (λ (s : Scope). IsReason slots root s y.part b.code) (sym one.0) y.reason in
     let reason : IsReason slots root x.at x.part b.code = subst (λ (t : Tree). IsReason slots root x.at t b.code) (sym one.1) there in
-    same_fault a b (one_reason slots root x.at x.part a.code b.code x.reason reason)
+    same_fault a b (one_reason known slots root x.at x.part a.code b.code x.reason reason)
     (x.starts ∙ ap start_of one.1 ∙ sym y.starts)
     (x.stops ∙ ap stop_of one.1 ∙ sym y.stops)
 
@@ -148,16 +155,16 @@ one_refusal known slots root text Refusal.Memory b x y = absurd x
 one_refusal known slots root text a Refusal.Memory x y = absurd y
 
 -- a tree with a fault of types has no type that a filter may have
-fault_untyped : (slots : Slots) (root : List ℕ) (tree : Tree) (len : ℕ) (fault : TypeFault) (type : ExprType) → IsTypeFault slots root tree len fault → Typed slots root [] tree type → IsBooleanOrNull type → ⊥
-fault_untyped slots root tree len fault type (inl x) typed truth = untypable_blocks slots root [] tree fault x (type, typed)
-fault_untyped slots root tree len fault type (inr x) typed truth =
-    x.other (subst IsBooleanOrNull (Typed-one slots root [] tree type x.type_of typed x.typed) truth)
+fault_untyped : Readings → (slots : Slots) (root : List ℕ) (tree : Tree) (len : ℕ) (fault : TypeFault) (type : ExprType) → IsTypeFault slots root tree len fault → Typed slots root [] tree type → IsBooleanOrNull type → ⊥
+fault_untyped known slots root tree len fault type (inl x) typed truth = untypable_blocks slots root [] tree fault x (type, typed)
+fault_untyped known slots root tree len fault type (inr x) typed truth =
+    x.other (subst IsBooleanOrNull (Typed-one known.call_type slots root [] tree type x.type_of typed x.typed) truth)
 
 pub refused_untyped : Readings → (slots : Slots) (root text : List ℕ) (refusal : Refusal) → IsRefusal slots root text refusal → HasNoTyping slots root text
 refused_untyped known slots root text (Refusal.Text fault) x tree typing = text_or_tree known text fault tree x typing.has_tree
 refused_untyped known slots root text (Refusal.Syntax fault) x tree typing = syntax_or_tree known slots root text fault tree x typing.has_tree
 refused_untyped known slots root text (Refusal.Typing fault) x tree typing =
     let same = text_tree known text x.tree tree x.has_tree typing.has_tree in
-    fault_untyped slots root tree (length text) fault typing.type_of
+    fault_untyped known slots root tree (length text) fault typing.type_of
     (subst (λ (t : Tree). IsTypeFault slots root t (length text) fault) same x.fault_of) typing.typed typing.truth
 refused_untyped known slots root text Refusal.Memory x tree typing = x

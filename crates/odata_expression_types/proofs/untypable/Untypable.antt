@@ -1,13 +1,14 @@
 -- The first untypable node of a tree, from those of its children.
 use Rattle.std.proofs.Common.{◌≡◌, refl, sym, ap, inl, inr, ◌⊎◌, ℕ, ◌<◌, ◌≤◌, List, [], ◌∷◌, ◌++◌, subst, arith}
 use Rattle.std.specs.List.{AllByRecursion}
-use Rattle.odata_syntax.specs.Tree.{Shape, Tree, node, literal, it, name, member, negation, logical_not, binary, shape_of, start_of}
+use Rattle.odata_syntax.specs.Tree.{Shape, Tree, Trees, node, literal, it, name, member, negation, logical_not, binary, call, more_trees, no_trees, shape_of, start_of}
+use Rattle.odata_syntax.specs.Spans.{list_of_trees}
 use Rattle.csdl_schema.specs.ExprType.{ExprType}
 use Rattle.csdl_schema.specs.SchemaModel.{Slots}
 use Rattle.odata_expression_types.specs.declared.refusal.TypeFault.{TypeFault}
 use Rattle.odata_expression_types.specs.Considered.{IsAmong, IsConsidered, IsConsideredChild, IsItself, children_in_scope, considers_below, considers_itself}
 use Rattle.odata_expression_types.specs.FirstUntypable.{IsUntypable, IsFirstUntypable, IsReason}
-use Rattle.odata_expression_types.specs.Typed.{Scope, Typed, IsTyped, IsUntyped}
+use Rattle.odata_expression_types.specs.Typed.{AreTyped, Scope, Typed, IsTyped, IsUntyped}
 use Rattle.odata_expression_types.specs.FirstAmong.{IsFirstAmong, StartFrom}
 
 -- trees in one scope that all have types
@@ -23,6 +24,14 @@ among_typed slots root scope [] at tree typed among = absurd among
 among_typed slots root scope (t ∷ ts) at tree typed (inl here) = rw (here.0, here.1) typed.0
 among_typed slots root scope (t ∷ ts) at tree typed (inr behind) = among_typed slots root scope ts at tree typed.1 behind
 
+all_of_them :
+    (slots : Slots) (root : List ℕ) (scope : Scope) (trees : Trees) (types : List ExprType)
+    → AreTyped slots root scope trees types
+    → AllTyped slots root scope (list_of_trees trees)
+all_of_them slots root scope no_trees types typed = tt
+all_of_them slots root scope (more_trees tree trees) [] typed = absurd typed
+all_of_them slots root scope (more_trees tree trees) (type ∷ types) typed = ((type, typed.0), all_of_them slots root scope trees types typed.1)
+
 -- in a node that has a type each considered child has one
 children_typed :
     (slots : Slots) (root : List ℕ) (scope : Scope) (tree : Tree) (type : ExprType)
@@ -36,6 +45,7 @@ children_typed slots root scope (node start stop (negation operand)) type typed 
 children_typed slots root scope (node start stop (logical_not operand)) type typed = ((typed.operand, typed.operand_typed), tt)
 children_typed slots root scope (node start stop (binary operator left right)) type typed =
     ((typed.left, typed.left_typed), ((typed.right, typed.right_typed), tt))
+children_typed slots root scope (node start stop (call asked arguments)) type typed = all_of_them slots root scope arguments typed.types typed.arguments_typed
 children_typed slots root scope (node start stop _) type typed = absurd typed
 
 -- in a tree that has a type each considered node has one

@@ -27,7 +27,7 @@ abbrev leaf : FlatTree → NodeKind → Span → EdmType → CheckedNode
 leaf list kind span edm_type = record { kind = kind; span = span; edm_type = edm_type; stop = length list.nodes + 1 }
 
 -- a node, closed before what stands behind it
-abbrev put_in : FlatTree → NodeKind → Span → EdmType → CheckedNode
+abbrev pub put_in : FlatTree → NodeKind → Span → EdmType → CheckedNode
 put_in last kind span type = record { kind = kind; span = span; edm_type = type; stop = length last.nodes }
 
 get_front : (xs ys : List Value) (k : ℕ) (x : Value) → slice_get xs k ≡ Some x → slice_get (xs ++ ys) k ≡ Some x
@@ -56,14 +56,14 @@ valued_grown schema n scope list value tree new grown = record {
 some_at : (P : Value → Type 0) (o : Option Value) (value : Value) → o ≡ Some value → P value → IsSomeAnd o P
 some_at P o value same holds = rw same holds
 
-kept_on : (a b c : FlatTree) → IsKept a b → IsKept b c → IsKept a c
+pub kept_on : (a b c : FlatTree) → IsKept a b → IsKept b c → IsKept a c
 kept_on a b c x y = record {
   nodes = λ k found at. y.nodes k found (x.nodes k found at);
   values = λ k value at. y.values k value (x.values k value at);
   texts = λ k text at. y.texts k text (x.texts k text at);
 }
 
-opened_length : (old : FlatTree) (place : ℕ) (text : List ℕ) (new : FlatTree) → IsOpened old place text new → length new.nodes ≡ place + 1
+pub opened_length : (old : FlatTree) (place : ℕ) (text : List ℕ) (new : FlatTree) → IsOpened old place text new → length new.nodes ≡ place + 1
 opened_length old place text new opened =
     let e : place ≡ length old.nodes = opened.last in
     rw opened.grown (omega (arith, length-append old.nodes (opened.added ∷ [])))

@@ -1,6 +1,6 @@
 -- What the walk answers of an operator or of a node that is not typed yet, from its answers of the children.
 use Rattle.std.proofs.Common.{refl, sym, subst, ◌≡◌, ap, ℕ, List, [], ◌∷◌, ◌++◌, Option, Some, None}
-use Rattle.odata_syntax.specs.Tree.{Shape, Tree, node, binary, it, literal, logical_not, member, name, negation, shape_of, start_of, stop_of}
+use Rattle.odata_syntax.specs.Tree.{Shape, Tree, node, binary, call, it, literal, logical_not, member, name, negation, shape_of, start_of, stop_of}
 use Rattle.odata_syntax.specs.Spans.{list_of_trees}
 use Rattle.odata_syntax.specs.TreeView.{tree_of, trees_of}
 use Rattle.odata_syntax.specs.declared.node.BinaryOperator.{BinaryOperator}
@@ -206,6 +206,7 @@ module _ (laws : LawsBelow) where
   unruled_untyped slots root scope start stop (negation operand) type unruled typed = unruled
   unruled_untyped slots root scope start stop (logical_not operand) type unruled typed = unruled
   unruled_untyped slots root scope start stop (binary operator left right) type unruled typed = unruled
+  unruled_untyped slots root scope start stop (call asked arguments) type unruled typed = unruled
   unruled_untyped slots root scope start stop _ type unruled typed = typed
 
   pub unruled_itself :

@@ -1,7 +1,7 @@
 -- For private clauses: what is told of the children of a node that is not typed yet.
 use Rattle.std.specs.Prelude.{ℕ, List, Option, MatchOption}
 use Rattle.std.specs.List.{AllByRecursion}
-use Rattle.odata_syntax.specs.Tree.{Shape, Tree, binary, it, literal, logical_not, member, name, negation}
+use Rattle.odata_syntax.specs.Tree.{Shape, Tree, binary, call, it, literal, logical_not, member, name, negation}
 use Rattle.csdl_schema.specs.SchemaModel.{SchemaModel, slots_of, type_name_at}
 use Rattle.odata_typing.specs.declared.untyped.Untyped.{Untyped}
 use Rattle.odata_expression_types.specs.FirstAmong.{IsFirstAmong}
@@ -16,6 +16,7 @@ IsUnruled (member base asked) = ⊥
 IsUnruled (negation operand) = ⊥
 IsUnruled (logical_not operand) = ⊥
 IsUnruled (binary operator left right) = ⊥
+IsUnruled (call asked arguments) = ⊥
 IsUnruled shape = Unit {0}
 
 -- the first fault among the trees; want of memory says nothing

@@ -1,4 +1,5 @@
 use Rattle.std.proofs.Common.{string_bytes}
+use Rattle.odata_checked_filter.proofs.canonical.Arguments.{further_part}
 use Rattle.odata_checked_filter.proofs.canonical.Leaves.{on_ok, operand_there}
 use Rattle.odata_checked_filter.proofs.canonical.Pieces.{close_part, operator_part, step_part, step_there}
 use Rattle.odata_checked_filter.proofs.canonical_text.write_part.Goals as goal
@@ -23,3 +24,8 @@ returns-in-Step c = rw c.in-Step.is (on_ok c.write_step.result
 
 pub write_step-requires : goal.write_step-requires
 write_step-requires c = step_there c.args.list.now c.in-Step.place c.requires.0 (rw c.in-Step.is at c.requires.1)
+
+pub returns-in-Further : goal.returns-in-Further
+returns-in-Further c = rw c.in-Further.is (on_ok c.write_further.result
+    (further_part c.args.list.now c.in-Further.place c.in-Further.stop c.requires.0 (string_bytes c.args.text.now) (string_bytes c.write_further.new.text)
+    c.args.pending.now.items c.write_further.new.pending.items (rw c.in-Further.is at c.requires.1)) c.write_further.ensures)

@@ -9,5 +9,9 @@ returns c =
       types = c.trees_have_one_type.ensures;
       answer = c.arithmetic_has_one_answer.ensures.one;
       negation = c.arithmetic_has_one_answer.ensures.negation;
+      place = c.texts_have_one_answer.ensures.place;
+      trimmed = c.texts_have_one_answer.ensures.trimmed;
+      dates = c.day_numbers_have_one_date.ensures.one;
+      names = c.calls_have_one_type.ensures.named;
     } in
     record { kept = kept_item known; other_name = other_item known; inactive = inactive_item known; right_side_left_out = right_side_unread known }

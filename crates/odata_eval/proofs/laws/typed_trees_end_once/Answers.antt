@@ -8,11 +8,21 @@ returns c = ends_once
       types = c.trees_have_one_type.ensures;
       answer = c.arithmetic_has_one_answer.ensures.one;
       negation = c.arithmetic_has_one_answer.ensures.negation;
+      place = c.texts_have_one_answer.ensures.place;
+      trimmed = c.texts_have_one_answer.ensures.trimmed;
+      dates = c.day_numbers_have_one_date.ensures.one;
+      names = c.calls_have_one_type.ensures.named;
     })
     (record {
       decided = c.comparisons_are_decided.ensures.decided;
       answer = c.arithmetic_has_one_answer.ensures.there;
       negation = c.arithmetic_has_one_answer.ensures.negation_there;
+      part = c.texts_have_one_answer.ensures.part;
+      start = c.texts_have_one_answer.ensures.start;
+      end = c.texts_have_one_answer.ensures.end;
+      place = c.texts_have_one_answer.ensures.place_there;
+      trimmed = c.texts_have_one_answer.ensures.trimmed_there;
+      dates = c.day_numbers_have_one_date.ensures.there;
     })
     (record {
       left = c.operands_lie_within_promotion.ensures.left;

@@ -1,7 +1,7 @@
 use Rattle.std.proofs.Common.{◌≡◌}
 use Rattle.odata_checked_filter.specs.declared.checked_node.CheckedNode.{CheckedNode}
 use Rattle.odata_checked_filter.specs.declared.checked_node.NodeKind.{NodeKind}
-use Rattle.odata_eval.proofs.walking.Leaves.{literal_answers, property_answers}
+use Rattle.odata_eval.proofs.walking.Leaves.{literal_answers, now_answers, property_answers}
 use Rattle.odata_eval.proofs.walking.Parts.{there_found}
 use Rattle.odata_eval.proofs.part.leaf_at.Goals as goal
 
@@ -16,3 +16,8 @@ returns-in-Property c =
     property_answers c.args.scene.now c.args.place c.in-Property.slot
     (there_found (λ (f : CheckedNode). f.kind ≡ NodeKind.Property c.in-Property.slot) _ c.node.result.now c.node.ensures c.in-Property.is)
     c.property.result.now c.property.ensures
+
+pub returns-in-Now : goal.returns-in-Now
+returns-in-Now c =
+    now_answers c.args.scene.now c.args.place (there_found (λ (f : CheckedNode). f.kind ≡ NodeKind.Now) _ c.node.result.now c.node.ensures c.in-Now.is)
+    c.now_value.result.now c.now_value.ensures

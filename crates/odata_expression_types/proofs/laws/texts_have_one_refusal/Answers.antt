@@ -11,6 +11,8 @@ returns-clause-one c = one_refusal (record {
   syntax_fault = c.one_fault.ensures;
   fault_or_tree = c.fault_or_tree.ensures;
   start = c.untypable_nodes_start_apart.ensures;
+  call_type = c.calls_have_one_type.ensures.one;
+  call_reason = c.calls_have_one_type.ensures.reason;
 })
 
 pub returns-clause-untyped : goal.returns-clause-untyped
@@ -23,4 +25,6 @@ returns-clause-untyped c = refused_untyped (record {
   syntax_fault = c.one_fault.ensures;
   fault_or_tree = c.fault_or_tree.ensures;
   start = c.untypable_nodes_start_apart.ensures;
+  call_type = c.calls_have_one_type.ensures.one;
+  call_reason = c.calls_have_one_type.ensures.reason;
 })

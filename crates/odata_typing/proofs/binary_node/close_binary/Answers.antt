@@ -8,12 +8,12 @@ returns-in-Ok-right-clause-answer c = λ n l r start opened between is left righ
 
 pub returns-in-Err-right-clause-answer : goal.returns-in-Err-right-clause-answer
 returns-in-Err-right-clause-answer c = λ n l r start opened between is left right.
-    HasFault-right c.laws_below.ensures c.args.schema.now n [] c.args.span.start c.args.span.stop c.args.operator l r opened between c.in-Ok.left c.in-Err-right.behind (rw c.in-Ok.is at left) (rw c.in-Err-right.is at right)
+    HasFault-right c.laws_below.ensures c.args.schema.now n [] c.args.opened.span.start c.args.opened.span.stop c.args.operator l r opened between c.in-Ok.left c.in-Err-right.behind (rw c.in-Ok.is at left) (rw c.in-Err-right.is at right)
 
 pub returns-in-Ok-right-2-clause-answer : goal.returns-in-Ok-right-2-clause-answer
 returns-in-Ok-right-2-clause-answer c = λ n l r start opened between is left right.
-    HasFault-left c.laws_below.ensures c.args.schema.now n [] c.args.span.start c.args.span.stop c.args.operator l r between c.args.list.now c.in-Ok-right-2.field-0 c.in-Err.before (rw c.in-Err.is at left) (rw c.in-Ok-right-2.is at right)
+    HasFault-left c.laws_below.ensures c.args.schema.now n [] c.args.opened.span.start c.args.opened.span.stop c.args.operator l r between c.args.list.now c.in-Ok-right-2.field-0 c.in-Err.before (rw c.in-Err.is at left) (rw c.in-Ok-right-2.is at right)
 
 pub returns-in-Err-right-2-clause-answer : goal.returns-in-Err-right-2-clause-answer
 returns-in-Err-right-2-clause-answer c = λ n l r start opened between is left right.
-    HasFault-both c.laws_below.ensures c.args.schema.now n [] c.args.span.start c.args.span.stop c.args.operator l r c.in-Err.before c.in-Err-right-2.behind c.earlier.result (rw c.in-Err.is at left) (rw c.in-Err-right-2.is at right) c.earlier.ensures
+    HasFault-both c.laws_below.ensures c.args.schema.now n [] c.args.opened.span.start c.args.opened.span.stop c.args.operator l r c.in-Err.before c.in-Err-right-2.behind c.earlier.result (rw c.in-Err.is at left) (rw c.in-Err-right-2.is at right) c.earlier.ensures

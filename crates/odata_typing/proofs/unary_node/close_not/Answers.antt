@@ -5,8 +5,8 @@ use Rattle.odata_typing.proofs.unary_node.close_not.Goals as goal
 
 pub returns-in-Some-clause-answer : goal.returns-in-Some-clause-answer
 returns-in-Some-clause-answer c = λ schema n o start opened is walked.
-    rw c.close.ensures (closed_not c.laws_below.ensures schema n [] start opened c.args.list.now c.args.place c.args.span o c.args.operand c.in-Some.edm_type is walked (c.in-Some.ensures.typed schema))
+    rw c.close.ensures (closed_not c.laws_below.ensures schema n [] start opened c.args.list.now c.args.opened.place c.args.opened.span o c.args.operand c.in-Some.edm_type is walked (c.in-Some.ensures.typed schema))
 
 pub returns-in-None-clause-answer : goal.returns-in-None-clause-answer
 returns-in-None-clause-answer c = λ schema n o start opened is walked.
-    refused_not c.laws_below.ensures schema n [] c.args.span o opened c.args.list.now c.args.operand walked (c.in-None.ensures.none schema)
+    refused_not c.laws_below.ensures schema n [] c.args.opened.span o opened c.args.list.now c.args.operand walked (c.in-None.ensures.none schema)

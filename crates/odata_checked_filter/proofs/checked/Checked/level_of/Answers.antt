@@ -17,7 +17,9 @@ returns-in-Literal c =
       | inr (inr (inr (inl x))) ↦ sym (found ∙ ap level_of_kind x.1)
       | inr (inr (inr (inr (inl x)))) ↦ sym (found ∙ ap level_of_kind x)
       | inr (inr (inr (inr (inr (inl x))))) ↦ sym (found ∙ ap level_of_kind x)
-      | inr (inr (inr (inr (inr (inr x))))) ↦ sym (found ∙ ap level_of_kind x.1)
+      | inr (inr (inr (inr (inr (inr (inl x)))))) ↦ sym (found ∙ ap level_of_kind x)
+      | inr (inr (inr (inr (inr (inr (inr (inl x))))))) ↦ sym (found ∙ ap level_of_kind x.1)
+      | inr (inr (inr (inr (inr (inr (inr (inr x))))))) ↦ sym (found ∙ ap level_of_kind x.1)
     ]
 
 pub returns-in-None : goal.returns-in-None

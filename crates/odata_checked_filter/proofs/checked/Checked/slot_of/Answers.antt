@@ -28,7 +28,9 @@ returns-in-Literal c = record {
         | inr (inr (inl x)) ↦ (let other : slot_of_kind c.in-Some.found.now.kind ≡ None = ap slot_of_kind x.1 in cc)
         | inr (inr (inr (inl x))) ↦ (let other : slot_of_kind c.in-Some.found.now.kind ≡ None = ap slot_of_kind x in cc)
         | inr (inr (inr (inr (inl x)))) ↦ (let other : slot_of_kind c.in-Some.found.now.kind ≡ None = ap slot_of_kind x in cc)
-        | inr (inr (inr (inr (inr x)))) ↦ (let other : slot_of_kind c.in-Some.found.now.kind ≡ None = ap slot_of_kind x.1 in cc)
+        | inr (inr (inr (inr (inr (inl x))))) ↦ (let other : slot_of_kind c.in-Some.found.now.kind ≡ None = ap slot_of_kind x in cc)
+        | inr (inr (inr (inr (inr (inr (inl x)))))) ↦ (let other : slot_of_kind c.in-Some.found.now.kind ≡ None = ap slot_of_kind x.1 in cc)
+        | inr (inr (inr (inr (inr (inr (inr x)))))) ↦ (let other : slot_of_kind c.in-Some.found.now.kind ≡ None = ap slot_of_kind x.1 in cc)
       ];
 }
 

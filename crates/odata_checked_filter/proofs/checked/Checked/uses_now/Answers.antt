@@ -1,16 +1,15 @@
-use Rattle.std.proofs.Common.{IsTrue, false, []}
-use Rattle.csdl_schema.specs.SchemaModel.{slots_of, type_name_at}
-use Rattle.odata_checked_filter.specs.Filter.{tree_of_filter}
-use Rattle.odata_checked_filter.proofs.pre_orders.Calls.{no_calls}
+use Rattle.std.proofs.Common.{◌≡◌, ◌∙◌, List, ap, sym, true}
+use Rattle.std.specs.List.{list_any}
+use Rattle.odata_checked_filter.specs.declared.checked_node.CheckedNode.{CheckedNode}
+use Rattle.odata_checked_filter.specs.private.CalledKinds.{kind_is_now}
+use Rattle.odata_checked_filter.proofs.pre_orders.Calls.{now_told}
 use Rattle.odata_checked_filter.proofs.checked.Checked.uses_now.Goals as goal
-
-untrue : IsTrue false → ⊥
-untrue same = cc
 
 pub returns : goal.returns
 returns c =
-    let right = c.nodes-nodes.ensures.right in
-    let filter = c.args.self.now in (
-      λ yes. absurd (untrue yes),
-      λ needs. absurd (no_calls (slots_of filter.schema) (type_name_at filter.schema filter.filtered) [] (tree_of_filter filter) right.type_of _ right.typed needs),
+    let told = now_told c.calls_have_one_type.ensures.named c.args.self.now c.nodes.ensures.right in
+    let by_nodes : c.any_now.result ≡ list_any (λ (n : CheckedNode). kind_is_now n.kind) c.args.self.now.list.nodes =
+    c.any_now.ensures ∙ ap (λ (ns : List CheckedNode). list_any (λ (n : CheckedNode). kind_is_now n.kind) ns) c.nodes.ensures.same in (
+      λ answer. told.0 (sym by_nodes ∙ answer),
+      λ needs. by_nodes ∙ told.1 needs,
     )

@@ -1,0 +1,139 @@
+-- A function has an outcome on arguments of its kinds none of which is null.
+use Rattle.std.proofs.Common.{◌≡◌, ◌≤◌, ℕ, ℤ, List, [], ◌∷◌, Bool, false, IsTrue, Option, Some, None, Result, Ok, Err, length, refl, sym, subst, arith}
+use Rattle.std.specs.Prelude.{◌↔◌, pos, neg_ℤ}
+use Rattle.std.proofs.Math.IntN.{neg_ℤ-neg_ℤ}
+use Rattle.std.specs.Str.{chars}
+use Rattle.edm_values.specs.Civil.{Date, epoch_day}
+use Rattle.edm_values.specs.Instant.{offset_of}
+use Rattle.edm_values.specs.MomentParts.{MomentParts}
+use Rattle.edm_values.specs.NumberTypes.{IsNumberOf}
+use Rattle.edm_values.specs.Val.{Val, boolean, whole, text, date, moment}
+use Rattle.edm_values.specs.declared.primitive.PrimitiveType.{PrimitiveType}
+use Rattle.csdl_schema.specs.ExprType.{ExprType, single, primitive}
+use Rattle.csdl_schema.specs.SchemaModel.{Slots}
+use Rattle.odata_functions.specs.Arithmetic.{ComesWithin}
+use Rattle.odata_functions.specs.DateParts.{IsDayOf, IsMonthOf, IsYearOf, date_of, hour_of, minute_of, second_of}
+use Rattle.odata_functions.specs.Texts.{HasEnd, HasPart, HasStart, IsPlaceOf, IsTrimmed}
+use Rattle.odata_functions.specs.declared.arithmetic.ArithFault.{ArithFault}
+use Rattle.odata_functions.specs.declared.arithmetic.ArithFault.TheVariants.{Overflow, DivideByZero}
+use Rattle.odata_signatures.specs.Functions.{row_of}
+use Rattle.odata_signatures.specs.declared.argument_kind.ArgumentKind.TheVariants.{Text, Number, DateOrMoment, Moment}
+use Rattle.odata_signatures.specs.declared.function.Function.{Function}
+use Rattle.odata_eval.specs.ArgumentValues.{OfDate, OfMoment, OfNone, OfText, OfTextAndNumbers, OfTexts}
+use Rattle.odata_eval.specs.CalculationGives.{number_outcome}
+use Rattle.odata_eval.specs.CallGives.{has_null}
+use Rattle.odata_eval.specs.EndsOnce.{IsOutcomeOf}
+use Rattle.odata_eval.specs.FunctionGives.{FunctionGives, GivesCount, GivesText, GivesTruth}
+use Rattle.odata_eval.specs.Outcome.{Outcome, gives}
+use Rattle.odata_eval.specs.private.Arguments.{Applies, AreArguments}
+use Rattle.odata_eval.proofs.meaning.ArgumentForms.{IsDated, IsPartAsked, one_dated, one_moment, one_text, part_asked, two_texts}
+use Rattle.odata_eval.proofs.meaning.Ends.{Ends}
+use Rattle.odata_eval.proofs.meaning.LawsBelow.{SomeEach}
+
+module _ (slots : Slots) (type : ExprType) where
+  -- ---- arguments by their kinds
+
+  text_ends : (Gives : List ℕ → Outcome → Type 0) → ((t : List ℕ) → Ends slots type (Gives t)) → (values : List Val)
+      → 1 ≤ length values → AreArguments (Text ∷ []) values → has_null values ≡ false → Ends slots type (OfText Gives values)
+  text_ends Gives ends values enough are full =
+      let form = one_text values enough are full in
+      subst (λ (vs : List Val). Ends slots type (OfText Gives vs)) (sym form.1) (ends form.0)
+
+  texts_end : (Gives : List ℕ → List ℕ → Outcome → Type 0) → ((s t : List ℕ) → Ends slots type (Gives s t)) → (values : List Val)
+      → 2 ≤ length values → AreArguments (Text ∷ Text ∷ []) values → has_null values ≡ false → Ends slots type (OfTexts Gives values)
+  texts_end Gives ends values enough are full =
+      let form = two_texts values enough are full in
+      subst (λ (vs : List Val). Ends slots type (OfTexts Gives vs)) (sym form.2) (ends form.0 form.1)
+
+  moment_ends : (Gives : MomentParts → Outcome → Type 0) → ((m : MomentParts) → Ends slots type (Gives m)) → (values : List Val)
+      → 1 ≤ length values → AreArguments (Moment ∷ []) values → has_null values ≡ false → Ends slots type (OfMoment Gives values)
+  moment_ends Gives ends values enough are full =
+      let form = one_moment values enough are full in
+      subst (λ (vs : List Val). Ends slots type (OfMoment Gives vs)) (sym form.1) (ends form.0)
+
+  dated_ends : (Gives : Date → Outcome → Type 0) → ((d : Date) → Ends slots type (Gives d)) → (v : Val) → IsDated v → Ends slots type (OfDate Gives (v ∷ []))
+  dated_ends Gives ends (date d) is = ends d
+  dated_ends Gives ends (moment m) is = ends m.civil.date
+  dated_ends Gives ends _ is = absurd is
+
+  date_ends : (Gives : Date → Outcome → Type 0) → ((d : Date) → Ends slots type (Gives d)) → (values : List Val)
+      → 1 ≤ length values → AreArguments (DateOrMoment ∷ []) values → has_null values ≡ false → Ends slots type (OfDate Gives values)
+  date_ends Gives ends values enough are full =
+      let form = one_dated values enough are full in
+      subst (λ (vs : List Val). Ends slots type (OfDate Gives vs)) (sym form.2) (dated_ends Gives ends form.0 form.1)
+
+  asked_ends : (OfOne : List ℕ → ℤ → Outcome → Type 0) (OfTwo : List ℕ → ℤ → ℤ → Outcome → Type 0) → ((t : List ℕ) (n : ℤ) → Ends slots type (OfOne t n))
+      → ((t : List ℕ) (n m : ℤ) → Ends slots type (OfTwo t n m)) → (values : List Val) → IsPartAsked values → Ends slots type (OfTextAndNumbers OfOne OfTwo values)
+  asked_ends OfOne OfTwo one two (text t ∷ whole n ∷ []) is = one t n
+  asked_ends OfOne OfTwo one two (text t ∷ whole n ∷ whole m ∷ []) is = two t n m
+  asked_ends OfOne OfTwo one two _ is = absurd is
+
+-- ---- what is given
+
+truth_given : (slots : Slots) (Fact : Type 0) → (answer : Bool) × (IsTrue answer ↔ Fact) → Ends slots (single (primitive PrimitiveType.Bool)) (GivesTruth Fact)
+truth_given slots Fact decided = (gives (boolean decided.0), (decided.1, tt))
+
+text_given : (slots : Slots) (characters : List ℕ) → Ends slots (single (primitive PrimitiveType.String)) (GivesText characters)
+text_given slots characters = (gives _, (refl, tt))
+
+count_typed : (slots : Slots) (n : ℤ) (answer : Result (Option ℤ) ArithFault) → ComesWithin PrimitiveType.Int32 n answer
+    → IsOutcomeOf slots (single (primitive PrimitiveType.Int32)) (number_outcome answer)
+count_typed slots n (Ok (Some m)) comes = let same : m ≡ n = cc in subst (λ (k : ℤ). IsNumberOf PrimitiveType.Int32 k) (sym same) comes.1
+count_typed slots n (Ok None) comes = tt
+count_typed slots n (Err Overflow) comes = tt
+count_typed slots n (Err DivideByZero) comes = tt
+
+module _ (some : SomeEach) (slots : Slots) where
+  count_given : (n : ℤ) → Ends slots (single (primitive PrimitiveType.Int32)) (GivesCount n)
+  count_given n =
+      let answer = some.negation PrimitiveType.Int32 (Some (neg_ℤ n)) tt in
+      let comes = subst (λ (m : ℤ). ComesWithin PrimitiveType.Int32 m answer.0) (neg_ℤ-neg_ℤ n) answer.1 in
+      (number_outcome answer.0, ((answer.0, comes, refl), count_typed slots n answer.0 comes))
+
+  place_given : (s t : List ℕ) → Ends slots (single (primitive PrimitiveType.Int32)) (λ o. (n : ℤ) × IsPlaceOf (chars s) (chars t) n × GivesCount n o)
+  place_given s t =
+      let place = some.place (chars s) (chars t) in
+      let ends = count_given place.0 in
+      (ends.0, ((place.0, place.1, ends.1.0), ends.1.1))
+
+  trimmed_given : (s : List ℕ) → Ends slots (single (primitive PrimitiveType.String)) (λ o. (part : List ℕ) × IsTrimmed (chars s) part × GivesText part o)
+  trimmed_given s =
+      let trimmed = some.trimmed (chars s) in
+      let ends = text_given slots trimmed.0 in
+      (ends.0, ((trimmed.0, trimmed.1, ends.1.0), ends.1.1))
+
+  year_given : (d : Date) → Ends slots (single (primitive PrimitiveType.Int32)) (λ o. (n : ℤ) × IsYearOf (epoch_day d) n × GivesCount n o)
+  year_given d = let ends = count_given d.year in (ends.0, ((d.year, (d.month, d.day, some.dates d), ends.1.0), ends.1.1))
+
+  month_given : (d : Date) → Ends slots (single (primitive PrimitiveType.Int32)) (λ o. (n : ℤ) × IsMonthOf (epoch_day d) n × GivesCount n o)
+  month_given d = let ends = count_given (pos d.month) in (ends.0, ((pos d.month, (d.year, d.month, d.day, refl, some.dates d), ends.1.0), ends.1.1))
+
+  day_given : (d : Date) → Ends slots (single (primitive PrimitiveType.Int32)) (λ o. (n : ℤ) × IsDayOf (epoch_day d) n × GivesCount n o)
+  day_given d = let ends = count_given (pos d.day) in (ends.0, ((pos d.day, (d.year, d.month, d.day, refl, some.dates d), ends.1.0), ends.1.1))
+
+  pub function_ends : (now : MomentParts) (function : Function) (values : List Val) → has_null values ≡ false → Applies function values
+      → Ends slots (single (primitive (row_of function).gives)) (FunctionGives now function values)
+  function_ends now Function.Contains values full applies =
+      texts_end slots _ _ (λ s t. truth_given slots (HasPart (chars s) (chars t)) (some.part (chars s) (chars t))) values applies.enough applies.are full
+  function_ends now Function.StartsWith values full applies =
+      texts_end slots _ _ (λ s t. truth_given slots (HasStart (chars s) (chars t)) (some.start (chars s) (chars t))) values applies.enough applies.are full
+  function_ends now Function.EndsWith values full applies =
+      texts_end slots _ _ (λ s t. truth_given slots (HasEnd (chars s) (chars t)) (some.end (chars s) (chars t))) values applies.enough applies.are full
+  function_ends now Function.Concat values full applies = texts_end slots _ _ (λ s t. text_given slots _) values applies.enough applies.are full
+  function_ends now Function.Length values full applies = text_ends slots _ _ (λ s. count_given (pos (length (chars s)))) values applies.enough applies.are full
+  function_ends now Function.IndexOf values full applies = texts_end slots _ _ place_given values applies.enough applies.are full
+  function_ends now Function.Substring values full applies =
+      asked_ends slots _ _ _ (λ s n. text_given slots _) (λ s n m. text_given slots _) values (part_asked values applies.enough applies.are full)
+  function_ends now Function.Trim values full applies = text_ends slots _ _ trimmed_given values applies.enough applies.are full
+  function_ends now Function.ToLower values full applies = text_ends slots _ _ (λ s. text_given slots _) values applies.enough applies.are full
+  function_ends now Function.ToUpper values full applies = text_ends slots _ _ (λ s. text_given slots _) values applies.enough applies.are full
+  function_ends now Function.Year values full applies = date_ends slots _ _ year_given values applies.enough applies.are full
+  function_ends now Function.Month values full applies = date_ends slots _ _ month_given values applies.enough applies.are full
+  function_ends now Function.Day values full applies = date_ends slots _ _ day_given values applies.enough applies.are full
+  function_ends now Function.Hour values full applies = moment_ends slots _ _ (λ m. count_given (hour_of m)) values applies.enough applies.are full
+  function_ends now Function.Minute values full applies = moment_ends slots _ _ (λ m. count_given (minute_of m)) values applies.enough applies.are full
+  function_ends now Function.Second values full applies = moment_ends slots _ _ (λ m. count_given (second_of m)) values applies.enough applies.are full
+  function_ends now Function.TotalOffsetMinutes values full applies = moment_ends slots _ _ (λ m. count_given (offset_of m)) values applies.enough applies.are full
+  function_ends now Function.Date values full applies = moment_ends slots _ _ (λ m. (gives (date (date_of m)), (refl, tt))) values applies.enough applies.are full
+  function_ends now Function.Now [] full applies = (gives (moment now), (refl, tt))
+  function_ends now Function.Now (v ∷ more) full applies = absurd applies.are

@@ -1,0 +1,2 @@
+-- What the walk over the arguments of a call answers.
+pub mod Walking
