@@ -1,4 +1,5 @@
 mod BufferLaws
+mod DeviceLaws
 mod ItemLaws
 mod LineLaws
 mod PlaceLaws

@@ -1,2 +1,4 @@
 pub mod Answers
+pub mod Called
+pub mod Lacking
 pub mod Streams

@@ -1,5 +1,5 @@
 -- What is kept of items that are judged one by one, in order, up to the first that is at fault.
-use Rattle.std.specs.Prelude.{◌≡◌, ℕ, ◌+◌, List, ◌∷◌, ◌++◌, Bool, true, false, length, map, filter, flat_map, count_by, All}
+use Rattle.std.specs.Prelude.{◌≡◌, ℕ, ◌+◌, List, ◌∷◌, ◌++◌, Bool, true, false, length, map, filter, flat_map, count_by, All, ◌⊎◌}
 use Rattle.line_filter.specs.declared.judge.Judgment.{Judgment}
 use Rattle.line_filter.specs.declared.finding.Finding.{Finding}
 use Rattle.line_filter.specs.declared.stop.Stop.{Stop}
@@ -77,6 +77,18 @@ pub record StopsBefore {X F : Type 0} (items : Items X F) (text : List ℕ) (num
   pub counted : number ≡ length before + 1
   pub passes : Passes items.sieve before text tally
 
+-- Memory was refused for the item of this number; those before it came in whole, none is at fault, and the text is that
+-- of the kept ones among them.
+pub record StopsOn {X F : Type 0} (items : Items X F) (text : List ℕ) (number : ℕ) : Type 0 where
+  pub before : List X
+  pub here : X
+  pub after : List X
+  pub tally : Tally
+  pub whole : items.all ≡ before ++ here ∷ after
+  pub came_whole : items.CameWhole before
+  pub counted : number ≡ length before + 1
+  pub passes : Passes items.sieve before text tally
+
 -- The text is a beginning of that of the kept ones among some first items of which none is at fault.
 pub record StopsWithin {X F : Type 0} (items : Items X F) (text : List ℕ) : Type 0 where
   pub before : List X
@@ -93,3 +105,16 @@ Stops items text (Stop.TooLong line) = StopsAt items text line Finding.TooLong
 Stops items text (Stop.Read line) = StopsBefore items text line
 Stops items text Stop.Write = StopsWithin items text
 Stops items text (Stop.Memory line) = StopsBefore items text line
+
+-- that, where it is said too for which item memory was refused; `Lacks` says of a text and a number that this item did
+-- not come
+abbrev pub StopsWith : {X F : Type 0} → Items X F → (List ℕ → ℕ → Type 0) → List ℕ → Stop F → Type 0
+StopsWith items Lacks text (Stop.Fault line fault) = StopsAt items text line (Finding.Judged (Judgment.Fault fault))
+StopsWith items Lacks text (Stop.TooLong line) = StopsAt items text line Finding.TooLong
+StopsWith items Lacks text (Stop.Read line) = Lacks text line
+StopsWith items Lacks text Stop.Write = StopsWithin items text
+StopsWith items Lacks text (Stop.Memory line) = Lacks text line ⊎ StopsOn items text line
+
+-- that, of items that stand in memory, of which each comes
+abbrev pub StopsHeld : {X F : Type 0} → Items X F → List ℕ → Stop F → Type 0
+StopsHeld items text stop = StopsWith items (λ text line. ⊥) text stop

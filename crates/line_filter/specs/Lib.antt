@@ -5,4 +5,6 @@ pub mod LineSource
 pub mod Places
 pub mod Once
 pub mod Growth
+pub mod DeviceCalls
+pub mod LineStreams
 pub mod private

@@ -1,6 +1,6 @@
-pub mod Failures
 pub mod Giving
 pub mod HeldBack
+pub mod Reading
 pub mod Sources
 pub mod Waiting
 pub mod Waits

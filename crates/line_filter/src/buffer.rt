@@ -1,7 +1,7 @@
 ghost use Rattle.std.specs.Prelude.{◌≡◌, ◌+◌, ◌<◌, ◌≤◌, [], length, take, drop, IfOk, OnOk, OnErr};
 ghost use Rattle.std.specs.Io.KnownBytes.{Consumes, IsAtEnd, Keeps};
 ghost use Rattle.memchr.specs.Find.{IsFirstByte, is_byte};
-ghost use Rattle.line_filter.specs.private.Failures.{FailsOnce, FailsNever};
+ghost use Rattle.line_filter.specs.DeviceCalls.{after_work, after_failure};
 ghost use Rattle.line_filter.specs.Lines.{longest_line, most_held};
 ghost use Rattle.line_filter.specs.private.Waits.{Comes};
 
@@ -78,7 +78,8 @@ impl Buffer {
 
     /// How many bytes wait.
     pub fn waiting(&self) -> usize
-        ensures { result ≡ length self.now.waiting }
+        ensures length { result ≡ length self.now.waiting }
+        ensures bounded { result ≤ most_held }
     {
         self.filled - self.start
     }
@@ -172,8 +173,8 @@ impl Buffer {
         ensures end { IfOk result (λ count. count ≡ 0 → IsAtEnd (R.remaining reader.new)) }
         ensures err { OnErr result ((self.new.waiting ≡ self.old.waiting)
             × Keeps (R.remaining reader.old) (R.remaining reader.new)) }
-        ensures failed { OnErr result (FailsOnce (S.failures reader.old) (S.failures reader.new)) }
-        ensures well { OnOk result (FailsNever (S.failures reader.old) (S.failures reader.new)) }
+        ensures failed { OnErr result (S.calls reader.new ≡ after_failure (S.calls reader.old)) }
+        ensures worked { OnOk result (S.calls reader.new ≡ after_work (S.calls reader.old)) }
     {
         let stop = self.bytes.len().min(self.filled + most);
         let bytes = self.bytes.as_mut_slice();
@@ -202,8 +203,8 @@ fn read_at<R: Read, S: Reads<R>>(
         Consumes (R.remaining reader.old) (R.remaining reader.new) (take n (drop filled bytes.new))) }
     ensures end { IfOk result (λ n. n ≡ 0 → IsAtEnd (R.remaining reader.new)) }
     ensures err { OnErr result (Keeps (R.remaining reader.old) (R.remaining reader.new)) }
-    ensures failed { OnErr result (FailsOnce (S.failures reader.old) (S.failures reader.new)) }
-    ensures well { OnOk result (FailsNever (S.failures reader.old) (S.failures reader.new)) }
+    ensures failed { OnErr result (S.calls reader.new ≡ after_failure (S.calls reader.old)) }
+    ensures worked { OnOk result (S.calls reader.new ≡ after_work (S.calls reader.old)) }
 {
     S::read(reader, &mut bytes[filled..stop], held_back)
 }

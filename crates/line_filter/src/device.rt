@@ -1,9 +1,12 @@
-ghost use Rattle.std.specs.Prelude.{◌≡◌, ℕ, ◌<◌, ◌≤◌, [], length, Option, None, OnErr, OnOk};
-ghost use Rattle.std.specs.Io.{ReadsAtMost};
-ghost use Rattle.std.specs.Io.KnownBytes.{ReadConsumes};
-ghost use Rattle.line_filter.specs.private.Failures.{FailsOnce, FailsNever};
+//! How devices are called, and what they tell of their calls. Whatever is said of failed calls is said by this.
+ghost use Rattle.std.specs.Prelude.{◌≡◌, ◌<◌, ◌≤◌, [], length, IfOk, OnErr, OnOk};
+ghost use Rattle.std.specs.Io.{ReadsAtMost, WritesAtMost};
+ghost use Rattle.std.specs.Io.KnownBytes.{Keeps, ReadConsumes, WriteAppends};
+ghost use Rattle.line_filter.specs.DeviceCalls.{after_work, after_flush, after_failure};
+ghost use Rattle.line_filter.specs.declared.calls.Calls.{Calls};
 
-use std::io::Read;
+use super::calls::Calls;
+use std::io::{Read, Write};
 use thiserror::Error;
 
 /// A read failed.
@@ -11,10 +14,18 @@ use thiserror::Error;
 #[error("read")]
 pub struct NotRead;
 
-/// How the failed reads of a reader are told, and how it is read. Whatever is said of failed reads is said by this.
+/// A write or a flush failed, or a write took none of what it was given.
+#[derive(Debug, Drop, Error)]
+#[error("write")]
+pub struct NotWritten;
+
+/// How a reader is read, and what it tells of its calls. Every error is a failure, an interrupted call too.
+///
+/// What it tells must be the device's own record, made where the device is called and nowhere else: the clauses are
+/// worth as much as that.
 pub trait Reads<R: Read> {
-    // How many reads have failed so far, where the reader tells it.
-    ghost failures: { R → Option ℕ };
+    // What the reader tells of its calls so far.
+    ghost calls: { R → Calls };
 
     /// Calls `read` once, for some bytes, and for 65,536 at most. Nothing of what is kept is held back by then.
     fn read(reader: &mut R, bytes: &mut [u8], held_back: &[u8]) -> Result<usize, NotRead>
@@ -23,22 +34,30 @@ pub trait Reads<R: Read> {
         requires few { length bytes.old ≤ 65536 }
         ensures bound { ReadsAtMost result bytes.new }
         ensures bytes { ReadConsumes (R.remaining reader.old) (R.remaining reader.new) result bytes.new }
-        ensures failed { OnErr result (FailsOnce (failures reader.old) (failures reader.new)) }
-        ensures well { OnOk result (FailsNever (failures reader.old) (failures reader.new)) };
+        ensures worked { OnOk result (calls reader.new ≡ after_work (calls reader.old)) }
+        ensures failed { OnErr result (calls reader.new ≡ after_failure (calls reader.old)) };
 }
 
-/// Reads any reader, and tells nothing of its failures.
-#[derive(Debug, Drop)]
-pub struct Untold;
+/// How a writer is written to and flushed, and what it tells of its calls. Every error is a failure, an interrupted
+/// call too.
+///
+/// As with [`Reads`], what it tells must be the device's own record.
+pub trait Writes<W: Write> {
+    // What the writer tells of its calls so far.
+    ghost calls: { W → Calls };
 
-impl<R: Read> Reads<R> for Untold {
-    ghost failures = { λ _. None };
+    /// Calls `write` once, for some bytes. Where it takes none of them it has failed.
+    fn write(out: &mut W, bytes: &[u8]) -> Result<usize, NotWritten>
+        requires some { 0 < length bytes.now }
+        ensures some { IfOk result (λ count. 0 < count) }
+        ensures bound { WritesAtMost result bytes.now }
+        ensures bytes { WriteAppends (W.contents out.old) (W.contents out.new) result bytes.now }
+        ensures worked { OnOk result (calls out.new ≡ after_work (calls out.old)) }
+        ensures failed { OnErr result (calls out.new ≡ after_failure (calls out.old)) };
 
-    fn read(reader: &mut R, bytes: &mut [u8], held_back: &[u8]) -> Result<usize, NotRead> {
-        let _ = held_back;
-        match reader.read(bytes) {
-            Ok(count) => Ok(count),
-            Err(_) => Err(NotRead),
-        }
-    }
+    /// Calls `flush` once.
+    fn flush(out: &mut W) -> Result<(), NotWritten>
+        ensures bytes { Keeps (W.contents out.old) (W.contents out.new) }
+        ensures flushed { OnOk result (calls out.new ≡ after_flush (calls out.old)) }
+        ensures failed { OnErr result (calls out.new ≡ after_failure (calls out.old)) };
 }

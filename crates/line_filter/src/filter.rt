@@ -1,14 +1,15 @@
-ghost use Rattle.std.specs.Prelude.{◌≢◌, ℕ, ◌-◌, ◌<◌, ◌^◌, IfOk, IfErr, IfSome, OnOk};
+ghost use Rattle.std.specs.Prelude.{IfOk, IfErr, IfSome, MatchResult, OnOk};
 ghost use Rattle.std.specs.Io.KnownBytes.{Keeps};
+ghost use Rattle.line_filter.specs.DeviceCalls.{StaysWell, FlushesLast};
 ghost use Rattle.line_filter.specs.Growth.{Writes};
-ghost use Rattle.line_filter.specs.Kept.{Filters, Stops};
+ghost use Rattle.line_filter.specs.Kept.{Filters, StopsHeld, StopsWith};
 ghost use Rattle.line_filter.specs.LineItems.{lines, SaysTheSame};
 ghost use Rattle.line_filter.specs.LineSource.{left_of, IsOver};
+ghost use Rattle.line_filter.specs.LineStreams.{LacksLine, ReadsUntil, WritesUntil};
 ghost use Rattle.line_filter.specs.Places.{places};
-ghost use Rattle.line_filter.specs.private.Giving.{bytes_to_come};
-ghost use Rattle.line_filter.specs.private.Walk.{Ends};
+ghost use Rattle.line_filter.specs.private.Walk.{Closes, Ends};
 
-use super::device::{Reads, Untold};
+use super::device::{Reads, Writes};
 use super::judge::{Judge, JudgeItem};
 use super::line_reader::LineReader;
 use super::places::write_kept_places;
@@ -20,9 +21,13 @@ use std::alloc::Global;
 use std::io::{Read, Write};
 
 /// What a run answers once its lines have been judged.
-fn finish<F: Drop, W: Write>(progress: Progress<F>, out: &mut W) -> Result<Tally, Stop<F>>
+fn finish<F: Drop, W: Write, T: Writes<W>>(
+    progress: Progress<F>,
+    out: &mut W,
+) -> Result<Tally, Stop<F>>
     ensures answer { Ends progress result }
     ensures kept { Keeps (W.contents out.old) (W.contents out.new) }
+    ensures calls { Closes progress result (T.calls out.old) (T.calls out.new) }
 {
     let Progress {
         lines: _,
@@ -32,31 +37,8 @@ fn finish<F: Drop, W: Write>(progress: Progress<F>, out: &mut W) -> Result<Tally
     if let Some(stop) = stop {
         return Err(stop);
     }
-    match out.flush() {
+    match T::flush(out) {
         Ok(()) => Ok(tally),
-        Err(_) => Err(Stop::Write),
-    }
-}
-
-/// [`filter_reader`] over a reader of lines that is lent, by how that one's reads are told.
-fn filter_stream<R: Read, S: Reads<R>, J: Judge, W: Write>(
-    alloc: Global,
-    judge: &mut J,
-    reader: &mut LineReader<R>,
-    out: &mut W,
-) -> Result<Tally, Stop<J::Fault>>
-    requires { bytes_to_come reader.old < 2 ^ 64 - 1 }
-    ensures filters { IfOk result (λ tally. IfSome (left_of R.remaining reader.old) (λ bytes.
-        Writes (W.contents out.old) (W.contents out.new)
-        (λ text. Filters (lines (J.says judge.old) bytes) text tally))) }
-    ensures stops { IfErr result (λ stop. IfSome (left_of R.remaining reader.old) (λ bytes.
-        Writes (W.contents out.old) (W.contents out.new)
-        (λ text. Stops (lines (J.says judge.old) bytes) text stop))) }
-    ensures ended { OnOk result (IsOver reader.new) }
-    ensures same { SaysTheSame (J.says judge.old) (J.says judge.new) }
-{
-    match write_kept_stream::<R, S, J, W>(alloc, judge, reader, out) {
-        Ok(progress) => finish(progress, out),
         Err(_) => Err(Stop::Write),
     }
 }
@@ -69,26 +51,36 @@ fn filter_stream<R: Read, S: Reads<R>, J: Judge, W: Write>(
 /// flush; it comes once, where the run would be `Ok`. An interrupted call has failed. At most 2^63 - 1 bytes are read,
 /// 65,536 at a time. What is kept of the lines that came is written before more is read, or as soon as it is more than
 /// 65,536 bytes.
-pub fn filter_reader<J: Judge, R: Read + Drop, W: Write>(
+///
+/// How the devices are called, and what they tell of it, is `S` and `T`. That one failed is told only where it did, by
+/// its last call; and it is told which line did not come.
+pub fn filter_reader<R: Read, S: Reads<R>, J: Judge, W: Write, T: Writes<W>>(
     alloc: Global,
     judge: &mut J,
-    reader: R,
+    reader: &mut LineReader<R>,
     out: &mut W,
 ) -> Result<Tally, Stop<J::Fault>>
-    ensures filters { IfOk result (λ tally. IfSome (R.remaining reader) (λ bytes.
+    ensures filters { IfOk result (λ tally. IfSome (left_of R.remaining reader.old) (λ bytes.
         Writes (W.contents out.old) (W.contents out.new)
         (λ text. Filters (lines (J.says judge.old) bytes) text tally))) }
-    ensures stops { IfErr result (λ stop. IfSome (R.remaining reader) (λ bytes.
-        Writes (W.contents out.old) (W.contents out.new)
-        (λ text. Stops (lines (J.says judge.old) bytes) text stop))) }
+    ensures stops { IfErr result (λ stop. IfSome (left_of R.remaining reader.old) (λ bytes.
+        Writes (W.contents out.old) (W.contents out.new) (λ text. StopsWith (lines (J.says judge.old) bytes)
+        (LacksLine (J.says judge.old) bytes reader.new.waiting (R.remaining reader.new.reader)) text stop))) }
+    ensures ended { OnOk result (IsOver reader.new) }
+    ensures reads { MatchResult result (λ tally. StaysWell (S.calls reader.old.reader) (S.calls reader.new.reader))
+        (λ stop. ReadsUntil S.calls R.remaining reader.old reader.new stop) }
+    ensures writes { MatchResult result (λ tally. FlushesLast (T.calls out.old) (T.calls out.new))
+        (λ stop. WritesUntil (T.calls out.old) (T.calls out.new) stop) }
     ensures same { SaysTheSame (J.says judge.old) (J.says judge.new) }
 {
-    let mut lines = LineReader::new(alloc, reader);
-    filter_stream::<R, Untold, J, W>(alloc, judge, &mut lines, out)
+    match write_kept_stream::<R, S, J, W, T>(alloc, judge, reader, out) {
+        Ok(progress) => finish::<J::Fault, W, T>(progress, out),
+        Err(_) => Err(Stop::Write),
+    }
 }
 
 /// [`filter_reader`] over bytes that stand in memory, where no read can fail.
-pub fn filter_bytes<J: Judge, W: Write>(
+pub fn filter_bytes<J: Judge, W: Write, T: Writes<W>>(
     alloc: Global,
     judge: &mut J,
     bytes: &[u8],
@@ -97,12 +89,13 @@ pub fn filter_bytes<J: Judge, W: Write>(
     ensures filters { IfOk result (λ tally. Writes (W.contents out.old) (W.contents out.new)
         (λ text. Filters (lines (J.says judge.old) bytes.now) text tally)) }
     ensures stops { IfErr result (λ stop. Writes (W.contents out.old) (W.contents out.new)
-        (λ text. Stops (lines (J.says judge.old) bytes.now) text stop)) }
-    ensures unread { IfErr result (λ stop. (line : ℕ) → stop ≢ Stop.Read line) }
+        (λ text. StopsHeld (lines (J.says judge.old) bytes.now) text stop)) }
+    ensures writes { MatchResult result (λ tally. FlushesLast (T.calls out.old) (T.calls out.new))
+        (λ stop. WritesUntil (T.calls out.old) (T.calls out.new) stop) }
     ensures same { SaysTheSame (J.says judge.old) (J.says judge.new) }
 {
-    match write_kept_lines(alloc, judge, bytes, out) {
-        Ok(progress) => finish(progress, out),
+    match write_kept_lines::<J, W, T>(alloc, judge, bytes, out) {
+        Ok(progress) => finish::<J::Fault, W, T>(progress, out),
         Err(_) => Err(Stop::Write),
     }
 }
@@ -112,7 +105,7 @@ pub fn filter_bytes<J: Judge, W: Write>(
 ///
 /// The first item at fault ends the run with `Fault`, whose number is the item's place plus one. A write that fails or
 /// takes no byte is `Write`, and so is a failed flush. Up to 65,536 bytes are held back before they are written.
-pub fn filter_places<J: JudgeItem, W: Write>(
+pub fn filter_places<J: JudgeItem, W: Write, T: Writes<W>>(
     alloc: Global,
     judge: &J,
     items: &[J::Item],
@@ -121,11 +114,12 @@ pub fn filter_places<J: JudgeItem, W: Write>(
     ensures filters { IfOk result (λ tally. Writes (W.contents out.old) (W.contents out.new)
         (λ text. Filters (places (J.says judge.now) items.now) text tally)) }
     ensures stops { IfErr result (λ stop. Writes (W.contents out.old) (W.contents out.new)
-        (λ text. Stops (places (J.says judge.now) items.now) text stop)) }
-    ensures unread { IfErr result (λ stop. (line : ℕ) → stop ≢ Stop.Read line) }
+        (λ text. StopsHeld (places (J.says judge.now) items.now) text stop)) }
+    ensures writes { MatchResult result (λ tally. FlushesLast (T.calls out.old) (T.calls out.new))
+        (λ stop. WritesUntil (T.calls out.old) (T.calls out.new) stop) }
 {
-    match write_kept_places(alloc, judge, items, out) {
-        Ok(progress) => finish(progress, out),
+    match write_kept_places::<J, W, T>(alloc, judge, items, out) {
+        Ok(progress) => finish::<J::Fault, W, T>(progress, out),
         Err(_) => Err(Stop::Write),
     }
 }

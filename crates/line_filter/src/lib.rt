@@ -4,6 +4,7 @@
 #![tactic(auto)]
 
 mod buffer;
+mod calls;
 mod device;
 mod filter;
 mod finding;
@@ -15,14 +16,19 @@ mod places;
 mod split;
 mod step;
 mod stop;
+mod strategies;
 mod stream;
 mod tally;
 mod walk;
 
+pub use calls::Calls;
+pub use device::{NotRead, NotWritten, Reads, Writes};
 pub use filter::{filter_bytes, filter_places, filter_reader};
 pub use finding::{Finding, LONGEST_LINE};
 pub use judge::{Judge, JudgeItem, Judgment};
 pub use laws::{lines_stop_once, slices_tell_their_bytes};
 pub use line_reader::{LineFault, LineReader};
+pub use output::write_out;
 pub use stop::Stop;
+pub use strategies::{ByRecord, Recorded, Unfailing, Untold};
 pub use tally::Tally;

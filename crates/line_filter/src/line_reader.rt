@@ -1,16 +1,17 @@
-ghost use Rattle.std.specs.Prelude.{◌≡◌, ◌≢◌, ◌-◌, ◌<◌, ◌≤◌, ◌^◌, [], length, Ok, Err, None, MatchOption, MatchResult, IfOk, IfErr, IfSome, IfNone};
+ghost use Rattle.std.specs.Prelude.{◌≡◌, ◌≢◌, ◌↔◌, ◌-◌, ◌<◌, ◌≤◌, ◌^◌, [], length, Ok, Err, None, MatchOption, MatchResult, IfOk, IfErr, IfSome, IfNone};
 ghost use Rattle.std.specs.Borrow.{sem};
 ghost use Rattle.std.specs.Io.BufRead.{Rests};
 ghost use Rattle.std.specs.Io.KnownBytes.{Keeps, IsAtEnd};
-ghost use Rattle.line_filter.specs.private.Failures.{FailsOnce, FailsNever};
 ghost use Rattle.line_filter.specs.Lines.{longest_line, most_held};
 ghost use Rattle.line_filter.specs.LineSource.{left_of, BeginsTooLong, GivesLine, IsOver};
 ghost use Rattle.line_filter.specs.contracts.line_reader.LineReader.{the_row};
 ghost use Rattle.line_filter.specs.private.Giving.{Gives, GivesAgain, IsNoWholeLine, bytes_to_come, line_to_come};
+ghost use Rattle.line_filter.specs.private.Reading.{IsUnread, ReadsOn};
 
 use super::buffer::{Buffer, ONE_READ};
-use super::device::{Reads, Untold};
+use super::device::Reads;
 use super::finding::LONGEST_LINE;
+use super::strategies::Untold;
 use std::alloc::Global;
 use std::io::Read;
 use std::marker::Model;
@@ -98,6 +99,21 @@ impl<R: Read> LineReader<R> {
         self.buffer.held()
     }
 
+    /// The reader beneath, to look at.
+    pub fn reader(&self) -> &R
+        ensures { result.now ≡ self.now.reader }
+    {
+        &self.reader
+    }
+
+    /// How many bytes may still be given, so how many lines at the most.
+    pub(crate) fn to_come(&self) -> usize
+        ensures exact { result ≡ bytes_to_come self.now }
+        ensures few { result < 2 ^ 64 - 1 }
+    {
+        self.buffer.waiting() + self.unread
+    }
+
     /// The line that was given last, without its LF; nothing before the first one.
     pub(crate) fn line(&self) -> &[u8]
         ensures { result.now ≡ self.now.line }
@@ -111,6 +127,8 @@ impl<R: Read> LineReader<R> {
         ensures given { MatchOption result (IsNoWholeLine self.old.waiting × (self.new ≡ self.old))
             (λ next. Gives R.remaining self.old self.new next × (next ≢ Next.End)) }
         ensures reader { self.new.reader ≡ self.old.reader }
+        ensures unread { self.new.unread ≡ self.old.unread }
+        ensures none_failed { ¬ IsUnread self.new }
     {
         let length = match self.buffer.find_line_feed() {
             Some(length) => length,
@@ -136,6 +154,8 @@ impl<R: Read> LineReader<R> {
         ensures given { Gives R.remaining self.old self.new result }
         ensures again { GivesAgain self.old result }
         ensures reader { self.new.reader ≡ self.old.reader }
+        ensures unread { self.new.unread ≡ self.old.unread }
+        ensures none_failed { ¬ IsUnread self.new }
     {
         if self.buffer.waiting() == 0 {
             return Next::End;
@@ -151,6 +171,8 @@ impl<R: Read> LineReader<R> {
             (λ next. Gives R.remaining self.old self.new next) }
         ensures again { IfSome result (GivesAgain self.old) }
         ensures reader { self.new.reader ≡ self.old.reader }
+        ensures unread { self.new.unread ≡ self.old.unread }
+        ensures told { IsUnread self.new ↔ IsUnread self.old }
     {
         match self.course {
             Course::Open => self.give_held(),
@@ -167,10 +189,7 @@ impl<R: Read> LineReader<R> {
         ensures left { Keeps (left_of R.remaining self.old) (left_of R.remaining self.new) }
         ensures to_come { bytes_to_come self.new ≡ bytes_to_come self.old }
         ensures sooner { line_to_come self.new < line_to_come self.old }
-        ensures failed { self.new.course ≡ Course.Failed LineFault.Read → self.old.unread ≢ 0
-            → FailsOnce (S.failures self.old.reader) (S.failures self.new.reader) }
-        ensures well { self.new.course ≢ Course.Failed LineFault.Read
-            → FailsNever (S.failures self.old.reader) (S.failures self.new.reader) }
+        ensures reads { ReadsOn S.calls R.remaining self.old self.new }
     {
         if self.unread == 0 {
             self.course = Course::Failed(LineFault::Read);

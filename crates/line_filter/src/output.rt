@@ -1,68 +1,81 @@
-ghost use Rattle.std.specs.Prelude.{◌≡◌, [], ◌++◌, OnOk, OnErr};
+ghost use Rattle.std.specs.Prelude.{◌≡◌, ◌<◌, [], ◌++◌, length, OnOk, OnErr};
 ghost use Rattle.std.specs.Io.KnownBytes.{Appends};
-ghost use Rattle.line_filter.specs.private.HeldBack.{WritesFront, WritesBut};
+ghost use Rattle.line_filter.specs.DeviceCalls.{StaysWell, FailsLast};
+ghost use Rattle.line_filter.specs.Growth.{WritesFront};
+ghost use Rattle.line_filter.specs.private.HeldBack.{WritesBut};
 
+use super::device::{NotWritten, Writes};
 use std::io::Write;
-use thiserror::Error;
-
-/// A write failed, or took none of what it was given.
-#[derive(Debug, Drop, Error)]
-#[error("write")]
-pub struct NotWritten;
 
 /// How many bytes are held back before they are written together.
 const HELD_BACK: usize = 65_536;
 
-/// Writes all the bytes. Unlike `write_all`, it takes every error as one, an interrupted write too.
-pub fn write_out<W: Write>(out: &mut W, bytes: &[u8]) -> Result<(), NotWritten>
+/// Writes all the bytes, by as many calls as the writer wants. Unlike `write_all`, it takes every error as one, an
+/// interrupted write too, and calls nothing behind it.
+pub fn write_out<W: Write, T: Writes<W>>(out: &mut W, bytes: &[u8]) -> Result<(), NotWritten>
     ensures ok { OnOk result (Appends (W.contents out.old) (W.contents out.new) bytes.now) }
     ensures err { OnErr result (WritesFront (W.contents out.old) (W.contents out.new) bytes.now) }
+    ensures some { OnErr result (0 < length bytes.now) }
+    ensures well { OnOk result (StaysWell (T.calls out.old) (T.calls out.new)) }
+    ensures failed { OnErr result (FailsLast (T.calls out.old) (T.calls out.new)) }
 {
     let mut rest = bytes;
     while !rest.is_empty() {
-        match out.write(rest) {
-            Ok(0) => return Err(NotWritten),
-            Ok(taken) => rest = &rest[taken..],
-            Err(_) => return Err(NotWritten),
-        }
+        let taken = T::write(out, rest)?;
+        rest = &rest[taken..];
     }
     Ok(())
 }
 
 /// Writes what is held back.
-pub fn release<W: Write>(out: &mut W, held: &mut Vec<u8>) -> Result<(), NotWritten>
+pub fn release<W: Write, T: Writes<W>>(out: &mut W, held: &mut Vec<u8>) -> Result<(), NotWritten>
     ensures ok { OnOk result (Appends (W.contents out.old) (W.contents out.new) held.old.items) }
     ensures none_held { OnOk result (held.new.items ≡ []) }
     ensures err { OnErr result (WritesFront (W.contents out.old) (W.contents out.new) held.old.items) }
+    ensures some { OnErr result (0 < length held.old.items) }
+    ensures well { OnOk result (StaysWell (T.calls out.old) (T.calls out.new)) }
+    ensures failed { OnErr result (FailsLast (T.calls out.old) (T.calls out.new)) }
 {
-    write_out(out, held.as_slice())?;
+    write_out::<W, T>(out, held.as_slice())?;
     held.clear();
     Ok(())
 }
 
 /// Writes what is held back, unless so many bytes more may be held beside it.
-fn make_room<W: Write>(out: &mut W, held: &mut Vec<u8>, count: usize) -> Result<(), NotWritten>
+fn make_room<W: Write, T: Writes<W>>(
+    out: &mut W,
+    held: &mut Vec<u8>,
+    count: usize,
+) -> Result<(), NotWritten>
     ensures ok { OnOk result (WritesBut (W.contents out.old) (W.contents out.new) held.new.items held.old.items) }
     ensures err { OnErr result (WritesFront (W.contents out.old) (W.contents out.new) held.old.items) }
+    ensures well { OnOk result (StaysWell (T.calls out.old) (T.calls out.new)) }
+    ensures failed { OnErr result (FailsLast (T.calls out.old) (T.calls out.new)) }
 {
     if held.len().saturating_add(count) > HELD_BACK {
-        release(out, held)?;
+        release::<W, T>(out, held)?;
     }
     Ok(())
 }
 
 /// Holds the bytes back behind those that are held, or writes them where memory to hold them is refused.
-pub fn hold<W: Write>(out: &mut W, held: &mut Vec<u8>, bytes: &[u8]) -> Result<(), NotWritten>
+pub fn hold<W: Write, T: Writes<W>>(
+    out: &mut W,
+    held: &mut Vec<u8>,
+    bytes: &[u8],
+) -> Result<(), NotWritten>
     ensures ok { OnOk result
         (WritesBut (W.contents out.old) (W.contents out.new) held.new.items (held.old.items ++ bytes.now)) }
     ensures err { OnErr result (WritesFront (W.contents out.old) (W.contents out.new) (held.old.items ++ bytes.now)) }
+    ensures well { OnOk result (StaysWell (T.calls out.old) (T.calls out.new)) }
+    ensures failed { OnErr result (FailsLast (T.calls out.old) (T.calls out.new)) }
 {
-    make_room(out, held, bytes.len())?;
+    make_room::<W, T>(out, held, bytes.len())?;
     match held.extend_from_slice(bytes) {
         Ok(()) => Ok(()),
         Err(_) => {
-            release(out, held)?;
-            write_out(out, bytes)
+            release::<W, T>(out, held)?;
+            write_out::<W, T>(out, bytes)
         }
     }
 }

@@ -1,13 +1,15 @@
-ghost use Rattle.std.specs.Prelude.{◌≡◌, ℕ, List, [], decimal, IfOk, IfSome, OnErr};
+ghost use Rattle.std.specs.Prelude.{◌≡◌, ℕ, List, [], decimal, IfOk, IfSome, OnErr, OnOk};
+ghost use Rattle.line_filter.specs.DeviceCalls.{StaysWell, FailsLast};
 ghost use Rattle.line_filter.specs.Growth.{Writes};
 ghost use Rattle.line_filter.specs.Kept.{StopsWithin};
 ghost use Rattle.line_filter.specs.Places.{IsJudged, places};
 ghost use Rattle.line_filter.specs.private.HeldBack.{WritesBut};
 ghost use Rattle.line_filter.specs.private.Walk.{GoesOver, IsOfItem};
 
+use super::device::{NotWritten, Writes};
 use super::finding::Finding;
 use super::judge::JudgeItem;
-use super::output::{NotWritten, release};
+use super::output::release;
 use super::step::{Step, settle};
 use super::tally::Tally;
 use super::walk::Progress;
@@ -24,7 +26,7 @@ fn find_item<J: JudgeItem>(judge: &J, item: &J::Item) -> Result<Finding<J::Fault
 }
 
 /// Judges the items one by one up to the first fault. The end of the kept text may be held back.
-fn judge_items<J: JudgeItem, W: Write>(
+fn judge_items<J: JudgeItem, W: Write, T: Writes<W>>(
     judge: &J,
     items: &[J::Item],
     out: &mut W,
@@ -37,6 +39,8 @@ fn judge_items<J: JudgeItem, W: Write>(
     ensures of_item { IfOk result (λ progress. IfSome progress.stop IsOfItem) }
     ensures err { OnErr result
         (Writes (W.contents out.old) (W.contents out.new) (StopsWithin (places (J.says judge.now) items.now))) }
+    ensures well { OnOk result (StaysWell (T.calls out.old) (T.calls out.new)) }
+    ensures failed { OnErr result (FailsLast (T.calls out.old) (T.calls out.new)) }
 {
     let mut place = 0;
     let mut tally = Tally { rows: 0, kept: 0 };
@@ -44,7 +48,7 @@ fn judge_items<J: JudgeItem, W: Write>(
         let found = find_item(judge, item);
         let mut buffer = Buffer::new();
         let text = buffer.format(place);
-        match settle(found, text.as_bytes(), place + 1, out, held)? {
+        match settle::<J::Fault, W, T>(found, text.as_bytes(), place + 1, out, held)? {
             Step::Passed(one) => {
                 place += 1;
                 tally.rows += one.rows;
@@ -69,7 +73,7 @@ fn judge_items<J: JudgeItem, W: Write>(
 }
 
 /// Judges the items up to the first fault, and writes the places of the kept ones.
-pub fn write_kept_places<J: JudgeItem, W: Write>(
+pub fn write_kept_places<J: JudgeItem, W: Write, T: Writes<W>>(
     alloc: Global,
     judge: &J,
     items: &[J::Item],
@@ -80,9 +84,11 @@ pub fn write_kept_places<J: JudgeItem, W: Write>(
     ensures of_item { IfOk result (λ progress. IfSome progress.stop IsOfItem) }
     ensures err { OnErr result
         (Writes (W.contents out.old) (W.contents out.new) (StopsWithin (places (J.says judge.now) items.now))) }
+    ensures well { OnOk result (StaysWell (T.calls out.old) (T.calls out.new)) }
+    ensures failed { OnErr result (FailsLast (T.calls out.old) (T.calls out.new)) }
 {
     let mut held = Vec::new(alloc);
-    let progress = judge_items(judge, items, out, &mut held)?;
-    release(out, &mut held)?;
+    let progress = judge_items::<J, W, T>(judge, items, out, &mut held)?;
+    release::<W, T>(out, &mut held)?;
     Ok(progress)
 }

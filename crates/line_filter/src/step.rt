@@ -1,13 +1,16 @@
 ghost use Rattle.std.specs.Prelude.{◌≡◌, ◌++◌, Ok, IfOk, OnOk, OnErr};
 ghost use Rattle.line_filter.specs.declared.judge.Judgment.{Judgment as JudgmentModel};
 ghost use Rattle.line_filter.specs.declared.finding.Finding.{Finding as FindingModel};
+ghost use Rattle.line_filter.specs.DeviceCalls.{StaysWell, FailsLast};
 ghost use Rattle.line_filter.specs.Lines.{text_of_line};
-ghost use Rattle.line_filter.specs.private.HeldBack.{WritesFront, WritesBut};
+ghost use Rattle.line_filter.specs.Growth.{WritesFront};
+ghost use Rattle.line_filter.specs.private.HeldBack.{WritesBut};
 ghost use Rattle.line_filter.specs.private.Walk.{step_of, text_where_kept};
 
+use super::device::{NotWritten, Writes};
 use super::finding::Finding;
 use super::judge::Judgment;
-use super::output::{NotWritten, hold};
+use super::output::hold;
 use super::stop::Stop;
 use super::tally::Tally;
 use std::alloc::AllocError;
@@ -21,19 +24,25 @@ pub enum Step<F> {
 }
 
 /// Writes the text and then LF.
-fn keep<W: Write>(out: &mut W, held: &mut Vec<u8>, text: &[u8]) -> Result<(), NotWritten>
+fn keep<W: Write, T: Writes<W>>(
+    out: &mut W,
+    held: &mut Vec<u8>,
+    text: &[u8],
+) -> Result<(), NotWritten>
     ensures ok { OnOk result
         (WritesBut (W.contents out.old) (W.contents out.new) held.new.items (held.old.items ++ text_of_line text.now)) }
     ensures err { OnErr result
         (WritesFront (W.contents out.old) (W.contents out.new) (held.old.items ++ text_of_line text.now)) }
+    ensures well { OnOk result (StaysWell (T.calls out.old) (T.calls out.new)) }
+    ensures failed { OnErr result (FailsLast (T.calls out.old) (T.calls out.new)) }
 {
-    hold(out, held, text)?;
-    hold(out, held, b"\n")
+    hold::<W, T>(out, held, text)?;
+    hold::<W, T>(out, held, b"\n")
 }
 
 /// What becomes of the item of this number, of which that was found. Where it is kept, the text is written and then LF:
 /// of a line that is the line itself.
-pub fn settle<F: Drop, W: Write>(
+pub fn settle<F: Drop, W: Write, T: Writes<W>>(
     found: Result<Finding<F>, AllocError>,
     text: &[u8],
     number: u64,
@@ -46,6 +55,8 @@ pub fn settle<F: Drop, W: Write>(
     ensures kept { OnErr result (found ≡ Ok (FindingModel.Judged JudgmentModel.Kept)) }
     ensures err { OnErr result
         (WritesFront (W.contents out.old) (W.contents out.new) (held.old.items ++ text_of_line text.now)) }
+    ensures well { OnOk result (StaysWell (T.calls out.old) (T.calls out.new)) }
+    ensures failed { OnErr result (FailsLast (T.calls out.old) (T.calls out.new)) }
 {
     let judgment = match found {
         Ok(Finding::TooLong) => return Ok(Step::Stopped(Stop::TooLong { line: number })),
@@ -55,7 +66,7 @@ pub fn settle<F: Drop, W: Write>(
     };
     match judgment {
         Judgment::Kept => {
-            keep(out, held, text)?;
+            keep::<W, T>(out, held, text)?;
             Ok(Step::Passed(Tally { rows: 1, kept: 1 }))
         }
         Judgment::LeftOut => Ok(Step::Passed(Tally { rows: 1, kept: 0 })),

@@ -1,17 +1,20 @@
-ghost use Rattle.std.specs.Prelude.{◌≡◌, ℕ, ◌+◌, ◌-◌, ◌<◌, ◌^◌, List, [], IfOk, IfSome, IfNone, OnOk, OnErr};
-ghost use Rattle.line_filter.specs.Growth.{Writes};
+ghost use Rattle.std.specs.Prelude.{◌≡◌, ℕ, ◌+◌, ◌-◌, ◌<◌, ◌^◌, List, [], IfOk, IfSome, IfNone, MatchOption, OnOk, OnErr};
+ghost use Rattle.line_filter.specs.DeviceCalls.{StaysWell, FailsLast};
+ghost use Rattle.line_filter.specs.Growth.{Writes, WritesFront};
 ghost use Rattle.line_filter.specs.Kept.{StopsWithin};
 ghost use Rattle.line_filter.specs.LineItems.{lines, SaysTheSame};
 ghost use Rattle.line_filter.specs.LineSource.{left_of, IsOver};
+ghost use Rattle.line_filter.specs.LineStreams.{ReadsUntil};
 ghost use Rattle.line_filter.specs.private.Giving.{Gives, GivesAgain, bytes_to_come};
-ghost use Rattle.line_filter.specs.private.HeldBack.{WritesBut, WritesFront};
-ghost use Rattle.line_filter.specs.private.Walk.{Goes, fault_stop};
+ghost use Rattle.line_filter.specs.private.HeldBack.{WritesBut};
+ghost use Rattle.line_filter.specs.private.Reading.{IsUnread, ReadsOn};
+ghost use Rattle.line_filter.specs.private.Walk.{GoesOn, IsUnwritten, fault_stop};
 
-use super::device::Reads;
+use super::device::{NotWritten, Reads, Writes};
 use super::finding::find;
 use super::judge::Judge;
 use super::line_reader::{LineFault, LineReader, Next};
-use super::output::{NotWritten, release};
+use super::output::release;
 use super::step::{Step, settle};
 use super::stop::Stop;
 use super::tally::Tally;
@@ -20,7 +23,7 @@ use std::alloc::Global;
 use std::io::{Read, Write};
 
 /// Goes to the next line, if there is one. Before each read what is held back is written.
-fn next_line<R: Read, S: Reads<R>, W: Write>(
+fn next_line<R: Read, S: Reads<R>, W: Write, T: Writes<W>>(
     reader: &mut LineReader<R>,
     out: &mut W,
     held: &mut Vec<u8>,
@@ -29,12 +32,18 @@ fn next_line<R: Read, S: Reads<R>, W: Write>(
     ensures again { IfOk result (GivesAgain reader.old) }
     ensures ok { OnOk result (WritesBut (W.contents out.old) (W.contents out.new) held.new.items held.old.items) }
     ensures err { OnErr result (WritesFront (W.contents out.old) (W.contents out.new) held.old.items) }
+    ensures none_held { OnOk result (IsUnread reader.new → (IsUnread reader.old → held.old.items ≡ [])
+        → held.new.items ≡ []) }
+    ensures reads { OnOk result (ReadsOn S.calls R.remaining reader.old reader.new) }
+    ensures read_well { OnErr result (StaysWell (S.calls reader.old.reader) (S.calls reader.new.reader)) }
+    ensures well { OnOk result (StaysWell (T.calls out.old) (T.calls out.new)) }
+    ensures failed { OnErr result (FailsLast (T.calls out.old) (T.calls out.new)) }
 {
     loop {
         match reader.give() {
             Some(next) => return Ok(next),
             None => {
-                release(out, held)?;
+                release::<W, T>(out, held)?;
                 reader.read_more::<S>(held.as_slice());
             }
         }
@@ -53,7 +62,7 @@ fn fault_stop<F>(fault: LineFault, line: u64) -> Stop<F>
 }
 
 /// Judges the lines one by one as they come, up to the first fault. The end of the kept text may be held back.
-fn judge_stream<R: Read, S: Reads<R>, J: Judge, W: Write>(
+fn judge_stream<R: Read, S: Reads<R>, J: Judge, W: Write, T: Writes<W>>(
     judge: &mut J,
     reader: &mut LineReader<R>,
     out: &mut W,
@@ -63,16 +72,26 @@ fn judge_stream<R: Read, S: Reads<R>, J: Judge, W: Write>(
     requires few { bytes_to_come reader.old < 2 ^ 64 - 1 }
     ensures ok { IfOk result (λ progress. IfSome (left_of R.remaining reader.old) (λ bytes. (text : List ℕ)
         × WritesBut (W.contents out.old) (W.contents out.new) held.new.items text
-        × Goes (J.says judge.old) bytes text progress)) }
+        × GoesOn (J.says judge.old) bytes reader.new.waiting (R.remaining reader.new.reader) text progress)) }
     ensures ended { IfOk result (λ progress. IfNone progress.stop (IsOver reader.new)) }
     ensures err { OnErr result (IfSome (left_of R.remaining reader.old) (λ bytes.
         Writes (W.contents out.old) (W.contents out.new) (StopsWithin (lines (J.says judge.old) bytes)))) }
+    ensures reads { IfOk result (λ progress. MatchOption progress.stop
+        (StaysWell (S.calls reader.old.reader) (S.calls reader.new.reader))
+        (λ stop. ReadsUntil S.calls R.remaining reader.old reader.new stop)) }
+    ensures read_well { OnErr result (StaysWell (S.calls reader.old.reader) (S.calls reader.new.reader)) }
+    ensures none_failed { OnOk result (¬ IsUnread reader.new
+        → StaysWell (S.calls reader.old.reader) (S.calls reader.new.reader)) }
+    ensures none_held { OnOk result (IsUnread reader.new → held.new.items ≡ []) }
+    ensures unwritten { IfOk result (λ progress. IfSome progress.stop IsUnwritten) }
+    ensures well { OnOk result (StaysWell (T.calls out.old) (T.calls out.new)) }
+    ensures failed { OnErr result (FailsLast (T.calls out.old) (T.calls out.new)) }
     ensures same { SaysTheSame (J.says judge.old) (J.says judge.new) }
 {
     let mut lines = 0;
     let mut tally = Tally { rows: 0, kept: 0 };
     loop {
-        match next_line::<R, S, W>(reader, out, held)? {
+        match next_line::<R, S, W, T>(reader, out, held)? {
             Next::Line => {}
             Next::End => {
                 let stop = None;
@@ -85,7 +104,7 @@ fn judge_stream<R: Read, S: Reads<R>, J: Judge, W: Write>(
         }
         let line = reader.line();
         let found = find(judge, line);
-        match settle(found, line, lines + 1, out, held)? {
+        match settle::<J::Fault, W, T>(found, line, lines + 1, out, held)? {
             Step::Passed(one) => {
                 lines += 1;
                 tally.rows += one.rows;
@@ -100,22 +119,30 @@ fn judge_stream<R: Read, S: Reads<R>, J: Judge, W: Write>(
 }
 
 /// Judges the lines as they come up to the first fault, and writes the kept ones.
-pub fn write_kept_stream<R: Read, S: Reads<R>, J: Judge, W: Write>(
+pub fn write_kept_stream<R: Read, S: Reads<R>, J: Judge, W: Write, T: Writes<W>>(
     alloc: Global,
     judge: &mut J,
     reader: &mut LineReader<R>,
     out: &mut W,
 ) -> Result<Progress<J::Fault>, NotWritten>
-    requires { bytes_to_come reader.old < 2 ^ 64 - 1 }
     ensures ok { IfOk result (λ progress. IfSome (left_of R.remaining reader.old) (λ bytes.
-        Writes (W.contents out.old) (W.contents out.new) (λ text. Goes (J.says judge.old) bytes text progress))) }
+        Writes (W.contents out.old) (W.contents out.new)
+        (λ text. GoesOn (J.says judge.old) bytes reader.new.waiting (R.remaining reader.new.reader) text progress))) }
     ensures ended { IfOk result (λ progress. IfNone progress.stop (IsOver reader.new)) }
     ensures err { OnErr result (IfSome (left_of R.remaining reader.old) (λ bytes.
         Writes (W.contents out.old) (W.contents out.new) (StopsWithin (lines (J.says judge.old) bytes)))) }
+    ensures reads { IfOk result (λ progress. MatchOption progress.stop
+        (StaysWell (S.calls reader.old.reader) (S.calls reader.new.reader))
+        (λ stop. ReadsUntil S.calls R.remaining reader.old reader.new stop)) }
+    ensures read_well { OnErr result (StaysWell (S.calls reader.old.reader) (S.calls reader.new.reader)) }
+    ensures unwritten { IfOk result (λ progress. IfSome progress.stop IsUnwritten) }
+    ensures well { OnOk result (StaysWell (T.calls out.old) (T.calls out.new)) }
+    ensures failed { OnErr result (FailsLast (T.calls out.old) (T.calls out.new)) }
     ensures same { SaysTheSame (J.says judge.old) (J.says judge.new) }
 {
+    let _ = reader.to_come();
     let mut held = Vec::new(alloc);
-    let progress = judge_stream::<R, S, J, W>(judge, reader, out, &mut held)?;
-    release(out, &mut held)?;
+    let progress = judge_stream::<R, S, J, W, T>(judge, reader, out, &mut held)?;
+    release::<W, T>(out, &mut held)?;
     Ok(progress)
 }

@@ -1,13 +1,15 @@
-ghost use Rattle.std.specs.Prelude.{◌≡◌, ℕ, ◌≤◌, List, [], length, IfOk, IfSome, OnErr};
+ghost use Rattle.std.specs.Prelude.{◌≡◌, ℕ, ◌≤◌, List, [], length, IfOk, IfSome, OnErr, OnOk};
+ghost use Rattle.line_filter.specs.DeviceCalls.{StaysWell, FailsLast};
 ghost use Rattle.line_filter.specs.Growth.{Writes};
 ghost use Rattle.line_filter.specs.Kept.{StopsWithin};
 ghost use Rattle.line_filter.specs.LineItems.{lines, SaysTheSame};
 ghost use Rattle.line_filter.specs.private.HeldBack.{WritesBut};
 ghost use Rattle.line_filter.specs.private.Walk.{Goes, IsOfItem};
 
+use super::device::{NotWritten, Writes};
 use super::finding::find;
 use super::judge::Judge;
-use super::output::{NotWritten, release};
+use super::output::release;
 use super::split::first_line;
 use super::step::{Step, settle};
 use super::stop::Stop;
@@ -24,7 +26,7 @@ pub struct Progress<F> {
 }
 
 /// Judges the lines one by one up to the first fault. The end of the kept text may be held back.
-fn judge_lines<J: Judge, W: Write>(
+fn judge_lines<J: Judge, W: Write, T: Writes<W>>(
     judge: &mut J,
     bytes: &[u8],
     out: &mut W,
@@ -39,6 +41,8 @@ fn judge_lines<J: Judge, W: Write>(
     ensures err { OnErr result
         (Writes (W.contents out.old) (W.contents out.new) (StopsWithin (lines (J.says judge.old) bytes.now))) }
     ensures same { SaysTheSame (J.says judge.old) (J.says judge.new) }
+    ensures well { OnOk result (StaysWell (T.calls out.old) (T.calls out.new)) }
+    ensures failed { OnErr result (FailsLast (T.calls out.old) (T.calls out.new)) }
 {
     let mut rest = bytes;
     let mut lines = 0;
@@ -46,7 +50,7 @@ fn judge_lines<J: Judge, W: Write>(
     while !rest.is_empty() {
         let (line, after) = first_line(rest);
         let found = find(judge, line);
-        match settle(found, line, lines + 1, out, held)? {
+        match settle::<J::Fault, W, T>(found, line, lines + 1, out, held)? {
             Step::Passed(one) => {
                 lines += 1;
                 tally.rows += one.rows;
@@ -64,7 +68,7 @@ fn judge_lines<J: Judge, W: Write>(
 }
 
 /// Judges the lines of the bytes up to the first fault, and writes the kept ones.
-pub fn write_kept_lines<J: Judge, W: Write>(
+pub fn write_kept_lines<J: Judge, W: Write, T: Writes<W>>(
     alloc: Global,
     judge: &mut J,
     bytes: &[u8],
@@ -77,9 +81,11 @@ pub fn write_kept_lines<J: Judge, W: Write>(
     ensures err { OnErr result
         (Writes (W.contents out.old) (W.contents out.new) (StopsWithin (lines (J.says judge.old) bytes.now))) }
     ensures same { SaysTheSame (J.says judge.old) (J.says judge.new) }
+    ensures well { OnOk result (StaysWell (T.calls out.old) (T.calls out.new)) }
+    ensures failed { OnErr result (FailsLast (T.calls out.old) (T.calls out.new)) }
 {
     let mut held = Vec::new(alloc);
-    let progress = judge_lines(judge, bytes, out, &mut held)?;
-    release(out, &mut held)?;
+    let progress = judge_lines::<J, W, T>(judge, bytes, out, &mut held)?;
+    release::<W, T>(out, &mut held)?;
     Ok(progress)
 }

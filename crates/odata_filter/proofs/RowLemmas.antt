@@ -1,4 +1,6 @@
 pub mod Collections
+pub mod DeviceCalls
+pub mod LinesOpen
 pub mod RowLineJudges
 pub mod OneFault
 pub mod OneJudgment

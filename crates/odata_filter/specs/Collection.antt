@@ -5,7 +5,7 @@ use Rattle.serde_json.specs.Find.{as_array, get}
 use Rattle.serde_json.specs.View.{items_of}
 use Rattle.edm_values.specs.MomentParts.{MomentParts}
 use Rattle.csdl_schema.specs.JsonText.{IsJsonOf, IsNoJson}
-use Rattle.line_filter.specs.Kept.{Items, StopsBefore}
+use Rattle.line_filter.specs.Kept.{Items, StopsOn}
 use Rattle.line_filter.specs.Places.{Placed, places}
 use Rattle.odata_filter.specs.declared.bad_row.BadRow.{BadRow}
 use Rattle.odata_filter.specs.declared.run_fault.RunFault.{RunFault}
@@ -41,7 +41,7 @@ OfCollection filter now document P =
 abbrev pub StopsCollection : Filter → MomentParts → List ℕ → List ℕ → RunFault → Type 0
 StopsCollection filter now document text RunFault.NotACollection = IsNoCollection document × (text ≡ [])
 StopsCollection filter now document text (RunFault.Memory line) =
-    ((line ≡ 0) × (text ≡ [])) ⊎ OfCollection filter now document (λ items. StopsBefore items text line)
+    ((line ≡ 0) × (text ≡ [])) ⊎ OfCollection filter now document (λ items. StopsOn items text line)
 StopsCollection filter now document text (RunFault.Row line fault) =
     OfCollection filter now document (λ items. StopsBy items text (RunFault.Row line fault))
 StopsCollection filter now document text (RunFault.Arithmetic line fault) =

@@ -28,14 +28,17 @@ pub use Rattle.odata_eval.specs.Outcome
 pub use Rattle.odata_eval.specs.VerdictView
 pub use Rattle.odata_checked_filter.specs.Filter
 pub use Rattle.odata_expression_types.specs.HasTyping
+pub use Rattle.line_filter.specs.DeviceCalls
 pub use Rattle.line_filter.specs.Growth
 pub use Rattle.line_filter.specs.Kept
 pub use Rattle.line_filter.specs.LineItems
 pub use Rattle.line_filter.specs.Lines
 pub use Rattle.line_filter.specs.LineSource
+pub use Rattle.line_filter.specs.LineStreams
 pub use Rattle.line_filter.specs.Places
 pub mod RowJudgment
 pub mod RunStops
+pub mod DeviceFaults
 pub mod Collection
 pub mod RowsOnce
 pub mod Planned

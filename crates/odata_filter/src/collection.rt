@@ -1,8 +1,10 @@
-ghost use Rattle.std.specs.Prelude.{◌≡◌, IfOk, IfErr, option_map};
+ghost use Rattle.std.specs.Prelude.{◌≡◌, IfOk, IfErr, MatchResult, option_map};
 ghost use Rattle.serde_json.specs.View.{items_view, view};
+ghost use Rattle.line_filter.specs.DeviceCalls.{FlushesLast};
 ghost use Rattle.line_filter.specs.Growth.{Writes};
 ghost use Rattle.line_filter.specs.Kept.{Filters};
 ghost use Rattle.odata_filter.specs.Collection.{OfCollection, StopsCollection, array_of};
+ghost use Rattle.odata_filter.specs.DeviceFaults.{WritesUntilFault};
 ghost use Rattle.odata_filter.specs.RowJudgment.{JudgesValue};
 ghost use Rattle.odata_filter.specs.private.DocumentFaults.{IsUnjudgedBy};
 ghost use Rattle.csdl_schema.specs.JsonText.{IsJsonOf};
@@ -11,7 +13,7 @@ use crate::bad_row::BadRow;
 use crate::row_judge::RowJudge;
 use crate::run_fault::{RunFault, run_fault};
 use edm_values::Moment;
-use line_filter::{JudgeItem, Judgment, Tally, filter_places};
+use line_filter::{JudgeItem, Judgment, Tally, Untold, Writes, filter_places};
 use odata_typing::Checked;
 use serde_json::Value;
 use std::alloc::{AllocError, Global};
@@ -53,6 +55,40 @@ fn read_document(alloc: Global, document: &[u8]) -> Result<Value, RunFault>
     }
 }
 
+/// [`filter_collection`], by how the writer's calls are told. It tells that the writer failed only where it did.
+pub fn filter_collection_by<W: Write, T: Writes<W>>(
+    alloc: Global,
+    checked: &Checked<'_>,
+    now: &Moment,
+    document: &[u8],
+    out: &mut W,
+) -> Result<Tally, RunFault>
+    ensures filters { IfOk result (λ tally. Writes (W.contents out.old) (W.contents out.new)
+        (λ text. OfCollection checked.now now.now document.now (λ items. Filters items text tally))) }
+    ensures stops { IfErr result (λ fault. Writes (W.contents out.old) (W.contents out.new)
+        (λ text. StopsCollection checked.now now.now document.now text fault)) }
+    ensures writes { MatchResult result (λ tally. FlushesLast (T.calls out.old) (T.calls out.new))
+        (λ fault. WritesUntilFault (T.calls out.old) (T.calls out.new) fault) }
+{
+    let json = match read_document(alloc, document) {
+        Ok(json) => json,
+        Err(fault) => return Err(fault),
+    };
+    let items = match array_of(&json) {
+        Some(items) => items,
+        None => return Err(RunFault::NotACollection),
+    };
+    let judge = RowJudge {
+        alloc,
+        checked,
+        moment: now,
+    };
+    match filter_places::<RowJudge<'_, '_>, W, T>(alloc, &judge, items, out) {
+        Ok(tally) => Ok(tally),
+        Err(stop) => Err(run_fault(stop)),
+    }
+}
+
 /// Reads a collection of entities, a JSON object whose member `value` is an array of them, and writes the place of each
 /// whose outcome is true, counted from 0, in decimal and followed by LF.
 ///
@@ -71,21 +107,5 @@ pub fn filter_collection<W: Write>(
     ensures stops { IfErr result (λ fault. Writes (W.contents out.old) (W.contents out.new)
         (λ text. StopsCollection checked.now now.now document.now text fault)) }
 {
-    let json = match read_document(alloc, document) {
-        Ok(json) => json,
-        Err(fault) => return Err(fault),
-    };
-    let items = match array_of(&json) {
-        Some(items) => items,
-        None => return Err(RunFault::NotACollection),
-    };
-    let judge = RowJudge {
-        alloc,
-        checked,
-        moment: now,
-    };
-    match filter_places(alloc, &judge, items, out) {
-        Ok(tally) => Ok(tally),
-        Err(stop) => Err(run_fault(stop)),
-    }
+    filter_collection_by::<W, Untold>(alloc, checked, now, document, out)
 }

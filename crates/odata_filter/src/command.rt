@@ -5,4 +5,5 @@ pub(crate) mod laws;
 pub(crate) mod planner;
 mod rows;
 pub(crate) mod runner;
+mod telling;
 mod whole;

@@ -1,16 +1,48 @@
-ghost use Rattle.std.specs.Prelude.{◌≢◌, ℕ, IfOk, IfErr, IfSome};
+ghost use Rattle.std.specs.Prelude.{◌≡◌, ◌≢◌, ℕ, Err, IfOk, IfErr, IfSome, MatchResult, OnOk};
+ghost use Rattle.line_filter.specs.DeviceCalls.{FlushesLast, StaysWell};
 ghost use Rattle.line_filter.specs.Growth.{Grows, Writes};
-ghost use Rattle.line_filter.specs.Kept.{Filters};
+ghost use Rattle.line_filter.specs.Kept.{Filters, StopsOn};
+ghost use Rattle.line_filter.specs.LineSource.{IsOver, left_of};
+ghost use Rattle.odata_filter.specs.DeviceFaults.{ReadsUntilFault, StopsLines, WritesUntilFault};
 ghost use Rattle.odata_filter.specs.RowJudgment.{rows_of};
 ghost use Rattle.odata_filter.specs.RunStops.{StopsBy};
 
 use crate::row_line_judge::RowLineJudge;
 use crate::run_fault::{RunFault, run_fault};
 use edm_values::Moment;
-use line_filter::{Tally, filter_bytes, filter_reader};
+use line_filter::{LineReader, Reads, Tally, Untold, Writes, filter_bytes, filter_reader};
 use odata_typing::Checked;
 use std::alloc::Global;
 use std::io::{Read, Write};
+
+/// [`filter_lines`] over a reader of lines that is lent, by how its reads and the writer's calls are told.
+///
+/// It tells which line did not come, and that a device failed only where one did.
+pub fn filter_lines_by<R: Read, S: Reads<R>, W: Write, T: Writes<W>>(
+    alloc: Global,
+    checked: &Checked<'_>,
+    now: &Moment,
+    rows: &mut LineReader<R>,
+    out: &mut W,
+) -> Result<Tally, RunFault>
+    ensures filters { IfOk result (λ tally. IfSome (left_of R.remaining rows.old) (λ bytes.
+        Writes (W.contents out.old) (W.contents out.new)
+        (λ text. Filters (rows_of checked.now now.now bytes) text tally))) }
+    ensures stops { IfErr result (λ fault. IfSome (left_of R.remaining rows.old) (λ bytes.
+        Writes (W.contents out.old) (W.contents out.new)
+        (λ text. StopsLines checked.now now.now bytes rows.new.waiting (R.remaining rows.new.reader) text fault))) }
+    ensures ended { OnOk result (IsOver rows.new) }
+    ensures reads { MatchResult result (λ tally. StaysWell (S.calls rows.old.reader) (S.calls rows.new.reader))
+        (λ fault. ReadsUntilFault S.calls R.remaining rows.old rows.new fault) }
+    ensures writes { MatchResult result (λ tally. FlushesLast (T.calls out.old) (T.calls out.new))
+        (λ fault. WritesUntilFault (T.calls out.old) (T.calls out.new) fault) }
+{
+    let mut judge = RowLineJudge::new(alloc, checked, now);
+    match filter_reader::<R, S, RowLineJudge<'_, '_>, W, T>(alloc, &mut judge, rows, out) {
+        Ok(tally) => Ok(tally),
+        Err(stop) => Err(run_fault(stop)),
+    }
+}
 
 /// Reads rows, one JSON object a line, and writes those whose outcome is true, unchanged and each followed by LF.
 ///
@@ -32,11 +64,8 @@ pub fn filter_lines<R: Read + Drop, W: Write>(
         Writes (W.contents out.old) (W.contents out.new)
         (λ text. StopsBy (rows_of checked.now now.now bytes) text fault))) }
 {
-    let mut judge = RowLineJudge::new(alloc, checked, now);
-    match filter_reader(alloc, &mut judge, rows, out) {
-        Ok(tally) => Ok(tally),
-        Err(stop) => Err(run_fault(stop)),
-    }
+    let mut lines = LineReader::new(alloc, rows);
+    filter_lines_by::<R, Untold, W, Untold>(alloc, checked, now, &mut lines, out)
 }
 
 /// [`filter_lines`] over rows that stand in memory. What it writes goes behind what `out` has already.
@@ -52,9 +81,11 @@ pub fn filter_slice(
     ensures stops { IfErr result (λ fault. Grows out.old.items out.new.items
         (λ text. StopsBy (rows_of checked.now now.now rows.now) text fault)) }
     ensures unread { IfErr result (λ fault. (line : ℕ) → fault ≢ RunFault.Read line) }
+    ensures memory { (line : ℕ) → result ≡ Err (RunFault.Memory line) → Grows out.old.items out.new.items
+        (λ text. StopsOn (rows_of checked.now now.now rows.now) text line) }
 {
     let mut judge = RowLineJudge::new(alloc, checked, now);
-    match filter_bytes(alloc, &mut judge, rows, out) {
+    match filter_bytes::<RowLineJudge<'_, '_>, Vec<u8>, Untold>(alloc, &mut judge, rows, out) {
         Ok(tally) => Ok(tally),
         Err(stop) => Err(run_fault(stop)),
     }

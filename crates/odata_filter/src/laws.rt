@@ -1,5 +1,10 @@
 //! Laws of rows, as contracts of functions that do nothing but cite others.
-ghost use Rattle.std.specs.Prelude.{◌≡◌, ℕ, List};
+ghost use Rattle.std.specs.Prelude.{◌≡◌, ◌<◌, ℕ, List, Option, Some, length};
+ghost use Rattle.line_filter.specs.declared.calls.Calls.{Calls};
+ghost use Rattle.line_filter.specs.declared.line_reader.Course.{Course};
+ghost use Rattle.line_filter.specs.declared.line_reader.LineFault.{LineFault};
+ghost use Rattle.line_filter.specs.LineSource.{LineSource};
+ghost use Rattle.odata_filter.specs.DeviceFaults.{ReadsUntilFault, WritesUntilFault};
 ghost use Rattle.line_filter.specs.Kept.{Filters};
 ghost use Rattle.line_filter.specs.declared.judge.Judgment.{Judgment};
 ghost use Rattle.line_filter.specs.declared.tally.Tally.{Tally};
@@ -37,3 +42,13 @@ pub fn rows_stop_once(alloc: Global, checked: &Checked<'_>, now: &Moment)
     let judge = RowLineJudge::new(alloc, checked, now);
     lines_stop_once(&judge);
 }
+
+/// Of a writer that tells that it never fails `Write` is not said. Of such a reader `Read` is said only where it had as
+/// many bytes as may be read, or where it had been said before.
+pub fn unfailing_devices_never_fail<R>()
+    ensures write { ¬ (WritesUntilFault Calls.Unfailing Calls.Unfailing RunFault.Write) }
+    ensures read { (remaining : R → Option (List ℕ)) (old new : LineSource R) (bytes : List ℕ) (line : ℕ)
+        → ReadsUntilFault (λ reader. Calls.Unfailing) remaining old new (RunFault.Read line)
+        → remaining old.reader ≡ Some bytes → length bytes < old.unread
+        → old.course ≡ Course.Failed LineFault.Read }
+{}

@@ -11,12 +11,15 @@ mod row_line_judge;
 mod run_fault;
 
 pub use bad_row::BadRow;
-pub use collection::filter_collection;
+pub use collection::{filter_collection, filter_collection_by};
 pub use command::command_line;
 pub use command::laws::worked_lines;
 pub use command::planner::plan;
 pub use command::runner::run;
-pub use filter::{filter_lines, filter_slice};
-pub use laws::rows_stop_once;
-pub use line_filter::{LineFault, LineReader, Tally, slices_tell_their_bytes};
+pub use filter::{filter_lines, filter_lines_by, filter_slice};
+pub use laws::{rows_stop_once, unfailing_devices_never_fail};
+pub use line_filter::{
+    ByRecord, Calls, LineFault, LineReader, NotRead, NotWritten, Reads, Recorded, Tally, Unfailing,
+    Untold, Writes, slices_tell_their_bytes,
+};
 pub use run_fault::RunFault;

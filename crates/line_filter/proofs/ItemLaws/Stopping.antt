@@ -1,7 +1,7 @@
 -- Where a run over items stops.
-use Rattle.std.proofs.Common.{◌≡◌, ℕ, ◌+◌, List, [], ◌∷◌, ◌++◌, length, refl, subst, append_assoc, Result, Ok, Err}
+use Rattle.std.proofs.Common.{◌≡◌, ℕ, ◌+◌, List, [], ◌∷◌, ◌++◌, length, inl, inr, refl, subst, append_assoc, Result, Ok, Err}
 use Rattle.std.specs.Prelude.{IfOk}
-use Rattle.line_filter.specs.Kept.{Items, Passes, StopsAt, StopsBefore, StopsWithin, Stops}
+use Rattle.line_filter.specs.Kept.{Items, Passes, StopsAt, StopsOn, StopsWithin, StopsWith}
 use Rattle.line_filter.specs.private.Walk.{step_of, text_where_kept, IsOfItem}
 use Rattle.line_filter.specs.declared.judge.Judgment.{Judgment}
 use Rattle.line_filter.specs.declared.finding.Finding.{Finding}
@@ -37,14 +37,14 @@ text_where_stopped number (Ok (Finding.Judged Judgment.LeftOut)) stop text step 
 text_where_stopped number (Ok (Finding.Judged (Judgment.Fault fault))) stop text step = refl
 text_where_stopped number (Err e) stop text step = refl
 
-module _ {X F : Type 0} (items : Items X F) where
+module _ {X F : Type 0} (items : Items X F) (Lacks : List ℕ → ℕ → Type 0) where
   -- the items before this one are those that passed
   pub Stops-one : {E : Type 0} (before after : List X) (item : X) (text : List ℕ) (tally : Tally) (number : ℕ) (found : Result (Finding F) E) (stop : Stop F)
       → items.all ≡ before ++ item ∷ after → items.CameWhole before → Passes items.sieve before text tally → number ≡ length before + 1
-      → IfOk found (items.sieve.finds item) → step_of number found ≡ Step.Stopped stop → Stops items text stop
+      → IfOk found (items.sieve.finds item) → step_of number found ≡ Step.Stopped stop → StopsWith items Lacks text stop
   Stops-one before after item text tally number (Ok Finding.TooLong) stop whole came passes counted finds step =
       let same : Stop.TooLong number ≡ stop = cc in
-      subst (Stops items text) same (record {
+      subst (StopsWith items Lacks text) same (record {
         before = before;
         bad = item;
         after = after;
@@ -59,7 +59,7 @@ module _ {X F : Type 0} (items : Items X F) where
   Stops-one before after item text tally number (Ok (Finding.Judged Judgment.LeftOut)) stop whole came passes counted finds step = absurd cc
   Stops-one before after item text tally number (Ok (Finding.Judged (Judgment.Fault fault))) stop whole came passes counted finds step =
       let same : Stop.Fault number fault ≡ stop = cc in
-      subst (Stops items text) same (record {
+      subst (StopsWith items Lacks text) same (record {
         before = before;
         bad = item;
         after = after;
@@ -71,16 +71,18 @@ module _ {X F : Type 0} (items : Items X F) where
       })
   Stops-one before after item text tally number (Err e) stop whole came passes counted finds step =
       let same : Stop.Memory number ≡ stop = cc in
-      subst (Stops items text) same (record {
+      subst (StopsWith items Lacks text) same (inr (record {
         before = before;
-        after = item ∷ after;
+        here = item;
+        after = after;
         tally = tally;
         whole = whole;
         came_whole = came;
         counted = counted;
         passes = passes;
-      })
+      }))
 
+module _ {X F : Type 0} (items : Items X F) where
   -- ---- of the text that was to be written, a beginning was
 
   StopsAt-within : (text rest : List ℕ) (number : ℕ) (finding : Finding F) → StopsAt items (text ++ rest) number finding → StopsWithin items text
@@ -93,10 +95,10 @@ module _ {X F : Type 0} (items : Items X F) where
     passes = stop.passes;
   }
 
-  StopsBefore-within : (text rest : List ℕ) (number : ℕ) → StopsBefore items (text ++ rest) number → StopsWithin items text
-  StopsBefore-within text rest number stop = record {
+  StopsOn-within : (text rest : List ℕ) (number : ℕ) → StopsOn items (text ++ rest) number → StopsWithin items text
+  StopsOn-within text rest number stop = record {
     before = stop.before;
-    after = stop.after;
+    after = stop.here ∷ stop.after;
     tally = stop.tally;
     unwritten = rest;
     whole = stop.whole;
@@ -123,9 +125,12 @@ module _ {X F : Type 0} (items : Items X F) where
     passes = subst (λ l. Passes items.sieve stop.before l stop.tally) (append_assoc text rest stop.unwritten) stop.passes;
   }
 
-  pub Stops-within : (text rest : List ℕ) (stop : Stop F) → Stops items (text ++ rest) stop → StopsWithin items text
-  Stops-within text rest (Stop.Fault line fault) stop = StopsAt-within text rest line _ stop
-  Stops-within text rest (Stop.TooLong line) stop = StopsAt-within text rest line _ stop
-  Stops-within text rest (Stop.Read line) stop = StopsBefore-within text rest line stop
-  Stops-within text rest Stop.Write stop = StopsWithin-within text rest stop
-  Stops-within text rest (Stop.Memory line) stop = StopsBefore-within text rest line stop
+  module _ (Lacks : List ℕ → ℕ → Type 0) where
+    pub StopsWith-within : ((text rest : List ℕ) (number : ℕ) → Lacks (text ++ rest) number → StopsWithin items text)
+        → (text rest : List ℕ) (stop : Stop F) → StopsWith items Lacks (text ++ rest) stop → StopsWithin items text
+    StopsWith-within short text rest (Stop.Fault line fault) stop = StopsAt-within text rest line _ stop
+    StopsWith-within short text rest (Stop.TooLong line) stop = StopsAt-within text rest line _ stop
+    StopsWith-within short text rest (Stop.Read line) stop = short text rest line stop
+    StopsWith-within short text rest Stop.Write stop = StopsWithin-within text rest stop
+    StopsWith-within short text rest (Stop.Memory line) (inl stop) = short text rest line stop
+    StopsWith-within short text rest (Stop.Memory line) (inr stop) = StopsOn-within text rest line stop

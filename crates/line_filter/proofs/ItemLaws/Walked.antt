@@ -2,9 +2,9 @@
 use Rattle.std.proofs.Common.{◌≡◌, ℕ, ◌+◌, List, [], ◌∷◌, ◌++◌, length, refl, sym, ap, ◌∙◌, subst, append_assoc, append-nil, length-append, Result, Ok}
 use Rattle.std.specs.Prelude.{Option, IfOk}
 use Rattle.std.proofs.KnownBytes.{Appends-nil, Appends-trans}
-use Rattle.line_filter.specs.Growth.{Writes}
-use Rattle.line_filter.specs.Kept.{Items, Filters, Passes, StopsWithin, Stops}
-use Rattle.line_filter.specs.private.HeldBack.{WritesFront, WritesBut}
+use Rattle.line_filter.specs.Growth.{Writes, WritesFront}
+use Rattle.line_filter.specs.Kept.{Items, Filters, Passes, StopsWithin, StopsWith}
+use Rattle.line_filter.specs.private.HeldBack.{WritesBut}
 use Rattle.line_filter.specs.private.Walk.{sum_of, step_of, text_where_kept}
 use Rattle.line_filter.specs.declared.judge.Judgment.{Judgment}
 use Rattle.line_filter.specs.declared.finding.Finding.{Finding}
@@ -84,11 +84,11 @@ module _ {X F E : Type 0} (items : Items X F) (item : X) (rest after : List X) (
       (first_text ++ second_text, Appends-trans a b c first_text second_text wrote more, stop)
 
   -- the run stops at it
-  pub HasWalked-stopped : (stop : Stop F) → items.CameWhole so_far.before → WritesBut b c h₂ (h₁ ++ text_where_kept found (items.sieve.text_of item)) → step_of (passed + 1) found ≡ Step.Stopped stop
-      → (text : List ℕ) × WritesBut a c h₂ text × Stops items text stop
-  HasWalked-stopped stop came more step =
+  pub HasWalked-stopped : (Lacks : List ℕ → ℕ → Type 0) (stop : Stop F) → items.CameWhole so_far.before → WritesBut b c h₂ (h₁ ++ text_where_kept found (items.sieve.text_of item)) → step_of (passed + 1) found ≡ Step.Stopped stop
+      → (text : List ℕ) × WritesBut a c h₂ text × StopsWith items Lacks text stop
+  HasWalked-stopped Lacks stop came more step =
       let text = text_where_kept found (items.sieve.text_of item) in
       let holds = WritesBut-more a b c h₁ h₂ so_far.text text so_far.holds more in
       let same : so_far.text ++ text ≡ so_far.text = ap (λ l. so_far.text ++ l) (text_where_stopped (passed + 1) found stop (items.sieve.text_of item) step) ∙ append-nil so_far.text in
-      let stops = Stops-one items so_far.before after item so_far.text tally (passed + 1) found stop whole came so_far.passes (ap (λ k. k + 1) so_far.counted) finds step in
+      let stops = Stops-one items Lacks so_far.before after item so_far.text tally (passed + 1) found stop whole came so_far.passes (ap (λ k. k + 1) so_far.counted) finds step in
       (so_far.text, subst (WritesBut a c h₂) same holds, stops)

@@ -2,11 +2,11 @@
 use Rattle.std.proofs.Common.{◌≡◌, ℕ, ◌+◌, List, [], ◌∷◌, ◌++◌, refl, sym, ap, ◌∙◌, append_assoc, append-nil, Result, Ok}
 use Rattle.std.specs.Prelude.{Option, IfOk}
 use Rattle.std.proofs.lemmas.Grind.{flat_map-append}
-use Rattle.line_filter.specs.Growth.{Writes}
-use Rattle.line_filter.specs.Kept.{StopsWithin, Stops}
+use Rattle.line_filter.specs.Growth.{Writes, WritesFront}
+use Rattle.line_filter.specs.Kept.{StopsWithin, StopsWith}
 use Rattle.line_filter.specs.LineItems.{LineJudge, IsFoundOf, lines}
 use Rattle.line_filter.specs.Lines.{lines_of, text_of_line, text_of_lines}
-use Rattle.line_filter.specs.private.HeldBack.{WritesFront, WritesBut}
+use Rattle.line_filter.specs.private.HeldBack.{WritesBut}
 use Rattle.line_filter.specs.private.Walk.{sum_of, step_of, text_where_kept}
 use Rattle.line_filter.specs.declared.judge.Judgment.{Judgment}
 use Rattle.line_filter.specs.declared.finding.Finding.{Finding}
@@ -47,7 +47,7 @@ module _ {F E : Type 0} (judge : LineJudge F) (bytes line rest after : List ℕ)
   HasPassed-failed = HasWalked-failed (lines judge bytes) line (lines_of rest) (lines_of after) a b c h₁ h₂ passed tally found first finds so_far.walked
 
   -- the run stops at it
-  pub HasPassed-stopped : (stop : Stop F) → goes_on → WritesBut b c h₂ (h₁ ++ text_where_kept found (line ++ 10 ∷ [])) → step_of (passed + 1) found ≡ Step.Stopped stop
-      → (text : List ℕ) × WritesBut a c h₂ text × Stops (lines judge bytes) text stop
-  HasPassed-stopped stop some =
-      HasWalked-stopped (lines judge bytes) line (lines_of rest) (lines_of after) a b c h₁ h₂ passed tally found first finds so_far.walked stop (rest, so_far.complete some)
+  pub HasPassed-stopped : (Lacks : List ℕ → ℕ → Type 0) (stop : Stop F) → goes_on → WritesBut b c h₂ (h₁ ++ text_where_kept found (line ++ 10 ∷ [])) → step_of (passed + 1) found ≡ Step.Stopped stop
+      → (text : List ℕ) × WritesBut a c h₂ text × StopsWith (lines judge bytes) Lacks text stop
+  HasPassed-stopped Lacks stop some =
+      HasWalked-stopped (lines judge bytes) line (lines_of rest) (lines_of after) a b c h₁ h₂ passed tally found first finds so_far.walked Lacks stop (rest, so_far.complete some)

@@ -1,11 +1,11 @@
 -- The walk over the items of a list, one place after the other.
 use Rattle.std.proofs.Common.{◌≡◌, ℕ, ◌+◌, ◌<◌, List, ◌++◌, get_or, drop, length, decimal, ap, ◌∙◌, subst, Result, Ok}
 use Rattle.std.specs.Prelude.{Option, IfOk}
-use Rattle.line_filter.specs.Growth.{Writes}
-use Rattle.line_filter.specs.Kept.{StopsWithin, Stops}
+use Rattle.line_filter.specs.Growth.{Writes, WritesFront}
+use Rattle.line_filter.specs.Kept.{StopsWithin, StopsHeld}
 use Rattle.line_filter.specs.Lines.{text_of_line}
 use Rattle.line_filter.specs.Places.{ItemJudge, IsJudged, Placed, placed_from, places}
-use Rattle.line_filter.specs.private.HeldBack.{WritesFront, WritesBut}
+use Rattle.line_filter.specs.private.HeldBack.{WritesBut}
 use Rattle.line_filter.specs.private.Walk.{sum_of, step_of, text_where_kept}
 use Rattle.line_filter.specs.declared.judge.Judgment.{Judgment}
 use Rattle.line_filter.specs.declared.finding.Finding.{Finding}
@@ -40,7 +40,7 @@ module _ {X F E : Type 0} (judge : ItemJudge X F) (items : List X) (index place 
       (subst (λ t. WritesFront b c (h₁ ++ text_of_line t)) told more)
 
   pub HasPlaced-stopped : (stop : Stop F) → WritesBut b c h₂ (h₁ ++ text_where_kept found (text_of_line text)) → step_of (place + 1) found ≡ Step.Stopped stop
-      → (kept : List ℕ) × WritesBut a c h₂ kept × Stops (places judge items) kept stop
+      → (kept : List ℕ) × WritesBut a c h₂ kept × StopsHeld (places judge items) kept stop
   HasPlaced-stopped stop more step =
-      HasWalked-stopped (places judge items) here (left index) (left (index + 1)) a b c h₁ h₂ place tally found (placed_next items index item within is) finds so_far stop tt
+      HasWalked-stopped (places judge items) here (left index) (left (index + 1)) a b c h₁ h₂ place tally found (placed_next items index item within is) finds so_far (λ text line. ⊥) stop tt
       (subst (λ t. WritesBut b c h₂ (h₁ ++ text_where_kept found (text_of_line t))) told more) step

@@ -1,5 +1,5 @@
 -- What a reader of lines gives, by what it holds.
-use Rattle.std.proofs.Common.{◌≡◌, ℕ, ◌+◌, ◌-◌, ◌<◌, ◌≤◌, List, [], ◌∷◌, ◌++◌, length, take, drop, None, Some, IfSome, Option, inl, inr, ◌⊎◌, sym, ap, ◌∙◌, subst, arith, append-nil, length-drop, length-take-le}
+use Rattle.std.proofs.Common.{◌≡◌, ◌≢◌, All, ℕ, ◌+◌, ◌-◌, ◌<◌, ◌≤◌, List, [], ◌∷◌, ◌++◌, length, take, drop, None, Some, IfSome, Option, inl, inr, ◌⊎◌, refl, sym, ap, ◌∙◌, subst, arith, append-nil, length-drop, length-take-le}
 use Rattle.std.specs.Io.KnownBytes.{Keeps, IsAtEnd, prepend_known}
 use Rattle.std.proofs.KnownBytes.{Keeps-refl, Keeps-trans}
 use Rattle.memchr.specs.Find.{NoneBefore, Passes, is_byte}
@@ -8,7 +8,7 @@ use Rattle.line_filter.specs.declared.line_reader.Course.{Course}
 use Rattle.line_filter.specs.declared.line_reader.Next.{Next}
 use Rattle.line_filter.specs.Lines.{longest_line}
 use Rattle.line_filter.specs.LineSource.{LineSource, left_of, IsFirstLine, BeginsTooLong, WhereKnown, IsOver}
-use Rattle.line_filter.specs.private.Giving.{IsNoWholeLine, IsLongBy, IsGiven, IsFault, Gives, GivesAgain, bytes_to_come}
+use Rattle.line_filter.specs.private.Giving.{IsNoWholeLine, IsLongBy, IsGoing, IsGiven, IsFault, Gives, GivesAgain, bytes_to_come}
 use Rattle.line_filter.proofs.ReaderLaws.FirstLine.{first_by_feed, whole_by_feed, first_at_end}
 
 -- what holds whatever the reader still has
@@ -27,9 +27,9 @@ known_last (Some more) ws P end p = subst (λ l. P (ws ++ l) l) (sym end) (subst
 
 module _ {R : Type 0} (remaining : R → Option (List ℕ)) (old new : LineSource R) (same : new.reader ≡ old.reader) where
   -- the first LF stands behind so many bytes
-  pub given_by_feed : (n : ℕ) → new.unread ≡ old.unread → new.line ≡ take n old.waiting → new.waiting ≡ drop (n + 1) old.waiting → n ≤ longest_line
+  pub given_by_feed : (n : ℕ) → IsGoing new.course → new.unread ≡ old.unread → new.line ≡ take n old.waiting → new.waiting ≡ drop (n + 1) old.waiting → n ≤ longest_line
       → NoneBefore (Passes (is_byte 10) old.waiting) 0 (length old.waiting) n → Passes (is_byte 10) old.waiting n → IsGiven remaining old new
-  given_by_feed n unread line waiting short found is =
+  given_by_feed n going unread line waiting short found is =
       let high = found.high in
       let known = remaining old.reader in
       let first = known_both known old.waiting (drop (n + 1) old.waiting) (λ bytes rest. IsFirstLine bytes (take n old.waiting) rest) (λ more. first_by_feed old.waiting more n found is) in
@@ -41,6 +41,7 @@ module _ {R : Type 0} (remaining : R → Option (List ℕ)) (old new : LineSourc
         short = omega arith;
         whole = inr (rw (same, line, waiting) whole);
         fewer = omega arith;
+        going = going;
       }
 
   -- the reader is at its end
@@ -56,15 +57,18 @@ module _ {R : Type 0} (remaining : R → Option (List ℕ)) (old new : LineSourc
         short = omega arith;
         whole = inl (course, waiting);
         fewer = omega arith;
+        going = subst IsGoing (sym course) tt;
       }
 
   left_kept : new.waiting ≡ old.waiting → Keeps (left_of remaining old) (left_of remaining new)
   left_kept waiting = rw (same, waiting) (Keeps-refl (left_of remaining old))
 
   -- a fault that is told, or told again
-  pub fault_told : (fault : LineFault) → new.waiting ≡ old.waiting → new.course ≡ Course.Failed fault → (fault ≡ LineFault.TooLong → IsLongBy old.waiting) → IsFault remaining old new fault
-  fault_told fault waiting course long = record {
+  pub fault_told : (fault : LineFault) → new.waiting ≡ old.waiting → new.course ≡ Course.Failed fault → (fault ≡ LineFault.TooLong → IsLongBy old.waiting)
+      → (fault ≢ LineFault.TooLong → IsNoWholeLine old.waiting) → IsFault remaining old new fault
+  fault_told fault waiting course long unended = record {
     long = λ is. known_one (remaining old.reader) old.waiting BeginsTooLong (long is);
+    unended = λ not. let none = unended not in subst (All (λ b. b ≢ 10)) (sym waiting) none.0;
     failed = course;
     left = left_kept waiting;
   }
@@ -103,6 +107,7 @@ module _ {R : Type 0} (remaining : R → Option (List ℕ)) (a b c : LineSource 
     short = given.short;
     whole = whole_after given.whole;
     fewer = to_come_trans a b c same given.fewer;
+    going = given.going;
   }
   Gives-after Next.End end = record {
     none_left = end_after (left_of remaining a) (left_of remaining b) kept end.none_left;
@@ -111,6 +116,7 @@ module _ {R : Type 0} (remaining : R → Option (List ℕ)) (a b c : LineSource 
   }
   Gives-after (Next.Fault fault) failed = record {
     long = λ is. known_one_after (left_of remaining a) (left_of remaining b) BeginsTooLong kept (failed.long is);
+    unended = failed.unended;
     failed = failed.failed;
     left = Keeps-trans (left_of remaining a) (left_of remaining b) (left_of remaining c) kept failed.left;
   }
@@ -121,3 +127,10 @@ GivesAgain-open source next open_now = record {
   over = λ over. let end = over.0 in absurd cc;
   failed = λ fault failed. absurd cc;
 }
+
+-- after a fault but TooLong no whole line waits
+pub not_ended : (fault : LineFault) (waiting : List ℕ) (course : Course) → course ≡ Course.Failed fault → (course ≡ Course.Failed LineFault.Read → IsNoWholeLine waiting)
+    → (course ≡ Course.Failed LineFault.Memory → IsNoWholeLine waiting) → fault ≢ LineFault.TooLong → IsNoWholeLine waiting
+not_ended LineFault.TooLong waiting course is read memory not = absurd (not refl)
+not_ended LineFault.Read waiting course is read memory not = read is
+not_ended LineFault.Memory waiting course is read memory not = memory is

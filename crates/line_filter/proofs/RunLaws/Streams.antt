@@ -1,15 +1,16 @@
 -- The walk over the lines of a reader, where what it had is known.
-use Rattle.std.proofs.Common.{◌≡◌, ℕ, ◌+◌, List, [], ◌∷◌, ◌++◌, length, Option, None, Some, Result, Ok, inl, inr, ◌⊎◌, refl, sym, ap, ◌∙◌, subst, append_assoc}
+use Rattle.std.proofs.Common.{◌≡◌, ◌≢◌, All, ℕ, ◌+◌, List, [], ◌∷◌, ◌++◌, length, Option, None, Some, Result, Ok, inl, inr, ◌⊎◌, refl, sym, ap, ◌∙◌, subst, append_assoc}
 use Rattle.std.specs.Prelude.{IfOk, IfSome}
-use Rattle.std.specs.Io.KnownBytes.{IsAtEnd, Appends}
+use Rattle.std.specs.Io.KnownBytes.{IsAtEnd, Appends, Keeps, prepend_known}
 use Rattle.std.proofs.KnownBytes.{Appends-trans}
-use Rattle.line_filter.specs.Growth.{Writes}
-use Rattle.line_filter.specs.Kept.{Items, Filters, StopsWithin, Stops}
+use Rattle.line_filter.specs.Growth.{Writes, WritesFront}
+use Rattle.line_filter.specs.Kept.{Items, Filters, StopsWithin, StopsWith}
 use Rattle.line_filter.specs.LineItems.{LineJudge, IsFoundOf, lines}
-use Rattle.line_filter.specs.Lines.{lines_of}
+use Rattle.line_filter.specs.Lines.{lines_of, text_of_lines}
+use Rattle.line_filter.specs.LineStreams.{LacksLine}
 use Rattle.line_filter.specs.LineSource.{IsFirstLine, BeginsTooLong, WhereKnown}
-use Rattle.line_filter.specs.private.HeldBack.{WritesFront, WritesBut}
-use Rattle.line_filter.specs.private.Walk.{sum_of, step_of, text_where_kept, fault_stop, Goes}
+use Rattle.line_filter.specs.private.HeldBack.{WritesBut}
+use Rattle.line_filter.specs.private.Walk.{sum_of, step_of, text_where_kept, fault_stop, GoesOn}
 use Rattle.line_filter.specs.declared.judge.Judgment.{Judgment}
 use Rattle.line_filter.specs.declared.finding.Finding.{Finding}
 use Rattle.line_filter.specs.declared.line_reader.LineFault.{LineFault}
@@ -20,7 +21,8 @@ use Rattle.line_filter.proofs.ItemLaws.Stopping.{Passes-within}
 use Rattle.line_filter.proofs.ItemLaws.Walked.{HasWalked, HasWalked-end}
 use Rattle.line_filter.proofs.LineLaws.Walked.{HasPassed, HasPassed-none, HasPassed-more, HasPassed-failed, HasPassed-stopped}
 use Rattle.line_filter.specs.declared.walk.Progress.{Progress}
-use Rattle.line_filter.proofs.RunLaws.Answers.{Goes-failed}
+use Rattle.line_filter.proofs.RunLaws.Answers.{GoesWith-failed}
+use Rattle.line_filter.proofs.RunLaws.Lacking.{LacksLine-within}
 use Rattle.line_filter.proofs.WriteLaws.HeldBack.{WritesBut-written}
 
 -- what is held back was written in part, and of it a beginning is written
@@ -93,57 +95,55 @@ module _ {F : Type 0} (judge : LineJudge F) where
   HasCome-end (Some bytes) (Some rest) goes_on u v held passed tally so_far none = HasPassed-end bytes rest goes_on u v held passed tally so_far none
 
   -- the next line does not come
-  HasPassed-fault : (bytes rest : List ℕ) (goes_on : Type 0) (u v : Option (List ℕ)) (held : List ℕ) (passed : ℕ) (tally : Tally) (fault : LineFault)
-      → HasPassed judge bytes rest goes_on u v held passed tally → goes_on → (fault ≡ LineFault.TooLong → BeginsTooLong rest)
-      → (text : List ℕ) × WritesBut u v held text × Stops (lines judge bytes) text (fault_stop fault (passed + 1))
-  HasPassed-fault bytes rest goes_on u v held passed tally LineFault.TooLong so_far more long =
-      let (line, after, first, far) = long refl in (
-        so_far.walked.text,
-        so_far.walked.holds,
-        record {
-          before = so_far.walked.before;
-          bad = line;
-          after = after;
-          tally = tally;
-          whole = so_far.walked.whole ∙ ap (λ l. so_far.walked.before ++ l) first;
-          counted = ap (λ k. k + 1) so_far.walked.counted;
-          passes = so_far.walked.passes;
-          found = far;
-        },
-      )
-  HasPassed-fault bytes rest goes_on u v held passed tally LineFault.Read so_far more long = (
-    so_far.walked.text,
-    so_far.walked.holds,
-    record {
+  module _ (waiting : List ℕ) where
+    HasPassed-lacks : (bytes rest more : List ℕ) (goes_on : Type 0) (u v : Option (List ℕ)) (held : List ℕ) (passed : ℕ) (tally : Tally)
+        → (so_far : HasPassed judge bytes rest goes_on u v held passed tally) → goes_on → waiting ++ more ≡ rest → All (λ b. b ≢ 10) waiting
+        → LacksLine judge bytes waiting (Some more) so_far.walked.text (passed + 1)
+    HasPassed-lacks bytes rest more goes_on u v held passed tally so_far some same unended = record {
       before = so_far.walked.before;
-      after = lines_of rest;
+      rest = more;
       tally = tally;
-      whole = so_far.walked.whole;
-      came_whole = (rest, so_far.complete more);
+      left = refl;
+      came = so_far.complete some ∙ ap (λ l. text_of_lines so_far.walked.before ++ l) (sym same);
+      lines = so_far.walked.whole ∙ ap (λ l. so_far.walked.before ++ lines_of l) (sym same);
+      unended = unended;
       counted = ap (λ k. k + 1) so_far.walked.counted;
       passes = so_far.walked.passes;
-    },
-  )
-  HasPassed-fault bytes rest goes_on u v held passed tally LineFault.Memory so_far more long = (
-    so_far.walked.text,
-    so_far.walked.holds,
-    record {
-      before = so_far.walked.before;
-      after = lines_of rest;
-      tally = tally;
-      whole = so_far.walked.whole;
-      came_whole = (rest, so_far.complete more);
-      counted = ap (λ k. k + 1) so_far.walked.counted;
-      passes = so_far.walked.passes;
-    },
-  )
+    }
 
-  pub HasCome-fault : (a r : Option (List ℕ)) (goes_on : Type 0) (u v : Option (List ℕ)) (held : List ℕ) (passed : ℕ) (tally : Tally) (fault : LineFault)
-      → HasCome a r goes_on u v held passed tally → goes_on → (fault ≡ LineFault.TooLong → IfSome r BeginsTooLong)
-      → IfSome a (λ bytes. (text : List ℕ) × WritesBut u v held text × Stops (lines judge bytes) text (fault_stop fault (passed + 1)))
-  HasCome-fault None r goes_on u v held passed tally fault so_far more long = tt
-  HasCome-fault (Some bytes) None goes_on u v held passed tally fault so_far more long = absurd so_far
-  HasCome-fault (Some bytes) (Some rest) goes_on u v held passed tally fault so_far more long = HasPassed-fault bytes rest goes_on u v held passed tally fault so_far more long
+    HasPassed-fault : (bytes rest more : List ℕ) (goes_on : Type 0) (u v : Option (List ℕ)) (held : List ℕ) (passed : ℕ) (tally : Tally) (fault : LineFault)
+        → HasPassed judge bytes rest goes_on u v held passed tally → goes_on → waiting ++ more ≡ rest → (fault ≢ LineFault.TooLong → All (λ b. b ≢ 10) waiting)
+        → (fault ≡ LineFault.TooLong → BeginsTooLong rest)
+        → (text : List ℕ) × WritesBut u v held text × StopsWith (lines judge bytes) (LacksLine judge bytes waiting (Some more)) text (fault_stop fault (passed + 1))
+    HasPassed-fault bytes rest more goes_on u v held passed tally LineFault.TooLong so_far some same unended long =
+        let (line, after, first, far) = long refl in (
+          so_far.walked.text,
+          so_far.walked.holds,
+          record {
+            before = so_far.walked.before;
+            bad = line;
+            after = after;
+            tally = tally;
+            whole = so_far.walked.whole ∙ ap (λ l. so_far.walked.before ++ l) first;
+            counted = ap (λ k. k + 1) so_far.walked.counted;
+            passes = so_far.walked.passes;
+            found = far;
+          },
+        )
+    HasPassed-fault bytes rest more goes_on u v held passed tally LineFault.Read so_far some same unended long =
+        (so_far.walked.text, so_far.walked.holds, HasPassed-lacks bytes rest more goes_on u v held passed tally so_far some same (unended (λ e. cc)))
+    HasPassed-fault bytes rest more goes_on u v held passed tally LineFault.Memory so_far some same unended long =
+        (so_far.walked.text, so_far.walked.holds, inl (HasPassed-lacks bytes rest more goes_on u v held passed tally so_far some same (unended (λ e. cc))))
+
+    pub HasCome-fault : (a r known : Option (List ℕ)) (goes_on : Type 0) (u v : Option (List ℕ)) (held : List ℕ) (passed : ℕ) (tally : Tally) (fault : LineFault)
+        → HasCome a r goes_on u v held passed tally → goes_on → Keeps r (prepend_known waiting known) → (fault ≢ LineFault.TooLong → All (λ b. b ≢ 10) waiting)
+        → (fault ≡ LineFault.TooLong → IfSome r BeginsTooLong)
+        → IfSome a (λ bytes. (text : List ℕ) × WritesBut u v held text × StopsWith (lines judge bytes) (LacksLine judge bytes waiting known) text (fault_stop fault (passed + 1)))
+    HasCome-fault None r known goes_on u v held passed tally fault so_far some kept unended long = tt
+    HasCome-fault (Some bytes) None known goes_on u v held passed tally fault so_far some kept unended long = absurd so_far
+    HasCome-fault (Some bytes) (Some rest) None goes_on u v held passed tally fault so_far some kept unended long = absurd kept
+    HasCome-fault (Some bytes) (Some rest) (Some more) goes_on u v held passed tally fault so_far some kept unended long =
+        HasPassed-fault bytes rest more goes_on u v held passed tally fault so_far some kept unended long
 
 -- ---- a line is given
 
@@ -165,14 +165,14 @@ module _ {F E : Type 0} (judge : LineJudge F) (line : List ℕ) (goes_on : Type 
       HasPassed-more judge bytes line rest after goes_on u v w h₁ h₂ passed tally found first.first finds so_far one (Over → ⊥) (behind Over rest after whole) more wrote step
 
   -- the run stops at it
-  pub HasCome-stopped : (a r s : Option (List ℕ)) (stop : Stop F) → HasCome judge a r goes_on u v h₁ passed tally → WhereKnown r s (λ rest after. IsFirstLine rest line after)
+  pub HasCome-stopped : (waiting : List ℕ) (known a r s : Option (List ℕ)) (stop : Stop F) → HasCome judge a r goes_on u v h₁ passed tally → WhereKnown r s (λ rest after. IsFirstLine rest line after)
       → WritesBut v w h₂ (h₁ ++ text_where_kept found (line ++ 10 ∷ [])) → step_of (passed + 1) found ≡ Step.Stopped stop
-      → IfSome a (λ bytes. (text : List ℕ) × WritesBut u w h₂ text × Stops (lines judge bytes) text stop)
-  HasCome-stopped None r s stop so_far first wrote step = tt
-  HasCome-stopped (Some bytes) None s stop so_far first wrote step = absurd so_far
-  HasCome-stopped (Some bytes) (Some rest) None stop so_far first wrote step = absurd first
-  HasCome-stopped (Some bytes) (Some rest) (Some after) stop so_far first wrote step =
-      HasPassed-stopped judge bytes line rest after goes_on u v w h₁ h₂ passed tally found first.first finds so_far stop more wrote step
+      → IfSome a (λ bytes. (text : List ℕ) × WritesBut u w h₂ text × StopsWith (lines judge bytes) (LacksLine judge bytes waiting known) text stop)
+  HasCome-stopped waiting known None r s stop so_far first wrote step = tt
+  HasCome-stopped waiting known (Some bytes) None s stop so_far first wrote step = absurd so_far
+  HasCome-stopped waiting known (Some bytes) (Some rest) None stop so_far first wrote step = absurd first
+  HasCome-stopped waiting known (Some bytes) (Some rest) (Some after) stop so_far first wrote step =
+      HasPassed-stopped judge bytes line rest after goes_on u v w h₁ h₂ passed tally found first.first finds so_far (LacksLine judge bytes waiting known) stop more wrote step
 
   -- it is kept, and not all of it could be written
   pub HasCome-failed : (a r s : Option (List ℕ)) → HasCome judge a r goes_on u v h₁ passed tally → WhereKnown r s (λ rest after. IsFirstLine rest line after)
@@ -185,13 +185,14 @@ module _ {F E : Type 0} (judge : LineJudge F) (line : List ℕ) (goes_on : Type 
 
 -- ---- what is held back at the end could not be written
 
-module _ {F : Type 0} (judge : LineJudge F) where
-  pub left_unwritten : (a u v w : Option (List ℕ)) (held : List ℕ) (progress : Progress F) → IfSome a (λ bytes. (text : List ℕ) × WritesBut u v held text × Goes judge bytes text progress)
+module _ {F : Type 0} (judge : LineJudge F) (waiting : List ℕ) (known : Option (List ℕ)) where
+  pub left_unwritten : (a u v w : Option (List ℕ)) (held : List ℕ) (progress : Progress F) → IfSome a (λ bytes. (text : List ℕ) × WritesBut u v held text × GoesOn judge bytes waiting known text progress)
       → WritesFront v w held → IfSome a (λ bytes. Writes u w (StopsWithin (lines judge bytes)))
   left_unwritten None u v w held progress goes failed = tt
-  left_unwritten (Some bytes) u v w held progress (text, holds, goes) failed = Goes-failed (lines judge bytes) progress u v w held text holds goes failed
+  left_unwritten (Some bytes) u v w held progress (text, holds, goes) failed =
+      GoesWith-failed (lines judge bytes) (LacksLine judge bytes waiting known) (LacksLine-within judge bytes waiting known) progress u v w held text holds goes failed
 
-  pub left_written : (a u v w : Option (List ℕ)) (held : List ℕ) (progress : Progress F) → IfSome a (λ bytes. (text : List ℕ) × WritesBut u v held text × Goes judge bytes text progress)
-      → Appends v w held → IfSome a (λ bytes. Writes u w (λ text. Goes judge bytes text progress))
+  pub left_written : (a u v w : Option (List ℕ)) (held : List ℕ) (progress : Progress F) → IfSome a (λ bytes. (text : List ℕ) × WritesBut u v held text × GoesOn judge bytes waiting known text progress)
+      → Appends v w held → IfSome a (λ bytes. Writes u w (λ text. GoesOn judge bytes waiting known text progress))
   left_written None u v w held progress goes wrote = tt
   left_written (Some bytes) u v w held progress (text, holds, goes) wrote = (text, WritesBut-written u v w held text holds wrote, goes)

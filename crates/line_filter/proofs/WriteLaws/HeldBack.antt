@@ -3,7 +3,8 @@ use Rattle.std.proofs.Common.{◌≡◌, ℕ, ◌-◌, List, [], ◌++◌, lengt
 use Rattle.std.proofs.lemmas.List.{take_rest}
 use Rattle.std.specs.Io.KnownBytes.{Appends}
 use Rattle.std.proofs.KnownBytes.{Appends-trans, Appends-nil}
-use Rattle.line_filter.specs.private.HeldBack.{WritesFront, WritesBut}
+use Rattle.line_filter.specs.Growth.{WritesFront}
+use Rattle.line_filter.specs.private.HeldBack.{WritesBut}
 
 -- a write took the first n of the rest
 pub split_at : (whole done rest : List ℕ) (n : ℕ) → whole ≡ done ++ rest → whole ≡ (done ++ take n rest) ++ take (length rest - n) (drop n rest)

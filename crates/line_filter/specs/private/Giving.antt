@@ -28,6 +28,12 @@ to_come_by _ waiting = 0
 abbrev pub line_to_come : {R : Type 0} → LineSource R → ℕ
 line_to_come source = to_come_by source.course (length source.waiting)
 
+-- it is open or at its end
+abbrev pub IsGoing : Course → Type 0
+IsGoing Course.Open = Unit {0}
+IsGoing Course.AtEnd = Unit {0}
+IsGoing (Course.Failed fault) = ⊥
+
 -- A line is given: the first one of what was left. It is not over-long, and an LF stands behind it, unless all is given
 -- then.
 pub record IsGiven {R : Type 0} (remaining : R → Option (List ℕ)) (old new : LineSource R) : Type 0 where
@@ -36,6 +42,7 @@ pub record IsGiven {R : Type 0} (remaining : R → Option (List ℕ)) (old new :
   pub whole : IsOver new
       ⊎ WhereKnown (left_of remaining old) (left_of remaining new) (λ bytes rest. bytes ≡ new.line ++ 10 ∷ rest)
   pub fewer : bytes_to_come new < bytes_to_come old
+  pub going : IsGoing new.course
 
 -- Nothing was left, and the end is told from now on.
 pub record IsEnd {R : Type 0} (remaining : R → Option (List ℕ)) (old new : LineSource R) : Type 0 where
@@ -43,10 +50,12 @@ pub record IsEnd {R : Type 0} (remaining : R → Option (List ℕ)) (old new : L
   pub over : IsOver new
   pub left : Keeps (left_of remaining old) (left_of remaining new)
 
--- The fault is told from now on, and what was left is left. TooLong tells that the first line is over-long.
+-- The fault is told from now on, and what was left is left. TooLong tells that the first line is over-long; at another
+-- fault no whole line waits.
 pub record IsFault
     {R : Type 0} (remaining : R → Option (List ℕ)) (old new : LineSource R) (fault : LineFault) : Type 0 where
   pub long : fault ≡ LineFault.TooLong → IfSome (left_of remaining old) BeginsTooLong
+  pub unended : fault ≢ LineFault.TooLong → All (λ b. b ≢ 10) new.waiting
   pub failed : new.course ≡ Course.Failed fault
   pub left : Keeps (left_of remaining old) (left_of remaining new)
 

@@ -1,5 +1,5 @@
 -- What the fields of a reader of lines stand for. Private clauses alone cite these.
-use Rattle.std.specs.Prelude.{◌≡◌, List, ℕ, Option}
+use Rattle.std.specs.Prelude.{◌≡◌, List, ℕ, ◌<◌, ◌^◌, Option}
 use Rattle.std.specs.Io.KnownBytes.{IsAtEnd}
 use Rattle.line_filter.specs.declared.line_reader.LineFault.{LineFault}
 use Rattle.line_filter.specs.declared.line_reader.Course.{Course}
@@ -18,7 +18,11 @@ source l = record {
   course = l.course;
 }
 
--- At the end the reader told its end, and what waits is no over-long line; after TooLong it begins one.
+-- At the end the reader told its end, and what waits is no over-long line; after TooLong it begins one. After another
+-- fault no whole line waits. At most 2^63 - 1 bytes more may be read.
 pub record IsSource {R : Type 0} (remaining : R → Option (List ℕ)) (l : Inside R) : Type 0 where
   pub at_end : l.course ≡ Course.AtEnd → IsAtEnd (remaining l.reader) × IsNoWholeLine l.buffer.waiting
   pub too_long : l.course ≡ Course.Failed LineFault.TooLong → IsLongBy l.buffer.waiting
+  pub not_read : l.course ≡ Course.Failed LineFault.Read → IsNoWholeLine l.buffer.waiting
+  pub not_held : l.course ≡ Course.Failed LineFault.Memory → IsNoWholeLine l.buffer.waiting
+  pub bounded : l.unread < 2 ^ 63

@@ -1,5 +1,5 @@
 -- What the walk over the lines keeps from line to line. Private clauses alone cite these.
-use Rattle.std.specs.Prelude.{◌≡◌, ℕ, ◌+◌, List, [], length, MatchOption, MatchResult, Result, Ok, Err}
+use Rattle.std.specs.Prelude.{◌≡◌, ℕ, ◌+◌, List, [], length, Option, MatchOption, MatchResult, Result, Ok, Err}
 use Rattle.line_filter.specs.declared.judge.Judgment.{Judgment}
 use Rattle.line_filter.specs.declared.finding.Finding.{Finding}
 use Rattle.line_filter.specs.declared.line_reader.LineFault.{LineFault}
@@ -7,8 +7,11 @@ use Rattle.line_filter.specs.declared.step.Step.{Step}
 use Rattle.line_filter.specs.declared.walk.Progress.{Progress}
 use Rattle.line_filter.specs.declared.stop.Stop.{Stop}
 use Rattle.line_filter.specs.declared.tally.Tally.{Tally}
-use Rattle.line_filter.specs.Kept.{Items, Filters, Stops}
+use Rattle.line_filter.specs.declared.calls.Calls.{Calls}
+use Rattle.line_filter.specs.DeviceCalls.{StaysWell, FlushesLast, FailsLast}
+use Rattle.line_filter.specs.Kept.{Items, Filters, StopsWith}
 use Rattle.line_filter.specs.LineItems.{LineJudge, lines}
+use Rattle.line_filter.specs.LineStreams.{LacksLine}
 
 -- the tallies of items and of those behind them, together
 abbrev pub sum_of : Tally → Tally → Tally
@@ -40,14 +43,32 @@ IsOfItem (Stop.Read line) = ⊥
 IsOfItem Stop.Write = ⊥
 IsOfItem _ = Unit {0}
 
--- how far the items went, and the text that they gave
+-- the stop is told of no writer
+abbrev pub IsUnwritten : {F : Type 0} → Stop F → Type 0
+IsUnwritten Stop.Write = ⊥
+IsUnwritten _ = Unit {0}
+
+-- how far the items went, and the text that they gave; `Lacks` is said where an item did not come
+abbrev pub GoesWith : {X F : Type 0} → Items X F → (List ℕ → ℕ → Type 0) → List ℕ → Progress F → Type 0
+GoesWith items Lacks text progress = MatchOption progress.stop
+    (Filters items text progress.tally × (progress.lines ≡ length items.all)) (λ stop. StopsWith items Lacks text stop)
+
+-- that, of items that stand in memory
 abbrev pub GoesOver : {X F : Type 0} → Items X F → List ℕ → Progress F → Type 0
-GoesOver items text progress = MatchOption progress.stop
-    (Filters items text progress.tally × (progress.lines ≡ length items.all)) (λ stop. Stops items text stop)
+GoesOver items = GoesWith items (λ text line. ⊥)
 
 -- that, of lines
 abbrev pub Goes : {F : Type 0} → LineJudge F → List ℕ → List ℕ → Progress F → Type 0
 Goes judge bytes = GoesOver (lines judge bytes)
+
+-- that, of the lines of a reader, of which this waits, and which has that left
+abbrev pub GoesOn : {F : Type 0} → LineJudge F → List ℕ → List ℕ → Option (List ℕ) → List ℕ → Progress F → Type 0
+GoesOn judge bytes waiting known = GoesWith (lines judge bytes) (LacksLine judge bytes waiting known)
+
+-- which calls of its writer a run made by its end: one flush where it came to no stop, and none at a stop
+abbrev pub Closes : {F : Type 0} → Progress F → Result Tally (Stop F) → Calls → Calls → Type 0
+Closes progress answer old new = MatchOption progress.stop
+    (MatchResult answer (λ tally. FlushesLast old new) (λ stop. FailsLast old new)) (λ stop. StaysWell old new)
 
 -- what a run answers: the stop at a line, or else the tally, unless the last flush fails
 abbrev pub Ends : {F : Type 0} → Progress F → Result Tally (Stop F) → Type 0

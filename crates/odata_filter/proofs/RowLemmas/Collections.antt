@@ -1,5 +1,5 @@
 -- What a run over the items of a document says of the collection that it is.
-use Rattle.std.proofs.Common.{◌≡◌, ◌≢◌, ◌∙◌, ℕ, List, [], Option, None, Some, inl, inr, refl, sym, ap, subst, map, option_map}
+use Rattle.std.proofs.Common.{◌≡◌, ◌∙◌, ℕ, List, [], Option, None, Some, inl, inr, refl, sym, ap, subst, map, option_map}
 use Rattle.std.specs.Prelude.{IsSomeAnd, Vec}
 use Rattle.std.specs.Borrow.{Bor}
 use Rattle.std.specs.declared.alloc.Global.{Global}
@@ -10,18 +10,18 @@ use Rattle.serde_json.specs.declared.value.Value.{Value}
 use Rattle.edm_values.specs.MomentParts.{MomentParts}
 use Rattle.csdl_schema.specs.JsonText.{IsJsonOf}
 use Rattle.line_filter.specs.Growth.{Writes}
-use Rattle.line_filter.specs.Kept.{Filters, Stops}
+use Rattle.line_filter.specs.Kept.{Filters, StopsHeld}
 use Rattle.line_filter.specs.Places.{ItemJudge, places}
 use Rattle.line_filter.specs.declared.stop.Stop.{Stop}
 use Rattle.line_filter.specs.declared.tally.Tally.{Tally}
 use Rattle.odata_checked_filter.specs.Filter.{Filter}
 use Rattle.odata_filter.specs.Collection.{IsCollectionOf, OfCollection, StopsCollection, array_of}
 use Rattle.odata_filter.specs.RowJudgment.{JudgesValue}
-use Rattle.odata_filter.specs.RunStops.{StopsBy, run_stop}
+use Rattle.odata_filter.specs.RunStops.{run_stop}
 use Rattle.odata_filter.specs.declared.bad_row.BadRow.{BadRow}
 use Rattle.odata_filter.specs.private.DocumentFaults.{IsUnjudgedBy}
 use Rattle.odata_filter.specs.declared.run_fault.RunFault.{RunFault}
-use Rattle.odata_filter.proofs.RowLemmas.Renamed.{Filters-renamed, Stops-renamed}
+use Rattle.odata_filter.proofs.RowLemmas.Renamed.{Filters-renamed, StopsAt-renamed, StopsOn-renamed, StopsWithin-renamed}
 
 module _ (filter : Filter) (now : MomentParts) (document : List ℕ) (values : List Value) (is : IsCollectionOf document (map view values)) (text : List ℕ) where
   abbrev pub judge : ItemJudge Value BadRow
@@ -31,21 +31,19 @@ module _ (filter : Filter) (now : MomentParts) (document : List ℕ) (values : L
   collection_filtered tally filtered = (map view values, is, Filters-renamed (JudgesValue filter now) view values text tally filtered)
 
   -- the stop that a fault tells is one of the items
-  stopped_by : (fault : RunFault) → ((line : ℕ) → run_stop fault ≢ Some (Stop.Read line)) → StopsBy (places judge values) text fault → StopsCollection filter now document text fault
-  stopped_by RunFault.NotACollection unread stops = absurd stops
-  stopped_by (RunFault.Json line) unread stops = absurd stops.found
-  stopped_by (RunFault.LineTooLong line) unread stops = absurd stops.found
-  stopped_by (RunFault.Read line) unread stops = absurd (unread line refl)
-  stopped_by (RunFault.Row line fault) unread stops = (map view values, is, Stops-renamed (JudgesValue filter now) view values text (Stop.Fault line (BadRow.NoEntity fault)) stops)
-  stopped_by (RunFault.Arithmetic line fault) unread stops = (map view values, is, Stops-renamed (JudgesValue filter now) view values text (Stop.Fault line (BadRow.NoValue fault)) stops)
-  stopped_by RunFault.Write unread stops = (map view values, is, Stops-renamed (JudgesValue filter now) view values text Stop.Write stops)
-  stopped_by (RunFault.Memory line) unread stops = inr (map view values, is, Stops-renamed (JudgesValue filter now) view values text (Stop.Memory line) stops)
+  stopped_by : (fault : RunFault) → IsSomeAnd (run_stop fault) (StopsHeld (places judge values) text) → StopsCollection filter now document text fault
+  stopped_by RunFault.NotACollection stops = absurd stops
+  stopped_by (RunFault.Json line) stops = absurd stops.found
+  stopped_by (RunFault.LineTooLong line) stops = absurd stops.found
+  stopped_by (RunFault.Read line) stops = absurd stops
+  stopped_by (RunFault.Row line fault) stops = (map view values, is, StopsAt-renamed (JudgesValue filter now) view values text line _ stops)
+  stopped_by (RunFault.Arithmetic line fault) stops = (map view values, is, StopsAt-renamed (JudgesValue filter now) view values text line _ stops)
+  stopped_by RunFault.Write stops = (map view values, is, StopsWithin-renamed (JudgesValue filter now) view values text stops)
+  stopped_by (RunFault.Memory line) (inl never) = absurd never
+  stopped_by (RunFault.Memory line) (inr stops) = inr (map view values, is, StopsOn-renamed (JudgesValue filter now) view values text line stops)
 
-  pub collection_stopped : (fault : RunFault) (stop : Stop BadRow) → run_stop fault ≡ Some stop → ((line : ℕ) → stop ≢ Stop.Read line) → Stops (places judge values) text stop
-      → StopsCollection filter now document text fault
-  collection_stopped fault stop told unread stops =
-      let apart : (line : ℕ) → run_stop fault ≢ Some (Stop.Read line) = λ line same. let here : Some stop ≡ Some (Stop.Read line) = sym told ∙ same in unread line cc in
-      stopped_by fault apart (subst (λ s. IsSomeAnd s (Stops (places judge values) text)) (sym told) stops)
+  pub collection_stopped : (fault : RunFault) (stop : Stop BadRow) → run_stop fault ≡ Some stop → StopsHeld (places judge values) text stop → StopsCollection filter now document text fault
+  collection_stopped fault stop told stops = stopped_by fault (subst (λ s. IsSomeAnd s (StopsHeld (places judge values) text)) (sym told) stops)
 
 -- none of the items was judged
 pub unjudged : (filter : Filter) (now : MomentParts) (document : List ℕ) (old : Option (List ℕ)) (fault : RunFault) → IsUnjudgedBy document fault

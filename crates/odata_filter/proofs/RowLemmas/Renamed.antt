@@ -5,10 +5,9 @@ use Rattle.std.proofs.lemmas.Bool.{cases_Bool}
 use Rattle.std.proofs.lemmas.List.{map-append, length-map}
 use Rattle.std.proofs.lemmas.List.Elements.{All-map}
 use Rattle.std.proofs.lemmas.List.Sums.{sum_by-cons}
-use Rattle.line_filter.specs.Kept.{IsFaultless, SiftedItem, Passes, StopsAt, StopsBefore, StopsWithin, Stops, is_kept, is_row, kept_text}
+use Rattle.line_filter.specs.Kept.{IsFaultless, SiftedItem, Passes, StopsAt, StopsOn, StopsWithin, is_kept, is_row, kept_text}
 use Rattle.line_filter.specs.Places.{ItemJudge, IsJudged, Placed, placed_from, place_sieve, places}
 use Rattle.line_filter.specs.declared.finding.Finding.{Finding}
-use Rattle.line_filter.specs.declared.stop.Stop.{Stop}
 use Rattle.line_filter.specs.declared.tally.Tally.{Tally}
 
 module _ {X Y F : Type 0} (judge : ItemJudge Y F) (name : X → Y) where
@@ -79,7 +78,7 @@ module _ {X Y F : Type 0} (judge : ItemJudge Y F) (name : X → Y) where
     counted : (before : List (Placed X)) (number : ℕ) → number ≡ length before + 1 → number ≡ length (map renamed before) + 1
     counted before number is = is ∙ ap (λ n. n + 1) (sym (length-map before renamed))
 
-    StopsAt-renamed : (number : ℕ) (finding : Finding F) → StopsAt (places judge_named xs) text number finding → StopsAt (places judge (map name xs)) text number finding
+    pub StopsAt-renamed : (number : ℕ) (finding : Finding F) → StopsAt (places judge_named xs) text number finding → StopsAt (places judge (map name xs)) text number finding
     StopsAt-renamed number finding stop = record {
       before = map renamed stop.before;
       bad = renamed stop.bad;
@@ -91,18 +90,19 @@ module _ {X Y F : Type 0} (judge : ItemJudge Y F) (name : X → Y) where
       found = judged stop.bad.item finding stop.found;
     }
 
-    pub StopsBefore-renamed : (number : ℕ) → StopsBefore (places judge_named xs) text number → StopsBefore (places judge (map name xs)) text number
-    StopsBefore-renamed number stop = record {
+    pub StopsOn-renamed : (number : ℕ) → StopsOn (places judge_named xs) text number → StopsOn (places judge (map name xs)) text number
+    StopsOn-renamed number stop = record {
       before = map renamed stop.before;
+      here = renamed stop.here;
       after = map renamed stop.after;
       tally = stop.tally;
-      whole = parted stop.before stop.after stop.whole;
+      whole = parted stop.before (stop.here ∷ stop.after) stop.whole;
       came_whole = tt;
       counted = counted stop.before number stop.counted;
       passes = Passes-renamed stop.before text stop.tally stop.passes;
     }
 
-    StopsWithin-renamed : StopsWithin (places judge_named xs) text → StopsWithin (places judge (map name xs)) text
+    pub StopsWithin-renamed : StopsWithin (places judge_named xs) text → StopsWithin (places judge (map name xs)) text
     StopsWithin-renamed stop = record {
       before = map renamed stop.before;
       after = map renamed stop.after;
@@ -111,13 +111,6 @@ module _ {X Y F : Type 0} (judge : ItemJudge Y F) (name : X → Y) where
       whole = parted stop.before stop.after stop.whole;
       passes = Passes-renamed stop.before (text ++ stop.unwritten) stop.tally stop.passes;
     }
-
-    pub Stops-renamed : (stop : Stop F) → Stops (places judge_named xs) text stop → Stops (places judge (map name xs)) text stop
-    Stops-renamed (Stop.Fault line fault) stops = StopsAt-renamed line _ stops
-    Stops-renamed (Stop.TooLong line) stops = StopsAt-renamed line _ stops
-    Stops-renamed (Stop.Read line) stops = StopsBefore-renamed line stops
-    Stops-renamed Stop.Write stops = StopsWithin-renamed stops
-    Stops-renamed (Stop.Memory line) stops = StopsBefore-renamed line stops
 
     pub Filters-renamed : (tally : Tally) → Passes (place_sieve judge_named) (placed_from 0 xs) text tally → Passes (place_sieve judge) (placed_from 0 (map name xs)) text tally
     Filters-renamed tally passes =

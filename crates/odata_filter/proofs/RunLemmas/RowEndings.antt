@@ -212,4 +212,5 @@ module _ (plan : Plan) (document : List ℕ) (filter : Filter) (now : MomentPart
     places_fail-begin NotACollection (text, wrote, (none, empty)) = inl (wrote_none old new text wrote empty)
     places_fail-begin Write wrote = begun Stop.Write wrote
     places_fail-begin (Memory line) (text, wrote, inl (zero, empty)) = inl (wrote_none old new text wrote empty)
-    places_fail-begin (Memory line) (text, wrote, inr of) = begun (Stop.Memory line) (text, wrote, of)
+    places_fail-begin (Memory line) (text, wrote, inr (items, is, stops)) =
+        inr (by_places BeginsKept (text, wrote, (items, is, front_passed (entities_of filter now items) text stops.before (stops.here ∷ stops.after) stops.tally stops.whole stops.passes)))

@@ -13,9 +13,11 @@ ghost use Rattle.csdl_schema.specs.SchemaModel.{HoldsType, IsEntityAt, index_nam
 use super::command_line::{Plan, Verb};
 use super::failure::Failure;
 use super::rows::{Asked, filter_rows};
+use super::telling::write_line;
 use crate::run_fault::RunFault;
 use csdl_schema::{Schema, TypeId};
 use edm_values::{Moment, read_moment};
+use line_filter::{Untold, write_out};
 use odata_text::filter_of_query;
 use odata_typing::{Checked, Refusal, check};
 use std::alloc::{AllocError, Global};
@@ -134,7 +136,7 @@ fn write_told<'p, W: Write>(text: &str, out: &mut W) -> Result<(), Failure<'p>>
     ensures told { OnOk result (Appends (W.contents out.old) (W.contents out.new) text.now) }
     ensures unwritten { IfErr result (λ failure. IsUnwritten (status_of failure)) }
 {
-    if out.write_all(text.as_bytes()).is_err() {
+    if write_out::<W, Untold>(out, text.as_bytes()).is_err() {
         return Err(Failure::Rows(RunFault::Write));
     }
     match out.flush() {
@@ -239,10 +241,10 @@ fn carry_out<'p, R: Read + Drop, W: Write>(
 fn tell_answer<W: Write, E: Write>(failure: &Failure<'_>, out: &mut W, err: &mut E) -> u8
     ensures { (result ≡ 1) ⊎ (result ≡ 5) }
 {
-    if writeln!(out, "{failure}").is_ok() && out.flush().is_ok() {
+    if write_line(out, failure).is_ok() && out.flush().is_ok() {
         return 1;
     }
-    let _ = writeln!(err, "{}", RunFault::Write);
+    let _ = write_line(err, &RunFault::Write);
     5
 }
 
@@ -267,7 +269,7 @@ fn tell<W: Write, E: Write>(verb: Verb, failure: &Failure<'_>, out: &mut W, err:
         return tell_answer(failure, out, err);
     }
     let _ = out.flush();
-    let _ = writeln!(err, "{failure}");
+    let _ = write_line(err, failure);
     status
 }
 

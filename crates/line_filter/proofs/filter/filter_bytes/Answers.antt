@@ -1,14 +1,16 @@
 use Rattle.line_filter.specs.LineItems.{lines}
-use Rattle.line_filter.proofs.RunLaws.Answers.{all_answered-ok, all_answered-err, Ends-unread}
+use Rattle.line_filter.proofs.RunLaws.Answers.{held_answered-ok, held_answered-err}
+use Rattle.line_filter.proofs.RunLaws.Called.{Closes-written, IsOfItem-all}
 use Rattle.line_filter.proofs.filter.filter_bytes.Goals as goal
 
 pub returns-in-Ok-clause-filters : goal.returns-in-Ok-clause-filters
 returns-in-Ok-clause-filters g c =
-    all_answered-ok (lines _ c.args.bytes.now) _ _ _ c.in-Ok.progress c.finish.result c.in-Ok.ensures.ok c.finish.ensures.kept c.finish.ensures.answer
+    held_answered-ok (lines _ c.args.bytes.now) _ _ _ c.in-Ok.progress c.finish.result c.in-Ok.ensures.ok c.finish.ensures.kept c.finish.ensures.answer
 
 pub returns-in-Ok-clause-stops : goal.returns-in-Ok-clause-stops
 returns-in-Ok-clause-stops g c =
-    all_answered-err (lines _ c.args.bytes.now) _ _ _ c.in-Ok.progress c.finish.result c.in-Ok.ensures.ok c.finish.ensures.kept c.finish.ensures.answer
+    held_answered-err (lines _ c.args.bytes.now) _ _ _ c.in-Ok.progress c.finish.result c.in-Ok.ensures.ok c.finish.ensures.kept c.finish.ensures.answer
 
-pub returns-in-Ok-clause-unread : goal.returns-in-Ok-clause-unread
-returns-in-Ok-clause-unread g c = Ends-unread c.in-Ok.progress c.finish.result c.in-Ok.ensures.of_item c.finish.ensures.answer
+pub returns-in-Ok-clause-writes : goal.returns-in-Ok-clause-writes
+returns-in-Ok-clause-writes g c =
+    Closes-written _ _ _ c.in-Ok.ensures.well c.in-Ok.progress c.finish.result (IsOfItem-all c.in-Ok.progress.stop c.in-Ok.ensures.of_item) c.finish.ensures.calls c.finish.ensures.answer

@@ -1,7 +1,8 @@
 use Rattle.std.proofs.Common.{◌≡◌, ◌++◌, subst, rules}
 use Rattle.std.specs.Io.KnownBytes.{Appends}
 use Rattle.std.proofs.KnownBytes.{Appends-trans}
-use Rattle.line_filter.specs.private.HeldBack.{WritesFront, WritesBut}
+use Rattle.line_filter.specs.Growth.{WritesFront}
+use Rattle.line_filter.specs.private.HeldBack.{WritesBut}
 use Rattle.line_filter.proofs.WriteLaws.HeldBack.{OnErr-from, OnErr-map, OnOk-map, WritesFront-after, WritesFront-longer, WritesBut-written, WritesBut-failed, WritesBut-all}
 use Rattle.line_filter.proofs.output.hold.Goals as goal
 

@@ -1,5 +1,5 @@
 use Rattle.std.proofs.Common.{[], ◌∷◌, ◌++◌, subst, append_assoc}
-use Rattle.line_filter.specs.private.HeldBack.{WritesFront}
+use Rattle.line_filter.specs.Growth.{WritesFront}
 use Rattle.line_filter.proofs.WriteLaws.HeldBack.{OnErr-from, OnErr-map, OnOk-map, WritesFront-longer, WritesFront-held, WritesBut-after}
 use Rattle.line_filter.proofs.step.keep.Goals as goal
 

@@ -2,12 +2,17 @@ use Rattle.std.proofs.Common.{◌≡◌, ◌≤◌, ◌+◌, ◌++◌, ◌∷◌
 use Rattle.std.specs.Prelude.{IfSome}
 use Rattle.line_filter.specs.LineItems.{lines}
 use Rattle.line_filter.specs.LineSource.{left_of, GivesLine, IsOver, WhereKnown}
-use Rattle.line_filter.specs.Kept.{Stops}
+use Rattle.line_filter.specs.Kept.{StopsWith}
+use Rattle.line_filter.specs.LineStreams.{LacksLine, ReadsUntil}
 use Rattle.line_filter.specs.private.Giving.{Gives, bytes_to_come}
 use Rattle.line_filter.specs.private.HeldBack.{WritesBut}
 use Rattle.line_filter.specs.declared.stop.Stop.{Stop}
+use Rattle.line_filter.proofs.DeviceLaws.Called.{stays_well_refl, stays_well_trans, fails_last_after}
+use Rattle.line_filter.proofs.DeviceLaws.Unread.{going_read, reads_well_refl, reads_well_more, reads_on}
 use Rattle.line_filter.proofs.ItemLaws.Passing.{step_counts}
+use Rattle.line_filter.proofs.ItemLaws.Stopping.{step_of-of_item}
 use Rattle.line_filter.proofs.LineLaws.Found.{SaysTheSame-refl, SaysTheSame-trans, found-same}
+use Rattle.line_filter.proofs.RunLaws.Called.{reads_of_item, reads_told}
 use Rattle.line_filter.proofs.RunLaws.Streams.{HasCome-none, HasCome-written, HasCome-unwritten, HasCome-end, HasCome-fault, HasCome-more, HasCome-stopped, HasCome-failed}
 use Rattle.line_filter.proofs.WriteLaws.HeldBack.{OnErr-from}
 use Rattle.line_filter.proofs.stream.judge_stream.Goals as goal
@@ -19,6 +24,9 @@ loop-stop-init g c = (
   omega arith,
   SaysTheSame-refl (g.J.Judge.says c.args.judge.now),
   HasCome-none (g.J.Judge.says c.args.judge.now) (left_of g.R.Read.remaining c.args.reader.now) _ (g.W.Write.contents c.args.out.now) c.args.held.now.items c.requires.none_held,
+  reads_well_refl g.S.Reads.calls g.R.Read.remaining c.args.reader.now,
+  stays_well_refl (g.T.Writes.calls c.args.out.now),
+  λ is. c.requires.none_held,
 )
 
 pub returns-in_err-next_line-clause-err : goal.returns-in_err-next_line-clause-err
@@ -61,8 +69,9 @@ returns-in-Fault-clause-ok g c =
     let given = subst (Gives g.R.Read.remaining c.loop-stop.reader c.next_line.new.reader) c.in-Fault.is c.in_ok-next_line.ensures.given in
     let not_over = λ (over : IsOver c.loop-stop.reader). let ends = c.in_ok-next_line.ensures.again.over over in absurd {A = ⊥} (cc) in
     let came = HasCome-written says a r (IsOver c.loop-stop.reader → ⊥) u v w c.loop-stop.held.items c.next_line.new.held.items c.loop-stop.lines c.loop-stop.tally i.4 c.in_ok-next_line.ensures.ok in
-    subst (λ (s : Stop g.row.J-Fault.Denot). IfSome a (λ bytes. (text : List ℕ) × WritesBut u w c.next_line.new.held.items text × Stops (lines says bytes) text s)) (sym c.fault_stop.ensures)
-    (HasCome-fault says a r (IsOver c.loop-stop.reader → ⊥) u w c.next_line.new.held.items c.loop-stop.lines c.loop-stop.tally fault came not_over given.long)
+    subst (λ (s : Stop g.row.J-Fault.Denot). IfSome a (λ bytes. (text : List ℕ) × WritesBut u w c.next_line.new.held.items text × StopsWith (lines says bytes) (LacksLine says bytes c.next_line.new.reader.waiting (g.R.Read.remaining c.next_line.new.reader.reader)) text s)) (sym c.fault_stop.ensures)
+    (HasCome-fault says c.next_line.new.reader.waiting a r (g.R.Read.remaining c.next_line.new.reader.reader) (IsOver c.loop-stop.reader → ⊥) u w c.next_line.new.held.items c.loop-stop.lines c.loop-stop.tally fault came
+    not_over given.left given.unended given.long)
 
 pub returns-in_err-one-clause-err : goal.returns-in_err-one-clause-err
 returns-in_err-one-clause-err g c =
@@ -125,6 +134,9 @@ loop-stop-preserved g c =
       SaysTheSame-trans _ _ _ i.3 c.find-found.ensures.same,
       HasCome-more says line (IsOver c.loop-stop.reader → ⊥) u v (g.W.Write.contents c.settle.new.out) c.next_line.new.held.items c.settle.new.held.items c.loop-stop.lines c.loop-stop.tally c.find-found.result finds not_over
           a r s (IsOver c.next_line.new.reader) c.in-Passed.one came first whole settled.ok step,
+      reads_well_more g.S.Reads.calls g.R.Read.remaining c.args.reader.now c.loop-stop.reader c.next_line.new.reader i.5 c.in_ok-next_line.ensures.reads (going_read c.next_line.new.reader given.going),
+      stays_well_trans _ (g.T.Writes.calls c.next_line.new.out) _ (stays_well_trans _ (g.T.Writes.calls c.loop-stop.out) _ i.6 c.in_ok-next_line.ensures.well) settled.well,
+      λ is. absurd (going_read c.next_line.new.reader given.going is),
     )
 
 pub returns-in-Stopped-clause-ok : goal.returns-in-Stopped-clause-ok
@@ -144,4 +156,25 @@ returns-in-Stopped-clause-ok g c =
     let came = HasCome-written says a r (IsOver c.loop-stop.reader → ⊥) u (g.W.Write.contents c.loop-stop.out) v c.loop-stop.held.items c.next_line.new.held.items c.loop-stop.lines c.loop-stop.tally i.4 c.in_ok-next_line.ensures.ok in
     let finds = found-same _ _ line c.find-found.result i.3 c.find-found.ensures.found in
     HasCome-stopped says line (IsOver c.loop-stop.reader → ⊥) u v (g.W.Write.contents c.settle.new.out) c.next_line.new.held.items c.settle.new.held.items c.loop-stop.lines c.loop-stop.tally c.find-found.result finds not_over
-    a r s c.in-Stopped.stop came first settled.ok (sym settled.step ∙ c.in-Stopped.is)
+    c.next_line.new.reader.waiting (g.R.Read.remaining c.next_line.new.reader.reader) a r s c.in-Stopped.stop came first settled.ok (sym settled.step ∙ c.in-Stopped.is)
+
+pub returns-in-Fault-clause-reads : goal.returns-in-Fault-clause-reads
+returns-in-Fault-clause-reads g c =
+    let i = c.loop-stop.invariant in
+    let calls = g.S.Reads.calls in
+    let remaining = g.R.Read.remaining in
+    let given = subst (Gives remaining c.loop-stop.reader c.next_line.new.reader) c.in-Fault.is c.in_ok-next_line.ensures.given in
+    let reads = reads_on calls remaining c.args.reader.now c.loop-stop.reader c.next_line.new.reader i.5 c.in_ok-next_line.ensures.reads in
+    subst (λ (s : Stop g.row.J-Fault.Denot). ReadsUntil calls remaining c.args.reader.now c.next_line.new.reader s) (sym c.fault_stop.ensures)
+    (reads_told g.row.J-Fault.Denot calls remaining c.args.reader.now c.next_line.new.reader c.in-Fault.fault (c.loop-stop.lines + 1) given.failed reads)
+
+pub returns-in-Stopped-clause-reads : goal.returns-in-Stopped-clause-reads
+returns-in-Stopped-clause-reads g c =
+    let i = c.loop-stop.invariant in
+    let calls = g.S.Reads.calls in
+    let remaining = g.R.Read.remaining in
+    let given = subst (Gives remaining c.loop-stop.reader c.next_line.new.reader) c.in-Line.is c.in_ok-next_line.ensures.given in
+    let not = going_read c.next_line.new.reader given.going in
+    let reads = reads_on calls remaining c.args.reader.now c.loop-stop.reader c.next_line.new.reader i.5 c.in_ok-next_line.ensures.reads in
+    let of_item = step_of-of_item (c.loop-stop.lines + 1) c.find-found.result c.in-Stopped.stop (sym c.in_ok-one.ensures.step ∙ c.in-Stopped.is) in
+    reads_of_item calls remaining c.args.reader.now c.next_line.new.reader c.in-Stopped.stop of_item (reads.well not)

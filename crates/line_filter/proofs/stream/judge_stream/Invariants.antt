@@ -1,9 +1,11 @@
 -- The lines so far passed, there are no more of them than bytes, and no more rows or kept rows than lines. The judge
--- still says the same.
-use Rattle.std.proofs.Common.{◌+◌, ◌≤◌}
+-- still says the same, and the calls of both devices did their work.
+use Rattle.std.proofs.Common.{◌≡◌, ◌+◌, ◌≤◌, []}
 use Rattle.line_filter.specs.LineItems.{SaysTheSame}
 use Rattle.line_filter.specs.LineSource.{left_of, IsOver}
+use Rattle.line_filter.specs.DeviceCalls.{StaysWell}
 use Rattle.line_filter.specs.private.Giving.{bytes_to_come}
+use Rattle.line_filter.specs.private.Reading.{IsUnread, ReadsWell}
 use Rattle.line_filter.proofs.RunLaws.Streams.{HasCome}
 use Rattle.line_filter.proofs.stream.judge_stream.Given as goal
 
@@ -13,6 +15,9 @@ invariant-loop-stop g l = (l.lines + bytes_to_come l.reader ≤ bytes_to_come l.
     × SaysTheSame (g.J.Judge.says l.initial.judge) (g.J.Judge.says l.judge)
     × HasCome (g.J.Judge.says l.initial.judge) (left_of g.R.Read.remaining l.initial.reader) (left_of g.R.Read.remaining l.reader) (IsOver l.reader → ⊥)
     (g.W.Write.contents l.initial.out) (g.W.Write.contents l.out) l.held.items l.lines l.tally
+    × ReadsWell g.S.Reads.calls g.R.Read.remaining l.initial.reader l.reader
+    × StaysWell (g.T.Writes.calls l.initial.out) (g.T.Writes.calls l.out)
+    × (IsUnread l.reader → l.held.items ≡ [])
 
 abbrev pub decreases-loop-stop : goal.decreases-loop-stop
 decreases-loop-stop g l = bytes_to_come l.reader

@@ -1,10 +1,13 @@
--- What is left is left, only what was open was read, and what was held back is written or held back.
-use Rattle.std.proofs.Common.{◌≡◌, ◌⊎◌}
+-- What is left is left, only what was open was read, and what was held back is written or held back. The calls did their
+-- work, but for a read that is told, and nothing is held back then.
+use Rattle.std.proofs.Common.{◌≡◌, ◌⊎◌, []}
 use Rattle.std.specs.Io.KnownBytes.{Keeps}
 use Rattle.line_filter.specs.declared.line_reader.Course.{Course}
 use Rattle.line_filter.specs.LineSource.{left_of}
 use Rattle.line_filter.specs.private.Giving.{bytes_to_come, line_to_come}
+use Rattle.line_filter.specs.DeviceCalls.{StaysWell}
 use Rattle.line_filter.specs.private.HeldBack.{WritesBut}
+use Rattle.line_filter.specs.private.Reading.{IsUnread, ReadsOn}
 use Rattle.line_filter.proofs.stream.next_line.Given as goal
 
 abbrev pub invariant-loop-next : goal.invariant-loop-next
@@ -12,6 +15,9 @@ invariant-loop-next g l = Keeps (left_of g.R.Read.remaining l.initial.reader) (l
     × (bytes_to_come l.reader ≡ bytes_to_come l.initial.reader)
     × ((l.reader ≡ l.initial.reader) ⊎ (l.initial.reader.course ≡ Course.Open))
     × WritesBut (g.W.Write.contents l.initial.out) (g.W.Write.contents l.out) l.held.items l.initial.held.items
+    × ReadsOn g.S.Reads.calls g.R.Read.remaining l.initial.reader l.reader
+    × StaysWell (g.T.Writes.calls l.initial.out) (g.T.Writes.calls l.out)
+    × (IsUnread l.reader → (IsUnread l.initial.reader → l.initial.held.items ≡ []) → l.held.items ≡ [])
 
 abbrev pub decreases-loop-next : goal.decreases-loop-next
 decreases-loop-next g l = line_to_come l.reader

@@ -1,18 +1,14 @@
-use Rattle.std.proofs.Common.{IfSome}
-use Rattle.edm_values.specs.MomentParts.{MomentParts}
-use Rattle.odata_checked_filter.specs.Filter.{Filter}
-use Rattle.line_filter.specs.Growth.{Writes}
-use Rattle.odata_filter.specs.RowJudgment.{rows_of}
-use Rattle.odata_filter.specs.RunStops.{StopsBy}
-use Rattle.odata_filter.proofs.RowLemmas.RowLineJudges.{of_filter, stops_by}
+use Rattle.line_filter.specs.LineSource.{left_of}
+use Rattle.odata_filter.proofs.RowLemmas.RowLineJudges.{lines_pass, lines_stop}
 use Rattle.odata_filter.proofs.filter.filter_lines.Goals as goal
+
+pub returns-clause-filters : goal.returns-clause-filters
+returns-clause-filters g c =
+    lines_pass c.args.checked.now c.args.now.now (left_of g.R.Read.remaining c.new-lines.result) (g.R.Read.remaining c.args.rows) (g.W.Write.contents c.args.out.now) (g.W.Write.contents c.filter_lines_by.new.out)
+    c.filter_lines_by.result c.new-lines.ensures.left c.filter_lines_by.ensures.filters
 
 pub returns-clause-stops : goal.returns-clause-stops
 returns-clause-stops g c =
-    let judge = c.new-judge.result in
-    let remaining = g.R.Read.remaining c.args.rows in
-    let old = g.W.Write.contents c.args.out.now in
-    let new = g.W.Write.contents c.filter_reader.new.out in
-    let Stopped : Filter → MomentParts → Type 0 = λ f m. IfSome remaining (λ bytes. Writes old new (λ text. StopsBy (rows_of f m bytes) text c.run_fault.result)) in
-    of_filter Stopped judge.filter c.args.checked.now judge.moment c.args.now.now c.new-judge.ensures.filter c.new-judge.ensures.moment
-    (stops_by judge.filter judge.moment remaining old new c.in-Err.stop c.run_fault.result c.run_fault.ensures c.in-Err.ensures.stops)
+    let source = c.filter_lines_by.new.rows in
+    lines_stop c.args.checked.now c.args.now.now source.waiting (g.R.Read.remaining source.reader) (left_of g.R.Read.remaining c.new-lines.result) (g.R.Read.remaining c.args.rows) (g.W.Write.contents c.args.out.now) (g.W.Write.contents c.filter_lines_by.new.out)
+    c.filter_lines_by.result c.new-lines.ensures.left c.filter_lines_by.ensures.stops

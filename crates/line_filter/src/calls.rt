@@ -1,0 +1,57 @@
+//! What a device tells of its calls.
+ghost use Rattle.std.specs.Prelude.{◌≡◌};
+ghost use Rattle.line_filter.specs.DeviceCalls.{after_work, after_flush, after_failure};
+
+/// What a device tells of its calls so far. A call is a read, a write or a flush.
+#[derive(Clone, Copy, Debug, PartialEq, Eq)]
+pub enum Calls {
+    /// It tells nothing.
+    Untold,
+    /// None of its calls ever fails; of flushes nothing is told.
+    Unfailing,
+    /// No call has failed, and none was a flush.
+    Well,
+    /// The last call was a flush, the first one, and no call has failed.
+    Flushed,
+    /// The last call has failed, the first one to do so, and none was a flush.
+    Failed,
+    /// A call came behind a flush or a failed one.
+    Behind,
+}
+
+impl Calls {
+    /// Behind one more call, which did its work.
+    pub fn worked(self) -> Calls
+        ensures { result ≡ after_work self }
+    {
+        match self {
+            Calls::Untold => Calls::Untold,
+            Calls::Unfailing => Calls::Unfailing,
+            Calls::Well => Calls::Well,
+            Calls::Flushed | Calls::Failed | Calls::Behind => Calls::Behind,
+        }
+    }
+
+    /// Behind one more call, a flush that did its work.
+    pub fn flushed(self) -> Calls
+        ensures { result ≡ after_flush self }
+    {
+        match self {
+            Calls::Untold => Calls::Untold,
+            Calls::Unfailing => Calls::Unfailing,
+            Calls::Well => Calls::Flushed,
+            Calls::Flushed | Calls::Failed | Calls::Behind => Calls::Behind,
+        }
+    }
+
+    /// Behind one more call, which failed.
+    pub fn failed(self) -> Calls
+        ensures { result ≡ after_failure self }
+    {
+        match self {
+            Calls::Untold => Calls::Untold,
+            Calls::Unfailing | Calls::Well => Calls::Failed,
+            Calls::Flushed | Calls::Failed | Calls::Behind => Calls::Behind,
+        }
+    }
+}
