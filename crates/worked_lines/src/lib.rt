@@ -3,9 +3,15 @@
 #![tactic(auto)]
 
 #[cfg(test)]
+mod answers;
+#[cfg(test)]
 mod collections;
 #[cfg(test)]
+mod cuts;
+#[cfg(test)]
 mod devices;
+#[cfg(test)]
+mod failing;
 #[cfg(test)]
 mod limits;
 #[cfg(test)]
@@ -14,6 +20,8 @@ mod line_readers;
 mod pieces;
 #[cfg(test)]
 mod readers;
+#[cfg(test)]
+mod recorded;
 #[cfg(test)]
 mod told;
 #[cfg(test)]

@@ -5,10 +5,10 @@ use std::alloc::Global;
 use std::io::{Read, Write};
 use std::test::Fail;
 
-const SCHEMA: &str =
+pub const SCHEMA: &str =
     "{\"$Version\":\"4.01\",\"Mini\":{\"Item\":{\"$Kind\":\"EntityType\",\"ID\":{\"$Type\":\"Edm.Int32\"},\"Name\":{},\"Active\":{\"$Type\":\"Edm.Boolean\"}}}}";
 
-const FIRST: &str = "Active and ID eq 1 and Name eq 'a'";
+pub const FIRST: &str = "Active and ID eq 1 and Name eq 'a'";
 
 /// The plan of the verb `filter` with the first filter of `Mini.Item`, over rows of this name.
 pub(crate) fn plan_over(rows: Option<&str>) -> Plan<'_> {

@@ -70,35 +70,38 @@ fn is_written(
     }
 }
 
-/// A writer's room, and what it does once this is filled.
-const ROOMS: &[(usize, Filled)] = &[
-    (0, Filled::Fails),
-    (0, Filled::TakesNone),
-    (1, Filled::Fails),
-    (33, Filled::TakesNone),
-    (34, Filled::Fails),
-    (67, Filled::TakesNone),
-];
+/// Fails if the kept text goes otherwise into a writer of so much room: a beginning of it, as long as the room.
+fn fills(alloc: Global, room: usize, filled: Filled) -> Result<(), Fail> {
+    let writer = FailingWriter {
+        taken: Vec::new(alloc),
+        piece: 10,
+        room,
+        filled,
+        flush_fails: false,
+    };
+    let out = A_TWICE.as_bytes().get(..room).ok_or("the beginning")?;
+    is_written(alloc, THREE, writer, out, "write\n", 5)
+}
 
-/// Of the kept text a beginning has been written, as long as the writer's room.
+/// Whatever is less than the room of all 68 bytes.
 #[test]
 fn a_failed_write_is_told(rt: HostRuntime) -> Result<(), Fail> {
-    for &(room, filled) in ROOMS {
-        let writer = FailingWriter {
-            taken: Vec::new(rt.alloc()),
-            piece: 10,
-            room,
-            filled,
-            flush_fails: false,
-        };
-        let out = A_TWICE.as_bytes().get(..room).ok_or("the beginning")?;
-        is_written(rt.alloc(), THREE, writer, out, "write\n", 5)?;
+    for room in 0..A_TWICE.len() {
+        fills(rt.alloc(), room, Filled::Fails)?;
+    }
+    Ok(())
+}
+
+#[test]
+fn a_write_that_takes_none_is_told(rt: HostRuntime) -> Result<(), Fail> {
+    for room in 0..A_TWICE.len() {
+        fills(rt.alloc(), room, Filled::TakesNone)?;
     }
     Ok(())
 }
 
 /// How many bytes a writer takes at a time.
-const TAKEN: &[usize] = &[1, 33, 34, 100];
+const TAKEN: &[usize] = &[1, 2, 7, 33, 34, 100];
 
 /// The room of a writer is just what is written, and each call takes few bytes of it.
 #[test]
