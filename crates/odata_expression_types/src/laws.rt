@@ -4,7 +4,7 @@ ghost use Rattle.odata_expression_types.specs.Laws.{RefusedIsUntyped, TypedIsCle
 
 use odata_signatures::calls_have_one_type;
 use odata_syntax::{
-    children_apart, fault_or_tree, one_fault, one_tree, spans_hold, spans_take_bytes,
+    children_apart, faults_have_no_tree, one_fault, one_tree, spans_hold, spans_take_bytes,
 };
 use odata_text::{one_reading, tokens_are_spelled};
 
@@ -58,7 +58,7 @@ pub fn texts_have_one_refusal()
     tokens_are_spelled();
     one_tree();
     one_fault();
-    fault_or_tree();
+    faults_have_no_tree();
     calls_have_one_type();
     untypable_nodes_start_apart();
 }

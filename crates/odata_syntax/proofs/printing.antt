@@ -9,3 +9,4 @@ pub mod Pieces
 pub mod Printable
 pub mod ReadBack
 pub mod Readable
+pub mod Shallow

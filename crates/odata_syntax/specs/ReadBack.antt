@@ -7,18 +7,16 @@ use Rattle.odata_syntax.specs.CanonicalText.{IsCanonicalText}
 use Rattle.odata_syntax.specs.Front.{IsShallow}
 use Rattle.odata_syntax.specs.Grammar.{Derives, or_level}
 use Rattle.odata_syntax.specs.NormalForm.{IsNormalForm, bare}
-use Rattle.odata_syntax.specs.Parse.{IsParse}
 use Rattle.odata_syntax.specs.Tree.{Tree}
 
--- the text has tokens, they are a tree, that tree is the normal form of the one printed but for places, and it is
--- printed as the same text; within the limits of a text the tokens are what is read of it, and where they are nowhere
--- too deep the tree is what is parsed of them
+-- the text has tokens, they are a tree and nowhere too deep, that tree is the normal form of the one printed but for
+-- places, and it is printed as the same text; within the limits of a text the tokens are what is read of it
 pub record IsReadBack (tree : Tree) (text : List ℕ) : Type 0 where
   pub tokens : List TokenModel
   pub again : Tree
   pub list : AreTokensOf text tokens
   pub derived : Derives or_level tokens again
+  pub shallow : IsShallow tokens
   pub same : (normal : Tree) → IsNormalForm tree normal → bare again ≡ bare normal
   pub prints : IsCanonicalText again text
   pub read : length text ≤ text_limit → length tokens ≤ token_limit → IsTokenList text tokens
-  pub parsed : IsShallow tokens → IsParse tokens again

@@ -18,6 +18,6 @@ pub use parser::parse;
 pub use printer::{operator_level, operator_word, print, write_literal};
 pub use syntax_fault::SyntaxFault;
 pub use syntax_laws::{
-    children_apart, fault_or_tree, first_run_parses, name_eq_is_unended, node_spans, one_fault,
-    one_tree, spans_apart, spans_hold, spans_take_bytes, too_deep_opens, tree_spans,
+    children_apart, faults_have_no_tree, first_run_parses, name_eq_is_unended, node_spans,
+    one_fault, one_tree, spans_apart, spans_hold, spans_take_bytes, too_deep_opens, tree_spans,
 };

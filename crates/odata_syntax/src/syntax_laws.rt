@@ -58,7 +58,7 @@ pub fn one_fault()
 {}
 
 /// Tokens with a fault are no expression.
-pub fn fault_or_tree()
+pub fn faults_have_no_tree()
     ensures { (ts : List TokenModel) (len : ℕ) (fault : SyntaxFault) → IsSyntaxFault ts len fault → HasNoParse ts }
 {}
 

@@ -33,7 +33,7 @@ pub record Readings : Type 0 where
   pub spelled : (text : List ℕ) (list : List TokenModel) → IsTokenList text list → AreTextTokens 0 (length text) list
   pub tree : (ts : List TokenModel) (a b : Tree) → Derives or_level ts a → Derives or_level ts b → a ≡ b
   pub syntax_fault : (ts : List TokenModel) (len : ℕ) (a b : SyntaxFault) → IsSyntaxFault ts len a → IsSyntaxFault ts len b → a ≡ b
-  pub fault_or_tree : (ts : List TokenModel) (len : ℕ) (fault : SyntaxFault) → IsSyntaxFault ts len fault → HasNoParse ts
+  pub faults_have_no_tree : (ts : List TokenModel) (len : ℕ) (fault : SyntaxFault) → IsSyntaxFault ts len fault → HasNoParse ts
   pub start : OneUntypableStart
   pub call_type : OneCallType
   pub call_reason : (name : List ℕ) (types : List ExprType) (a b : CallFault) → CallReason name types a → CallReason name types b → a ≡ b
@@ -128,7 +128,7 @@ text_or_tree known text fault tree x y = known.not_both text fault y.models x y.
 syntax_or_tree : Readings → (slots : Slots) (root text : List ℕ) (fault : SyntaxFault) (tree : Tree) → IsRefusal slots root text (Refusal.Syntax fault) → HasTree text tree → ⊥
 syntax_or_tree known slots root text fault tree x y =
     let same = known.list text x.models y.models x.tokens y.tokens in
-    known.fault_or_tree y.models (length text) fault (subst (λ (ts : List TokenModel). IsSyntaxFault ts (length text) fault) same x.fault_of) tree y.parse
+    known.faults_have_no_tree y.models (length text) fault (subst (λ (ts : List TokenModel). IsSyntaxFault ts (length text) fault) same x.fault_of) tree y.parse
 
 one_syntax_fault : Readings → (slots : Slots) (root text : List ℕ) (a b : SyntaxFault) → IsRefusal slots root text (Refusal.Syntax a) → IsRefusal slots root text (Refusal.Syntax b) → a ≡ b
 one_syntax_fault known slots root text a b x y =

@@ -4,6 +4,7 @@ use Rattle.odata_text.specs.Printing.{ArePrintable, Print, print_text, print_tok
 use Rattle.odata_text.specs.TokenModel.{TokenModel}
 use Rattle.odata_text.specs.TokenSequence.{AreTokensOf}
 use Rattle.odata_syntax.specs.CanonicalText.{IsCanonicalText, tree_level, tree_text}
+use Rattle.odata_syntax.specs.Front.{IsShallow}
 use Rattle.odata_syntax.specs.Grammar.{Derives, or_level}
 use Rattle.odata_syntax.specs.NormalForm.{IsNormalForm, bare}
 use Rattle.odata_syntax.specs.Parse.{IsExpression}
@@ -16,6 +17,7 @@ use Rattle.odata_syntax.proofs.printing.BareTexts.{same-text}
 use Rattle.odata_syntax.proofs.printing.Pieces.{pieces, text-pieces}
 use Rattle.odata_syntax.proofs.printing.Printable.{LettersAreIdentifiers, printable, white_none}
 use Rattle.odata_syntax.proofs.printing.Readable.{LowersWords, readable, spelled_tokens}
+use Rattle.odata_syntax.proofs.printing.Shallow.{printed_shallow}
 
 -- what is known of texts, from the crate of tokens
 pub record AreTexts : Type 0 where
@@ -31,6 +33,7 @@ pub record IsReadAs (tree : Tree) (text : List ℕ) : Type 0 where
   pub again : Tree
   pub list : AreTokensOf text tokens
   pub derived : Derives or_level tokens again
+  pub shallow : IsShallow tokens
   pub same : bare again ≡ bare tree
 
 pub text_read : AreTexts → (tree : Tree) → IsExpression tree → IsReadAs tree (tree_text tree)
@@ -46,6 +49,7 @@ text_read law tree is =
       again = read.again;
       list = subst (λ (xs : List ℕ). AreTokensOf xs (print_tokens 0 prints)) text list;
       derived = subst (λ (xs : List TokenModel). Derives or_level xs read.again) (sym all) (at_level or_level (tree_level tree) (some_level tree) read.derived);
+      shallow = printed_shallow is.tokens tree is.parsed.derived is.parsed.shallow;
       same = read.same;
     }
 
@@ -59,6 +63,7 @@ read_back law tree text is canonical =
       again = read.again;
       list = list;
       derived = read.derived;
+      shallow = read.shallow;
       same = λ normal form. read.same ∙ ap bare (normal-one law.spellings tree n normal canonical.is_normal form);
       prints = record {
         normal = read.again;
@@ -66,7 +71,6 @@ read_back law tree text is canonical =
         printed = canonical.printed ∙ sym (same-text read.again n read.same);
       };
       read = λ short few. record { short = short; few = few; tokens = list.tokens; ends = list.ends };
-      parsed = λ shallow. record { derived = read.derived; shallow = shallow };
     }
 
 pub one_text : AreSpellings → (tree : Tree) (a b : List ℕ) → IsCanonicalText tree a → IsCanonicalText tree b → a ≡ b

@@ -64,7 +64,7 @@ at_back (t ∷ ts) us all = at_back ts us all.1
 
 -- A path's level is its tree's.
 
-tall : {level : Level} {ts : List TokenModel} {tree : Tree} → Derives level ts tree → path_level ≤ level → level ≤ tree_level tree
+pub tall : {level : Level} {ts : List TokenModel} {tree : Tree} → Derives level ts tree → path_level ≤ level → level ≤ tree_level tree
 tall (looser {level} d) high = let inner = tall d (omega arith) in omega arith
 tall (derives_binary {operator} l o r) high = let low = operator_level-bounds operator in absurd (omega arith)
 tall (derives_negation m d) high = absurd (omega arith)
