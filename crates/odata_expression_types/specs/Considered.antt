@@ -19,9 +19,14 @@ abbrev pub children_in_scope : Shape → List Tree
 children_in_scope (lambda quantifier base variable body) = base ∷ []
 children_in_scope shape = children_of shape
 
--- a child of a node that is judged, and the scope that it is judged in; the body of a lambda operator is not judged yet
+-- the body of a lambda operator, and the scope with its variable that it is judged in; no body is judged yet
+abbrev pub IsConsideredBody : Slots → List ℕ → Scope → Shape → Scope → Tree → Type 0
+IsConsideredBody slots root scope shape at body = ⊥
+
+-- a child of a node that is judged, and the scope that it is judged in
 abbrev pub IsConsideredChild : Slots → List ℕ → Scope → Shape → Scope → Tree → Type 0
-IsConsideredChild slots root scope shape at child = IsAmong scope (children_in_scope shape) at child
+IsConsideredChild slots root scope shape at child =
+    IsAmong scope (children_in_scope shape) at child ⊎ IsConsideredBody slots root scope shape at child
 
 -- of a tree in a scope, a node that is judged, and the scope that it is judged in: the tree itself, or such a node of a
 -- considered child

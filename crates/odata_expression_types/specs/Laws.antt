@@ -1,19 +1,18 @@
 -- What follows from the definitions of typing alone, and examples that show that they mean something.
 use Rattle.std.specs.Prelude.{◌≡◌, ◌≤◌, ℕ, List, [], ◌∷◌, None, false, codes, length}
-use Rattle.std.specs.List.{AllByRecursion}
 use Rattle.edm_values.specs.declared.primitive.PrimitiveType.{PrimitiveType}
 use Rattle.edm_values.specs.Val.{Val}
 use Rattle.odata_text.specs.Tokens.{token_limit}
 use Rattle.odata_syntax.specs.FirstRun.{first_run_tree}
-use Rattle.odata_syntax.specs.Tree.{Shape, Tree, start_of, shape_of, node, literal, name, binary}
+use Rattle.odata_syntax.specs.Tree.{Shape, Tree, start_of, node, literal, name, binary}
 use Rattle.odata_syntax.specs.declared.node.BinaryOperator.{BinaryOperator}
 use Rattle.odata_syntax.specs.declared.node.LiteralKind.{LiteralKind}
 use Rattle.csdl_schema.specs.ExprType.{ExprType, single, primitive}
 use Rattle.csdl_schema.specs.SchemaModel.{PropertyModel, SchemaModel, Slots, declared}
 use Rattle.odata_signatures.specs.ExprTypes.{boolean_type}
 use Rattle.odata_syntax.specs.Parse.{IsExpression}
-use Rattle.odata_expression_types.specs.Considered.{children_in_scope}
-use Rattle.odata_expression_types.specs.FirstAmong.{IsFirstAmong}
+use Rattle.odata_expression_types.specs.Considered.{ChildrenTyped}
+use Rattle.odata_expression_types.specs.FirstAmong.{IsFirstBelow}
 use Rattle.odata_expression_types.specs.FirstUntypable.{IsFirstUntypable, IsReason, IsUntypable}
 use Rattle.odata_expression_types.specs.HasTyping.{HasNoTyping, HasTree, IsRefusal}
 use Rattle.odata_expression_types.specs.declared.refusal.Refusal.{Refusal}
@@ -57,14 +56,14 @@ TypedIsClear =
 abbrev pub FirstBelow : Type 0
 FirstBelow =
     (slots : Slots) (root : List ℕ) (scope : Scope) (tree : Tree) (fault : TypeFault)
-    → IsFirstAmong slots root scope (children_in_scope (shape_of tree)) fault
+    → IsFirstBelow slots root scope tree fault
     → IsFirstUntypable slots root scope tree fault
 
 -- where the children have types and the node has none, it is the first
 abbrev pub FirstItself : Type 0
 FirstItself =
     (slots : Slots) (root : List ℕ) (scope : Scope) (start stop : ℕ) (shape : Shape) (fault : TypeFault)
-    → AllByRecursion (IsTyped slots root scope) (children_in_scope shape)
+    → ChildrenTyped slots root scope (node start stop shape)
     → IsUntyped slots root scope (node start stop shape)
     → IsReason slots root scope (node start stop shape) fault.code
     → fault.span.start ≡ start

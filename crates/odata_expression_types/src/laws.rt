@@ -33,8 +33,8 @@ pub fn typed_trees_are_clear()
     ensures { TypedIsClear }
 {}
 
-/// A law: the first fault among a node's children is the first of its tree; where its children have types, the node itself
-/// is at fault.
+/// A law: the first fault below a node, among its children that are judged, is the first of its tree; where these have
+/// types, the node itself is at fault.
 pub fn children_come_first()
     ensures below { FirstBelow }
     ensures itself { FirstItself }

@@ -90,14 +90,14 @@ of_left :
     → IsPart schema n scope list left k at
     → IsPart schema n scope list (node start stop (binary operator left right)) k at
 of_left schema n scope list start stop operator left right k at part =
-    record { j = part.j; stands = part.stands; variables = part.variables; considered = considers_below {child = left} (inl (refl, refl)) part.considered }
+    record { j = part.j; stands = part.stands; variables = part.variables; considered = considers_below {child = left} (inl (inl (refl, refl))) part.considered }
 
 of_right :
     (schema : SchemaModel) (n : ℕ) (scope : Scope) (list : FlatTree) (start stop : ℕ) (operator : _) (left right : Tree) (k : ℕ) (at : ScopedNode)
     → IsPart schema n scope list right k at
     → IsPart schema n scope list (node start stop (binary operator left right)) k at
 of_right schema n scope list start stop operator left right k at part =
-    record { j = part.j; stands = part.stands; variables = part.variables; considered = considers_below {child = right} (inr (inl (refl, refl))) part.considered }
+    record { j = part.j; stands = part.stands; variables = part.variables; considered = considers_below {child = right} (inl (inr (inl (refl, refl)))) part.considered }
 
 -- a part of one of several trees
 record IsPartAmong (schema : SchemaModel) (n : ℕ) (scope : Scope) (list : FlatTree) (trees : Trees) (k : ℕ) (at : ScopedNode) : Type 0 where
@@ -122,7 +122,7 @@ of_argument :
     → IsPartAmong schema n scope list arguments k at
     → IsPart schema n scope list (node start stop (call asked arguments)) k at
 of_argument schema n scope list start stop asked arguments k at is =
-    of_only schema n scope list start stop (call asked arguments) is.child k at is.among is.part
+    of_only schema n scope list start stop (call asked arguments) is.child k at (inl is.among) is.part
 
 first_of : {X : Type 0} (x y : X) (xs : List X) → slice_get (x ∷ xs) 0 ≡ Some y → x ≡ y
 first_of x y xs found = cc
@@ -142,17 +142,17 @@ mutual
   part_stands schema n scope list i j (node start stop (member base asked)) (suc k) at stands found =
       let P : ℕ → Type 0 = λ (x : ℕ). IsPart schema n scope list (node start stop (member base asked)) x at in
       let e : i + 1 + k ≡ i + suc k = omega arith in
-      subst P e (of_only schema n scope list start stop (member base asked) base (i + 1 + k) at (inl (refl, refl))
+      subst P e (of_only schema n scope list start stop (member base asked) base (i + 1 + k) at (inl (inl (refl, refl)))
       (part_stands schema n scope list (i + 1) j base k at stands.children found))
   part_stands schema n scope list i j (node start stop (negation operand)) (suc k) at stands found =
       let P : ℕ → Type 0 = λ (x : ℕ). IsPart schema n scope list (node start stop (negation operand)) x at in
       let e : i + 1 + k ≡ i + suc k = omega arith in
-      subst P e (of_only schema n scope list start stop (negation operand) operand (i + 1 + k) at (inl (refl, refl))
+      subst P e (of_only schema n scope list start stop (negation operand) operand (i + 1 + k) at (inl (inl (refl, refl)))
       (part_stands schema n scope list (i + 1) j operand k at stands.children found))
   part_stands schema n scope list i j (node start stop (logical_not operand)) (suc k) at stands found =
       let P : ℕ → Type 0 = λ (x : ℕ). IsPart schema n scope list (node start stop (logical_not operand)) x at in
       let e : i + 1 + k ≡ i + suc k = omega arith in
-      subst P e (of_only schema n scope list start stop (logical_not operand) operand (i + 1 + k) at (inl (refl, refl))
+      subst P e (of_only schema n scope list start stop (logical_not operand) operand (i + 1 + k) at (inl (inl (refl, refl)))
       (part_stands schema n scope list (i + 1) j operand k at stands.children found))
   part_stands schema n scope list i j (node start stop (binary operator left right)) (suc k) at stands found =
       let m = stands.children.middle in

@@ -9,7 +9,7 @@ use Rattle.csdl_schema.specs.SchemaModel.{Slots, slots_of, type_name_at}
 use Rattle.odata_signatures.specs.Functions.{IsNamed, row_of}
 use Rattle.odata_signatures.specs.declared.function.Function.{Function}
 use Rattle.edm_values.specs.declared.value.Value.{Value}
-use Rattle.odata_expression_types.specs.Considered.{IsAmong, IsConsidered, children_in_scope, considers_below, considers_itself}
+use Rattle.odata_expression_types.specs.Considered.{IsAmong, IsConsidered, IsConsideredChild, children_in_scope, considers_below, considers_itself}
 use Rattle.odata_expression_types.specs.PreOrder.{nodes_among, nodes_below, pre_order}
 use Rattle.odata_expression_types.specs.Typed.{Scope}
 use Rattle.odata_checked_filter.specs.declared.checked_node.CheckedNode.{CheckedNode}
@@ -104,10 +104,14 @@ child_contained scope at (in_path left path) child among = among_contained scope
 child_contained scope at (call asked arguments) child among = among_contained scope at (list_of_trees arguments) child among
 child_contained scope at (any_item base) child among = among_contained scope at (base ∷ []) child among
 
+considered_contained : (slots : Slots) (root : List ℕ) (scope at : Scope) (shape : Shape) (child : Tree) → IsConsideredChild slots root scope shape at child → Contains (children_of shape) child
+considered_contained slots root scope at shape child (inl among) = child_contained scope at shape child among
+considered_contained slots root scope at shape child (inr body) = absurd body
+
 within_considered : (slots : Slots) (root : List ℕ) (scope : Scope) (tree : Tree) (at : Scope) (part : Tree) → IsConsidered slots root scope tree at part → IsWithin part tree
 within_considered slots root scope tree at part considers_itself = is_root
 within_considered slots root scope tree at part (considers_below {inner = inner} {child = child} among below) =
-    in_child {child = child} (child_contained scope inner (shape_of tree) child among) (within_considered slots root inner child at part below)
+    in_child {child = child} (considered_contained slots root scope inner (shape_of tree) child among) (within_considered slots root inner child at part below)
 
 -- ---- a test of kinds
 

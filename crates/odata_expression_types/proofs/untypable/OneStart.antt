@@ -6,7 +6,7 @@ use Rattle.odata_syntax.specs.Parse.{IsExpression}
 use Rattle.odata_syntax.specs.Spans.{HoldsSpan, IsWithin, SharesNoByte, children_of, in_child, is_root}
 use Rattle.odata_syntax.specs.Tree.{Shape, Tree, lambda, shape_of, start_of, stop_of}
 use Rattle.csdl_schema.specs.SchemaModel.{Slots}
-use Rattle.odata_expression_types.specs.Considered.{ChildrenTyped, IsAmong, IsConsidered, children_in_scope, considers_below, considers_itself}
+use Rattle.odata_expression_types.specs.Considered.{ChildrenTyped, IsAmong, IsConsidered, IsConsideredChild, children_in_scope, considers_below, considers_itself}
 use Rattle.odata_expression_types.specs.FirstUntypable.{IsUntypable}
 use Rattle.odata_expression_types.specs.Typed.{Scope, IsUntyped}
 use Rattle.odata_expression_types.proofs.untypable.Untypable.{IsBelow, itself_or_below, typed_clear}
@@ -36,11 +36,27 @@ among_scope scope [] at tree among = absurd among
 among_scope scope (x ∷ xs) at tree (inl here) = here.0
 among_scope scope (x ∷ xs) at tree (inr behind) = among_scope scope xs at tree behind
 
--- a considered child is a child
-considered_child : (scope : Scope) (shape : Shape) (at : Scope) (child : Tree) → IsAmong scope (children_in_scope shape) at child → Contains (children_of shape) child
-considered_child scope (lambda quantifier base variable body) at child among =
+child_among : (scope : Scope) (shape : Shape) (at : Scope) (child : Tree) → IsAmong scope (children_in_scope shape) at child → Contains (children_of shape) child
+child_among scope (lambda quantifier base variable body) at child among =
     Contains-append_left (base ∷ []) (body ∷ []) child (among_contained scope (base ∷ []) at child among)
-considered_child scope shape at child among = among_contained scope (children_of shape) at child among
+child_among scope shape at child among = among_contained scope (children_of shape) at child among
+
+-- a considered child is a child
+considered_child : (slots : Slots) (root : List ℕ) (scope : Scope) (shape : Shape) (at : Scope) (child : Tree) → IsConsideredChild slots root scope shape at child → Contains (children_of shape) child
+considered_child slots root scope shape at child (inl among) = child_among scope shape at child among
+considered_child slots root scope shape at child (inr body) = absurd body
+
+-- a child is considered in one scope, that of its place
+one_scope :
+    (slots : Slots) (root : List ℕ) (scope : Scope) (shape : Shape) (at at' : Scope) (child child' : Tree)
+    → IsConsideredChild slots root scope shape at child
+    → IsConsideredChild slots root scope shape at' child'
+    → child ≡ child'
+    → at' ≡ at
+one_scope slots root scope shape at at' child child' (inl x) (inl y) same =
+    among_scope scope (children_in_scope shape) at' child' y ∙ sym (among_scope scope (children_in_scope shape) at child x)
+one_scope slots root scope shape at at' child child' (inl x) (inr body) same = absurd body
+one_scope slots root scope shape at at' child child' (inr body) y same = absurd body
 
 -- a node of a node is one of the whole
 within_whole : {part outer whole : Tree} → IsWithin part outer → IsWithin outer whole → IsWithin part whole
@@ -50,8 +66,8 @@ within_whole inner (in_child c outer) = in_child c (within_whole inner outer)
 -- so is a considered one
 considered_within : {slots : Slots} {root : List ℕ} {scope at : Scope} {tree part : Tree} → IsConsidered slots root scope tree at part → IsWithin part tree
 considered_within considers_itself = is_root
-considered_within {scope = scope} {tree = tree} (considers_below {inner = inner} {child = child} is within) =
-    in_child (considered_child scope (shape_of tree) inner child is) (considered_within within)
+considered_within {slots = slots} {root = root} {scope = scope} {tree = tree} (considers_below {inner = inner} {child = child} is within) =
+    in_child (considered_child slots root scope (shape_of tree) inner child is) (considered_within within)
 
 abbrev IsOne : Scope → Tree → Scope → Tree → Type 0
 IsOne at part at' part' = (at ≡ at') × (part ≡ part')
@@ -76,7 +92,7 @@ Same slots root whole inner child at part =
 
 one_below :
     {slots : Slots} {root : List ℕ} {scope inner at : Scope} {tree child part : Tree}
-    → IsAmong scope (children_in_scope (shape_of tree)) inner child
+    → IsConsideredChild slots root scope (shape_of tree) inner child
     → IsConsidered slots root inner child at part
     → (whole : Tree) (at' : Scope) (part' : Tree)
     → Places
@@ -89,14 +105,14 @@ one_below :
     → IsOne at part at' part'
 unfolding Same
 one_below {slots = slots} {root = root} {scope = scope} {inner = inner} {tree = tree} {child = child} {part = part} among within whole at' part' places e inside is below same further =
-    let c = considered_child scope (shape_of tree) inner child among in
-    let d = considered_child scope (shape_of tree) below.inner below.child below.is in
+    let c = considered_child slots root scope (shape_of tree) inner child among in
+    let d = considered_child slots root scope (shape_of tree) below.inner below.child below.is in
     let first : IsWithin child whole = within_whole (in_child c is_root) inside in
     let second : IsWithin below.child whole = within_whole (in_child d is_root) inside in
     elim (places.apart whole tree child below.child e inside c d) [
       | inl one ↦
           let scopes : below.inner ≡ inner =
-          among_scope scope (children_in_scope (shape_of tree)) below.inner below.child below.is ∙ sym (among_scope scope (children_in_scope (shape_of tree)) inner child among) in
+          one_scope slots root scope (shape_of tree) inner below.inner child below.child among below.is one in
           let there : IsConsidered slots root inner child at' part' =
           subst (λ (t : Tree). IsConsidered slots root inner t at' part') (sym one) (subst (λ (s : Scope). IsConsidered slots root s below.child at' part') scopes below.within) in
           further at' part' first (record { considered = there; untyped = is.untyped; children = is.children }) same

@@ -6,10 +6,10 @@ use Rattle.odata_syntax.specs.Spans.{list_of_trees}
 use Rattle.csdl_schema.specs.ExprType.{ExprType}
 use Rattle.csdl_schema.specs.SchemaModel.{Slots}
 use Rattle.odata_expression_types.specs.declared.refusal.TypeFault.{TypeFault}
-use Rattle.odata_expression_types.specs.Considered.{IsAmong, IsConsidered, IsConsideredChild, IsItself, children_in_scope, considers_below, considers_itself}
+use Rattle.odata_expression_types.specs.Considered.{ChildrenTyped, IsAmong, IsConsidered, IsConsideredChild, IsItself, children_in_scope, considers_below, considers_itself}
 use Rattle.odata_expression_types.specs.FirstUntypable.{IsUntypable, IsFirstUntypable, IsReason}
 use Rattle.odata_expression_types.specs.Typed.{AreTyped, Scope, Typed, IsTyped, IsUntyped}
-use Rattle.odata_expression_types.specs.FirstAmong.{IsFirstAmong, StartFrom}
+use Rattle.odata_expression_types.specs.FirstAmong.{IsFirstBelow}
 
 -- trees in one scope that all have types
 abbrev pub AllTyped : Slots → List ℕ → Scope → List Tree → Type 0
@@ -48,6 +48,15 @@ children_typed slots root scope (node start stop (binary operator left right)) t
 children_typed slots root scope (node start stop (call asked arguments)) type typed = all_of_them slots root scope arguments typed.types typed.arguments_typed
 children_typed slots root scope (node start stop _) type typed = absurd typed
 
+child_typed :
+    (slots : Slots) (root : List ℕ) (scope : Scope) (tree : Tree) (inner : Scope) (child : Tree)
+    → IsTyped slots root scope tree
+    → IsConsideredChild slots root scope (shape_of tree) inner child
+    → IsTyped slots root inner child
+child_typed slots root scope tree inner child typed (inl among) =
+    among_typed slots root scope (children_in_scope (shape_of tree)) inner child (children_typed slots root scope tree typed.0 typed.1) among
+child_typed slots root scope tree inner child typed (inr body) = absurd body
+
 -- in a tree that has a type each considered node has one
 pub considered_typed :
     (slots : Slots) (root : List ℕ) (scope : Scope) (tree : Tree) (at : Scope) (part : Tree)
@@ -56,9 +65,7 @@ pub considered_typed :
     → IsTyped slots root at part
 considered_typed slots root scope tree at part typed considers_itself = typed
 considered_typed slots root scope tree at part typed (considers_below {inner = inner} {child = child} is within) =
-    considered_typed slots root inner child at part
-    (among_typed slots root scope (children_in_scope (shape_of tree)) inner child (children_typed slots root scope tree typed.0 typed.1) is)
-    within
+    considered_typed slots root inner child at part (child_typed slots root scope tree inner child typed is) within
 
 -- a tree that has a type has no untypable node
 pub typed_clear :
@@ -90,10 +97,10 @@ itself_or_below slots root scope tree at part considers_itself = inl (refl, refl
 itself_or_below slots root scope tree at part (considers_below {inner = inner} {child = child} is within) =
     inr (record { inner = inner; child = child; is = is; within = within })
 
--- the first fault among a node's children is that of the node
+-- the first fault below a node is that of the node
 pub first_below :
     (slots : Slots) (root : List ℕ) (scope : Scope) (tree : Tree) (fault : TypeFault)
-    → IsFirstAmong slots root scope (children_in_scope (shape_of tree)) fault
+    → IsFirstBelow slots root scope tree fault
     → IsFirstUntypable slots root scope tree fault
 first_below slots root scope tree fault first =
     let found = first.found in
@@ -101,14 +108,12 @@ first_below slots root scope tree fault first =
     record {
       at = found.at;
       part = found.part;
-      untypable = record { considered = considers_below first.among found.untypable.considered; untyped = found.untypable.untyped; children = found.untypable.children };
+      untypable = record { considered = considers_below first.is found.untypable.considered; untyped = found.untypable.untyped; children = found.untypable.children };
       first = λ at other is. elim (itself_or_below slots root scope tree at other is.considered) [
         | inl here ↦
-            let P : Scope → Type 0 = λ (s : Scope). IsTyped slots root s first.tree in
-            let Q : Tree → Type 0 = λ (t : Tree). IsAmong at (children_in_scope (shape_of t)) at first.tree in
-            let R : Scope → Type 0 = λ (s : Scope). IsAmong s (children_in_scope (shape_of tree)) s first.tree in
-            absurd (untypable_blocks slots root scope first.tree fault found
-            (subst P here.0 (is.children at first.tree (subst Q (sym here.1) (subst R (sym here.0) first.among)))))
+            let own : ChildrenTyped slots root scope tree =
+            subst (λ (t : Tree). ChildrenTyped slots root scope t) here.1 (subst (λ (s : Scope). ChildrenTyped slots root s other) here.0 is.children) in
+            absurd (untypable_blocks slots root first.at first.child fault found (own first.at first.child first.is))
         | inr below ↦
             let le : fault.span.start ≤ start_of other =
             first.others below.inner below.child below.is at other (record { considered = below.within; untyped = is.untyped; children = is.children }) in
@@ -122,7 +127,7 @@ first_below slots root scope tree fault first =
 -- a node whose children have types, and that has none itself
 pub first_itself :
     (slots : Slots) (root : List ℕ) (scope : Scope) (start stop : ℕ) (shape : Shape) (fault : TypeFault)
-    → AllTyped slots root scope (children_in_scope shape)
+    → ChildrenTyped slots root scope (node start stop shape)
     → IsUntyped slots root scope (node start stop shape)
     → IsReason slots root scope (node start stop shape) fault.code
     → fault.span.start ≡ start
@@ -131,16 +136,11 @@ pub first_itself :
 first_itself slots root scope start stop shape fault typed untyped reason starts stops = record {
   at = scope;
   part = node start stop shape;
-  untypable = record {
-    considered = considers_itself;
-    untyped = untyped;
-    children = λ at child among. among_typed slots root scope (children_in_scope shape) at child typed among;
-  };
+  untypable = record { considered = considers_itself; untyped = untyped; children = typed };
   first = λ at other is. elim (itself_or_below slots root scope (node start stop shape) at other is.considered) [
     | inl here ↦ let same : start_of other ≡ start = ap start_of here.1 in omega arith
     | inr below ↦
-        absurd (typed_clear slots root below.inner below.child at other
-        (among_typed slots root scope (children_in_scope shape) below.inner below.child typed below.is)
+        absurd (typed_clear slots root below.inner below.child at other (typed below.inner below.child below.is)
         (record { considered = below.within; untyped = is.untyped; children = is.children }))
   ];
   reason = reason;

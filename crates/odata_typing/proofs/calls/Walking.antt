@@ -29,7 +29,7 @@ use Rattle.odata_typing.specs.private.Judged.{HasFaultAmong, IsToldOf}
 use Rattle.odata_typing.specs.private.LawsBelow.{LawsBelow}
 use Rattle.odata_typing.proofs.flat.Closing.{kept_on, opened_length, put_in}
 use Rattle.odata_typing.proofs.untypable.Operands.{told_below, told_both, told_fault, walked_typed}
-use Rattle.odata_typing.proofs.untypable.Untypable.{all_typed}
+use Rattle.odata_typing.proofs.untypable.Untypable.{all_typed, first_itself}
 
 -- a list, as trees and again as a list
 pub listed_again : (trees : List Tree) → list_of_trees (trees_of_list trees) ≡ trees
@@ -196,7 +196,7 @@ module _ (laws : LawsBelow) where
   refused_call schema n scope span asked trees opened last types fault code walked none reason same =
       let slots = slots_of schema in
       let root = type_name_at schema n in
-      laws.itself slots root scope span.start span.stop (call asked (trees_of_list trees)) (record { code = code; span = span })
+      first_itself laws slots root scope span.start span.stop (call asked (trees_of_list trees)) (record { code = code; span = span })
       (subst (λ (ts : List Tree). AllByRecursion (IsTyped slots root scope) ts) (sym (listed_again trees)) walked.each)
       (λ type typed.
       let types_are : typed.types ≡ map (expr_type schema) types = one_types slots root scope trees typed.types (map (expr_type schema) types) typed.arguments_typed walked.typed in

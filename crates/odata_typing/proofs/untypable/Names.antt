@@ -11,6 +11,7 @@ use Rattle.odata_expression_types.specs.declared.refusal.TypeFaultCode.{TypeFaul
 use Rattle.odata_expression_types.specs.FirstUntypable.{IsFirstUntypable, NameReason, PropertyReason}
 use Rattle.odata_expression_types.specs.Typed.{PropertyTyped}
 use Rattle.odata_typing.specs.private.LawsBelow.{LawsBelow}
+use Rattle.odata_typing.proofs.untypable.Untypable.{first_itself}
 use Rattle.odata_typing.proofs.untypable.PropertySlots.{slot_below, property_at, property_none}
 
 -- a name that has no type
@@ -20,7 +21,7 @@ pub first_name :
     → NameReason (slots.properties root) asked code
     → IsFirstUntypable slots root [] (node span.start span.stop (name asked)) (record { code = code; span = span })
 first_name laws slots root asked span code untyped reason =
-    laws.itself slots root [] span.start span.stop (name asked) (record { code = code; span = span }) tt untyped reason refl refl
+    first_itself laws slots root [] span.start span.stop (name asked) (record { code = code; span = span }) tt untyped reason refl refl
 
 -- there is no property of the name
 pub unknown_untyped : (properties : List PropertyModel) (asked : List ℕ) (type : ExprType) → slot_named properties asked ≡ None → ¬ PropertyTyped properties asked type

@@ -23,7 +23,7 @@ use Rattle.odata_expression_types.specs.LiteralValue.{LiteralTyped}
 use Rattle.odata_signatures.specs.OperatorTyped.{NegationTyped, NotTyped, OperatorTyped}
 use Rattle.odata_expression_types.specs.Typed.{IsTyped, OperandTyped, Scope, StepTyped, Typed}
 use Rattle.odata_signatures.specs.TypeView.{expr_type}
-use Rattle.odata_typing.proofs.untypable.Untypable.{all_typed, first_in_back, first_in_front, first_of_both, one_of, typed_start}
+use Rattle.odata_typing.proofs.untypable.Untypable.{all_typed, below_node, first_in_back, first_in_front, first_itself, first_of_both, one_of, typed_start}
 
 -- trees of nodes, with one more behind
 pub listed_more : (nodes : List Node) (more : Node) → list_of_trees (trees_of (nodes ++ more ∷ [])) ≡ list_of_trees (trees_of nodes) ++ tree_of more ∷ []
@@ -86,7 +86,7 @@ module _ (laws : LawsBelow) where
       (schema : SchemaModel) (n : ℕ) (scope : Scope) (tree : Tree) (told : Untyped)
       → IsToldOf schema n scope (children_in_scope (shape_of tree)) (Some told)
       → HasFault schema n scope tree told
-  told_below schema n scope tree (Untyped.Fault fault) found = laws.below (slots_of schema) (type_name_at schema n) scope tree fault found
+  told_below schema n scope tree (Untyped.Fault fault) found = laws.below (slots_of schema) (type_name_at schema n) scope tree fault (below_node (slots_of schema) (type_name_at schema n) scope tree fault found)
   told_below schema n scope tree Untyped.Memory found = tt
 
   pub HasFault-left :
@@ -138,7 +138,7 @@ module _ (laws : LawsBelow) where
       → ((type : ExprType) → ¬ OperatorTyped operator (expr_type schema left) (expr_type schema right) type)
       → IsFirstUntypable (slots_of schema) (type_name_at schema n) scope (node span.start span.stop (binary operator l r)) (record { code = TypeFaultCode.OperandTypes; span = span })
   refused_itself schema n scope span operator l r opened between last left right a b refused =
-      laws.itself (slots_of schema) (type_name_at schema n) scope span.start span.stop (binary operator l r) (record { code = TypeFaultCode.OperandTypes; span = span })
+      first_itself laws (slots_of schema) (type_name_at schema n) scope span.start span.stop (binary operator l r) (record { code = TypeFaultCode.OperandTypes; span = span })
       (walked_typed schema n scope opened l between left a, (walked_typed schema n scope between r last right b, tt))
       (operator_untyped (slots_of schema) (type_name_at schema n) scope span.start span.stop operator l r (expr_type schema left) (expr_type schema right) a.typed b.typed refused)
       refl refl refl
@@ -159,7 +159,7 @@ module _ (laws : LawsBelow) where
       → ((made : ExprType) → ¬ NegationTyped (expr_type schema type) made)
       → IsFirstUntypable (slots_of schema) (type_name_at schema n) scope (node span.start span.stop (negation operand)) (record { code = TypeFaultCode.OperandTypes; span = span })
   refused_negation schema n scope span operand opened last type walked refused =
-      laws.itself (slots_of schema) (type_name_at schema n) scope span.start span.stop (negation operand) (record { code = TypeFaultCode.OperandTypes; span = span })
+      first_itself laws (slots_of schema) (type_name_at schema n) scope span.start span.stop (negation operand) (record { code = TypeFaultCode.OperandTypes; span = span })
       (walked_typed schema n scope opened operand last type walked, tt)
       (over_untyped (slots_of schema) (type_name_at schema n) scope operand (expr_type schema type) NegationTyped walked.typed refused)
       refl refl refl
@@ -170,7 +170,7 @@ module _ (laws : LawsBelow) where
       → ((made : ExprType) → ¬ NotTyped (expr_type schema type) made)
       → IsFirstUntypable (slots_of schema) (type_name_at schema n) scope (node span.start span.stop (logical_not operand)) (record { code = TypeFaultCode.OperandTypes; span = span })
   refused_not schema n scope span operand opened last type walked refused =
-      laws.itself (slots_of schema) (type_name_at schema n) scope span.start span.stop (logical_not operand) (record { code = TypeFaultCode.OperandTypes; span = span })
+      first_itself laws (slots_of schema) (type_name_at schema n) scope span.start span.stop (logical_not operand) (record { code = TypeFaultCode.OperandTypes; span = span })
       (walked_typed schema n scope opened operand last type walked, tt)
       (over_untyped (slots_of schema) (type_name_at schema n) scope operand (expr_type schema type) NotTyped walked.typed refused)
       refl refl refl
@@ -182,7 +182,7 @@ module _ (laws : LawsBelow) where
       → StepReason (slots_of schema) asked (expr_type schema type) code
       → IsFirstUntypable (slots_of schema) (type_name_at schema n) scope (node span.start span.stop (member base asked)) (record { code = code; span = span })
   refused_step schema n scope span base asked opened last type code walked refused reason =
-      laws.itself (slots_of schema) (type_name_at schema n) scope span.start span.stop (member base asked) (record { code = code; span = span })
+      first_itself laws (slots_of schema) (type_name_at schema n) scope span.start span.stop (member base asked) (record { code = code; span = span })
       (walked_typed schema n scope opened base last type walked, tt)
       (over_untyped (slots_of schema) (type_name_at schema n) scope base (expr_type schema type) (StepTyped (slots_of schema) asked) walked.typed refused)
       (expr_type schema type, walked.typed, reason) refl refl
@@ -218,7 +218,7 @@ module _ (laws : LawsBelow) where
       → span.stop ≡ stop_of tree
       → HasFault schema n scope tree (Untyped.Fault (record { code = code; span = span }))
   unruled_itself schema n scope (node start stop shape) span code unruled typed reason starts stops =
-      laws.itself (slots_of schema) (type_name_at schema n) scope start stop shape (record { code = code; span = span })
+      first_itself laws (slots_of schema) (type_name_at schema n) scope start stop shape (record { code = code; span = span })
       typed (λ type. unruled_untyped (slots_of schema) (type_name_at schema n) scope start stop shape type unruled) reason starts stops
 
   -- a literal that has no value
@@ -228,4 +228,4 @@ module _ (laws : LawsBelow) where
       → LiteralReason kind code
       → HasFault schema n scope (node span.start span.stop (literal kind spelling)) (Untyped.Fault (record { code = code; span = span }))
   unread_literal schema n scope span kind spelling code untyped reason =
-      laws.itself (slots_of schema) (type_name_at schema n) scope span.start span.stop (literal kind spelling) (record { code = code; span = span }) tt untyped reason refl refl
+      first_itself laws (slots_of schema) (type_name_at schema n) scope span.start span.stop (literal kind spelling) (record { code = code; span = span }) tt untyped reason refl refl

@@ -1,15 +1,16 @@
 -- The first untypable node among trees one behind another.
 use Rattle.std.proofs.Common.{◌≡◌, refl, sym, ap, inl, inr, ◌⊎◌, ℕ, ◌<◌, ◌≤◌, List, [], ◌∷◌, ◌++◌, subst, arith}
 use Rattle.std.specs.List.{AllByRecursion}
-use Rattle.odata_syntax.specs.Tree.{Tree, start_of}
+use Rattle.odata_syntax.specs.Tree.{Shape, Tree, node, shape_of, start_of}
 use Rattle.csdl_schema.specs.SchemaModel.{Slots}
 use Rattle.odata_expression_types.specs.declared.refusal.TypeFault.{TypeFault}
-use Rattle.odata_expression_types.specs.Considered.{IsAmong}
-use Rattle.odata_expression_types.specs.FirstUntypable.{IsUntypable, IsFirstUntypable}
+use Rattle.odata_expression_types.specs.Considered.{ChildrenTyped, IsAmong, children_in_scope}
+use Rattle.odata_expression_types.specs.FirstUntypable.{IsFirstUntypable, IsReason, IsUntypable}
 use Rattle.odata_expression_types.specs.Laws.{TypedIsClear}
-use Rattle.odata_expression_types.specs.Typed.{Scope, IsTyped}
+use Rattle.odata_expression_types.specs.Typed.{IsTyped, IsUntyped, Scope}
+use Rattle.odata_typing.specs.private.LawsBelow.{LawsBelow}
 use Rattle.odata_typing.specs.private.EarlierFault.{IsEarlierFault}
-use Rattle.odata_expression_types.specs.FirstAmong.{IsFirstAmong, StartFrom}
+use Rattle.odata_expression_types.specs.FirstAmong.{IsFirstAmong, IsFirstBelow, StartFrom}
 
 -- trees in one scope that all have types
 abbrev pub AllTyped : Slots → List ℕ → Scope → List Tree → Type 0
@@ -123,3 +124,36 @@ first_of_both slots root scope xs ys first second told x y (inr is) =
     let lt : second.span.start < first.span.start = is.1 in
     let le : second.span.start ≤ first.span.start = omega arith in
     subst P (sym is.0) (first_in_back slots root scope xs ys second (lower slots root scope xs second.span.start first.span.start le x.others) y)
+
+-- as long as no body is judged, the first fault among a node's children in its scope is the first below it
+pub below_node :
+    (slots : Slots) (root : List ℕ) (scope : Scope) (tree : Tree) (fault : TypeFault)
+    → IsFirstAmong slots root scope (children_in_scope (shape_of tree)) fault
+    → IsFirstBelow slots root scope tree fault
+below_node slots root scope tree fault first = record {
+  at = scope;
+  child = first.tree;
+  is = inl first.among;
+  found = first.found;
+  others = λ inner other is. elim is [ inl among ↦ first.others inner other among | inr body ↦ absurd body ];
+}
+
+-- and where these have types, all children that are judged have
+pub children_typed :
+    (slots : Slots) (root : List ℕ) (scope : Scope) (start stop : ℕ) (shape : Shape)
+    → AllTyped slots root scope (children_in_scope shape)
+    → ChildrenTyped slots root scope (node start stop shape)
+children_typed slots root scope start stop shape typed = λ at child is.
+    elim is [ inl among ↦ among_typed slots root scope (children_in_scope shape) at child typed among | inr body ↦ absurd body ]
+
+-- a node whose children have types, and that has none itself, is the first
+pub first_itself :
+    LawsBelow → (slots : Slots) (root : List ℕ) (scope : Scope) (start stop : ℕ) (shape : Shape) (fault : TypeFault)
+    → AllTyped slots root scope (children_in_scope shape)
+    → IsUntyped slots root scope (node start stop shape)
+    → IsReason slots root scope (node start stop shape) fault.code
+    → fault.span.start ≡ start
+    → fault.span.stop ≡ stop
+    → IsFirstUntypable slots root scope (node start stop shape) fault
+first_itself laws slots root scope start stop shape fault typed =
+    laws.itself slots root scope start stop shape fault (children_typed slots root scope start stop shape typed)
