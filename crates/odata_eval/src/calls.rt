@@ -97,6 +97,7 @@ fn called_on_text<'e>(
 }
 
 /// What a function makes of two values.
+#[inline(always)]
 pub(crate) fn called_on_two<'e>(
     alloc: Global,
     function: Function,
@@ -121,6 +122,7 @@ pub(crate) fn called_on_two<'e>(
 }
 
 /// What a function makes of two texts.
+#[inline(always)]
 fn called_on_texts<'e>(
     alloc: Global,
     function: Function,

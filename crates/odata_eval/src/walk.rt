@@ -57,6 +57,9 @@ fn plain_truth_at(scene: &Scene<'_, '_, '_>, place: usize) -> Result<Option<bool
             return compared_truth_at(scene, place, operator);
         }
     }
+    if let NodeKind::Call { function } = scene.node(place).kind {
+        return called_truth_at(scene, place, function);
+    }
     match part_at(scene, place) {
         Part::Leaf(value) => Ok(kept_truth(value)),
         Part::Logical => unreachable!(),
@@ -122,6 +125,43 @@ fn numbers_truth_at(
             Err(fault) => Err(fault),
         },
         _ => made_truth_at(scene, place),
+    }
+}
+
+/// The same, of a call. Two values that are kept are taken where they are.
+#[cycle(evaluate)]
+#[inline(always)]
+fn called_truth_at(
+    scene: &Scene<'_, '_, '_>,
+    place: usize,
+    function: Function,
+) -> Result<Option<bool>, EvalFault>
+    requires stands { TruthStands scene.now place }
+    requires here { HasCall scene.now.list place function }
+    ensures { AnswersTruth scene.now place result }
+{
+    scene.ends_once();
+    calls_have_one_type();
+    let _nodes = scene.nodes();
+    let own_stop = stop_of(scene, place);
+    let first = match part_at(scene, place + 1) {
+        Part::Leaf(value) => datum_of(value),
+        _ => return made_truth_at(scene, place),
+    };
+    let second_place = stop_of(scene, place + 1);
+    if second_place == own_stop {
+        return made_truth_at(scene, place);
+    }
+    if stop_of(scene, second_place) != own_stop {
+        return made_truth_at(scene, place);
+    }
+    let second = match part_at(scene, second_place) {
+        Part::Leaf(value) => datum_of(value),
+        _ => return made_truth_at(scene, place),
+    };
+    match called_on_two(scene.alloc(), function, first, second) {
+        Ok(value) => Ok(truth_of(&value)),
+        Err(fault) => Err(fault),
     }
 }
 

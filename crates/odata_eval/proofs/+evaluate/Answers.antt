@@ -470,3 +470,71 @@ walk::called_at-returns-in-Ok-operand_at t c =
 pub walk::called_at-returns : goal.walk::called_at-returns
 walk::called_at-returns t c =
     argument_faults c.args.scene.now c.calls_have_one_type.ensures.named c.args.place c.args.function c.requires.here c.stop_of-own_stop.result c.stop_of-own_stop.ensures c.stop_of-third_place.result (c.args.first ∷ c.in-Ok.second ∷ []) c.in-Err-operand_at.fault (two_answered c.args.scene.now c.calls_have_one_type.ensures.named c.args.place c.args.function c.requires.here c.stop_of-own_stop.result c.stop_of-own_stop.ensures c.requires.stands c.stop_of-second_place.result c.stop_of-second_place.ensures c.args.first c.requires.first c.if-second_place-own_stop.false c.stop_of-third_place.result c.stop_of-third_place.ensures c.in-Ok.second c.in-Ok.ensures) c.if-third_place-own_stop.false c.in-Err-operand_at.ensures
+
+-- ---- a call of two values that are kept
+
+-- the second argument stands where the first one stops, unless that is the last
+second_there : (scene : SceneModel) → OneName → (place : ℕ) (function : Function) → HasCall scene.list place function → (own : ℕ) → IsStopOf scene.list place own → PartStands scene place
+    → (second : ℕ) → IsStopOf scene.list (place + 1) second → (first : Datum) → AnswersDatum scene (place + 1) (Ok first) → ¬ (second ≡ own) → PartStands scene second
+second_there scene names place function here own is_own part second is_second first answers further =
+    argument_stands scene names place function here own is_own second (first ∷ []) part (one_answered scene names place function here own is_own part second is_second first answers) further
+
+-- and these two are all where the second one stops with the call
+two_are_all : (scene : SceneModel) → OneName → (place : ℕ) (function : Function) → HasCall scene.list place function → (own : ℕ) → IsStopOf scene.list place own → PartStands scene place
+    → (second : ℕ) → IsStopOf scene.list (place + 1) second → (first : Datum) → AnswersDatum scene (place + 1) (Ok first)
+    → ¬ (second ≡ own) → (third : ℕ) → IsStopOf scene.list second third → third ≡ own → (next : Datum) → AnswersDatum scene second (Ok next) → AllAnswered scene (place + 1) own own (first ∷ next ∷ [])
+two_are_all scene names place function here own is_own part second is_second first answers further third is_third same next next_answers =
+    subst (λ (k : ℕ). AllAnswered scene (place + 1) k own (first ∷ next ∷ [])) same
+    (two_answered scene names place function here own is_own part second is_second first answers further third is_third next next_answers)
+
+pub walk::called_truth_at-stop_of-own_stop-requires : goal.walk::called_truth_at-stop_of-own_stop-requires
+walk::called_truth_at-stop_of-own_stop-requires t c = part_inside c.args.scene.now c.args.place (typed_part c.args.scene.now c.args.place IsBooleanOrNull c.requires.stands)
+
+pub walk::called_truth_at-part_at-requires : goal.walk::called_truth_at-part_at-requires
+walk::called_truth_at-part_at-requires t c = record { stands = first_there c.args.scene.now c.calls_have_one_type.ensures.named c.args.place c.args.function c.requires.here c.stop_of-own_stop.result c.stop_of-own_stop.ensures (typed_part c.args.scene.now c.args.place IsBooleanOrNull c.requires.stands) }
+
+pub walk::called_truth_at-stop_of-second_place-requires : goal.walk::called_truth_at-stop_of-second_place-requires
+walk::called_truth_at-stop_of-second_place-requires t c = part_inside c.args.scene.now (c.args.place + 1) (first_there c.args.scene.now c.calls_have_one_type.ensures.named c.args.place c.args.function c.requires.here c.stop_of-own_stop.result c.stop_of-own_stop.ensures (typed_part c.args.scene.now c.args.place IsBooleanOrNull c.requires.stands))
+
+pub walk::called_truth_at-stop_of-requires : goal.walk::called_truth_at-stop_of-requires
+walk::called_truth_at-stop_of-requires t c =
+    let first : AnswersDatum c.args.scene.now (c.args.place + 1) (Ok c.datum_of-first.result) = kept_datum c.args.scene.now (c.args.place + 1) c.in-Leaf.value.now c.datum_of-first.result c.in-Leaf.ensures c.datum_of-first.ensures in
+    part_inside c.args.scene.now c.stop_of-second_place.result (second_there c.args.scene.now c.calls_have_one_type.ensures.named c.args.place c.args.function c.requires.here c.stop_of-own_stop.result c.stop_of-own_stop.ensures (typed_part c.args.scene.now c.args.place IsBooleanOrNull c.requires.stands) c.stop_of-second_place.result c.stop_of-second_place.ensures c.datum_of-first.result first c.if-second_place-own_stop.false)
+
+pub walk::called_truth_at-part_at-requires-2 : goal.walk::called_truth_at-part_at-requires-2
+walk::called_truth_at-part_at-requires-2 t c =
+    let first : AnswersDatum c.args.scene.now (c.args.place + 1) (Ok c.datum_of-first.result) = kept_datum c.args.scene.now (c.args.place + 1) c.in-Leaf.value.now c.datum_of-first.result c.in-Leaf.ensures c.datum_of-first.ensures in
+    record { stands = second_there c.args.scene.now c.calls_have_one_type.ensures.named c.args.place c.args.function c.requires.here c.stop_of-own_stop.result c.stop_of-own_stop.ensures (typed_part c.args.scene.now c.args.place IsBooleanOrNull c.requires.stands) c.stop_of-second_place.result c.stop_of-second_place.ensures c.datum_of-first.result first c.if-second_place-own_stop.false }
+
+pub walk::called_truth_at-called_on_two-requires : goal.walk::called_truth_at-called_on_two-requires
+walk::called_truth_at-called_on_two-requires t c =
+    let first : AnswersDatum c.args.scene.now (c.args.place + 1) (Ok c.datum_of-first.result) = kept_datum c.args.scene.now (c.args.place + 1) c.in-Leaf.value.now c.datum_of-first.result c.in-Leaf.ensures c.datum_of-first.ensures in
+    let next : AnswersDatum c.args.scene.now c.stop_of-second_place.result (Ok c.datum_of-second.result) = kept_datum c.args.scene.now c.stop_of-second_place.result c.in-Leaf-part_at.value.now c.datum_of-second.result c.in-Leaf-part_at.ensures c.datum_of-second.ensures in
+    let all = two_are_all c.args.scene.now c.calls_have_one_type.ensures.named c.args.place c.args.function c.requires.here c.stop_of-own_stop.result c.stop_of-own_stop.ensures (typed_part c.args.scene.now c.args.place IsBooleanOrNull c.requires.stands) c.stop_of-second_place.result c.stop_of-second_place.ensures c.datum_of-first.result first c.if-second_place-own_stop.false c.stop_of.result c.stop_of.ensures c.if-stop_of-own_stop.false c.datum_of-second.result next in
+    call_applies c.args.scene.now c.calls_have_one_type.ensures.named c.args.place c.args.function c.requires.here c.stop_of-own_stop.result c.stop_of-own_stop.ensures c.ends_once.ensures (c.datum_of-first.result ∷ c.datum_of-second.result ∷ []) all (typed_part c.args.scene.now c.args.place IsBooleanOrNull c.requires.stands)
+
+pub walk::called_truth_at-truth_of-requires : goal.walk::called_truth_at-truth_of-requires
+walk::called_truth_at-truth_of-requires t c =
+    let first : AnswersDatum c.args.scene.now (c.args.place + 1) (Ok c.datum_of-first.result) = kept_datum c.args.scene.now (c.args.place + 1) c.in-Leaf.value.now c.datum_of-first.result c.in-Leaf.ensures c.datum_of-first.ensures in
+    let next : AnswersDatum c.args.scene.now c.stop_of-second_place.result (Ok c.datum_of-second.result) = kept_datum c.args.scene.now c.stop_of-second_place.result c.in-Leaf-part_at.value.now c.datum_of-second.result c.in-Leaf-part_at.ensures c.datum_of-second.ensures in
+    let all = two_are_all c.args.scene.now c.calls_have_one_type.ensures.named c.args.place c.args.function c.requires.here c.stop_of-own_stop.result c.stop_of-own_stop.ensures (typed_part c.args.scene.now c.args.place IsBooleanOrNull c.requires.stands) c.stop_of-second_place.result c.stop_of-second_place.ensures c.datum_of-first.result first c.if-second_place-own_stop.false c.stop_of.result c.stop_of.ensures c.if-stop_of-own_stop.false c.datum_of-second.result next in
+    let given : AnswersDatum c.args.scene.now c.args.place c.called_on_two.result = call_answers c.args.scene.now c.calls_have_one_type.ensures.named c.args.place c.args.function c.requires.here c.stop_of-own_stop.result c.stop_of-own_stop.ensures c.ends_once.ensures (c.datum_of-first.result ∷ c.datum_of-second.result ∷ []) all c.called_on_two.result (λ r s. c.called_on_two.ensures c.args.scene.now.moment r s) in
+    let made : AnswersDatum c.args.scene.now c.args.place (Ok c.in-Ok.value) = subst (λ (r : Result Datum EvalFault). AnswersDatum c.args.scene.now c.args.place r) c.in-Ok.is given in
+    λ reading. value_there c.args.scene.now c.args.place truth_values c.ends_once.ensures c.in-Ok.value c.requires.stands made reading
+
+pub walk::called_truth_at-returns-in-Ok : goal.walk::called_truth_at-returns-in-Ok
+walk::called_truth_at-returns-in-Ok t c =
+    let first : AnswersDatum c.args.scene.now (c.args.place + 1) (Ok c.datum_of-first.result) = kept_datum c.args.scene.now (c.args.place + 1) c.in-Leaf.value.now c.datum_of-first.result c.in-Leaf.ensures c.datum_of-first.ensures in
+    let next : AnswersDatum c.args.scene.now c.stop_of-second_place.result (Ok c.datum_of-second.result) = kept_datum c.args.scene.now c.stop_of-second_place.result c.in-Leaf-part_at.value.now c.datum_of-second.result c.in-Leaf-part_at.ensures c.datum_of-second.ensures in
+    let all = two_are_all c.args.scene.now c.calls_have_one_type.ensures.named c.args.place c.args.function c.requires.here c.stop_of-own_stop.result c.stop_of-own_stop.ensures (typed_part c.args.scene.now c.args.place IsBooleanOrNull c.requires.stands) c.stop_of-second_place.result c.stop_of-second_place.ensures c.datum_of-first.result first c.if-second_place-own_stop.false c.stop_of.result c.stop_of.ensures c.if-stop_of-own_stop.false c.datum_of-second.result next in
+    let given : AnswersDatum c.args.scene.now c.args.place c.called_on_two.result = call_answers c.args.scene.now c.calls_have_one_type.ensures.named c.args.place c.args.function c.requires.here c.stop_of-own_stop.result c.stop_of-own_stop.ensures c.ends_once.ensures (c.datum_of-first.result ∷ c.datum_of-second.result ∷ []) all c.called_on_two.result (λ r s. c.called_on_two.ensures c.args.scene.now.moment r s) in
+    let made : AnswersDatum c.args.scene.now c.args.place (Ok c.in-Ok.value) = subst (λ (r : Result Datum EvalFault). AnswersDatum c.args.scene.now c.args.place r) c.in-Ok.is given in
+    read_value c.args.scene.now c.args.place c.in-Ok.value (truth_val c.truth_of.result) made c.truth_of.ensures
+
+pub walk::called_truth_at-returns-in-Err : goal.walk::called_truth_at-returns-in-Err
+walk::called_truth_at-returns-in-Err t c =
+    let first : AnswersDatum c.args.scene.now (c.args.place + 1) (Ok c.datum_of-first.result) = kept_datum c.args.scene.now (c.args.place + 1) c.in-Leaf.value.now c.datum_of-first.result c.in-Leaf.ensures c.datum_of-first.ensures in
+    let next : AnswersDatum c.args.scene.now c.stop_of-second_place.result (Ok c.datum_of-second.result) = kept_datum c.args.scene.now c.stop_of-second_place.result c.in-Leaf-part_at.value.now c.datum_of-second.result c.in-Leaf-part_at.ensures c.datum_of-second.ensures in
+    let all = two_are_all c.args.scene.now c.calls_have_one_type.ensures.named c.args.place c.args.function c.requires.here c.stop_of-own_stop.result c.stop_of-own_stop.ensures (typed_part c.args.scene.now c.args.place IsBooleanOrNull c.requires.stands) c.stop_of-second_place.result c.stop_of-second_place.ensures c.datum_of-first.result first c.if-second_place-own_stop.false c.stop_of.result c.stop_of.ensures c.if-stop_of-own_stop.false c.datum_of-second.result next in
+    let given : AnswersDatum c.args.scene.now c.args.place c.called_on_two.result = call_answers c.args.scene.now c.calls_have_one_type.ensures.named c.args.place c.args.function c.requires.here c.stop_of-own_stop.result c.stop_of-own_stop.ensures c.ends_once.ensures (c.datum_of-first.result ∷ c.datum_of-second.result ∷ []) all c.called_on_two.result (λ r s. c.called_on_two.ensures c.args.scene.now.moment r s) in
+    subst (λ (r : Result Datum EvalFault). AnswersDatum c.args.scene.now c.args.place r) c.in-Err.is given

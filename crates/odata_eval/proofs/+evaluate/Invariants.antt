@@ -27,6 +27,9 @@ decreases-walk::numbers_truth_at l = 16 * (length l.scene.now.list.nodes - l.pla
 abbrev pub decreases-walk::compared_truth_at : goal.decreases-walk::compared_truth_at
 decreases-walk::compared_truth_at l = 16 * (length l.scene.now.list.nodes - l.place) + 9
 
+abbrev pub decreases-walk::called_truth_at : goal.decreases-walk::called_truth_at
+decreases-walk::called_truth_at l = 16 * (length l.scene.now.list.nodes - l.place) + 9
+
 abbrev pub decreases-walk::numeric_truth_at : goal.decreases-walk::numeric_truth_at
 decreases-walk::numeric_truth_at l = 16 * (length l.scene.now.list.nodes - l.place) + 9
 

@@ -1,9 +1,7 @@
 -- Which values stand where a function may be applied and none is null.
-use Rattle.std.proofs.Common.{◌≡◌, ◌⊎◌, ◌≤◌, ℕ, ℤ, List, [], ◌∷◌, Bool, true, false, length, inl, inr, refl, arith}
-use Rattle.edm_values.specs.Civil.{Date}
+use Rattle.std.proofs.Common.{◌≡◌, ◌≤◌, ℕ, ℤ, List, [], ◌∷◌, false, length, refl, arith}
 use Rattle.edm_values.specs.MomentParts.{MomentParts}
 use Rattle.edm_values.specs.Val.{Val, null, whole, text, date, moment}
-use Rattle.odata_signatures.specs.declared.argument_kind.ArgumentKind.{ArgumentKind}
 use Rattle.odata_signatures.specs.declared.argument_kind.ArgumentKind.TheVariants.{Text, Number, DateOrMoment, Moment}
 use Rattle.odata_eval.specs.CallGives.{has_null}
 use Rattle.odata_eval.specs.private.Arguments.{AreArguments, IsArgument}

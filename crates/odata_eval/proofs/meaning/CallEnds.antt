@@ -1,5 +1,5 @@
 -- A call whose arguments have types that its function takes has an outcome.
-use Rattle.std.proofs.Common.{◌≡◌, ◌⊎◌, ◌≤◌, arith, length, List, [], ◌∷◌, Bool, true, false, refl, sym, subst, inl, inr}
+use Rattle.std.proofs.Common.{◌≡◌, ◌≤◌, arith, length, List, [], ◌∷◌, Bool, true, false, refl, sym, subst, inl, inr}
 use Rattle.edm_values.specs.MomentParts.{MomentParts}
 use Rattle.edm_values.specs.NumberTypes.{IsNumberType}
 use Rattle.edm_values.specs.Val.{Val, null, whole, text, date, moment}

@@ -1,5 +1,5 @@
 -- A function has an outcome on arguments of its kinds none of which is null.
-use Rattle.std.proofs.Common.{◌≡◌, ◌≤◌, ℕ, ℤ, List, [], ◌∷◌, Bool, false, IsTrue, Option, Some, None, Result, Ok, Err, length, refl, sym, subst, arith}
+use Rattle.std.proofs.Common.{◌≡◌, ◌≤◌, ℕ, ℤ, List, [], ◌∷◌, Bool, false, IsTrue, Option, Some, None, Result, Ok, Err, length, refl, sym, subst}
 use Rattle.std.specs.Prelude.{◌↔◌, pos, neg_ℤ}
 use Rattle.std.proofs.Math.IntN.{neg_ℤ-neg_ℤ}
 use Rattle.std.specs.Str.{chars}
@@ -17,9 +17,9 @@ use Rattle.odata_functions.specs.Texts.{HasEnd, HasPart, HasStart, IsPlaceOf, Is
 use Rattle.odata_functions.specs.declared.arithmetic.ArithFault.{ArithFault}
 use Rattle.odata_functions.specs.declared.arithmetic.ArithFault.TheVariants.{Overflow, DivideByZero}
 use Rattle.odata_signatures.specs.Functions.{row_of}
-use Rattle.odata_signatures.specs.declared.argument_kind.ArgumentKind.TheVariants.{Text, Number, DateOrMoment, Moment}
+use Rattle.odata_signatures.specs.declared.argument_kind.ArgumentKind.TheVariants.{Text, DateOrMoment, Moment}
 use Rattle.odata_signatures.specs.declared.function.Function.{Function}
-use Rattle.odata_eval.specs.ArgumentValues.{OfDate, OfMoment, OfNone, OfText, OfTextAndNumbers, OfTexts}
+use Rattle.odata_eval.specs.ArgumentValues.{OfDate, OfMoment, OfText, OfTextAndNumbers, OfTexts}
 use Rattle.odata_eval.specs.CalculationGives.{number_outcome}
 use Rattle.odata_eval.specs.CallGives.{has_null}
 use Rattle.odata_eval.specs.EndsOnce.{IsOutcomeOf}

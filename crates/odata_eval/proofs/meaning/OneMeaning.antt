@@ -12,7 +12,7 @@ use Rattle.odata_signatures.specs.declared.function.Function.{Function}
 use Rattle.odata_signatures.specs.OperatorTyped.{NegationTyped}
 use Rattle.odata_expression_types.specs.Typed.{OperandTyped, OperandsTyped, Typed}
 use Rattle.odata_eval.specs.CalculationGives.{NegatedGives}
-use Rattle.odata_eval.specs.CallGives.{CallGives, CallMeans}
+use Rattle.odata_eval.specs.CallGives.{CallGives}
 use Rattle.odata_eval.specs.Environment.{Environment, scope_of, variable_value}
 use Rattle.odata_eval.specs.Means.{ArgumentsMean, Means, ShapeMeans}
 use Rattle.odata_eval.specs.NameGives.{StepGives}

@@ -21,7 +21,7 @@ use Rattle.odata_signatures.specs.OperatorClass.{class_of}
 use Rattle.odata_signatures.specs.OperatorTyped.{NegationTyped}
 use Rattle.odata_expression_types.specs.Typed.{OperandTyped, OperandsTyped, Scope, Typed}
 use Rattle.odata_eval.specs.CalculationGives.{NegatedGives}
-use Rattle.odata_eval.specs.CallGives.{CallGives, CallMeans}
+use Rattle.odata_eval.specs.CallGives.{CallGives}
 use Rattle.odata_eval.specs.Environment.{Environment, scope_of}
 use Rattle.odata_eval.specs.Means.{ArgumentsMean, Means, ShapeMeans}
 use Rattle.odata_eval.specs.NameGives.{StepGives}

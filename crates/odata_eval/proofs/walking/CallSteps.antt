@@ -1,27 +1,22 @@
 -- What a call comes to, from what was answered of its arguments one after another.
-use Rattle.std.proofs.Common.{◌≡◌, ◌∙◌, ℕ, zero, suc, ◌<◌, ◌≤◌, ◌+◌, List, [], ◌∷◌, Option, Some, Result, Ok, length, map, slice_get, ap, codes, refl, sym, subst, arith}
-use Rattle.std.specs.Prelude.{Contains, IsSomeAnd}
-use Rattle.edm_values.specs.Val.{Val, null, text, whole, date, moment, fields, items}
+use Rattle.std.proofs.Common.{◌≡◌, ◌∙◌, ℕ, suc, ◌<◌, ◌≤◌, ◌+◌, List, [], ◌∷◌, Result, length, map, codes, refl, sym, subst, arith}
+use Rattle.std.specs.Prelude.{Contains}
+use Rattle.edm_values.specs.Val.{Val}
 use Rattle.edm_values.specs.declared.datum.Datum.{Datum}
 use Rattle.edm_values.specs.declared.datum.Datum.TheVariants as datum
-use Rattle.odata_syntax.specs.Spans.{children_of, is_root, list_of_trees}
+use Rattle.odata_syntax.specs.Spans.{is_root, list_of_trees}
 use Rattle.odata_syntax.specs.Tree.{Tree, Trees, call, more_trees, no_trees, node}
 use Rattle.csdl_schema.specs.ExprType.{ExprType}
-use Rattle.csdl_schema.specs.SchemaModel.{slots_of, type_name_at}
+use Rattle.csdl_schema.specs.SchemaModel.{slots_of}
 use Rattle.odata_functions.specs.DatumVal.{Reading, datum_val}
-use Rattle.odata_signatures.specs.ArgumentTypes.{AreArgumentTypes}
 use Rattle.odata_signatures.specs.CallTyped.{CallTyped, FunctionTyped}
 use Rattle.odata_signatures.specs.Functions.{IsNamed, row_of}
 use Rattle.odata_signatures.specs.declared.argument_kind.ArgumentKind.{ArgumentKind}
 use Rattle.odata_signatures.specs.declared.function.Function.{Function}
 use Rattle.odata_checked_filter.specs.Calls.{TakesMemory}
-use Rattle.odata_checked_filter.specs.declared.checked_node.CheckedNode.{CheckedNode}
 use Rattle.odata_checked_filter.specs.declared.checked_node.NodeKind.{NodeKind}
-use Rattle.odata_checked_filter.specs.Stands.{AllStand}
-use Rattle.odata_expression_types.specs.Typed.{AreTyped}
 use Rattle.odata_eval.specs.declared.fault.EvalFault.{EvalFault}
 use Rattle.odata_eval.specs.CallGives.{CallGives}
-use Rattle.odata_eval.specs.Means.{ArgumentsMean}
 use Rattle.odata_eval.specs.Outcome.{Outcome, gives}
 use Rattle.odata_eval.specs.VerdictView.{fault_outcome}
 use Rattle.odata_eval.specs.private.Arguments.{Applies, AreArguments, IsArgument, MakesText}

@@ -1,61 +1,25 @@
 -- Which functions take values of which kinds, and what they make of these.
-use Rattle.std.proofs.Common.{◌≡◌, ◌⊎◌, ◌∙◌, ◌≤◌, inl, inr, ℕ, ℤ, List, [], ◌∷◌, Bool, true, IsTrue, Option, Some, Result, String, Global, Ok, Err, map, refl, sym, ap, subst, arith}
-use Rattle.std.specs.Prelude.{◌↔◌, IfErr, IfOk, IsSomeAnd, encode_utf8_all, string_bytes}
+use Rattle.std.proofs.Common.{◌≡◌, ◌⊎◌, ◌∙◌, inl, inr, ℕ, ℤ, List, [], ◌∷◌, Bool, true, Option, Some, Result, String, Global, Ok, Err, refl, sym, ap, subst}
+use Rattle.std.specs.Prelude.{IfErr, IfOk, IsSomeAnd, encode_utf8_all, string_bytes}
 use Rattle.std.specs.declared.alloc.AllocError.{AllocError}
 use Rattle.std.specs.Cow.{cow_str_bytes}
 use Rattle.std.specs.Str.{chars}
 use Rattle.edm_values.specs.MomentParts.{MomentParts}
-use Rattle.edm_values.specs.Civil.{Date}
-use Rattle.edm_values.specs.Val.{Val, null, boolean, whole, text, date, moment}
-use Rattle.std.specs.Result.{result_map_both}
+use Rattle.edm_values.specs.Val.{Val, null, whole, text, date, moment}
 use Rattle.edm_values.specs.declared.datum.Datum.{Datum}
 use Rattle.edm_values.specs.declared.datum.Datum.TheVariants as datum
 use Rattle.odata_functions.specs.DatumVal.{Reading, datum_val}
-use Rattle.odata_functions.specs.Texts.{CountComes, IsTrimmed, part_from, rest_from}
-use Rattle.odata_functions.specs.declared.arithmetic.ArithFault.{ArithFault}
+use Rattle.odata_functions.specs.Texts.{part_from, rest_from}
 use Rattle.odata_signatures.specs.declared.argument_kind.ArgumentKind.{ArgumentKind}
 use Rattle.odata_signatures.specs.declared.function.Function.{Function}
 use Rattle.odata_eval.specs.declared.fault.EvalFault.{EvalFault}
 use Rattle.odata_eval.specs.CallGives.{CallGives, UnlessNull, has_null}
-use Rattle.odata_eval.specs.CalculationGives.{number_outcome}
-use Rattle.odata_eval.specs.FunctionGives.{FunctionGives, GivesCount, GivesText, GivesTruth}
+use Rattle.odata_eval.specs.FunctionGives.{FunctionGives, GivesCount, GivesText}
 use Rattle.odata_eval.specs.Outcome.{Outcome, gives}
-use Rattle.odata_eval.specs.private.Arguments.{Applies, AreArguments, IsArgument}
+use Rattle.odata_eval.specs.private.Arguments.{Applies, IsArgument}
 use Rattle.odata_eval.specs.private.DatumView.{answer_outcome}
 use Rattle.odata_eval.specs.private.WalkAnswer.{Tells}
 use Rattle.odata_eval.proofs.walking.Parts.{goes_there}
-
--- a function of one text
-pub of_text : (function : Function) (t : List ℕ) → Applies function (text t ∷ []) → (function ≡ Function.Length → ⊥) → (function ≡ Function.Trim → ⊥)
-    → (function ≡ Function.ToLower → ⊥) → (function ≡ Function.ToUpper → ⊥) → ⊥
-of_text Function.Contains t applies a b c d = let enough : 2 ≤ 1 = applies.enough in omega arith
-of_text Function.StartsWith t applies a b c d = let enough : 2 ≤ 1 = applies.enough in omega arith
-of_text Function.EndsWith t applies a b c d = let enough : 2 ≤ 1 = applies.enough in omega arith
-of_text Function.Concat t applies a b c d = let enough : 2 ≤ 1 = applies.enough in omega arith
-of_text Function.IndexOf t applies a b c d = let enough : 2 ≤ 1 = applies.enough in omega arith
-of_text Function.Substring t applies a b c d = let enough : 2 ≤ 1 = applies.enough in omega arith
-of_text Function.Length t applies a b c d = a refl
-of_text Function.Trim t applies a b c d = b refl
-of_text Function.ToLower t applies a b c d = c refl
-of_text Function.ToUpper t applies a b c d = d refl
-of_text Function.Now t applies a b c d = applies.are
-of_text _ t applies a b c d = applies.are.0
-
--- of two
-pub of_texts : (function : Function) (s t : List ℕ) → Applies function (text s ∷ text t ∷ []) → (function ≡ Function.Contains → ⊥) → (function ≡ Function.StartsWith → ⊥)
-    → (function ≡ Function.EndsWith → ⊥) → (function ≡ Function.IndexOf → ⊥) → (function ≡ Function.Concat → ⊥) → ⊥
-of_texts Function.Contains s t applies a b c d e = a refl
-of_texts Function.StartsWith s t applies a b c d e = b refl
-of_texts Function.EndsWith s t applies a b c d e = c refl
-of_texts Function.IndexOf s t applies a b c d e = d refl
-of_texts Function.Concat s t applies a b c d e = e refl
-of_texts Function.Substring s t applies a b c d e = applies.are.1.0
-of_texts Function.Length s t applies a b c d e = applies.are.1
-of_texts Function.Trim s t applies a b c d e = applies.are.1
-of_texts Function.ToLower s t applies a b c d e = applies.are.1
-of_texts Function.ToUpper s t applies a b c d e = applies.are.1
-of_texts Function.Now s t applies a b c d e = applies.are
-of_texts _ s t applies a b c d e = applies.are.0
 
 -- a text and a number are taken by `substring` alone
 pub of_text_and_number : (function : Function) (t : List ℕ) (n : ℤ) → Applies function (text t ∷ whole n ∷ []) → function ≡ Function.Substring
@@ -82,39 +46,6 @@ of_three Function.IndexOf v w x applies = absurd applies.are.1.1
 of_three Function.Concat v w x applies = absurd applies.are.1.1
 of_three Function.Now v w x applies = absurd applies.are
 of_three _ v w x applies = absurd applies.are.1
-
--- a number of characters as an outcome
-pub counted_gives : (n : ℤ) (answer other : Result ℤ ArithFault) → answer ≡ other → CountComes n answer → GivesCount n (number_outcome (result_map_both Some (λ fault. fault) other))
-counted_gives n answer other is comes = (result_map_both Some (λ fault. fault) other, subst (λ (r : Result ℤ ArithFault). CountComes n r) is comes, refl)
-
--- of a date, and of a moment
-pub of_date : (function : Function) (d : Date) → Applies function (date d ∷ []) → (function ≡ Function.Year → ⊥) → (function ≡ Function.Month → ⊥) → (function ≡ Function.Day → ⊥) → ⊥
-of_date Function.Year d applies a b c = a refl
-of_date Function.Month d applies a b c = b refl
-of_date Function.Day d applies a b c = c refl
-of_date Function.Now d applies a b c = applies.are
-of_date _ d applies a b c = applies.are.0
-
-pub of_moment : (function : Function) (m : MomentParts) → Applies function (moment m ∷ []) → (function ≡ Function.Year → ⊥) → (function ≡ Function.Month → ⊥) → (function ≡ Function.Day → ⊥)
-    → (function ≡ Function.Hour → ⊥) → (function ≡ Function.Minute → ⊥) → (function ≡ Function.Second → ⊥) → (function ≡ Function.TotalOffsetMinutes → ⊥) → (function ≡ Function.Date → ⊥) → ⊥
-of_moment Function.Year m applies a b c d e f g h = a refl
-of_moment Function.Month m applies a b c d e f g h = b refl
-of_moment Function.Day m applies a b c d e f g h = c refl
-of_moment Function.Hour m applies a b c d e f g h = d refl
-of_moment Function.Minute m applies a b c d e f g h = e refl
-of_moment Function.Second m applies a b c d e f g h = f refl
-of_moment Function.TotalOffsetMinutes m applies a b c d e f g h = g refl
-of_moment Function.Date m applies a b c d e f g h = h refl
-of_moment Function.Now m applies a b c d e f g h = applies.are
-of_moment _ m applies a b c d e f g h = applies.are.0
-
--- what a function gives is told at that function
-pub at_function : (P : Function → Type 0) (function known : Function) → function ≡ known → P known → P function
-at_function P function known is given = subst P (sym is) given
-
--- a truth value
-pub truth_given : (Fact : Type 0) (answer : Bool) → (IsTrue answer ↔ Fact) → GivesTruth Fact (gives (boolean answer))
-truth_given Fact answer decided = decided
 
 -- a value that no function takes first
 abbrev pub IsWrongFirst : Val → Type 0

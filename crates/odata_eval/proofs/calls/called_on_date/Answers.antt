@@ -1,7 +1,7 @@
 use Rattle.std.proofs.Common.{◌∷◌, [], SFits, w64, rules, subst, sym}
 use Rattle.std.proofs.lemmas.Int.{to_z-of_z}
 use Rattle.std.specs.Prelude.{IsSomeAnd}
-use Rattle.edm_values.specs.Civil.{Date, epoch_day}
+use Rattle.edm_values.specs.Civil.{epoch_day}
 use Rattle.edm_values.specs.Val.{date}
 use Rattle.odata_functions.specs.DatumVal.{datum_val}
 use Rattle.odata_functions.specs.DateParts.{IsDayOf, IsMonthOf, IsYearOf}

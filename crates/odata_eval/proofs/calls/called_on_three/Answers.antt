@@ -2,12 +2,9 @@ use Rattle.std.proofs.Common.{◌≡◌, ◌∷◌, [], SFits, w64, rules}
 use Rattle.std.proofs.lemmas.Int.{to_z-of_z}
 use Rattle.std.specs.Str.{chars}
 use Rattle.std.specs.Cow.{cow_str_bytes}
-use Rattle.edm_values.specs.Val.{null}
 use Rattle.odata_functions.specs.DatumVal.{datum_val}
 use Rattle.odata_functions.specs.Texts.{part_from}
-use Rattle.odata_eval.specs.CallGives.{CallGives}
-use Rattle.odata_eval.proofs.walking.CallValues.{null_behind, null_gives, null_here, null_number, null_text, of_three, part_gives, second_of_three, text_first, text_same}
-use Rattle.odata_eval.proofs.walking.OneReading.{one_reading}
+use Rattle.odata_eval.proofs.walking.CallValues.{null_behind, null_gives, null_here, null_number, null_text, of_three, part_gives, second_of_three, text_first}
 use Rattle.odata_eval.proofs.calls.called_on_three.Goals as goal
 
 pub returns-in-Int-third : goal.returns-in-Int-third

@@ -1,4 +1,4 @@
-use Rattle.std.proofs.Common.{◌≡◌, ℤ, Option, Some, Result, Ok, Err, SFits, w64, ap, refl, sym, subst, rules, arith}
+use Rattle.std.proofs.Common.{ℤ, Some, Ok, Err, SFits, w64, ap, refl, rules}
 use Rattle.std.proofs.lemmas.Int.{to_z-of_z}
 use Rattle.edm_values.specs.Val.{whole}
 use Rattle.edm_values.specs.NumberTypes.{IsNumberOf}
