@@ -11,5 +11,6 @@ pub mod Readings
 pub mod SlotValue
 pub mod Spines
 pub mod TopNode
+pub mod Variables
 pub mod WalkSteps
 pub mod WalkValues

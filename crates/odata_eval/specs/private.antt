@@ -1,6 +1,7 @@
 -- Definitions that private clauses alone cite.
 pub mod Arguments
 pub mod DatumView
+pub mod Frames
 pub mod Operands
 pub mod Place
 pub mod Scene

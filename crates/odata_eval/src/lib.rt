@@ -5,6 +5,7 @@ mod calls;
 mod datum;
 mod evaluator;
 mod fault;
+mod frames;
 mod laws;
 mod number_walk;
 mod operators;

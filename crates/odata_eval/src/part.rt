@@ -19,7 +19,7 @@ pub(crate) enum WalkClass {
 /// What a node is to the walk.
 #[derive(Clone, Copy)]
 pub(crate) enum Part<'e> {
-    /// A literal, `$it` or a property, with its value.
+    /// A literal, `$it`, `now()`, a variable or a property, with its value.
     Leaf(&'e Value),
     /// A node of truth values: a connective or `not`.
     Logical,
@@ -87,6 +87,7 @@ fn leaf_at<'e>(scene: &Scene<'e, '_, '_>, place: usize) -> &'e Value
         NodeKind::It => scene.value(),
         NodeKind::Now => scene.now_value(),
         NodeKind::Property { slot } => scene.property(slot),
+        NodeKind::Variable { level } => scene.variable(level),
         _ => unreachable!(),
     }
 }

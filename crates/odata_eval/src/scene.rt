@@ -1,12 +1,15 @@
-//! What does not change on a walk of a filter's list.
-ghost use Rattle.std.specs.Prelude.{◌≡◌, ◌<◌, Some, Vec, length, slice_get};
+//! What a walk of a filter's list goes by.
+ghost use Rattle.std.specs.Prelude.{◌≡◌, ◌<◌, [], Some, Vec, length, slice_get};
 ghost use Rattle.std.specs.declared.alloc.Global.{Global};
 ghost use Rattle.edm_values.specs.declared.value.Value.{Value, Record, Moment as MomentValue};
-ghost use Rattle.csdl_schema.specs.SchemaModel.{properties_at};
+ghost use Rattle.csdl_schema.specs.SchemaModel.{properties_at, slots_of};
 ghost use Rattle.edm_entities.specs.Row.{IsEntity};
 ghost use Rattle.odata_checked_filter.specs.Filter.{IsFilter};
+ghost use Rattle.odata_eval.specs.private.Frames.{StandsAtLevel, names_of};
 ghost use Rattle.odata_eval.specs.private.Scene.{EndsOnceHere, HoldsAt};
+ghost use Rattle.odata_eval.specs.private.SceneModel.{environment_of};
 
+use super::frames::{AtLevel, Frames, at_level};
 use super::laws::typed_trees_end_once_on_entities;
 use edm_entities::Entity;
 use edm_values::{Moment, Value};
@@ -14,7 +17,7 @@ use odata_checked_filter::{Checked, CheckedNode};
 use std::alloc::Global;
 use std::marker::Model;
 
-/// A filter, an entity of its type and a moment, with what the walk reads of them at hand.
+/// A filter, an entity of its type, a moment and range variables, with what the walk reads of them at hand.
 #[derive(Drop)]
 pub(crate) struct Scene<'e, 'c, 'r> {
     checked: &'e Checked<'c>,
@@ -24,6 +27,7 @@ pub(crate) struct Scene<'e, 'c, 'r> {
     values: &'e [Value],
     slots: &'e [Value],
     now_value: &'e Value,
+    frames: Frames<'e>,
     alloc: Global,
 }
 
@@ -31,20 +35,22 @@ impl<'e, 'c, 'r> Model for Scene<'e, 'c, 'r> {
     ghost use Rattle.odata_checked_filter.specs.contracts.checked_node.CheckedNode as checked_node;
     ghost use Rattle.edm_values.specs.contracts.value.Value as value;
     ghost use Rattle.std.specs.Coded.{codes};
-    ghost use Rattle.odata_eval.specs.private.SceneModel.{SceneModel, IsScene};
+    ghost use Rattle.odata_eval.specs.private.Frames.{frames_in};
+    ghost use Rattle.odata_eval.specs.private.SceneModel.{SceneModel, IsScene, scene_in};
 
     ghost Value = { SceneModel };
 
     ghost coded = { Prim.hlevel (codes, checked_node.the_row.coded, value.the_row.coded) };
 
-    ghost view = { λ s. record { row = s.entity.now; moment = s.moment.now; list = s.checked.now.list } };
+    ghost view = { λ s. scene_in s.entity.now s.moment.now s.checked.now.list (frames_in s.frames) };
 
-    ghost invariant = { λ s. IsScene (record { row = s.entity.now; moment = s.moment.now; list = s.checked.now.list })
+    ghost invariant = { λ s. IsScene (scene_in s.entity.now s.moment.now s.checked.now.list (frames_in s.frames))
         s.nodes.now s.values.now s.slots.now s.now_value.now };
 }
 
 impl<'e, 'c, 'r> Scene<'e, 'c, 'r> {
-    /// The scene of a filter, an entity and a moment. `now_value` is the moment as a value, which the caller keeps.
+    /// The scene of a filter, an entity and a moment, without variables. `now_value` is the moment as a value, which the
+    /// caller keeps.
     pub(crate) fn of(
         alloc: Global,
         checked: &'e Checked<'c>,
@@ -56,6 +62,7 @@ impl<'e, 'c, 'r> Scene<'e, 'c, 'r> {
         ensures row { result.row ≡ entity.entry.now }
         ensures moment { result.moment ≡ moment.entry.now }
         ensures list { result.list ≡ checked.entry.now.list }
+        ensures variables { result.frames ≡ [] }
     {
         let slots = match entity.value() {
             Value::Record(slots) => slots.as_slice(),
@@ -69,6 +76,7 @@ impl<'e, 'c, 'r> Scene<'e, 'c, 'r> {
             values: checked.values(),
             slots,
             now_value,
+            frames: Frames::Empty,
             alloc,
         }
     }
@@ -133,6 +141,17 @@ impl<'e, 'c, 'r> Scene<'e, 'c, 'r> {
         ensures { result.now ≡ self.now.row.value }
     {
         self.entity.value()
+    }
+
+    /// The value of the variable around which so many are.
+    pub(crate) fn variable(&self, level: usize) -> &'e Value
+        requires { level < length (names_of (environment_of self.now)) }
+        ensures { StandsAtLevel (slots_of self.now.row.schema) (environment_of self.now) level result.now }
+    {
+        match at_level(&self.frames, level) {
+            AtLevel::There(value) => value,
+            AtLevel::Fewer(_) => unreachable!(),
+        }
     }
 
     /// What texts that are made take their memory from.

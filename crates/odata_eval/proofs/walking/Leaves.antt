@@ -1,5 +1,5 @@
 -- What a node without operands comes to: the value that is kept for it.
-use Rattle.std.proofs.Common.{◌≡◌, ◌∙◌, ℕ, ◌<◌, ◌≤◌, [], ◌∷◌, arith, subst, sym, List, false, Some, length, nat_eq, ap, rules}
+use Rattle.std.proofs.Common.{◌≡◌, ◌∙◌, ℕ, ◌<◌, ◌≤◌, [], ◌∷◌, arith, subst, sym, List, MatchOption, Option, false, Some, length, nat_eq, ap, rules}
 use Rattle.std.specs.Prelude.{slice_get, string_bytes}
 use Rattle.std.specs.Cmp.Lexicographic.{pointwise}
 use Rattle.std.proofs.lemmas.List.Quantifiers.{position-Some}
@@ -10,13 +10,17 @@ use Rattle.odata_syntax.specs.Tree.{Trees, literal, more_trees, name, no_trees}
 use Rattle.odata_syntax.specs.declared.node.LiteralKind.{LiteralKind}
 use Rattle.csdl_schema.specs.ExprType.{ExprType}
 use Rattle.csdl_schema.specs.SchemaModel.{PropertyModel, Slots, opaque, properties_at, slot_named, slots_of}
-use Rattle.edm_entities.specs.Row.{val_of}
+use Rattle.edm_entities.specs.Row.{val_of, value_of}
+use Rattle.odata_expression_types.specs.Typed.{PropertyTyped, variable_type}
 use Rattle.odata_checked_filter.specs.declared.checked_node.NodeKind.{NodeKind}
 use Rattle.odata_checked_filter.specs.Stands.{IsValueOf}
+use Rattle.odata_eval.specs.Environment.{scope_of, variable_value}
+use Rattle.odata_eval.specs.NameGives.{FoundGives}
 use Rattle.odata_eval.specs.Outcome.{Outcome, gives}
+use Rattle.odata_eval.specs.private.Frames.{StandsAtLevel, names_of}
 use Rattle.odata_eval.specs.private.Place.{PartStands}
 use Rattle.odata_eval.specs.private.Scene.{HoldsAt, MeansHere, TypedHere}
-use Rattle.odata_eval.specs.private.SceneModel.{SceneModel}
+use Rattle.odata_eval.specs.private.SceneModel.{SceneModel, environment_of}
 use Rattle.odata_eval.specs.private.WalkAnswer.{AnswersKept}
 use Rattle.odata_signatures.specs.Functions.{IsNamed, row_of}
 use Rattle.odata_signatures.specs.declared.function.Function.{Function}
@@ -25,6 +29,7 @@ use Rattle.odata_eval.specs.CallGives.{CallGives}
 use Rattle.odata_eval.proofs.walking.Parts.{HasKind, by_kind, found_there, inside, kind_there}
 use Rattle.odata_eval.proofs.walking.Spines.{MeanAll, TypedAll, only_now}
 use Rattle.odata_eval.proofs.walking.SlotValue.{slot_value}
+use Rattle.odata_eval.proofs.walking.Variables.{level_below, unbound, variable_gives}
 
 -- a value without parts stands for the same at each type
 pub plain_is : (slots : Slots) (type : ExprType) (value : Value) (v : Val) → plain_val value ≡ Some v → val_of value slots type ≡ v
@@ -106,11 +111,33 @@ module _ (scene : SceneModel) (place : ℕ) where
       slot_below asked slot (properties_at scene.row.schema scene.row.type_id) (kind_there scene place (NodeKind.Property slot) here stop from to (name asked) stands).1)
       part.stop part.tree part.stands
 
+  pub variable_within : (level : ℕ) → HasKind scene.list place (NodeKind.Variable level) → PartStands scene place → level < length (names_of (environment_of scene))
+  variable_within level here part =
+      by_kind scene place (NodeKind.Variable level) here (λ stop tree. level < length (names_of (environment_of scene)))
+      (λ asked stop from to stands.
+      level_below (names_of (environment_of scene)) asked level (kind_there scene place (NodeKind.Variable level) here stop from to (name asked) stands))
+      part.stop part.tree part.stands
+
+  pub variable_answers : (level : ℕ) → HasKind scene.list place (NodeKind.Variable level) → (v : Value) → StandsAtLevel (slots_of scene.row.schema) (environment_of scene) level v → AnswersKept scene place v
+  variable_answers level here v at = record {
+    of_tree = λ stop tree type stands typed.
+        by_kind scene place (NodeKind.Variable level) here (λ stop tree. (t : ExprType) → TypedHere scene tree t → MeansHere scene tree (gives (val_of v (slots_of scene.row.schema) t)))
+        (λ asked stop from to stands t typed.
+        variable_gives (slots_of scene.row.schema) (variable_type (scope_of (environment_of scene)) asked) (variable_value (environment_of scene) asked) (value_of scene.row) asked
+        (PropertyTyped (properties_at scene.row.schema scene.row.type_id) asked t) t v
+        (at.holds asked (kind_there scene place (NodeKind.Variable level) here stop from to (name asked) stands)) typed)
+        stop tree stands type typed;
+  }
+
   pub property_answers : (slot : ℕ) → HasKind scene.list place (NodeKind.Property slot) → (v : Value) → HoldsAt scene.row slot v → AnswersKept scene place v
   property_answers slot here v holds = record {
     of_tree = λ stop tree type stands typed.
         by_kind scene place (NodeKind.Property slot) here (λ stop tree. (t : ExprType) → TypedHere scene tree t → MeansHere scene tree (gives (val_of v (slots_of scene.row.schema) t)))
         (λ asked stop from to stands t typed.
-        slot_value scene.row slot v asked t holds (kind_there scene place (NodeKind.Property slot) here stop from to (name asked) stands).1 typed)
+        let kind = kind_there scene place (NodeKind.Property slot) here stop from to (name asked) stands in
+        let none = unbound (environment_of scene) asked kind.0 in
+        subst (λ (w : Option Val). FoundGives w (value_of scene.row) asked (gives (val_of v (slots_of scene.row.schema) t))) (sym none.0)
+        (slot_value scene.row slot v asked t holds kind.1
+        (subst (λ (u : Option ExprType). MatchOption u (PropertyTyped (properties_at scene.row.schema scene.row.type_id) asked t) (λ w. t ≡ w)) none.1 typed)))
         stop tree stands type typed;
   }

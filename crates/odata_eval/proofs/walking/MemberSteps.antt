@@ -1,5 +1,5 @@
 -- What a step to a property comes to.
-use Rattle.std.proofs.Common.{◌≡◌, ℕ, ◌<◌, ◌+◌, List, [], Some, Ok, length, map, refl, sym, subst}
+use Rattle.std.proofs.Common.{◌≡◌, ℕ, ◌<◌, ◌+◌, List, Some, Ok, length, map, refl, sym, subst}
 use Rattle.std.specs.Prelude.{slice_get}
 use Rattle.edm_values.specs.Val.{Val, fields}
 use Rattle.edm_values.specs.declared.datum.Datum.{Datum}
@@ -15,11 +15,12 @@ use Rattle.odata_expression_types.specs.Laws.{OneType}
 use Rattle.odata_signatures.specs.TypeView.{expr_type}
 use Rattle.odata_expression_types.specs.Typed.{PropertyTyped, StepTyped}
 use Rattle.odata_eval.specs.NameGives.{StepGives}
+use Rattle.odata_eval.specs.Environment.{scope_of}
 use Rattle.odata_eval.specs.Outcome.{gives}
 use Rattle.odata_eval.specs.private.DatumView.{HasSlot, IsDatumOf, IsStepOf, reading_at}
 use Rattle.odata_eval.specs.private.Place.{PartStands}
 use Rattle.odata_eval.specs.private.Scene.{EndsOnceHere, MeansHere, TypedHere}
-use Rattle.odata_eval.specs.private.SceneModel.{SceneModel}
+use Rattle.odata_eval.specs.private.SceneModel.{SceneModel, environment_of}
 use Rattle.odata_eval.specs.private.WalkAnswer.{AnswersDatum}
 use Rattle.odata_eval.proofs.meaning.Progress.{field_gives, held_present}
 use Rattle.odata_eval.proofs.walking.Parts.{HasKind, by_kind, kind_there, some_there}
@@ -56,7 +57,7 @@ module _ (types : OneType) (scene : SceneModel) (ends : EndsOnceHere scene) (pla
       let root = type_name_at scene.row.schema scene.row.type_id in
       let there = kind_there scene place (NodeKind.Member slot) here stop from to (member base asked) stands in
       let typed = stands.top.typed in
-      let same : typed.operand ≡ single (structured there.0) = types slots root [] base typed.operand (single (structured there.0)) typed.operand_typed there.1 in
+      let same : typed.operand ≡ single (structured there.0) = types slots root (scope_of (environment_of scene)) base typed.operand (single (structured there.0)) typed.operand_typed there.1 in
       slot_in slots there.0 asked slot (expr_type scene.row.schema stands.top.found.edm_type) made there.2
       (subst (λ (t : ExprType). StepTyped slots asked t (expr_type scene.row.schema stands.top.found.edm_type)) same typed.makes)
       (value_has scene ends base (single (structured there.0)) (datum_val (reading_at slots (single (structured there.0))) made) there.1 (first.of_tree stop base (single (structured there.0)) stands.children there.1)))
@@ -70,7 +71,7 @@ module _ (types : OneType) (scene : SceneModel) (ends : EndsOnceHere scene) (pla
         let slots = slots_of scene.row.schema in
         let root = type_name_at scene.row.schema scene.row.type_id in
         let there = kind_there scene place (NodeKind.Member slot) here stop from to (member base asked) stands in
-        let same : typed.operand ≡ single (structured there.0) = types slots root [] base typed.operand (single (structured there.0)) typed.operand_typed there.1 in (
+        let same : typed.operand ≡ single (structured there.0) = types slots root (scope_of (environment_of scene)) base typed.operand (single (structured there.0)) typed.operand_typed there.1 in (
           gives (datum_val (reading_at slots (single (structured there.0))) made),
           (
             first.of_tree stop base (single (structured there.0)) stands.children there.1,

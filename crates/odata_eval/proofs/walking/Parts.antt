@@ -1,5 +1,5 @@
 -- What stands in a place, by the kind of its node.
-use Rattle.std.proofs.Common.{◌≡◌, ℕ, ◌<◌, List, [], Option, Some, None, length, refl, sym, subst}
+use Rattle.std.proofs.Common.{◌≡◌, ℕ, ◌<◌, List, Option, Some, None, length, refl, sym, subst}
 use Rattle.std.specs.Prelude.{IsSomeAnd, slice_get}
 use Rattle.std.proofs.lemmas.Option.{slice_get_within}
 use Rattle.edm_values.specs.declared.value.Value.{Value}
@@ -14,10 +14,11 @@ use Rattle.odata_checked_filter.specs.declared.checked_node.NodeKind.{NodeKind}
 use Rattle.odata_checked_filter.specs.FlatTree.{FlatTree}
 use Rattle.odata_checked_filter.specs.Stands.{IsKindOf}
 use Rattle.odata_expression_types.specs.Typed.{Scope}
+use Rattle.odata_eval.specs.Environment.{scope_of}
 use Rattle.odata_eval.specs.Outcome.{Outcome}
 use Rattle.odata_eval.specs.private.Place.{PartStands}
 use Rattle.odata_eval.specs.private.Scene.{StandsHere, TypedHere}
-use Rattle.odata_eval.specs.private.SceneModel.{SceneModel}
+use Rattle.odata_eval.specs.private.SceneModel.{SceneModel, environment_of}
 use Rattle.odata_eval.specs.private.WalkAnswer.{Tells}
 
 -- a fact of what is held, and back
@@ -83,9 +84,9 @@ HasKind list place kind = IsSomeAnd (slice_get list.nodes place) (λ found. foun
 module _ (scene : SceneModel) (place : ℕ) where
   -- the kind is that of the node there
   pub kind_there : (kind : NodeKind) → HasKind scene.list place kind → (stop from to : ℕ) (shape : Shape) → StandsHere scene place stop (node from to shape)
-      → IsKindOf scene.list.values (slots_of scene.row.schema) (type_name_at scene.row.schema scene.row.type_id) [] shape kind
+      → IsKindOf scene.list.values (slots_of scene.row.schema) (type_name_at scene.row.schema scene.row.type_id) (scope_of (environment_of scene)) shape kind
   kind_there kind here stop from to shape stands =
-      subst (λ (k : NodeKind). IsKindOf scene.list.values (slots_of scene.row.schema) (type_name_at scene.row.schema scene.row.type_id) [] shape k)
+      subst (λ (k : NodeKind). IsKindOf scene.list.values (slots_of scene.row.schema) (type_name_at scene.row.schema scene.row.type_id) (scope_of (environment_of scene)) shape k)
       (found_there (λ found. found.kind ≡ kind) (slice_get scene.list.nodes place) stands.top.found stands.top.stands_at here)
       stands.top.kind
 
@@ -94,7 +95,7 @@ module _ (scene : SceneModel) (place : ℕ) where
       → CasesOf kind (λ s. (stop from to : ℕ) → StandsHere scene place stop (node from to s) → P stop (node from to s))
       → (stop : ℕ) (tree : Tree) → StandsHere scene place stop tree → P stop tree
   by_kind kind here P cases stop (node from to shape) stands =
-      by_case scene.list.values (slots_of scene.row.schema) (type_name_at scene.row.schema scene.row.type_id) []
+      by_case scene.list.values (slots_of scene.row.schema) (type_name_at scene.row.schema scene.row.type_id) (scope_of (environment_of scene))
       (λ (s : Shape). (stop from to : ℕ) → StandsHere scene place stop (node from to s) → P stop (node from to s)) shape kind
       (kind_there kind here stop from to shape stands) cases stop from to stands
 

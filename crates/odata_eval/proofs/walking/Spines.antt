@@ -17,12 +17,13 @@ use Rattle.odata_checked_filter.specs.declared.checked_node.NodeKind.{NodeKind}
 use Rattle.odata_checked_filter.specs.FlatTree.{FlatTree}
 use Rattle.odata_eval.specs.declared.fault.EvalFault.{EvalFault}
 use Rattle.odata_eval.specs.declared.part.WalkClass.{WalkClass}
+use Rattle.odata_eval.specs.Environment.{scope_of}
 use Rattle.odata_eval.specs.LeftFirst.{After}
 use Rattle.odata_eval.specs.Outcome.{Outcome, overflow, divides_by_zero}
 use Rattle.odata_eval.specs.VerdictView.{fault_outcome}
 use Rattle.odata_eval.specs.private.Place.{HasOperatorOf, IsClassAt, IsNumberOperand, IsOperatorOf, IsRightOf, PartStands, TypedStands}
 use Rattle.odata_eval.specs.private.Scene.{MeansHere, StandsHere, TypedHere}
-use Rattle.odata_eval.specs.private.SceneModel.{SceneModel}
+use Rattle.odata_eval.specs.private.SceneModel.{SceneModel, environment_of}
 use Rattle.odata_eval.specs.private.WalkAnswer.{AnswersAtPlace, Tells}
 use Rattle.odata_eval.specs.private.WalkClass.{walk_of_kind, walk_of_operator}
 use Rattle.odata_signatures.specs.Functions.{IsNamed, row_of}
@@ -170,13 +171,13 @@ some_taken Function.Day later = omega arith
 
 -- the arguments of a scene's list
 abbrev pub StandsAll : SceneModel → ℕ → ℕ → Trees → Type 0
-StandsAll scene = AllStand scene.row.schema scene.row.type_id [] scene.list
+StandsAll scene = AllStand scene.row.schema scene.row.type_id (scope_of (environment_of scene)) scene.list
 
 abbrev pub TypedAll : SceneModel → Trees → List ExprType → Type 0
-TypedAll scene = AreTyped (slots_of scene.row.schema) (type_name_at scene.row.schema scene.row.type_id) []
+TypedAll scene = AreTyped (slots_of scene.row.schema) (type_name_at scene.row.schema scene.row.type_id) (scope_of (environment_of scene))
 
 abbrev pub MeanAll : SceneModel → Trees → (List Val → Outcome → Type 0) → Outcome → Type 0
-MeanAll scene = ArgumentsMean (slots_of scene.row.schema) (type_name_at scene.row.schema scene.row.type_id) scene.moment (value_of scene.row) []
+MeanAll scene = ArgumentsMean (slots_of scene.row.schema) (type_name_at scene.row.schema scene.row.type_id) scene.moment (value_of scene.row) (environment_of scene)
 
 module _ (scene : SceneModel) where
   no_empty_call : (asked : List ℕ) (types : List ExprType) (type : ExprType) → ¬ (IsNamed Function.Now asked) → TypedAll scene no_trees types → CallTyped asked types type → ⊥

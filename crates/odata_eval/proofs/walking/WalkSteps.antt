@@ -22,6 +22,7 @@ use Rattle.odata_eval.specs.declared.fault.EvalFault.{EvalFault}
 use Rattle.odata_eval.specs.declared.part.WalkClass.{WalkClass}
 use Rattle.odata_eval.specs.CalculationGives.{CalculationGives, NegatedGives, number_val}
 use Rattle.odata_eval.specs.CompareGives.{CompareGives}
+use Rattle.odata_eval.specs.Environment.{scope_of}
 use Rattle.odata_eval.specs.LeftFirst.{After}
 use Rattle.odata_eval.specs.OperatorGives.{ClassGives, InType}
 use Rattle.odata_eval.specs.Outcome.{Outcome, gives}
@@ -31,7 +32,7 @@ use Rattle.odata_eval.specs.private.DatumView.{answer_outcome}
 use Rattle.odata_eval.specs.private.Operands.{AreNumbers, IsOneNumber}
 use Rattle.odata_eval.specs.private.Place.{IsRightOf, PartStands}
 use Rattle.odata_eval.specs.private.Scene.{EndsOnceHere, MeansHere, StandsHere, TypedHere}
-use Rattle.odata_eval.specs.private.SceneModel.{SceneModel}
+use Rattle.odata_eval.specs.private.SceneModel.{SceneModel, environment_of}
 use Rattle.odata_eval.specs.private.WalkAnswer.{AnswersAtPlace, AnswersNumber, AnswersTruth, Tells}
 use Rattle.odata_eval.specs.private.WalkClass.{IsDecided, walk_of_operator}
 use Rattle.odata_eval.proofs.meaning.LawsBelow.{Promotes}
@@ -86,7 +87,7 @@ module _ (scene : SceneModel) (place : ℕ) where
   type_is : OneType → (found : CheckedNode) → slice_get scene.list.nodes place ≡ Some found → (stop : ℕ) (tree : Tree) (type : ExprType) → StandsHere scene place stop tree → TypedHere scene tree type
       → expr_type scene.row.schema found.edm_type ≡ type
   type_is types found at stop tree type stands typed =
-      types (slots_of scene.row.schema) (type_name_at scene.row.schema scene.row.type_id) [] tree (expr_type scene.row.schema found.edm_type) type
+      types (slots_of scene.row.schema) (type_name_at scene.row.schema scene.row.type_id) (scope_of (environment_of scene)) tree (expr_type scene.row.schema found.edm_type) type
       (type_there scene place found at stop tree stands) typed
 
   module _ (number : Option ℤ) (found : CheckedNode) (at : slice_get scene.list.nodes place ≡ Some found) (here : HasKind scene.list place NodeKind.Neg)

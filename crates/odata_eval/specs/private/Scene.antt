@@ -1,5 +1,5 @@
 -- For private clauses: what an expression is and comes to where a filter is evaluated.
-use Rattle.std.specs.Prelude.{◌≡◌, ℕ, [], Some, slice_get, Vec}
+use Rattle.std.specs.Prelude.{◌≡◌, ℕ, Some, slice_get, Vec}
 use Rattle.std.specs.declared.alloc.Global.{Global}
 use Rattle.edm_values.specs.declared.value.Value.{Value, Record}
 use Rattle.odata_syntax.specs.Tree.{Tree}
@@ -9,29 +9,32 @@ use Rattle.edm_entities.specs.Row.{Row, value_of}
 use Rattle.odata_checked_filter.specs.Stands.{Stands}
 use Rattle.odata_expression_types.specs.Typed.{Typed}
 use Rattle.odata_eval.specs.EndsOnce.{EndsOnce}
+use Rattle.odata_eval.specs.Environment.{scope_of}
 use Rattle.odata_eval.specs.Means.{Means}
 use Rattle.odata_eval.specs.Outcome.{Outcome}
-use Rattle.odata_eval.specs.private.SceneModel.{SceneModel}
+use Rattle.odata_eval.specs.private.SceneModel.{SceneModel, environment_of}
 
 -- the nodes of the list from the place up to the stop stand for the tree
 abbrev pub StandsHere : SceneModel → ℕ → ℕ → Tree → Type 0
-StandsHere scene = Stands scene.row.schema scene.row.type_id [] scene.list
+StandsHere scene = Stands scene.row.schema scene.row.type_id (scope_of (environment_of scene)) scene.list
 
 -- the tree has the type
 abbrev pub TypedHere : SceneModel → Tree → ExprType → Type 0
-TypedHere scene = Typed (slots_of scene.row.schema) (type_name_at scene.row.schema scene.row.type_id) []
+TypedHere scene =
+    Typed (slots_of scene.row.schema) (type_name_at scene.row.schema scene.row.type_id) (scope_of (environment_of scene))
 
 -- the tree comes to the outcome
 abbrev pub MeansHere : SceneModel → Tree → Outcome → Type 0
 MeansHere scene =
-    Means (slots_of scene.row.schema) (type_name_at scene.row.schema scene.row.type_id) scene.moment (value_of scene.row) []
+    Means (slots_of scene.row.schema) (type_name_at scene.row.schema scene.row.type_id) scene.moment (value_of scene.row)
+    (environment_of scene)
 
 -- a tree that has a type comes to one outcome, and to no other
 abbrev pub EndsOnceHere : SceneModel → Type 0
 EndsOnceHere scene =
     (tree : Tree) (type : ExprType) → TypedHere scene tree type
     → EndsOnce (slots_of scene.row.schema) (type_name_at scene.row.schema scene.row.type_id) scene.moment
-    (value_of scene.row) [] tree type
+    (value_of scene.row) (environment_of scene) tree type
 
 -- the entity has this value in the slot
 abbrev pub HoldsAt : Row → ℕ → Value → Type 0

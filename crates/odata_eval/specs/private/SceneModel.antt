@@ -1,19 +1,31 @@
--- For private clauses: what does not change on a walk of a filter's list.
+-- For private clauses: what a walk of a filter's list goes by.
 use Rattle.std.specs.Prelude.{◌≡◌, List, Vec}
 use Rattle.std.specs.declared.alloc.Global.{Global}
 use Rattle.edm_values.specs.MomentParts.{MomentParts}
 use Rattle.edm_values.specs.declared.value.Value.{Value, Moment, Record}
+use Rattle.csdl_schema.specs.SchemaModel.{slots_of}
 use Rattle.edm_entities.specs.Row.{Row, IsEntity}
 use Rattle.odata_checked_filter.specs.declared.checked_node.CheckedNode.{CheckedNode}
 use Rattle.odata_checked_filter.specs.FlatTree.{FlatTree}
+use Rattle.odata_eval.specs.Environment.{Environment, IsFitting}
+use Rattle.odata_eval.specs.private.Frames.{Frame, environment_in}
 
--- the entity, the moment that `now` stands for, and the filter's list
+-- the entity, the moment that `now` stands for, the filter's list, and the variables
 pub record SceneModel : Type 0 where
   pub row : Row
   pub moment : MomentParts
   pub list : FlatTree
+  pub frames : List Frame
 
--- these are the list's nodes and values, the entity's values by slot, and the moment as a value
+abbrev pub scene_in : Row → MomentParts → FlatTree → List Frame → SceneModel
+scene_in row moment list frames = record { row = row; moment = moment; list = list; frames = frames }
+
+-- the variables with their values
+abbrev pub environment_of : SceneModel → Environment
+environment_of scene = environment_in scene.row.schema scene.frames
+
+-- these are the list's nodes and values, the entity's values by slot, and the moment as a value; the variables' values
+-- are of their types
 pub record IsScene
     (scene : SceneModel) (nodes : List CheckedNode) (values slots : List Value) (now : Value) : Type 0 where
   pub entity : IsEntity scene.row
@@ -23,3 +35,4 @@ pub record IsScene
   pub value_is : scene.row.value ≡ Record held
   pub slots_are : slots ≡ held.items
   pub now_is : now ≡ Moment scene.moment
+  pub fitting : IsFitting (slots_of scene.row.schema) (environment_of scene)

@@ -1,7 +1,7 @@
 use Rattle.std.proofs.Common.{◌≡◌}
 use Rattle.odata_checked_filter.specs.declared.checked_node.CheckedNode.{CheckedNode}
 use Rattle.odata_checked_filter.specs.declared.checked_node.NodeKind.{NodeKind}
-use Rattle.odata_eval.proofs.walking.Leaves.{literal_answers, now_answers, property_answers}
+use Rattle.odata_eval.proofs.walking.Leaves.{literal_answers, now_answers, property_answers, variable_answers, variable_within}
 use Rattle.odata_eval.proofs.walking.Parts.{there_found}
 use Rattle.odata_eval.proofs.part.leaf_at.Goals as goal
 
@@ -21,3 +21,14 @@ pub returns-in-Now : goal.returns-in-Now
 returns-in-Now c =
     now_answers c.args.scene.now c.args.place (there_found (λ (f : CheckedNode). f.kind ≡ NodeKind.Now) _ c.node.result.now c.node.ensures c.in-Now.is)
     c.now_value.result.now c.now_value.ensures
+
+pub variable-requires : goal.variable-requires
+variable-requires c =
+    variable_within c.args.scene.now c.args.place c.in-Variable.level
+    (there_found (λ (f : CheckedNode). f.kind ≡ NodeKind.Variable c.in-Variable.level) _ c.node.result.now c.node.ensures c.in-Variable.is) c.requires.stands
+
+pub returns-in-Variable : goal.returns-in-Variable
+returns-in-Variable c =
+    variable_answers c.args.scene.now c.args.place c.in-Variable.level
+    (there_found (λ (f : CheckedNode). f.kind ≡ NodeKind.Variable c.in-Variable.level) _ c.node.result.now c.node.ensures c.in-Variable.is)
+    c.variable.result.now c.variable.ensures

@@ -1,4 +1,5 @@
 use Rattle.std.proofs.Common.{◌∙◌, sym}
+use Rattle.odata_eval.proofs.walking.Variables.{frames_in-Empty}
 use Rattle.odata_eval.proofs.scene.Scene.of.Goals as goal
 
 pub invariant_of-result : goal.invariant_of-result
@@ -10,4 +11,5 @@ invariant_of-result c = record {
   value_is = sym c.value.ensures.value ∙ c.in-Record.is;
   slots_are = c.as_slice-slots.ensures.value;
   now_is = c.requires;
+  fitting = rw frames_in-Empty tt;
 }
