@@ -1,4 +1,5 @@
 pub mod calls
 pub mod flat
+pub mod scopes
 pub mod types
 pub mod untypable

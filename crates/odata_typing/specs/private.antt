@@ -5,3 +5,4 @@ pub mod EarlierFault
 pub mod Judged
 pub mod LawsBelow
 pub mod StepFound
+pub mod Variables

@@ -2,6 +2,7 @@
 ghost use Rattle.std.specs.Prelude.{◌<◌, ◌≤◌, [], ℕ, length, IfOk};
 ghost use Rattle.odata_syntax.specs.Tree.{Tree, node, binary};
 ghost use Rattle.odata_signatures.specs.TypeThere.{IsTypeThere};
+ghost use Rattle.odata_expression_types.specs.Typed.{Scope};
 ghost use Rattle.odata_checked_filter.specs.FlatTree.{FlatTree};
 ghost use Rattle.odata_checked_filter.specs.ListGrowth.{IsOpened};
 ghost use Rattle.odata_typing.specs.private.Answer.{IsAnswer, IsWalked};
@@ -33,11 +34,11 @@ pub(crate) fn close_binary(
     requires place { opened.place < length list.old.nodes }
     requires left { IfOk operands.left (IsTypeThere schema.now) }
     requires right { IfOk operands.right (IsTypeThere schema.now) }
-    ensures answer { (n : ℕ) (l r : Tree) (start before between : FlatTree)
+    ensures answer { (n : ℕ) (scope : Scope) (l r : Tree) (start before between : FlatTree)
         → IsOpened start opened.place [] before
-        → IsAnswer schema.now n [] before l between operands.left
-        → IsAnswer schema.now n [] between r list.old operands.right
-        → IsAnswer schema.now n [] start (node opened.span.start opened.span.stop (binary operator l r))
+        → IsAnswer schema.now n scope before l between operands.left
+        → IsAnswer schema.now n scope between r list.old operands.right
+        → IsAnswer schema.now n scope start (node opened.span.start opened.span.stop (binary operator l r))
         list.new result }
     ensures there { IfOk result (IsTypeThere schema.now) }
     ensures grown { length list.old.nodes ≤ length list.new.nodes }
@@ -67,11 +68,11 @@ fn close_operator(
     requires place { opened.place < length list.old.nodes }
     requires left { IsTypeThere schema.now types.0 }
     requires right { IsTypeThere schema.now types.1 }
-    ensures answer { (n : ℕ) (l r : Tree) (start before between : FlatTree)
+    ensures answer { (n : ℕ) (scope : Scope) (l r : Tree) (start before between : FlatTree)
         → IsOpened start opened.place [] before
-        → IsWalked schema.now n [] before l between types.0
-        → IsWalked schema.now n [] between r list.old types.1
-        → IsAnswer schema.now n [] start (node opened.span.start opened.span.stop (binary operator l r))
+        → IsWalked schema.now n scope before l between types.0
+        → IsWalked schema.now n scope between r list.old types.1
+        → IsAnswer schema.now n scope start (node opened.span.start opened.span.stop (binary operator l r))
         list.new result }
     ensures there { IfOk result (IsTypeThere schema.now) }
     ensures grown { length list.old.nodes ≤ length list.new.nodes }

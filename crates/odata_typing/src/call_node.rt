@@ -5,11 +5,13 @@ ghost use Rattle.odata_syntax.specs.TreeView.{tree_of, trees_of};
 ghost use Rattle.csdl_schema.specs.SchemaModel.{SchemaModel};
 ghost use Rattle.odata_signatures.specs.TypeThere.{IsTypeThere};
 ghost use Rattle.odata_expression_types.specs.FirstUntypable.{code_of_call};
+ghost use Rattle.odata_expression_types.specs.Typed.{Scope};
 ghost use Rattle.odata_checked_filter.specs.FlatTree.{FlatTree};
 ghost use Rattle.odata_checked_filter.specs.ListGrowth.{IsOpened};
 ghost use Rattle.odata_signatures.specs.Functions.{IsNamed};
 ghost use Rattle.odata_checked_filter.specs.Stands.{IsCallNode};
 ghost use Rattle.odata_typing.specs.private.Answer.{Answers, IsAnswer};
+ghost use Rattle.odata_typing.specs.private.Variables.{AreThere};
 ghost use Rattle.odata_typing.specs.private.Arguments.{AreAnswered, AreWalked};
 
 use super::argument_types::ArgumentTypes;
@@ -33,6 +35,7 @@ pub(crate) fn checked_call(
     arguments: &[Node],
     list: &mut NodeList,
 ) -> Result<EdmType, Untyped>
+    requires { AreThere setting.now.schema.now setting.now.variables.now }
     ensures answer { Answers setting.now list.old
         (node span.start span.stop (call name.now (trees_of arguments.now))) list.new result }
     ensures there { IfOk result (IsTypeThere setting.now.schema.now) }
@@ -60,7 +63,8 @@ fn checked_arguments(
     types: &mut ArgumentTypes,
     list: &mut NodeList,
 ) -> Option<Untyped>
-    requires { types.old ≡ [] }
+    requires none { types.old ≡ [] }
+    requires there { AreThere setting.now.schema.now setting.now.variables.now }
     ensures answer { AreAnswered setting.now list.old (map tree_of arguments.now) list.new types.new result }
     ensures grown { length list.old.nodes ≤ length list.new.nodes }
 {
@@ -81,6 +85,7 @@ fn told_with(
     types: &mut ArgumentTypes,
     list: &mut NodeList,
 ) -> Option<Untyped>
+    requires { AreThere setting.now.schema.now setting.now.variables.now }
     ensures answer { (start : FlatTree) (trees : List Tree)
         → AreAnswered setting.now start trees list.old types.old told
         → AreAnswered setting.now start (trees ++ tree_of argument.now ∷ []) list.new types.new result }
@@ -104,10 +109,10 @@ fn close_call(
     list: &mut NodeList,
 ) -> Result<EdmType, Untyped>
     requires { opened.place < length list.old.nodes }
-    ensures answer { (schema : SchemaModel) (n : ℕ) (trees : List Tree) (start before : FlatTree)
+    ensures answer { (schema : SchemaModel) (n : ℕ) (scope : Scope) (trees : List Tree) (start before : FlatTree)
         → IsOpened start opened.place [] before
-        → AreWalked schema n [] before trees list.old types.now
-        → IsAnswer schema n [] start
+        → AreWalked schema n scope before trees list.old types.now
+        → IsAnswer schema n scope start
         (node opened.span.start opened.span.stop (call name.now (trees_of_list trees))) list.new result }
     ensures there { (schema : SchemaModel) → IfOk result (IsTypeThere schema) }
     ensures grown { length list.old.nodes ≤ length list.new.nodes }

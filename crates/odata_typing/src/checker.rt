@@ -15,6 +15,7 @@ use super::laws_below::laws_below;
 use super::node::checked_tree;
 use super::setting::Setting;
 use super::untyped::Untyped;
+use super::variables::Variables;
 use csdl_schema::{Schema, TypeId};
 use odata_checked_filter::{Checked, NodeList, a_list_stands_for_one_tree};
 use odata_expression_types::{Refusal, TypeFault, TypeFaultCode, texts_have_few_nodes};
@@ -51,10 +52,12 @@ pub fn check<'s>(
         Err(refusal) => return Err(refusal),
     };
     let mut list = NodeList::new(alloc);
+    let variables = Variables::Empty;
     let setting = Setting {
         alloc,
         schema,
         filtered_type,
+        variables: &variables,
     };
     match checked_tree(&setting, expr.root(), &mut list) {
         Ok(edm_type) => match filter_of(schema, filtered_type, list, edm_type, text.len()) {

@@ -18,6 +18,7 @@ mod setting;
 mod unary_node;
 mod untyped;
 mod untyped_form;
+mod variables;
 
 pub use checker::check;
 pub use odata_checked_filter::{

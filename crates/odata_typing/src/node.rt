@@ -2,6 +2,7 @@ ghost use Rattle.std.specs.Prelude.{◌≤◌, length, IfOk};
 ghost use Rattle.odata_syntax.specs.TreeView.{tree_of};
 ghost use Rattle.odata_signatures.specs.TypeThere.{IsTypeThere};
 ghost use Rattle.odata_typing.specs.private.Answer.{Answers};
+ghost use Rattle.odata_typing.specs.private.Variables.{AreThere};
 
 use super::binary_node::{Operands, close_binary};
 use super::call_node::checked_call;
@@ -25,6 +26,7 @@ pub(crate) fn checked_tree(
     node: &Node,
     list: &mut NodeList,
 ) -> Result<EdmType, Untyped>
+    requires { AreThere setting.now.schema.now setting.now.variables.now }
     ensures answer { Answers setting.now list.old (tree_of node.now) list.new result }
     ensures there { IfOk result (IsTypeThere setting.now.schema.now) }
     ensures grown { length list.old.nodes ≤ length list.new.nodes }

@@ -6,10 +6,11 @@ ghost use Rattle.csdl_schema.specs.ExprType.{ExprType};
 ghost use Rattle.csdl_schema.specs.SchemaModel.{slots_of};
 ghost use Rattle.odata_expression_types.specs.FirstUntypable.{StepReason};
 ghost use Rattle.odata_checked_filter.specs.FlatTree.{FlatTree};
-ghost use Rattle.odata_expression_types.specs.Typed.{StepTyped};
+ghost use Rattle.odata_expression_types.specs.Typed.{Scope, StepTyped};
 ghost use Rattle.odata_signatures.specs.TypeView.{expr_type};
 ghost use Rattle.odata_signatures.specs.TypeThere.{IsTypeThere};
 ghost use Rattle.odata_typing.specs.private.Answer.{Answers, IsAnswer, IsWalked};
+ghost use Rattle.odata_typing.specs.private.Variables.{AreThere};
 ghost use Rattle.odata_checked_filter.specs.ListGrowth.{IsOpened};
 ghost use Rattle.odata_typing.specs.private.StepFound.{IsStepSlot};
 
@@ -53,6 +54,7 @@ pub(crate) fn checked_member(
     asked: &str,
     list: &mut NodeList,
 ) -> Result<EdmType, Untyped>
+    requires { AreThere setting.now.schema.now setting.now.variables.now }
     ensures answer { Answers setting.now list.old
         (node span.start span.stop (member (tree_of base.now) asked.now)) list.new result }
     ensures there { IfOk result (IsTypeThere setting.now.schema.now) }
@@ -83,10 +85,10 @@ fn close_member(
     list: &mut NodeList,
 ) -> Result<EdmType, Untyped>
     requires { opened.place < length list.old.nodes }
-    ensures answer { (n : ℕ) (b : Tree) (start before : FlatTree)
+    ensures answer { (n : ℕ) (scope : Scope) (b : Tree) (start before : FlatTree)
         → IsOpened start opened.place asked.now before
-        → IsWalked schema.now n [] before b list.old base
-        → IsAnswer schema.now n [] start (node opened.span.start opened.span.stop (member b asked.now))
+        → IsWalked schema.now n scope before b list.old base
+        → IsAnswer schema.now n scope start (node opened.span.start opened.span.stop (member b asked.now))
         list.new result }
     ensures there { IfOk result (IsTypeThere schema.now) }
     ensures grown { length list.old.nodes ≤ length list.new.nodes }

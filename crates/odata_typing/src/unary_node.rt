@@ -3,9 +3,11 @@ ghost use Rattle.std.specs.Prelude.{◌<◌, ◌≤◌, [], ℕ, length, IfOk};
 ghost use Rattle.odata_syntax.specs.Tree.{Tree, node, negation, logical_not};
 ghost use Rattle.odata_syntax.specs.TreeView.{tree_of};
 ghost use Rattle.csdl_schema.specs.SchemaModel.{SchemaModel};
+ghost use Rattle.odata_expression_types.specs.Typed.{Scope};
 ghost use Rattle.odata_checked_filter.specs.FlatTree.{FlatTree};
 ghost use Rattle.odata_signatures.specs.TypeThere.{IsTypeThere};
 ghost use Rattle.odata_typing.specs.private.Answer.{Answers, IsAnswer, IsWalked};
+ghost use Rattle.odata_typing.specs.private.Variables.{AreThere};
 ghost use Rattle.odata_checked_filter.specs.ListGrowth.{IsOpened};
 
 use super::laws_below::laws_below;
@@ -27,6 +29,7 @@ pub(crate) fn checked_negation(
     operand: &Node,
     list: &mut NodeList,
 ) -> Result<EdmType, Untyped>
+    requires { AreThere setting.now.schema.now setting.now.variables.now }
     ensures answer { Answers setting.now list.old
         (node span.start span.stop (negation (tree_of operand.now))) list.new result }
     ensures there { IfOk result (IsTypeThere setting.now.schema.now) }
@@ -46,10 +49,10 @@ pub(crate) fn checked_negation(
 /// `-` before an operand of that type.
 fn close_negation(opened: Opened, operand: EdmType, list: &mut NodeList) -> Result<EdmType, Untyped>
     requires { opened.place < length list.old.nodes }
-    ensures answer { (schema : SchemaModel) (n : ℕ) (o : Tree) (start before : FlatTree)
+    ensures answer { (schema : SchemaModel) (n : ℕ) (scope : Scope) (o : Tree) (start before : FlatTree)
         → IsOpened start opened.place [] before
-        → IsWalked schema n [] before o list.old operand
-        → IsAnswer schema n [] start (node opened.span.start opened.span.stop (negation o))
+        → IsWalked schema n scope before o list.old operand
+        → IsAnswer schema n scope start (node opened.span.start opened.span.stop (negation o))
         list.new result }
     ensures there { (schema : SchemaModel) → IfOk result (IsTypeThere schema) }
     ensures grown { length list.old.nodes ≤ length list.new.nodes }
@@ -75,6 +78,7 @@ pub(crate) fn checked_not(
     operand: &Node,
     list: &mut NodeList,
 ) -> Result<EdmType, Untyped>
+    requires { AreThere setting.now.schema.now setting.now.variables.now }
     ensures answer { Answers setting.now list.old
         (node span.start span.stop (logical_not (tree_of operand.now))) list.new result }
     ensures there { IfOk result (IsTypeThere setting.now.schema.now) }
@@ -94,10 +98,10 @@ pub(crate) fn checked_not(
 /// `not` before an operand of that type.
 fn close_not(opened: Opened, operand: EdmType, list: &mut NodeList) -> Result<EdmType, Untyped>
     requires { opened.place < length list.old.nodes }
-    ensures answer { (schema : SchemaModel) (n : ℕ) (o : Tree) (start before : FlatTree)
+    ensures answer { (schema : SchemaModel) (n : ℕ) (scope : Scope) (o : Tree) (start before : FlatTree)
         → IsOpened start opened.place [] before
-        → IsWalked schema n [] before o list.old operand
-        → IsAnswer schema n [] start (node opened.span.start opened.span.stop (logical_not o))
+        → IsWalked schema n scope before o list.old operand
+        → IsAnswer schema n scope start (node opened.span.start opened.span.stop (logical_not o))
         list.new result }
     ensures there { (schema : SchemaModel) → IfOk result (IsTypeThere schema) }
     ensures grown { length list.old.nodes ≤ length list.new.nodes }

@@ -9,6 +9,7 @@ ghost use Rattle.odata_expression_types.specs.FirstUntypable.{IsReason};
 ghost use Rattle.odata_expression_types.specs.Typed.{Scope};
 ghost use Rattle.odata_typing.specs.private.Answer.{HasFault};
 ghost use Rattle.odata_typing.specs.private.Judged.{IsToldOf, IsUnruled};
+ghost use Rattle.odata_typing.specs.private.Variables.{AreThere, scope_of};
 
 use super::laws_below::laws_below;
 use super::node::checked_tree;
@@ -21,8 +22,9 @@ use odata_syntax::Node;
 /// The first untypable node of a tree whose top is of such a form: that of its children, or the top itself.
 #[cycle(typing)]
 pub(crate) fn untyped_form(setting: &Setting<'_>, node: &Node, list: &mut NodeList) -> Untyped
-    requires { IsUnruled (shape_of (tree_of node.now)) }
-    ensures fault { HasFault setting.now.schema.now setting.now.filtered_type [] (tree_of node.now) result }
+    requires unruled { IsUnruled (shape_of (tree_of node.now)) }
+    requires there { AreThere setting.now.schema.now setting.now.variables.now }
+    ensures fault { HasFault setting.now.schema.now setting.now.filtered_type (scope_of setting.now) (tree_of node.now) result }
     ensures grown { length list.old.nodes ≤ length list.new.nodes }
 {
     laws_below();
@@ -56,8 +58,9 @@ fn reason_of(node: &Node) -> TypeFaultCode
 /// The first untypable node of such a node's children that are judged. `None` where each has a type.
 #[cycle(typing)]
 fn fault_below(setting: &Setting<'_>, node: &Node, list: &mut NodeList) -> Option<Untyped>
-    requires { IsUnruled (shape_of (tree_of node.now)) }
-    ensures told { IsToldOf setting.now.schema.now setting.now.filtered_type [] (children_in_scope (shape_of (tree_of node.now))) result }
+    requires unruled { IsUnruled (shape_of (tree_of node.now)) }
+    requires there { AreThere setting.now.schema.now setting.now.variables.now }
+    ensures told { IsToldOf setting.now.schema.now setting.now.filtered_type (scope_of setting.now) (children_in_scope (shape_of (tree_of node.now))) result }
     ensures grown { length list.old.nodes ≤ length list.new.nodes }
 {
     laws_below();
@@ -89,7 +92,8 @@ fn fault_below(setting: &Setting<'_>, node: &Node, list: &mut NodeList) -> Optio
 /// The first untypable node of a tree.
 #[cycle(typing)]
 fn fault_of(setting: &Setting<'_>, node: &Node, list: &mut NodeList) -> Option<Untyped>
-    ensures told { IsToldOf setting.now.schema.now setting.now.filtered_type [] (tree_of node.now ∷ []) result }
+    requires { AreThere setting.now.schema.now setting.now.variables.now }
+    ensures told { IsToldOf setting.now.schema.now setting.now.filtered_type (scope_of setting.now) (tree_of node.now ∷ []) result }
     ensures grown { length list.old.nodes ≤ length list.new.nodes }
 {
     laws_below();
@@ -102,7 +106,8 @@ fn fault_of(setting: &Setting<'_>, node: &Node, list: &mut NodeList) -> Option<U
 /// The first untypable node of the items of a list.
 #[cycle(typing)]
 fn fault_of_all(setting: &Setting<'_>, nodes: &[Node], list: &mut NodeList) -> Option<Untyped>
-    ensures told { IsToldOf setting.now.schema.now setting.now.filtered_type [] (list_of_trees (trees_of nodes.now)) result }
+    requires { AreThere setting.now.schema.now setting.now.variables.now }
+    ensures told { IsToldOf setting.now.schema.now setting.now.filtered_type (scope_of setting.now) (list_of_trees (trees_of nodes.now)) result }
     ensures grown { length list.old.nodes ≤ length list.new.nodes }
 {
     laws_below();

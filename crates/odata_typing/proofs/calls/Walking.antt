@@ -1,5 +1,5 @@
 -- The arguments of a call, from the left.
-use Rattle.std.proofs.Common.{◌≡◌, refl, sym, ap, ◌∙◌, subst, ℕ, ◌+◌, List, [], ◌∷◌, ◌++◌, Option, Some, None, length, map, arith}
+use Rattle.std.proofs.Common.{◌≡◌, refl, sym, ap, ◌∙◌, subst, ℕ, List, [], ◌∷◌, ◌++◌, Option, Some, None, length, map}
 use Rattle.std.proofs.lemmas.List.{map-append}
 use Rattle.std.specs.List.{AllByRecursion}
 use Rattle.odata_syntax.specs.Spans.{list_of_trees}
@@ -15,7 +15,7 @@ use Rattle.odata_signatures.specs.declared.edm_type.EdmType.{EdmType}
 use Rattle.odata_signatures.specs.declared.function.Function.{Function}
 use Rattle.odata_expression_types.specs.declared.refusal.TypeFaultCode.{TypeFaultCode}
 use Rattle.odata_expression_types.specs.FirstUntypable.{code_of_call}
-use Rattle.odata_expression_types.specs.Typed.{ArgumentsTyped, AreTyped, IsTyped, Scope, Typed}
+use Rattle.odata_expression_types.specs.Typed.{AreTyped, IsTyped, Scope, Typed}
 use Rattle.odata_checked_filter.specs.declared.checked_node.NodeKind.{NodeKind}
 use Rattle.odata_checked_filter.specs.FlatTree.{FlatTree}
 use Rattle.odata_checked_filter.specs.ListGrowth.{IsKept, IsOpened, node_put}
@@ -27,6 +27,7 @@ use Rattle.odata_typing.specs.private.Arguments.{AreAnswered, AreWalked}
 use Rattle.odata_typing.specs.private.EarlierFault.{IsEarlierOf}
 use Rattle.odata_typing.specs.private.Judged.{HasFaultAmong, IsToldOf}
 use Rattle.odata_typing.specs.private.LawsBelow.{LawsBelow}
+use Rattle.odata_typing.specs.private.Variables.{scope_of}
 use Rattle.odata_typing.proofs.flat.Closing.{kept_on, opened_length, put_in}
 use Rattle.odata_typing.proofs.untypable.Operands.{told_below, told_both, told_fault, walked_typed}
 use Rattle.odata_typing.proofs.untypable.Untypable.{all_typed, first_itself}
@@ -100,7 +101,7 @@ module _ (laws : LawsBelow) where
   told_so_far :
       (setting : Setting) (start list : FlatTree) (trees : List Tree) (types : List EdmType) (told : Option Untyped)
       → AreAnswered setting start trees list types told
-      → IsToldOf setting.schema.now setting.filtered_type [] trees told
+      → IsToldOf setting.schema.now setting.filtered_type (scope_of setting) trees told
   told_so_far setting start list trees types None answered = answered.each
   told_so_far setting start list trees types (Some untyped) answered = answered
 
@@ -108,19 +109,19 @@ module _ (laws : LawsBelow) where
   pub answered_typed :
       (setting : Setting) (start list new : FlatTree) (trees : List Tree) (types : List EdmType) (told : Option Untyped) (tree : Tree) (type : EdmType)
       → AreAnswered setting start trees list types told
-      → IsWalked setting.schema.now setting.filtered_type [] list tree new type
+      → IsWalked setting.schema.now setting.filtered_type (scope_of setting) list tree new type
       → AreAnswered setting start (trees ++ tree ∷ []) new (types ++ type ∷ []) told
   answered_typed setting start list new trees types None tree type answered walked =
-      walked_more setting.schema.now setting.filtered_type [] start list new trees types tree type answered walked
+      walked_more setting.schema.now setting.filtered_type (scope_of setting) start list new trees types tree type answered walked
   answered_typed setting start list new trees types (Some untyped) tree type answered walked =
-      told_both laws setting.schema.now setting.filtered_type [] trees (tree ∷ []) (Some untyped) None (Some untyped) answered
-      (walked_typed laws setting.schema.now setting.filtered_type [] list tree new type walked, tt) refl
+      told_both laws setting.schema.now setting.filtered_type (scope_of setting) trees (tree ∷ []) (Some untyped) None (Some untyped) answered
+      (walked_typed laws setting.schema.now setting.filtered_type (scope_of setting) list tree new type walked, tt) refl
 
   -- with a fault told, lists and types say nothing
   fault_answered :
       (setting : Setting) (start new : FlatTree) (trees : List Tree) (types : List EdmType) (before after : Option Untyped) (untyped : Untyped)
       → IsEarlierOf before (Some untyped) after
-      → IsToldOf setting.schema.now setting.filtered_type [] trees after
+      → IsToldOf setting.schema.now setting.filtered_type (scope_of setting) trees after
       → AreAnswered setting start trees new types after
   fault_answered setting start new trees types before (Some told) untyped is answered = answered
   fault_answered setting start new trees types None None untyped is answered = let e : ◌≡◌ {A = Option Untyped} None (Some untyped) = is in cc
@@ -130,14 +131,14 @@ module _ (laws : LawsBelow) where
   pub answered_fault :
       (setting : Setting) (start list new : FlatTree) (trees : List Tree) (types : List EdmType) (before after : Option Untyped) (tree : Tree) (untyped : Untyped)
       → AreAnswered setting start trees list types before
-      → HasFault setting.schema.now setting.filtered_type [] tree untyped
+      → HasFault setting.schema.now setting.filtered_type (scope_of setting) tree untyped
       → IsEarlierOf before (Some untyped) after
       → AreAnswered setting start (trees ++ tree ∷ []) new types after
   answered_fault setting start list new trees types before after tree untyped answered fault is =
       fault_answered setting start new (trees ++ tree ∷ []) types before after untyped is
-      (told_both laws setting.schema.now setting.filtered_type [] trees (tree ∷ []) before (Some untyped) after
+      (told_both laws setting.schema.now setting.filtered_type (scope_of setting) trees (tree ∷ []) before (Some untyped) after
       (told_so_far setting start list trees types before answered)
-      (told_fault laws setting.schema.now setting.filtered_type [] tree untyped fault) is)
+      (told_fault laws setting.schema.now setting.filtered_type (scope_of setting) tree untyped fault) is)
 
   -- the first fault of the arguments is that of the call
   pub call_fault :

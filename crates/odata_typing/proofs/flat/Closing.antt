@@ -7,17 +7,17 @@ use Rattle.odata_syntax.specs.declared.node.BinaryOperator.{BinaryOperator}
 use Rattle.odata_syntax.specs.declared.node.LiteralKind.{LiteralKind}
 use Rattle.odata_text.specs.declared.span.Span.{Span}
 use Rattle.csdl_schema.specs.ExprType.{ExprType, single, structured}
-use Rattle.csdl_schema.specs.SchemaModel.{SchemaModel, Slots, properties_at, slot_named, slots_of, type_name_at}
+use Rattle.csdl_schema.specs.SchemaModel.{SchemaModel, Slots, properties_at, slots_of, type_name_at}
 use Rattle.odata_signatures.specs.declared.edm_type.EdmType.{EdmType}
 use Rattle.odata_signatures.specs.declared.edm_type.ValueType.{ValueType}
 use Rattle.odata_signatures.specs.OperatorTyped.{NegationTyped, NotTyped, OperatorTyped}
 use Rattle.odata_signatures.specs.TypeView.{expr_type}
-use Rattle.odata_expression_types.specs.Typed.{PropertyTyped, Scope, StepTyped, Typed}
+use Rattle.odata_expression_types.specs.Typed.{NameTyped, Scope, StepTyped, Typed}
 use Rattle.odata_checked_filter.specs.declared.checked_node.CheckedNode.{CheckedNode}
 use Rattle.odata_checked_filter.specs.declared.checked_node.NodeKind.{NodeKind}
 use Rattle.odata_checked_filter.specs.FlatTree.{FlatTree}
 use Rattle.odata_checked_filter.specs.ListGrowth.{IsGrownBy, IsKept, IsOpened, node_put, with_node, with_value}
-use Rattle.odata_checked_filter.specs.Stands.{IsMemberNode, Stands}
+use Rattle.odata_checked_filter.specs.Stands.{IsMemberNode, IsNameNode, Stands, variable_names}
 use Rattle.odata_typing.specs.private.Answer.{IsReading, IsWalked}
 use Rattle.odata_typing.specs.private.LawsBelow.{LawsBelow}
 use Rattle.odata_typing.specs.private.StepFound.{IsStepSlot}
@@ -121,18 +121,18 @@ module _ (laws : LawsBelow) where
         typed = refl;
       })
 
-  -- a property's node
-  pub property_pushed :
-      (schema : SchemaModel) (n : ℕ) (list new : FlatTree) (span : Span) (asked bytes : List ℕ) (slot : ℕ) (edm_type : EdmType)
+  -- the node of a name
+  pub name_pushed :
+      (schema : SchemaModel) (n : ℕ) (scope : Scope) (list new : FlatTree) (span : Span) (asked bytes : List ℕ) (kind : NodeKind) (edm_type : EdmType)
       → length list.texts ≡ length list.nodes
-      → slot_named (properties_at schema n) asked ≡ Some slot
-      → PropertyTyped (properties_at schema n) asked (expr_type schema edm_type)
+      → IsNameNode (properties_at schema n) (variable_names scope) asked kind
+      → NameTyped (slots_of schema) (type_name_at schema n) scope asked (expr_type schema edm_type)
       → bytes ≡ asked
-      → new ≡ with_node list (leaf list (NodeKind.Property slot) span edm_type) bytes
-      → IsWalked schema n [] list (node span.start span.stop (name asked)) new edm_type
-  property_pushed schema n list new span asked bytes slot edm_type beside named typed same is_new =
+      → new ≡ with_node list (leaf list kind span edm_type) bytes
+      → IsWalked schema n scope list (node span.start span.stop (name asked)) new edm_type
+  name_pushed schema n scope list new span asked bytes kind edm_type beside named typed same is_new =
       rw (is_new, same) (record {
-        grown = laws.pushed schema n [] list (leaf list (NodeKind.Property slot) span edm_type) (name asked) beside refl (refl, named) typed (λ grown i. refl);
+        grown = laws.pushed schema n scope list (leaf list kind span edm_type) (name asked) beside refl named typed (λ grown i. refl);
         typed = typed;
       })
 

@@ -1,5 +1,5 @@
 -- What is known of a property by its name.
-use Rattle.std.proofs.Common.{◌≡◌, refl, sym, subst, ◌∙◌, inl, inr, ℕ, ◌<◌, ◌≤◌, List, [], length, Option, Some, None, IfSome, IsSomeAnd, MatchOption, slice_get, arith}
+use Rattle.std.proofs.Common.{◌≡◌, refl, sym, subst, ◌∙◌, inl, inr, ℕ, ◌<◌, ◌≤◌, List, length, Option, Some, None, IfSome, IsSomeAnd, MatchOption, slice_get, arith}
 use Rattle.std.proofs.lemmas.Option.{slice_get_cases}
 use Rattle.odata_syntax.specs.Tree.{node, name}
 use Rattle.odata_text.specs.declared.span.Span.{Span}
@@ -9,19 +9,22 @@ use Rattle.csdl_schema.specs.SchemaModel.{PropertyModel, PropertyType, SchemaMod
 use Rattle.csdl_schema.specs.declared.property.Property.{Property}
 use Rattle.odata_expression_types.specs.declared.refusal.TypeFaultCode.{TypeFaultCode}
 use Rattle.odata_expression_types.specs.FirstUntypable.{IsFirstUntypable, NameReason, PropertyReason}
-use Rattle.odata_expression_types.specs.Typed.{PropertyTyped}
+use Rattle.odata_expression_types.specs.Typed.{PropertyTyped, Scope, variable_type}
 use Rattle.odata_typing.specs.private.LawsBelow.{LawsBelow}
 use Rattle.odata_typing.proofs.untypable.Untypable.{first_itself}
+use Rattle.odata_typing.proofs.scopes.Scopes.{unbound_only}
 use Rattle.odata_typing.proofs.untypable.PropertySlots.{slot_below, property_at, property_none}
 
 -- a name that has no type
 pub first_name :
-    LawsBelow → (slots : Slots) (root asked : List ℕ) (span : Span) (code : TypeFaultCode)
+    LawsBelow → (slots : Slots) (root : List ℕ) (scope : Scope) (asked : List ℕ) (span : Span) (code : TypeFaultCode)
+    → variable_type scope asked ≡ None
     → ((type : ExprType) → ¬ PropertyTyped (slots.properties root) asked type)
     → NameReason (slots.properties root) asked code
-    → IsFirstUntypable slots root [] (node span.start span.stop (name asked)) (record { code = code; span = span })
-first_name laws slots root asked span code untyped reason =
-    first_itself laws slots root [] span.start span.stop (name asked) (record { code = code; span = span }) tt untyped reason refl refl
+    → IsFirstUntypable slots root scope (node span.start span.stop (name asked)) (record { code = code; span = span })
+first_name laws slots root scope asked span code none untyped reason =
+    first_itself laws slots root scope span.start span.stop (name asked) (record { code = code; span = span }) tt
+    (λ type typed. untyped type (unbound_only slots root scope asked type none typed)) reason refl refl
 
 -- there is no property of the name
 pub unknown_untyped : (properties : List PropertyModel) (asked : List ℕ) (type : ExprType) → slot_named properties asked ≡ None → ¬ PropertyTyped properties asked type

@@ -1,5 +1,5 @@
 -- For private clauses: what the walk over a tree answers.
-use Rattle.std.specs.Prelude.{◌≡◌, ◌≢◌, ◌⊎◌, ℕ, List, [], Result, MatchResult, length}
+use Rattle.std.specs.Prelude.{◌≡◌, ◌≢◌, ◌⊎◌, ℕ, List, Result, MatchResult, length}
 use Rattle.edm_values.specs.declared.value.Value.{Value}
 use Rattle.odata_syntax.specs.Tree.{Tree}
 use Rattle.odata_syntax.specs.declared.node.LiteralKind.{LiteralKind}
@@ -10,6 +10,7 @@ use Rattle.odata_signatures.specs.declared.edm_type.EdmType.{EdmType}
 use Rattle.odata_expression_types.specs.declared.refusal.Refusal.{Refusal}
 use Rattle.odata_typing.specs.declared.setting.Setting.{Setting}
 use Rattle.odata_typing.specs.declared.untyped.Untyped.{Untyped}
+use Rattle.odata_typing.specs.private.Variables.{scope_of}
 use Rattle.odata_expression_types.specs.FirstUntypable.{IsFirstUntypable}
 use Rattle.odata_checked_filter.specs.FlatTree.{FlatTree, tree_of_nodes}
 use Rattle.odata_checked_filter.specs.ListGrowth.{IsGrownBy}
@@ -48,9 +49,9 @@ abbrev pub IsAnswer : SchemaModel → ℕ → Scope → FlatTree → Tree → Fl
 IsAnswer schema n scope old tree new answer =
     MatchResult answer (IsWalked schema n scope old tree new) (HasFault schema n scope tree)
 
--- the same, judged by the setting, with no variable in scope
+-- the same, judged by the setting
 abbrev pub Answers : Setting → FlatTree → Tree → FlatTree → Result EdmType Untyped → Type 0
-Answers setting old tree new answer = IsAnswer setting.schema.now setting.filtered_type [] old tree new answer
+Answers setting old tree new answer = IsAnswer setting.schema.now setting.filtered_type (scope_of setting) old tree new answer
 
 -- no tokens of the text are a tree
 abbrev pub HasNoTree : List ℕ → Type 0

@@ -1,5 +1,5 @@
 -- For private clauses: what the walk over the arguments of a call answers.
-use Rattle.std.specs.Prelude.{ℕ, List, [], Option, MatchOption, length, map}
+use Rattle.std.specs.Prelude.{ℕ, List, Option, MatchOption, length, map}
 use Rattle.std.specs.List.{AllByRecursion}
 use Rattle.odata_syntax.specs.Tree.{Tree, trees_of_list}
 use Rattle.csdl_schema.specs.SchemaModel.{SchemaModel, slots_of, type_name_at}
@@ -12,6 +12,7 @@ use Rattle.odata_checked_filter.specs.Stands.{AllStand}
 use Rattle.odata_typing.specs.declared.setting.Setting.{Setting}
 use Rattle.odata_typing.specs.declared.untyped.Untyped.{Untyped}
 use Rattle.odata_typing.specs.private.Judged.{HasFaultAmong}
+use Rattle.odata_typing.specs.private.Variables.{scope_of}
 
 -- behind what stood in the list stand nodes for the trees, which have these types
 pub record AreWalked
@@ -26,5 +27,5 @@ pub record AreWalked
 -- where no fault is told the trees are walked, else it is the first among them
 abbrev pub AreAnswered : Setting → FlatTree → List Tree → FlatTree → List EdmType → Option Untyped → Type 0
 AreAnswered setting old trees new types told =
-    MatchOption told (AreWalked setting.schema.now setting.filtered_type [] old trees new types)
-    (HasFaultAmong setting.schema.now setting.filtered_type [] trees)
+    MatchOption told (AreWalked setting.schema.now setting.filtered_type (scope_of setting) old trees new types)
+    (HasFaultAmong setting.schema.now setting.filtered_type (scope_of setting) trees)

@@ -1,0 +1,2 @@
+-- Range variables and the scope that they are.
+pub mod Scopes

@@ -1,0 +1,104 @@
+-- The scope of range variables, and what a name stands for in it.
+use Rattle.std.proofs.Common.{◌≡◌, ◌∙◌, ◌+◌, ℕ, suc, Bor, IfSome, SomeIff, arith, List, [], ◌∷◌, Option, Some, None, MatchOption, Result, Ok, Err, IfOk, true, false, length, nat_eq, refl, sym, ap, subst, rules}
+use Rattle.std.specs.Cmp.Lexicographic.{pointwise}
+use Rattle.std.specs.List.{AllByRecursion}
+use Rattle.odata_signatures.specs.TypeThere.{IsTypeThere}
+use Rattle.odata_checked_filter.specs.Stands.{variable_names}
+use Rattle.csdl_schema.specs.ExprType.{ExprType}
+use Rattle.csdl_schema.specs.SchemaModel.{SchemaModel, Slots}
+use Rattle.odata_signatures.specs.TypeView.{expr_type}
+use Rattle.odata_signatures.specs.declared.edm_type.EdmType.{EdmType}
+use Rattle.odata_expression_types.specs.Typed.{NameTyped, PropertyTyped, Scope, variable_type}
+use Rattle.odata_typing.specs.declared.variables.Variables.{Variables, Bound, Empty, the_lemmas}
+use Rattle.odata_typing.specs.declared.untyped.Untyped.{Untyped}
+use Rattle.odata_typing.specs.declared.variables.NamedVariable.{NamedVariable}
+use Rattle.odata_typing.specs.private.Variables.{AreThere, IsNamedBy, scope_in, types_in}
+
+more_by_one : (n : ℕ) → n + 1 ≡ suc n
+more_by_one n = omega arith
+
+pub scope_in-Empty : (schema : SchemaModel) → scope_in schema Empty ≡ []
+scope_in-Empty schema = search (rules, the_lemmas)
+
+pub scope_in-Bound : (schema : SchemaModel) (name : Bor (List ℕ)) (type : EdmType) (outer : Bor Variables) → scope_in schema (Bound name type outer) ≡ (name.now, expr_type schema type) ∷ scope_in schema outer.now
+scope_in-Bound schema name type outer = search (rules, the_lemmas)
+
+-- one more variable
+pub count_more :
+    (schema : SchemaModel) (name : Bor (List ℕ)) (type : EdmType) (outer : Bor Variables) (n : ℕ) (fits : Type 0) (counted : Option ℕ)
+    → n ≡ length (variable_names (scope_in schema outer.now))
+    → SomeIff counted fits (n + 1)
+    → IfSome counted (λ k. k ≡ length (variable_names (scope_in schema (Bound name type outer))))
+count_more schema name type outer n fits (Some k) of_outer is = rw (scope_in-Bound schema name type outer) (is.1 ∙ ap (λ (x : ℕ). x + 1) of_outer ∙ more_by_one (length (variable_names (scope_in schema outer.now))))
+count_more schema name type outer n fits None of_outer is = tt
+
+types_in-Empty : types_in Empty ≡ []
+types_in-Empty = search (rules, the_lemmas)
+
+types_in-Bound : (name : Bor (List ℕ)) (type : EdmType) (outer : Bor Variables) → types_in (Bound name type outer) ≡ type ∷ types_in outer.now
+types_in-Bound name type outer = search (rules, the_lemmas)
+
+pub none_there : (schema : SchemaModel) → AreThere schema Empty
+none_there schema = rw types_in-Empty tt
+
+pub bound_there : (schema : SchemaModel) (name : Bor (List ℕ)) (type : EdmType) (outer : Bor Variables) → AreThere schema (Bound name type outer) → IsTypeThere schema type × AreThere schema outer.now
+bound_there schema name type outer there =
+    subst (λ (types : List EdmType). AllByRecursion (IsTypeThere schema) types) (types_in-Bound name type outer) there
+
+-- a variable of another name says nothing of a name
+pub other_named : (schema : SchemaModel) (name : Bor (List ℕ)) (type : EdmType) (outer : Bor Variables) (asked : List ℕ) (found : Option NamedVariable)
+    → pointwise nat_eq asked name.now ≡ false
+    → IsNamedBy schema (scope_in schema outer.now) asked found
+    → IsNamedBy schema (scope_in schema (Bound name type outer)) asked found
+other_named schema name type outer asked (Some v) other is = rw (scope_in-Bound schema name type outer, other) is
+other_named schema name type outer asked None other is = rw (scope_in-Bound schema name type outer, other) is
+
+pub named_outside :
+    (schema : SchemaModel) (name : Bor (List ℕ)) (type : EdmType) (outer : Bor Variables) (asked : List ℕ) (found : Result (Option NamedVariable) Untyped)
+    → pointwise nat_eq asked name.now ≡ false
+    → IfOk found (IsNamedBy schema (scope_in schema outer.now) asked)
+    → IfOk found (IsNamedBy schema (scope_in schema (Bound name type outer)) asked)
+named_outside schema name type outer asked (Ok named) other is = other_named schema name type outer asked named other is
+named_outside schema name type outer asked (Err untyped) other is = tt
+
+-- one of that name is what it stands for
+pub same_named : (schema : SchemaModel) (name : Bor (List ℕ)) (type : EdmType) (outer : Bor Variables) (asked : List ℕ) (variable : NamedVariable)
+    → pointwise nat_eq asked name.now ≡ true
+    → variable.level ≡ length (variable_names (scope_in schema outer.now))
+    → variable.edm_type ≡ type
+    → IsNamedBy schema (scope_in schema (Bound name type outer)) asked (Some variable)
+same_named schema name type outer asked variable same level is =
+    rw (scope_in-Bound schema name type outer, same) (ap (λ (n : ℕ). Some n) (sym level), ap (λ (t : EdmType). Some (expr_type schema t)) (sym is))
+
+pub empty_named : (schema : SchemaModel) (asked : List ℕ) → IsNamedBy schema (scope_in schema Empty) asked None
+empty_named schema asked = rw (scope_in-Empty schema) (refl, refl)
+
+-- a name that no variable has is a property's
+pub unbound_typed :
+    (slots : Slots) (root : List ℕ) (scope : Scope) (asked : List ℕ) (type : ExprType)
+    → variable_type scope asked ≡ None
+    → PropertyTyped (slots.properties root) asked type
+    → NameTyped slots root scope asked type
+unbound_typed slots root scope asked type none typed =
+    subst (λ (o : Option ExprType). MatchOption o (PropertyTyped (slots.properties root) asked type) (λ t. type ≡ t)) (sym none) typed
+
+pub unbound_only :
+    (slots : Slots) (root : List ℕ) (scope : Scope) (asked : List ℕ) (type : ExprType)
+    → variable_type scope asked ≡ None
+    → NameTyped slots root scope asked type
+    → PropertyTyped (slots.properties root) asked type
+unbound_only slots root scope asked type none typed =
+    subst (λ (o : Option ExprType). MatchOption o (PropertyTyped (slots.properties root) asked type) (λ t. type ≡ t)) none typed
+
+-- one that a variable has is of its type
+pub bound_typed :
+    (slots : Slots) (root : List ℕ) (scope : Scope) (asked : List ℕ) (type : ExprType)
+    → variable_type scope asked ≡ Some type
+    → NameTyped slots root scope asked type
+bound_typed slots root scope asked type some =
+    subst (λ (o : Option ExprType). MatchOption o (PropertyTyped (slots.properties root) asked type) (λ t. type ≡ t)) (sym some) refl
+
+-- what has the variable's type
+pub typed_there : (schema : SchemaModel) (answer : Result EdmType Untyped) (type : EdmType) → IfOk answer (λ t. t ≡ type) → IsTypeThere schema type → IfOk answer (IsTypeThere schema)
+typed_there schema (Ok t) type same there = rw same there
+typed_there schema (Err untyped) type same there = tt

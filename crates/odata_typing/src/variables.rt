@@ -1,0 +1,65 @@
+//! The range variables in scope. No lambda operator has a type yet, so the checker begins and ends with none.
+ghost use Rattle.std.specs.Prelude.{◌≡◌, length, IfOk, IfErr, IfSome};
+ghost use Rattle.csdl_schema.specs.SchemaModel.{SchemaModel};
+ghost use Rattle.odata_typing.specs.private.Variables.{AreThere, IsNamedBy, scope_in};
+ghost use Rattle.odata_checked_filter.specs.Stands.{variable_names};
+ghost use Rattle.odata_signatures.specs.TypeThere.{IsTypeThere};
+
+use super::untyped::Untyped;
+use odata_signatures::EdmType;
+
+/// Range variables, each with the type of its value, the innermost first.
+#[derive(Clone, Copy)]
+pub(crate) enum Variables<'v> {
+    Empty,
+    Bound(&'v str, EdmType, &'v Variables<'v>),
+}
+
+/// A range variable that a name stands for: how many variables are around it, and the type of its value.
+#[derive(Clone, Copy)]
+pub(crate) struct NamedVariable {
+    pub(crate) level: usize,
+    pub(crate) edm_type: EdmType,
+}
+
+/// The innermost variable of that name.
+pub(crate) fn variable_named(
+    variables: &Variables<'_>,
+    asked: &str,
+) -> Result<Option<NamedVariable>, Untyped>
+    ensures named { (schema : SchemaModel) → IfOk result (IsNamedBy schema (scope_in schema variables.now) asked.now) }
+    ensures there { (schema : SchemaModel) → AreThere schema variables.now
+        → IfOk result (λ found. IfSome found (λ variable. IsTypeThere schema variable.edm_type)) }
+    ensures memory { IfErr result (λ untyped. untyped ≡ Untyped.Memory) }
+{
+    match variables {
+        Variables::Empty => Ok(None),
+        Variables::Bound(name, edm_type, outer) => {
+            if asked == *name {
+                match count(outer) {
+                    Some(level) => Ok(Some(NamedVariable {
+                        level,
+                        edm_type: *edm_type,
+                    })),
+                    None => Err(Untyped::Memory),
+                }
+            } else {
+                variable_named(outer, asked)
+            }
+        }
+    }
+}
+
+/// How many variables there are. `None` for more than a `usize` counts, which no memory holds.
+fn count(variables: &Variables<'_>) -> Option<usize>
+    ensures { (schema : SchemaModel)
+        → IfSome result (λ n. n ≡ length (variable_names (scope_in schema variables.now))) }
+{
+    match variables {
+        Variables::Empty => Some(0),
+        Variables::Bound(_, _, outer) => match count(outer) {
+            Some(n) => n.checked_add(1),
+            None => None,
+        },
+    }
+}
