@@ -8,12 +8,12 @@ use Rattle.line_filter.specs.declared.tally.Tally.{Tally}
 use Rattle.line_filter.specs.DeviceCalls.{StaysWell, FailsLast}
 use Rattle.line_filter.specs.Kept.{Passes}
 use Rattle.line_filter.specs.LineItems.{LineJudge, line_sieve}
-use Rattle.line_filter.specs.Lines.{lines_of, text_of_lines}
+use Rattle.line_filter.specs.Lines.{lines_of, longest_line, text_of_lines}
 use Rattle.line_filter.specs.LineSource.{LineSource}
 
 -- The line of this number did not come. What came of the bytes are the lines before it, each with its LF, and what
--- waits, which has none; the reader still has the rest. None of those lines is at fault, and the text is that of the
--- kept ones.
+-- waits, which has none and is not too long; the reader still has the rest. None of those lines is at fault, and the
+-- text is that of the kept ones.
 pub record LacksLine {F : Type 0}
     (judge : LineJudge F) (bytes waiting : List ℕ) (known : Option (List ℕ)) (text : List ℕ) (number : ℕ) : Type 0 where
   pub before : List (List ℕ)
@@ -23,6 +23,7 @@ pub record LacksLine {F : Type 0}
   pub came : bytes ≡ text_of_lines before ++ (waiting ++ rest)
   pub lines : lines_of bytes ≡ before ++ lines_of (waiting ++ rest)
   pub unended : All (λ b. b ≢ 10) waiting
+  pub short : length waiting ≤ longest_line
   pub counted : number ≡ length before + 1
   pub passes : Passes (line_sieve judge) before text tally
 

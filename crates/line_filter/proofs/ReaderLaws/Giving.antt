@@ -1,5 +1,5 @@
 -- What a reader of lines gives, by what it holds.
-use Rattle.std.proofs.Common.{◌≡◌, ◌≢◌, All, ℕ, ◌+◌, ◌-◌, ◌<◌, ◌≤◌, List, [], ◌∷◌, ◌++◌, length, take, drop, None, Some, IfSome, Option, inl, inr, ◌⊎◌, refl, sym, ap, ◌∙◌, subst, arith, append-nil, length-drop, length-take-le}
+use Rattle.std.proofs.Common.{◌≡◌, ◌≢◌, ℕ, ◌+◌, ◌-◌, ◌<◌, ◌≤◌, List, [], ◌∷◌, ◌++◌, length, take, drop, None, Some, IfSome, Option, inl, inr, ◌⊎◌, refl, sym, ap, ◌∙◌, subst, arith, append-nil, length-drop, length-take-le}
 use Rattle.std.specs.Io.KnownBytes.{Keeps, IsAtEnd, prepend_known}
 use Rattle.std.proofs.KnownBytes.{Keeps-refl, Keeps-trans}
 use Rattle.memchr.specs.Find.{NoneBefore, Passes, is_byte}
@@ -68,7 +68,7 @@ module _ {R : Type 0} (remaining : R → Option (List ℕ)) (old new : LineSourc
       → (fault ≢ LineFault.TooLong → IsNoWholeLine old.waiting) → IsFault remaining old new fault
   fault_told fault waiting course long unended = record {
     long = λ is. known_one (remaining old.reader) old.waiting BeginsTooLong (long is);
-    unended = λ not. let none = unended not in subst (All (λ b. b ≢ 10)) (sym waiting) none.0;
+    unended = λ not. subst IsNoWholeLine (sym waiting) (unended not);
     failed = course;
     left = left_kept waiting;
   }

@@ -1,5 +1,5 @@
 -- The walk over the lines of a reader, where what it had is known.
-use Rattle.std.proofs.Common.{◌≡◌, ◌≢◌, All, ℕ, ◌+◌, List, [], ◌∷◌, ◌++◌, length, Option, None, Some, Result, Ok, inl, inr, ◌⊎◌, refl, sym, ap, ◌∙◌, subst, append_assoc}
+use Rattle.std.proofs.Common.{◌≡◌, ◌≢◌, ℕ, ◌+◌, List, [], ◌∷◌, ◌++◌, length, Option, None, Some, Result, Ok, inl, inr, ◌⊎◌, refl, sym, ap, ◌∙◌, subst, append_assoc}
 use Rattle.std.specs.Prelude.{IfOk, IfSome}
 use Rattle.std.specs.Io.KnownBytes.{IsAtEnd, Appends, Keeps, prepend_known}
 use Rattle.std.proofs.KnownBytes.{Appends-trans}
@@ -9,6 +9,7 @@ use Rattle.line_filter.specs.LineItems.{LineJudge, IsFoundOf, lines}
 use Rattle.line_filter.specs.Lines.{lines_of, text_of_lines}
 use Rattle.line_filter.specs.LineStreams.{LacksLine}
 use Rattle.line_filter.specs.LineSource.{IsFirstLine, BeginsTooLong, WhereKnown}
+use Rattle.line_filter.specs.private.Giving.{IsNoWholeLine}
 use Rattle.line_filter.specs.private.HeldBack.{WritesBut}
 use Rattle.line_filter.specs.private.Walk.{sum_of, step_of, text_where_kept, fault_stop, GoesOn}
 use Rattle.line_filter.specs.declared.judge.Judgment.{Judgment}
@@ -97,7 +98,7 @@ module _ {F : Type 0} (judge : LineJudge F) where
   -- the next line does not come
   module _ (waiting : List ℕ) where
     HasPassed-lacks : (bytes rest more : List ℕ) (goes_on : Type 0) (u v : Option (List ℕ)) (held : List ℕ) (passed : ℕ) (tally : Tally)
-        → (so_far : HasPassed judge bytes rest goes_on u v held passed tally) → goes_on → waiting ++ more ≡ rest → All (λ b. b ≢ 10) waiting
+        → (so_far : HasPassed judge bytes rest goes_on u v held passed tally) → goes_on → waiting ++ more ≡ rest → IsNoWholeLine waiting
         → LacksLine judge bytes waiting (Some more) so_far.walked.text (passed + 1)
     HasPassed-lacks bytes rest more goes_on u v held passed tally so_far some same unended = record {
       before = so_far.walked.before;
@@ -106,13 +107,14 @@ module _ {F : Type 0} (judge : LineJudge F) where
       left = refl;
       came = so_far.complete some ∙ ap (λ l. text_of_lines so_far.walked.before ++ l) (sym same);
       lines = so_far.walked.whole ∙ ap (λ l. so_far.walked.before ++ lines_of l) (sym same);
-      unended = unended;
+      unended = unended.0;
+      short = unended.1;
       counted = ap (λ k. k + 1) so_far.walked.counted;
       passes = so_far.walked.passes;
     }
 
     HasPassed-fault : (bytes rest more : List ℕ) (goes_on : Type 0) (u v : Option (List ℕ)) (held : List ℕ) (passed : ℕ) (tally : Tally) (fault : LineFault)
-        → HasPassed judge bytes rest goes_on u v held passed tally → goes_on → waiting ++ more ≡ rest → (fault ≢ LineFault.TooLong → All (λ b. b ≢ 10) waiting)
+        → HasPassed judge bytes rest goes_on u v held passed tally → goes_on → waiting ++ more ≡ rest → (fault ≢ LineFault.TooLong → IsNoWholeLine waiting)
         → (fault ≡ LineFault.TooLong → BeginsTooLong rest)
         → (text : List ℕ) × WritesBut u v held text × StopsWith (lines judge bytes) (LacksLine judge bytes waiting (Some more)) text (fault_stop fault (passed + 1))
     HasPassed-fault bytes rest more goes_on u v held passed tally LineFault.TooLong so_far some same unended long =
@@ -136,7 +138,7 @@ module _ {F : Type 0} (judge : LineJudge F) where
         (so_far.walked.text, so_far.walked.holds, inl (HasPassed-lacks bytes rest more goes_on u v held passed tally so_far some same (unended (λ e. cc))))
 
     pub HasCome-fault : (a r known : Option (List ℕ)) (goes_on : Type 0) (u v : Option (List ℕ)) (held : List ℕ) (passed : ℕ) (tally : Tally) (fault : LineFault)
-        → HasCome a r goes_on u v held passed tally → goes_on → Keeps r (prepend_known waiting known) → (fault ≢ LineFault.TooLong → All (λ b. b ≢ 10) waiting)
+        → HasCome a r goes_on u v held passed tally → goes_on → Keeps r (prepend_known waiting known) → (fault ≢ LineFault.TooLong → IsNoWholeLine waiting)
         → (fault ≡ LineFault.TooLong → IfSome r BeginsTooLong)
         → IfSome a (λ bytes. (text : List ℕ) × WritesBut u v held text × StopsWith (lines judge bytes) (LacksLine judge bytes waiting known) text (fault_stop fault (passed + 1)))
     HasCome-fault None r known goes_on u v held passed tally fault so_far some kept unended long = tt

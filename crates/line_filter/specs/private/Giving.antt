@@ -51,11 +51,11 @@ pub record IsEnd {R : Type 0} (remaining : R → Option (List ℕ)) (old new : L
   pub left : Keeps (left_of remaining old) (left_of remaining new)
 
 -- The fault is told from now on, and what was left is left. TooLong tells that the first line is over-long; at another
--- fault no whole line waits.
+-- fault no whole line waits, and none that is too long.
 pub record IsFault
     {R : Type 0} (remaining : R → Option (List ℕ)) (old new : LineSource R) (fault : LineFault) : Type 0 where
   pub long : fault ≡ LineFault.TooLong → IfSome (left_of remaining old) BeginsTooLong
-  pub unended : fault ≢ LineFault.TooLong → All (λ b. b ≢ 10) new.waiting
+  pub unended : fault ≢ LineFault.TooLong → IsNoWholeLine new.waiting
   pub failed : new.course ≡ Course.Failed fault
   pub left : Keeps (left_of remaining old) (left_of remaining new)
 
