@@ -1,5 +1,5 @@
 -- What is seen of a reader of lines, and what its calls give.
-use Rattle.std.specs.Prelude.{◌≡◌, ℕ, ◌<◌, List, [], ◌∷◌, ◌++◌, length, Option, None, Some, ⊤, ◌⊎◌}
+use Rattle.std.specs.Prelude.{◌≡◌, ◌≢◌, ℕ, ◌<◌, ◌≤◌, All, List, [], ◌∷◌, ◌++◌, length, Option, None, Some, ⊤, ◌⊎◌}
 use Rattle.std.specs.Io.KnownBytes.{prepend_known}
 use Rattle.line_filter.specs.declared.line_reader.Course.{Course}
 use Rattle.line_filter.specs.Lines.{lines_of, longest_line}
@@ -27,6 +27,10 @@ pub record IsFirstLine (bytes line rest : List ℕ) : Type 0 where
 abbrev pub BeginsTooLong : List ℕ → Type 0
 BeginsTooLong bytes =
     (line : List ℕ) × (more : List (List ℕ)) × (lines_of bytes ≡ line ∷ more) × (longest_line < length line)
+
+-- no LF is among these bytes, and they are no over-long line yet
+abbrev pub IsNoWholeLine : List ℕ → Type 0
+IsNoWholeLine bytes = All (λ b. b ≢ 10) bytes × (length bytes ≤ longest_line)
 
 -- known bytes stay known, and that is said of what they were and are
 abbrev pub WhereKnown : Option (List ℕ) → Option (List ℕ) → (List ℕ → List ℕ → Type 0) → Type 0

@@ -3,9 +3,9 @@ ghost use Rattle.std.specs.Borrow.{sem};
 ghost use Rattle.std.specs.Io.BufRead.{Rests};
 ghost use Rattle.std.specs.Io.KnownBytes.{Keeps, IsAtEnd};
 ghost use Rattle.line_filter.specs.Lines.{longest_line, most_held};
-ghost use Rattle.line_filter.specs.LineSource.{left_of, BeginsTooLong, GivesLine, IsOver};
+ghost use Rattle.line_filter.specs.LineSource.{left_of, BeginsTooLong, GivesLine, IsNoWholeLine, IsOver};
 ghost use Rattle.line_filter.specs.contracts.line_reader.LineReader.{the_row};
-ghost use Rattle.line_filter.specs.private.Giving.{Gives, GivesAgain, IsNoWholeLine, bytes_to_come, line_to_come};
+ghost use Rattle.line_filter.specs.private.Giving.{Gives, GivesAgain, bytes_to_come, line_to_come};
 ghost use Rattle.line_filter.specs.private.Reading.{IsUnread, ReadsOn};
 
 use super::buffer::{Buffer, ONE_READ};
@@ -232,12 +232,13 @@ impl<R: Read> LineReader<R> {
         ensures* left { sem 𝓛 (Rests (the_row R.row R.Read) self.entry (λ new. MatchResult result
             (λ next. MatchOption next (IsOver new × Keeps (left_of R.remaining self.old) (left_of R.remaining new))
             (λ line. GivesLine (left_of R.remaining self.old) (left_of R.remaining new) line.now))
-            (λ fault. (new.course ≡ Course.Failed fault)
+            (λ fault. (new.course ≡ Course.Failed fault) × (fault ≢ LineFault.TooLong → IsNoWholeLine new.waiting)
             × Keeps (left_of R.remaining self.old) (left_of R.remaining new)))) }
         ensures short { IfOk result (λ next. IfSome next (λ line. length line.now ≤ longest_line)) }
         ensures none_left { IfOk result (λ next. IfNone next (IsAtEnd (left_of R.remaining self.old))) }
         ensures too_long { IfErr result (λ fault. fault ≡ LineFault.TooLong
             → IfSome (left_of R.remaining self.old) BeginsTooLong) }
+        ensures held { IfErr result (λ fault. fault ≢ LineFault.TooLong → IsNoWholeLine self.old.waiting) }
         ensures over { IsOver self.old → result ≡ Ok None }
         ensures failed { (fault : LineFault) → self.old.course ≡ Course.Failed fault → result ≡ Err fault }
     {

@@ -7,8 +7,8 @@ use Rattle.line_filter.specs.declared.line_reader.LineFault.{LineFault}
 use Rattle.line_filter.specs.declared.line_reader.Course.{Course}
 use Rattle.line_filter.specs.declared.line_reader.Next.{Next}
 use Rattle.line_filter.specs.Lines.{longest_line}
-use Rattle.line_filter.specs.LineSource.{LineSource, left_of, IsFirstLine, BeginsTooLong, WhereKnown, IsOver}
-use Rattle.line_filter.specs.private.Giving.{IsNoWholeLine, IsLongBy, IsGoing, IsGiven, IsFault, Gives, GivesAgain, bytes_to_come}
+use Rattle.line_filter.specs.LineSource.{LineSource, left_of, IsFirstLine, BeginsTooLong, IsNoWholeLine, WhereKnown, IsOver}
+use Rattle.line_filter.specs.private.Giving.{IsLongBy, IsGoing, IsGiven, IsFault, Gives, GivesAgain, bytes_to_come}
 use Rattle.line_filter.proofs.ReaderLaws.FirstLine.{first_by_feed, whole_by_feed, first_at_end}
 
 -- what holds whatever the reader still has
@@ -68,6 +68,7 @@ module _ {R : Type 0} (remaining : R → Option (List ℕ)) (old new : LineSourc
       → (fault ≢ LineFault.TooLong → IsNoWholeLine old.waiting) → IsFault remaining old new fault
   fault_told fault waiting course long unended = record {
     long = λ is. known_one (remaining old.reader) old.waiting BeginsTooLong (long is);
+    held = unended;
     unended = λ not. subst IsNoWholeLine (sym waiting) (unended not);
     failed = course;
     left = left_kept waiting;
@@ -94,7 +95,7 @@ end_after None b kept end = tt
 end_after (Some x) None kept end = absurd kept
 end_after (Some x) (Some y) kept end = sym kept ∙ end
 
-module _ {R : Type 0} (remaining : R → Option (List ℕ)) (a b c : LineSource R) (kept : Keeps (left_of remaining a) (left_of remaining b)) (same : bytes_to_come b ≡ bytes_to_come a) where
+module _ {R : Type 0} (remaining : R → Option (List ℕ)) (a b c : LineSource R) (kept : Keeps (left_of remaining a) (left_of remaining b)) (same : bytes_to_come b ≡ bytes_to_come a) (held : IsNoWholeLine b.waiting → IsNoWholeLine a.waiting) where
   whole_after : IsOver c ⊎ WhereKnown (left_of remaining b) (left_of remaining c) (λ bytes rest. bytes ≡ c.line ++ 10 ∷ rest)
       → IsOver c ⊎ WhereKnown (left_of remaining a) (left_of remaining c) (λ bytes rest. bytes ≡ c.line ++ 10 ∷ rest)
   whole_after (inl end) = inl end
@@ -116,6 +117,7 @@ module _ {R : Type 0} (remaining : R → Option (List ℕ)) (a b c : LineSource 
   }
   Gives-after (Next.Fault fault) failed = record {
     long = λ is. known_one_after (left_of remaining a) (left_of remaining b) BeginsTooLong kept (failed.long is);
+    held = λ not. held (failed.held not);
     unended = failed.unended;
     failed = failed.failed;
     left = Keeps-trans (left_of remaining a) (left_of remaining b) (left_of remaining c) kept failed.left;

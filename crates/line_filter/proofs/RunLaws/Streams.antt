@@ -8,8 +8,7 @@ use Rattle.line_filter.specs.Kept.{Items, Filters, StopsWithin, StopsWith}
 use Rattle.line_filter.specs.LineItems.{LineJudge, IsFoundOf, lines}
 use Rattle.line_filter.specs.Lines.{lines_of, text_of_lines}
 use Rattle.line_filter.specs.LineStreams.{LacksLine}
-use Rattle.line_filter.specs.LineSource.{IsFirstLine, BeginsTooLong, WhereKnown}
-use Rattle.line_filter.specs.private.Giving.{IsNoWholeLine}
+use Rattle.line_filter.specs.LineSource.{IsFirstLine, BeginsTooLong, IsNoWholeLine, WhereKnown}
 use Rattle.line_filter.specs.private.HeldBack.{WritesBut}
 use Rattle.line_filter.specs.private.Walk.{sum_of, step_of, text_where_kept, fault_stop, GoesOn}
 use Rattle.line_filter.specs.declared.judge.Judgment.{Judgment}

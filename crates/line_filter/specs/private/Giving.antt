@@ -1,15 +1,11 @@
 -- What each step of a reader of lines gives. Private clauses alone cite these.
-use Rattle.std.specs.Prelude.{◌≡◌, ◌≢◌, ℕ, ◌+◌, ◌-◌, ◌<◌, ◌≤◌, List, ◌∷◌, ◌++◌, All, length, Option, IfSome, ◌⊎◌}
+use Rattle.std.specs.Prelude.{◌≡◌, ◌≢◌, ℕ, ◌+◌, ◌-◌, ◌<◌, ◌≤◌, List, ◌∷◌, ◌++◌, length, Option, IfSome, ◌⊎◌}
 use Rattle.std.specs.Io.KnownBytes.{Keeps, IsAtEnd}
 use Rattle.line_filter.specs.declared.line_reader.LineFault.{LineFault}
 use Rattle.line_filter.specs.declared.line_reader.Course.{Course}
 use Rattle.line_filter.specs.declared.line_reader.Next.{Next}
 use Rattle.line_filter.specs.Lines.{longest_line}
-use Rattle.line_filter.specs.LineSource.{LineSource, left_of, GivesLine, BeginsTooLong, IsOver, WhereKnown}
-
--- no LF is among these bytes, and they are no over-long line yet
-abbrev pub IsNoWholeLine : List ℕ → Type 0
-IsNoWholeLine bytes = All (λ b. b ≢ 10) bytes × (length bytes ≤ longest_line)
+use Rattle.line_filter.specs.LineSource.{LineSource, left_of, GivesLine, BeginsTooLong, IsNoWholeLine, IsOver, WhereKnown}
 
 -- these bytes begin an over-long line, whatever follows them
 abbrev pub IsLongBy : List ℕ → Type 0
@@ -51,10 +47,11 @@ pub record IsEnd {R : Type 0} (remaining : R → Option (List ℕ)) (old new : L
   pub left : Keeps (left_of remaining old) (left_of remaining new)
 
 -- The fault is told from now on, and what was left is left. TooLong tells that the first line is over-long; at another
--- fault no whole line waits, and none that is too long.
+-- fault no whole line waited, and none that was too long, and none does.
 pub record IsFault
     {R : Type 0} (remaining : R → Option (List ℕ)) (old new : LineSource R) (fault : LineFault) : Type 0 where
   pub long : fault ≡ LineFault.TooLong → IfSome (left_of remaining old) BeginsTooLong
+  pub held : fault ≢ LineFault.TooLong → IsNoWholeLine old.waiting
   pub unended : fault ≢ LineFault.TooLong → IsNoWholeLine new.waiting
   pub failed : new.course ≡ Course.Failed fault
   pub left : Keeps (left_of remaining old) (left_of remaining new)

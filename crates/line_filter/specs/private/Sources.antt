@@ -4,8 +4,8 @@ use Rattle.std.specs.Io.KnownBytes.{IsAtEnd}
 use Rattle.line_filter.specs.declared.line_reader.LineFault.{LineFault}
 use Rattle.line_filter.specs.declared.line_reader.Course.{Course}
 use Rattle.line_filter.specs.declared.line_reader.LineReader.TheInside.{Inside}
-use Rattle.line_filter.specs.LineSource.{LineSource}
-use Rattle.line_filter.specs.private.Giving.{IsNoWholeLine, IsLongBy}
+use Rattle.line_filter.specs.LineSource.{LineSource, IsNoWholeLine}
+use Rattle.line_filter.specs.private.Giving.{IsLongBy}
 
 -- the buffer's bytes and line, and the fields
 abbrev pub source : {R : Type 0} → Inside R → LineSource R

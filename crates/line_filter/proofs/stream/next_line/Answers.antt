@@ -5,13 +5,17 @@ use Rattle.line_filter.specs.LineSource.{LineSource, left_of}
 use Rattle.line_filter.specs.private.Giving.{bytes_to_come}
 use Rattle.line_filter.specs.private.Reading.{ReadsOn}
 use Rattle.line_filter.proofs.DeviceLaws.Called.{stays_well_trans}
-use Rattle.line_filter.proofs.DeviceLaws.Unread.{open_at, reads_more}
+use Rattle.line_filter.proofs.DeviceLaws.Unread.{open_at, reads_given, reads_more}
 use Rattle.line_filter.proofs.WriteLaws.HeldBack.{OnErr-from, WritesBut-all, WritesBut-failed, WritesBut-written}
 use Rattle.line_filter.proofs.stream.next_line.Goals as goal
 
 pub returns-in_err-release-in-None-clause-err : goal.returns-in_err-release-in-None-clause-err
 returns-in_err-release-in-None-clause-err g c =
     OnErr-from c.from_residual.result _ (WritesBut-failed _ _ _ c.loop-next.held.items c.args.held.now.items c.loop-next.invariant.3 c.in_err-release-in-None.ensures.err)
+
+pub returns-in-Some-clause-reads : goal.returns-in-Some-clause-reads
+returns-in-Some-clause-reads g c =
+    reads_given g.S.Reads.calls g.R.Read.remaining c.args.reader.now c.loop-next.reader c.give.new.self c.loop-next.invariant.4 c.give.ensures.reader c.give.ensures.unread c.give.ensures.told
 
 pub loop-next-preserved : goal.loop-next-preserved
 loop-next-preserved g c =
@@ -30,4 +34,5 @@ loop-next-preserved g c =
       reads_more calls remaining c.args.reader.now c.loop-next.reader c.read_more.new.self i.4 none.0 more,
       stays_well_trans _ _ _ i.5 c.in_ok-release-in-None.ensures.well,
       λ is held. c.in_ok-release-in-None.ensures.none_held,
+      λ is. i.7 none.1,
     )

@@ -1,9 +1,9 @@
--- What is left is left, only what was open was read, and what was held back is written or held back. The calls did their
--- work, but for a read that is told, and nothing is held back then.
+-- What is left is left, only what was open was read, where no whole line waited, and what was held back is written or
+-- held back. The calls did their work, but for a read that is told, and nothing is held back then.
 use Rattle.std.proofs.Common.{◌≡◌, ◌⊎◌, []}
 use Rattle.std.specs.Io.KnownBytes.{Keeps}
 use Rattle.line_filter.specs.declared.line_reader.Course.{Course}
-use Rattle.line_filter.specs.LineSource.{left_of}
+use Rattle.line_filter.specs.LineSource.{left_of, IsNoWholeLine}
 use Rattle.line_filter.specs.private.Giving.{bytes_to_come, line_to_come}
 use Rattle.line_filter.specs.DeviceCalls.{StaysWell}
 use Rattle.line_filter.specs.private.HeldBack.{WritesBut}
@@ -18,6 +18,7 @@ invariant-loop-next g l = Keeps (left_of g.R.Read.remaining l.initial.reader) (l
     × ReadsOn g.S.Reads.calls g.R.Read.remaining l.initial.reader l.reader
     × StaysWell (g.T.Writes.calls l.initial.out) (g.T.Writes.calls l.out)
     × (IsUnread l.reader → (IsUnread l.initial.reader → l.initial.held.items ≡ []) → l.held.items ≡ [])
+    × (IsNoWholeLine l.reader.waiting → IsNoWholeLine l.initial.reader.waiting)
 
 abbrev pub decreases-loop-next : goal.decreases-loop-next
 decreases-loop-next g l = line_to_come l.reader

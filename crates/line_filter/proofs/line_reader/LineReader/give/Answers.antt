@@ -1,7 +1,7 @@
 use Rattle.std.proofs.Common.{◌≡◌, ap, ◌∙◌, sym, subst, refl}
-use Rattle.line_filter.specs.LineSource.{LineSource}
+use Rattle.line_filter.specs.LineSource.{LineSource, IsNoWholeLine}
 use Rattle.line_filter.specs.declared.line_reader.Course.{Course}
-use Rattle.line_filter.specs.private.Giving.{IsLongBy, IsNoWholeLine}
+use Rattle.line_filter.specs.private.Giving.{IsLongBy}
 use Rattle.line_filter.proofs.ReaderLaws.Giving.{fault_told, not_ended}
 use Rattle.line_filter.proofs.line_reader.LineReader.give.Goals as goal
 

@@ -1,8 +1,7 @@
 use Rattle.std.proofs.Common.{◌≡◌, ◌<◌, length, arith, ap, ◌∙◌, subst}
 use Rattle.std.specs.Io.KnownBytes.{IsAtEnd}
-use Rattle.line_filter.specs.LineSource.{LineSource}
+use Rattle.line_filter.specs.LineSource.{LineSource, IsNoWholeLine}
 use Rattle.line_filter.specs.declared.line_reader.Course.{Course}
-use Rattle.line_filter.specs.private.Giving.{IsNoWholeLine}
 use Rattle.line_filter.proofs.ReaderLaws.Giving.{given_at_end}
 use Rattle.line_filter.proofs.line_reader.LineReader.give_last.Goals as goal
 
