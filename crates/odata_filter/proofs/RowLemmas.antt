@@ -6,3 +6,4 @@ pub mod OneFault
 pub mod OneJudgment
 pub mod Renamed
 pub mod RowJudges
+pub mod TrueRows

@@ -22,8 +22,10 @@ pub use Rattle.csdl_schema.specs.JsonText
 pub use Rattle.csdl_schema.specs.SchemaModel
 pub use Rattle.edm_entities.specs.Fits
 pub use Rattle.edm_entities.specs.FitsPrimitive
+pub use Rattle.edm_entities.specs.Row
 pub use Rattle.edm_entities.specs.RowFaults
 pub use Rattle.odata_eval.specs.Means
+pub use Rattle.odata_eval.specs.MeansOn
 pub use Rattle.odata_eval.specs.Outcome
 pub use Rattle.odata_eval.specs.VerdictView
 pub use Rattle.odata_checked_filter.specs.Filter
@@ -35,12 +37,14 @@ pub use Rattle.line_filter.specs.LineItems
 pub use Rattle.line_filter.specs.Lines
 pub use Rattle.line_filter.specs.LineSource
 pub use Rattle.line_filter.specs.LineStreams
+pub use Rattle.line_filter.specs.Once
 pub use Rattle.line_filter.specs.Places
 pub mod RowJudgment
 pub mod RunStops
 pub mod DeviceFaults
 pub mod Collection
 pub mod RowsOnce
+pub mod Headline
 pub mod Planned
 pub mod CommandLine
 pub mod WorkedLines

@@ -5,6 +5,7 @@ mod bad_row;
 mod collection;
 mod command;
 mod filter;
+mod headline;
 mod laws;
 mod row_judge;
 mod row_line_judge;
@@ -18,6 +19,7 @@ pub use command::planner::plan;
 pub use command::runner::run;
 pub use filter::{filter_lines, filter_lines_by, filter_slice};
 pub use laws::{rows_stop_once, unfailing_devices_never_fail};
+pub use headline::filters_keep_what_is_true;
 pub use line_filter::{
     ByRecord, Calls, LineFault, LineReader, NotRead, NotWritten, Reads, Recorded, Tally, Unfailing,
     Untold, Writes, slices_tell_their_bytes,

@@ -1,0 +1,29 @@
+//! What the crates below come to together, as the contract of a function that does nothing but cite laws.
+ghost use Rattle.odata_filter.specs.Headline.{HaveOneOutcome, AreAnswered, KeepTrueRows};
+ghost use Rattle.odata_filter.specs.Headline.{WriteTrueRows, StopAtFaults, AreRefusedOnce};
+
+use edm_entities::{
+    one_fault_is_first, one_value_fits, what_fits_has_its_type, what_has_a_fault_fits_nothing,
+};
+use odata_eval::typed_trees_end_once;
+use odata_typing::texts_have_one_refusal;
+
+/// The headline. A filter that `check` accepts for an entity type has exactly one outcome on every entity of that type,
+/// at every moment: true, false, null, overflow or division by zero. `evaluate` answers it; `filter_lines` writes just the
+/// rows on which it is true, in order, up to the first line at fault. A text that `check` refuses has no typing, and its
+/// place and reason are those of its one first fault.
+pub fn filters_keep_what_is_true()
+    ensures outcome { HaveOneOutcome }
+    ensures answered { AreAnswered }
+    ensures kept { KeepTrueRows }
+    ensures written { WriteTrueRows }
+    ensures stopped { StopAtFaults }
+    ensures refused { AreRefusedOnce }
+{
+    typed_trees_end_once();
+    what_fits_has_its_type();
+    one_value_fits();
+    what_has_a_fault_fits_nothing();
+    one_fault_is_first();
+    texts_have_one_refusal();
+}
