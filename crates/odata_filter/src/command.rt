@@ -6,4 +6,4 @@ pub(crate) mod planner;
 mod rows;
 pub(crate) mod runner;
 mod telling;
-mod whole;
+pub(crate) mod whole;

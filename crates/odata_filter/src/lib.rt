@@ -17,9 +17,10 @@ pub use command::command_line;
 pub use command::laws::worked_lines;
 pub use command::planner::plan;
 pub use command::runner::run;
+pub use command::whole::{NotWhole, read_whole};
 pub use filter::{filter_lines, filter_lines_by, filter_slice};
-pub use laws::{rows_stop_once, unfailing_devices_never_fail};
 pub use headline::filters_keep_what_is_true;
+pub use laws::{rows_stop_once, unfailing_devices_never_fail};
 pub use line_filter::{
     ByRecord, Calls, LineFault, LineReader, NotRead, NotWritten, Reads, Recorded, Tally, Unfailing,
     Untold, Writes, slices_tell_their_bytes,

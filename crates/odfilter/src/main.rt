@@ -2,7 +2,7 @@
 #![tactic(auto)]
 
 use odata_filter::command_line::{Plan, PlanFault};
-use odata_filter::{plan, run};
+use odata_filter::{NotWhole, plan, read_whole, run};
 use std::fmt::Display;
 use std::fs::File;
 use std::io::{ErrorKind, Read};
@@ -36,20 +36,20 @@ fn tell_fault(rt: &HostRuntime, fault: PlanFault) -> u8 {
 }
 
 /// The bytes of the schema file, as many as matter.
-fn schema_bytes(rt: &HostRuntime, name: &str) -> io::Result<Vec<u8>> {
-    let mut bytes = Vec::new(rt.alloc());
-    File::open(rt, name)?
-        .take(SCHEMA_BYTES)
-        .read_to_end(&mut bytes)?;
-    Ok(bytes)
+fn schema_bytes(rt: &HostRuntime, name: &str) -> Result<Vec<u8>, NotWhole> {
+    match File::open(rt, name) {
+        Ok(file) => read_whole(rt.alloc(), &mut file.take(SCHEMA_BYTES)),
+        Err(error) if error.kind() == ErrorKind::OutOfMemory => Err(NotWhole::Memory),
+        Err(_) => Err(NotWhole::Read),
+    }
 }
 
 /// Reads the schema file, opens the rows that the plan names, and carries it out.
 fn carry_out(rt: &HostRuntime, plan: &Plan<'_>) -> u8 {
     let document = match schema_bytes(rt, plan.schema) {
         Ok(document) => document,
-        Err(error) if error.kind() == ErrorKind::OutOfMemory => return tell_memory(rt),
-        Err(_) => return tell(rt, format_args!("read {}", plan.schema), 5),
+        Err(NotWhole::Memory) => return tell_memory(rt),
+        Err(NotWhole::Read) => return tell(rt, format_args!("read {}", plan.schema), 5),
     };
     let (alloc, document) = (rt.alloc(), document.as_slice());
     let (mut out, mut err) = (rt.stdout(), rt.stderr());

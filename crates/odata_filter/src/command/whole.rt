@@ -17,7 +17,7 @@ pub enum NotWhole {
 /// How many bytes are asked for at a time.
 const ONE_READ: usize = 65_536;
 
-/// Reads up to the end. An interrupted read has failed.
+/// Reads up to the end. An interrupted read has failed, and is not tried again.
 pub fn read_whole<R: Read>(alloc: Global, reader: &mut R) -> Result<Vec<u8>, NotWhole>
     ensures { IfOk result (λ bytes. IfSome (R.remaining reader.old) (λ all. bytes.items ≡ all)) }
 {
