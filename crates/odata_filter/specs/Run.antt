@@ -7,7 +7,7 @@ use Rattle.edm_values.specs.MomentParts.{MomentParts}
 use Rattle.odata_text.specs.Query.{IsFilterOf, IsQueryFault}
 use Rattle.odata_text.specs.declared.query_fault.QueryFault.{QueryFault}
 use Rattle.odata_filter.specs.Planned.{IsPlanned}
-use Rattle.line_filter.specs.Growth.{Writes}
+use Rattle.line_filter.specs.Growth.{Writes, WritesFront}
 use Rattle.line_filter.specs.Kept.{Items, Filters, StopsAt, StopsWithin, IsFaultless}
 use Rattle.line_filter.specs.declared.finding.Finding.{Finding}
 use Rattle.line_filter.specs.declared.tally.Tally.{Tally}
@@ -179,6 +179,23 @@ pub record TellsFilter
   pub is_filter : IsPlanFilter plan document filter
   pub written : Writes streams.old streams.new (Says filter)
 
+-- A line that begins with `refused `.
+pub record IsRefusedLine (text : List ℕ) : Type 0 where
+  pub told : List ℕ
+  pub line : text ≡ codes "refused " ++ (told ++ 10 ∷ [])
+
+-- what a verb that reads no rows tells of a filter
+abbrev pub TellsOf : Verb → Filter → List ℕ → Type 0
+TellsOf Check = IsAccepted
+TellsOf Explain = IsExplanation
+TellsOf ByRows = λ filter text. ⊥
+
+-- the text that such a verb writes: what it tells of the plan's filter, or, where there is none, the line of a refusal
+abbrev pub IsToldBy : Verb → Plan → List ℕ → List ℕ → Type 0
+IsToldBy verb plan document text =
+    ((filter : Filter) × IsPlanFilter plan document filter × TellsOf verb filter text)
+    ⊎ (HasNoFilter plan document × IsRefusedLine text)
+
 -- how a run ends
 pub data Status : Type 0 where
   complete : Status
@@ -205,10 +222,10 @@ Completes ByRows plan document streams = ByFilter FiltersAll plan document strea
 Completes Check plan document streams = TellsFilter IsAccepted plan document streams
 Completes Explain plan document streams = TellsFilter IsExplanation plan document streams
 
--- nothing was written where there is no filter; to a verb that reads no rows that is an answer, which it writes
+-- nothing was written where there is no filter; to a verb that reads no rows that is an answer, and its line was written
 abbrev pub RefusalSays : Verb → Streams → Type 0
 RefusalSays ByRows streams = WroteNothing streams
-RefusalSays verb streams = Unit {0}
+RefusalSays verb streams = Writes streams.old streams.new IsRefusedLine
 
 -- a verb that reads rows needs a moment where its filter asks for it; another never does
 abbrev pub NeedsMoment : Verb → Plan → List ℕ → Type 0
@@ -239,11 +256,12 @@ StatusSays at_fault verb plan document streams = StopsAtRow verb plan document s
 StatusSays without_device verb plan document streams = LacksDevice verb plan document
 StatusSays without_memory verb plan document streams = Unit {0}
 
--- a beginning of the text of the kept rows among some first ones of which none is at fault; of what another verb wrote
--- nothing is said
+-- a beginning of the text of the kept rows among some first ones of which none is at fault; by a verb that reads no rows,
+-- a beginning of the text that it writes
 abbrev pub BeginsBy : Verb → Plan → List ℕ → Streams → Type 0
 BeginsBy ByRows plan document streams = ByFilter BeginsKept plan document streams
-BeginsBy verb plan document streams = Unit {0}
+BeginsBy verb plan document streams =
+    (text : List ℕ) × IsToldBy verb plan document text × WritesFront streams.old streams.new text
 
 -- nothing was written, or a beginning of what the verb writes
 abbrev pub BeginsAs : Verb → Plan → List ℕ → Streams → Type 0

@@ -15,8 +15,8 @@ use Rattle.odata_checked_filter.specs.Filter.{Filter}
 use Rattle.odata_filter.specs.Collection.{IsNoCollection, OfCollection, StopsCollection, entities_of}
 use Rattle.odata_filter.specs.RowJudgment.{rows_of}
 use Rattle.odata_filter.specs.RunStops.{run_stop, StopsBy}
-use Rattle.odata_filter.specs.Run.{BeginsAs, BeginsKept, ByFilter, FiltersAll, HoldsOfRows, IsReady, OfRows, OverRows, Status, StatusSays, StopsAtFault, Streams, streams, without_device, without_memory}
-use Rattle.odata_filter.specs.private.RunFailures.{AnswerSays, IsUnwritten, IsReadWhole, StopsOver, status_of, status_of_rows}
+use Rattle.odata_filter.specs.Run.{BeginsAs, BeginsKept, ByFilter, FiltersAll, HoldsOfRows, IsReady, OfRows, OverRows, Status, StopsAtFault, Streams, streams, without_device, without_memory}
+use Rattle.odata_filter.specs.private.RunFailures.{AnswerSays, FailureSays, IsUnwritten, IsReadWhole, StopsOver, status_of, status_of_rows}
 use Rattle.odata_filter.specs.declared.bad_row.BadRow.{BadRow}
 use Rattle.odata_filter.specs.declared.command.command_line.Plan.{Plan}
 use Rattle.odata_filter.specs.declared.command.command_line.Verb.{Verb}
@@ -79,13 +79,13 @@ wrote_none (Some x) (Some y) text wrote none = wrote ∙ ap (λ l. x ++ l) none 
 
 -- rows of a collection were not read whole
 unread_status : (plan : Plan) (document : List ℕ) (filter : Filter) (now : MomentParts) (s : Streams) (status : Status)
-    → IsReady plan document filter now → IsUnwritten status → StatusSays status Verb.Filter plan document s
+    → IsReady plan document filter now → IsUnwritten status → FailureSays status Verb.Filter plan document s
 unread_status plan document filter now s without_device is_ready unread = (filter, now, is_ready)
 unread_status plan document filter now s without_memory is_ready unread = tt
 unread_status plan document filter now s _ is_ready unread = absurd unread
 
 pub unread_says : (plan : Plan) (document : List ℕ) (filter : Filter) (now : MomentParts) (s : Streams) (failure : Failure)
-    → IsReady plan document filter now → IsUnwritten (status_of failure) → StatusSays (status_of failure) Verb.Filter plan document s
+    → IsReady plan document filter now → IsUnwritten (status_of failure) → FailureSays (status_of failure) Verb.Filter plan document s
 unread_says plan document filter now s failure is_ready unread = unread_status plan document filter now s (status_of failure) is_ready unread
 
 module _ (plan : Plan) (document : List ℕ) (filter : Filter) (now : MomentParts) (is_ready : IsReady plan document filter now) where
@@ -114,7 +114,7 @@ module _ (plan : Plan) (document : List ℕ) (filter : Filter) (now : MomentPart
         by_filter (λ bytes text. SaysOfLines bytes text fault) StopsAtFault s
         (λ bytes text stops. of_lines StopsAtFault bytes text (line, Finding.Judged (Judgment.Fault bad), (λ sound. sound), subst (λ t. IsSomeAnd t (Stops (rows_of filter now bytes) text)) told stops)) held
 
-    line_failed : (s : Streams) (failure : Failure) → StopsOver SaysOfLines failure s → StatusSays (status_of failure) Verb.Filter plan document s
+    line_failed : (s : Streams) (failure : Failure) → StopsOver SaysOfLines failure s → FailureSays (status_of failure) Verb.Filter plan document s
     line_failed s NotAMoment held = absurd held
     line_failed s NoMoment held = absurd held
     line_failed s OneOf held = absurd held
@@ -179,7 +179,7 @@ module _ (plan : Plan) (document : List ℕ) (filter : Filter) (now : MomentPart
     item_at_fault fault line bad told (text, wrote, (items, is, stops)) =
         by_places StopsAtFault (text, wrote, (items, is, (line, Finding.Judged (Judgment.Fault bad), (λ sound. sound), subst (λ t. IsSomeAnd t (Stops (entities_of filter now items) text)) told stops)))
 
-    pub places_fail : (fault : RunFault) → Writes old new (λ text. StopsCollection filter now bytes text fault) → StatusSays (status_of_rows fault) Verb.Filter plan document these
+    pub places_fail : (fault : RunFault) → Writes old new (λ text. StopsCollection filter now bytes text fault) → FailureSays (status_of_rows fault) Verb.Filter plan document these
     places_fail (Json line) (text, wrote, stops) = absurd stops
     places_fail (LineTooLong line) (text, wrote, stops) = absurd stops
     places_fail (Read line) (text, wrote, stops) = absurd stops

@@ -1,5 +1,5 @@
 -- What a run answers, by its first failure.
-use Rattle.std.proofs.Common.{◌≡◌, ◌∙◌, ◌⊎◌, ◌≢◌, ℕ, List, Option, None, Some, Result, Ok, Err, inl, inr, refl, sym, subst, arith}
+use Rattle.std.proofs.Common.{◌≡◌, ◌∙◌, ◌⊎◌, ◌≢◌, ℕ, List, [], ◌++◌, Option, None, Some, Result, Ok, Err, inl, inr, refl, sym, ap, subst, arith, append-nil}
 use Rattle.std.specs.Borrow.{Bor}
 use Rattle.std.specs.Prelude.{IfErr, IfSome, IsNone, MatchOption, OnOk, IsSomeAnd}
 use Rattle.std.proofs.lemmas.Option.{none-some}
@@ -10,11 +10,11 @@ use Rattle.edm_values.specs.MomentParts.{MomentParts}
 use Rattle.odata_text.specs.Query.{IsQueryFault}
 use Rattle.odata_text.specs.declared.query_fault.QueryFault.{QueryFault}
 use Rattle.odata_text.specs.declared.query_fault.QueryFault.TheVariants as query
-use Rattle.line_filter.specs.Growth.{Writes}
+use Rattle.line_filter.specs.Growth.{Writes, WritesFront}
 use Rattle.odata_filter.specs.Planned.{IsMomentText, IsPlanned}
 use Rattle.odata_filter.specs.declared.command.command_line.Verb.{Verb}
-use Rattle.odata_filter.specs.private.RunFailures.{AnswerSays, GivesMoment, IsAnswerOf, IsMomentUnlessAsked, IsTold, IsUnwritten, LacksFilter, ReadsNoRows, status_of, status_of_query, status_of_refusal}
-use Rattle.odata_filter.specs.Run.{Answers, BeginsAs, BeginsBy, BeginsKept, HoldsOfRows, Completes, IsAccepted, IsFirstMoment, NamesType, AsksFor, IsPlanFilter, IsReady, LacksMoment, HasNoFilter, RefusalSays, Streams, streams, TellsFilter, WroteNothing, OverRows, OfRows, ByFilter, FiltersAll, StopsAtFault, StopsAtRow, Status, complete, without_filter, without_plan, without_type, at_fault, without_device, without_memory, status_number, StatusSays, Begins}
+use Rattle.odata_filter.specs.private.RunFailures.{AnswerSays, BeginsText, FailureSays, GivesMoment, IsAnswerOf, IsAnswered, IsMomentUnlessAsked, IsTold, IsUnwritten, LacksFilter, ReadsNoRows, status_of, status_of_query, status_of_refusal}
+use Rattle.odata_filter.specs.Run.{Answers, BeginsAs, BeginsBy, BeginsKept, HoldsOfRows, Completes, IsAccepted, IsFirstMoment, IsRefusedLine, NamesType, AsksFor, IsPlanFilter, IsReady, LacksMoment, HasNoFilter, Streams, streams, TellsFilter, WroteNothing, OverRows, OfRows, ByFilter, FiltersAll, StopsAtFault, StopsAtRow, Status, complete, without_filter, without_plan, without_type, at_fault, without_device, without_memory, status_number, StatusSays, Begins}
 use Rattle.csdl_schema.specs.SchemaModel.{SchemaModel, slots_of, type_name_at}
 use Rattle.odata_filter.specs.declared.command.command_line.Plan.{Plan}
 use Rattle.odata_filter.specs.declared.command.failure.Failure.{Failure}
@@ -83,17 +83,15 @@ query_lacking plan document schema index given (query.OtherOption n) names is at
 
 -- where there is no filter, nothing was written
 pub lacks_says : (status : Status) (verb : Verb) (plan : Plan) (document : List ℕ) (s : Streams)
-    → LacksFilter status plan document → WroteNothing s → StatusSays status verb plan document s
-lacks_says without_filter Verb.Check plan document s lacks wrote = (lacks, tt)
-lacks_says without_filter Verb.Explain plan document s lacks wrote = (lacks, tt)
-lacks_says without_filter Verb.Filter plan document s lacks wrote = (lacks, wrote)
+    → LacksFilter status plan document → WroteNothing s → FailureSays status verb plan document s
+lacks_says without_filter verb plan document s lacks wrote = (lacks, wrote)
 lacks_says without_plan verb plan document s lacks wrote = (inr (inl lacks), wrote)
 lacks_says without_memory verb plan document s lacks wrote = tt
 lacks_says _ verb plan document s lacks wrote = absurd lacks
 
 -- what was told of the filter
 unwritten_says : (status : Status) (verb : Verb) (plan : Plan) (document : List ℕ) (s : Streams) (filter : Filter)
-    → ReadsNoRows verb → IsPlanFilter plan document filter → IsUnwritten status → StatusSays status verb plan document s
+    → ReadsNoRows verb → IsPlanFilter plan document filter → IsUnwritten status → FailureSays status verb plan document s
 unwritten_says without_device Verb.Check plan document s filter reads_none is_filter unwritten = inl (filter, is_filter)
 unwritten_says without_device Verb.Explain plan document s filter reads_none is_filter unwritten = inl (filter, is_filter)
 unwritten_says without_device Verb.Filter plan document s filter reads_none is_filter unwritten = absurd reads_none
@@ -111,6 +109,34 @@ pub explained_says : {X : Type 0} (plan : Plan) (document : List ℕ) (s : Strea
     → AnswerSays answer Verb.Explain plan document s
 explained_says plan document s filter (Ok done) is_filter told unwritten = record { filter = filter; is_filter = is_filter; written = told }
 explained_says plan document s filter (Err failure) is_filter told unwritten = unwritten_says (status_of failure) Verb.Explain plan document s filter tt is_filter unwritten
+
+-- a beginning was written of what is told of the filter
+pub accepted_begins : (plan : Plan) (document : List ℕ) (s : Streams) (filter : Filter) → IsPlanFilter plan document filter
+    → BeginsText (IsAccepted filter) s.old s.new → BeginsAs Verb.Check plan document s
+accepted_begins plan document s filter is_filter (inl nothing) = inl nothing
+accepted_begins plan document s filter is_filter (inr (text, is, front)) = inr (text, inl (filter, is_filter, is), front)
+
+pub explained_begins : (plan : Plan) (document : List ℕ) (s : Streams) (filter : Filter) → IsPlanFilter plan document filter
+    → BeginsText (IsExplanation filter) s.old s.new → BeginsAs Verb.Explain plan document s
+explained_begins plan document s filter is_filter (inl nothing) = inl nothing
+explained_begins plan document s filter is_filter (inr (text, is, front)) = inr (text, inl (filter, is_filter, is), front)
+
+-- a whole text is a beginning of itself
+pub whole_front : (a b : Option (List ℕ)) (text : List ℕ) → Appends a b text → WritesFront a b text
+whole_front a b text wrote = (text, wrote, ([], sym (append-nil text)))
+
+pub flushed_front : (a b c : Option (List ℕ)) (text : List ℕ) → Appends a b text → Keeps b c → WritesFront a c text
+flushed_front a b c text wrote kept = whole_front a c text (Appends-kept a b c text wrote kept)
+
+front_kept : (a b c : Option (List ℕ)) (text : List ℕ) → WritesFront a b text → Keeps b c → WritesFront a c text
+front_kept a b c text (front, wrote, rest) kept = (front, Appends-kept a b c front wrote kept, rest)
+
+pub begun_kept : (P : List ℕ → Type 0) (a b c : Option (List ℕ)) → BeginsText P a b → Keeps b c → BeginsText P a c
+begun_kept P a b c (inl nothing) kept = inl (Keeps-trans a b c nothing kept)
+begun_kept P a b c (inr (text, is, front)) kept = inr (text, is, front_kept a b c text front kept)
+
+pub text_begins : (P : List ℕ → Type 0) (a b : Option (List ℕ)) (text : List ℕ) → P text → WritesFront a b text → BeginsText P a b
+text_begins P a b text is front = inr (text, is, front)
 
 -- a text was written of which P holds
 pub writes_on : {X : Type 0} (answer : Result X Failure) (old new : Option (List ℕ)) (text : List ℕ) (P : List ℕ → Type 0)
@@ -147,10 +173,6 @@ completes_kept Verb.Filter plan document rows a b c ends kept = by_filter_kept F
 completes_kept Verb.Check plan document rows a b c ends kept = told_kept IsAccepted plan document rows a b c ends kept
 completes_kept Verb.Explain plan document rows a b c ends kept = told_kept IsExplanation plan document rows a b c ends kept
 
-refuses_kept : (verb : Verb) (rows : Option (Option (List ℕ))) (a b c : Option (List ℕ)) → RefusalSays verb (streams rows a b) → Keeps b c → RefusalSays verb (streams rows a c)
-refuses_kept Verb.Filter rows a b c wrote kept = Keeps-trans a b c wrote kept
-refuses_kept _ rows a b c wrote kept = tt
-
 stops_kept : (verb : Verb) (plan : Plan) (document : List ℕ) (rows : Option (Option (List ℕ))) (a b c : Option (List ℕ))
     → StopsAtRow verb plan document (streams rows a b) → Keeps b c → StopsAtRow verb plan document (streams rows a c)
 stops_kept Verb.Filter plan document rows a b c (inl stops) kept = inl (by_filter_kept StopsAtFault plan document rows a b c stops kept)
@@ -163,23 +185,25 @@ stops_kept Verb.Filter plan document rows a b c (inr none) kept = inr (record {
 stops_kept Verb.Check plan document rows a b c stops kept = absurd stops
 stops_kept Verb.Explain plan document rows a b c stops kept = absurd stops
 
-StatusSays-kept : (status : Status) (verb : Verb) (plan : Plan) (document : List ℕ) (rows : Option (Option (List ℕ))) (a b c : Option (List ℕ))
-    → StatusSays status verb plan document (streams rows a b) → Keeps b c → StatusSays status verb plan document (streams rows a c)
-StatusSays-kept complete verb plan document rows a b c ends kept = completes_kept verb plan document rows a b c ends kept
-StatusSays-kept without_filter verb plan document rows a b c ends kept = (ends.0, refuses_kept verb rows a b c ends.1 kept)
-StatusSays-kept without_plan verb plan document rows a b c ends kept = (ends.0, Keeps-trans a b c ends.1 kept)
-StatusSays-kept without_type verb plan document rows a b c ends kept = (ends.0, (ends.1.0, Keeps-trans a b c ends.1.1 kept))
-StatusSays-kept at_fault verb plan document rows a b c ends kept = stops_kept verb plan document rows a b c ends kept
-StatusSays-kept without_device verb plan document rows a b c ends kept = ends
-StatusSays-kept without_memory verb plan document rows a b c ends kept = tt
+failure_kept : (status : Status) (verb : Verb) (plan : Plan) (document : List ℕ) (rows : Option (Option (List ℕ))) (a b c : Option (List ℕ))
+    → FailureSays status verb plan document (streams rows a b) → ¬ IsAnswerOf verb status → Keeps b c → StatusSays status verb plan document (streams rows a c)
+failure_kept complete verb plan document rows a b c ends not kept = completes_kept verb plan document rows a b c ends kept
+failure_kept without_filter Verb.Filter plan document rows a b c ends not kept = (ends.0, Keeps-trans a b c ends.1 kept)
+failure_kept without_filter Verb.Check plan document rows a b c ends not kept = absurd (not (record { reads_none = tt; is_refusal = refl }))
+failure_kept without_filter Verb.Explain plan document rows a b c ends not kept = absurd (not (record { reads_none = tt; is_refusal = refl }))
+failure_kept without_plan verb plan document rows a b c ends not kept = (ends.0, Keeps-trans a b c ends.1 kept)
+failure_kept without_type verb plan document rows a b c ends not kept = (ends.0, (ends.1.0, Keeps-trans a b c ends.1.1 kept))
+failure_kept at_fault verb plan document rows a b c ends not kept = stops_kept verb plan document rows a b c ends kept
+failure_kept without_device verb plan document rows a b c ends not kept = ends
+failure_kept without_memory verb plan document rows a b c ends not kept = tt
 
 begins_kept : (verb : Verb) (plan : Plan) (document : List ℕ) (rows : Option (Option (List ℕ))) (a b c : Option (List ℕ))
     → WroteNothing (streams rows a b) ⊎ BeginsBy verb plan document (streams rows a b) → Keeps b c
     → WroteNothing (streams rows a c) ⊎ BeginsBy verb plan document (streams rows a c)
 begins_kept verb plan document rows a b c (inl none) kept = inl (Keeps-trans a b c none kept)
 begins_kept Verb.Filter plan document rows a b c (inr by) kept = inr (by_filter_kept BeginsKept plan document rows a b c by kept)
-begins_kept Verb.Check plan document rows a b c (inr by) kept = inr tt
-begins_kept Verb.Explain plan document rows a b c (inr by) kept = inr tt
+begins_kept Verb.Check plan document rows a b c (inr (text, is, front)) kept = inr (text, is, front_kept a b c text front kept)
+begins_kept Verb.Explain plan document rows a b c (inr (text, is, front)) kept = inr (text, is, front_kept a b c text front kept)
 
 -- ---- by the plan's verb
 
@@ -207,18 +231,29 @@ pub answered : (verb : Verb) (status : Status) (number : ℕ) → ReadsNoRows ve
 answered verb status number reads_none same one =
     record { reads_none = reads_none; is_refusal = refusal_numbered status (sym same ∙ one) }
 
+-- no refusal is an answer where the verb reads rows
+pub not_answered : (status : Status) → ¬ IsAnswerOf Verb.Filter status
+not_answered status is = is.reads_none
+
+pub answer_numbered : (verb : Verb) (status : Status) (number : ℕ) → number ≡ status_number status → IsAnswerOf verb status → number ≡ 1
+answer_numbered verb status number same is = same ∙ ap status_number is.is_refusal
+
+-- a failure to write is one of a device or of memory
+pub unwritten_number : (status : Status) (number : ℕ) → number ≡ status_number status → IsUnwritten status → (number ≡ 5) ⊎ (number ≡ 6)
+unwritten_number without_device number same unwritten = inl same
+unwritten_number without_memory number same unwritten = inr same
+unwritten_number _ number same unwritten = absurd unwritten
+
 -- what a refusal says, as an answer
 answer_says : (status : Status) (verb : Verb) (plan : Plan) (document : List ℕ) (s : Streams)
-    → StatusSays status verb plan document s → IsAnswerOf verb status → HasNoFilter plan document
-answer_says status verb plan document s says is =
-    let here : StatusSays without_filter verb plan document s = subst (λ st. StatusSays st verb plan document s) is.is_refusal says in
-    here.0
+    → FailureSays status verb plan document s → IsAnswerOf verb status → HasNoFilter plan document × WroteNothing s
+answer_says status verb plan document s says is = subst (λ st. FailureSays st verb plan document s) is.is_refusal says
 
-refused_says : (verb : Verb) (plan : Plan) (document : List ℕ) (s : Streams) → ReadsNoRows verb → HasNoFilter plan document
+refused_says : (verb : Verb) (plan : Plan) (document : List ℕ) (s : Streams) → ReadsNoRows verb → HasNoFilter plan document → Writes s.old s.new IsRefusedLine
     → StatusSays without_filter verb plan document s
-refused_says Verb.Check plan document s reads_none none = (none, tt)
-refused_says Verb.Explain plan document s reads_none none = (none, tt)
-refused_says Verb.Filter plan document s reads_none none = absurd reads_none
+refused_says Verb.Check plan document s reads_none none wrote = (none, wrote)
+refused_says Verb.Explain plan document s reads_none none wrote = (none, wrote)
+refused_says Verb.Filter plan document s reads_none none wrote = absurd reads_none
 
 untold_says : (verb : Verb) (plan : Plan) (document : List ℕ) (s : Streams) → ReadsNoRows verb → HasNoFilter plan document
     → StatusSays without_device verb plan document s
@@ -226,32 +261,52 @@ untold_says Verb.Check plan document s reads_none none = inr none
 untold_says Verb.Explain plan document s reads_none none = inr none
 untold_says Verb.Filter plan document s reads_none none = absurd reads_none
 
-begins_any : (verb : Verb) (plan : Plan) (document : List ℕ) (s : Streams) → ReadsNoRows verb → BeginsBy verb plan document s
-begins_any Verb.Check plan document s reads_none = tt
-begins_any Verb.Explain plan document s reads_none = tt
-begins_any Verb.Filter plan document s reads_none = absurd reads_none
+refusal_begins : (verb : Verb) (plan : Plan) (document : List ℕ) (s : Streams) → ReadsNoRows verb → HasNoFilter plan document
+    → (text : List ℕ) × IsRefusedLine text × WritesFront s.old s.new text → BeginsBy verb plan document s
+refusal_begins Verb.Check plan document s reads_none none (text, is, front) = (text, inr (none, is), front)
+refusal_begins Verb.Explain plan document s reads_none none (text, is, front) = (text, inr (none, is), front)
+refusal_begins Verb.Filter plan document s reads_none none begun = absurd reads_none
+
+kept_appends : (a b c : Option (List ℕ)) (text : List ℕ) → Keeps a b → Appends b c text → Appends a c text
+kept_appends None b c text kept wrote = tt
+kept_appends (Some x) None c text kept wrote = absurd kept
+kept_appends (Some x) (Some y) None text kept wrote = absurd wrote
+kept_appends (Some x) (Some y) (Some z) text kept wrote = wrote ∙ ap (λ l. l ++ text) kept
+
+module _ (plan : Plan) (document : List ℕ) (rows : Option (Option (List ℕ))) (a b c : Option (List ℕ)) (reads_none : ReadsNoRows plan.verb) (none : HasNoFilter plan document)
+    (kept : Keeps a b) where
+  answer_begins : BeginsText IsRefusedLine b c → Begins plan document (streams rows a c)
+  answer_begins (inl nothing) = inl (Keeps-trans a b c kept nothing)
+  answer_begins (inr (text, is, (front, wrote, rest))) =
+      inr (refusal_begins plan.verb plan document (streams rows a c) reads_none none (text, is, (front, kept_appends a b c front kept wrote, rest)))
+
+  Answers-refused : (number : ℕ) → IsAnswered number b c → Answers number plan document (streams rows a c)
+  Answers-refused number (inl (one, (text, wrote, is))) =
+      let all = kept_appends a b c text kept wrote in
+      record {
+        status = without_filter;
+        is_answer = one;
+        says = refused_says plan.verb plan document (streams rows a c) reads_none none (text, all, is);
+        begins = inr (refusal_begins plan.verb plan document (streams rows a c) reads_none none (text, is, whole_front a c text all));
+      }
+  Answers-refused number (inr (inl five, begun)) = record {
+    status = without_device;
+    is_answer = five;
+    says = untold_says plan.verb plan document (streams rows a c) reads_none none;
+    begins = answer_begins begun;
+  }
+  Answers-refused number (inr (inr six, begun)) = record { status = without_memory; is_answer = six; says = tt; begins = answer_begins begun }
 
 pub Answers-told : (number : ℕ) (status : Status) (plan : Plan) (document : List ℕ) (rows : Option (Option (List ℕ))) (a b c : Option (List ℕ))
-    → StatusSays status plan.verb plan document (streams rows a b) → Begins plan document (streams rows a b)
+    → FailureSays status plan.verb plan document (streams rows a b) → Begins plan document (streams rows a b)
     → IsTold number status plan.verb b c → Answers number plan document (streams rows a c)
-Answers-told number status plan document rows a b c says begins (inl (is, inl one)) =
-    record {
-      status = without_filter;
-      is_answer = one;
-      says = refused_says plan.verb plan document (streams rows a c) is.reads_none (answer_says status plan.verb plan document (streams rows a b) says is);
-      begins = inr (begins_any plan.verb plan document (streams rows a c) is.reads_none);
-    }
-Answers-told number status plan document rows a b c says begins (inl (is, inr five)) =
-    record {
-      status = without_device;
-      is_answer = five;
-      says = untold_says plan.verb plan document (streams rows a c) is.reads_none (answer_says status plan.verb plan document (streams rows a b) says is);
-      begins = inr (begins_any plan.verb plan document (streams rows a c) is.reads_none);
-    }
-Answers-told number status plan document rows a b c says begins (inr (exact, kept)) = record {
+Answers-told number status plan document rows a b c says begins (inl (is, told)) =
+    let refused = answer_says status plan.verb plan document (streams rows a b) says is in
+    Answers-refused plan document rows a b c is.reads_none refused.0 refused.1 number told
+Answers-told number status plan document rows a b c says begins (inr (not, exact, kept)) = record {
   status = status;
   is_answer = exact;
-  says = StatusSays-kept status plan.verb plan document rows a b c says kept;
+  says = failure_kept status plan.verb plan document rows a b c says not kept;
   begins = begins_kept plan.verb plan document rows a b c begins kept;
 }
 
@@ -300,6 +355,6 @@ lacks_moment plan document filter given gives none asks is_filter = record {
 
 -- so a run over its rows ends
 pub without_moment : (plan : Plan) (document : List ℕ) (failure : Failure) (s : Streams)
-    → failure ≡ Failure.NoMoment → LacksMoment plan document → WroteNothing s → StatusSays (status_of failure) Verb.Filter plan document s
+    → failure ≡ Failure.NoMoment → LacksMoment plan document → WroteNothing s → FailureSays (status_of failure) Verb.Filter plan document s
 without_moment plan document failure s is lacks wrote =
-    subst (λ (f : Failure). StatusSays (status_of f) Verb.Filter plan document s) (sym is) (inr (inr lacks), wrote)
+    subst (λ (f : Failure). FailureSays (status_of f) Verb.Filter plan document s) (sym is) (inr (inr lacks), wrote)

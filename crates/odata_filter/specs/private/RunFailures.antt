@@ -3,13 +3,14 @@ use Rattle.std.specs.Prelude.{◌≡◌, ◌⊎◌, ℕ, List, Option, None, Res
 use Rattle.std.specs.Io.KnownBytes.{Keeps}
 use Rattle.edm_values.specs.MomentLiteral.{MomentValue}
 use Rattle.edm_values.specs.MomentParts.{MomentParts}
+use Rattle.line_filter.specs.Growth.{Writes, WritesFront}
 use Rattle.odata_text.specs.declared.query_fault.QueryFault.{QueryFault}
 use Rattle.odata_text.specs.declared.query_fault.QueryFault.TheVariants as query
 use Rattle.odata_filter.specs.declared.command.command_line.Verb.{Verb}
 use Rattle.odata_filter.specs.declared.command.command_line.Verb.TheVariants.{Filter as ByRows}
 use Rattle.odata_checked_filter.specs.Calls.{UsesNow}
 use Rattle.odata_checked_filter.specs.Filter.{Filter, tree_of_filter}
-use Rattle.odata_filter.specs.Run.{IsFirstMoment, HasNoFilter, HasNoOption, Streams, WroteNothing, OverRows, Status, StatusSays, status_number, complete, without_filter, without_plan, without_type, at_fault, without_device, without_memory}
+use Rattle.odata_filter.specs.Run.{IsFirstMoment, IsRefusedLine, HasNoFilter, HasNoOption, Streams, WroteNothing, OverRows, Status, StatusSays, status_number, complete, without_filter, without_plan, without_type, at_fault, without_device, without_memory}
 use Rattle.csdl_declarations.specs.declared.fault.SchemaFault.{SchemaFault}
 use Rattle.csdl_declarations.specs.declared.fault.SchemaFault.TheVariants as schema
 use Rattle.odata_filter.specs.declared.command.command_line.Plan.{Plan}
@@ -65,10 +66,15 @@ StopsOver said other streams = ⊥
 abbrev pub IsReadWhole : Option (Option (List ℕ)) → List ℕ → Type 0
 IsReadWhole rows bytes = IsSomeAnd rows (λ known. IfSome known (λ all. bytes ≡ all))
 
+-- what a failure says before it is told: what its status says, but that at a refusal nothing was written yet
+abbrev pub FailureSays : Status → Verb → Plan → List ℕ → Streams → Type 0
+FailureSays without_filter verb plan document streams = HasNoFilter plan document × WroteNothing streams
+FailureSays status verb plan document streams = StatusSays status verb plan document streams
+
 -- what an answer says of the plan, of the rows and of what was written
 abbrev pub AnswerSays : {X : Type 0} → Result X Failure → Verb → Plan → List ℕ → Streams → Type 0
 AnswerSays (Ok done) = StatusSays complete
-AnswerSays (Err failure) = StatusSays (status_of failure)
+AnswerSays (Err failure) = FailureSays (status_of failure)
 
 -- why a plan has no filter
 abbrev pub LacksFilter : Status → Plan → List ℕ → Type 0
@@ -102,9 +108,19 @@ pub record IsAnswerOf (verb : Verb) (status : Status) : Type 0 where
   pub reads_none : ReadsNoRows verb
   pub is_refusal : status ≡ without_filter
 
--- A failure was told, and the program ends with this number: standard output took the answer of a verb that reads no
--- rows, or did not; else it stays as it is.
+-- nothing was written, or a beginning of a text of which P holds
+abbrev pub BeginsText : (List ℕ → Type 0) → Option (List ℕ) → Option (List ℕ) → Type 0
+BeginsText P old new = Keeps old new ⊎ ((text : List ℕ) × P text × WritesFront old new text)
+
+-- A refusal was an answer, and the program ends with this number: standard output took its line; or it did not, or
+-- memory for the line was refused.
+abbrev pub IsAnswered : ℕ → Option (List ℕ) → Option (List ℕ) → Type 0
+IsAnswered number old new =
+    ((number ≡ 1) × Writes old new IsRefusedLine)
+    ⊎ (((number ≡ 5) ⊎ (number ≡ 6)) × BeginsText IsRefusedLine old new)
+
+-- A failure was told, and the program ends with this number: as an answer, or else standard output stays as it is.
 abbrev pub IsTold : ℕ → Status → Verb → Option (List ℕ) → Option (List ℕ) → Type 0
 IsTold number status verb old new =
-    (IsAnswerOf verb status × ((number ≡ 1) ⊎ (number ≡ 5)))
-    ⊎ ((number ≡ status_number status) × Keeps old new)
+    (IsAnswerOf verb status × IsAnswered number old new)
+    ⊎ ((¬ IsAnswerOf verb status) × (number ≡ status_number status) × Keeps old new)

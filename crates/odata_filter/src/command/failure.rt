@@ -8,8 +8,8 @@ use odata_text::QueryFault;
 use odata_typing::Refusal;
 use thiserror::Error;
 
-/// Why a run ended before the end of its rows. It is shown as the one line that is told: want of memory is `memory`,
-/// wherever it comes from.
+/// Why a run ended before the end of its rows. It is shown as the one line that is told, a refusal as what stands behind
+/// `refused ` there: want of memory is `memory`, wherever it comes from.
 #[derive(Debug, Drop, Error)]
 pub enum Failure<'p> {
     #[error("usage now is not a moment")]
@@ -20,11 +20,11 @@ pub enum Failure<'p> {
     Schema(SchemaFault),
     #[error("schema UnknownType {0}")]
     UnknownType(&'p str),
-    #[error("{}{}", unless(matches!(.0, QueryFault::Memory), "refused query "), .0)]
+    #[error("{}{}", unless(matches!(.0, QueryFault::Memory), "query "), .0)]
     Query(QueryFault),
     #[error("usage no filter option")]
     NoOption,
-    #[error("{}{}", unless(matches!(.0, Refusal::Memory), "refused "), .0)]
+    #[error("{0}")]
     Refused(Refusal),
     #[error("usage now is needed")]
     NoMoment,

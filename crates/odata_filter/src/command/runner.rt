@@ -1,13 +1,13 @@
-ghost use Rattle.std.specs.Prelude.{◌≡◌, ◌<◌, ◌↔◌, ◌⊎◌, ℕ, List, Option, Some, option_map, string_bytes};
+ghost use Rattle.std.specs.Prelude.{◌≡◌, ◌<◌, ◌↔◌, ℕ, List, Option, Some, option_map, string_bytes};
 ghost use Rattle.std.specs.Prelude.{IfOk, IfErr, IfSome, IsTrue, OnOk, OnErr};
-ghost use Rattle.std.specs.Io.KnownBytes.{Appends};
-ghost use Rattle.line_filter.specs.Growth.{Writes};
+ghost use Rattle.std.specs.Io.KnownBytes.{Appends, Keeps};
+ghost use Rattle.line_filter.specs.Growth.{Writes, WritesFront};
 ghost use Rattle.odata_checked_filter.specs.Explanation.{IsExplanation};
 ghost use Rattle.odata_filter.specs.Planned.{IsMomentText, IsPlanned};
-ghost use Rattle.odata_filter.specs.Run.{Answers, AsksFor, Begins, IsAccepted, IsPlanFilter, NamesType};
-ghost use Rattle.odata_filter.specs.Run.{streams, without_plan, without_type};
-ghost use Rattle.odata_filter.specs.private.RunFailures.{AnswerSays, GivesMoment, IsTold, IsUnwritten, LacksFilter};
-ghost use Rattle.odata_filter.specs.private.RunFailures.{ReadsNoRows, status_of};
+ghost use Rattle.odata_filter.specs.Run.{Answers, AsksFor, Begins, IsAccepted, IsPlanFilter, IsRefusedLine, NamesType};
+ghost use Rattle.odata_filter.specs.Run.{status_number, streams, without_plan, without_type};
+ghost use Rattle.odata_filter.specs.private.RunFailures.{AnswerSays, BeginsText, GivesMoment, IsAnswerOf, IsAnswered};
+ghost use Rattle.odata_filter.specs.private.RunFailures.{IsTold, IsUnwritten, LacksFilter, status_of};
 ghost use Rattle.csdl_schema.specs.SchemaModel.{HoldsType, IsEntityAt, index_named};
 
 use super::command_line::{Plan, Verb};
@@ -134,10 +134,12 @@ fn accepted_text(alloc: Global, checked: &Checked<'_>) -> Result<String, AllocEr
 /// Writes what is told of a filter.
 fn write_told<'p, W: Write>(text: &str, out: &mut W) -> Result<(), Failure<'p>>
     ensures told { OnOk result (Appends (W.contents out.old) (W.contents out.new) text.now) }
+    ensures begins { WritesFront (W.contents out.old) (W.contents out.new) text.now }
     ensures unwritten { IfErr result (λ failure. IsUnwritten (status_of failure)) }
 {
-    if write_out::<W, Untold>(out, text.as_bytes()).is_err() {
-        return Err(Failure::Rows(RunFault::Write));
+    match write_out::<W, Untold>(out, text.as_bytes()) {
+        Ok(()) => {}
+        Err(_) => return Err(Failure::Rows(RunFault::Write)),
     }
     match out.flush() {
         Ok(()) => Ok(()),
@@ -152,6 +154,7 @@ fn tell_filter<'p, W: Write>(
     out: &mut W,
 ) -> Result<(), Failure<'p>>
     ensures told { OnOk result (Writes (W.contents out.old) (W.contents out.new) (IsAccepted checked.now)) }
+    ensures begins { BeginsText (IsAccepted checked.now) (W.contents out.old) (W.contents out.new) }
     ensures unwritten { IfErr result (λ failure. IsUnwritten (status_of failure)) }
 {
     match accepted_text(alloc, checked) {
@@ -167,6 +170,7 @@ fn tell_nodes<'p, W: Write>(
     out: &mut W,
 ) -> Result<(), Failure<'p>>
     ensures told { OnOk result (Writes (W.contents out.old) (W.contents out.new) (IsExplanation checked.now)) }
+    ensures begins { BeginsText (IsExplanation checked.now) (W.contents out.old) (W.contents out.new) }
     ensures unwritten { IfErr result (λ failure. IsUnwritten (status_of failure)) }
 {
     match checked.explain(alloc) {
@@ -237,40 +241,89 @@ fn carry_out<'p, R: Read + Drop, W: Write>(
     }
 }
 
-/// Tells a refusal on standard output, as an answer. Where that does not take it, this is told in its place.
-fn tell_answer<W: Write, E: Write>(failure: &Failure<'_>, out: &mut W, err: &mut E) -> u8
-    ensures { (result ≡ 1) ⊎ (result ≡ 5) }
+/// The line of a refusal.
+fn refused_line(alloc: Global, failure: &Failure<'_>) -> Result<String, AllocError>
+    ensures { IfOk result (λ text. IsRefusedLine (string_bytes text)) }
 {
-    if write_line(out, failure).is_ok() && out.flush().is_ok() {
-        return 1;
-    }
-    let _ = write_line(err, &RunFault::Write);
-    5
+    let told = format!(in alloc; "{failure}")?;
+    let mut text = String::from_str(alloc, "refused ")?;
+    text.push_str(&told)?;
+    text.push('\n')?;
+    Ok(text)
 }
 
-/// Whether the verb reads no rows.
-fn reads_no_rows(verb: Verb) -> bool
-    ensures { IsTrue result ↔ ReadsNoRows verb }
+/// Tells a refusal on standard output, as an answer.
+fn tell_answer<'p, W: Write>(
+    alloc: Global,
+    failure: &Failure<'_>,
+    out: &mut W,
+) -> Result<(), Failure<'p>>
+    ensures told { OnOk result (Writes (W.contents out.old) (W.contents out.new) IsRefusedLine) }
+    ensures begins { BeginsText IsRefusedLine (W.contents out.old) (W.contents out.new) }
+    ensures unwritten { IfErr result (λ failure. IsUnwritten (status_of failure)) }
+{
+    match refused_line(alloc, failure) {
+        Ok(text) => write_told(&text, out),
+        Err(_) => Err(Failure::Refused(Refusal::Memory)),
+    }
+}
+
+/// Whether a failure is an answer: a refusal, to a verb that reads no rows.
+fn is_answer(verb: Verb, failure: &Failure<'_>) -> bool
+    ensures { IsTrue result ↔ IsAnswerOf verb (status_of failure.now) }
 {
     match verb {
-        Verb::Check | Verb::Explain => true,
+        Verb::Check | Verb::Explain => failure.status() == 1,
         Verb::Filter => false,
     }
 }
 
-/// Tells a failure and answers the status: to a verb that reads no rows a refusal is an answer, for standard output;
-/// every other goes to standard error, behind a flush of standard output.
-fn tell<W: Write, E: Write>(verb: Verb, failure: &Failure<'_>, out: &mut W, err: &mut E) -> u8
+/// Tells a failure on standard error, behind a flush of standard output, and answers the status.
+fn tell_failure<W: Write, E: Write>(failure: &Failure<'_>, out: &mut W, err: &mut E) -> u8
+    ensures status { result ≡ status_number (status_of failure.now) }
+    ensures known { result < 7 }
+    ensures kept { Keeps (W.contents out.old) (W.contents out.new) }
+{
+    let _ = out.flush();
+    let status = failure.status();
+    let before = if status == 1 { "refused " } else { "" };
+    let _ = write_line(err, &format_args!("{before}{failure}"));
+    status
+}
+
+/// Tells a refusal as an answer and answers the status. Where standard output does not take it, this is told in its place.
+fn tell_refusal<W: Write, E: Write>(
+    alloc: Global,
+    failure: &Failure<'_>,
+    out: &mut W,
+    err: &mut E,
+) -> u8
+    ensures known { result < 7 }
+    ensures answered { IsAnswered result (W.contents out.old) (W.contents out.new) }
+{
+    match tell_answer(alloc, failure, out) {
+        Ok(()) => 1,
+        Err(other) => tell_failure(&other, out, err),
+    }
+}
+
+/// Tells a failure and answers the status: to a verb that reads no rows a refusal is an answer, every other failure goes
+/// to standard error.
+fn tell<W: Write, E: Write>(
+    alloc: Global,
+    verb: Verb,
+    failure: &Failure<'_>,
+    out: &mut W,
+    err: &mut E,
+) -> u8
     ensures known { result < 7 }
     ensures told { IsTold result (status_of failure.now) verb (W.contents out.old) (W.contents out.new) }
 {
-    let status = failure.status();
-    if reads_no_rows(verb) && status == 1 {
-        return tell_answer(failure, out, err);
+    if is_answer(verb, failure) {
+        tell_refusal(alloc, failure, out, err)
+    } else {
+        tell_failure(failure, out, err)
     }
-    let _ = out.flush();
-    let _ = write_line(err, failure);
-    status
 }
 
 /// Carries out a plan over the bytes of its schema file and answers the status that the program ends with.
@@ -292,6 +345,6 @@ pub fn run<R: Read + Drop, W: Write, E: Write>(
 {
     match carry_out(alloc, plan, document, rows, out) {
         Ok(()) => 0,
-        Err(failure) => tell(plan.verb, &failure, out, err),
+        Err(failure) => tell(alloc, plan.verb, &failure, out, err),
     }
 }

@@ -1,7 +1,7 @@
-use Rattle.std.proofs.Common.{inr, option_map}
+use Rattle.std.proofs.Common.{option_map}
 use Rattle.odata_filter.specs.Run.{streams}
 use Rattle.odata_filter.specs.declared.command.command_line.Verb.{Verb}
-use Rattle.odata_filter.proofs.RunLemmas.RunEndings.{accepted_says, begins_as, explained_says, says_as}
+use Rattle.odata_filter.proofs.RunLemmas.RunEndings.{accepted_begins, accepted_says, begins_as, explained_begins, explained_says, says_as}
 use Rattle.odata_filter.proofs.command.runner.by_verb.Goals as goal
 
 pub returns-in-Filter-clause-says : goal.returns-in-Filter-clause-says
@@ -23,7 +23,9 @@ returns-in-Check-clause-says g c document is_filter =
 
 pub returns-in-Check-clause-begins : goal.returns-in-Check-clause-begins
 returns-in-Check-clause-begins g c document is_filter =
-    begins_as Verb.Check c.args.asked.now.plan.now document (streams (option_map (λ r. g.R.Read.remaining r) c.args.rows) (g.W.Write.contents c.args.out.now) (g.W.Write.contents c.tell_filter.new.out)) c.in-Check.is (inr tt)
+    let written = streams (option_map (λ r. g.R.Read.remaining r) c.args.rows) (g.W.Write.contents c.args.out.now) (g.W.Write.contents c.tell_filter.new.out) in
+    begins_as Verb.Check c.args.asked.now.plan.now document written c.in-Check.is
+    (accepted_begins c.args.asked.now.plan.now document written c.args.asked.now.checked.now is_filter c.tell_filter.ensures.begins)
 
 pub returns-in-Explain-clause-says : goal.returns-in-Explain-clause-says
 returns-in-Explain-clause-says g c document is_filter =
@@ -34,4 +36,6 @@ returns-in-Explain-clause-says g c document is_filter =
 
 pub returns-in-Explain-clause-begins : goal.returns-in-Explain-clause-begins
 returns-in-Explain-clause-begins g c document is_filter =
-    begins_as Verb.Explain c.args.asked.now.plan.now document (streams (option_map (λ r. g.R.Read.remaining r) c.args.rows) (g.W.Write.contents c.args.out.now) (g.W.Write.contents c.tell_nodes.new.out)) c.in-Explain.is (inr tt)
+    let written = streams (option_map (λ r. g.R.Read.remaining r) c.args.rows) (g.W.Write.contents c.args.out.now) (g.W.Write.contents c.tell_nodes.new.out) in
+    begins_as Verb.Explain c.args.asked.now.plan.now document written c.in-Explain.is
+    (explained_begins c.args.asked.now.plan.now document written c.args.asked.now.checked.now is_filter c.tell_nodes.ensures.begins)
