@@ -1,0 +1,98 @@
+//! Runs a suite of cases: `conformance FILE..`. A file that ends with `.jsonl` has cases, one a line; any other is a
+//! schema or a row that the cases of later files name. Each difference is told on a line of its own.
+#![tactic(auto)]
+
+mod ask;
+mod case;
+mod form;
+mod judge;
+mod library;
+mod matrix;
+mod report;
+mod rows;
+mod runs;
+mod schemas;
+
+use crate::judge::{Cases, judge_file};
+use crate::library::Library;
+use crate::report::Report;
+use spelled_answers::trouble::Trouble;
+use std::process::ExitCode;
+use std::{env, fs, io};
+
+/// Takes a file of the suite: judges its cases, or keeps it for those of later files.
+fn take(
+    rt: &HostRuntime,
+    path: String,
+    bytes: Vec<u8>,
+    library: &mut Library,
+    report: &mut Report,
+) -> Result<(), Trouble> {
+    if !path.as_str().ends_with(".jsonl") {
+        return library.add(path, bytes);
+    }
+    let cases = Cases {
+        alloc: rt.alloc(),
+        library,
+        file: path.as_str(),
+    };
+    judge_file(&cases, bytes.as_slice(), report)
+}
+
+/// Takes the file of that path; one that cannot be read is a failure.
+fn take_path(
+    rt: &HostRuntime,
+    path: String,
+    library: &mut Library,
+    report: &mut Report,
+) -> Result<(), Trouble> {
+    match fs::read(rt, path.as_str()) {
+        Ok(bytes) => take(rt, path, bytes, library, report),
+        Err(_) => {
+            report.begin(path.as_str(), 0, "")?;
+            report.tell("a file that cannot be read")?;
+            report.end();
+            Ok(())
+        }
+    }
+}
+
+/// The words of the command line, the program's name first.
+fn words(rt: &HostRuntime) -> io::Result<Vec<String>> {
+    Ok(env::args(rt)?.collect(rt.alloc())?)
+}
+
+fn take_all(rt: &HostRuntime, words: Vec<String>, report: &mut Report) -> Result<(), Trouble> {
+    let mut library = Library::new(rt.alloc());
+    let mut is_first = true;
+    for word in words {
+        if !is_first {
+            take_path(rt, word, &mut library, report)?;
+        }
+        is_first = false;
+    }
+    Ok(())
+}
+
+/// Prints the differences and the counts, and answers the status.
+fn tell(rt: &HostRuntime, report: &Report) -> io::Result<u8> {
+    print!(rt; "{}", report.told)?;
+    println!(rt; "{} failed", report.failed)?;
+    eprintln!(rt; "{} passed, {} failed", report.passed, report.failed)?;
+    Ok(if report.failed == 0 { 0 } else { 1 })
+}
+
+fn status(rt: &HostRuntime) -> io::Result<u8> {
+    let mut report = Report::new(rt.alloc());
+    match take_all(rt, words(rt)?, &mut report) {
+        Ok(()) => tell(rt, &report),
+        Err(trouble) => {
+            eprintln!(rt; "{trouble}")?;
+            Ok(6)
+        }
+    }
+}
+
+fn main(rt: HostRuntime) -> ExitCode {
+    ExitCode::from(status(&rt).unwrap_or(5))
+}

@@ -1,0 +1,60 @@
+//! Lines as rows of a type: what fits, and the first fault of what does not.
+ghost use Rattle.csdl_schema.specs.SchemaModel.{HoldsType};
+
+use crate::filters::{TypeOf, schema_of};
+use crate::trouble::Trouble;
+use crate::values::push_slots;
+use csdl_schema::{Schema, TypeId};
+use edm_entities::{Entity, RowReader};
+use serde_json::Value;
+use std::alloc::Global;
+
+/// The entity's values behind `fits`.
+fn told(alloc: Global, entity: &Entity<'_>) -> Result<String, Trouble> {
+    let mut text = String::from_str(alloc, "fits ")?;
+    push_slots(&mut text, entity.value())?;
+    Ok(text)
+}
+
+/// What a line is by way of a JSON value: `fits` with its values, or its fault.
+fn by_tree(alloc: Global, schema: &Schema, id: TypeId, line: &[u8]) -> Result<String, Trouble>
+    requires { HoldsType schema.now id }
+{
+    let Ok(json) = Value::from_slice(alloc, line) else {
+        return Ok(String::from_str(alloc, "Json")?);
+    };
+    match Entity::from_json(alloc, schema, id, &json) {
+        Ok(entity) => told(alloc, &entity),
+        Err(fault) => Ok(format!(in alloc; "{fault}")?),
+    }
+}
+
+/// The same, straight from its bytes; nothing where that is no row that fits, or not seen to be one.
+fn by_bytes(alloc: Global, schema: &Schema, id: TypeId, line: &[u8]) -> Result<String, Trouble> {
+    match RowReader::new(alloc, schema, id).read(line) {
+        Some(entity) => told(alloc, &entity),
+        None => Ok(String::new(alloc)),
+    }
+}
+
+/// What a line is, where both ways agree.
+fn by_both(alloc: Global, schema: &Schema, id: TypeId, line: &[u8]) -> Result<String, Trouble>
+    requires { HoldsType schema.now id }
+{
+    let tree = by_tree(alloc, schema, id, line)?;
+    let bytes = by_bytes(alloc, schema, id, line)?;
+    if bytes.is_empty() || bytes.as_str() == tree.as_str() {
+        Ok(tree)
+    } else {
+        Ok(format!(in alloc; "{tree}, but {bytes} by its bytes")?)
+    }
+}
+
+/// `fits` with its values in slot order, or the fault, of a line as a row of a type.
+pub fn line_answer(alloc: Global, named: TypeOf<'_>, line: &[u8]) -> Result<String, Trouble> {
+    let schema = schema_of(alloc, named.document)?;
+    match schema.type_named(named.named) {
+        Some(id) if schema.holds(id) => by_both(alloc, &schema, id, line),
+        _ => Err(Trouble::NoSuchType),
+    }
+}

@@ -1,0 +1,166 @@
+//! What is said of filters: refusals, outcomes on rows, canonical texts, types.
+ghost use Rattle.csdl_schema.specs.SchemaModel.{HoldsType};
+
+use crate::nodes::{second_type, told_nodes};
+use crate::trouble::Trouble;
+use csdl_schema::{Schema, SchemaFault, TypeId};
+use edm_entities::Entity;
+use edm_values::{Moment, read_moment};
+use jiff::civil;
+use odata_eval::{EvalFault, Verdict, evaluate};
+use odata_filter::{RunFault, Tally, filter_slice};
+use odata_typing::{Checked, check};
+use serde_json::Value;
+use std::alloc::Global;
+
+/// What is asked of a filter that is accepted.
+#[derive(Clone, Copy)]
+pub enum AskedOfFilter<'a> {
+    Acceptance,
+    Canonical,
+    Nodes,
+    Explanation,
+    /// The type of the second node, which is the first operand of the first one.
+    SecondType,
+    /// The outcome on this row, at this moment.
+    Outcome(&'a Value, &'a Moment),
+}
+
+/// A type of a schema.
+#[derive(Clone, Copy)]
+pub struct TypeOf<'a> {
+    pub document: &'a [u8],
+    pub named: &'a str,
+}
+
+/// The schema of a document that is one.
+pub fn schema_of(alloc: Global, document: &[u8]) -> Result<Schema, Trouble> {
+    match Schema::read(alloc, document) {
+        Ok(schema) => Ok(schema),
+        Err(SchemaFault::Memory) => Err(Trouble::Memory),
+        Err(_) => Err(Trouble::NoSchema),
+    }
+}
+
+/// The moment that is handed in: of a text, or else the beginning of the year 1 by UTC.
+pub fn moment_of(text: Option<&str>) -> Result<Moment, Trouble> {
+    let moment = match text {
+        Some(text) => read_moment(text),
+        None => Moment::new(civil::date(1, 1, 1).at(0, 0, 0, 0), 0),
+    };
+    moment.ok_or(Trouble::NoMoment)
+}
+
+fn spelled(outcome: Result<Verdict, EvalFault>) -> &'static str {
+    match outcome {
+        Ok(Verdict::True) => "true",
+        Ok(Verdict::False) => "false",
+        Ok(Verdict::Null) => "null",
+        Err(EvalFault::Overflow) => "Overflow",
+        Err(EvalFault::DivideByZero) => "DivideByZero",
+        Err(EvalFault::Memory) => "memory",
+    }
+}
+
+/// What a run over one row says of it: whether it is kept, or the fault of the evaluation.
+fn spelled_run(ended: &Result<Tally, RunFault>) -> &'static str {
+    match ended {
+        Ok(Tally { rows: 1, kept: 1 }) => "true",
+        Ok(Tally { rows: 1, kept: 0 }) => "false",
+        Err(RunFault::Arithmetic { line: 1, fault }) => spelled(Err(*fault)),
+        _ => "another end",
+    }
+}
+
+/// What the filter says of a line, where it is written exactly if it is kept.
+fn kept(alloc: Global, checked: &Checked<'_>, line: &[u8], now: &Moment) -> &'static str {
+    let mut out = Vec::new(alloc);
+    let ended = filter_slice(alloc, checked, now, line, &mut out);
+    let said = spelled_run(&ended);
+    let is_written = out.as_slice().strip_suffix(b"\n") == Some(line);
+    if is_written == (said == "true") && (is_written || out.is_empty()) {
+        said
+    } else {
+        "another text"
+    }
+}
+
+/// Whether a row with that outcome is kept so.
+fn agrees(outcome: &str, said: &str) -> bool {
+    outcome == said || (outcome == "null" && said == "false")
+}
+
+/// The outcome on an entity.
+fn outcome(
+    alloc: Global,
+    checked: &Checked<'_>,
+    row: &Value,
+    now: &Moment,
+) -> Result<&'static str, Trouble> {
+    match Entity::from_json(alloc, checked.schema(), checked.filtered_type(), row) {
+        Ok(entity) => Ok(spelled(evaluate(alloc, checked, &entity, now))),
+        Err(_) => Err(Trouble::NoEntity),
+    }
+}
+
+/// The outcome on a row, where a run over it says the same.
+fn agreed_outcome(
+    alloc: Global,
+    checked: &Checked<'_>,
+    row: &Value,
+    now: &Moment,
+) -> Result<String, Trouble> {
+    let found = outcome(alloc, checked, row, now)?;
+    let line = row.to_string(alloc)?;
+    let said = kept(alloc, checked, line.as_bytes(), now);
+    if agrees(found, said) {
+        Ok(String::from_str(alloc, found)?)
+    } else {
+        Ok(format!(in alloc; "{found}, but {said} of a run")?)
+    }
+}
+
+fn answer(
+    alloc: Global,
+    checked: &Checked<'_>,
+    asked: AskedOfFilter<'_>,
+) -> Result<String, Trouble> {
+    match asked {
+        AskedOfFilter::Acceptance => Ok(String::from_str(alloc, "accepted")?),
+        AskedOfFilter::Canonical => Ok(checked.canonical(alloc)?),
+        AskedOfFilter::Nodes => told_nodes(alloc, checked),
+        AskedOfFilter::Explanation => Ok(checked.explain(alloc)?),
+        AskedOfFilter::SecondType => second_type(alloc, checked),
+        AskedOfFilter::Outcome(row, now) => agreed_outcome(alloc, checked, row, now),
+    }
+}
+
+/// The answer of a filter of the schema's type, or its refusal.
+fn answer_by(
+    alloc: Global,
+    schema: &Schema,
+    id: TypeId,
+    filter: &str,
+    asked: AskedOfFilter<'_>,
+) -> Result<String, Trouble>
+    requires { HoldsType schema.now id }
+{
+    match check(alloc, schema, id, filter) {
+        Ok(checked) => answer(alloc, &checked, asked),
+        Err(refusal) => Ok(format!(in alloc; "refused {refusal}")?),
+    }
+}
+
+/// The answer of a filter of a type, or its refusal.
+pub fn answer_of(
+    alloc: Global,
+    filtered: TypeOf<'_>,
+    filter: &str,
+    asked: AskedOfFilter<'_>,
+) -> Result<String, Trouble> {
+    let schema = schema_of(alloc, filtered.document)?;
+    match schema.type_named(filtered.named) {
+        Some(id) if schema.holds(id) => answer_by(alloc, &schema, id, filter, asked),
+        _ => Err(Trouble::NoSuchType),
+    }
+}

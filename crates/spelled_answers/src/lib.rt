@@ -1,0 +1,14 @@
+//! What the public calls answer over texts, each answer as a text in one line: of filters, rows, documents, literals, tokens
+//! and trees. Texts are given as cases give them.
+#![tactic(auto)]
+
+pub mod entities;
+pub mod filters;
+pub mod literals;
+mod nodes;
+pub mod pieces;
+pub mod schemas;
+pub mod texts;
+mod tree;
+pub mod trouble;
+mod values;

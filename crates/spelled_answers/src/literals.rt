@@ -1,0 +1,79 @@
+//! The canonical spellings of the values of literals.
+use crate::trouble::Trouble;
+use edm_values::{
+    read_date, read_guid, read_int, read_moment, read_string, write_date, write_guid, write_int,
+    write_moment, write_string,
+};
+use jiff::civil::Date;
+use std::alloc::Global;
+
+/// Appends what stands for no value.
+fn push_none(out: &mut String) -> Result<(), Trouble> {
+    Ok(out.push_str("null")?)
+}
+
+/// Appends a date of the years 1 to 9999.
+pub fn push_date(out: &mut String, date: Date) -> Result<(), Trouble> {
+    if (1..=9999).contains(&date.year()) {
+        Ok(write_date(out, date)?)
+    } else {
+        Ok(out.push_str("another year")?)
+    }
+}
+
+fn push_int(out: &mut String, text: &str) -> Result<(), Trouble> {
+    match read_int(text) {
+        Some(number) => Ok(write_int(out, number)?),
+        None => push_none(out),
+    }
+}
+
+fn push_read_date(out: &mut String, text: &str) -> Result<(), Trouble> {
+    match read_date(text) {
+        Some(date) => push_date(out, date),
+        None => push_none(out),
+    }
+}
+
+fn push_moment(out: &mut String, text: &str) -> Result<(), Trouble> {
+    match read_moment(text) {
+        Some(moment) => Ok(write_moment(out, &moment)?),
+        None => push_none(out),
+    }
+}
+
+fn push_guid(out: &mut String, text: &str) -> Result<(), Trouble> {
+    match read_guid(text) {
+        Some(guid) => Ok(write_guid(out, guid)?),
+        None => push_none(out),
+    }
+}
+
+fn push_string(alloc: Global, out: &mut String, text: &str) -> Result<(), Trouble> {
+    match read_string(alloc, text) {
+        Ok(value) => Ok(write_string(out, value.as_str())?),
+        Err(_) => push_none(out),
+    }
+}
+
+/// The canonical spelling of the literal of that kind which a text is, or `null`.
+pub fn value_of(alloc: Global, kind: &str, text: &str) -> Result<String, Trouble> {
+    let mut out = String::new(alloc);
+    match kind {
+        "Int" => push_int(&mut out, text)?,
+        "Date" => push_read_date(&mut out, text)?,
+        "Moment" => push_moment(&mut out, text)?,
+        "Guid" => push_guid(&mut out, text)?,
+        "Str" => push_string(alloc, &mut out, text)?,
+        _ => return Err(Trouble::NoKind),
+    }
+    Ok(out)
+}
+
+/// The instant of a moment, in nanoseconds from the beginning of 1970, or `null`.
+pub fn instant_of(alloc: Global, text: &str) -> Result<String, Trouble> {
+    match read_moment(text) {
+        Some(moment) => Ok(format!(in alloc; "{}", moment.instant_nanos())?),
+        None => Ok(String::from_str(alloc, "null")?),
+    }
+}
