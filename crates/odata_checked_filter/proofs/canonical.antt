@@ -1,7 +1,8 @@
 pub mod Arguments
+pub mod Groups
+pub mod Joints
 pub mod Kinds
 pub mod Leaves
-pub mod Members
-pub mod Operators
+pub mod Operands
 pub mod Pieces
 pub mod Signs

@@ -3,7 +3,7 @@ use Rattle.std.specs.Prelude.{◌≡◌, ℕ, ◌*◌, List, [], ◌∷◌, ◌+
 use Rattle.std.specs.List.{flat_map}
 use Rattle.odata_text.specs.declared.span.Span.{Span}
 use Rattle.odata_syntax.specs.Lexeme.{operator_word, quantifier_word}
-use Rattle.odata_syntax.specs.Tree.{Shape, Tree, any_item, binary, call, count, has, in_list, in_path, it, lambda, literal, logical_not, member, name, negation, shape_of}
+use Rattle.odata_syntax.specs.Tree.{Shape, any_item, binary, call, count, has, in_list, in_path, it, lambda, literal, logical_not, member, name, negation, shape_of}
 use Rattle.csdl_schema.specs.SchemaModel.{SchemaModel}
 use Rattle.odata_signatures.specs.TypeView.{expr_type}
 use Rattle.odata_signatures.specs.declared.edm_type.EdmType.{EdmType}

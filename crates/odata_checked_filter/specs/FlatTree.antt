@@ -1,7 +1,7 @@
 -- A tree as one list of its nodes in pre-order.
 use Rattle.std.specs.Prelude.{ℕ, ◌+◌, List, [], ◌∷◌, slice_get, nat_lt, unwrap_or, if◌then◌else◌, codes}
 use Rattle.edm_values.specs.declared.value.Value.{Value}
-use Rattle.odata_syntax.specs.Tree.{Tree, node, Shape, literal, it, name, member, negation, logical_not, binary, call, trees_of_list}
+use Rattle.odata_syntax.specs.Tree.{Tree, node, Shape, literal, it, name, member, negation, logical_not, binary, has, in_list, in_path, count, call, any_item, trees_of_list}
 use Rattle.odata_signatures.specs.Functions.{row_of}
 use Rattle.odata_checked_filter.specs.declared.checked_node.CheckedNode.{CheckedNode}
 use Rattle.odata_checked_filter.specs.declared.checked_node.NodeKind.{NodeKind}
@@ -17,9 +17,14 @@ abbrev pub shape_of_kind : NodeKind → List ℕ → List Tree → Shape
 shape_of_kind (NodeKind.Literal kind value) text [] = literal kind text
 shape_of_kind NodeKind.It text [] = it
 shape_of_kind (NodeKind.Member slot) text (base ∷ []) = member base text
+shape_of_kind NodeKind.Count text (base ∷ []) = count base
+shape_of_kind NodeKind.AnyItem text (base ∷ []) = any_item base
 shape_of_kind NodeKind.Neg text (operand ∷ []) = negation operand
 shape_of_kind NodeKind.Not text (operand ∷ []) = logical_not operand
 shape_of_kind (NodeKind.Binary operator) text (left ∷ right ∷ []) = binary operator left right
+shape_of_kind NodeKind.Has text (left ∷ right ∷ []) = has left right
+shape_of_kind NodeKind.InList text (left ∷ items) = in_list left (trees_of_list items)
+shape_of_kind NodeKind.InPath text (left ∷ path ∷ []) = in_path left path
 shape_of_kind NodeKind.Now text children = call (codes "now") (trees_of_list children)
 shape_of_kind (NodeKind.Call function) text children = call (row_of function).name (trees_of_list children)
 shape_of_kind kind text children = name text

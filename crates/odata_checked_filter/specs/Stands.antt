@@ -3,7 +3,7 @@ use Rattle.std.specs.Prelude.{◌≡◌, ◌≢◌, ℕ, ◌+◌, List, [], Some
 use Rattle.edm_values.specs.PlainVal.{plain_val}
 use Rattle.edm_values.specs.Val.{Val}
 use Rattle.edm_values.specs.declared.value.Value.{Value}
-use Rattle.odata_syntax.specs.Tree.{Tree, Trees, node, Shape, literal, it, name, member, negation, logical_not, binary, call, more_trees, no_trees}
+use Rattle.odata_syntax.specs.Tree.{Tree, Trees, node, Shape, literal, it, name, member, count, negation, logical_not, binary, has, in_list, in_path, call, any_item, more_trees, no_trees}
 use Rattle.odata_syntax.specs.declared.node.LiteralKind.{LiteralKind}
 use Rattle.csdl_schema.specs.ExprType.{ExprType, single, structured}
 use Rattle.csdl_schema.specs.SchemaModel.{PropertyModel, SchemaModel, Slots, slots_of, type_name_at, slot_named}
@@ -19,7 +19,7 @@ use Rattle.odata_signatures.specs.declared.function.Function.{Function}
 
 -- the names of a scope's variables
 abbrev pub variable_names : Scope → List (List ℕ)
-variable_names scope = map (λ bound. bound.0) scope
+variable_names scope = map (λ bound. bound.name) scope
 
 -- a value of the code that a literal of this kind and spelling stands for
 pub record IsValueOf (slots : Slots) (kind : LiteralKind) (spelling : List ℕ) (value : Value) : Type 0 where
@@ -52,17 +52,22 @@ IsCallNode asked NodeKind.Now = IsNamed Function.Now asked
 IsCallNode asked (NodeKind.Call function) = IsNamed function asked × (function ≢ Function.Now)
 IsCallNode asked _ = ⊥
 
--- the kind of a node, where these values and types are, the filtered type is root and these variables are in scope; the
--- other forms have none yet
+-- the kind of a node, where these values and types are, the filtered type is root and these variables are in scope;
+-- lambda operators have none yet
 abbrev pub IsKindOf : List Value → Slots → List ℕ → Scope → Shape → NodeKind → Type 0
 IsKindOf values slots root scope (literal kind spelling) k = IsLiteralNode slots values kind spelling k
 IsKindOf values slots root scope it k = k ≡ NodeKind.It
 IsKindOf values slots root scope (name asked) k = IsNameNode (slots.properties root) (variable_names scope) asked k
 IsKindOf values slots root scope (member base asked) k = IsMemberNode slots (Typed slots root scope base) asked k
+IsKindOf values slots root scope (count base) k = k ≡ NodeKind.Count
 IsKindOf values slots root scope (negation operand) k = k ≡ NodeKind.Neg
 IsKindOf values slots root scope (logical_not operand) k = k ≡ NodeKind.Not
 IsKindOf values slots root scope (binary operator left right) k = k ≡ NodeKind.Binary operator
+IsKindOf values slots root scope (has left right) k = k ≡ NodeKind.Has
+IsKindOf values slots root scope (in_list left items) k = k ≡ NodeKind.InList
+IsKindOf values slots root scope (in_path left path) k = k ≡ NodeKind.InPath
 IsKindOf values slots root scope (call asked arguments) k = IsCallNode asked k
+IsKindOf values slots root scope (any_item base) k = k ≡ NodeKind.AnyItem
 IsKindOf values slots root scope _ k = ⊥
 
 -- the text beside a node
@@ -108,11 +113,22 @@ abbrev mutual
   ChildrenStand schema n scope list i j it = i ≡ j
   ChildrenStand schema n scope list i j (name asked) = i ≡ j
   ChildrenStand schema n scope list i j (member base asked) = Stands schema n scope list i j base
+  ChildrenStand schema n scope list i j (count base) = Stands schema n scope list i j base
   ChildrenStand schema n scope list i j (negation operand) = Stands schema n scope list i j operand
   ChildrenStand schema n scope list i j (logical_not operand) = Stands schema n scope list i j operand
   ChildrenStand schema n scope list i j (binary operator left right) =
       SideBySide (λ middle. Stands schema n scope list i middle left)
       (λ middle. Stands schema n scope list middle j right)
+  ChildrenStand schema n scope list i j (has left right) =
+      SideBySide (λ middle. Stands schema n scope list i middle left)
+      (λ middle. Stands schema n scope list middle j right)
+  ChildrenStand schema n scope list i j (in_list left items) =
+      SideBySide (λ middle. Stands schema n scope list i middle left)
+      (λ middle. AllStand schema n scope list middle j items)
+  ChildrenStand schema n scope list i j (in_path left path) =
+      SideBySide (λ middle. Stands schema n scope list i middle left)
+      (λ middle. Stands schema n scope list middle j path)
+  ChildrenStand schema n scope list i j (any_item base) = Stands schema n scope list i j base
   ChildrenStand schema n scope list i j (call asked arguments) = AllStand schema n scope list i j arguments
   ChildrenStand schema n scope list i j shape = ⊥
 

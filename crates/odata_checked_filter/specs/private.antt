@@ -2,3 +2,4 @@
 pub mod CalledKinds
 pub mod CanonicalWalk
 pub mod ExplanationWalk
+pub mod KindTexts

@@ -1,16 +1,17 @@
 //! The canonical text of a checked filter, written from its list.
 ghost use Rattle.std.specs.Prelude.{◌≡◌, ℕ, ◌+◌, ◌∷◌, [], ◌++◌, ◌<◌, IfOk, OnOk, length, string_bytes};
 ghost use Rattle.odata_syntax.specs.CanonicalText.{IsCanonicalText};
-ghost use Rattle.odata_syntax.specs.Grammar.{operator_level};
-ghost use Rattle.odata_syntax.specs.Lexeme.{operator_word};
 ghost use Rattle.odata_checked_filter.specs.FlatTree.{tree_of_nodes};
-ghost use Rattle.odata_checked_filter.specs.private.CanonicalWalk.{AreFurtherPut, HasTreeAt, IsBinaryAt, IsCallAt, IsPieceOf, IsSignAt};
-ghost use Rattle.odata_checked_filter.specs.private.CanonicalWalk.{IsSignPut, IsStepAdded, IsTextAdded, Piece, StandsThere};
-ghost use Rattle.odata_checked_filter.specs.private.CanonicalWalk.{WritesPart, arguments_of, operands_of, step_parts};
+ghost use Rattle.odata_checked_filter.specs.private.CanonicalWalk.{AreFurtherPut, HasTreeAt, IsCallAt, IsPieceOf};
+ghost use Rattle.odata_checked_filter.specs.private.CanonicalWalk.{IsSignAt, IsTextAdded, Piece, StandsThere, WritesNode};
+ghost use Rattle.odata_checked_filter.specs.private.CanonicalWalk.{WritesPart, arguments_of, behind_kind, joining_parts};
+ghost use Rattle.odata_checked_filter.specs.private.CanonicalWalk.{operand_of, stop_at};
+ghost use Rattle.odata_checked_filter.specs.private.KindTexts.{joint_text};
 
 use super::checked_node::NodeKind;
+use super::kind_levels::{BASE, PATH, UNARY, first_level, kind_level};
 use super::node_list::NodeList;
-use odata_syntax::{BinaryOperator, operator_level, operator_word, write_literal};
+use odata_syntax::{operator_level, operator_word, write_literal};
 use std::alloc::{AllocError, Global};
 
 /// What is still to be written.
@@ -18,18 +19,13 @@ use std::alloc::{AllocError, Global};
 pub(crate) enum Part {
     /// The node at a place, in parentheses where it binds less tightly than needed.
     Operand { place: usize, needed: u8 },
-    /// An operator between spaces.
-    Operator(BinaryOperator),
-    /// A slash and the name beside the node at a place.
-    Step { place: usize },
+    /// What the node at a place has behind its first operand, up to the next one.
+    Joint { place: usize },
     /// Further arguments, from a place up to another, each behind a comma.
     Further { place: usize, stop: usize },
     /// The end of a group.
     Close,
 }
-
-/// The level of `-` and `not`.
-const UNARY: u8 = 7;
 
 /// The canonical text of the tree that the list stands for. What is still to be written waits on a stack, so that the
 /// walk recurses nowhere, however deep the tree is.
@@ -62,30 +58,43 @@ fn write_part(
 {
     match part {
         Part::Operand { place, needed } => write_operand(list, place, needed, text, pending),
-        Part::Operator(operator) => write_operator(text, operator),
-        Part::Step { place } => write_step(list, place, text),
+        Part::Joint { place } => write_joint(list.node(place).kind, list.text(place), text),
         Part::Further { place, stop } => write_further(list, place, stop, text, pending),
         Part::Close => write_close(text),
     }
 }
 
-/// Writes an operator between spaces.
-fn write_operator(text: &mut String, operator: BinaryOperator) -> Result<(), AllocError>
-    ensures { OnOk result (string_bytes text.new
-        ≡ string_bytes text.old ++ (32 ∷ (operator_word operator ++ 32 ∷ []))) }
+/// Writes what a node of that kind has behind its first operand, where that name stands beside it.
+fn write_joint(kind: NodeKind, beside: &str, text: &mut String) -> Result<(), AllocError>
+    ensures { OnOk result (string_bytes text.new ≡ string_bytes text.old ++ joint_text kind beside.now) }
+{
+    match kind {
+        NodeKind::Member { .. } => write_step(beside, text),
+        NodeKind::Count => text.push_str("/$count"),
+        NodeKind::AnyItem => text.push_str("/any()"),
+        NodeKind::Binary { operator } => write_word(operator_word(operator), text),
+        NodeKind::Has => text.push_str(" has "),
+        NodeKind::InList => text.push_str(" in ("),
+        NodeKind::InPath => text.push_str(" in "),
+        _ => Ok(()),
+    }
+}
+
+/// Writes a word between spaces.
+fn write_word(word: &str, text: &mut String) -> Result<(), AllocError>
+    ensures { OnOk result (string_bytes text.new ≡ string_bytes text.old ++ (32 ∷ (word.now ++ 32 ∷ []))) }
 {
     text.push(' ')?;
-    text.push_str(operator_word(operator))?;
+    text.push_str(word)?;
     text.push(' ')
 }
 
 /// Writes a slash and a name.
-fn write_step(list: &NodeList, place: usize, text: &mut String) -> Result<(), AllocError>
-    requires { place < length list.now.nodes }
-    ensures { OnOk result (IsStepAdded list.now place (string_bytes text.old) (string_bytes text.new)) }
+fn write_step(name: &str, text: &mut String) -> Result<(), AllocError>
+    ensures { OnOk result (string_bytes text.new ≡ string_bytes text.old ++ (47 ∷ name.now)) }
 {
     text.push('/')?;
-    text.push_str(list.text(place))
+    text.push_str(name)
 }
 
 /// Ends a group.
@@ -95,7 +104,7 @@ fn write_close(text: &mut String) -> Result<(), AllocError>
     text.push(')')
 }
 
-/// Writes a literal, a name or `$it`; of an operator perhaps `(`, and its operands wait.
+/// Writes the node at a place, or its beginning, behind `(` where it binds less tightly than needed.
 fn write_operand(
     list: &NodeList,
     place: usize,
@@ -107,19 +116,37 @@ fn write_operand(
     ensures { OnOk result (WritesPart list.now (Part.Operand place needed) (string_bytes text.old)
         (string_bytes text.new) pending.old.items pending.new.items) }
 {
-    match list.node(place).kind {
+    if needed <= kind_level(list.node(place).kind) {
+        return write_node(list, place, text, pending);
+    }
+    open_group(text, pending)?;
+    write_node(list, place, text, pending)
+}
+
+/// Writes a literal, a name or `$it`, a sign, or the beginning of a call; the operands wait.
+fn write_node(
+    list: &NodeList,
+    place: usize,
+    text: &mut String,
+    pending: &mut Vec<Part>,
+) -> Result<(), AllocError>
+    requires { HasTreeAt list.now place }
+    ensures { OnOk result (WritesNode list.now place (string_bytes text.old) (string_bytes text.new)
+        pending.old.items pending.new.items) }
+{
+    let node = list.node(place);
+    match node.kind {
         NodeKind::Literal { kind, .. } => write_literal(text, kind, list.text(place)),
         NodeKind::It => text.push_str("$it"),
         NodeKind::Property { .. } => write_name(list, place, text),
         NodeKind::Variable { .. } => write_name(list, place, text),
-        NodeKind::Member { .. } => put_step(list, place, pending),
         NodeKind::Now => write_call(list, place, "now", text, pending),
-        NodeKind::Neg => write_sign(list, place, needed, "- ", text, pending),
-        NodeKind::Not => write_sign(list, place, needed, "not ", text, pending),
-        NodeKind::Binary { operator } => write_binary(list, place, needed, operator, text, pending),
         NodeKind::Call { function } => {
             write_call(list, place, function.signature().name, text, pending)
         }
+        NodeKind::Neg => write_sign(list, place, "- ", text, pending),
+        NodeKind::Not => write_sign(list, place, "not ", text, pending),
+        _ => put_operands(list, place, node.kind, pending),
     }
 }
 
@@ -141,14 +168,15 @@ fn write_call(
 ) -> Result<(), AllocError>
     requires there { HasTreeAt list.now place }
     requires called { IsCallAt list.now place name.now }
-    ensures { (needed : ℕ) → OnOk result (WritesPart list.now (Part.Operand place needed)
-        (string_bytes text.old) (string_bytes text.new) pending.old.items pending.new.items) }
+    ensures { OnOk result (WritesNode list.now place (string_bytes text.old) (string_bytes text.new)
+        pending.old.items pending.new.items) }
 {
     let count = list.nodes().len();
     prove!(place < count);
+    let stop = stop_of(list, place);
     text.push_str(name)?;
     open_group(text, pending)?;
-    put_arguments(list, place + 1, list.node(place).stop, pending)
+    put_arguments(list, place + 1, stop, pending)
 }
 
 /// Writes a comma and puts the arguments behind it on the stack; nothing where there is none.
@@ -187,82 +215,23 @@ fn put_arguments(
     Ok(())
 }
 
-/// Puts the step to a member on the stack, and on top what stands before the slash.
-fn put_step(list: &NodeList, place: usize, pending: &mut Vec<Part>) -> Result<(), AllocError>
-    requires { place < length list.now.nodes }
-    ensures { OnOk result (pending.new.items ≡ pending.old.items ++ step_parts place) }
-{
-    let count = list.nodes().len();
-    prove!(place < count);
-    pending.push(Part::Step { place })?;
-    pending.push(Part::Operand {
-        place: place + 1,
-        needed: 0,
-    })?;
-    Ok(())
-}
-
-/// Writes a sign, behind `(` where it binds less tightly than needed, and puts its operand on the stack.
+/// Writes a sign, and puts its operand on the stack.
 fn write_sign(
     list: &NodeList,
     place: usize,
-    needed: u8,
     sign: &str,
     text: &mut String,
     pending: &mut Vec<Part>,
 ) -> Result<(), AllocError>
     requires there { HasTreeAt list.now place }
     requires sign { IsSignAt list.now place sign.now }
-    ensures { OnOk result (WritesPart list.now (Part.Operand place needed) (string_bytes text.old)
-        (string_bytes text.new) pending.old.items pending.new.items) }
+    ensures { OnOk result (WritesNode list.now place (string_bytes text.old) (string_bytes text.new)
+        pending.old.items pending.new.items) }
 {
     let count = list.nodes().len();
     prove!(place < count);
-    let operand = place + 1;
-    if needed <= UNARY {
-        return put_operand(operand, sign, text, pending);
-    }
-    open_group(text, pending)?;
-    put_operand(operand, sign, text, pending)
-}
-
-/// Writes a sign, and puts its operand on the stack.
-fn put_operand(
-    operand: usize,
-    sign: &str,
-    text: &mut String,
-    pending: &mut Vec<Part>,
-) -> Result<(), AllocError>
-    ensures { OnOk result (IsSignPut sign.now operand (string_bytes text.old) (string_bytes text.new)
-        pending.old.items pending.new.items) }
-{
     text.push_str(sign)?;
-    pending.push(Part::Operand {
-        place: operand,
-        needed: UNARY,
-    })?;
-    Ok(())
-}
-
-/// Writes `(` where the operator binds less tightly than needed, and puts its operands on the stack.
-fn write_binary(
-    list: &NodeList,
-    place: usize,
-    needed: u8,
-    operator: BinaryOperator,
-    text: &mut String,
-    pending: &mut Vec<Part>,
-) -> Result<(), AllocError>
-    requires there { HasTreeAt list.now place }
-    requires operator { IsBinaryAt list.now place operator }
-    ensures { OnOk result (WritesPart list.now (Part.Operand place needed) (string_bytes text.old)
-        (string_bytes text.new) pending.old.items pending.new.items) }
-{
-    if needed <= operator_level(operator) {
-        return put_operands(list, place, operator, pending);
-    }
-    open_group(text, pending)?;
-    put_operands(list, place, operator, pending)
+    put_operand(place + 1, UNARY, pending)
 }
 
 /// Writes `(`, and puts its end on the stack.
@@ -275,28 +244,72 @@ fn open_group(text: &mut String, pending: &mut Vec<Part>) -> Result<(), AllocErr
     Ok(())
 }
 
-/// Puts both operands of an operator on the stack, the left one on top, and the operator between them.
+/// Puts the operands of a node on the stack, the first one on top, and what it has between them.
 fn put_operands(
     list: &NodeList,
     place: usize,
-    operator: BinaryOperator,
+    kind: NodeKind,
     pending: &mut Vec<Part>,
 ) -> Result<(), AllocError>
-    requires { place + 1 < length list.now.nodes }
-    ensures { OnOk result (pending.new.items ≡ pending.old.items ++ operands_of list.now place operator) }
+    requires first { place + 1 < length list.now.nodes }
+    requires second { stop_at list.now (place + 1) < stop_at list.now place
+        → stop_at list.now (place + 1) < length list.now.nodes }
+    ensures { OnOk result (pending.new.items ≡ pending.old.items ++ joining_parts list.now kind place) }
 {
     let count = list.nodes().len();
-    prove!(place < count);
-    let level = operator_level(operator);
-    let left = place + 1;
-    pending.push(Part::Operand {
-        place: list.node(left).stop,
-        needed: level + 1,
-    })?;
-    pending.push(Part::Operator(operator))?;
-    pending.push(Part::Operand {
-        place: left,
-        needed: level,
-    })?;
+    prove!(place + 1 < count);
+    let second = stop_of(list, place + 1);
+    put_behind(list, kind, second, stop_of(list, place), pending)?;
+    pending.push(Part::Joint { place })?;
+    put_operand(place + 1, first_level(kind), pending)
+}
+
+/// Where a node stops.
+fn stop_of(list: &NodeList, place: usize) -> usize
+    requires { place < length list.now.nodes }
+    ensures { result ≡ stop_at list.now place }
+{
+    list.node(place).stop
+}
+
+/// Puts on the stack what a node of a kind has behind its first operand and the words there.
+fn put_behind(
+    list: &NodeList,
+    kind: NodeKind,
+    second: usize,
+    stop: usize,
+    pending: &mut Vec<Part>,
+) -> Result<(), AllocError>
+    requires { second < stop → second < length list.now.nodes }
+    ensures { OnOk result (pending.new.items ≡ pending.old.items ++ behind_kind list.now kind second stop) }
+{
+    match kind {
+        NodeKind::Binary { operator } => put_operand(second, operator_level(operator) + 1, pending),
+        NodeKind::Has => put_operand(second, BASE, pending),
+        NodeKind::InPath => put_operand(second, PATH, pending),
+        NodeKind::InList => put_items(list, second, stop, pending),
+        _ => Ok(()),
+    }
+}
+
+/// Puts the items of a list on the stack, the first on top, and `)` below them.
+fn put_items(
+    list: &NodeList,
+    place: usize,
+    stop: usize,
+    pending: &mut Vec<Part>,
+) -> Result<(), AllocError>
+    requires { place < stop → place < length list.now.nodes }
+    ensures { OnOk result (pending.new.items ≡ pending.old.items ++ (Part.Close ∷ arguments_of list.now place stop)) }
+{
+    pending.push(Part::Close)?;
+    put_arguments(list, place, stop, pending)
+}
+
+/// Puts an operand on the stack.
+fn put_operand(place: usize, needed: u8, pending: &mut Vec<Part>) -> Result<(), AllocError>
+    ensures { OnOk result (pending.new.items ≡ pending.old.items ++ operand_of place needed) }
+{
+    pending.push(Part::Operand { place, needed })?;
     Ok(())
 }

@@ -1,5 +1,5 @@
 ghost use Rattle.std.specs.Prelude.{◌≡◌, ◌<◌, ◌↔◌, ℕ, length, slice_get, string_bytes};
-ghost use Rattle.std.specs.Prelude.{IsTrue, IsSome, IfSome, IfNone, IfOk};
+ghost use Rattle.std.specs.Prelude.{IsTrue, IsSome, IfSome, IfNone, IfOk, Some};
 ghost use Rattle.std.specs.Option.{option_map};
 ghost use Rattle.odata_syntax.specs.CanonicalText.{IsCanonicalText};
 ghost use Rattle.csdl_schema.specs.SchemaModel.{HoldsType};
@@ -17,7 +17,6 @@ use super::explanation::explanation_of;
 use super::node_list::NodeList;
 use csdl_schema::{Schema, TypeId};
 use edm_values::Value;
-use odata_expression_types::trees_have_one_type;
 use odata_signatures::{EdmType, calls_have_one_type};
 use odata_text::Span;
 use std::alloc::{AllocError, Global};
@@ -85,6 +84,14 @@ impl<'s> Checked<'s> {
         self.list.nodes()
     }
 
+    /// The text beside a node: a literal's spelling, a name, else nothing.
+    pub fn text(&self, node: usize) -> &str
+        requires { node < length self.now.list.nodes }
+        ensures { slice_get self.now.list.texts node ≡ Some result.now }
+    {
+        self.list.text(node)
+    }
+
     /// The values, to which the nodes of literals have the places.
     pub fn values(&self) -> &[Value]
         ensures { result.now ≡ self.now.list.values }
@@ -142,19 +149,11 @@ impl<'s> Checked<'s> {
         ensures found { IfSome result (IsSlotAt self.now node) }
         ensures none { IfNone result ((slot : ℕ) → ¬ IsSlotAt self.now node slot) }
     {
-        trees_have_one_type();
         match self.node_at(node) {
             Some(found) => match found.kind {
                 NodeKind::Property { slot } => Some(slot),
                 NodeKind::Member { slot } => Some(slot),
-                NodeKind::Literal { .. }
-                | NodeKind::It
-                | NodeKind::Variable { .. }
-                | NodeKind::Now
-                | NodeKind::Neg
-                | NodeKind::Not
-                | NodeKind::Binary { .. }
-                | NodeKind::Call { .. } => None,
+                _ => None,
             },
             None => None,
         }
@@ -168,15 +167,7 @@ impl<'s> Checked<'s> {
         match self.node_at(node) {
             Some(found) => match found.kind {
                 NodeKind::Variable { level } => Some(level),
-                NodeKind::Literal { .. }
-                | NodeKind::It
-                | NodeKind::Property { .. }
-                | NodeKind::Member { .. }
-                | NodeKind::Now
-                | NodeKind::Neg
-                | NodeKind::Not
-                | NodeKind::Binary { .. }
-                | NodeKind::Call { .. } => None,
+                _ => None,
             },
             None => None,
         }

@@ -16,6 +16,10 @@ pub enum NodeKind {
     Variable { level: usize },
     /// A property of the type of what stands before the slash, by its slot there.
     Member { slot: usize },
+    /// `$count`, behind the slash.
+    Count,
+    /// `any()`, behind the slash.
+    AnyItem,
     /// `now()`, the moment of the evaluation.
     Now,
     /// `-`. Its operand stands behind it.
@@ -24,6 +28,12 @@ pub enum NodeKind {
     Not,
     /// An operator. Its operands stand behind it.
     Binary { operator: BinaryOperator },
+    /// `has`. Its operands stand behind it.
+    Has,
+    /// `in` before a list. Its operand and the items stand behind it.
+    InList,
+    /// `in` before a path. Its operands stand behind it.
+    InPath,
     /// A call of any function but `now`. Its arguments stand behind it.
     Call { function: Function },
 }

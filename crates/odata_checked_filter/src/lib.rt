@@ -7,6 +7,7 @@ mod canonical_text;
 mod checked;
 mod checked_node;
 mod explanation;
+mod kind_levels;
 mod laws;
 mod node_list;
 

@@ -1,13 +1,18 @@
 -- The walk of a filter's list: what stands in a place, and what is answered there.
+pub mod BaseSteps
 pub mod CallSteps
 pub mod CallValues
 pub mod Compared
+pub mod ItemSteps
 pub mod KeptValues
 pub mod Leaves
 pub mod MemberSteps
+pub mod MemberValues
+pub mod Members
 pub mod OneReading
 pub mod Parts
 pub mod Readings
+pub mod Sides
 pub mod SlotValue
 pub mod Spines
 pub mod TopNode

@@ -20,6 +20,11 @@ number_outcome (Ok number) = gives (number_val number)
 number_outcome (Err Overflow) = overflow
 number_outcome (Err DivideByZero) = divides_by_zero
 
+-- a number as a whole number of that type; outside it Overflow
+abbrev pub GivesNumber : PrimitiveType → ℤ → Outcome → Type 0
+GivesNumber p n o =
+    (answer : Result (Option ℤ) ArithFault) × numbers.ComesWithin p n answer × (o ≡ number_outcome answer)
+
 -- two numbers, in the type in which they are computed
 abbrev pub ComputesTo : ArithmeticOperator → PrimitiveType → Option ℤ → Option ℤ → Outcome → Type 0
 ComputesTo operator p a b o =

@@ -11,6 +11,10 @@ abbrev pub IsWhether : Type 0 → Val → Type 0
 IsWhether Fact (boolean answer) = IsTrue answer ↔ Fact
 IsWhether Fact _ = ⊥
 
+-- whether the fact holds
+abbrev pub GivesTruth : Type 0 → Outcome → Type 0
+GivesTruth Fact = GivesSome (IsWhether Fact)
+
 -- two values that the operator compares
 abbrev pub CompareGives : ComparisonOperator → Val → Val → Outcome → Type 0
-CompareGives operator l r o = AreComparableBy operator l r × GivesSome (IsWhether (ComparesTrue operator l r)) o
+CompareGives operator l r o = AreComparableBy operator l r × GivesTruth (ComparesTrue operator l r) o

@@ -1,5 +1,5 @@
 -- What each function makes of the values of its arguments (OData URL Conventions 4.01, sections 5.1.1.5 to 5.1.1.8).
-use Rattle.std.specs.Prelude.{◌≡◌, ◌++◌, ℕ, ℤ, pos, List, Option, Result, length, map, encode_utf8_all}
+use Rattle.std.specs.Prelude.{◌≡◌, ◌++◌, ℕ, ℤ, pos, List, length, map, encode_utf8_all}
 use Rattle.std.specs.Char.{to_ascii_lowercase, to_ascii_uppercase}
 use Rattle.std.specs.Str.{chars}
 use Rattle.edm_values.specs.Civil.{epoch_day}
@@ -7,23 +7,17 @@ use Rattle.edm_values.specs.Instant.{offset_of}
 use Rattle.edm_values.specs.MomentParts.{MomentParts}
 use Rattle.edm_values.specs.Val.{Val, text, date, moment}
 use Rattle.edm_values.specs.declared.primitive.PrimitiveType.TheVariants.{Int32}
-use Rattle.odata_functions.specs.Arithmetic.{ComesWithin}
 use Rattle.odata_functions.specs.DateParts.{IsDayOf, IsMonthOf, IsYearOf, date_of, hour_of, minute_of, second_of}
 use Rattle.odata_functions.specs.Texts.{HasEnd, HasPart, HasStart, IsPlaceOf, IsTrimmed, part_from, rest_from}
-use Rattle.odata_functions.specs.declared.arithmetic.ArithFault.{ArithFault}
 use Rattle.odata_signatures.specs.declared.function.Function.{Function}
 use Rattle.odata_eval.specs.ArgumentValues.{OfDate, OfMoment, OfNone, OfText, OfTextAndNumbers, OfTexts}
-use Rattle.odata_eval.specs.CalculationGives.{number_outcome}
-use Rattle.odata_eval.specs.CompareGives.{IsWhether}
-use Rattle.odata_eval.specs.Outcome.{Outcome, GivesSome, gives}
-
--- whether the fact holds
-abbrev pub GivesTruth : Type 0 → Outcome → Type 0
-GivesTruth Fact = GivesSome (IsWhether Fact)
+use Rattle.odata_eval.specs.CalculationGives.{GivesNumber}
+use Rattle.odata_eval.specs.CompareGives.{GivesTruth}
+use Rattle.odata_eval.specs.Outcome.{Outcome, gives}
 
 -- a number as a whole number of type Int32; outside it Overflow
 abbrev pub GivesCount : ℤ → Outcome → Type 0
-GivesCount n o = (answer : Result (Option ℤ) ArithFault) × ComesWithin Int32 n answer × (o ≡ number_outcome answer)
+GivesCount = GivesNumber Int32
 
 -- the text of these characters
 abbrev pub GivesText : List ℕ → Outcome → Type 0

@@ -1,15 +1,19 @@
 -- What an expression comes to on an entity (OData URL Conventions 4.01, section 5.1.1).
-use Rattle.std.specs.Prelude.{◌≡◌, ℕ, List, [], ◌∷◌}
+use Rattle.std.specs.Prelude.{◌≡◌, ℕ, zero, suc, List, [], ◌∷◌, length}
 use Rattle.edm_values.specs.Val.{Val}
 use Rattle.edm_values.specs.MomentParts.{MomentParts}
-use Rattle.odata_syntax.specs.Tree.{Tree, node, Shape, literal, it, name, member, negation, logical_not, binary, call}
+use Rattle.odata_syntax.specs.Spans.{list_of_trees}
+use Rattle.odata_syntax.specs.Tree.{Shape, Tree, any_item, binary, call, count, has, in_list, in_path, it, lambda, literal, logical_not, member, name, negation, node}
 use Rattle.odata_syntax.specs.Tree.{Trees, no_trees, more_trees}
 use Rattle.csdl_schema.specs.SchemaModel.{Slots}
-use Rattle.odata_signatures.specs.OperatorTyped.{NegationTyped}
+use Rattle.odata_signatures.specs.OperatorTyped.{NegationTyped, OperatorTyped}
 use Rattle.odata_expression_types.specs.Typed.{OperandTyped, OperandsTyped, Typed}
 use Rattle.odata_eval.specs.CalculationGives.{NegatedGives}
 use Rattle.odata_eval.specs.CallGives.{CallMeans}
-use Rattle.odata_eval.specs.Environment.{Environment, scope_of}
+use Rattle.odata_eval.specs.CollectionGives.{AnyItemGives, CountGives}
+use Rattle.odata_eval.specs.Environment.{Environment, bound_over, scope_of}
+use Rattle.odata_eval.specs.HasGives.{HasGives}
+use Rattle.odata_eval.specs.LambdaGives.{InGives, ItemsGive, LambdaGives}
 use Rattle.odata_eval.specs.LeftFirst.{After}
 use Rattle.odata_eval.specs.LiteralGives.{LiteralGives}
 use Rattle.odata_eval.specs.NameGives.{NameGives, StepGives}
@@ -18,8 +22,8 @@ use Rattle.odata_eval.specs.Outcome.{NoOutcome, Outcome, gives}
 use Rattle.odata_eval.specs.TruthGives.{NotGives}
 
 -- the outcomes of a tree under the types' properties, the filtered type's name, the moment that `now` stands for, the
--- entity and the variables around the tree; arithmetic goes by the types of its operands, where these variables are in
--- scope; a tree for which no case applies has none, as one of a form that has no meaning yet
+-- entity and the variables around the tree, by whose types operands of arithmetic and members of collections have
+-- theirs; a tree for which no case applies has none
 abbrev mutual
   pub Means : Slots → List ℕ → MomentParts → Val → Environment → Tree → Outcome → Type 0
   Means slots root now entity environment (node start stop shape) = ShapeMeans slots root now entity environment shape
@@ -30,6 +34,8 @@ abbrev mutual
   ShapeMeans slots root now entity environment (name word) = NameGives environment entity word
   ShapeMeans slots root now entity environment (member base word) =
       After (Means slots root now entity environment base) (λ v. StepGives v word)
+  ShapeMeans slots root now entity environment (count base) =
+      After (Means slots root now entity environment base) CountGives
   ShapeMeans slots root now entity environment (negation operand) =
       After (Means slots root now entity environment operand)
       (λ v. InType (OperandTyped (Typed slots root (scope_of environment) operand) NegationTyped)
@@ -39,12 +45,33 @@ abbrev mutual
   ShapeMeans slots root now entity environment (binary operator left right) =
       After (Means slots root now entity environment left)
       (λ l. OperatorGives operator
-      (OperandsTyped operator (Typed slots root (scope_of environment) left)
-      (Typed slots root (scope_of environment) right))
+      (OperandsTyped (Typed slots root (scope_of environment) left) (Typed slots root (scope_of environment) right)
+      (OperatorTyped operator))
       l (Means slots root now entity environment right))
+  ShapeMeans slots root now entity environment (has left right) =
+      After (Means slots root now entity environment left)
+      (λ l. After (Means slots root now entity environment right) (HasGives l))
+  ShapeMeans slots root now entity environment (in_list left items) =
+      After (Means slots root now entity environment left)
+      (λ l. ItemsGive l (length (list_of_trees items)) (ItemMeans slots root now entity environment items))
+  ShapeMeans slots root now entity environment (in_path left path) =
+      After (Means slots root now entity environment left)
+      (λ l. After (Means slots root now entity environment path) (InGives l))
   ShapeMeans slots root now entity environment (call asked arguments) =
       CallMeans now asked (ArgumentsMean slots root now entity environment arguments)
-  ShapeMeans slots root now entity environment shape = NoOutcome
+  ShapeMeans slots root now entity environment (any_item base) =
+      After (Means slots root now entity environment base) AnyItemGives
+  ShapeMeans slots root now entity environment (lambda quantifier base variable body) =
+      After (Means slots root now entity environment base)
+      (LambdaGives quantifier (Typed slots root (scope_of environment) base)
+      (λ type v. Means slots root now entity (bound_over environment variable type v) body))
+
+  -- the item of a list in a place
+  pub ItemMeans : Slots → List ℕ → MomentParts → Val → Environment → Trees → ℕ → Outcome → Type 0
+  ItemMeans slots root now entity environment no_trees place = NoOutcome
+  ItemMeans slots root now entity environment (more_trees tree more) zero = Means slots root now entity environment tree
+  ItemMeans slots root now entity environment (more_trees tree more) (suc place) =
+      ItemMeans slots root now entity environment more place
 
   -- the arguments of a call one after another, and what follows their values
   pub ArgumentsMean :

@@ -4,6 +4,7 @@ ghost use Rattle.edm_values.specs.Val.{Val, boolean};
 ghost use Rattle.odata_syntax.specs.FirstRun.{first_run_tree};
 ghost use Rattle.odata_eval.specs.EndsOnce.{EndsOnceOnEntities, TypedEndsOnce};
 ghost use Rattle.odata_eval.specs.ComesTo.{ComesTo, false_and_missing, item_value};
+ghost use Rattle.odata_eval.specs.OneByOne.{ComparedOneByOne, ItemsOneByOne, MembersOneByOne};
 ghost use Rattle.odata_eval.specs.Outcome.{gives};
 ghost use Rattle.odata_eval.specs.SameMeaning.{NormalFormsKeepOutcomes, CanonicalTextsKeepOutcomes};
 
@@ -12,8 +13,8 @@ use odata_expression_types::{
     literals_have_one_value, normal_forms_keep_types, trees_have_one_type,
 };
 use odata_functions::{
-    arithmetic_has_one_answer, comparisons_are_decided, day_numbers_have_one_date,
-    operands_lie_within_promotion, texts_have_one_answer,
+    arithmetic_has_one_answer, bits_are_decided, comparisons_are_decided,
+    day_numbers_have_one_date, operands_lie_within_promotion, texts_have_one_answer,
 };
 use odata_signatures::calls_have_one_type;
 use odata_syntax::{canonical_texts_read_back, one_tree};
@@ -28,6 +29,7 @@ pub fn typed_trees_end_once()
     trees_have_one_type();
     arithmetic_has_one_answer();
     comparisons_are_decided();
+    bits_are_decided();
     operands_lie_within_promotion();
     calls_have_one_type();
     texts_have_one_answer();
@@ -41,6 +43,14 @@ pub fn typed_trees_end_once_on_entities()
     typed_trees_end_once();
     what_fits_has_its_type();
 }
+
+/// A law: the members of a collection and the items of a list, taken one by one from the first on, come to what the
+/// definitions say by their places.
+pub fn one_by_one()
+    ensures members { MembersOneByOne }
+    ensures compared { ComparedOneByOne }
+    ensures items { ItemsOneByOne }
+{}
 
 /// A law: a tree and its normal form have the same outcomes, and so has the tree of its canonical text, on every value and
 /// whatever the range variables around hold.

@@ -2,6 +2,8 @@
 #![tactic(auto)]
 
 mod calls;
+mod collection_walk;
+mod collections;
 mod datum;
 mod evaluator;
 mod fault;
@@ -17,7 +19,7 @@ mod walk;
 pub use evaluator::evaluate;
 pub use fault::EvalFault;
 pub use laws::{
-    canonical_texts_keep_outcomes, first_run_comes_to, typed_trees_end_once,
+    canonical_texts_keep_outcomes, first_run_comes_to, one_by_one, typed_trees_end_once,
     typed_trees_end_once_on_entities,
 };
 pub use verdict::Verdict;

@@ -43,9 +43,14 @@ fn walk_of_kind(kind: NodeKind) -> WalkClass
         NodeKind::Property { .. } => WalkClass::Leaf,
         NodeKind::Variable { .. } => WalkClass::Leaf,
         NodeKind::Member { .. } => WalkClass::Eager,
+        NodeKind::Count => WalkClass::Eager,
         NodeKind::Neg => WalkClass::Numeric,
         NodeKind::Not => WalkClass::Logical,
+        NodeKind::Has => WalkClass::Eager,
+        NodeKind::InList => WalkClass::Eager,
+        NodeKind::InPath => WalkClass::Eager,
         NodeKind::Call { .. } => WalkClass::Eager,
+        NodeKind::AnyItem => WalkClass::Eager,
         NodeKind::Now => WalkClass::Leaf,
         NodeKind::Binary { operator } => match class_of(operator) {
             OperatorClass::Connective(_) => WalkClass::Logical,
@@ -126,7 +131,7 @@ pub(crate) fn spine_bottom(scene: &Scene<'_, '_, '_>, top: usize, class: WalkCla
     place
 }
 
-/// The place of an operator's right operand, where its left one stops.
+/// The place of a node's second child, where its first one stops.
 pub(crate) fn right_of(scene: &Scene<'_, '_, '_>, place: usize) -> usize
     requires { (right : ℕ) × IsRightOf scene.now.list place right }
     ensures { IsRightOf scene.now.list place result }

@@ -10,6 +10,8 @@ ghost use Rattle.odata_eval.specs.private.WalkClass.{walk_of_operator};
 ghost use Rattle.odata_eval.specs.private.WalkAnswer.{AnswersDatum, AnswersTruth};
 
 use super::calls::{called_on_one, called_on_three, called_on_two};
+use super::collection_walk::{among_at, flags_at, listed_at};
+use super::collections::{any_item_of, count_of};
 use super::datum::{datum_of, datum_of_number, datum_of_truth, kept_truth, step, truth_of};
 use super::fault::EvalFault;
 use super::number_walk::{number_at, number_chain_at};
@@ -312,6 +314,11 @@ fn made_at<'e>(
     match scene.node(place).kind {
         NodeKind::Member { slot } => Ok(step(first, slot)),
         NodeKind::Call { function } => called_at(scene, place, function, first),
+        NodeKind::Count => count_of(first),
+        NodeKind::AnyItem => Ok(any_item_of(first)),
+        NodeKind::Has => flags_at(scene, place, &first),
+        NodeKind::InPath => among_at(scene, place, &first),
+        NodeKind::InList => listed_at(scene, place, &first),
         NodeKind::Binary { operator } => match class_of(operator) {
             OperatorClass::Comparison(comparison) => {
                 compared_at(scene, place, comparison, first)

@@ -1,4 +1,5 @@
 -- Which type a node has, and that it is one.
+pub mod Carried
 pub mod Examples
 pub mod OneType
 pub mod OneValue

@@ -1,8 +1,8 @@
 -- Where and why a tree is no filter (OData URL Conventions 4.01, section 5.1.1).
 use Rattle.std.specs.Prelude.{◌≡◌, ◌⊎◌, ℕ, ◌≤◌, List, [], MatchOption}
-use Rattle.odata_syntax.specs.Tree.{Tree, node, literal, it, name, member, call, start_of, stop_of}
+use Rattle.odata_syntax.specs.Tree.{Tree, node, literal, it, name, member, count, in_path, call, any_item, start_of, stop_of}
 use Rattle.odata_syntax.specs.declared.node.LiteralKind.{LiteralKind}
-use Rattle.csdl_schema.specs.ExprType.{ExprType, single, structured}
+use Rattle.csdl_schema.specs.ExprType.{ExprType, single, collection, structured}
 use Rattle.csdl_schema.specs.SchemaModel.{PropertyModel, PropertyType, declared, opaque, navigation, Slots}
 use Rattle.odata_expression_types.specs.declared.refusal.TypeFault.{TypeFault}
 use Rattle.odata_expression_types.specs.declared.refusal.TypeFaultCode.{TypeFaultCode}
@@ -30,6 +30,12 @@ abbrev pub StepReason : Slots → List ℕ → ExprType → TypeFaultCode → Ty
 StepReason slots asked (single (structured owner)) code = NameReason (slots.properties owner) asked code
 StepReason slots asked _ code = code ≡ TypeFaultCode.UnknownProperty
 
+-- why `in` before a path of that type has none: the path leads to no collection, whatever stands on the left; else the
+-- left is not comparable with its members
+abbrev pub PathReason : ExprType → TypeFaultCode → Type 0
+PathReason (collection members) code = code ≡ TypeFaultCode.OperandTypes
+PathReason _ code = code ≡ TypeFaultCode.NotCollection
+
 -- why a literal has no type: it has no value
 abbrev pub LiteralReason : LiteralKind → TypeFaultCode → Type 0
 LiteralReason LiteralKind.EnumLit code = code ≡ TypeFaultCode.UnknownEnum
@@ -56,8 +62,12 @@ IsReason slots root scope (node start stop it) code = ⊥
 IsReason slots root scope (node start stop (name asked)) code = NameReason (slots.properties root) asked code
 IsReason slots root scope (node start stop (member base asked)) code =
     (type : ExprType) × Typed slots root scope base type × StepReason slots asked type code
+IsReason slots root scope (node start stop (count base)) code = code ≡ TypeFaultCode.NotCollection
+IsReason slots root scope (node start stop (in_path left path)) code =
+    (type : ExprType) × Typed slots root scope path type × PathReason type code
 IsReason slots root scope (node start stop (call asked arguments)) code =
     IsCallReason asked (AreTyped slots root scope arguments) code
+IsReason slots root scope (node start stop (any_item base)) code = code ≡ TypeFaultCode.NotCollection
 IsReason slots root scope (node start stop shape) code = code ≡ TypeFaultCode.OperandTypes
 
 -- a considered node that has no type, while all its considered children have one

@@ -1,23 +1,33 @@
--- Which type an expression has (OData URL Conventions 4.01, sections 5.1.1.1, 5.1.1.2, 5.1.1.13 to 5.1.1.15 and
+-- Which type an expression has (OData URL Conventions 4.01, sections 4.8, 5.1.1.1, 5.1.1.2, 5.1.1.13 to 5.1.1.15 and
 -- 5.1.1.18).
 use Rattle.std.specs.Prelude.{◌≡◌, ℕ, List, [], ◌∷◌, Option, IsSomeAnd, MatchOption, find, nat_eq}
 use Rattle.std.specs.Option.{option_map}
 use Rattle.std.specs.Cmp.Lexicographic.{pointwise}
-use Rattle.odata_syntax.specs.Tree.{Tree, Trees, node, literal, it, name, member, negation, logical_not, binary, call, more_trees, no_trees}
-use Rattle.odata_syntax.specs.declared.node.BinaryOperator.{BinaryOperator}
+use Rattle.odata_syntax.specs.Tree.{Tree, Trees, node, literal, it, name, member, count, negation, logical_not, binary, has, in_list, in_path, call, any_item, more_trees, no_trees}
 use Rattle.csdl_schema.specs.ExprType.{ExprType, single, structured}
 use Rattle.csdl_schema.specs.SchemaModel.{PropertyModel, Slots, declared}
 use Rattle.odata_expression_types.specs.LiteralValue.{LiteralTyped}
 use Rattle.odata_signatures.specs.CallTyped.{CallTyped}
+use Rattle.odata_signatures.specs.CollectionTyped.{AnyItemTyped, CountTyped, InListTyped, InPathTyped}
+use Rattle.odata_signatures.specs.HasTyped.{HasTyped}
 use Rattle.odata_signatures.specs.OperatorTyped.{OperatorTyped, NegationTyped, NotTyped}
 
--- the range variables that may be named, each with its type, the innermost first
+-- a range variable of a lambda operator (section 5.1.1.13)
+pub record Variable : Type 0 where
+  pub name : List ℕ
+  pub type_of : ExprType
+
+-- the range variables that may be named, the innermost first
 abbrev pub Scope : Type 0
-Scope = List (List ℕ × ExprType)
+Scope = List Variable
+
+-- the scope with a further variable, its innermost
+abbrev pub with_variable : Scope → List ℕ → ExprType → Scope
+with_variable scope variable type = record { name = variable; type_of = type } ∷ scope
 
 -- the type of the innermost variable of a name
 abbrev pub variable_type : Scope → List ℕ → Option ExprType
-variable_type scope asked = option_map (λ bound. bound.1) (find (λ bound. pointwise nat_eq asked bound.0) scope)
+variable_type scope asked = option_map (λ v. v.type_of) (find (λ v. pointwise nat_eq asked v.name) scope)
 
 -- the property of a name
 abbrev pub property_named : List PropertyModel → List ℕ → Option PropertyModel
@@ -44,13 +54,23 @@ pub record OperandTyped
   pub operand_typed : Operand operand
   pub makes : Makes operand type
 
--- both operands have types, and of these the operator makes the type
-pub record OperandsTyped (operator : BinaryOperator) (Left Right : ExprType → Type 0) (type : ExprType) : Type 0 where
+-- both operands have types, and of these the node makes the type
+pub record OperandsTyped
+    (Left Right : ExprType → Type 0) (Makes : ExprType → ExprType → ExprType → Type 0) (type : ExprType) : Type 0 where
   pub left : ExprType
   pub right : ExprType
   pub left_typed : Left left
   pub right_typed : Right right
-  pub operator_typed : OperatorTyped operator left right type
+  pub makes : Makes left right type
+
+-- the operand on the left and the items of the list have types, and of these `in` makes the type
+pub record ItemsTyped
+    (Left : ExprType → Type 0) (Items : List ExprType → Type 0) (type : ExprType) : Type 0 where
+  pub left : ExprType
+  pub items : List ExprType
+  pub left_typed : Left left
+  pub items_typed : Items items
+  pub makes : InListTyped left items type
 
 -- the arguments have types, and of these the function of that name makes the type
 pub record ArgumentsTyped (asked : List ℕ) (Arguments : List ExprType → Type 0) (type : ExprType) : Type 0 where
@@ -59,22 +79,32 @@ pub record ArgumentsTyped (asked : List ℕ) (Arguments : List ExprType → Type
   pub call_typed : CallTyped asked types type
 
 abbrev mutual
-  -- the tree has the type, where the filtered type is root and these variables are in scope; a node of a form that is
-  -- not typed yet has none
+  -- the tree has the type, where the filtered type is root and these variables are in scope; a lambda operator with a
+  -- body has none yet
   pub Typed : Slots → List ℕ → Scope → Tree → ExprType → Type 0
   Typed slots root scope (node start stop (literal kind spelling)) type = LiteralTyped slots kind spelling type
   Typed slots root scope (node start stop it) type = type ≡ single (structured root)
   Typed slots root scope (node start stop (name asked)) type = NameTyped slots root scope asked type
   Typed slots root scope (node start stop (member base asked)) type =
       OperandTyped (Typed slots root scope base) (StepTyped slots asked) type
+  Typed slots root scope (node start stop (count base)) type =
+      OperandTyped (Typed slots root scope base) CountTyped type
   Typed slots root scope (node start stop (negation operand)) type =
       OperandTyped (Typed slots root scope operand) NegationTyped type
   Typed slots root scope (node start stop (logical_not operand)) type =
       OperandTyped (Typed slots root scope operand) NotTyped type
   Typed slots root scope (node start stop (binary operator left right)) type =
-      OperandsTyped operator (Typed slots root scope left) (Typed slots root scope right) type
+      OperandsTyped (Typed slots root scope left) (Typed slots root scope right) (OperatorTyped operator) type
+  Typed slots root scope (node start stop (has left right)) type =
+      OperandsTyped (Typed slots root scope left) (Typed slots root scope right) HasTyped type
+  Typed slots root scope (node start stop (in_list left items)) type =
+      ItemsTyped (Typed slots root scope left) (AreTyped slots root scope items) type
+  Typed slots root scope (node start stop (in_path left path)) type =
+      OperandsTyped (Typed slots root scope left) (Typed slots root scope path) InPathTyped type
   Typed slots root scope (node start stop (call asked arguments)) type =
       ArgumentsTyped asked (AreTyped slots root scope arguments) type
+  Typed slots root scope (node start stop (any_item base)) type =
+      OperandTyped (Typed slots root scope base) AnyItemTyped type
   Typed slots root scope (node start stop shape) type = ⊥
 
   -- trees one behind another have these types

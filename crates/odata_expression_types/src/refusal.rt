@@ -4,8 +4,8 @@ use thiserror::Error;
 
 /// Why a node has no type. It is shown by its name.
 ///
-/// `has`, `in`, `$count` and lambda operators have no types yet: such a node is blamed as `OperandTypes`. `NotCollection`,
-/// `VariableTaken` and `BodyNotBoolean` are still to come.
+/// A lambda operator with a body has no type yet and is blamed as `OperandTypes`. `VariableTaken` and `BodyNotBoolean` are
+/// still to come.
 #[derive(Clone, Copy, Debug, PartialEq, Eq, Error)]
 pub enum TypeFaultCode {
     /// A name that is no property of its type.

@@ -3,6 +3,7 @@ pub mod Decided
 pub mod Divisions
 pub mod Encodings
 pub mod Numbers
+pub mod SharedBits
 pub mod TextOrder
 pub mod Widening
 pub mod texts

@@ -4,6 +4,7 @@ pub use Rattle.edm_values.specs.MomentParts
 pub use Rattle.edm_values.specs.NumberTypes
 pub use Rattle.edm_values.specs.Val
 pub mod Arithmetic
+pub mod Bits
 pub mod Comparable
 pub mod Comparison
 pub mod Connectives

@@ -9,6 +9,7 @@ ghost use Rattle.edm_values.specs.Val.{Val};
 ghost use Rattle.edm_values.specs.declared.datum.Datum.{Datum};
 ghost use Rattle.edm_values.specs.declared.value.Value.{Value};
 ghost use Rattle.odata_functions.specs.Arithmetic.{ArithmeticGives, NegationGives};
+ghost use Rattle.odata_functions.specs.Bits.{HasBits};
 ghost use Rattle.odata_functions.specs.Comparable.{AreComparableBy};
 ghost use Rattle.odata_functions.specs.Comparison.{ComparesTrue, text_cmp};
 ghost use Rattle.odata_functions.specs.DatumVal.{Reading, datum_val};
@@ -44,6 +45,11 @@ pub fn comparisons_are_decided()
     ensures any_contents { (operator : ComparisonOperator) (left right : Value) (l r k s : Contents)
         → AreComparableBy operator (kept_val l left) (kept_val r right)
         → AreComparableBy operator (kept_val k left) (kept_val s right) }
+{}
+
+/// A number has all bits of another or it has not, of any two numbers.
+pub fn bits_are_decided()
+    ensures { (value flags : ℤ) → (answer : Bool) × (IsTrue answer ↔ HasBits value flags) }
 {}
 
 /// An operator makes one thing of two operands, and a negation of one.

@@ -1,9 +1,10 @@
-//! What the operators and functions of a filter make of values: logic, comparison, arithmetic, texts and dates (OData
+//! What the operators and functions of a filter make of values: logic, comparison, bits, arithmetic, texts and dates (OData
 //! URL Conventions 4.01, sections 5.1.1.1, 5.1.1.2, 5.1.1.5, 5.1.1.7 and 5.1.1.8). Only `concat`, `to_lower` and `to_upper`
 //! take memory.
 #![tactic(auto)]
 
 mod arithmetic;
+mod bits;
 mod comparability;
 mod comparison;
 mod connectives;
@@ -17,6 +18,7 @@ mod text_parts;
 mod text_search;
 
 pub use arithmetic::{ArithFault, ArithmeticOperator, arith, negate};
+pub use bits::has_bits;
 pub use comparability::comparable;
 pub use comparison::{ComparisonOperator, compare, compare_values};
 pub use connectives::{and3, not3, or3};
@@ -26,7 +28,7 @@ pub use date_parts::{
 pub use function_laws::{day_numbers_have_one_date, texts_have_one_answer};
 pub use kept_text::{part_of_text, rest_of_text, trim_text};
 pub use laws::{
-    arithmetic_has_one_answer, comparisons_are_decided, divisions_are_unique,
+    arithmetic_has_one_answer, bits_are_decided, comparisons_are_decided, divisions_are_unique,
     operands_lie_within_promotion, texts_in_byte_order,
 };
 pub use made_text::{concat, to_lower, to_upper};

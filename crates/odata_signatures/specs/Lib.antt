@@ -4,9 +4,11 @@ pub use Rattle.edm_values.specs.NumberTypes
 pub use Rattle.odata_functions.specs.Promotion
 pub mod ArgumentTypes
 pub mod CallTyped
+pub mod CollectionTyped
 pub mod ComparableTypes
 pub mod ExprTypes
 pub mod Functions
+pub mod HasTyped
 pub mod ManyValues
 pub mod OperatorClass
 pub mod OperatorTyped

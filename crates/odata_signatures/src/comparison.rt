@@ -31,7 +31,7 @@ pub(crate) fn are_compared(
     }
 }
 
-fn are_comparable(schema: &Schema, left: &EdmType, right: &EdmType) -> bool
+pub(crate) fn are_comparable(schema: &Schema, left: &EdmType, right: &EdmType) -> bool
     requires left { IsTypeThere schema.now left.now }
     requires right { IsTypeThere schema.now right.now }
     ensures { IsTrue result ↔ AreComparable (expr_type schema.now left.now) (expr_type schema.now right.now) }
@@ -100,7 +100,7 @@ fn are_alike(left: Prim, right: Prim) -> bool
 }
 
 /// Whether they are one enumeration. Each has a name of its own.
-fn is_same_enumeration(schema: &Schema, left: EnumId, right: EnumId) -> bool
+pub(crate) fn is_same_enumeration(schema: &Schema, left: EnumId, right: EnumId) -> bool
     requires left { HoldsEnumeration schema.now left }
     requires right { HoldsEnumeration schema.now right }
     ensures { IsTrue result ↔ (type_name_at schema.now left ≡ type_name_at schema.now right) }

@@ -2,6 +2,7 @@ ghost use Rattle.std.specs.Prelude.{◌≡◌, ◌↔◌, Option, IsTrue, IfSome
 ghost use Rattle.edm_values.specs.NumberTypes.{IsNumberType};
 ghost use Rattle.edm_values.specs.declared.primitive.PrimitiveType.{PrimitiveType};
 ghost use Rattle.csdl_schema.specs.SchemaModel.{SchemaModel};
+ghost use Rattle.odata_signatures.specs.CollectionTyped.{IsCollection};
 ghost use Rattle.odata_signatures.specs.ExprTypes.{boolean_type, IsBooleanOrNull, IsNumberOrNull, number_or_null};
 ghost use Rattle.odata_signatures.specs.TypeView.{expr_type};
 ghost use Rattle.odata_signatures.specs.TypeThere.{IsTypeThere};
@@ -30,6 +31,7 @@ pub enum EdmType {
 pub const BOOLEAN: EdmType = EdmType::Single(ValueType::Prim(Prim::Bool));
 
 ghost use Rattle.odata_signatures.specs.ManyValues.{type_of_many};
+ghost use Rattle.odata_signatures.specs.declared.edm_type.EdmType.{EdmType};
 
 impl EdmType {
     /// Whether a filter, or an operand of a logical operator, may have the type.
@@ -47,6 +49,29 @@ impl EdmType {
         ensures { (schema : SchemaModel) → IsTrue result ↔ (expr_type schema self.now ≡ boolean_type) }
     {
         *self == BOOLEAN
+    }
+
+    /// Whether it is the type of a collection.
+    pub fn is_collection(&self) -> bool
+        ensures { (schema : SchemaModel) → IsTrue result ↔ IsCollection (expr_type schema self.now) }
+    {
+        match self {
+            EdmType::Null => false,
+            EdmType::Single(_) => false,
+            EdmType::Collection(_) => true,
+        }
+    }
+
+    /// The type of each member of a collection of this type. `None` where it is the type of none.
+    pub fn member(&self) -> Option<ValueType>
+        ensures some { IfSome result (λ member. self.now ≡ EdmType.Collection member) }
+        ensures none { (schema : SchemaModel) → IfNone result (¬ IsCollection (expr_type schema self.now)) }
+    {
+        match self {
+            EdmType::Null => None,
+            EdmType::Single(_) => None,
+            EdmType::Collection(member) => Some(*member),
+        }
     }
 
     /// What kind of number an operand of arithmetic of this type is, None for null; no answer where it is no such operand.

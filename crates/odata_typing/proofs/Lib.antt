@@ -1,5 +1,6 @@
 pub mod calls
 pub mod flat
+pub mod forms
 pub mod scopes
 pub mod types
 pub mod untypable

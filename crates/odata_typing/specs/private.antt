@@ -1,7 +1,9 @@
 -- Definitions that private clauses alone cite.
 pub mod Answer
 pub mod Arguments
+pub mod Begun
 pub mod EarlierFault
+pub mod Forms
 pub mod Judged
 pub mod LawsBelow
 pub mod StepFound

@@ -1,5 +1,6 @@
 //! Nodes of calls, before their arguments.
-ghost use Rattle.std.specs.Prelude.{◌≡◌, ◌<◌, ◌≤◌, [], ◌∷◌, ◌++◌, ℕ, List, length, map, IfOk};
+ghost use Rattle.std.specs.Prelude.{◌≡◌, ◌<◌, ◌≤◌, [], ◌∷◌, ◌++◌, ℕ, List, length, map, IfNone, IfOk};
+ghost use Rattle.std.specs.List.{AllByRecursion};
 ghost use Rattle.odata_syntax.specs.Tree.{Tree, node, call, trees_of_list};
 ghost use Rattle.odata_syntax.specs.TreeView.{tree_of, trees_of};
 ghost use Rattle.csdl_schema.specs.SchemaModel.{SchemaModel};
@@ -55,17 +56,19 @@ pub(crate) fn checked_call(
     }
 }
 
-/// The nodes of the arguments one behind another, and their types; or the first fault among them.
+/// The nodes of the arguments, or of the items of a list, one behind another, and their types; or the first fault among
+/// them.
 #[cycle(typing)]
-fn checked_arguments(
+pub(crate) fn checked_arguments(
     setting: &Setting<'_>,
     arguments: &[Node],
     types: &mut ArgumentTypes,
     list: &mut NodeList,
 ) -> Option<Untyped>
     requires none { types.old ≡ [] }
-    requires there { AreThere setting.now.schema.now setting.now.variables.now }
+    requires variables { AreThere setting.now.schema.now setting.now.variables.now }
     ensures answer { AreAnswered setting.now list.old (map tree_of arguments.now) list.new types.new result }
+    ensures there { IfNone result (AllByRecursion (IsTypeThere setting.now.schema.now) types.new) }
     ensures grown { length list.old.nodes ≤ length list.new.nodes }
 {
     laws_below();
@@ -89,6 +92,8 @@ fn told_with(
     ensures answer { (start : FlatTree) (trees : List Tree)
         → AreAnswered setting.now start trees list.old types.old told
         → AreAnswered setting.now start (trees ++ tree_of argument.now ∷ []) list.new types.new result }
+    ensures there { IfNone told (AllByRecursion (IsTypeThere setting.now.schema.now) types.old)
+        → IfNone result (AllByRecursion (IsTypeThere setting.now.schema.now) types.new) }
     ensures grown { length list.old.nodes ≤ length list.new.nodes }
 {
     laws_below();

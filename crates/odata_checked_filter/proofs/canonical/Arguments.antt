@@ -1,33 +1,30 @@
 -- What the walk that writes canonical text writes of a call.
-use Rattle.std.proofs.Common.{◌≡◌, ◌∙◌, ℕ, ◌+◌, ◌*◌, ◌-◌, ◌<◌, ◌≤◌, List, [], ◌∷◌, ◌++◌, append-nil, append_assoc, Some, slice_get, true, false, refl, sym, subst, ap, arith, length}
-use Rattle.std.specs.Prelude.{codes, nat_lt}
+use Rattle.std.proofs.Common.{◌≡◌, ◌∙◌, ℕ, ◌+◌, ◌*◌, ◌-◌, ◌<◌, ◌≤◌, List, [], ◌∷◌, ◌++◌, append_assoc, true, false, refl, sym, subst, ap, arith, length}
+use Rattle.std.specs.Prelude.{nat_lt}
 use Rattle.std.proofs.lemmas.List.Sums.{sum_by-append}
-use Rattle.odata_syntax.specs.CanonicalText.{further_text, tree_level, tree_text, trees_text}
-use Rattle.odata_syntax.specs.Grammar.{Level, base_level}
+use Rattle.odata_syntax.specs.CanonicalText.{IsCanonicalText, further_text, tree_level, tree_text, trees_text}
 use Rattle.odata_syntax.specs.NormalForm.{AreNormalForms}
 use Rattle.odata_syntax.specs.Tree.{Shape, Tree, Trees, call, more_trees, no_trees, node}
 use Rattle.csdl_schema.specs.SchemaModel.{SchemaModel}
-use Rattle.odata_signatures.specs.Functions.{row_of}
 use Rattle.odata_expression_types.specs.Typed.{Scope}
 use Rattle.odata_checked_filter.specs.declared.canonical_text.Part.{Part}
 use Rattle.odata_checked_filter.specs.declared.canonical_text.Part.TheVariants.{Close, Further, Operand}
-use Rattle.odata_checked_filter.specs.declared.checked_node.CheckedNode.{CheckedNode}
 use Rattle.odata_checked_filter.specs.declared.checked_node.NodeKind.{NodeKind}
 use Rattle.odata_checked_filter.specs.FlatTree.{FlatTree}
 use Rattle.odata_checked_filter.specs.Stands.{AllStand}
-use Rattle.odata_checked_filter.specs.private.CanonicalWalk.{AllThere, AreFurtherPut, ArePieceTexts, ArePiecesOf, GoesOn, HasTreeAt, IsCallAt, IsCallOf, IsPieceOf, IsPieceText, Piece, StandsThere, WritesPart, arguments_of, behind_slash, between, closing, comma_before, further, operand, part_weight, stop_at, weight}
+use Rattle.odata_checked_filter.specs.private.CanonicalWalk.{AllThere, AreFurtherPut, ArePieceTexts, ArePiecesOf, GoesOn, HasTreeAt, IsCallAt, IsCallOf, IsPieceOf, IsPieceText, Piece, StandsThere, WritesNode, WritesPart, arguments_of, comma_before, further, operand, part_weight, plain, stop_at, weight}
 use Rattle.odata_checked_filter.proofs.flat.Standing.{stand_onward, stands_nonempty}
 use Rattle.odata_checked_filter.proofs.canonical.Kinds.{Matches, shape_there}
-use Rattle.odata_checked_filter.proofs.canonical.Leaves.{above, below, path_text, place_of, stop_is, ungrouped}
+use Rattle.odata_checked_filter.proofs.canonical.Leaves.{above, below, place_of, stop_is, ungrouped}
 
 -- ---- arguments on the stack
 
 -- the pieces of arguments, and that their texts are that of the arguments
-record HasArguments (list : FlatTree) (parts : List Part) (comma : List ℕ) (trees : Trees) (most : ℕ) : Type 0 where
-  pieces : List Piece
-  are : ArePiecesOf list parts pieces
-  light : weight list parts ≤ most
-  whole : (rest : List ℕ) → ArePieceTexts pieces rest → (normals : Trees) × AreNormalForms trees normals × (rest ≡ trees_text normals) × (comma ++ rest ≡ further_text normals)
+pub record HasArguments (list : FlatTree) (parts : List Part) (comma : List ℕ) (trees : Trees) (most : ℕ) : Type 0 where
+  pub pieces : List Piece
+  pub are : ArePiecesOf list parts pieces
+  pub light : weight list parts ≤ most
+  pub whole : (rest : List ℕ) → ArePieceTexts pieces rest → (normals : Trees) × AreNormalForms trees normals × (rest ≡ trees_text normals) × (comma ++ rest ≡ further_text normals)
 
 no_arguments : (list : FlatTree) (most : ℕ) → HasArguments list [] [] no_trees most
 no_arguments list most = record {
@@ -37,18 +34,18 @@ no_arguments list most = record {
   whole = λ rest none. (no_trees, refl, none, none);
 }
 
-lightly : (s m i j : ℕ) → s ≡ m → i < m → m ≤ j → 3 * (j - s) + 1 + (3 * (s - (i + 1)) + 2) ≤ 3 * (j - i)
+lightly : (s m i j : ℕ) → s ≡ m → i < m → m ≤ j → 4 * (j - s) + 1 + (4 * (s - (i + 1)) + 3) ≤ 4 * (j - i)
 lightly s m i j same first behind = omega arith
 
 some_arguments :
     (schema : SchemaModel) (n : ℕ) (scope : Scope) (list : FlatTree) (i j : ℕ) (tree : Tree) (trees : Trees)
     → AllStand schema n scope list i j (more_trees tree trees)
-    → HasArguments list (Further (stop_at list i) j ∷ (Operand i 0 ∷ [])) (44 ∷ []) (more_trees tree trees) (3 * (j - i))
+    → HasArguments list (Further (stop_at list i) j ∷ (Operand i 0 ∷ [])) (44 ∷ []) (more_trees tree trees) (4 * (j - i))
 some_arguments schema n scope list i j tree trees stand =
     let m = stand.middle in
     let stops : stop_at list i ≡ m = stop_is schema n scope list i m tree stand.left in
     let A : ℕ → Type 0 = λ (k : ℕ). AllStand schema n scope list k j trees in
-    let light : 3 * (j - stop_at list i) + 1 + (3 * (stop_at list i - (i + 1)) + 2) ≤ 3 * (j - i) =
+    let light : 4 * (j - stop_at list i) + 1 + (4 * (stop_at list i - (i + 1)) + 3) ≤ 4 * (j - i) =
     lightly (stop_at list i) m i j stops (stands_nonempty schema n scope list i m tree stand.left) (stand_onward schema n scope list m j trees stand.right) in
     record {
       pieces = further trees ∷ (operand 0 tree ∷ []);
@@ -57,7 +54,6 @@ some_arguments schema n scope list i j tree trees stand =
         (
           record {
             same = refl;
-            within = omega arith;
             there = record { schema = schema; filtered = n; scope = scope; stop = m; stands = stand.left };
           },
           tt,
@@ -76,14 +72,14 @@ some_arguments schema n scope list i j tree trees stand =
           (more_trees o.0 ns.0, (o.0, ns.0, o.1, ns.1, refl), all, ap (λ (t : List ℕ). 44 ∷ t) all);
     }
 
-arguments_there :
+pub arguments_there :
     (schema : SchemaModel) (n : ℕ) (scope : Scope) (list : FlatTree) (i j : ℕ) (trees : Trees)
     → AllStand schema n scope list i j trees
-    → HasArguments list (arguments_of list i j) (comma_before i j) trees (3 * (j - i))
+    → HasArguments list (arguments_of list i j) (comma_before i j) trees (4 * (j - i))
 arguments_there schema n scope list i j no_trees stand =
     let e : i ≡ j = stand in
     let past : nat_lt i j ≡ false = below i j (omega arith) in
-    rw past (no_arguments list (3 * (j - i)))
+    rw past (no_arguments list (4 * (j - i)))
 arguments_there schema n scope list i j (more_trees tree trees) stand =
     let m = stand.middle in
     let first : i < m = stands_nonempty schema n scope list i m tree stand.left in
@@ -93,7 +89,7 @@ arguments_there schema n scope list i j (more_trees tree trees) stand =
 
 -- ---- further ones
 
-further_goes : (list : FlatTree) (i j : ℕ) (piece : Piece) → IsPieceOf list (Further i j) piece → GoesOn list (arguments_of list i j) (comma_before i j) piece
+further_goes : (list : FlatTree) (i j : ℕ) (piece : Piece) → IsPieceOf list (Further i j) piece → GoesOn list (arguments_of list i j) (comma_before i j) (IsPieceText piece)
 further_goes list i j (further trees) of =
     let has = arguments_there of.schema of.filtered of.scope list i j trees of.stand in
     record {
@@ -101,36 +97,30 @@ further_goes list i j (further trees) of =
       are = has.are;
       whole = λ rest texts. let w = has.whole rest texts in (w.0, w.1, w.3);
     }
-further_goes list i j (between operator) of = absurd of
-further_goes list i j (behind_slash asked) of = absurd of
-further_goes list i j closing of = absurd of
+further_goes list i j (plain text) of = absurd of
 further_goes list i j (operand level tree) of = absurd of
 
-further_light : (list : FlatTree) (i j : ℕ) (piece : Piece) → IsPieceOf list (Further i j) piece → weight list (arguments_of list i j) ≤ 3 * (j - i)
+further_light : (list : FlatTree) (i j : ℕ) (piece : Piece) → IsPieceOf list (Further i j) piece → weight list (arguments_of list i j) ≤ 4 * (j - i)
 further_light list i j (further trees) of =
     let has = arguments_there of.schema of.filtered of.scope list i j trees of.stand in
     has.light
-further_light list i j (between operator) of = absurd of
-further_light list i j (behind_slash asked) of = absurd of
-further_light list i j closing of = absurd of
+further_light list i j (plain text) of = absurd of
 further_light list i j (operand level tree) of = absurd of
 
-within_list : (schema : SchemaModel) (n : ℕ) (scope : Scope) (list : FlatTree) (i j : ℕ) (trees : Trees) → AllStand schema n scope list i j trees → i < j → i < length list.nodes
+pub within_list : (schema : SchemaModel) (n : ℕ) (scope : Scope) (list : FlatTree) (i j : ℕ) (trees : Trees) → AllStand schema n scope list i j trees → i < j → i < length list.nodes
 within_list schema n scope list i j no_trees stand some = let e : i ≡ j = stand in absurd (omega arith)
 within_list schema n scope list i j (more_trees tree trees) stand some = place_of schema n scope list i stand.middle tree stand.left
 
 -- the first of further arguments is there
 pub further_there : (list : FlatTree) (i j : ℕ) (piece : Piece) → IsPieceOf list (Further i j) piece → i < j → i < length list.nodes
 further_there list i j (further trees) of = within_list of.schema of.filtered of.scope list i j trees of.stand
-further_there list i j (between operator) of = absurd of
-further_there list i j (behind_slash asked) of = absurd of
-further_there list i j closing of = absurd of
+further_there list i j (plain text) of = absurd of
 further_there list i j (operand level tree) of = absurd of
 
 pub further_part : (list : FlatTree) (i j : ℕ) (piece : Piece) (before after : List ℕ) (parts new : List Part)
     → IsPieceOf list (Further i j) piece → AreFurtherPut list i j before after parts new → WritesPart list (Further i j) before after parts new
 further_part list i j piece before after parts new of put =
-    let light : weight list (arguments_of list i j) ≤ 3 * (j - i) = further_light list i j piece of in
+    let light : weight list (arguments_of list i j) ≤ 4 * (j - i) = further_light list i j piece of in
     record {
       parts = arguments_of list i j;
       pushed = put.pending;
@@ -140,7 +130,7 @@ further_part list i j piece before after parts new of put =
       goes_on = further_goes list i j;
     }
 
-closing_weight : (list : FlatTree) (parts : List Part) → weight list (Close ∷ parts) ≡ 1 + weight list parts
+pub closing_weight : (list : FlatTree) (parts : List Part) → weight list (Close ∷ parts) ≡ 1 + weight list parts
 closing_weight list parts = sum_by-append (part_weight list) (Close ∷ []) parts
 
 -- ---- a call
@@ -178,33 +168,26 @@ call_text called front rest texts closed same = append_assoc called (40 ∷ []) 
 
 module _ (list : FlatTree) (i : ℕ) (called : List ℕ) (is : IsCallAt list i called) where
   -- its text behind its name and `(`
-  at_tree : (level : Level) (tree : Tree) → level ≤ base_level → StandsThere list i tree
-      → GoesOn list (Close ∷ arguments_of list (i + 1) (stop_at list i)) (called ++ 40 ∷ []) (operand level tree)
-  at_tree level tree within there =
+  at_tree : (tree : Tree) → StandsThere list i tree
+      → GoesOn list (Close ∷ arguments_of list (i + 1) (stop_at list i)) (called ++ 40 ∷ []) (IsCanonicalText tree)
+  at_tree tree there =
       let c = call_there list i called tree is there in
       let has = arguments_there c.all.schema c.all.filtered c.all.scope list (i + 1) (stop_at list i) c.arguments c.all.stand in
-      subst (λ (t : Tree). GoesOn list (Close ∷ arguments_of list (i + 1) (stop_at list i)) (called ++ 40 ∷ []) (operand level t)) (sym c.same)
+      subst (λ (t : Tree). GoesOn list (Close ∷ arguments_of list (i + 1) (stop_at list i)) (called ++ 40 ∷ []) (IsCanonicalText t)) (sym c.same)
       (record {
-        pieces = closing ∷ has.pieces;
-        are = (tt, has.are);
+        pieces = plain (41 ∷ []) ∷ has.pieces;
+        are = (refl, has.are);
         whole = λ rest texts.
             let w = has.whole texts.front texts.is_front in
-            let closed : rest ≡ texts.front ++ 41 ∷ [] = texts.whole ∙ ap (λ (t : List ℕ). texts.front ++ t) texts.is_back in (
-              node c.start c.stop (call called w.0),
-              (call called w.0, (w.0, w.1, refl), refl),
-              call_text called texts.front rest (trees_text w.0) closed w.2
-                  ∙ sym (ungrouped level base_level (called ++ (40 ∷ (trees_text w.0 ++ 41 ∷ []))) (below base_level level within)),
-            );
+            let closed : rest ≡ texts.front ++ 41 ∷ [] = texts.whole ∙ ap (λ (t : List ℕ). texts.front ++ t) texts.is_back in
+            record {
+              normal = node c.start c.stop (call called w.0);
+              is_normal = (call called w.0, (w.0, w.1, refl), refl);
+              printed = call_text called texts.front rest (trees_text w.0) closed w.2;
+            };
       })
 
-  at_piece : (needed : ℕ) (piece : Piece) → IsPieceOf list (Operand i needed) piece → GoesOn list (Close ∷ arguments_of list (i + 1) (stop_at list i)) (called ++ 40 ∷ []) piece
-  at_piece needed (between o) of = absurd of
-  at_piece needed (behind_slash asked) of = absurd of
-  at_piece needed closing of = absurd of
-  at_piece needed (further trees) of = absurd of
-  at_piece needed (operand level tree) of = at_tree level tree of.within of.there
-
-  arguments_light : (tree : Tree) → StandsThere list i tree → weight list (arguments_of list (i + 1) (stop_at list i)) ≤ 3 * (stop_at list i - (i + 1))
+  arguments_light : (tree : Tree) → StandsThere list i tree → weight list (arguments_of list (i + 1) (stop_at list i)) ≤ 4 * (stop_at list i - (i + 1))
   arguments_light tree there =
       let c = call_there list i called tree is there in
       let has = arguments_there c.all.schema c.all.filtered c.all.scope list (i + 1) (stop_at list i) c.arguments c.all.stand in
@@ -216,16 +199,16 @@ module _ (list : FlatTree) (i : ℕ) (called : List ℕ) (is : IsCallAt list i c
       let c = call_there list i called tree is there in
       within_list c.all.schema c.all.filtered c.all.scope list (i + 1) (stop_at list i) c.arguments c.all.stand some
 
-  pub call_written : (needed : ℕ) (before between_texts after : List ℕ) (parts more new : List Part)
+  pub call_written : (before between_texts after : List ℕ) (parts more new : List Part)
       → HasTreeAt list i → between_texts ≡ before ++ called → after ≡ between_texts ++ 40 ∷ [] → more ≡ parts ++ Close ∷ []
-      → new ≡ more ++ arguments_of list (i + 1) (stop_at list i) → WritesPart list (Operand i needed) before after parts new
-  call_written needed before between_texts after parts more new has named opened closed pushed =
-      let light : weight list (arguments_of list (i + 1) (stop_at list i)) ≤ 3 * (stop_at list i - (i + 1)) = arguments_light has.0 has.1 in
+      → new ≡ more ++ arguments_of list (i + 1) (stop_at list i) → WritesNode list i before after parts new
+  call_written before between_texts after parts more new has named opened closed pushed =
+      let light : weight list (arguments_of list (i + 1) (stop_at list i)) ≤ 4 * (stop_at list i - (i + 1)) = arguments_light has.0 has.1 in
       record {
         parts = Close ∷ arguments_of list (i + 1) (stop_at list i);
         pushed = pushed ∙ ap (λ (ps : List Part). ps ++ arguments_of list (i + 1) (stop_at list i)) closed ∙ append_assoc parts (Close ∷ []) (arguments_of list (i + 1) (stop_at list i));
         lighter = omega (arith, light, closing_weight list (arguments_of list (i + 1) (stop_at list i)));
         text = called ++ 40 ∷ [];
         written = opened ∙ ap (λ (t : List ℕ). t ++ 40 ∷ []) named ∙ append_assoc before called (40 ∷ []);
-        goes_on = at_piece needed;
+        goes_on = at_tree;
       }

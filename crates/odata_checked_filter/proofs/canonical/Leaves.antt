@@ -4,8 +4,8 @@ use Rattle.std.proofs.Common.{◌≡◌, ◌∙◌, ℕ, ◌<◌, ◌≤◌, Lis
 use Rattle.std.specs.Prelude.{codes, if◌then◌else◌, is_ok, nat_lt}
 use Rattle.odata_text.specs.LiteralSpelling.{IsLiteralSpelling}
 use Rattle.odata_syntax.specs.Appended.{IsAppended}
-use Rattle.odata_syntax.specs.CanonicalText.{grouped}
-use Rattle.odata_syntax.specs.Grammar.{Level, base_level}
+use Rattle.odata_syntax.specs.CanonicalText.{IsCanonicalText, grouped}
+use Rattle.odata_syntax.specs.Grammar.{Level}
 use Rattle.odata_syntax.specs.NormalForm.{literal_token}
 use Rattle.odata_syntax.specs.Tree.{Shape, Tree, it, literal, name, node}
 use Rattle.odata_syntax.specs.declared.node.LiteralKind.{LiteralKind}
@@ -17,7 +17,7 @@ use Rattle.odata_checked_filter.specs.declared.checked_node.NodeKind.{NodeKind}
 use Rattle.odata_checked_filter.specs.FlatTree.{FlatTree}
 use Rattle.odata_checked_filter.specs.Stands.{Stands}
 use Rattle.odata_expression_types.specs.Typed.{Scope}
-use Rattle.odata_checked_filter.specs.private.CanonicalWalk.{GoesOn, HasTreeAt, IsPieceOf, IsPieceText, IsTextAdded, Piece, StandsThere, WritesPart, behind_slash, between, closing, further, operand, stop_at}
+use Rattle.odata_checked_filter.specs.private.CanonicalWalk.{HasTreeAt, IsPieceOf, IsTextAdded, Piece, StandsThere, WritesNode, further, operand, plain, stop_at}
 use Rattle.odata_checked_filter.proofs.canonical.Kinds.{Matches, shape_there}
 use Rattle.odata_checked_filter.proofs.flat.Places.{found_before}
 
@@ -63,31 +63,31 @@ in_group needed own text tight = rw tight refl
 same_text : (texts : List (List ℕ)) (i : ℕ) (a b : List ℕ) → slice_get texts i ≡ Some a → slice_get texts i ≡ Some b → a ≡ b
 same_text texts i a b first second = cc
 
--- the text of an operand that is a path, which stands without parentheses anywhere
-pub path_text : (level : Level) (text : List ℕ) → level ≤ base_level → text ≡ grouped level 11 text
-path_text level text within = sym (ungrouped level 11 text (below 11 level (let h : level ≤ 9 = within in omega arith)))
-
-literal_there : (list : FlatTree) (i : ℕ) (found : CheckedNode) (kind : LiteralKind) (value : ℕ) (spelling text : List ℕ) (level : Level) (tree : Tree)
+literal_there : (list : FlatTree) (i : ℕ) (found : CheckedNode) (kind : LiteralKind) (value : ℕ) (spelling text : List ℕ) (tree : Tree)
     → slice_get list.nodes i ≡ Some found → found.kind ≡ NodeKind.Literal kind value → slice_get list.texts i ≡ Some spelling
-    → level ≤ base_level → IsLiteralSpelling (literal_token kind) spelling text → StandsThere list i tree
-    → IsPieceText (operand level tree) text
-literal_there list i found kind value spelling text level (node start stop shape) at is beside within spelled there =
+    → IsLiteralSpelling (literal_token kind) spelling text → StandsThere list i tree
+    → IsCanonicalText tree text
+literal_there list i found kind value spelling text (node start stop shape) at is beside spelled there =
     let m = shape_there list i found (NodeKind.Literal kind value) start stop shape at is there in
-    let P : Shape → Type 0 = λ (s : Shape). StandsThere list i (node start stop s) → IsPieceText (operand level (node start stop s)) text in
+    let P : Shape → Type 0 = λ (s : Shape). StandsThere list i (node start stop s) → IsCanonicalText (node start stop s) text in
     let T : List ℕ → Type 0 = λ (t : List ℕ). IsLiteralSpelling (literal_token kind) t text in
     subst P (sym m.1)
     (λ here.
     let same : spelling ≡ m.0 = same_text list.texts i spelling m.0 beside here.stands.top.text_at in
-    (node start stop (literal kind text), (literal kind text, (text, subst T same spelled, refl), refl), sym (ungrouped level base_level text (below base_level level within))))
+    record {
+      normal = node start stop (literal kind text);
+      is_normal = (literal kind text, (text, subst T same spelled, refl), refl);
+      printed = refl;
+    })
     there
 
-it_there : (list : FlatTree) (i : ℕ) (found : CheckedNode) (level : Level) (tree : Tree)
-    → slice_get list.nodes i ≡ Some found → found.kind ≡ NodeKind.It → level ≤ base_level → StandsThere list i tree
-    → IsPieceText (operand level tree) (codes "$it")
-it_there list i found level (node start stop shape) at is within there =
+it_there : (list : FlatTree) (i : ℕ) (found : CheckedNode) (tree : Tree)
+    → slice_get list.nodes i ≡ Some found → found.kind ≡ NodeKind.It → StandsThere list i tree
+    → IsCanonicalText tree (codes "$it")
+it_there list i found (node start stop shape) at is there =
     let m = shape_there list i found NodeKind.It start stop shape at is there in
-    let P : Shape → Type 0 = λ (s : Shape). IsPieceText (operand level (node start stop s)) (codes "$it") in
-    subst P (sym m) (node start stop it, (it, refl, refl), path_text level (codes "$it") within)
+    let P : Shape → Type 0 = λ (s : Shape). IsCanonicalText (node start stop s) (codes "$it") in
+    subst P (sym m) (record { normal = node start stop it; is_normal = (it, refl, refl); printed = refl })
 
 -- a name is that of a property or of a variable
 abbrev pub IsNamed : NodeKind → Type 0
@@ -100,71 +100,61 @@ named_shape (NodeKind.Property slot) shape named is = is
 named_shape (NodeKind.Variable level) shape named is = is
 named_shape _ shape named is = absurd named
 
-name_there : (list : FlatTree) (i : ℕ) (found : CheckedNode) (spelling : List ℕ) (level : Level) (tree : Tree)
+name_there : (list : FlatTree) (i : ℕ) (found : CheckedNode) (spelling : List ℕ) (tree : Tree)
     → slice_get list.nodes i ≡ Some found → IsNamed found.kind → slice_get list.texts i ≡ Some spelling
-    → level ≤ base_level → StandsThere list i tree → IsPieceText (operand level tree) spelling
-name_there list i found spelling level (node start stop shape) at named beside within there =
+    → StandsThere list i tree → IsCanonicalText tree spelling
+name_there list i found spelling (node start stop shape) at named beside there =
     let m = named_shape found.kind shape named (shape_there list i found found.kind start stop shape at refl there) in
-    let P : Shape → Type 0 = λ (s : Shape). StandsThere list i (node start stop s) → IsPieceText (operand level (node start stop s)) spelling in
+    let P : Shape → Type 0 = λ (s : Shape). StandsThere list i (node start stop s) → IsCanonicalText (node start stop s) spelling in
     subst P (sym m.1)
-    (λ here.
-    let same : spelling ≡ m.0 = same_text list.texts i spelling m.0 beside here.stands.top.text_at in
-    (node start stop (name m.0), (name m.0, refl, refl), same ∙ path_text level m.0 within))
+    (λ here. record {
+      normal = node start stop (name m.0);
+      is_normal = (name m.0, refl, refl);
+      printed = same_text list.texts i spelling m.0 beside here.stands.top.text_at;
+    })
     there
 
--- the text of an operand was written, and nothing of it waits
-whole_operand : (list : FlatTree) (i needed : ℕ) (text : List ℕ) (piece : Piece)
-    → ((level : Level) (tree : Tree) → level ≤ base_level → StandsThere list i tree → IsPieceText (operand level tree) text)
-    → IsPieceOf list (Operand i needed) piece → GoesOn list [] text piece
-whole_operand list i needed text (between operator) written is = absurd is
-whole_operand list i needed text closing written is = absurd is
-whole_operand list i needed text (further trees) written is = absurd is
-whole_operand list i needed text (behind_slash asked) written is = absurd is
-whole_operand list i needed text (operand level tree) written is = record {
-  pieces = [];
-  are = tt;
-  whole = λ rest none. subst (IsPieceText (operand level tree)) (sym (ap (λ (t : List ℕ). text ++ t) none ∙ append-nil text)) (written level tree is.within is.there);
-}
-
-whole_written : (list : FlatTree) (i needed : ℕ) (text before after : List ℕ) (parts : List Part)
-    → HasTreeAt list i → after ≡ before ++ text
-    → ((level : Level) (tree : Tree) → level ≤ base_level → StandsThere list i tree → IsPieceText (operand level tree) text)
-    → WritesPart list (Operand i needed) before after parts parts
-whole_written list i needed text before after parts has written is = record {
+-- the text of a node was written, and nothing of it waits
+whole_written : (list : FlatTree) (i : ℕ) (text before after : List ℕ) (parts : List Part)
+    → after ≡ before ++ text
+    → ((tree : Tree) → StandsThere list i tree → IsCanonicalText tree text)
+    → WritesNode list i before after parts parts
+whole_written list i text before after parts written is = record {
   parts = [];
   pushed = sym (append-nil parts);
   lighter = omega arith;
   text = text;
   written = written;
-  goes_on = λ piece of. whole_operand list i needed text piece is of;
+  goes_on = λ tree there. record {
+    pieces = [];
+    are = tt;
+    whole = λ rest none. subst (IsCanonicalText tree) (sym (ap (λ (t : List ℕ). text ++ t) none ∙ append-nil text)) (is tree there);
+  };
 }
 
-pub literal_written : (list : FlatTree) (i needed : ℕ) (found : CheckedNode) (kind : LiteralKind) (value : ℕ) (spelling before after : List ℕ) (parts : List Part)
-    → HasTreeAt list i → slice_get list.nodes i ≡ Some found → found.kind ≡ NodeKind.Literal kind value → slice_get list.texts i ≡ Some spelling
+pub literal_written : (list : FlatTree) (i : ℕ) (found : CheckedNode) (kind : LiteralKind) (value : ℕ) (spelling before after : List ℕ) (parts : List Part)
+    → slice_get list.nodes i ≡ Some found → found.kind ≡ NodeKind.Literal kind value → slice_get list.texts i ≡ Some spelling
     → IsAppended (IsLiteralSpelling (literal_token kind) spelling) before after
-    → WritesPart list (Operand i needed) before after parts parts
-literal_written list i needed found kind value spelling before after parts has at is beside added =
-    whole_written list i needed added.text before after parts has added.whole
-    (λ level tree within there. literal_there list i found kind value spelling added.text level tree at is beside within added.is_text there)
+    → WritesNode list i before after parts parts
+literal_written list i found kind value spelling before after parts at is beside added =
+    whole_written list i added.text before after parts added.whole
+    (λ tree there. literal_there list i found kind value spelling added.text tree at is beside added.is_text there)
 
-pub it_written : (list : FlatTree) (i needed : ℕ) (found : CheckedNode) (before after : List ℕ) (parts : List Part)
-    → HasTreeAt list i → slice_get list.nodes i ≡ Some found → found.kind ≡ NodeKind.It → after ≡ before ++ codes "$it"
-    → WritesPart list (Operand i needed) before after parts parts
-it_written list i needed found before after parts has at is added =
-    whole_written list i needed (codes "$it") before after parts has added
-    (λ level tree within there. it_there list i found level tree at is within there)
+pub it_written : (list : FlatTree) (i : ℕ) (found : CheckedNode) (before after : List ℕ) (parts : List Part)
+    → slice_get list.nodes i ≡ Some found → found.kind ≡ NodeKind.It → after ≡ before ++ codes "$it"
+    → WritesNode list i before after parts parts
+it_written list i found before after parts at is added =
+    whole_written list i (codes "$it") before after parts added (λ tree there. it_there list i found tree at is there)
 
-pub name_written : (list : FlatTree) (i needed : ℕ) (found : CheckedNode) (before after : List ℕ) (parts : List Part)
-    → HasTreeAt list i → slice_get list.nodes i ≡ Some found → IsNamed found.kind → IsTextAdded list i before after
-    → WritesPart list (Operand i needed) before after parts parts
-name_written list i needed found before after parts has at named text =
-    whole_written list i needed text.spelling before after parts has text.added
-    (λ level tree within there. name_there list i found text.spelling level tree at named text.beside within there)
+pub name_written : (list : FlatTree) (i : ℕ) (found : CheckedNode) (before after : List ℕ) (parts : List Part)
+    → slice_get list.nodes i ≡ Some found → IsNamed found.kind → IsTextAdded list i before after
+    → WritesNode list i before after parts parts
+name_written list i found before after parts at named text =
+    whole_written list i text.spelling before after parts text.added
+    (λ tree there. name_there list i found text.spelling tree at named text.beside there)
 
 -- an operand's tree stands there
 pub operand_there : (list : FlatTree) (i needed : ℕ) (piece : Piece) → IsPieceOf list (Operand i needed) piece → HasTreeAt list i
-operand_there list i needed (between operator) is = absurd is
-operand_there list i needed closing is = absurd is
+operand_there list i needed (plain text) is = absurd is
 operand_there list i needed (further trees) is = absurd is
-operand_there list i needed (behind_slash asked) is = absurd is
 operand_there list i needed (operand level tree) is = (tree, is.there)

@@ -4,14 +4,15 @@ use Rattle.std.specs.Prelude.{MatchOption}
 use Rattle.std.specs.Option.{option_to_list}
 use Rattle.std.proofs.lemmas.List.Sums.{sum_by-append}
 use Rattle.odata_syntax.specs.CanonicalText.{IsCanonicalText, tree_level, tree_text}
-use Rattle.odata_syntax.specs.Lexeme.{operator_word}
 use Rattle.odata_syntax.specs.Tree.{Tree}
-use Rattle.odata_syntax.specs.declared.node.BinaryOperator.{BinaryOperator}
 use Rattle.odata_checked_filter.specs.declared.canonical_text.Part.{Part}
-use Rattle.odata_checked_filter.specs.declared.canonical_text.Part.TheVariants.{Close, Operand, Operator, Step}
+use Rattle.odata_checked_filter.specs.declared.canonical_text.Part.TheVariants.{Close, Joint, Operand}
+use Rattle.odata_checked_filter.specs.declared.checked_node.CheckedNode.{CheckedNode}
 use Rattle.odata_checked_filter.specs.FlatTree.{FlatTree}
-use Rattle.odata_checked_filter.specs.private.CanonicalWalk.{ArePieceTexts, ArePiecesOf, GoesOn, IsBehind, IsPending, IsPieceOf, IsPieceText, IsStepAdded, Piece, StandsThere, WritesPart, behind_slash, between, closing, further, operand, part_weight, weight}
+use Rattle.odata_checked_filter.specs.private.CanonicalWalk.{ArePieceTexts, ArePiecesOf, IsBehind, IsJointAt, IsPending, IsPieceOf, IsPieceText, Piece, StandsThere, WritesPart, further, operand, part_weight, plain, weight}
+use Rattle.odata_checked_filter.specs.private.KindTexts.{joint_text}
 use Rattle.odata_checked_filter.proofs.canonical.Leaves.{below, ungrouped}
+use Rattle.odata_checked_filter.proofs.flat.Places.{found_before, same_found}
 
 -- ---- pieces of two lists of parts
 
@@ -35,7 +36,7 @@ parted list (x ∷ xs) ys (piece ∷ pieces) are =
       whole = ap (λ (ps : List Piece). piece ∷ ps) rest.whole;
     }
 
-joined : (list : FlatTree) (xs ys : List Part) (ps qs : List Piece) → ArePiecesOf list xs ps → ArePiecesOf list ys qs → ArePiecesOf list (xs ++ ys) (ps ++ qs)
+pub joined : (list : FlatTree) (xs ys : List Part) (ps qs : List Piece) → ArePiecesOf list xs ps → ArePiecesOf list ys qs → ArePiecesOf list (xs ++ ys) (ps ++ qs)
 joined list [] ys [] qs first second = second
 joined list [] ys (p ∷ ps) qs first second = absurd first
 joined list (x ∷ xs) ys [] qs first second = absurd first
@@ -54,7 +55,7 @@ one_piece list part (p ∷ q ∷ ps) are = absurd are.1
 
 -- ---- their texts
 
-split_texts : (ps qs : List Piece) (text : List ℕ) → ArePieceTexts (ps ++ qs) text → IsBehind (ArePieceTexts qs) (ArePieceTexts ps) text
+pub split_texts : (ps qs : List Piece) (text : List ℕ) → ArePieceTexts (ps ++ qs) text → IsBehind (ArePieceTexts qs) (ArePieceTexts ps) text
 split_texts [] qs text are = record { front = text; back = []; is_front = are; is_back = refl; whole = sym (append-nil text) }
 split_texts (p ∷ ps) qs text are =
     let inner = split_texts ps qs are.front are.is_front in
@@ -128,7 +129,7 @@ lighter_now list text after parts new part writes =
 pub at_start : (list : FlatTree) (tree : Tree) → StandsThere list 0 tree → IsPending list tree [] (Operand 0 0 ∷ [])
 at_start list tree there = record {
   pieces = operand 0 tree ∷ [];
-  are = (record { same = refl; within = omega arith; there = there }, tt);
+  are = (record { same = refl; there = there }, tt);
   whole = λ rest texts.
       let o = texts.is_back in
       record {
@@ -147,84 +148,58 @@ end_with list tree text (p ∷ ps) are whole = absurd are
 pub at_end : (list : FlatTree) (tree : Tree) (text : List ℕ) → IsPending list tree text [] → IsCanonicalText tree text
 at_end list tree text pending = end_with list tree text pending.pieces pending.are pending.whole
 
--- ---- words
+-- ---- texts as they are
 
--- a part that was written whole
-word_goes : (list : FlatTree) (text : List ℕ) (piece : Piece) → IsPieceText piece text → GoesOn list [] text piece
-word_goes list text piece is = record {
-  pieces = [];
-  are = tt;
-  whole = λ rest none. subst (IsPieceText piece) (sym (ap (λ (t : List ℕ). text ++ t) none ∙ append-nil text)) is;
-}
-
-operator_goes : (list : FlatTree) (operator : BinaryOperator) (piece : Piece) → IsPieceOf list (Operator operator) piece
-    → GoesOn list [] (32 ∷ (operator_word operator ++ 32 ∷ [])) piece
-operator_goes list operator (between other) is =
-    word_goes list (32 ∷ (operator_word operator ++ 32 ∷ [])) (between other) (ap (λ (o : BinaryOperator). 32 ∷ (operator_word o ++ 32 ∷ [])) is)
-operator_goes list operator (behind_slash asked) is = absurd is
-operator_goes list operator closing is = absurd is
-operator_goes list operator (further trees) is = absurd is
-operator_goes list operator (operand level tree) is = absurd is
-
-close_goes : (list : FlatTree) (piece : Piece) → IsPieceOf list Close piece → GoesOn list [] (41 ∷ []) piece
-close_goes list closing is = word_goes list (41 ∷ []) closing refl
-close_goes list (between other) is = absurd is
-close_goes list (behind_slash asked) is = absurd is
-close_goes list (further trees) is = absurd is
-close_goes list (operand level tree) is = absurd is
-
-same_name : (texts : List (List ℕ)) (i : ℕ) (a b : List ℕ) → slice_get texts i ≡ Some a → slice_get texts i ≡ Some b → a ≡ b
-same_name texts i a b first second = cc
-
-step_goes : (list : FlatTree) (i : ℕ) (asked : List ℕ) → slice_get list.texts i ≡ Some asked
-    → (piece : Piece) → IsPieceOf list (Step i) piece → GoesOn list [] (47 ∷ asked) piece
-step_goes list i asked beside (behind_slash other) is =
-    word_goes list (47 ∷ asked) (behind_slash other) (ap (λ (t : List ℕ). 47 ∷ t) (same_name list.texts i asked other beside is.beside))
-step_goes list i asked beside (between other) is = absurd is
-step_goes list i asked beside closing is = absurd is
-step_goes list i asked beside (further trees) is = absurd is
-step_goes list i asked beside (operand level tree) is = absurd is
-
--- the node of a step is there
-pub step_there : (list : FlatTree) (i : ℕ) (piece : Piece) → IsPieceOf list (Step i) piece → i < length list.nodes
-step_there list i (behind_slash asked) is = is.within
-step_there list i (between other) is = absurd is
-step_there list i closing is = absurd is
-step_there list i (further trees) is = absurd is
-step_there list i (operand level tree) is = absurd is
-
-pub operator_part : (list : FlatTree) (operator : BinaryOperator) (before after : List ℕ) (parts : List Part)
-    → after ≡ before ++ (32 ∷ (operator_word operator ++ 32 ∷ [])) → WritesPart list (Operator operator) before after parts parts
-operator_part list operator before after parts written = record {
+-- a part was written whole
+plain_part : (list : FlatTree) (part : Part) (text before after : List ℕ) (parts : List Part)
+    → 0 < part_weight list part → after ≡ before ++ text → ((piece : Piece) → IsPieceOf list part piece → IsPieceText piece text)
+    → WritesPart list part before after parts parts
+plain_part list part text before after parts heavy written is = record {
   parts = [];
   pushed = sym (append-nil parts);
-  lighter = omega arith;
-  text = 32 ∷ (operator_word operator ++ 32 ∷ []);
+  lighter = heavy;
+  text = text;
   written = written;
-  goes_on = operator_goes list operator;
+  goes_on = λ piece of. record {
+    pieces = [];
+    are = tt;
+    whole = λ rest none. subst (IsPieceText piece) (sym (ap (λ (t : List ℕ). text ++ t) none ∙ append-nil text)) (is piece of);
+  };
 }
 
-pub step_part : (list : FlatTree) (i : ℕ) (before after : List ℕ) (parts : List Part)
-    → IsStepAdded list i before after → WritesPart list (Step i) before after parts parts
-step_part list i before after parts step_added = record {
-  parts = [];
-  pushed = sym (append-nil parts);
-  lighter = omega arith;
-  text = 47 ∷ step_added.asked;
-  written = step_added.added;
-  goes_on = step_goes list i step_added.asked step_added.beside;
-}
+close_text : (list : FlatTree) (piece : Piece) → IsPieceOf list Close piece → IsPieceText piece (41 ∷ [])
+close_text list (plain text) is = sym is
+close_text list (further trees) is = absurd is
+close_text list (operand level tree) is = absurd is
 
 pub close_part : (list : FlatTree) (before after : List ℕ) (parts : List Part)
     → after ≡ before ++ 41 ∷ [] → WritesPart list Close before after parts parts
-close_part list before after parts written = record {
-  parts = [];
-  pushed = sym (append-nil parts);
-  lighter = omega arith;
-  text = 41 ∷ [];
-  written = written;
-  goes_on = close_goes list;
-}
+close_part list before after parts written = plain_part list Close (41 ∷ []) before after parts (omega arith) written (close_text list)
+
+-- the node of a joint is there
+pub joint_there : (list : FlatTree) (i : ℕ) (piece : Piece) → IsPieceOf list (Joint i) piece → i < length list.nodes
+joint_there list i (plain text) is = found_before list.nodes i is.found is.at
+joint_there list i (further trees) is = absurd is
+joint_there list i (operand level tree) is = absurd is
+
+joint_same : (list : FlatTree) (i : ℕ) (found : CheckedNode) (beside text : List ℕ) → slice_get list.nodes i ≡ Some found → slice_get list.texts i ≡ Some beside
+    → IsJointAt list i text → joint_text found.kind beside ≡ text
+joint_same list i found beside text at text_at is =
+    let same : is.found ≡ found = same_found (slice_get list.nodes i) is.found found is.at at in
+    let spelled : is.beside ≡ beside = same_found (slice_get list.texts i) is.beside beside is.text_at text_at in
+    sym (is.is ∙ ap (λ (f : CheckedNode). joint_text f.kind is.beside) same ∙ ap (λ (b : List ℕ). joint_text found.kind b) spelled)
+
+joint_is : (list : FlatTree) (i : ℕ) (found : CheckedNode) (beside : List ℕ) → slice_get list.nodes i ≡ Some found → slice_get list.texts i ≡ Some beside
+    → (piece : Piece) → IsPieceOf list (Joint i) piece → IsPieceText piece (joint_text found.kind beside)
+joint_is list i found beside at text_at (plain text) is = joint_same list i found beside text at text_at is
+joint_is list i found beside at text_at (further trees) is = absurd is
+joint_is list i found beside at text_at (operand level tree) is = absurd is
+
+pub joint_part : (list : FlatTree) (i : ℕ) (found : CheckedNode) (beside before after : List ℕ) (parts : List Part)
+    → slice_get list.nodes i ≡ Some found → slice_get list.texts i ≡ Some beside → after ≡ before ++ joint_text found.kind beside
+    → WritesPart list (Joint i) before after parts parts
+joint_part list i found beside before after parts at text_at written =
+    plain_part list (Joint i) (joint_text found.kind beside) before after parts (omega arith) written (joint_is list i found beside at text_at)
 
 -- ---- what the stack holds
 

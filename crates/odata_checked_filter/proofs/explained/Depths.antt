@@ -1,9 +1,9 @@
 -- A node lies as deep as many nodes before it stop behind it.
-use Rattle.std.proofs.Common.{◌≡◌, refl, sym, ap, ◌∙◌, ℕ, ◌<◌, ◌≤◌, ◌+◌, List, [], ◌∷◌, ◌++◌, Some, true, false, append-nil, append_assoc, drop, length, length-append, nat_lt, slice_get, arith}
-use Rattle.std.specs.List.{AllByRecursion, filter}
+use Rattle.std.proofs.Common.{◌≡◌, refl, sym, ap, ◌∙◌, ℕ, ◌<◌, ◌≤◌, ◌+◌, List, [], ◌∷◌, ◌++◌, true, false, append-nil, append_assoc, drop, length, length-append, nat_lt, arith}
+use Rattle.std.specs.List.{AllByRecursion}
 use Rattle.std.proofs.lemmas.Bool.Decides.{nat_tests}
 use Rattle.std.proofs.lemmas.List.Elements.{filter-append}
-use Rattle.odata_syntax.specs.Tree.{Tree, Trees, node, Shape, literal, it, name, member, negation, logical_not, binary, call, no_trees, more_trees}
+use Rattle.odata_syntax.specs.Tree.{Tree, Trees, node, Shape, literal, it, name, member, count, negation, logical_not, binary, has, in_list, in_path, call, any_item, no_trees, more_trees}
 use Rattle.csdl_schema.specs.SchemaModel.{SchemaModel}
 use Rattle.odata_checked_filter.specs.declared.checked_node.CheckedNode.{CheckedNode}
 use Rattle.odata_checked_filter.specs.Depths.{depths, depths_among, depths_below}
@@ -88,6 +88,15 @@ closed list i j stops below first rest =
     ∙ ap (λ (xs : List ℕ). length stops ∷ xs)
     (rest ∙ ap (λ (xs : List ℕ). below ++ xs) (told_alike j (drop j list.nodes) (stops ++ j ∷ []) stops (passed j stops)))
 
+-- what is told of two parts, one behind the other
+both_told :
+    (list : FlatTree) (i m j : ℕ) (stops first second : List ℕ)
+    → told_depths i (drop i list.nodes) stops ≡ first ++ told_depths m (drop m list.nodes) stops
+    → told_depths m (drop m list.nodes) stops ≡ second ++ told_depths j (drop j list.nodes) stops
+    → told_depths i (drop i list.nodes) stops ≡ (first ++ second) ++ told_depths j (drop j list.nodes) stops
+both_told list i m j stops first second here behind =
+    here ∙ ap (λ (xs : List ℕ). first ++ xs) behind ∙ sym (append_assoc first second (told_depths j (drop j list.nodes) stops))
+
 -- the nodes of a tree are told its depths, and then those behind it
 mutual
   pub tree_told :
@@ -111,6 +120,10 @@ mutual
   below_told schema n scope list i j (name asked) stops around deep stand all = ap (λ (k : ℕ). told_depths k (drop k list.nodes) stops) stand
   below_told schema n scope list i j (member base asked) stops around deep stand all =
       rw (← deep) (tree_told schema n scope list i j base stops stand all)
+  below_told schema n scope list i j (count base) stops around deep stand all =
+      rw (← deep) (tree_told schema n scope list i j base stops stand all)
+  below_told schema n scope list i j (any_item base) stops around deep stand all =
+      rw (← deep) (tree_told schema n scope list i j base stops stand all)
   below_told schema n scope list i j (negation operand) stops around deep stand all =
       rw (← deep) (tree_told schema n scope list i j operand stops stand all)
   below_told schema n scope list i j (logical_not operand) stops around deep stand all =
@@ -118,12 +131,31 @@ mutual
   below_told schema n scope list i j (binary operator left right) stops around deep stand all =
       let m = stand.middle in
       let last : m < j = stands_nonempty schema n scope list m j right stand.right in
-      let first = tree_told schema n scope list i m left stops stand.left (earlier_too m j stops (omega arith) all) in
-      let second = tree_told schema n scope list m j right stops stand.right all in
       rw (← deep)
-      (first
-      ∙ ap (λ (xs : List ℕ). depths (length stops) left ++ xs) second
-      ∙ sym (append_assoc (depths (length stops) left) (depths (length stops) right) (told_depths j (drop j list.nodes) stops)))
+      (both_told list i m j stops (depths (length stops) left) (depths (length stops) right)
+      (tree_told schema n scope list i m left stops stand.left (earlier_too m j stops (omega arith) all))
+      (tree_told schema n scope list m j right stops stand.right all))
+  below_told schema n scope list i j (has left right) stops around deep stand all =
+      let m = stand.middle in
+      let last : m < j = stands_nonempty schema n scope list m j right stand.right in
+      rw (← deep)
+      (both_told list i m j stops (depths (length stops) left) (depths (length stops) right)
+      (tree_told schema n scope list i m left stops stand.left (earlier_too m j stops (omega arith) all))
+      (tree_told schema n scope list m j right stops stand.right all))
+  below_told schema n scope list i j (in_list left items) stops around deep stand all =
+      let m = stand.middle in
+      let last : m ≤ j = stand_onward schema n scope list m j items stand.right in
+      rw (← deep)
+      (both_told list i m j stops (depths (length stops) left) (depths_among (length stops) items)
+      (tree_told schema n scope list i m left stops stand.left (earlier_too m j stops last all))
+      (among_told schema n scope list m j items stops stand.right all))
+  below_told schema n scope list i j (in_path left path) stops around deep stand all =
+      let m = stand.middle in
+      let last : m < j = stands_nonempty schema n scope list m j path stand.right in
+      rw (← deep)
+      (both_told list i m j stops (depths (length stops) left) (depths (length stops) path)
+      (tree_told schema n scope list i m left stops stand.left (earlier_too m j stops (omega arith) all))
+      (tree_told schema n scope list m j path stops stand.right all))
   below_told schema n scope list i j (call asked arguments) stops around deep stand all =
       rw (← deep) (among_told schema n scope list i j arguments stops stand all)
   below_told schema n scope list i j _ stops around deep stand all = absurd stand
@@ -137,8 +169,6 @@ mutual
   among_told schema n scope list i j (more_trees tree trees) stops stand all =
       let m = stand.middle in
       let last : m ≤ j = stand_onward schema n scope list m j trees stand.right in
-      let first = tree_told schema n scope list i m tree stops stand.left (earlier_too m j stops last all) in
-      let second = among_told schema n scope list m j trees stops stand.right all in
-      first
-      ∙ ap (λ (xs : List ℕ). depths (length stops) tree ++ xs) second
-      ∙ sym (append_assoc (depths (length stops) tree) (depths_among (length stops) trees) (told_depths j (drop j list.nodes) stops))
+      both_told list i m j stops (depths (length stops) tree) (depths_among (length stops) trees)
+      (tree_told schema n scope list i m tree stops stand.left (earlier_too m j stops last all))
+      (among_told schema n scope list m j trees stops stand.right all)

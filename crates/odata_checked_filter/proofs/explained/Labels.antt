@@ -1,6 +1,6 @@
 -- What a node of the list is called, as the tree's.
-use Rattle.std.proofs.Common.{◌≡◌, refl, sym, ap, ◌∙◌, ℕ, List, Option, None, Some}
-use Rattle.odata_syntax.specs.Tree.{Shape, Tree, literal, it, name, member, negation, logical_not, binary, call}
+use Rattle.std.proofs.Common.{◌≡◌, refl, sym, ap, ℕ, List, Option}
+use Rattle.odata_syntax.specs.Tree.{Shape, literal, it, name, member, count, negation, logical_not, binary, has, in_list, in_path, call, any_item}
 use Rattle.csdl_schema.specs.SchemaModel.{Slots}
 use Rattle.odata_checked_filter.specs.declared.checked_node.NodeKind.{NodeKind}
 use Rattle.odata_checked_filter.specs.Explanation.{name_label, node_label}
@@ -21,9 +21,14 @@ label_told list slots root scope (name asked) (NodeKind.Property slot) is = sym 
 label_told list slots root scope (name asked) _ is = absurd is
 label_told list slots root scope (member base asked) (NodeKind.Member slot) is = refl
 label_told list slots root scope (member base asked) _ is = absurd is
+label_told list slots root scope (count base) kind is = rw is refl
 label_told list slots root scope (negation operand) kind is = rw is refl
 label_told list slots root scope (logical_not operand) kind is = rw is refl
 label_told list slots root scope (binary operator left right) kind is = rw is refl
+label_told list slots root scope (has left right) kind is = rw is refl
+label_told list slots root scope (in_list left items) kind is = rw is refl
+label_told list slots root scope (in_path left path) kind is = rw is refl
+label_told list slots root scope (any_item base) kind is = rw is refl
 label_told list slots root scope (call asked arguments) (NodeKind.Call function) is = is.0
 label_told list slots root scope (call asked arguments) NodeKind.Now is = is
 label_told list slots root scope (call asked arguments) _ is = absurd is

@@ -1,21 +1,18 @@
 -- The lines of the nodes up to a place.
-use Rattle.std.proofs.Common.{◌≡◌, refl, sym, ap, ◌∙◌, subst, inl, inr, ℕ, zero, suc, ◌<◌, ◌*◌, ◌+◌, List, [], ◌∷◌, ◌++◌, Some, append-nil, append_assoc, drop, length, length-append, slice_get, arith}
+use Rattle.std.proofs.Common.{◌≡◌, refl, sym, ap, ◌∙◌, subst, inl, inr, ℕ, zero, suc, ◌*◌, ◌+◌, List, [], ◌∷◌, ◌++◌, Some, append-nil, append_assoc, drop, length, length-append, slice_get, arith}
 use Rattle.std.specs.Prelude.{codes, replicate}
 use Rattle.std.specs.List.{flat_map}
 use Rattle.std.proofs.lemmas.List.{drop_all, flat_map_more, replicate-append-replicate}
 use Rattle.std.proofs.lemmas.Option.{none-some}
 use Rattle.odata_syntax.specs.Tree.{Tree, node, shape_of}
-use Rattle.odata_text.specs.declared.span.Span.{Span}
 use Rattle.csdl_schema.specs.SchemaModel.{SchemaModel, slots_of, type_name_at}
 use Rattle.odata_checked_filter.specs.declared.checked_node.CheckedNode.{CheckedNode}
 use Rattle.odata_checked_filter.specs.Depths.{depths}
-use Rattle.odata_checked_filter.specs.Explanation.{IsExplanation, IsNodeLine, node_label, node_line, span_text}
+use Rattle.odata_checked_filter.specs.Explanation.{IsExplanation, IsNodeLine, node_label, node_line}
 use Rattle.odata_checked_filter.specs.Filter.{Filter, IsFilter, tree_of_filter}
-use Rattle.odata_checked_filter.specs.FlatTree.{FlatTree}
 use Rattle.odata_expression_types.specs.PreOrder.{span_of_tree}
-use Rattle.odata_checked_filter.specs.ScopedNodes.{ScopedNode}
-use Rattle.odata_checked_filter.specs.Stands.{Stands, text_of_shape}
-use Rattle.odata_checked_filter.specs.TypeText.{type_text}
+use Rattle.odata_checked_filter.specs.Stands.{Stands, text_of_shape, variable_names}
+use Rattle.odata_expression_types.specs.Typed.{Scope}
 use Rattle.odata_checked_filter.specs.private.ExplanationWalk.{IsLinePut, kind_label, listed_line, still_around}
 use Rattle.odata_checked_filter.proofs.flat.Numbered.{IsNumbered, count_of, numbered, type_at}
 use Rattle.odata_checked_filter.proofs.flat.Places.{drop_at, get_front, get_last, get_parts, same_found}
@@ -51,29 +48,25 @@ begun filter text is empty =
 
 -- what a node of the list is called
 called :
-    (filter : Filter) (k j : ℕ) (tree : Tree) (found : CheckedNode) (beside : List ℕ)
-    → Stands filter.schema filter.filtered [] filter.list k j tree
+    (filter : Filter) (scope : Scope) (k j : ℕ) (tree : Tree) (found : CheckedNode) (beside : List ℕ)
+    → Stands filter.schema filter.filtered scope filter.list k j tree
     → slice_get filter.list.nodes k ≡ Some found
     → slice_get filter.list.texts k ≡ Some beside
-    → kind_label found.kind beside ≡ node_label [] (shape_of tree)
-called filter k j (node start stop shape) found beside stands here text =
+    → kind_label found.kind beside ≡ node_label (variable_names scope) (shape_of tree)
+called filter scope k j (node start stop shape) found beside stands here text =
     let top = stands.top in
     let same : top.found ≡ found = same_found (slice_get filter.list.nodes k) top.found found top.stands_at here in
     let spelled : text_of_shape shape ≡ beside = same_found (slice_get filter.list.texts k) (text_of_shape shape) beside top.text_at text in
     sym (ap (λ (f : CheckedNode). kind_label f.kind (text_of_shape shape)) same ∙ ap (kind_label found.kind) spelled)
-    ∙ label_told filter.list (slots_of filter.schema) (type_name_at filter.schema filter.filtered) [] shape top.found.kind top.kind
+    ∙ label_told filter.list (slots_of filter.schema) (type_name_at filter.schema filter.filtered) scope shape top.found.kind top.kind
 
 -- its line
 line_same :
-    (schema : SchemaModel) (depth : ℕ) (found : CheckedNode) (beside : List ℕ) (at : ScopedNode) (variables : List (List ℕ))
-    → found.span ≡ span_of_tree at.part
-    → at.variables ≡ variables
-    → kind_label found.kind beside ≡ node_label variables (shape_of at.part)
-    → listed_line schema depth found beside ≡ node_line schema depth at found.edm_type
-line_same schema depth found beside at variables span none label =
-    let label' : kind_label found.kind beside ≡ node_label at.variables (shape_of at.part) =
-    label ∙ ap (λ (v : List (List ℕ)). node_label v (shape_of at.part)) (sym none) in
-    rw (span, label') refl
+    (schema : SchemaModel) (depth : ℕ) (found : CheckedNode) (beside : List ℕ) (part : Tree) (variables : List (List ℕ))
+    → found.span ≡ span_of_tree part
+    → kind_label found.kind beside ≡ node_label variables (shape_of part)
+    → listed_line schema depth found beside ≡ node_line schema depth (record { variables = variables; part = part }) found.edm_type
+line_same schema depth found beside part variables span label = rw (span, label) refl
 
 -- the last line is that of the place
 each_more :
@@ -111,7 +104,7 @@ one_told filter place stops stops' text text' is told put =
     let n : IsNumbered filter place found = numbered filter place found is put.at in
     let line = listed_line filter.schema (length around) found put.beside in
     let lined : List ℕ → List ℕ = λ (l : List ℕ). l ++ 10 ∷ [] in
-    let label = called filter place n.stop n.at.part found put.beside n.stands put.at put.text_at in
+    let label = called filter n.scope place n.stop n.part found put.beside n.stands put.at put.text_at in
     let rest = told_depths (place + 1) (drop (place + 1) nodes) (around ++ found.stop ∷ []) in
     let deep : depths 0 tree ≡ (told.done ++ length around ∷ []) ++ rest =
     told.deep
@@ -121,13 +114,13 @@ one_told filter place stops stops' text text' is told put =
     ap (λ (xs : List ℕ). slice_get xs place) deep
     ∙ get_front (told.done ++ length around ∷ []) rest place (length around) (get_last told.done place (length around) (sym told.of_each)) in
     let node : IsNodeLine filter place line = record {
-      at = n.at;
+      at = record { variables = variable_names n.scope; part = n.part };
       depth = length around;
       type_of = found.edm_type;
       numbered = n.scoped;
       deep = here;
       typed = type_at filter place found n;
-      spelled = line_same filter.schema (length around) found put.beside n.at [] n.says.span n.variables label;
+      spelled = line_same filter.schema (length around) found put.beside n.part (variable_names n.scope) n.says.span label;
     } in
     record {
       lines = told.lines ++ line ∷ [];

@@ -1,16 +1,13 @@
 -- What is put behind a list, or in its place before its children, stands there for its tree.
-use Rattle.std.proofs.Common.{◌≡◌, ◌≢◌, refl, sym, ap, ◌∙◌, subst, ℕ, ◌<◌, ◌≤◌, ◌+◌, List, [], ◌∷◌, ◌++◌, Some, slice_get, length, length-append, length-set, arith}
+use Rattle.std.proofs.Common.{◌≡◌, ◌≢◌, refl, sym, ◌∙◌, subst, ℕ, ◌<◌, ◌+◌, List, [], ◌∷◌, Some, slice_get, length, length-append, length-set, arith}
 use Rattle.std.proofs.lemmas.Option.{slice_get_within}
 use Rattle.edm_values.specs.declared.value.Value.{Value}
-use Rattle.odata_syntax.specs.Tree.{Shape, Tree, node}
-use Rattle.csdl_schema.specs.SchemaModel.{SchemaModel, slots_of, type_name_at}
-use Rattle.odata_signatures.specs.TypeView.{expr_type}
-use Rattle.odata_expression_types.specs.Typed.{Scope, Typed}
+use Rattle.odata_syntax.specs.Tree.{node}
 use Rattle.odata_checked_filter.specs.declared.checked_node.CheckedNode.{CheckedNode}
 use Rattle.odata_checked_filter.specs.FlatTree.{FlatTree}
 use Rattle.odata_checked_filter.specs.Laws.{ClosedStands, KeptStands, PushedStands}
-use Rattle.odata_checked_filter.specs.ListGrowth.{IsGrownBy, IsKept, IsOpened, node_put, with_node}
-use Rattle.odata_checked_filter.specs.Stands.{ChildrenStand, IsKindOf, Stands, text_of_shape}
+use Rattle.odata_checked_filter.specs.ListGrowth.{IsKept, IsOpened, node_put, with_node}
+use Rattle.odata_checked_filter.specs.Stands.{ChildrenStand, Stands, text_of_shape}
 use Rattle.odata_checked_filter.proofs.flat.Places.{get_beside, get_front, get_last, get_put}
 use Rattle.odata_checked_filter.proofs.flat.Standing.{IsKeptFrom, all_kept, children_kept, stands_kept}
 

@@ -1,11 +1,10 @@
 -- The node of a number, in the list and in the tree.
-use Rattle.std.proofs.Common.{◌≡◌, refl, sym, ap, ◌∙◌, subst, inl, inr, ℕ, ◌<◌, ◌≤◌, ◌+◌, List, [], ◌∷◌, Some, None, Option, slice_get, length, arith}
+use Rattle.std.proofs.Common.{◌≡◌, refl, sym, ap, ◌∙◌, subst, inl, inr, ℕ, ◌<◌, ◌≤◌, ◌+◌, List, [], Some, None, Option, slice_get, length, arith}
 use Rattle.std.specs.Option.{option_map}
 use Rattle.std.proofs.lemmas.Option.{none-some, slice_get-map, slice_get_cases, slice_get_past, slice_get_within}
-use Rattle.odata_syntax.specs.Tree.{Shape, Tree, node, literal, it, name, member, negation, logical_not, binary, call}
+use Rattle.odata_syntax.specs.Tree.{Shape, Tree, node, literal, it, name, member, count, negation, logical_not, binary, has, in_list, in_path, call, any_item}
 use Rattle.odata_text.specs.declared.span.Span.{Span}
-use Rattle.csdl_schema.specs.ExprType.{single, structured}
-use Rattle.csdl_schema.specs.SchemaModel.{Slots, slots_of, type_name_at, slot_named}
+use Rattle.csdl_schema.specs.SchemaModel.{Slots, slots_of, type_name_at}
 use Rattle.odata_checked_filter.specs.declared.checked_node.CheckedNode.{CheckedNode}
 use Rattle.odata_checked_filter.specs.declared.checked_node.NodeKind.{NodeKind}
 use Rattle.odata_expression_types.specs.Considered.{IsConsidered}
@@ -13,7 +12,6 @@ use Rattle.odata_checked_filter.specs.Filter.{Filter, IsFilter, IsTypeAt, tree_o
 use Rattle.odata_checked_filter.specs.FlatTree.{FlatTree}
 use Rattle.odata_checked_filter.specs.Levels.{level_named}
 use Rattle.odata_checked_filter.specs.NameKinds.{NamesSlot, IsSlotAt, level_of_node, level_at}
-use Rattle.odata_expression_types.specs.Laws.{OneType}
 use Rattle.odata_expression_types.specs.PreOrder.{pre_order, span_of_tree}
 use Rattle.odata_checked_filter.specs.ScopedNodes.{ScopedNode, scoped_nodes}
 use Rattle.odata_checked_filter.specs.Stands.{Stands, IsKindOf, variable_names}
@@ -34,62 +32,72 @@ slot_of_kind (NodeKind.Property slot) = Some slot
 slot_of_kind (NodeKind.Member slot) = Some slot
 slot_of_kind _ = None
 
+-- the kinds without
+pub no_level : (kind : NodeKind) → ((level : ℕ) → kind ≡ NodeKind.Variable level → ⊥) → level_of_kind kind ≡ None
+no_level (NodeKind.Variable level) other = absurd (other level refl)
+no_level _ other = refl
+
+pub no_slot : (kind : NodeKind) → ((slot : ℕ) → kind ≡ NodeKind.Property slot → ⊥) → ((slot : ℕ) → kind ≡ NodeKind.Member slot → ⊥) → slot_of_kind kind ≡ None
+no_slot (NodeKind.Property slot) property member_of = absurd (property slot refl)
+no_slot (NodeKind.Member slot) property member_of = absurd (member_of slot refl)
+no_slot _ property member_of = refl
+
 -- a kind without a slot
 slotless : (kind other : NodeKind) (slot : ℕ) → slot_of_kind other ≡ None → kind ≡ other → slot_of_kind kind ≡ Some slot → ⊥
 slotless kind other slot none is found =
     let e : slot_of_kind kind ≡ None = ap slot_of_kind is ∙ none in
     cc
 
-no_slot : (slot : ℕ) → None ≡ Some slot → ⊥
-no_slot slot found = cc
+slot_of_none : (slot : ℕ) → None ≡ Some slot → ⊥
+slot_of_none slot found = cc
 
 names_slot :
     (list : FlatTree) (slots : Slots) (root : List ℕ) (scope : Scope) (start stop : ℕ) (shape : Shape) (kind : NodeKind) (slot : ℕ)
     → IsKindOf list.values slots root scope shape kind
     → slot_of_kind kind ≡ Some slot
     → NamesSlot slots root scope (node start stop shape) slot
-names_slot list slots root scope start stop (literal k spelling) (NodeKind.Literal l place) slot is found = absurd (no_slot slot found)
+names_slot list slots root scope start stop (literal k spelling) (NodeKind.Literal l place) slot is found = absurd (slot_of_none slot found)
 names_slot list slots root scope start stop (literal k spelling) _ slot is found = absurd is
 names_slot list slots root scope start stop it kind slot is found = slotless kind NodeKind.It slot refl is found
 names_slot list slots root scope start stop (name asked) (NodeKind.Property other) slot is found = (is.0, is.1 ∙ found)
-names_slot list slots root scope start stop (name asked) (NodeKind.Variable level) slot is found = absurd (no_slot slot found)
+names_slot list slots root scope start stop (name asked) (NodeKind.Variable level) slot is found = absurd (slot_of_none slot found)
 names_slot list slots root scope start stop (name asked) _ slot is found = absurd is
 names_slot list slots root scope start stop (member base asked) (NodeKind.Member other) slot is found = (is.0, is.1, is.2 ∙ found)
 names_slot list slots root scope start stop (member base asked) _ slot is found = absurd is
+names_slot list slots root scope start stop (count base) kind slot is found = slotless kind NodeKind.Count slot refl is found
 names_slot list slots root scope start stop (negation operand) kind slot is found = slotless kind NodeKind.Neg slot refl is found
 names_slot list slots root scope start stop (logical_not operand) kind slot is found = slotless kind NodeKind.Not slot refl is found
 names_slot list slots root scope start stop (binary operator left right) kind slot is found = slotless kind (NodeKind.Binary operator) slot refl is found
-names_slot list slots root scope start stop (call asked arguments) NodeKind.Now slot is found = absurd (no_slot slot found)
-names_slot list slots root scope start stop (call asked arguments) (NodeKind.Call function) slot is found = absurd (no_slot slot found)
+names_slot list slots root scope start stop (has left right) kind slot is found = slotless kind NodeKind.Has slot refl is found
+names_slot list slots root scope start stop (in_list left items) kind slot is found = slotless kind NodeKind.InList slot refl is found
+names_slot list slots root scope start stop (in_path left path) kind slot is found = slotless kind NodeKind.InPath slot refl is found
+names_slot list slots root scope start stop (any_item base) kind slot is found = slotless kind NodeKind.AnyItem slot refl is found
+names_slot list slots root scope start stop (call asked arguments) NodeKind.Now slot is found = absurd (slot_of_none slot found)
+names_slot list slots root scope start stop (call asked arguments) (NodeKind.Call function) slot is found = absurd (slot_of_none slot found)
 names_slot list slots root scope start stop (call asked arguments) _ slot is found = absurd is
 names_slot list slots root scope start stop _ kind slot is found = absurd is
-
-same_slot : (o : Option ℕ) (a b : ℕ) → o ≡ Some a → o ≡ Some b → Some a ≡ Some b
-same_slot o a b x y = cc
 
 none_some : (o : Option ℕ) (a : ℕ) → o ≡ Some a → o ≡ None → ⊥
 none_some o a x y = cc
 
-same_owner : (a b : List ℕ) → single (structured a) ≡ single (structured b) → a ≡ b
-same_owner a b same = cc
+no_kind : (kind : NodeKind) (slot : ℕ) → slot_of_kind kind ≡ Some slot → slot_of_kind kind ≡ None → ⊥
+no_kind kind slot some none = cc
 
-only_slot :
-    OneType → (list : FlatTree) (slots : Slots) (root : List ℕ) (scope : Scope) (start stop : ℕ) (shape : Shape) (kind : NodeKind) (slot : ℕ)
+-- a node whose kind has no slot names none, in any scope with these variables
+slots_none :
+    (list : FlatTree) (slots : Slots) (root : List ℕ) (scope at : Scope) (start stop : ℕ) (shape : Shape) (kind : NodeKind) (slot : ℕ)
     → IsKindOf list.values slots root scope shape kind
-    → NamesSlot slots root scope (node start stop shape) slot
-    → slot_of_kind kind ≡ Some slot
-only_slot one list slots root scope start stop (name asked) (NodeKind.Property other) slot is names =
-    same_slot (slot_named (slots.properties root) asked) other slot is.1 names.1
-only_slot one list slots root scope start stop (name asked) (NodeKind.Variable level) slot is names =
-    absurd (none_some (level_named (variable_names scope) asked) level is names.0)
-only_slot one list slots root scope start stop (name asked) _ slot is names = absurd is
-only_slot one list slots root scope start stop (member base asked) (NodeKind.Member other) slot is names =
-    let owner : is.0 ≡ names.0 =
-    same_owner is.0 names.0 (one slots root scope base (single (structured is.0)) (single (structured names.0)) is.1 names.1) in
-    let P : List ℕ → Type 0 = λ (o : List ℕ). slot_named (slots.properties o) asked ≡ Some other in
-    same_slot (slot_named (slots.properties names.0) asked) other slot (subst P owner is.2) names.2
-only_slot one list slots root scope start stop (member base asked) _ slot is names = absurd is
-only_slot one list slots root scope start stop _ kind slot is names = absurd names
+    → variable_names at ≡ variable_names scope
+    → slot_of_kind kind ≡ None
+    → NamesSlot slots root at (node start stop shape) slot
+    → ⊥
+slots_none list slots root scope at start stop (name asked) (NodeKind.Property other) slot is same none names = no_kind (NodeKind.Property other) other refl none
+slots_none list slots root scope at start stop (name asked) (NodeKind.Variable level) slot is same none names =
+    none_some (level_named (variable_names scope) asked) level is (ap (λ (v : List (List ℕ)). level_named v asked) (sym same) ∙ names.0)
+slots_none list slots root scope at start stop (name asked) _ slot is same none names = is
+slots_none list slots root scope at start stop (member base asked) (NodeKind.Member other) slot is same none names = no_kind (NodeKind.Member other) other refl none
+slots_none list slots root scope at start stop (member base asked) _ slot is same none names = is
+slots_none list slots root scope at start stop _ kind slot is same none names = names
 
 level_of_top :
     (list : FlatTree) (slots : Slots) (root : List ℕ) (scope : Scope) (start stop : ℕ) (shape : Shape) (kind : NodeKind)
@@ -103,43 +111,48 @@ level_of_top list slots root scope start stop (name asked) (NodeKind.Property sl
 level_of_top list slots root scope start stop (name asked) _ is = absurd is
 level_of_top list slots root scope start stop (member base asked) (NodeKind.Member slot) is = refl
 level_of_top list slots root scope start stop (member base asked) _ is = absurd is
+level_of_top list slots root scope start stop (count base) kind is = rw is refl
 level_of_top list slots root scope start stop (negation operand) kind is = rw is refl
 level_of_top list slots root scope start stop (logical_not operand) kind is = rw is refl
 level_of_top list slots root scope start stop (binary operator left right) kind is = rw is refl
+level_of_top list slots root scope start stop (has left right) kind is = rw is refl
+level_of_top list slots root scope start stop (in_list left items) kind is = rw is refl
+level_of_top list slots root scope start stop (in_path left path) kind is = rw is refl
+level_of_top list slots root scope start stop (any_item base) kind is = rw is refl
 level_of_top list slots root scope start stop (call asked arguments) NodeKind.Now is = refl
 level_of_top list slots root scope start stop (call asked arguments) (NodeKind.Call function) is = refl
 level_of_top list slots root scope start stop (call asked arguments) _ is = absurd is
 level_of_top list slots root scope start stop _ kind is = absurd is
 
--- what a node of the list says of the tree that stands there
-pub record IsNodeOf (filter : Filter) (found : CheckedNode) (at : ScopedNode) : Type 0 where
-  pub span : found.span ≡ span_of_tree at.part
-  pub typed : Typed (slots_of filter.schema) (type_name_at filter.schema filter.filtered) [] at.part (expr_type filter.schema found.edm_type)
-  pub slots : (slot : ℕ) → slot_of_kind found.kind ≡ Some slot → NamesSlot (slots_of filter.schema) (type_name_at filter.schema filter.filtered) [] at.part slot
-  pub only_slots : OneType → (slot : ℕ) → NamesSlot (slots_of filter.schema) (type_name_at filter.schema filter.filtered) [] at.part slot → slot_of_kind found.kind ≡ Some slot
-  pub levels : level_of_node at.variables at.part ≡ level_of_kind found.kind
+-- what a node of the list says of the tree that stands there, in a scope
+pub record IsNodeOf (filter : Filter) (found : CheckedNode) (scope : Scope) (part : Tree) : Type 0 where
+  pub span : found.span ≡ span_of_tree part
+  pub typed : Typed (slots_of filter.schema) (type_name_at filter.schema filter.filtered) scope part (expr_type filter.schema found.edm_type)
+  pub slots : (slot : ℕ) → slot_of_kind found.kind ≡ Some slot → NamesSlot (slots_of filter.schema) (type_name_at filter.schema filter.filtered) scope part slot
+  pub slotless : (at : Scope) (slot : ℕ) → variable_names at ≡ variable_names scope → slot_of_kind found.kind ≡ None → ¬ NamesSlot (slots_of filter.schema) (type_name_at filter.schema filter.filtered) at part slot
+  pub levels : level_of_node (variable_names scope) part ≡ level_of_kind found.kind
 
 span_same : (span : Span) (start stop : ℕ) → span.start ≡ start → span.stop ≡ stop → span ≡ record { start = start; stop = stop }
 span_same span start stop a b = rw (sym a, sym b) refl
 
 top_says :
-    (filter : Filter) (k j : ℕ) (tree : Tree)
-    → (stands : Stands filter.schema filter.filtered [] filter.list k j tree)
+    (filter : Filter) (scope : Scope) (k j : ℕ) (tree : Tree)
+    → (stands : Stands filter.schema filter.filtered scope filter.list k j tree)
     → (found : CheckedNode)
     → slice_get filter.list.nodes k ≡ Some found
-    → IsNodeOf filter found (record { variables = []; part = tree })
-top_says filter k j (node start stop shape) stands found here =
+    → IsNodeOf filter found scope tree
+top_says filter scope k j (node start stop shape) stands found here =
     let schema = filter.schema in
     let root = type_name_at schema filter.filtered in
     let top = stands.top in
     let same : top.found ≡ found = same_found (slice_get filter.list.nodes k) top.found found top.stands_at here in
-    let P : CheckedNode → Type 0 = λ (f : CheckedNode). IsNodeOf filter f (record { variables = []; part = node start stop shape }) in
+    let P : CheckedNode → Type 0 = λ (f : CheckedNode). IsNodeOf filter f scope (node start stop shape) in
     subst P same (record {
       span = span_same top.found.span start stop top.starts top.stops;
       typed = top.typed;
-      slots = λ slot is. names_slot filter.list (slots_of schema) root [] start stop shape top.found.kind slot top.kind is;
-      only_slots = λ one slot names. only_slot one filter.list (slots_of schema) root [] start stop shape top.found.kind slot top.kind names;
-      levels = level_of_top filter.list (slots_of schema) root [] start stop shape top.found.kind top.kind;
+      slots = λ slot is. names_slot filter.list (slots_of schema) root scope start stop shape top.found.kind slot top.kind is;
+      slotless = λ at slot same none names. slots_none filter.list (slots_of schema) root scope at start stop shape top.found.kind slot top.kind same none names;
+      levels = level_of_top filter.list (slots_of schema) root scope start stop shape top.found.kind top.kind;
     })
 
 -- as many nodes in the list as in the tree
@@ -151,19 +164,14 @@ count_of filter is =
 
 -- a node of the list, and the part of the tree that it is of
 pub record IsNumbered (filter : Filter) (k : ℕ) (found : CheckedNode) : Type 0 where
-  pub at : ScopedNode
-  pub scoped : slice_get (scoped_nodes [] (tree_of_filter filter)) k ≡ Some at
-  pub ordered : slice_get (pre_order (tree_of_filter filter)) k ≡ Some at.part
-  pub unbound : slice_get (scoped_nodes [] (tree_of_filter filter)) k ≡ Some (record { variables = []; part = at.part })
-  pub considered : IsConsidered (slots_of filter.schema) (type_name_at filter.schema filter.filtered) [] (tree_of_filter filter) [] at.part
-  pub says : IsNodeOf filter found at
-  pub variables : at.variables ≡ []
+  pub scope : Scope
+  pub part : Tree
+  pub scoped : slice_get (scoped_nodes [] (tree_of_filter filter)) k ≡ Some (record { variables = variable_names scope; part = part })
+  pub ordered : slice_get (pre_order (tree_of_filter filter)) k ≡ Some part
+  pub considered : IsConsidered (slots_of filter.schema) (type_name_at filter.schema filter.filtered) [] (tree_of_filter filter) scope part
+  pub says : IsNodeOf filter found scope part
   pub stop : ℕ
-  pub stands : Stands filter.schema filter.filtered [] filter.list k stop at.part
-
-scoped_same : (at : ScopedNode) → at.variables ≡ [] → record { variables = []; part = at.part } ≡ at
-scoped_same at none =
-    let of : List (List ℕ) → ScopedNode = λ (variables : List (List ℕ)). record { variables = variables; part = at.part } in ap of (sym none)
+  pub stands : Stands filter.schema filter.filtered scope filter.list k stop part
 
 pub numbered : (filter : Filter) (k : ℕ) (found : CheckedNode) → IsFilter filter → slice_get filter.list.nodes k ≡ Some found → IsNumbered filter k found
 numbered filter k found is here =
@@ -176,18 +184,17 @@ numbered filter k found is here =
     let P : ℕ → Type 0 = λ (x : ℕ). IsPart filter.schema filter.filtered [] filter.list tree x s.0 in
     let zero_more : 0 + k ≡ k = omega arith in
     let part = subst P zero_more (part_stands filter.schema filter.filtered [] filter.list 0 (length filter.list.nodes) tree k s.0 is.stands s.1) in
-    let Q : ScopedNode → Type 0 = λ (x : ScopedNode). IsNodeOf filter found x in
+    let at : List (List ℕ) → ScopedNode = λ (variables : List (List ℕ)). record { variables = variables; part = s.0.part } in
     record {
-      at = s.0;
-      scoped = s.1;
+      scope = part.inner;
+      part = s.0.part;
+      scoped = s.1 ∙ ap Some (ap at part.variables);
       ordered =
           ap (λ (ts : List Tree). slice_get ts k) (sym (parts_of [] tree))
           ∙ slice_get-map (λ (x : ScopedNode). x.part) (scoped_nodes [] tree) k
           ∙ ap (option_map (λ (x : ScopedNode). x.part)) s.1;
-      unbound = s.1 ∙ ap Some (sym (scoped_same s.0 part.variables));
       considered = part.considered;
-      says = subst Q (scoped_same s.0 part.variables) (top_says filter k part.j s.0.part part.stands found here);
-      variables = part.variables;
+      says = top_says filter part.inner k part.j s.0.part part.stands found here;
       stop = part.j;
       stands = part.stands;
     }
@@ -205,32 +212,27 @@ past_scoped filter k is past =
     slice_get_past (scoped_nodes [] (tree_of_filter filter)) k (omega arith)
 
 pub type_at : (filter : Filter) (k : ℕ) (found : CheckedNode) → IsNumbered filter k found → IsTypeAt filter k (expr_type filter.schema found.edm_type)
-type_at filter k found is = record { at = []; part = is.at.part; numbered = is.unbound; considered = is.considered; typed = is.says.typed }
+type_at filter k found is = record { at = is.scope; part = is.part; numbered = is.scoped; considered = is.considered; typed = is.says.typed }
 
 pub span_at : (filter : Filter) (k : ℕ) (found : CheckedNode) → IsNumbered filter k found → Some found.span ≡ option_map span_of_tree (slice_get (pre_order (tree_of_filter filter)) k)
 span_at filter k found is = ap Some is.says.span ∙ sym (ap (option_map span_of_tree) is.ordered)
 
 pub slot_at : (filter : Filter) (k slot : ℕ) (found : CheckedNode) → IsNumbered filter k found → slot_of_kind found.kind ≡ Some slot → IsSlotAt filter k slot
 slot_at filter k slot found is kind =
-    record { at = []; part = is.at.part; numbered = is.unbound; considered = is.considered; names = is.says.slots slot kind }
+    record { at = is.scope; part = is.part; numbered = is.scoped; considered = is.considered; names = is.says.slots slot kind }
 
 same_scoped : (o : Option ScopedNode) (a b : ScopedNode) → o ≡ Some a → o ≡ Some b → a ≡ b
 same_scoped o a b x y = cc
 
-no_variables : (scope : Scope) → variable_names scope ≡ [] → scope ≡ []
-no_variables [] none = refl
-no_variables (bound ∷ scope) none = cc
-
-pub no_other_slot : OneType → (filter : Filter) (k slot : ℕ) (found : CheckedNode) → IsNumbered filter k found → IsSlotAt filter k slot → slot_of_kind found.kind ≡ Some slot
-no_other_slot one filter k slot found is other =
+-- a node whose kind has no slot has none in the tree
+pub no_slot_there : (filter : Filter) (k slot : ℕ) (found : CheckedNode) → IsNumbered filter k found → slot_of_kind found.kind ≡ None → ¬ IsSlotAt filter k slot
+no_slot_there filter k slot found is none other =
     let named : ScopedNode = record { variables = variable_names other.at; part = other.part } in
-    let here : ScopedNode = record { variables = []; part = is.at.part } in
-    let same : named ≡ here = same_scoped (slice_get (scoped_nodes [] (tree_of_filter filter)) k) named here other.numbered is.unbound in
-    let scope : other.at ≡ [] = no_variables other.at (ap (λ (x : ScopedNode). x.variables) same) in
-    let part : other.part ≡ is.at.part = ap (λ (x : ScopedNode). x.part) same in
-    let P : Scope → Type 0 = λ (x : Scope). NamesSlot (slots_of filter.schema) (type_name_at filter.schema filter.filtered) x other.part slot in
-    let Q : Tree → Type 0 = λ (t : Tree). NamesSlot (slots_of filter.schema) (type_name_at filter.schema filter.filtered) [] t slot in
-    is.says.only_slots one slot (subst Q part (subst P scope other.names))
+    let here : ScopedNode = record { variables = variable_names is.scope; part = is.part } in
+    let same : named ≡ here = same_scoped (slice_get (scoped_nodes [] (tree_of_filter filter)) k) named here other.numbered is.scoped in
+    let part : other.part ≡ is.part = ap (λ (x : ScopedNode). x.part) same in
+    let Q : Tree → Type 0 = λ (t : Tree). NamesSlot (slots_of filter.schema) (type_name_at filter.schema filter.filtered) other.at t slot in
+    is.says.slotless other.at slot (ap (λ (x : ScopedNode). x.variables) same) none (subst Q part other.names)
 
 pub level_found : (filter : Filter) (k : ℕ) (found : CheckedNode) → IsNumbered filter k found → level_at filter k ≡ level_of_kind found.kind
 level_found filter k found is = rw is.scoped is.says.levels

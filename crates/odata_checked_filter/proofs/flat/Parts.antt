@@ -1,15 +1,15 @@
 -- Each node of a tree stands at its number.
-use Rattle.std.proofs.Common.{◌≡◌, refl, sym, ap, ◌∙◌, subst, ℕ, zero, suc, inl, inr, ◌+◌, List, ◌∷◌, ◌++◌, Some, length, map, slice_get, arith}
+use Rattle.std.proofs.Common.{◌≡◌, refl, sym, ap, ◌∙◌, subst, ℕ, zero, suc, inl, inr, ◌+◌, List, [], ◌∷◌, ◌++◌, Some, length, map, slice_get, arith}
 use Rattle.std.proofs.lemmas.List.{length-map, map-append}
 use Rattle.std.proofs.lemmas.Option.{none-some}
 use Rattle.odata_syntax.specs.Tree.{Shape, Tree, Trees, any_item, binary, call, count, has, in_list, in_path, it, lambda, literal, logical_not, member, more_trees, name, negation, no_trees, node}
 use Rattle.csdl_schema.specs.SchemaModel.{SchemaModel, slots_of, type_name_at}
 use Rattle.odata_syntax.specs.Spans.{list_of_trees}
-use Rattle.odata_expression_types.specs.Considered.{IsAmong, IsConsidered, IsConsideredChild, considers_below, considers_itself}
+use Rattle.odata_expression_types.specs.Considered.{IsAmong, IsConsidered, IsConsideredChild, children_in_scope, considers_below, considers_itself}
 use Rattle.odata_checked_filter.specs.FlatTree.{FlatTree}
 use Rattle.odata_expression_types.specs.PreOrder.{nodes_among, nodes_below, pre_order}
 use Rattle.odata_checked_filter.specs.ScopedNodes.{ScopedNode, scoped_among, scoped_below, scoped_nodes}
-use Rattle.odata_checked_filter.specs.Stands.{AllStand, Stands, variable_names}
+use Rattle.odata_checked_filter.specs.Stands.{AllStand, ChildrenStand, SideBySide, Stands, variable_names}
 use Rattle.odata_expression_types.specs.Typed.{Scope}
 use Rattle.odata_checked_filter.proofs.flat.Places.{get_parts}
 use Rattle.odata_checked_filter.proofs.flat.Standing.{stands_size}
@@ -58,12 +58,13 @@ mutual
 pub parts_count : (variables : List (List ℕ)) (tree : Tree) → length (scoped_nodes variables tree) ≡ length (pre_order tree)
 parts_count variables tree = sym (length-map (scoped_nodes variables tree) (λ (s : ScopedNode). s.part)) ∙ ap (λ (ts : List Tree). length ts) (parts_of variables tree)
 
--- a node stands at k, its variables are those of the scope, and it is judged there as a part of the tree
+-- a node stands at k in a scope whose variables it has, and it is judged there as a part of the tree
 pub record IsPart (schema : SchemaModel) (n : ℕ) (scope : Scope) (list : FlatTree) (tree : Tree) (k : ℕ) (at : ScopedNode) : Type 0 where
+  pub inner : Scope
   pub j : ℕ
-  pub stands : Stands schema n scope list k j at.part
-  pub variables : at.variables ≡ variable_names scope
-  pub considered : IsConsidered (slots_of schema) (type_name_at schema n) scope tree scope at.part
+  pub stands : Stands schema n inner list k j at.part
+  pub variables : at.variables ≡ variable_names inner
+  pub considered : IsConsidered (slots_of schema) (type_name_at schema n) scope tree inner at.part
 
 itself :
     (schema : SchemaModel) (n : ℕ) (scope : Scope) (list : FlatTree) (i j k : ℕ) (tree : Tree) (at : ScopedNode)
@@ -74,58 +75,97 @@ itself :
 itself schema n scope list i j k tree at stands same is =
     let P : ℕ → Type 0 = λ (x : ℕ). IsPart schema n scope list tree x at in
     let Q : ScopedNode → Type 0 = λ (x : ScopedNode). IsPart schema n scope list tree i x in
-    subst P (sym same) (subst Q is (record { j = j; stands = stands; variables = refl; considered = considers_itself }))
+    subst P (sym same) (subst Q is (record { inner = scope; j = j; stands = stands; variables = refl; considered = considers_itself }))
 
--- a part of the one child
-of_only :
-    (schema : SchemaModel) (n : ℕ) (scope : Scope) (list : FlatTree) (start stop : ℕ) (shape : Shape) (child : Tree) (k : ℕ) (at : ScopedNode)
-    → IsConsideredChild (slots_of schema) (type_name_at schema n) scope shape scope child
-    → IsPart schema n scope list child k at
+-- likewise of a node of that shape, a part of one of its children
+record IsPartBelow (schema : SchemaModel) (n : ℕ) (scope : Scope) (list : FlatTree) (shape : Shape) (k : ℕ) (at : ScopedNode) : Type 0 where
+  around : Scope
+  child : Tree
+  is_child : IsConsideredChild (slots_of schema) (type_name_at schema n) scope shape around child
+  part : IsPart schema n around list child k at
+
+of_child :
+    (schema : SchemaModel) (n : ℕ) (scope : Scope) (list : FlatTree) (start stop : ℕ) (shape : Shape) (k : ℕ) (at : ScopedNode)
+    → IsPartBelow schema n scope list shape k at
     → IsPart schema n scope list (node start stop shape) k at
-of_only schema n scope list start stop shape child k at is part =
-    record { j = part.j; stands = part.stands; variables = part.variables; considered = considers_below {child = child} is part.considered }
-
-of_left :
-    (schema : SchemaModel) (n : ℕ) (scope : Scope) (list : FlatTree) (start stop : ℕ) (operator : _) (left right : Tree) (k : ℕ) (at : ScopedNode)
-    → IsPart schema n scope list left k at
-    → IsPart schema n scope list (node start stop (binary operator left right)) k at
-of_left schema n scope list start stop operator left right k at part =
-    record { j = part.j; stands = part.stands; variables = part.variables; considered = considers_below {child = left} (inl (inl (refl, refl))) part.considered }
-
-of_right :
-    (schema : SchemaModel) (n : ℕ) (scope : Scope) (list : FlatTree) (start stop : ℕ) (operator : _) (left right : Tree) (k : ℕ) (at : ScopedNode)
-    → IsPart schema n scope list right k at
-    → IsPart schema n scope list (node start stop (binary operator left right)) k at
-of_right schema n scope list start stop operator left right k at part =
-    record { j = part.j; stands = part.stands; variables = part.variables; considered = considers_below {child = right} (inl (inr (inl (refl, refl)))) part.considered }
+of_child schema n scope list start stop shape k at is = record {
+  inner = is.part.inner;
+  j = is.part.j;
+  stands = is.part.stands;
+  variables = is.part.variables;
+  considered = considers_below {child = is.child} is.is_child is.part.considered;
+}
 
 -- a part of one of several trees
-record IsPartAmong (schema : SchemaModel) (n : ℕ) (scope : Scope) (list : FlatTree) (trees : Trees) (k : ℕ) (at : ScopedNode) : Type 0 where
+record IsPartAmong (schema : SchemaModel) (n : ℕ) (scope : Scope) (list : FlatTree) (trees : List Tree) (k : ℕ) (at : ScopedNode) : Type 0 where
   child : Tree
-  among : IsAmong scope (list_of_trees trees) scope child
+  among : IsAmong scope trees scope child
   part : IsPart schema n scope list child k at
 
 of_first :
-    (schema : SchemaModel) (n : ℕ) (scope : Scope) (list : FlatTree) (tree : Tree) (trees : Trees) (k : ℕ) (at : ScopedNode)
+    (schema : SchemaModel) (n : ℕ) (scope : Scope) (list : FlatTree) (tree : Tree) (trees : List Tree) (k : ℕ) (at : ScopedNode)
     → IsPart schema n scope list tree k at
-    → IsPartAmong schema n scope list (more_trees tree trees) k at
+    → IsPartAmong schema n scope list (tree ∷ trees) k at
 of_first schema n scope list tree trees k at part = record { child = tree; among = inl (refl, refl); part = part }
 
 of_later :
-    (schema : SchemaModel) (n : ℕ) (scope : Scope) (list : FlatTree) (tree : Tree) (trees : Trees) (k : ℕ) (at : ScopedNode)
+    (schema : SchemaModel) (n : ℕ) (scope : Scope) (list : FlatTree) (tree : Tree) (trees : List Tree) (k : ℕ) (at : ScopedNode)
     → IsPartAmong schema n scope list trees k at
-    → IsPartAmong schema n scope list (more_trees tree trees) k at
+    → IsPartAmong schema n scope list (tree ∷ trees) k at
 of_later schema n scope list tree trees k at is = record { child = is.child; among = inr is.among; part = is.part }
 
-of_argument :
-    (schema : SchemaModel) (n : ℕ) (scope : Scope) (list : FlatTree) (start stop : ℕ) (asked : List ℕ) (arguments : Trees) (k : ℕ) (at : ScopedNode)
-    → IsPartAmong schema n scope list arguments k at
-    → IsPart schema n scope list (node start stop (call asked arguments)) k at
-of_argument schema n scope list start stop asked arguments k at is =
-    of_only schema n scope list start stop (call asked arguments) is.child k at (inl is.among) is.part
+-- what is a part of the children in the node's own scope is one below it
+in_scope :
+    (schema : SchemaModel) (n : ℕ) (scope : Scope) (list : FlatTree) (shape : Shape) (k : ℕ) (at : ScopedNode)
+    → IsPartAmong schema n scope list (children_in_scope shape) k at
+    → IsPartBelow schema n scope list shape k at
+in_scope schema n scope list shape k at is = record { around = scope; child = is.child; is_child = inl is.among; part = is.part }
 
 first_of : {X : Type 0} (x y : X) (xs : List X) → slice_get (x ∷ xs) 0 ≡ Some y → x ≡ y
 first_of x y xs found = cc
+
+-- what holds of the parts at their places holds of the whole, where the second part stands behind the first
+in_either :
+    (P : ℕ → Type 0) (xs ys : List ScopedNode) (i m k : ℕ) (at : ScopedNode)
+    → m ≡ i + length xs
+    → slice_get (xs ++ ys) k ≡ Some at
+    → (slice_get xs k ≡ Some at → P (i + k))
+    → ((h : ℕ) → slice_get ys h ≡ Some at → P (m + h))
+    → P (i + k)
+in_either P xs ys i m k at size found first second =
+    elim (get_parts xs ys k at found) [
+      | inl h ↦ first h
+      | inr h ↦
+          let past : k ≡ length xs + h.0 = h.1.0 in
+          let e : m + h.0 ≡ i + k = omega arith in
+          subst P e (second h.0 h.1.1)
+    ]
+
+-- where a tree stops, by its nodes with their variables
+scoped_size :
+    (schema : SchemaModel) (n : ℕ) (scope : Scope) (list : FlatTree) (i j : ℕ) (tree : Tree)
+    → Stands schema n scope list i j tree
+    → j ≡ i + length (scoped_nodes (variable_names scope) tree)
+scoped_size schema n scope list i j tree stands =
+    let size : j ≡ i + length (pre_order tree) = stands_size schema n scope list i j tree stands in
+    let count : length (scoped_nodes (variable_names scope) tree) ≡ length (pre_order tree) = parts_count (variable_names scope) tree in
+    omega arith
+
+-- a part of one of two trees side by side
+part_of_both :
+    (schema : SchemaModel) (n : ℕ) (scope : Scope) (list : FlatTree) (i j : ℕ) (left right : Tree) (k : ℕ) (at : ScopedNode)
+    → (stand : SideBySide (λ middle. Stands schema n scope list i middle left) (λ middle. Stands schema n scope list middle j right))
+    → slice_get (scoped_nodes (variable_names scope) left ++ scoped_nodes (variable_names scope) right) k ≡ Some at
+    → (slice_get (scoped_nodes (variable_names scope) left) k ≡ Some at → IsPart schema n scope list left (i + k) at)
+    → ((h : ℕ) → slice_get (scoped_nodes (variable_names scope) right) h ≡ Some at → IsPart schema n scope list right (stand.middle + h) at)
+    → IsPartAmong schema n scope list (left ∷ right ∷ []) (i + k) at
+part_of_both schema n scope list i j left right k at stand found first second =
+    in_either (λ (x : ℕ). IsPartAmong schema n scope list (left ∷ right ∷ []) x at)
+    (scoped_nodes (variable_names scope) left) (scoped_nodes (variable_names scope) right) i stand.middle k at
+    (scoped_size schema n scope list i stand.middle left stand.left) found
+    (λ h. of_first schema n scope list left (right ∷ []) (i + k) at (first h))
+    (λ h there. of_later schema n scope list left (right ∷ []) (stand.middle + h) at
+    (of_first schema n scope list right [] (stand.middle + h) at (second h there)))
 
 mutual
   pub part_stands :
@@ -136,59 +176,72 @@ mutual
   part_stands schema n scope list i j (node start stop shape) zero at stands found =
       itself schema n scope list i j (i + 0) (node start stop shape) at stands (omega arith)
       (first_of (record { variables = variable_names scope; part = node start stop shape }) at (scoped_below (variable_names scope) shape) found)
-  part_stands schema n scope list i j (node start stop (literal kind spelling)) (suc k) at stands found = absurd (none-some at found)
-  part_stands schema n scope list i j (node start stop it) (suc k) at stands found = absurd (none-some at found)
-  part_stands schema n scope list i j (node start stop (name asked)) (suc k) at stands found = absurd (none-some at found)
-  part_stands schema n scope list i j (node start stop (member base asked)) (suc k) at stands found =
-      let P : ℕ → Type 0 = λ (x : ℕ). IsPart schema n scope list (node start stop (member base asked)) x at in
+  part_stands schema n scope list i j (node start stop shape) (suc k) at stands found =
+      let P : ℕ → Type 0 = λ (x : ℕ). IsPart schema n scope list (node start stop shape) x at in
       let e : i + 1 + k ≡ i + suc k = omega arith in
-      subst P e (of_only schema n scope list start stop (member base asked) base (i + 1 + k) at (inl (inl (refl, refl)))
-      (part_stands schema n scope list (i + 1) j base k at stands.children found))
-  part_stands schema n scope list i j (node start stop (negation operand)) (suc k) at stands found =
-      let P : ℕ → Type 0 = λ (x : ℕ). IsPart schema n scope list (node start stop (negation operand)) x at in
-      let e : i + 1 + k ≡ i + suc k = omega arith in
-      subst P e (of_only schema n scope list start stop (negation operand) operand (i + 1 + k) at (inl (inl (refl, refl)))
-      (part_stands schema n scope list (i + 1) j operand k at stands.children found))
-  part_stands schema n scope list i j (node start stop (logical_not operand)) (suc k) at stands found =
-      let P : ℕ → Type 0 = λ (x : ℕ). IsPart schema n scope list (node start stop (logical_not operand)) x at in
-      let e : i + 1 + k ≡ i + suc k = omega arith in
-      subst P e (of_only schema n scope list start stop (logical_not operand) operand (i + 1 + k) at (inl (inl (refl, refl)))
-      (part_stands schema n scope list (i + 1) j operand k at stands.children found))
-  part_stands schema n scope list i j (node start stop (binary operator left right)) (suc k) at stands found =
-      let m = stands.children.middle in
-      let P : ℕ → Type 0 = λ (x : ℕ). IsPart schema n scope list (node start stop (binary operator left right)) x at in
-      elim (get_parts (scoped_nodes (variable_names scope) left) (scoped_nodes (variable_names scope) right) k at found) [
-        | inl h ↦ let e : i + 1 + k ≡ i + suc k = omega arith in
-            subst P e (of_left schema n scope list start stop operator left right (i + 1 + k) at (part_stands schema n scope list (i + 1) m left k at stands.children.left h))
-        | inr h ↦
-            let size : m ≡ i + 1 + length (pre_order left) = stands_size schema n scope list (i + 1) m left stands.children.left in
-            let count : length (scoped_nodes (variable_names scope) left) ≡ length (pre_order left) = parts_count (variable_names scope) left in
-            let past : k ≡ length (scoped_nodes (variable_names scope) left) + h.0 = h.1.0 in
-            let e : m + h.0 ≡ i + suc k = omega arith in
-            subst P e (of_right schema n scope list start stop operator left right (m + h.0) at (part_stands schema n scope list m j right h.0 at stands.children.right h.1.1))
-      ]
-  part_stands schema n scope list i j (node start stop (call asked arguments)) (suc k) at stands found =
-      let P : ℕ → Type 0 = λ (x : ℕ). IsPart schema n scope list (node start stop (call asked arguments)) x at in
-      let e : i + 1 + k ≡ i + suc k = omega arith in
-      subst P e (of_argument schema n scope list start stop asked arguments (i + 1 + k) at
-      (part_among schema n scope list (i + 1) j arguments k at stands.children found))
-  part_stands schema n scope list i j (node start stop _) (suc k) at stands found = absurd stands.children
+      subst P e (of_child schema n scope list start stop shape (i + 1 + k) at
+      (part_below schema n scope list (i + 1) j shape k at stands.children found))
+
+  part_below :
+      (schema : SchemaModel) (n : ℕ) (scope : Scope) (list : FlatTree) (i j : ℕ) (shape : Shape) (k : ℕ) (at : ScopedNode)
+      → ChildrenStand schema n scope list i j shape
+      → slice_get (scoped_below (variable_names scope) shape) k ≡ Some at
+      → IsPartBelow schema n scope list shape (i + k) at
+  part_below schema n scope list i j (literal kind spelling) k at stand found = absurd (none-some at found)
+  part_below schema n scope list i j it k at stand found = absurd (none-some at found)
+  part_below schema n scope list i j (name asked) k at stand found = absurd (none-some at found)
+  part_below schema n scope list i j (member base asked) k at stand found =
+      in_scope schema n scope list (member base asked) (i + k) at
+      (of_first schema n scope list base [] (i + k) at (part_stands schema n scope list i j base k at stand found))
+  part_below schema n scope list i j (count base) k at stand found =
+      in_scope schema n scope list (count base) (i + k) at
+      (of_first schema n scope list base [] (i + k) at (part_stands schema n scope list i j base k at stand found))
+  part_below schema n scope list i j (negation operand) k at stand found =
+      in_scope schema n scope list (negation operand) (i + k) at
+      (of_first schema n scope list operand [] (i + k) at (part_stands schema n scope list i j operand k at stand found))
+  part_below schema n scope list i j (logical_not operand) k at stand found =
+      in_scope schema n scope list (logical_not operand) (i + k) at
+      (of_first schema n scope list operand [] (i + k) at (part_stands schema n scope list i j operand k at stand found))
+  part_below schema n scope list i j (binary operator left right) k at stand found =
+      in_scope schema n scope list (binary operator left right) (i + k) at
+      (part_of_both schema n scope list i j left right k at stand found
+      (λ h. part_stands schema n scope list i stand.middle left k at stand.left h)
+      (λ h there. part_stands schema n scope list stand.middle j right h at stand.right there))
+  part_below schema n scope list i j (has left right) k at stand found =
+      in_scope schema n scope list (has left right) (i + k) at
+      (part_of_both schema n scope list i j left right k at stand found
+      (λ h. part_stands schema n scope list i stand.middle left k at stand.left h)
+      (λ h there. part_stands schema n scope list stand.middle j right h at stand.right there))
+  part_below schema n scope list i j (in_list left items) k at stand found =
+      in_scope schema n scope list (in_list left items) (i + k) at
+      (in_either (λ (x : ℕ). IsPartAmong schema n scope list (left ∷ list_of_trees items) x at)
+      (scoped_nodes (variable_names scope) left) (scoped_among (variable_names scope) items) i stand.middle k at
+      (scoped_size schema n scope list i stand.middle left stand.left) found
+      (λ h. of_first schema n scope list left (list_of_trees items) (i + k) at (part_stands schema n scope list i stand.middle left k at stand.left h))
+      (λ h there. of_later schema n scope list left (list_of_trees items) (stand.middle + h) at
+      (part_among schema n scope list stand.middle j items h at stand.right there)))
+  part_below schema n scope list i j (in_path left path) k at stand found =
+      in_scope schema n scope list (in_path left path) (i + k) at
+      (part_of_both schema n scope list i j left path k at stand found
+      (λ h. part_stands schema n scope list i stand.middle left k at stand.left h)
+      (λ h there. part_stands schema n scope list stand.middle j path h at stand.right there))
+  part_below schema n scope list i j (call asked arguments) k at stand found =
+      in_scope schema n scope list (call asked arguments) (i + k) at (part_among schema n scope list i j arguments k at stand found)
+  part_below schema n scope list i j (any_item base) k at stand found =
+      in_scope schema n scope list (any_item base) (i + k) at
+      (of_first schema n scope list base [] (i + k) at (part_stands schema n scope list i j base k at stand found))
+  part_below schema n scope list i j _ k at stand found = absurd stand
 
   part_among :
       (schema : SchemaModel) (n : ℕ) (scope : Scope) (list : FlatTree) (i j : ℕ) (trees : Trees) (k : ℕ) (at : ScopedNode)
       → AllStand schema n scope list i j trees
       → slice_get (scoped_among (variable_names scope) trees) k ≡ Some at
-      → IsPartAmong schema n scope list trees (i + k) at
+      → IsPartAmong schema n scope list (list_of_trees trees) (i + k) at
   part_among schema n scope list i j no_trees k at stand found = absurd (none-some at found)
   part_among schema n scope list i j (more_trees tree trees) k at stand found =
-      let m = stand.middle in
-      let P : ℕ → Type 0 = λ (x : ℕ). IsPartAmong schema n scope list (more_trees tree trees) x at in
-      elim (get_parts (scoped_nodes (variable_names scope) tree) (scoped_among (variable_names scope) trees) k at found) [
-        | inl h ↦ of_first schema n scope list tree trees (i + k) at (part_stands schema n scope list i m tree k at stand.left h)
-        | inr h ↦
-            let size : m ≡ i + length (pre_order tree) = stands_size schema n scope list i m tree stand.left in
-            let count : length (scoped_nodes (variable_names scope) tree) ≡ length (pre_order tree) = parts_count (variable_names scope) tree in
-            let past : k ≡ length (scoped_nodes (variable_names scope) tree) + h.0 = h.1.0 in
-            let e : m + h.0 ≡ i + k = omega arith in
-            subst P e (of_later schema n scope list tree trees (m + h.0) at (part_among schema n scope list m j trees h.0 at stand.right h.1.1))
-      ]
+      in_either (λ (x : ℕ). IsPartAmong schema n scope list (tree ∷ list_of_trees trees) x at)
+      (scoped_nodes (variable_names scope) tree) (scoped_among (variable_names scope) trees) i stand.middle k at
+      (scoped_size schema n scope list i stand.middle tree stand.left) found
+      (λ h. of_first schema n scope list tree (list_of_trees trees) (i + k) at (part_stands schema n scope list i stand.middle tree k at stand.left h))
+      (λ h there. of_later schema n scope list tree (list_of_trees trees) (stand.middle + h) at
+      (part_among schema n scope list stand.middle j trees h at stand.right there))

@@ -1,39 +1,55 @@
 -- What stands for a tree: how many nodes, and that it still does where they are kept.
-use Rattle.std.proofs.Common.{◌≡◌, ℕ, ◌<◌, ◌≤◌, ◌+◌, List, Some, None, slice_get, length, length-append, IsSomeAnd, Option, refl, arith}
+use Rattle.std.proofs.Common.{◌≡◌, ℕ, ◌<◌, ◌≤◌, ◌+◌, List, ◌++◌, Some, None, slice_get, length, length-append, IsSomeAnd, Option, refl, arith}
 use Rattle.edm_values.specs.declared.value.Value.{Value}
-use Rattle.odata_syntax.specs.Tree.{Tree, Trees, node, Shape, literal, it, name, member, negation, logical_not, binary, call, more_trees, no_trees}
+use Rattle.odata_syntax.specs.Tree.{Tree, Trees, node, Shape, literal, it, name, member, count, negation, logical_not, binary, has, in_list, in_path, call, any_item, more_trees, no_trees}
 use Rattle.csdl_schema.specs.SchemaModel.{SchemaModel, Slots}
 use Rattle.odata_checked_filter.specs.declared.checked_node.CheckedNode.{CheckedNode}
 use Rattle.odata_checked_filter.specs.declared.checked_node.NodeKind.{NodeKind}
 use Rattle.odata_checked_filter.specs.FlatTree.{FlatTree}
-use Rattle.odata_expression_types.specs.PreOrder.{nodes_among, pre_order}
+use Rattle.odata_expression_types.specs.PreOrder.{nodes_among, nodes_below, pre_order}
 use Rattle.odata_checked_filter.specs.Stands.{AllStand, ChildrenStand, Stands, IsTop, IsKindOf}
 use Rattle.odata_expression_types.specs.Typed.{Scope}
 use Rattle.odata_checked_filter.specs.ListGrowth.{IsKept}
 
--- as many nodes as the tree has
+-- ---- as many nodes as the tree has
+
+both_sizes : (i m j : ℕ) (first second : List Tree) → m ≡ i + length first → j ≡ m + length second → j ≡ i + length (first ++ second)
+both_sizes i m j first second a b = omega (arith, length-append first second)
+
 mutual
   pub stands_size :
       (schema : SchemaModel) (n : ℕ) (scope : Scope) (list : FlatTree) (i j : ℕ) (tree : Tree)
       → Stands schema n scope list i j tree
       → j ≡ i + length (pre_order tree)
-  stands_size schema n scope list i j (node start stop (literal kind spelling)) stands = let e : i + 1 ≡ j = stands.children in omega arith
-  stands_size schema n scope list i j (node start stop it) stands = let e : i + 1 ≡ j = stands.children in omega arith
-  stands_size schema n scope list i j (node start stop (name asked)) stands = let e : i + 1 ≡ j = stands.children in omega arith
-  stands_size schema n scope list i j (node start stop (member base asked)) stands =
-      let a : j ≡ i + 1 + length (pre_order base) = stands_size schema n scope list (i + 1) j base stands.children in omega arith
-  stands_size schema n scope list i j (node start stop (negation operand)) stands =
-      let a : j ≡ i + 1 + length (pre_order operand) = stands_size schema n scope list (i + 1) j operand stands.children in omega arith
-  stands_size schema n scope list i j (node start stop (logical_not operand)) stands =
-      let a : j ≡ i + 1 + length (pre_order operand) = stands_size schema n scope list (i + 1) j operand stands.children in omega arith
-  stands_size schema n scope list i j (node start stop (binary operator left right)) stands =
-      let m = stands.children.middle in
-      let a : m ≡ i + 1 + length (pre_order left) = stands_size schema n scope list (i + 1) m left stands.children.left in
-      let b : j ≡ m + length (pre_order right) = stands_size schema n scope list m j right stands.children.right in
-      omega (arith, length-append (pre_order left) (pre_order right))
-  stands_size schema n scope list i j (node start stop (call asked arguments)) stands =
-      let a : j ≡ i + 1 + length (nodes_among arguments) = stand_size schema n scope list (i + 1) j arguments stands.children in omega arith
-  stands_size schema n scope list i j (node start stop _) stands = absurd stands.children
+  stands_size schema n scope list i j (node start stop shape) stands =
+      let below : j ≡ i + 1 + length (nodes_below shape) = children_size schema n scope list (i + 1) j shape stands.children in omega arith
+
+  children_size :
+      (schema : SchemaModel) (n : ℕ) (scope : Scope) (list : FlatTree) (i j : ℕ) (shape : Shape)
+      → ChildrenStand schema n scope list i j shape
+      → j ≡ i + length (nodes_below shape)
+  children_size schema n scope list i j (literal kind spelling) stand = let e : i ≡ j = stand in omega arith
+  children_size schema n scope list i j it stand = let e : i ≡ j = stand in omega arith
+  children_size schema n scope list i j (name asked) stand = let e : i ≡ j = stand in omega arith
+  children_size schema n scope list i j (member base asked) stand = stands_size schema n scope list i j base stand
+  children_size schema n scope list i j (count base) stand = stands_size schema n scope list i j base stand
+  children_size schema n scope list i j (negation operand) stand = stands_size schema n scope list i j operand stand
+  children_size schema n scope list i j (logical_not operand) stand = stands_size schema n scope list i j operand stand
+  children_size schema n scope list i j (binary operator left right) stand =
+      both_sizes i stand.middle j (pre_order left) (pre_order right)
+      (stands_size schema n scope list i stand.middle left stand.left) (stands_size schema n scope list stand.middle j right stand.right)
+  children_size schema n scope list i j (has left right) stand =
+      both_sizes i stand.middle j (pre_order left) (pre_order right)
+      (stands_size schema n scope list i stand.middle left stand.left) (stands_size schema n scope list stand.middle j right stand.right)
+  children_size schema n scope list i j (in_list left items) stand =
+      both_sizes i stand.middle j (pre_order left) (nodes_among items)
+      (stands_size schema n scope list i stand.middle left stand.left) (stand_size schema n scope list stand.middle j items stand.right)
+  children_size schema n scope list i j (in_path left path) stand =
+      both_sizes i stand.middle j (pre_order left) (pre_order path)
+      (stands_size schema n scope list i stand.middle left stand.left) (stands_size schema n scope list stand.middle j path stand.right)
+  children_size schema n scope list i j (call asked arguments) stand = stand_size schema n scope list i j arguments stand
+  children_size schema n scope list i j (any_item base) stand = stands_size schema n scope list i j base stand
+  children_size schema n scope list i j _ stand = absurd stand
 
   pub stand_size :
       (schema : SchemaModel) (n : ℕ) (scope : Scope) (list : FlatTree) (i j : ℕ) (trees : Trees)
@@ -41,44 +57,24 @@ mutual
       → j ≡ i + length (nodes_among trees)
   stand_size schema n scope list i j no_trees stand = let e : i ≡ j = stand in omega arith
   stand_size schema n scope list i j (more_trees tree trees) stand =
-      let m = stand.middle in
-      let a : m ≡ i + length (pre_order tree) = stands_size schema n scope list i m tree stand.left in
-      let b : j ≡ m + length (nodes_among trees) = stand_size schema n scope list m j trees stand.right in
-      omega (arith, length-append (pre_order tree) (nodes_among trees))
+      both_sizes i stand.middle j (pre_order tree) (nodes_among trees)
+      (stands_size schema n scope list i stand.middle tree stand.left) (stand_size schema n scope list stand.middle j trees stand.right)
 
-mutual
-  pub stands_nonempty :
-      (schema : SchemaModel) (n : ℕ) (scope : Scope) (list : FlatTree) (i j : ℕ) (tree : Tree)
-      → Stands schema n scope list i j tree
-      → i < j
-  stands_nonempty schema n scope list i j (node start stop (literal kind spelling)) stands = let e : i + 1 ≡ j = stands.children in omega arith
-  stands_nonempty schema n scope list i j (node start stop it) stands = let e : i + 1 ≡ j = stands.children in omega arith
-  stands_nonempty schema n scope list i j (node start stop (name asked)) stands = let e : i + 1 ≡ j = stands.children in omega arith
-  stands_nonempty schema n scope list i j (node start stop (member base asked)) stands =
-      let a : i + 1 < j = stands_nonempty schema n scope list (i + 1) j base stands.children in omega arith
-  stands_nonempty schema n scope list i j (node start stop (negation operand)) stands =
-      let a : i + 1 < j = stands_nonempty schema n scope list (i + 1) j operand stands.children in omega arith
-  stands_nonempty schema n scope list i j (node start stop (logical_not operand)) stands =
-      let a : i + 1 < j = stands_nonempty schema n scope list (i + 1) j operand stands.children in omega arith
-  stands_nonempty schema n scope list i j (node start stop (binary operator left right)) stands =
-      let m = stands.children.middle in
-      let a : i + 1 < m = stands_nonempty schema n scope list (i + 1) m left stands.children.left in
-      let b : m < j = stands_nonempty schema n scope list m j right stands.children.right in
-      omega arith
-  stands_nonempty schema n scope list i j (node start stop (call asked arguments)) stands =
-      let a : i + 1 ≤ j = stand_onward schema n scope list (i + 1) j arguments stands.children in omega arith
-  stands_nonempty schema n scope list i j (node start stop _) stands = absurd stands.children
+pub stands_nonempty :
+    (schema : SchemaModel) (n : ℕ) (scope : Scope) (list : FlatTree) (i j : ℕ) (tree : Tree)
+    → Stands schema n scope list i j tree
+    → i < j
+stands_nonempty schema n scope list i j (node start stop shape) stands =
+    let below : j ≡ i + 1 + length (nodes_below shape) = children_size schema n scope list (i + 1) j shape stands.children in omega arith
 
-  pub stand_onward :
-      (schema : SchemaModel) (n : ℕ) (scope : Scope) (list : FlatTree) (i j : ℕ) (trees : Trees)
-      → AllStand schema n scope list i j trees
-      → i ≤ j
-  stand_onward schema n scope list i j no_trees stand = let e : i ≡ j = stand in omega arith
-  stand_onward schema n scope list i j (more_trees tree trees) stand =
-      let m = stand.middle in
-      let a : i < m = stands_nonempty schema n scope list i m tree stand.left in
-      let b : m ≤ j = stand_onward schema n scope list m j trees stand.right in
-      omega arith
+pub stand_onward :
+    (schema : SchemaModel) (n : ℕ) (scope : Scope) (list : FlatTree) (i j : ℕ) (trees : Trees)
+    → AllStand schema n scope list i j trees
+    → i ≤ j
+stand_onward schema n scope list i j trees stand =
+    let all : j ≡ i + length (nodes_among trees) = stand_size schema n scope list i j trees stand in omega arith
+
+-- ---- nodes that are kept
 
 -- the nodes from a place on are kept
 pub record IsKeptFrom (from : ℕ) (old new : FlatTree) : Type 0 where
@@ -102,13 +98,7 @@ kind_kept old new slots root scope (literal k spelling) (NodeKind.Literal l plac
     (is.0, some_kept _ (slice_get old.values place) (slice_get new.values place) (kept place) is.1)
 kind_kept old new slots root scope (literal k spelling) _ kept is = absurd is
 kind_kept old new slots root scope it kind kept is = is
-kind_kept old new slots root scope (name asked) kind kept is = is
-kind_kept old new slots root scope (member base asked) kind kept is = is
-kind_kept old new slots root scope (negation operand) kind kept is = is
-kind_kept old new slots root scope (logical_not operand) kind kept is = is
-kind_kept old new slots root scope (binary operator left right) kind kept is = is
-kind_kept old new slots root scope (call asked arguments) kind kept is = is
-kind_kept old new slots root scope _ kind kept is = absurd is
+kind_kept old new slots root scope _ kind kept is = is
 
 top_kept :
     (from : ℕ) (old new : FlatTree) (schema : SchemaModel) (n : ℕ) (scope : Scope) (i j start stop : ℕ) (shape : Shape)
@@ -135,44 +125,59 @@ mutual
       → from ≤ i
       → Stands schema n scope old i j tree
       → Stands schema n scope new i j tree
-  stands_kept from old new schema n scope i j (node start stop (literal kind spelling)) kept behind stands =
-      record { top = top_kept from old new schema n scope i j start stop (literal kind spelling) kept behind stands.top; children = stands.children }
-  stands_kept from old new schema n scope i j (node start stop it) kept behind stands =
-      record { top = top_kept from old new schema n scope i j start stop it kept behind stands.top; children = stands.children }
-  stands_kept from old new schema n scope i j (node start stop (name asked)) kept behind stands =
-      record { top = top_kept from old new schema n scope i j start stop (name asked) kept behind stands.top; children = stands.children }
-  stands_kept from old new schema n scope i j (node start stop (member base asked)) kept behind stands =
+  stands_kept from old new schema n scope i j (node start stop shape) kept behind stands = record {
+    top = top_kept from old new schema n scope i j start stop shape kept behind stands.top;
+    children = children_kept from old new schema n scope (i + 1) j shape kept (omega arith) stands.children;
+  }
+
+  pub children_kept :
+      (from : ℕ) (old new : FlatTree) (schema : SchemaModel) (n : ℕ) (scope : Scope) (i j : ℕ) (shape : Shape)
+      → IsKeptFrom from old new
+      → from ≤ i
+      → ChildrenStand schema n scope old i j shape
+      → ChildrenStand schema n scope new i j shape
+  children_kept from old new schema n scope i j (literal kind spelling) kept behind stand = stand
+  children_kept from old new schema n scope i j it kept behind stand = stand
+  children_kept from old new schema n scope i j (name asked) kept behind stand = stand
+  children_kept from old new schema n scope i j (member base asked) kept behind stand = stands_kept from old new schema n scope i j base kept behind stand
+  children_kept from old new schema n scope i j (count base) kept behind stand = stands_kept from old new schema n scope i j base kept behind stand
+  children_kept from old new schema n scope i j (negation operand) kept behind stand = stands_kept from old new schema n scope i j operand kept behind stand
+  children_kept from old new schema n scope i j (logical_not operand) kept behind stand = stands_kept from old new schema n scope i j operand kept behind stand
+  children_kept from old new schema n scope i j (binary operator left right) kept behind stand =
+      let m = stand.middle in
+      let a : i < m = stands_nonempty schema n scope old i m left stand.left in
       record {
-        top = top_kept from old new schema n scope i j start stop (member base asked) kept behind stands.top;
-        children = stands_kept from old new schema n scope (i + 1) j base kept (omega arith) stands.children;
+        middle = m;
+        left = stands_kept from old new schema n scope i m left kept behind stand.left;
+        right = stands_kept from old new schema n scope m j right kept (omega arith) stand.right;
       }
-  stands_kept from old new schema n scope i j (node start stop (negation operand)) kept behind stands =
+  children_kept from old new schema n scope i j (has left right) kept behind stand =
+      let m = stand.middle in
+      let a : i < m = stands_nonempty schema n scope old i m left stand.left in
       record {
-        top = top_kept from old new schema n scope i j start stop (negation operand) kept behind stands.top;
-        children = stands_kept from old new schema n scope (i + 1) j operand kept (omega arith) stands.children;
+        middle = m;
+        left = stands_kept from old new schema n scope i m left kept behind stand.left;
+        right = stands_kept from old new schema n scope m j right kept (omega arith) stand.right;
       }
-  stands_kept from old new schema n scope i j (node start stop (logical_not operand)) kept behind stands =
+  children_kept from old new schema n scope i j (in_list left items) kept behind stand =
+      let m = stand.middle in
+      let a : i < m = stands_nonempty schema n scope old i m left stand.left in
       record {
-        top = top_kept from old new schema n scope i j start stop (logical_not operand) kept behind stands.top;
-        children = stands_kept from old new schema n scope (i + 1) j operand kept (omega arith) stands.children;
+        middle = m;
+        left = stands_kept from old new schema n scope i m left kept behind stand.left;
+        right = stand_kept from old new schema n scope m j items kept (omega arith) stand.right;
       }
-  stands_kept from old new schema n scope i j (node start stop (binary operator left right)) kept behind stands =
-      let m = stands.children.middle in
-      let a : i + 1 < m = stands_nonempty schema n scope old (i + 1) m left stands.children.left in
+  children_kept from old new schema n scope i j (in_path left path) kept behind stand =
+      let m = stand.middle in
+      let a : i < m = stands_nonempty schema n scope old i m left stand.left in
       record {
-        top = top_kept from old new schema n scope i j start stop (binary operator left right) kept behind stands.top;
-        children = record {
-          middle = m;
-          left = stands_kept from old new schema n scope (i + 1) m left kept (omega arith) stands.children.left;
-          right = stands_kept from old new schema n scope m j right kept (omega arith) stands.children.right;
-        };
+        middle = m;
+        left = stands_kept from old new schema n scope i m left kept behind stand.left;
+        right = stands_kept from old new schema n scope m j path kept (omega arith) stand.right;
       }
-  stands_kept from old new schema n scope i j (node start stop (call asked arguments)) kept behind stands =
-      record {
-        top = top_kept from old new schema n scope i j start stop (call asked arguments) kept behind stands.top;
-        children = stand_kept from old new schema n scope (i + 1) j arguments kept (omega arith) stands.children;
-      }
-  stands_kept from old new schema n scope i j (node start stop _) kept behind stands = absurd stands.children
+  children_kept from old new schema n scope i j (call asked arguments) kept behind stand = stand_kept from old new schema n scope i j arguments kept behind stand
+  children_kept from old new schema n scope i j (any_item base) kept behind stand = stands_kept from old new schema n scope i j base kept behind stand
+  children_kept from old new schema n scope i j _ kept behind stand = absurd stand
 
   pub stand_kept :
       (from : ℕ) (old new : FlatTree) (schema : SchemaModel) (n : ℕ) (scope : Scope) (i j : ℕ) (trees : Trees)
@@ -189,27 +194,3 @@ mutual
         left = stands_kept from old new schema n scope i m tree kept behind stand.left;
         right = stand_kept from old new schema n scope m j trees kept (omega arith) stand.right;
       }
-
--- and so do the children of a node
-pub children_kept :
-    (from : ℕ) (old new : FlatTree) (schema : SchemaModel) (n : ℕ) (scope : Scope) (i j : ℕ) (shape : Shape)
-    → IsKeptFrom from old new
-    → from ≤ i
-    → ChildrenStand schema n scope old i j shape
-    → ChildrenStand schema n scope new i j shape
-children_kept from old new schema n scope i j (literal kind spelling) kept behind stands = stands
-children_kept from old new schema n scope i j it kept behind stands = stands
-children_kept from old new schema n scope i j (name asked) kept behind stands = stands
-children_kept from old new schema n scope i j (member base asked) kept behind stands = stands_kept from old new schema n scope i j base kept behind stands
-children_kept from old new schema n scope i j (negation operand) kept behind stands = stands_kept from old new schema n scope i j operand kept behind stands
-children_kept from old new schema n scope i j (logical_not operand) kept behind stands = stands_kept from old new schema n scope i j operand kept behind stands
-children_kept from old new schema n scope i j (binary operator left right) kept behind stands =
-    let m = stands.middle in
-    let a : i < m = stands_nonempty schema n scope old i m left stands.left in
-    record {
-      middle = m;
-      left = stands_kept from old new schema n scope i m left kept behind stands.left;
-      right = stands_kept from old new schema n scope m j right kept (omega arith) stands.right;
-    }
-children_kept from old new schema n scope i j (call asked arguments) kept behind stands = stand_kept from old new schema n scope i j arguments kept behind stands
-children_kept from old new schema n scope i j _ kept behind stands = absurd stands

@@ -1,12 +1,12 @@
 -- A tree calls a function where a node of its list does.
-use Rattle.std.proofs.Common.{◌≡◌, ◌≢◌, ◌↔◌, ◌∙◌, refl, sym, ap, subst, inl, inr, ℕ, zero, suc, ◌<◌, ◌+◌, List, [], ◌∷◌, ◌++◌, Bool, true, false, Some, append-nil, append_assoc, length, slice_get, arith}
+use Rattle.std.proofs.Common.{◌≡◌, ◌↔◌, ◌∙◌, refl, sym, ap, subst, inl, inr, ℕ, zero, suc, ◌<◌, List, [], ◌∷◌, ◌++◌, Bool, true, false, Some, append-nil, length, slice_get, arith}
 use Rattle.std.specs.Prelude.{◌||◌, Contains, codes, slice_index_or}
 use Rattle.std.specs.List.{flat_map, list_any}
 use Rattle.std.proofs.lemmas.Option.{none-some, slice_get_within}
 use Rattle.odata_syntax.specs.Spans.{IsWithin, children_of, in_child, is_root, list_of_trees}
 use Rattle.odata_syntax.specs.Tree.{Shape, Tree, Trees, any_item, binary, call, count, has, in_list, in_path, it, lambda, literal, logical_not, member, more_trees, name, negation, no_trees, node, shape_of}
 use Rattle.csdl_schema.specs.SchemaModel.{Slots, slots_of, type_name_at}
-use Rattle.odata_signatures.specs.Functions.{IsNamed, row_of}
+use Rattle.odata_signatures.specs.Functions.{IsNamed}
 use Rattle.odata_signatures.specs.declared.function.Function.{Function}
 use Rattle.edm_values.specs.declared.value.Value.{Value}
 use Rattle.odata_expression_types.specs.Considered.{IsAmong, IsConsidered, IsConsideredChild, children_in_scope, considers_below, considers_itself}
@@ -18,7 +18,7 @@ use Rattle.odata_checked_filter.specs.Calls.{CallsOne, TakesMemory, UsesNow}
 use Rattle.odata_checked_filter.specs.Filter.{Filter, IsFilter, tree_of_filter}
 use Rattle.odata_checked_filter.specs.Stands.{IsKindOf, Stands}
 use Rattle.odata_checked_filter.specs.private.CalledKinds.{function_makes_text, kind_is_now, kind_makes_text}
-use Rattle.odata_checked_filter.proofs.flat.Numbered.{IsNumbered, count_of, numbered}
+use Rattle.odata_checked_filter.proofs.flat.Numbered.{count_of, numbered}
 use Rattle.odata_checked_filter.proofs.flat.Places.{found_within, same_found}
 
 -- ---- nodes below and nodes in order
@@ -143,25 +143,25 @@ pub record Tests (test : NodeKind → Bool) (functions : List (List ℕ)) : Type
       (values : List Value) (slots : Slots) (root : List ℕ) (scope : Scope) (called : List ℕ) (arguments : Trees) (kind : NodeKind)
       → IsKindOf values slots root scope (call called arguments) kind → Contains functions called → test kind ≡ true
 
-node_calls : (test : NodeKind → Bool) (functions : List (List ℕ)) (filter : Filter) (k stop : ℕ) (part : Tree) (found : CheckedNode)
-    → Tests test functions → Stands filter.schema filter.filtered [] filter.list k stop part → slice_get filter.list.nodes k ≡ Some found
+node_calls : (test : NodeKind → Bool) (functions : List (List ℕ)) (filter : Filter) (scope : Scope) (k stop : ℕ) (part : Tree) (found : CheckedNode)
+    → Tests test functions → Stands filter.schema filter.filtered scope filter.list k stop part → slice_get filter.list.nodes k ≡ Some found
     → test found.kind ≡ true → IsWithin part (tree_of_filter filter) → CallsOne functions (tree_of_filter filter)
-node_calls test functions filter k stop (node s e shape) found tests stands here passes within =
+node_calls test functions filter scope k stop (node s e shape) found tests stands here passes within =
     let top = stands.top in
     let same : top.found ≡ found = same_found (slice_get filter.list.nodes k) top.found found top.stands_at here in
-    let is = tests.sound filter.list.values (slots_of filter.schema) (type_name_at filter.schema filter.filtered) [] shape top.found.kind top.kind
+    let is = tests.sound filter.list.values (slots_of filter.schema) (type_name_at filter.schema filter.filtered) scope shape top.found.kind top.kind
     (ap (λ (f : CheckedNode). test f.kind) same ∙ passes) in
     record { part = node s e shape; within = within; called = is.0; arguments = is.1; is_call = is.2; one = is.3 }
 
-call_passes : (test : NodeKind → Bool) (functions : List (List ℕ)) (filter : Filter) (k stop : ℕ) (part : Tree) (found : CheckedNode) (called : List ℕ) (arguments : Trees)
-    → Tests test functions → Stands filter.schema filter.filtered [] filter.list k stop part → slice_get filter.list.nodes k ≡ Some found
+call_passes : (test : NodeKind → Bool) (functions : List (List ℕ)) (filter : Filter) (scope : Scope) (k stop : ℕ) (part : Tree) (found : CheckedNode) (called : List ℕ) (arguments : Trees)
+    → Tests test functions → Stands filter.schema filter.filtered scope filter.list k stop part → slice_get filter.list.nodes k ≡ Some found
     → shape_of part ≡ call called arguments → Contains functions called → test found.kind ≡ true
-call_passes test functions filter k stop (node s e shape) found called arguments tests stands here is_call one =
+call_passes test functions filter scope k stop (node s e shape) found called arguments tests stands here is_call one =
     let top = stands.top in
     let same : top.found ≡ found = same_found (slice_get filter.list.nodes k) top.found found top.stands_at here in
-    let K : Shape → Type 0 = λ (x : Shape). IsKindOf filter.list.values (slots_of filter.schema) (type_name_at filter.schema filter.filtered) [] x top.found.kind in
+    let K : Shape → Type 0 = λ (x : Shape). IsKindOf filter.list.values (slots_of filter.schema) (type_name_at filter.schema filter.filtered) scope x top.found.kind in
     ap (λ (f : CheckedNode). test f.kind) (sym same)
-    ∙ tests.complete filter.list.values (slots_of filter.schema) (type_name_at filter.schema filter.filtered) [] called arguments top.found.kind (subst K is_call top.kind) one
+    ∙ tests.complete filter.list.values (slots_of filter.schema) (type_name_at filter.schema filter.filtered) scope called arguments top.found.kind (subst K is_call top.kind) one
 
 pub calls_by_nodes : (test : NodeKind → Bool) (functions : List (List ℕ)) (filter : Filter) → Tests test functions → IsFilter filter
     → (list_any (λ (n : CheckedNode). test n.kind) filter.list.nodes ≡ true) ↔ CallsOne functions (tree_of_filter filter)
@@ -171,17 +171,17 @@ calls_by_nodes test functions filter tests is =
       λ any.
           let f = any_found (λ (n : CheckedNode). test n.kind) nodes any in
           let n = numbered filter f.0 f.1 is f.2 in
-          node_calls test functions filter f.0 n.stop n.at.part f.1 tests n.stands f.2 f.3
-          (within_considered (slots_of filter.schema) (type_name_at filter.schema filter.filtered) [] tree [] n.at.part n.considered),
+          node_calls test functions filter n.scope f.0 n.stop n.part f.1 tests n.stands f.2 f.3
+          (within_considered (slots_of filter.schema) (type_name_at filter.schema filter.filtered) [] tree n.scope n.part n.considered),
       λ calls.
           let k = ordered tree calls.part calls.within in
           let count : length nodes ≡ length (pre_order tree) = count_of filter is in
           let within : k.0 < length (pre_order tree) = slice_get_within (pre_order tree) k.0 calls.part k.1 in
           let f = found_within nodes k.0 (omega arith) in
           let n = numbered filter k.0 f.0 is f.1 in
-          let same : calls.part ≡ n.at.part = same_found (slice_get (pre_order tree) k.0) calls.part n.at.part k.1 n.ordered in
+          let same : calls.part ≡ n.part = same_found (slice_get (pre_order tree) k.0) calls.part n.part k.1 n.ordered in
           found_any (λ (m : CheckedNode). test m.kind) nodes k.0 f.0 f.1
-          (call_passes test functions filter k.0 n.stop n.at.part f.0 calls.called calls.arguments tests n.stands f.1
+          (call_passes test functions filter n.scope k.0 n.stop n.part f.0 calls.called calls.arguments tests n.stands f.1
           (sym (ap shape_of same) ∙ calls.is_call) calls.one),
     )
 
@@ -219,6 +219,11 @@ maker_sound values slots root scope (member base asked) (NodeKind.Call function)
 maker_sound values slots root scope (negation operand) (NodeKind.Call function) is passes = cc
 maker_sound values slots root scope (logical_not operand) (NodeKind.Call function) is passes = cc
 maker_sound values slots root scope (binary operator left right) (NodeKind.Call function) is passes = cc
+maker_sound values slots root scope (count base) (NodeKind.Call function) is passes = cc
+maker_sound values slots root scope (any_item base) (NodeKind.Call function) is passes = cc
+maker_sound values slots root scope (has left right) (NodeKind.Call function) is passes = cc
+maker_sound values slots root scope (in_list left items) (NodeKind.Call function) is passes = cc
+maker_sound values slots root scope (in_path left path) (NodeKind.Call function) is passes = cc
 maker_sound values slots root scope _ (NodeKind.Call function) is passes = absurd is
 maker_sound values slots root scope shape _ is passes = cc
 
@@ -243,6 +248,11 @@ now_sound values slots root scope (member base asked) NodeKind.Now is passes = a
 now_sound values slots root scope (negation operand) NodeKind.Now is passes = cc
 now_sound values slots root scope (logical_not operand) NodeKind.Now is passes = cc
 now_sound values slots root scope (binary operator left right) NodeKind.Now is passes = cc
+now_sound values slots root scope (count base) NodeKind.Now is passes = cc
+now_sound values slots root scope (any_item base) NodeKind.Now is passes = cc
+now_sound values slots root scope (has left right) NodeKind.Now is passes = cc
+now_sound values slots root scope (in_list left items) NodeKind.Now is passes = cc
+now_sound values slots root scope (in_path left path) NodeKind.Now is passes = cc
 now_sound values slots root scope _ NodeKind.Now is passes = absurd is
 now_sound values slots root scope shape _ is passes = cc
 

@@ -1,7 +1,6 @@
 -- For private clauses: which functions a node calls, by its kind.
 use Rattle.std.specs.Prelude.{Bool, true, false}
 use Rattle.odata_signatures.specs.declared.function.Function.{Function}
-use Rattle.odata_checked_filter.specs.declared.checked_node.CheckedNode.{CheckedNode}
 use Rattle.odata_checked_filter.specs.declared.checked_node.NodeKind.{NodeKind}
 
 -- the function makes a text

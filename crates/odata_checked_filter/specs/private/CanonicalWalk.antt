@@ -1,19 +1,18 @@
 -- For private clauses: what the walk that writes the canonical text of a list has still to write.
-use Rattle.std.specs.Prelude.{◌≡◌, ℕ, ◌+◌, ◌*◌, ◌-◌, ◌<◌, ◌≤◌, List, [], ◌∷◌, ◌++◌, Some, codes, length, if◌then◌else◌, nat_lt, option_map, slice_get, sum_by, unwrap_or}
+use Rattle.std.specs.Prelude.{◌≡◌, ℕ, ◌+◌, ◌*◌, ◌-◌, ◌<◌, List, [], ◌∷◌, ◌++◌, Some, codes, if◌then◌else◌, nat_lt, option_map, slice_get, sum_by, unwrap_or}
 use Rattle.odata_syntax.specs.CanonicalText.{IsCanonicalText, further_text, grouped, tree_level, tree_text}
-use Rattle.odata_syntax.specs.Grammar.{Level, base_level, operator_level, unary_level}
-use Rattle.odata_syntax.specs.Lexeme.{operator_word}
+use Rattle.odata_syntax.specs.Grammar.{Level, base_level, operator_level, path_level}
 use Rattle.odata_syntax.specs.NormalForm.{AreNormalForms, IsNormalForm}
 use Rattle.odata_syntax.specs.Tree.{Tree, Trees}
-use Rattle.odata_syntax.specs.declared.node.BinaryOperator.{BinaryOperator}
 use Rattle.csdl_schema.specs.SchemaModel.{SchemaModel}
 use Rattle.odata_checked_filter.specs.declared.canonical_text.Part.{Part}
-use Rattle.odata_checked_filter.specs.declared.canonical_text.Part.TheVariants.{Close, Further, Operand, Operator, Step}
+use Rattle.odata_checked_filter.specs.declared.canonical_text.Part.TheVariants.{Close, Further, Joint, Operand}
 use Rattle.odata_checked_filter.specs.declared.checked_node.CheckedNode.{CheckedNode}
 use Rattle.odata_checked_filter.specs.declared.checked_node.NodeKind.{NodeKind}
 use Rattle.odata_signatures.specs.Functions.{row_of}
 use Rattle.odata_checked_filter.specs.FlatTree.{FlatTree}
 use Rattle.odata_checked_filter.specs.Stands.{AllStand, Stands}
+use Rattle.odata_checked_filter.specs.private.KindTexts.{first_level, joint_text}
 use Rattle.odata_expression_types.specs.Typed.{Scope}
 
 -- the nodes from the i-th on stand for the tree, in some schema and scope
@@ -35,21 +34,17 @@ pub record AllThere (list : FlatTree) (i j : ℕ) (trees : Trees) : Type 0 where
   pub scope : Scope
   pub stand : AllStand schema filtered scope list i j trees
 
--- what is still to be written: an operator between spaces, a slash and a name, arguments each behind a comma, `)`, and an
--- operand whose place needs a level
+-- what is still to be written: some text as it is, further arguments each behind a comma, and an operand whose place
+-- needs a level
 pub data Piece : Type 0 where
-  between : BinaryOperator → Piece
-  behind_slash : List ℕ → Piece
+  plain : List ℕ → Piece
   further : Trees → Piece
-  closing : Piece
   operand : Level → Tree → Piece
 
 -- the text of a piece
 abbrev pub IsPieceText : Piece → List ℕ → Type 0
-IsPieceText (between operator) text = text ≡ 32 ∷ (operator_word operator ++ 32 ∷ [])
-IsPieceText (behind_slash asked) text = text ≡ 47 ∷ asked
+IsPieceText (plain spelled) text = text ≡ spelled
 IsPieceText (further trees) text = (normals : Trees) × AreNormalForms trees normals × (text ≡ further_text normals)
-IsPieceText closing text = text ≡ 41 ∷ []
 IsPieceText (operand level tree) text =
     (normal : Tree) × IsNormalForm tree normal × (text ≡ grouped level (tree_level normal) (tree_text normal))
 
@@ -68,20 +63,21 @@ ArePieceTexts (piece ∷ pieces) text = IsBehind (λ front. ArePieceTexts pieces
 -- an operand's place needs a level, and a tree stands there
 pub record IsOperandOf (list : FlatTree) (place needed level : ℕ) (tree : Tree) : Type 0 where
   pub same : needed ≡ level
-  pub within : level ≤ base_level
   pub there : StandsThere list place tree
 
--- a name stands beside a node
-pub record HasNameBeside (list : FlatTree) (place : ℕ) (asked : List ℕ) : Type 0 where
-  pub within : place < length list.nodes
-  pub beside : slice_get list.texts place ≡ Some asked
+-- a node stands there that has this behind its first operand
+pub record IsJointAt (list : FlatTree) (place : ℕ) (text : List ℕ) : Type 0 where
+  pub found : CheckedNode
+  pub at : slice_get list.nodes place ≡ Some found
+  pub beside : List ℕ
+  pub text_at : slice_get list.texts place ≡ Some beside
+  pub is : text ≡ joint_text found.kind beside
 
 -- what a part of the code stands for
 abbrev pub IsPieceOf : FlatTree → Part → Piece → Type 0
-IsPieceOf list (Operator word) (between operator) = word ≡ operator
-IsPieceOf list (Step place) (behind_slash asked) = HasNameBeside list place asked
+IsPieceOf list (Joint place) (plain text) = IsJointAt list place text
+IsPieceOf list Close (plain text) = text ≡ 41 ∷ []
 IsPieceOf list (Further place stop) (further trees) = AllThere list place stop trees
-IsPieceOf list Close closing = Unit {0}
 IsPieceOf list (Operand place needed) (operand level tree) = IsOperandOf list place needed level tree
 IsPieceOf list _ _ = ⊥
 
@@ -95,19 +91,22 @@ abbrev pub stop_at : FlatTree → ℕ → ℕ
 stop_at list i = unwrap_or (option_map (λ (found : CheckedNode). found.stop) (slice_get list.nodes i)) i
 
 -- how much there is to write: the nodes of operands and arguments count most
+abbrev pub node_weight : FlatTree → ℕ → ℕ
+node_weight list i = 4 * (stop_at list i - (i + 1)) + 3
+
 abbrev pub part_weight : FlatTree → Part → ℕ
-part_weight list (Operand place needed) = 3 * (stop_at list place - (place + 1)) + 2
-part_weight list (Further place stop) = 3 * (stop - place) + 1
+part_weight list (Operand place needed) = node_weight list place
+part_weight list (Further place stop) = 4 * (stop - place) + 1
 part_weight list _ = 1
 
 abbrev pub weight : FlatTree → List Part → ℕ
 weight list parts = sum_by (part_weight list) parts
 
--- a text, and parts that are still to be written behind it, stand for the piece
-pub record GoesOn (list : FlatTree) (parts : List Part) (text : List ℕ) (piece : Piece) : Type 0 where
+-- a text, and behind it what these parts stand for, are such a text
+pub record GoesOn (list : FlatTree) (parts : List Part) (text : List ℕ) (Whole : List ℕ → Type 0) : Type 0 where
   pub pieces : List Piece
   pub are : ArePiecesOf list parts pieces
-  pub whole : (rest : List ℕ) → ArePieceTexts pieces rest → IsPieceText piece (text ++ rest)
+  pub whole : (rest : List ℕ) → ArePieceTexts pieces rest → Whole (text ++ rest)
 
 -- a part was written, or its beginning, and the rest was put on the stack
 pub record WritesPart (list : FlatTree) (part : Part) (before after : List ℕ) (old new : List Part) : Type 0 where
@@ -116,19 +115,24 @@ pub record WritesPart (list : FlatTree) (part : Part) (before after : List ℕ) 
   pub lighter : weight list parts < part_weight list part
   pub text : List ℕ
   pub written : after ≡ before ++ text
-  pub goes_on : (piece : Piece) → IsPieceOf list part piece → GoesOn list parts text piece
+  pub goes_on : (piece : Piece) → IsPieceOf list part piece → GoesOn list parts text (IsPieceText piece)
+
+-- the node at a place was written without parentheses, or its beginning, and the rest was put on the stack
+pub record WritesNode (list : FlatTree) (place : ℕ) (before after : List ℕ) (old new : List Part) : Type 0 where
+  pub parts : List Part
+  pub pushed : new ≡ old ++ parts
+  pub lighter : weight list parts + 1 < node_weight list place
+  pub text : List ℕ
+  pub written : after ≡ before ++ text
+  pub goes_on : (tree : Tree) → StandsThere list place tree → GoesOn list parts text (IsCanonicalText tree)
 
 -- behind the text stands what the parts on the stack stand for, and the whole is the canonical text
-pub record IsPending (list : FlatTree) (tree : Tree) (text : List ℕ) (parts : List Part) : Type 0 where
-  pub pieces : List Piece
-  pub are : ArePiecesOf list parts pieces
-  pub whole : (rest : List ℕ) → ArePieceTexts pieces rest → IsCanonicalText tree (text ++ rest)
+abbrev pub IsPending : FlatTree → Tree → List ℕ → List Part → Type 0
+IsPending list tree text parts = GoesOn list parts text (IsCanonicalText tree)
 
--- the operands of the operator at a place, the left one last, and the operator between them
-abbrev pub operands_of : FlatTree → ℕ → BinaryOperator → List Part
-operands_of list i operator =
-    Operand (stop_at list (i + 1)) (operator_level operator + 1)
-    ∷ (Operator operator ∷ (Operand (i + 1) (operator_level operator) ∷ []))
+-- an operand on the stack
+abbrev pub operand_of : ℕ → ℕ → List Part
+operand_of place needed = Operand place needed ∷ []
 
 -- the arguments from a place up to another, the first one last
 abbrev pub arguments_of : FlatTree → ℕ → ℕ → List Part
@@ -139,13 +143,19 @@ arguments_of list place stop =
 abbrev pub comma_before : ℕ → ℕ → List ℕ
 comma_before place stop = if nat_lt place stop then 44 ∷ [] else []
 
--- a step to a member, and what stands before its slash last
-abbrev pub step_parts : ℕ → List Part
-step_parts i = Step i ∷ (Operand (i + 1) 0 ∷ [])
+-- what a node of a kind has behind its first operand and what stands there: its second operand stands at a place, and it
+-- stops at another
+abbrev pub behind_kind : FlatTree → NodeKind → ℕ → ℕ → List Part
+behind_kind list (NodeKind.Binary operator) second stop = operand_of second (operator_level operator + 1)
+behind_kind list NodeKind.Has second stop = operand_of second base_level
+behind_kind list NodeKind.InPath second stop = operand_of second path_level
+behind_kind list NodeKind.InList second stop = Close ∷ arguments_of list second stop
+behind_kind list _ second stop = []
 
--- the operand of a sign
-abbrev pub operand_of : ℕ → List Part
-operand_of i = Operand i unary_level ∷ []
+-- the operands of a node of a kind, the first one last, and what it has between them
+abbrev pub joining_parts : FlatTree → NodeKind → ℕ → List Part
+joining_parts list kind i =
+    behind_kind list kind (stop_at list (i + 1)) (stop_at list i) ++ (Joint i ∷ operand_of (i + 1) (first_level kind))
 
 -- the text of a sign with the space behind it
 abbrev pub IsSign : NodeKind → List ℕ → Type 0
@@ -158,12 +168,6 @@ pub record IsSignAt (list : FlatTree) (i : ℕ) (text : List ℕ) : Type 0 where
   pub found : CheckedNode
   pub at : slice_get list.nodes i ≡ Some found
   pub is : IsSign found.kind text
-
--- the operator stands there
-pub record IsBinaryAt (list : FlatTree) (i : ℕ) (operator : BinaryOperator) : Type 0 where
-  pub found : CheckedNode
-  pub at : slice_get list.nodes i ≡ Some found
-  pub is : found.kind ≡ NodeKind.Binary operator
 
 -- a node of that kind calls the function of that name
 abbrev pub IsCallOf : NodeKind → List ℕ → Type 0
@@ -187,14 +191,3 @@ pub record IsTextAdded (list : FlatTree) (i : ℕ) (before after : List ℕ) : T
   pub spelling : List ℕ
   pub beside : slice_get list.texts i ≡ Some spelling
   pub added : after ≡ before ++ spelling
-
--- a slash and the text beside a node were put behind
-pub record IsStepAdded (list : FlatTree) (i : ℕ) (before after : List ℕ) : Type 0 where
-  pub asked : List ℕ
-  pub beside : slice_get list.texts i ≡ Some asked
-  pub added : after ≡ before ++ 47 ∷ asked
-
--- a sign was put behind, and its operand on the stack
-pub record IsSignPut (sign : List ℕ) (i : ℕ) (before after : List ℕ) (old new : List Part) : Type 0 where
-  pub text : after ≡ before ++ sign
-  pub pending : new ≡ old ++ operand_of i

@@ -17,9 +17,14 @@ kind_label NodeKind.It beside = codes "$it"
 kind_label (NodeKind.Property slot) beside = codes "property " ++ beside
 kind_label (NodeKind.Variable level) beside = codes "variable " ++ beside
 kind_label (NodeKind.Member slot) beside = codes "member " ++ beside
+kind_label NodeKind.Count beside = codes "$count"
+kind_label NodeKind.AnyItem beside = codes "any"
 kind_label NodeKind.Neg beside = codes "-"
 kind_label NodeKind.Not beside = codes "not"
 kind_label (NodeKind.Binary operator) beside = operator_word operator
+kind_label NodeKind.Has beside = codes "has"
+kind_label NodeKind.InList beside = codes "in"
+kind_label NodeKind.InPath beside = codes "in"
 kind_label (NodeKind.Call function) beside = (row_of function).name
 kind_label NodeKind.Now beside = (row_of Function.Now).name
 

@@ -14,16 +14,26 @@ use Rattle.odata_signatures.specs.declared.function.Function.{Function}
 use Rattle.odata_signatures.specs.declared.operator_class.OperatorClass.{OperatorClass}
 use Rattle.odata_eval.specs.declared.fault.EvalFault.{EvalFault}
 use Rattle.odata_eval.specs.declared.part.WalkClass.{WalkClass}
+use Rattle.odata_signatures.specs.CollectionTyped.{IsComparableWithMembers}
+use Rattle.odata_signatures.specs.HasTyped.{AreFlags}
 use Rattle.odata_eval.specs.CalculationGives.{number_val}
+use Rattle.odata_eval.specs.CollectionGives.{AnyItemGives, CountGives}
+use Rattle.odata_eval.specs.HasGives.{HasGives}
+use Rattle.odata_eval.specs.LambdaGives.{InGives}
+use Rattle.odata_eval.specs.Outcome.{gives}
 use Rattle.odata_eval.specs.TruthGives.{truth_val}
 use Rattle.odata_eval.specs.private.DatumView.{reading_at}
-use Rattle.odata_eval.specs.private.Place.{HasCall, IsStopOf, NumberStands, PartStands, TruthStands}
+use Rattle.odata_eval.specs.private.Place.{HasCall, HasKind, IsStopOf, NumberStands, PartStands, TruthStands}
 use Rattle.odata_eval.specs.private.WalkClass.{walk_of_kind}
 use Rattle.odata_eval.specs.private.WalkAnswer.{AllAnswered, AnswersDatum, AnswersNumber, AnswersTruth}
 use Rattle.odata_eval.specs.private.SceneModel.{SceneModel}
 use Rattle.odata_eval.proofs.walking.Parts.{found_there, part_inside, there_found}
 use Rattle.odata_eval.proofs.walking.CallSteps.{OneName, argument_behind, argument_faults, argument_stands, call_answers, call_applies, first_argument, third_is_last}
 use Rattle.odata_eval.proofs.meaning.LawsBelow.{Promotes}
+use Rattle.odata_eval.proofs.walking.BaseSteps.{any_item_base, base_answers, base_members, count_base}
+use Rattle.odata_eval.proofs.walking.ItemSteps.{item_differs, item_equals, item_faults, items_there, list_begins, may_compare_item, next_item, no_item, stop_further}
+use Rattle.odata_eval.proofs.walking.MemberValues.{flags_are, path_gives, some_compared}
+use Rattle.odata_eval.proofs.walking.Sides.{flags_sides, next_faults, next_further, next_part, next_there, path_sides, sides_answer, some_sides}
 use Rattle.odata_eval.proofs.walking.MemberSteps.{step_answers, step_slot}
 use Rattle.odata_eval.proofs.walking.Compared.{kept_compared, may_compare, may_compare_kept, numbers_compared, truth_compared}
 use Rattle.odata_eval.proofs.walking.KeptValues.{kept_value, value_kept}
@@ -538,3 +548,145 @@ walk::called_truth_at-returns-in-Err t c =
     let all = two_are_all c.args.scene.now c.calls_have_one_type.ensures.named c.args.place c.args.function c.requires.here c.stop_of-own_stop.result c.stop_of-own_stop.ensures (typed_part c.args.scene.now c.args.place IsBooleanOrNull c.requires.stands) c.stop_of-second_place.result c.stop_of-second_place.ensures c.datum_of-first.result first c.if-second_place-own_stop.false c.stop_of.result c.stop_of.ensures c.if-stop_of-own_stop.false c.datum_of-second.result next in
     let given : AnswersDatum c.args.scene.now c.args.place c.called_on_two.result = call_answers c.args.scene.now c.calls_have_one_type.ensures.named c.args.place c.args.function c.requires.here c.stop_of-own_stop.result c.stop_of-own_stop.ensures c.ends_once.ensures (c.datum_of-first.result ∷ c.datum_of-second.result ∷ []) all c.called_on_two.result (λ r s. c.called_on_two.ensures c.args.scene.now.moment r s) in
     subst (λ (r : Result Datum EvalFault). AnswersDatum c.args.scene.now c.args.place r) c.in-Err.is given
+
+-- ---- a collection: `$count`, `any()`, `in`; and `has`
+
+pub walk::made_at-count_of-requires : goal.walk::made_at-count_of-requires
+walk::made_at-count_of-requires t c =
+    let first : AnswersDatum c.args.scene.now (c.args.place + 1) (Ok c.in-Ok.first) = subst (λ (r : Result Datum EvalFault). AnswersDatum c.args.scene.now (c.args.place + 1) r) c.in-Ok.is c.requires.first in
+    let here : HasKind c.args.scene.now.list c.args.place NodeKind.Count = there_found (λ (f : CheckedNode). f.kind ≡ NodeKind.Count) (slice_get c.args.scene.now.list.nodes c.args.place) c.node.result.now c.node.ensures c.in-Count.is in
+    base_members c.args.scene.now c.args.place CountGives (count_base c.args.scene.now c.args.place here) c.in-Ok.first first c.ends_once.ensures c.requires.stands
+
+pub walk::made_at-returns-in-Count : goal.walk::made_at-returns-in-Count
+walk::made_at-returns-in-Count t c =
+    let first : AnswersDatum c.args.scene.now (c.args.place + 1) (Ok c.in-Ok.first) = subst (λ (r : Result Datum EvalFault). AnswersDatum c.args.scene.now (c.args.place + 1) r) c.in-Ok.is c.requires.first in
+    let here : HasKind c.args.scene.now.list c.args.place NodeKind.Count = there_found (λ (f : CheckedNode). f.kind ≡ NodeKind.Count) (slice_get c.args.scene.now.list.nodes c.args.place) c.node.result.now c.node.ensures c.in-Count.is in
+    base_answers c.args.scene.now c.args.place CountGives (count_base c.args.scene.now c.args.place here) c.in-Ok.first first c.count_of.result c.count_of.ensures
+
+pub walk::made_at-any_item_of-requires : goal.walk::made_at-any_item_of-requires
+walk::made_at-any_item_of-requires t c =
+    let first : AnswersDatum c.args.scene.now (c.args.place + 1) (Ok c.in-Ok.first) = subst (λ (r : Result Datum EvalFault). AnswersDatum c.args.scene.now (c.args.place + 1) r) c.in-Ok.is c.requires.first in
+    let here : HasKind c.args.scene.now.list c.args.place NodeKind.AnyItem = there_found (λ (f : CheckedNode). f.kind ≡ NodeKind.AnyItem) (slice_get c.args.scene.now.list.nodes c.args.place) c.node.result.now c.node.ensures c.in-AnyItem.is in
+    base_members c.args.scene.now c.args.place AnyItemGives (any_item_base c.args.scene.now c.args.place here) c.in-Ok.first first c.ends_once.ensures c.requires.stands
+
+pub walk::made_at-returns-in-AnyItem : goal.walk::made_at-returns-in-AnyItem
+walk::made_at-returns-in-AnyItem t c =
+    let first : AnswersDatum c.args.scene.now (c.args.place + 1) (Ok c.in-Ok.first) = subst (λ (r : Result Datum EvalFault). AnswersDatum c.args.scene.now (c.args.place + 1) r) c.in-Ok.is c.requires.first in
+    let here : HasKind c.args.scene.now.list c.args.place NodeKind.AnyItem = there_found (λ (f : CheckedNode). f.kind ≡ NodeKind.AnyItem) (slice_get c.args.scene.now.list.nodes c.args.place) c.node.result.now c.node.ensures c.in-AnyItem.is in
+    base_answers c.args.scene.now c.args.place AnyItemGives (any_item_base c.args.scene.now c.args.place here) c.in-Ok.first first (Ok c.any_item_of.result) c.any_item_of.ensures
+
+pub walk::made_at-flags_at-requires : goal.walk::made_at-flags_at-requires
+walk::made_at-flags_at-requires t c =
+    let first : AnswersDatum c.args.scene.now (c.args.place + 1) (Ok c.in-Ok.first) = subst (λ (r : Result Datum EvalFault). AnswersDatum c.args.scene.now (c.args.place + 1) r) c.in-Ok.is c.requires.first in
+    let here : HasKind c.args.scene.now.list c.args.place NodeKind.Has = there_found (λ (f : CheckedNode). f.kind ≡ NodeKind.Has) (slice_get c.args.scene.now.list.nodes c.args.place) c.node.result.now c.node.ensures c.in-Has.is in
+    let smaller : 16 * (length c.args.scene.now.list.nodes - c.args.place) + 3 < 16 * (length c.args.scene.now.list.nodes - c.args.place) + 4 = omega arith in
+    search rules
+
+pub walk::made_at-among_at-requires : goal.walk::made_at-among_at-requires
+walk::made_at-among_at-requires t c =
+    let first : AnswersDatum c.args.scene.now (c.args.place + 1) (Ok c.in-Ok.first) = subst (λ (r : Result Datum EvalFault). AnswersDatum c.args.scene.now (c.args.place + 1) r) c.in-Ok.is c.requires.first in
+    let here : HasKind c.args.scene.now.list c.args.place NodeKind.InPath = there_found (λ (f : CheckedNode). f.kind ≡ NodeKind.InPath) (slice_get c.args.scene.now.list.nodes c.args.place) c.node.result.now c.node.ensures c.in-InPath.is in
+    let smaller : 16 * (length c.args.scene.now.list.nodes - c.args.place) + 3 < 16 * (length c.args.scene.now.list.nodes - c.args.place) + 4 = omega arith in
+    search rules
+
+pub walk::made_at-listed_at-requires : goal.walk::made_at-listed_at-requires
+walk::made_at-listed_at-requires t c =
+    let first : AnswersDatum c.args.scene.now (c.args.place + 1) (Ok c.in-Ok.first) = subst (λ (r : Result Datum EvalFault). AnswersDatum c.args.scene.now (c.args.place + 1) r) c.in-Ok.is c.requires.first in
+    let here : HasKind c.args.scene.now.list c.args.place NodeKind.InList = there_found (λ (f : CheckedNode). f.kind ≡ NodeKind.InList) (slice_get c.args.scene.now.list.nodes c.args.place) c.node.result.now c.node.ensures c.in-InList.is in
+    let smaller : 16 * (length c.args.scene.now.list.nodes - c.args.place) + 3 < 16 * (length c.args.scene.now.list.nodes - c.args.place) + 4 = omega arith in
+    search rules
+
+pub collection_walk::flags_at-right_of-requires : goal.collection_walk::flags_at-right_of-requires
+collection_walk::flags_at-right_of-requires t c = next_there c.args.scene.now c.args.place AreFlags HasGives (flags_sides c.args.scene.now c.args.place c.requires.here) c.requires.stands
+
+pub collection_walk::flags_at-operand_at-requires : goal.collection_walk::flags_at-operand_at-requires
+collection_walk::flags_at-operand_at-requires t c =
+    let inside : c.args.place < length c.args.scene.now.list.nodes = part_inside c.args.scene.now c.args.place c.requires.stands in
+    let behind : c.args.place < c.right_of.result = next_further c.args.scene.now c.args.place AreFlags HasGives (flags_sides c.args.scene.now c.args.place c.requires.here) c.right_of.result c.right_of.ensures c.requires.stands in
+    let smaller : 16 * (length c.args.scene.now.list.nodes - c.right_of.result) + 12 < 16 * (length c.args.scene.now.list.nodes - c.args.place) + 3 = omega arith in
+    let stands : PartStands c.args.scene.now c.right_of.result = next_part c.args.scene.now c.args.place AreFlags HasGives (flags_sides c.args.scene.now c.args.place c.requires.here) c.right_of.result c.right_of.ensures c.requires.stands in
+    search rules
+
+pub collection_walk::flags_at-flags_of-requires : goal.collection_walk::flags_at-flags_of-requires
+collection_walk::flags_at-flags_of-requires t c =
+    let there = some_sides c.args.scene.now c.args.place AreFlags HasGives (flags_sides c.args.scene.now c.args.place c.requires.here) c.right_of.result c.right_of.ensures c.args.left.now c.requires.left c.in-Ok.right c.in-Ok.ensures c.ends_once.ensures c.requires.stands in
+    let are = flags_are (slots_of c.args.scene.now.row.schema) there.0 there.1 c.args.left.now c.in-Ok.right there.2.0 there.2.1 there.2.2 in
+    record { left = are.0; right = are.1 }
+
+pub collection_walk::flags_at-returns-in-Ok : goal.collection_walk::flags_at-returns-in-Ok
+collection_walk::flags_at-returns-in-Ok t c =
+    let slots = slots_of c.args.scene.now.row.schema in
+    sides_answer c.args.scene.now c.args.place AreFlags HasGives (flags_sides c.args.scene.now c.args.place c.requires.here) c.right_of.result c.right_of.ensures c.args.left.now c.requires.left c.in-Ok.right c.in-Ok.ensures c.ends_once.ensures c.flags_of.result
+    (λ s t type are of_left of_right. c.flags_of.ensures (reading_at slots s) (reading_at slots t) (reading_at slots type))
+
+pub collection_walk::flags_at-returns-in-Err : goal.collection_walk::flags_at-returns-in-Err
+collection_walk::flags_at-returns-in-Err t c = next_faults c.args.scene.now c.args.place AreFlags HasGives (flags_sides c.args.scene.now c.args.place c.requires.here) c.right_of.result c.right_of.ensures c.args.left.now c.requires.left c.in-Err.fault c.in-Err.ensures
+
+pub collection_walk::among_at-right_of-requires : goal.collection_walk::among_at-right_of-requires
+collection_walk::among_at-right_of-requires t c = next_there c.args.scene.now c.args.place IsComparableWithMembers InGives (path_sides c.args.scene.now c.args.place c.requires.here) c.requires.stands
+
+pub collection_walk::among_at-operand_at-requires : goal.collection_walk::among_at-operand_at-requires
+collection_walk::among_at-operand_at-requires t c =
+    let inside : c.args.place < length c.args.scene.now.list.nodes = part_inside c.args.scene.now c.args.place c.requires.stands in
+    let behind : c.args.place < c.right_of.result = next_further c.args.scene.now c.args.place IsComparableWithMembers InGives (path_sides c.args.scene.now c.args.place c.requires.here) c.right_of.result c.right_of.ensures c.requires.stands in
+    let smaller : 16 * (length c.args.scene.now.list.nodes - c.right_of.result) + 12 < 16 * (length c.args.scene.now.list.nodes - c.args.place) + 3 = omega arith in
+    let stands : PartStands c.args.scene.now c.right_of.result = next_part c.args.scene.now c.args.place IsComparableWithMembers InGives (path_sides c.args.scene.now c.args.place c.requires.here) c.right_of.result c.right_of.ensures c.requires.stands in
+    search rules
+
+pub collection_walk::among_at-among-requires : goal.collection_walk::among_at-among-requires
+collection_walk::among_at-among-requires t c =
+    let slots = slots_of c.args.scene.now.row.schema in
+    let there = some_sides c.args.scene.now c.args.place IsComparableWithMembers InGives (path_sides c.args.scene.now c.args.place c.requires.here) c.right_of.result c.right_of.ensures c.args.left.now c.requires.left c.in-Ok.path c.in-Ok.ensures c.ends_once.ensures c.requires.stands in
+    some_compared slots there.0 there.1 c.args.left.now c.in-Ok.path there.2.0 there.2.1 there.2.2
+
+pub collection_walk::among_at-returns-in-Ok : goal.collection_walk::among_at-returns-in-Ok
+collection_walk::among_at-returns-in-Ok t c =
+    let slots = slots_of c.args.scene.now.row.schema in
+    sides_answer c.args.scene.now c.args.place IsComparableWithMembers InGives (path_sides c.args.scene.now c.args.place c.requires.here) c.right_of.result c.right_of.ensures c.args.left.now c.requires.left c.in-Ok.path c.in-Ok.ensures c.ends_once.ensures c.among.result
+    (λ s t type alike of_left of_path. path_gives slots s t c.args.left.now c.in-Ok.path (gives (datum_val (reading_at slots type) c.among.result)) alike of_left of_path (λ member may. c.among.ensures slots s member (reading_at slots type) may))
+
+pub collection_walk::among_at-returns-in-Err : goal.collection_walk::among_at-returns-in-Err
+collection_walk::among_at-returns-in-Err t c = next_faults c.args.scene.now c.args.place IsComparableWithMembers InGives (path_sides c.args.scene.now c.args.place c.requires.here) c.right_of.result c.right_of.ensures c.args.left.now c.requires.left c.in-Err.fault c.in-Err.ensures
+
+pub collection_walk::listed_at-stop_of-own_stop-requires : goal.collection_walk::listed_at-stop_of-own_stop-requires
+collection_walk::listed_at-stop_of-own_stop-requires t c = part_inside c.args.scene.now c.args.place c.requires.stands
+
+pub collection_walk::listed_at-right_of-at-requires : goal.collection_walk::listed_at-right_of-at-requires
+collection_walk::listed_at-right_of-at-requires t c = items_there c.args.scene.now c.args.place c.requires.here c.requires.stands
+
+pub collection_walk::listed_at-loop-at-init : goal.collection_walk::listed_at-loop-at-init
+collection_walk::listed_at-loop-at-init t c =
+    list_begins c.args.scene.now c.args.place c.requires.here c.stop_of-own_stop.result c.stop_of-own_stop.ensures c.right_of-at.result c.right_of-at.ensures c.args.left.now c.requires.left c.ends_once.ensures c.requires.stands
+
+pub collection_walk::listed_at-operand_at-requires : goal.collection_walk::listed_at-operand_at-requires
+collection_walk::listed_at-operand_at-requires t c =
+    let inside : c.args.place < length c.args.scene.now.list.nodes = part_inside c.args.scene.now c.args.place c.requires.stands in
+    let behind : c.args.place < c.loop-at.at = c.loop-at.invariant.behind in
+    let smaller : 16 * (length c.args.scene.now.list.nodes - c.loop-at.at) + 12 < 16 * (length c.args.scene.now.list.nodes - c.args.place) + 3 = omega arith in
+    let stands : PartStands c.args.scene.now c.loop-at.at = next_item c.args.scene.now c.args.place c.stop_of-own_stop.result c.loop-at.at c.args.left.now c.loop-at.invariant c.requires.stands c.loop-at-test.true in
+    search rules
+
+pub collection_walk::listed_at-compare-requires : goal.collection_walk::listed_at-compare-requires
+collection_walk::listed_at-compare-requires t c = may_compare_item c.args.scene.now c.args.place c.stop_of-own_stop.result c.loop-at.at c.args.left.now c.loop-at.invariant c.in-Ok.item c.in-Ok.ensures c.loop-at-test.true c.ends_once.ensures c.comparisons_are_decided.ensures.any_reading c.requires.stands
+
+pub collection_walk::listed_at-returns-then-compare : goal.collection_walk::listed_at-returns-then-compare
+collection_walk::listed_at-returns-then-compare t c = item_equals c.args.scene.now c.args.place c.stop_of-own_stop.result c.loop-at.at c.args.left.now c.loop-at.invariant c.in-Ok.item c.in-Ok.ensures c.loop-at-test.true c.ends_once.ensures c.compare.result c.compare.ensures c.if-compare.true
+
+pub collection_walk::listed_at-returns-in-Err : goal.collection_walk::listed_at-returns-in-Err
+collection_walk::listed_at-returns-in-Err t c = item_faults c.args.scene.now c.args.place c.stop_of-own_stop.result c.loop-at.at c.args.left.now c.loop-at.invariant c.loop-at-test.true c.in-Err.fault c.in-Err.ensures
+
+pub collection_walk::listed_at-stop_of-at-requires : goal.collection_walk::listed_at-stop_of-at-requires
+collection_walk::listed_at-stop_of-at-requires t c = part_inside c.args.scene.now c.loop-at.at (next_item c.args.scene.now c.args.place c.stop_of-own_stop.result c.loop-at.at c.args.left.now c.loop-at.invariant c.requires.stands c.loop-at-test.true)
+
+pub collection_walk::listed_at-loop-at-preserved : goal.collection_walk::listed_at-loop-at-preserved
+collection_walk::listed_at-loop-at-preserved t c = item_differs c.args.scene.now c.args.place c.stop_of-own_stop.result c.loop-at.at c.args.left.now c.loop-at.invariant c.in-Ok.item c.in-Ok.ensures c.loop-at-test.true c.ends_once.ensures c.compare.result c.compare.ensures c.if-compare.false c.requires.stands c.stop_of-at.result c.stop_of-at.ensures
+
+pub collection_walk::listed_at-loop-at-smaller : goal.collection_walk::listed_at-loop-at-smaller
+collection_walk::listed_at-loop-at-smaller t c =
+    let later : c.loop-at.at < c.stop_of-at.result = stop_further c.args.scene.now c.loop-at.at c.stop_of-at.result (next_item c.args.scene.now c.args.place c.stop_of-own_stop.result c.loop-at.at c.args.left.now c.loop-at.invariant c.requires.stands c.loop-at-test.true) c.stop_of-at.ensures in
+    let within : c.loop-at.at ≤ c.stop_of-own_stop.result = c.loop-at.invariant.within in
+    let remains = c.loop-at-test.true in
+    omega (arith, remains)
+
+pub collection_walk::listed_at-returns : goal.collection_walk::listed_at-returns
+collection_walk::listed_at-returns t c = no_item c.args.scene.now c.args.place c.stop_of-own_stop.result c.loop-at.at c.args.left.now c.loop-at.invariant c.loop-at-test.false

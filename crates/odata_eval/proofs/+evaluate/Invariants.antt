@@ -1,5 +1,6 @@
 use Rattle.std.proofs.Common.{◌≤◌, ◌+◌, ◌-◌, ◌*◌, length}
 use Rattle.odata_eval.specs.private.WalkAnswer.{AnswersDatum, AnswersNumber, AnswersTruth}
+use Rattle.odata_eval.proofs.walking.ItemSteps.{ListLeft}
 use Rattle.odata_eval.proofs.+evaluate.Given as goal
 
 -- what is left of the list counts first, and in one place the order of the calls
@@ -66,6 +67,15 @@ decreases-walk::compared_at l = 16 * (length l.scene.now.list.nodes - l.place) +
 abbrev pub decreases-walk::called_at : goal.decreases-walk::called_at
 decreases-walk::called_at l = 16 * (length l.scene.now.list.nodes - l.place) + 3
 
+abbrev pub decreases-collection_walk::flags_at : goal.decreases-collection_walk::flags_at
+decreases-collection_walk::flags_at l = 16 * (length l.scene.now.list.nodes - l.place) + 3
+
+abbrev pub decreases-collection_walk::among_at : goal.decreases-collection_walk::among_at
+decreases-collection_walk::among_at l = 16 * (length l.scene.now.list.nodes - l.place) + 3
+
+abbrev pub decreases-collection_walk::listed_at : goal.decreases-collection_walk::listed_at
+decreases-collection_walk::listed_at l = 16 * (length l.scene.now.list.nodes - l.place) + 3
+
 abbrev pub decreases-walk::connected_at : goal.decreases-walk::connected_at
 decreases-walk::connected_at l = 16 * (length l.scene.now.list.nodes - l.place) + 3
 
@@ -98,3 +108,10 @@ invariant-walk::eager_at-loop-at l = record {
 
 abbrev pub decreases-walk::eager_at-loop-at : goal.decreases-walk::eager_at-loop-at
 decreases-walk::eager_at-loop-at l = l.at
+
+-- the items before the place are none that is equal
+abbrev pub invariant-collection_walk::listed_at-loop-at : goal.invariant-collection_walk::listed_at-loop-at
+invariant-collection_walk::listed_at-loop-at l = ListLeft l.scene l.place l.own_stop l.at l.left
+
+abbrev pub decreases-collection_walk::listed_at-loop-at : goal.decreases-collection_walk::listed_at-loop-at
+decreases-collection_walk::listed_at-loop-at l = l.own_stop - l.at

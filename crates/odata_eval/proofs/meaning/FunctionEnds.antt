@@ -1,34 +1,29 @@
 -- A function has an outcome on arguments of its kinds none of which is null.
-use Rattle.std.proofs.Common.{◌≡◌, ◌≤◌, ℕ, ℤ, List, [], ◌∷◌, Bool, false, IsTrue, Option, Some, None, Result, Ok, Err, length, refl, sym, subst}
-use Rattle.std.specs.Prelude.{◌↔◌, pos, neg_ℤ}
-use Rattle.std.proofs.Math.IntN.{neg_ℤ-neg_ℤ}
+use Rattle.std.proofs.Common.{◌≡◌, ◌≤◌, ℕ, ℤ, List, [], ◌∷◌, Bool, false, IsTrue, length, refl, sym, subst}
+use Rattle.std.specs.Prelude.{◌↔◌, pos}
 use Rattle.std.specs.Str.{chars}
 use Rattle.edm_values.specs.Civil.{Date, epoch_day}
 use Rattle.edm_values.specs.Instant.{offset_of}
 use Rattle.edm_values.specs.MomentParts.{MomentParts}
-use Rattle.edm_values.specs.NumberTypes.{IsNumberOf}
 use Rattle.edm_values.specs.Val.{Val, boolean, whole, text, date, moment}
 use Rattle.edm_values.specs.declared.primitive.PrimitiveType.{PrimitiveType}
 use Rattle.csdl_schema.specs.ExprType.{ExprType, single, primitive}
 use Rattle.csdl_schema.specs.SchemaModel.{Slots}
-use Rattle.odata_functions.specs.Arithmetic.{ComesWithin}
 use Rattle.odata_functions.specs.DateParts.{IsDayOf, IsMonthOf, IsYearOf, date_of, hour_of, minute_of, second_of}
 use Rattle.odata_functions.specs.Texts.{HasEnd, HasPart, HasStart, IsPlaceOf, IsTrimmed}
-use Rattle.odata_functions.specs.declared.arithmetic.ArithFault.{ArithFault}
-use Rattle.odata_functions.specs.declared.arithmetic.ArithFault.TheVariants.{Overflow, DivideByZero}
 use Rattle.odata_signatures.specs.Functions.{row_of}
 use Rattle.odata_signatures.specs.declared.argument_kind.ArgumentKind.TheVariants.{Text, DateOrMoment, Moment}
 use Rattle.odata_signatures.specs.declared.function.Function.{Function}
 use Rattle.odata_eval.specs.ArgumentValues.{OfDate, OfMoment, OfText, OfTextAndNumbers, OfTexts}
-use Rattle.odata_eval.specs.CalculationGives.{number_outcome}
 use Rattle.odata_eval.specs.CallGives.{has_null}
-use Rattle.odata_eval.specs.EndsOnce.{IsOutcomeOf}
-use Rattle.odata_eval.specs.FunctionGives.{FunctionGives, GivesCount, GivesText, GivesTruth}
+use Rattle.odata_eval.specs.CompareGives.{GivesTruth}
+use Rattle.odata_eval.specs.FunctionGives.{FunctionGives, GivesCount, GivesText}
 use Rattle.odata_eval.specs.Outcome.{Outcome, gives}
 use Rattle.odata_eval.specs.private.Arguments.{Applies, AreArguments}
 use Rattle.odata_eval.proofs.meaning.ArgumentForms.{IsDated, IsPartAsked, one_dated, one_moment, one_text, part_asked, two_texts}
 use Rattle.odata_eval.proofs.meaning.Ends.{Ends}
 use Rattle.odata_eval.proofs.meaning.LawsBelow.{SomeEach}
+use Rattle.odata_eval.proofs.meaning.NumberComes.{number_given}
 
 module _ (slots : Slots) (type : ExprType) where
   -- ---- arguments by their kinds
@@ -70,25 +65,15 @@ module _ (slots : Slots) (type : ExprType) where
 
 -- ---- what is given
 
-truth_given : (slots : Slots) (Fact : Type 0) → (answer : Bool) × (IsTrue answer ↔ Fact) → Ends slots (single (primitive PrimitiveType.Bool)) (GivesTruth Fact)
+pub truth_given : (slots : Slots) (Fact : Type 0) → (answer : Bool) × (IsTrue answer ↔ Fact) → Ends slots (single (primitive PrimitiveType.Bool)) (GivesTruth Fact)
 truth_given slots Fact decided = (gives (boolean decided.0), (decided.1, tt))
 
 text_given : (slots : Slots) (characters : List ℕ) → Ends slots (single (primitive PrimitiveType.String)) (GivesText characters)
 text_given slots characters = (gives _, (refl, tt))
 
-count_typed : (slots : Slots) (n : ℤ) (answer : Result (Option ℤ) ArithFault) → ComesWithin PrimitiveType.Int32 n answer
-    → IsOutcomeOf slots (single (primitive PrimitiveType.Int32)) (number_outcome answer)
-count_typed slots n (Ok (Some m)) comes = let same : m ≡ n = cc in subst (λ (k : ℤ). IsNumberOf PrimitiveType.Int32 k) (sym same) comes.1
-count_typed slots n (Ok None) comes = tt
-count_typed slots n (Err Overflow) comes = tt
-count_typed slots n (Err DivideByZero) comes = tt
-
 module _ (some : SomeEach) (slots : Slots) where
   count_given : (n : ℤ) → Ends slots (single (primitive PrimitiveType.Int32)) (GivesCount n)
-  count_given n =
-      let answer = some.negation PrimitiveType.Int32 (Some (neg_ℤ n)) tt in
-      let comes = subst (λ (m : ℤ). ComesWithin PrimitiveType.Int32 m answer.0) (neg_ℤ-neg_ℤ n) answer.1 in
-      (number_outcome answer.0, ((answer.0, comes, refl), count_typed slots n answer.0 comes))
+  count_given n = number_given some slots PrimitiveType.Int32 tt n
 
   place_given : (s t : List ℕ) → Ends slots (single (primitive PrimitiveType.Int32)) (λ o. (n : ℤ) × IsPlaceOf (chars s) (chars t) n × GivesCount n o)
   place_given s t =

@@ -1,25 +1,22 @@
 -- A function gives at most one outcome of the values of its arguments.
-use Rattle.std.proofs.Common.{◌≡◌, ℕ, ℤ, List, [], ◌∷◌, Option, Some, Result, length, ap, subst, sym, ◌∙◌}
-use Rattle.std.specs.Prelude.{pos, neg_ℤ}
-use Rattle.std.proofs.Math.IntN.{neg_ℤ-neg_ℤ}
+use Rattle.std.proofs.Common.{◌≡◌, ℕ, ℤ, List, [], ◌∷◌, length, ap, subst, sym, ◌∙◌}
+use Rattle.std.specs.Prelude.{pos}
 use Rattle.std.specs.Str.{chars}
 use Rattle.edm_values.specs.Civil.{Date, epoch_day}
 use Rattle.edm_values.specs.Instant.{offset_of}
 use Rattle.edm_values.specs.MomentParts.{MomentParts}
 use Rattle.edm_values.specs.Val.{Val, whole, text, date, moment}
 use Rattle.edm_values.specs.declared.primitive.PrimitiveType.TheVariants.{Int32}
-use Rattle.odata_functions.specs.Arithmetic.{ComesWithin}
 use Rattle.odata_functions.specs.DateParts.{IsDayOf, IsMonthOf, IsYearOf, date_of, hour_of, minute_of, second_of}
 use Rattle.odata_functions.specs.Texts.{HasEnd, HasPart, HasStart, IsPlaceOf, IsTrimmed}
-use Rattle.odata_functions.specs.declared.arithmetic.ArithFault.{ArithFault}
 use Rattle.odata_signatures.specs.declared.function.Function.{Function}
 use Rattle.odata_eval.specs.ArgumentValues.{OfDate, OfMoment, OfNone, OfText, OfTextAndNumbers, OfTexts}
-use Rattle.odata_eval.specs.CompareGives.{IsWhether}
-use Rattle.odata_eval.specs.FunctionGives.{FunctionGives, GivesCount, GivesText, GivesTruth}
+use Rattle.odata_eval.specs.FunctionGives.{FunctionGives, GivesCount, GivesText}
 use Rattle.odata_eval.specs.Outcome.{Outcome, gives}
 use Rattle.odata_eval.proofs.meaning.LawsBelow.{OneEach}
-use Rattle.odata_eval.proofs.meaning.OneLeaf.{IsWhether-one, same_number}
-use Rattle.odata_eval.proofs.meaning.OneStep.{AtMostOne, GivesSome-one, same_one}
+use Rattle.odata_eval.proofs.meaning.NumberComes.{GivesNumber-one}
+use Rattle.odata_eval.proofs.meaning.OneLeaf.{GivesTruth-one}
+use Rattle.odata_eval.proofs.meaning.OneStep.{AtMostOne, same_one}
 
 -- ---- arguments by their kinds
 
@@ -52,20 +49,12 @@ OfDate-one Gives one _ a b p q = absurd p
 
 -- ---- what is given
 
-GivesTruth-one : (Fact : Type 0) → AtMostOne (GivesTruth Fact)
-GivesTruth-one Fact = GivesSome-one (IsWhether Fact) (IsWhether-one Fact)
-
 GivesText-one : (characters : List ℕ) → AtMostOne (GivesText characters)
 GivesText-one characters a b p q = same_one _ a b p q
 
--- a number is the negation of its own
-twice_negated : (n : ℤ) (answer : Result (Option ℤ) ArithFault) → ComesWithin Int32 n answer → ComesWithin Int32 (neg_ℤ (neg_ℤ n)) answer
-twice_negated n answer comes = subst (λ (m : ℤ). ComesWithin Int32 m answer) (sym (neg_ℤ-neg_ℤ n)) comes
-
 module _ (known : OneEach) where
   GivesCount-one : (n : ℤ) → AtMostOne (GivesCount n)
-  GivesCount-one n a b p q =
-      same_number p.0 q.0 a b (known.negation Int32 (Some (neg_ℤ n)) p.0 q.0 (twice_negated n p.0 p.1) (twice_negated n q.0 q.1)) p.2 q.2
+  GivesCount-one n = GivesNumber-one known Int32 n
 
   place_one : (s t : List ℕ) → AtMostOne (λ o. (n : ℤ) × IsPlaceOf (chars s) (chars t) n × GivesCount n o)
   place_one s t a b p q =

@@ -6,6 +6,7 @@ use Rattle.edm_values.specs.NumberTypes.{IsNumberOf, IsNumberType}
 use Rattle.edm_values.specs.Val.{Val}
 use Rattle.edm_values.specs.declared.primitive.PrimitiveType.{PrimitiveType}
 use Rattle.odata_functions.specs.Arithmetic.{ArithmeticGives, NegationGives}
+use Rattle.odata_functions.specs.Bits.{HasBits}
 use Rattle.odata_functions.specs.Comparison.{ComparesTrue}
 use Rattle.odata_functions.specs.Promotion.{IsPromoted, negation_type, promotion}
 use Rattle.odata_functions.specs.Gregorian.{IsDateOf}
@@ -43,6 +44,7 @@ pub record SomeEach : Type 0 where
   pub place : (text part : List ℕ) → (n : ℤ) × IsPlaceOf text part n
   pub trimmed : (text : List ℕ) → (part : List ℕ) × IsTrimmed text part
   pub dates : (date : Date) → IsDateOf (epoch_day date) date.year date.month date.day
+  pub bits : (value flags : ℤ) → (answer : Bool) × (IsTrue answer ↔ HasBits value flags)
 
 -- where operands lie
 pub record Promotes : Type 0 where

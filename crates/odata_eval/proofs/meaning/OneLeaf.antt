@@ -10,7 +10,7 @@ use Rattle.odata_functions.specs.declared.comparison.ComparisonOperator.{Compari
 use Rattle.odata_signatures.specs.declared.operator_class.Connective.{Connective}
 use Rattle.odata_signatures.specs.declared.operator_class.OperatorClass.{OperatorClass}
 use Rattle.odata_eval.specs.CalculationGives.{CalculationGives, NegatedGives, number_outcome}
-use Rattle.odata_eval.specs.CompareGives.{CompareGives, IsWhether}
+use Rattle.odata_eval.specs.CompareGives.{CompareGives, GivesTruth, IsWhether}
 use Rattle.odata_eval.specs.NameGives.{FoundGives, StepGives, FieldGives}
 use Rattle.odata_eval.specs.OperatorGives.{ClassGives, InType}
 use Rattle.odata_eval.specs.Outcome.{Outcome, gives}
@@ -21,7 +21,7 @@ use Rattle.odata_eval.proofs.meaning.OneStep.{AtMostOne, same_one, GivesSome-one
 false-true : IsTrue false → ⊥
 false-true same = cc
 
-pub IsWhether-one : (Fact : Type 0) (v w : Val) → IsWhether Fact v → IsWhether Fact w → v ≡ w
+IsWhether-one : (Fact : Type 0) (v w : Val) → IsWhether Fact v → IsWhether Fact w → v ≡ w
 IsWhether-one Fact (boolean true) (boolean true) p q = refl
 IsWhether-one Fact (boolean true) (boolean false) p q = absurd (false-true (q.1 (p.0 refl)))
 IsWhether-one Fact (boolean false) (boolean true) p q = absurd (false-true (p.1 (q.0 refl)))
@@ -29,8 +29,11 @@ IsWhether-one Fact (boolean false) (boolean false) p q = refl
 IsWhether-one Fact (boolean b) _ p q = absurd q
 IsWhether-one Fact _ w p q = absurd p
 
+pub GivesTruth-one : (Fact : Type 0) → AtMostOne (GivesTruth Fact)
+GivesTruth-one Fact = GivesSome-one (IsWhether Fact) (IsWhether-one Fact)
+
 pub CompareGives-one : (operator : ComparisonOperator) (v w : Val) → AtMostOne (CompareGives operator v w)
-CompareGives-one operator v w a b p q = GivesSome-one (IsWhether (ComparesTrue operator v w)) (IsWhether-one (ComparesTrue operator v w)) a b p.1 q.1
+CompareGives-one operator v w a b p q = GivesTruth-one (ComparesTrue operator v w) a b p.1 q.1
 
 pub JoinGives-one : (connective : Connective) (left : Option Bool) (v : Val) → AtMostOne (JoinGives connective left v)
 JoinGives-one connective left null a b p q = same_one (gives (truth_val (joined connective left None))) a b p q

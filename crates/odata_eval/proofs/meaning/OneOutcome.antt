@@ -14,7 +14,7 @@ use Rattle.odata_eval.proofs.meaning.Progress.{tree_ends}
 
 pub ends_once : OneEach → SomeEach → Promotes → TypedEndsOnce
 ends_once one some promotes slots root now entity environment tree type conforms fitting typed =
-    let ends = tree_ends some promotes slots root now entity environment conforms fitting tree type typed in
+    let ends = tree_ends some promotes slots root now entity conforms environment fitting tree type typed in
     record {
       outcome = ends.0;
       related = ends.1.0;

@@ -1,5 +1,5 @@
 -- A tree that has a type has an outcome: a value of that type, or a fault.
-use Rattle.std.proofs.Common.{◌≡◌, ◌⊎◌, ◌∙◌, refl, sym, ap, subst, inl, inr, ℕ, List, [], ◌∷◌, ℤ, Bool, true, false, Option, Some, None, Result, Ok, Err, cond, nat_eq}
+use Rattle.std.proofs.Common.{◌≡◌, ◌⊎◌, ◌∙◌, refl, sym, ap, subst, inl, inr, ℕ, List, [], ◌∷◌, length, ℤ, Bool, true, false, Option, Some, None, Result, Ok, Err, cond, nat_eq}
 use Rattle.std.specs.Prelude.{find, MatchOption, IsSomeAnd, FitsSigned}
 use Rattle.std.specs.Int.{w64}
 use Rattle.std.specs.List.{AllByRecursion}
@@ -11,7 +11,8 @@ use Rattle.edm_values.specs.IntLiteral.{IntValue}
 use Rattle.edm_values.specs.NumberTypes.{IsIntLiteralType, IsNumberOf}
 use Rattle.edm_values.specs.Val.{Val, null, boolean, whole, date, moment, guid, member, text, fields, FieldVal, absent, present}
 use Rattle.edm_values.specs.declared.primitive.PrimitiveType.{PrimitiveType}
-use Rattle.odata_syntax.specs.Tree.{Tree, node, literal, it, name, negation, logical_not, binary, call, Trees, no_trees, more_trees}
+use Rattle.odata_syntax.specs.Spans.{list_of_trees}
+use Rattle.odata_syntax.specs.Tree.{Tree, node, literal, it, name, count, negation, logical_not, binary, in_list, in_path, call, any_item, lambda, Trees, no_trees, more_trees}
 use Rattle.odata_syntax.specs.Tree as tree
 use Rattle.odata_syntax.specs.declared.node.LiteralKind.{LiteralKind}
 use Rattle.csdl_schema.specs.ExprType.{ExprType, single, primitive, enumeration, structured}
@@ -28,16 +29,19 @@ use Rattle.odata_signatures.specs.declared.operator_class.OperatorClass.{Operato
 use Rattle.odata_signatures.specs.ExprTypes.{boolean_type, string_type}
 use Rattle.odata_expression_types.specs.LiteralValue.{LiteralTyped, IntTyped}
 use Rattle.odata_signatures.specs.OperatorClass.{class_of}
-use Rattle.odata_signatures.specs.OperatorTyped.{ClassTyped, NegationTyped, NotTyped}
+use Rattle.odata_signatures.specs.OperatorTyped.{ClassTyped, NegationTyped, NotTyped, OperatorTyped}
 use Rattle.odata_expression_types.specs.Typed.{AreTyped, OperandTyped, OperandsTyped, Typed, PropertyTyped, StepTyped, variable_type, property_named}
 use Rattle.odata_eval.specs.CalculationGives.{CalculationGives, NegatedGives, number_outcome}
 use Rattle.odata_eval.specs.CallGives.{CallGives}
+use Rattle.odata_eval.specs.CollectionGives.{AnyItemGives, CountGives}
 use Rattle.odata_eval.specs.CompareGives.{CompareGives}
 use Rattle.odata_eval.specs.EndsOnce.{IsOutcomeOf}
 use Rattle.odata_eval.specs.Environment.{Environment, variable_value, scope_of, IsFitting}
+use Rattle.odata_eval.specs.HasGives.{HasGives}
+use Rattle.odata_eval.specs.LambdaGives.{InGives, ItemsGive}
 use Rattle.odata_eval.specs.LeftFirst.{After}
 use Rattle.odata_eval.specs.LiteralGives.{LiteralGives}
-use Rattle.odata_eval.specs.Means.{ArgumentsMean, Means}
+use Rattle.odata_eval.specs.Means.{ArgumentsMean, ItemMeans, Means}
 use Rattle.odata_eval.specs.NameGives.{FoundGives, StepGives, FieldGives}
 use Rattle.odata_eval.specs.OperatorGives.{ClassGives, InType}
 use Rattle.odata_eval.specs.Outcome.{Outcome, gives}
@@ -46,9 +50,12 @@ use Rattle.odata_eval.specs.private.Operands.{AreNumbers, IsOneNumber}
 use Rattle.odata_eval.specs.private.WalkClass.{IsDecided}
 use Rattle.odata_eval.proofs.meaning.AllTrees.{AllTyped}
 use Rattle.odata_eval.proofs.meaning.CallEnds.{HaveTypes, call_ends}
+use Rattle.odata_eval.proofs.meaning.CompareEnds.{compare_ends}
 use Rattle.odata_eval.proofs.meaning.Ends.{Ends, after_ends, typed_value}
-use Rattle.odata_eval.proofs.meaning.Kinds.{IsTruth, comparable_values, truth_of}
+use Rattle.odata_eval.proofs.meaning.FormsEnd.{any_item_ends, count_ends, has_ends, in_list_ends, in_path_ends}
+use Rattle.odata_eval.proofs.meaning.Kinds.{IsTruth, truth_of}
 use Rattle.odata_eval.proofs.meaning.LawsBelow.{Promotes, SomeEach}
+use Rattle.odata_eval.proofs.meaning.NumberComes.{number_typed}
 use Rattle.odata_eval.proofs.meaning.Numbers.{calculated_values, negated_value}
 
 int_has : (slots : Slots) (n : ℤ) (p : PrimitiveType) → FitsSigned w64 n → IsIntLiteralType n p → HasType slots (single (primitive p)) (whole n)
@@ -83,9 +90,9 @@ variable_fits : (slots : Slots) (environment : Environment) (asked : List ℕ) �
     → VariableFits slots (variable_type (scope_of environment) asked) (variable_value environment asked)
 variable_fits slots [] asked fitting = tt
 variable_fits slots (bound ∷ more) asked fitting =
-    elim (pointwise nat_eq asked bound.0) as (λ is_it. VariableFits slots
-    (option_map (λ b. b.1) (cond is_it (Some (bound.0, bound.1.0)) (find (λ b. pointwise nat_eq asked b.0) (scope_of more))))
-    (option_map (λ b. b.1.1) (cond is_it (Some bound) (find (λ b. pointwise nat_eq asked b.0) more)))) [
+    elim (pointwise nat_eq asked bound.variable.name) as (λ is_it. VariableFits slots
+    (option_map (λ v. v.type_of) (cond is_it (Some bound.variable) (find (λ v. pointwise nat_eq asked v.name) (scope_of more))))
+    (option_map (λ b. b.value) (cond is_it (Some bound) (find (λ b. pointwise nat_eq asked b.variable.name) more)))) [
       | true ↦ fitting.0
       | false ↦ variable_fits slots more asked fitting.1
     ]
@@ -135,13 +142,6 @@ found_ends slots root entity asked type None None conforms is_found typed = step
 found_ends slots root entity asked type _ _ conforms is_found typed = absurd is_found
 
 -- ---- operators
-
-compare_ends : (some : SomeEach) (slots : Slots) (operator : ComparisonOperator) (left right type : ExprType) (l r : Val)
-    → ClassTyped (OperatorClass.Comparison operator) left right type → HasType slots left l → HasType slots right r
-    → Ends slots type (CompareGives operator l r)
-compare_ends some slots operator left right type l r typed of_l of_r =
-    let answer = some.decided operator l r in
-    (gives (boolean answer.0), ((comparable_values slots operator left right l r typed.0 of_l of_r, answer.1), typed_value slots boolean_type type (boolean answer.0) typed.1 tt))
 
 -- a truth value is of type Boolean
 truth_ends : (slots : Slots) (type : ExprType) (t : Option Bool) → type ≡ boolean_type → HasType slots type (truth_val t)
@@ -198,14 +198,6 @@ connective_ends slots connective right type left Right is truths_right ends =
           (goes.0, (undecided_goes connective left Right goes.0 undecided goes.1.0, goes.1.1))
     ]
 
--- what comes of a number in a type lies within that
-number_typed : (slots : Slots) (p : PrimitiveType) (n : ℤ) (answer : Result (Option ℤ) ArithFault) → ComesWithin p n answer
-    → IsOutcomeOf slots (single (primitive p)) (number_outcome answer)
-number_typed slots p n (Ok (Some m)) comes = let same : m ≡ n = cc in subst (λ (k : ℤ). IsNumberOf p k) (sym same) comes.1
-number_typed slots p n (Ok None) comes = tt
-number_typed slots p n (Err Overflow) comes = tt
-number_typed slots p n (Err DivideByZero) comes = tt
-
 answer_typed : (slots : Slots) (operator : ArithmeticOperator) (p : PrimitiveType) (a b : ℤ) (answer : Result (Option ℤ) ArithFault)
     → ArithmeticGives operator p (Some a) (Some b) answer → IsOutcomeOf slots (single (primitive p)) (number_outcome answer)
 answer_typed slots operator p a b (Err DivideByZero) given = tt
@@ -259,46 +251,71 @@ behind_arguments slots root now entity environment (more_trees argument more) (t
     (λ v has. behind_arguments slots root now entity environment more types type (λ values. Goes (v ∷ values)) all.1 (λ values have. goes (v ∷ values) (has, have)))
 behind_arguments slots root now entity environment _ _ type Goes all goes = absurd all
 
-module _ (some : SomeEach) (promotes : Promotes) (slots : Slots) (root : List ℕ) (now : MomentParts) (entity : Val) (environment : Environment)
-    (conforms : HasType slots (single (structured root)) entity) (fitting : IsFitting slots environment) where
+module _ (some : SomeEach) (promotes : Promotes) (slots : Slots) (root : List ℕ) (now : MomentParts) (entity : Val)
+    (conforms : HasType slots (single (structured root)) entity) where
   mutual
-    pub tree_ends : (tree : Tree) (type : ExprType) → Typed slots root (scope_of environment) tree type
+    pub tree_ends : (environment : Environment) → IsFitting slots environment → (tree : Tree) (type : ExprType) → Typed slots root (scope_of environment) tree type
         → Ends slots type (Means slots root now entity environment tree)
-    tree_ends (node start stop (literal kind spelling)) type typed = literal_ends slots kind spelling type typed
-    tree_ends (node start stop it) type typed = (gives entity, (refl, typed_value slots (single (structured root)) type entity typed conforms))
-    tree_ends (node start stop (name asked)) type typed =
+    tree_ends environment fitting (node start stop (literal kind spelling)) type typed = literal_ends slots kind spelling type typed
+    tree_ends environment fitting (node start stop it) type typed = (gives entity, (refl, typed_value slots (single (structured root)) type entity typed conforms))
+    tree_ends environment fitting (node start stop (name asked)) type typed =
         found_ends slots root entity asked type (variable_type (scope_of environment) asked) (variable_value environment asked)
         conforms (variable_fits slots environment asked fitting) typed
-    tree_ends (node start stop (tree.member base asked)) type typed =
+    tree_ends environment fitting (node start stop (tree.member base asked)) type typed =
         after_ends slots typed.operand type (Means slots root now entity environment base) (λ v. StepGives v asked)
-        (tree_ends base typed.operand typed.operand_typed) (λ v has. member_ends slots typed.operand v asked type typed.makes has)
-    tree_ends (node start stop (negation operand)) type typed =
+        (tree_ends environment fitting base typed.operand typed.operand_typed) (λ v has. member_ends slots typed.operand v asked type typed.makes has)
+    tree_ends environment fitting (node start stop (count base)) type typed =
+        after_ends slots typed.operand type (Means slots root now entity environment base) CountGives
+        (tree_ends environment fitting base typed.operand typed.operand_typed) (λ v is. count_ends some slots typed.operand type v typed.makes is)
+    tree_ends environment fitting (node start stop (negation operand)) type typed =
         let NodeTyped : ExprType → Type 0 = OperandTyped (Typed slots root (scope_of environment) operand) NegationTyped in
         after_ends slots typed.operand type (Means slots root now entity environment operand) (λ v. InType NodeTyped (λ t. NegatedGives t v))
-        (tree_ends operand typed.operand typed.operand_typed)
+        (tree_ends environment fitting operand typed.operand typed.operand_typed)
         (λ v has. in_type slots NodeTyped (λ t. NegatedGives t v) type typed
         (negation_ends some slots type v (negated_value promotes slots typed.operand type v typed.makes has)))
-    tree_ends (node start stop (logical_not operand)) type typed =
+    tree_ends environment fitting (node start stop (logical_not operand)) type typed =
         after_ends slots typed.operand type (Means slots root now entity environment operand) NotGives
-        (tree_ends operand typed.operand typed.operand_typed) (λ v has. not_ends slots typed.operand type v typed.makes has)
-    tree_ends (node start stop (binary operator left right)) type typed =
+        (tree_ends environment fitting operand typed.operand typed.operand_typed) (λ v has. not_ends slots typed.operand type v typed.makes has)
+    tree_ends environment fitting (node start stop (binary operator left right)) type typed =
         let NodeTyped : ExprType → Type 0 =
-        OperandsTyped operator (Typed slots root (scope_of environment) left) (Typed slots root (scope_of environment) right) in
+        OperandsTyped (Typed slots root (scope_of environment) left) (Typed slots root (scope_of environment) right) (OperatorTyped operator) in
         after_ends slots typed.left type (Means slots root now entity environment left)
         (λ l. ClassGives (class_of operator) NodeTyped l (Means slots root now entity environment right))
-        (tree_ends left typed.left typed.left_typed)
+        (tree_ends environment fitting left typed.left typed.left_typed)
         (λ l of_l. class_ends some promotes slots (class_of operator) NodeTyped typed.left typed.right type l (Means slots root now entity environment right)
-        typed.operator_typed typed of_l (tree_ends right typed.right typed.right_typed))
-    tree_ends (node start stop (call asked arguments)) type typed =
+        typed.makes typed of_l (tree_ends environment fitting right typed.right typed.right_typed))
+    tree_ends environment fitting (node start stop (tree.has left right)) type typed =
+        after_ends slots typed.left type (Means slots root now entity environment left) (λ l. After (Means slots root now entity environment right) (HasGives l))
+        (tree_ends environment fitting left typed.left typed.left_typed)
+        (λ l of_l. after_ends slots typed.right type (Means slots root now entity environment right) (HasGives l)
+        (tree_ends environment fitting right typed.right typed.right_typed)
+        (λ r of_r. has_ends some slots typed.left typed.right type l r typed.makes of_l of_r))
+    tree_ends environment fitting (node start stop (in_list left items)) type typed =
+        after_ends slots typed.left type (Means slots root now entity environment left)
+        (λ l. ItemsGive l (length (list_of_trees items)) (ItemMeans slots root now entity environment items))
+        (tree_ends environment fitting left typed.left typed.left_typed)
+        (λ l of_l. in_list_ends some slots root now entity environment typed.left l items typed.items type typed.makes of_l
+        (trees_end environment fitting items typed.items typed.items_typed))
+    tree_ends environment fitting (node start stop (in_path left path)) type typed =
+        after_ends slots typed.left type (Means slots root now entity environment left) (λ l. After (Means slots root now entity environment path) (InGives l))
+        (tree_ends environment fitting left typed.left typed.left_typed)
+        (λ l of_l. after_ends slots typed.right type (Means slots root now entity environment path) (InGives l)
+        (tree_ends environment fitting path typed.right typed.right_typed)
+        (λ v of_v. in_path_ends some slots typed.left typed.right type l v typed.makes of_l of_v))
+    tree_ends environment fitting (node start stop (call asked arguments)) type typed =
         let called = typed.call_typed in
-        let ends = behind_arguments slots root now entity environment arguments typed.types type (CallGives now called.function) (arguments_end arguments typed.types typed.arguments_typed)
+        let ends = behind_arguments slots root now entity environment arguments typed.types type (CallGives now called.function)
+        (trees_end environment fitting arguments typed.types typed.arguments_typed)
         (λ values have. call_ends some slots now called.function typed.types type values called.typed have) in
         (ends.0, (record { function = called.function; named = called.named; given = ends.1.0 }, ends.1.1))
-    tree_ends (node start stop _) type typed = absurd typed
+    tree_ends environment fitting (node start stop (any_item base)) type typed =
+        after_ends slots typed.operand type (Means slots root now entity environment base) AnyItemGives
+        (tree_ends environment fitting base typed.operand typed.operand_typed) (λ v is. any_item_ends slots typed.operand type v typed.makes is)
+    tree_ends environment fitting (node start stop (lambda quantifier base variable body)) type typed = absurd typed
 
-    -- each argument of a call
-    arguments_end : (arguments : Trees) (types : List ExprType) → AreTyped slots root (scope_of environment) arguments types
-        → AllTyped (λ tree type. Ends slots type (Means slots root now entity environment tree)) arguments types
-    arguments_end no_trees [] typed = tt
-    arguments_end (more_trees argument more) (type ∷ types) typed = (tree_ends argument type typed.0, arguments_end more types typed.1)
-    arguments_end _ _ typed = absurd typed
+    -- each of trees one behind another
+    trees_end : (environment : Environment) → IsFitting slots environment → (trees : Trees) (types : List ExprType) → AreTyped slots root (scope_of environment) trees types
+        → AllTyped (λ tree type. Ends slots type (Means slots root now entity environment tree)) trees types
+    trees_end environment fitting no_trees [] typed = tt
+    trees_end environment fitting (more_trees tree more) (type ∷ types) typed = (tree_ends environment fitting tree type typed.0, trees_end environment fitting more types typed.1)
+    trees_end environment fitting _ _ typed = absurd typed

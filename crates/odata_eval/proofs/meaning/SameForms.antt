@@ -1,5 +1,5 @@
 -- A tree, its normal form and the tree of its printed text have the same outcomes.
-use Rattle.std.proofs.Common.{◌≡◌, ◌↔◌, ℕ, List, ◌∷◌, sym, subst}
+use Rattle.std.proofs.Common.{◌≡◌, ◌↔◌, ℕ, List, ◌∷◌, length, sym, subst}
 use Rattle.edm_values.specs.MomentParts.{MomentParts}
 use Rattle.edm_values.specs.Val.{Val}
 use Rattle.csdl_schema.specs.ExprType.{ExprType}
@@ -12,24 +12,31 @@ use Rattle.odata_syntax.specs.Grammar.{Derives, or_level}
 use Rattle.odata_syntax.specs.NormalForm.{AreNormalForms, IsNormalForm, IsNormalShape, bare, bare_shape, bare_trees, literal_token}
 use Rattle.odata_syntax.specs.Parse.{IsExpression}
 use Rattle.odata_syntax.specs.ReadBack.{IsReadBack}
+use Rattle.odata_syntax.specs.Spans.{list_of_trees}
 use Rattle.odata_syntax.specs.Tree.{Shape, Tree, any_item, binary, call, count, has, in_list, in_path, it, lambda, literal, logical_not, member, name, negation, node}
 use Rattle.odata_syntax.specs.Tree.{Trees, no_trees, more_trees}
 use Rattle.odata_syntax.specs.declared.node.BinaryOperator.{BinaryOperator}
 use Rattle.odata_syntax.specs.declared.node.LiteralKind.{LiteralKind}
+use Rattle.odata_syntax.specs.declared.node.Quantifier.{Quantifier}
 use Rattle.odata_expression_types.specs.LiteralValue.{LiteralValue}
 use Rattle.odata_signatures.specs.OperatorClass.{class_of}
-use Rattle.odata_signatures.specs.OperatorTyped.{NegationTyped}
+use Rattle.odata_signatures.specs.OperatorTyped.{NegationTyped, OperatorTyped}
 use Rattle.odata_expression_types.specs.Typed.{OperandTyped, OperandsTyped, Scope, Typed}
 use Rattle.odata_eval.specs.CalculationGives.{NegatedGives}
 use Rattle.odata_eval.specs.CallGives.{CallGives}
-use Rattle.odata_eval.specs.Environment.{Environment, scope_of}
-use Rattle.odata_eval.specs.Means.{ArgumentsMean, Means, ShapeMeans}
+use Rattle.odata_eval.specs.CollectionGives.{AnyItemGives, CountGives}
+use Rattle.odata_eval.specs.Environment.{Environment, bound_over, scope_of}
+use Rattle.odata_eval.specs.HasGives.{HasGives}
+use Rattle.odata_eval.specs.LambdaGives.{InGives, ItemsGive, LambdaGives}
+use Rattle.odata_eval.specs.LeftFirst.{After}
+use Rattle.odata_eval.specs.Means.{ArgumentsMean, ItemMeans, Means, ShapeMeans}
 use Rattle.odata_eval.specs.NameGives.{StepGives}
 use Rattle.odata_eval.specs.OperatorGives.{InType, OperatorGives}
 use Rattle.odata_eval.specs.Outcome.{Outcome}
 use Rattle.odata_eval.specs.SameMeaning.{HaveOneMeaning, NormalFormsKeepOutcomes, CanonicalTextsKeepOutcomes}
 use Rattle.odata_eval.specs.TruthGives.{NotGives}
 use Rattle.odata_eval.proofs.meaning.AllTrees.{AllPaired}
+use Rattle.odata_eval.proofs.meaning.FormsSame.{items_same, lambda_both}
 use Rattle.odata_eval.proofs.meaning.SameGives.{Both, BothTyped, after_both, class_both, in_turn, in_type_both, itself, operand_both, operands_both, some_both, turned}
 
 -- what normal forms and places leave as it is
@@ -41,121 +48,188 @@ pub record KeptForms : Type 0 where
   pub places : (slots : Slots) (root : List ℕ) (scope : Scope) (tree : Tree) (type : ExprType)
       → Typed slots root scope tree type ↔ Typed slots root scope (bare tree) type
 
-module _ (kept : KeptForms) (slots : Slots) (root : List ℕ) (now : MomentParts) (entity : Val) (environment : Environment) where
-  abbrev M : Tree → Outcome → Type 0
-  M = Means slots root now entity environment
+module _ (kept : KeptForms) (slots : Slots) (root : List ℕ) (now : MomentParts) (entity : Val) where
+  abbrev M : Environment → Tree → Outcome → Type 0
+  M = Means slots root now entity
 
-  abbrev S : Shape → Outcome → Type 0
-  S = ShapeMeans slots root now entity environment
+  abbrev S : Environment → Shape → Outcome → Type 0
+  S = ShapeMeans slots root now entity
 
-  abbrev T : Tree → ExprType → Type 0
-  T = Typed slots root (scope_of environment)
+  abbrev T : Environment → Tree → ExprType → Type 0
+  T environment = Typed slots root (scope_of environment)
 
-  abbrev A : Trees → (List Val → Outcome → Type 0) → Outcome → Type 0
-  A = ArgumentsMean slots root now entity environment
+  abbrev A : Environment → Trees → (List Val → Outcome → Type 0) → Outcome → Type 0
+  A = ArgumentsMean slots root now entity
 
-  -- of operands with the same outcomes and types a node comes to the same
-  member_same : (base other : Tree) (asked : List ℕ) → Both (M base) (M other) → Both (S (member base asked)) (S (member other asked))
-  member_same base other asked same = after_both (M base) (M other) (λ v. StepGives v asked) (λ v. StepGives v asked) same (λ v. itself (StepGives v asked))
+  -- each has the same outcomes as the one at its place
+  abbrev Paired : Environment → Trees → Trees → Type 0
+  Paired environment = AllPaired (λ tree other. Both (M environment tree) (M environment other))
 
-  negation_same : (operand other : Tree) → Both (M operand) (M other) → BothTyped (T operand) (T other) → Both (S (negation operand)) (S (negation other))
-  negation_same operand other same typed =
-      after_both (M operand) (M other)
-      (λ v. InType (OperandTyped (T operand) NegationTyped) (λ type. NegatedGives type v)) (λ v. InType (OperandTyped (T other) NegationTyped) (λ type. NegatedGives type v)) same
-      (λ v. in_type_both (OperandTyped (T operand) NegationTyped) (OperandTyped (T other) NegationTyped) (λ type. NegatedGives type v) (operand_both (T operand) (T other) NegationTyped typed))
+  module _ (environment : Environment) where
+    -- of operands with the same outcomes and types a node comes to the same
+    member_same : (base other : Tree) (asked : List ℕ) → Both (M environment base) (M environment other) → Both (S environment (member base asked)) (S environment (member other asked))
+    member_same base other asked same =
+        after_both (M environment base) (M environment other) (λ v. StepGives v asked) (λ v. StepGives v asked) same (λ v. itself (StepGives v asked))
 
-  not_same : (operand other : Tree) → Both (M operand) (M other) → Both (S (logical_not operand)) (S (logical_not other))
-  not_same operand other same = after_both (M operand) (M other) NotGives NotGives same (λ v. itself (NotGives v))
+    count_same : (base other : Tree) → Both (M environment base) (M environment other) → Both (S environment (count base)) (S environment (count other))
+    count_same base other same = after_both (M environment base) (M environment other) CountGives CountGives same (λ v. itself (CountGives v))
 
-  binary_same : (operator : BinaryOperator) (l r m s : Tree) → Both (M l) (M m) → Both (M r) (M s) → BothTyped (T l) (T m) → BothTyped (T r) (T s)
-      → Both (S (binary operator l r)) (S (binary operator m s))
-  binary_same operator l r m s left right left_typed right_typed =
-      after_both (M l) (M m)
-      (λ v. OperatorGives operator (OperandsTyped operator (T l) (T r)) v (M r)) (λ v. OperatorGives operator (OperandsTyped operator (T m) (T s)) v (M s)) left
-      (λ v. class_both (class_of operator) (OperandsTyped operator (T l) (T r)) (OperandsTyped operator (T m) (T s)) v (M r) (M s)
-      (operands_both operator (T l) (T m) (T r) (T s) left_typed right_typed) right)
+    any_item_same : (base other : Tree) → Both (M environment base) (M environment other) → Both (S environment (any_item base)) (S environment (any_item other))
+    any_item_same base other same = after_both (M environment base) (M environment other) AnyItemGives AnyItemGives same (λ v. itself (AnyItemGives v))
 
-  arguments_same : (items others : Trees) (Goes : List Val → Outcome → Type 0) → AllPaired (λ tree other. Both (M tree) (M other)) items others → Both (A items Goes) (A others Goes)
-  arguments_same no_trees no_trees Goes same = itself (A no_trees Goes)
-  arguments_same (more_trees tree more) (more_trees other others) Goes same =
-      after_both (M tree) (M other) (λ v. A more (λ values. Goes (v ∷ values))) (λ v. A others (λ values. Goes (v ∷ values))) same.0
-      (λ v. arguments_same more others (λ values. Goes (v ∷ values)) same.1)
-  arguments_same _ _ Goes same = absurd same
+    negation_same : (operand other : Tree) → Both (M environment operand) (M environment other) → BothTyped (T environment operand) (T environment other)
+        → Both (S environment (negation operand)) (S environment (negation other))
+    negation_same operand other same typed =
+        let N : ExprType → Type 0 = OperandTyped (T environment operand) NegationTyped in
+        let K : ExprType → Type 0 = OperandTyped (T environment other) NegationTyped in
+        after_both (M environment operand) (M environment other)
+        (λ v. InType N (λ type. NegatedGives type v)) (λ v. InType K (λ type. NegatedGives type v)) same
+        (λ v. in_type_both N K (λ type. NegatedGives type v) (operand_both (T environment operand) (T environment other) NegationTyped typed))
 
-  call_same : (asked : List ℕ) (items others : Trees) → AllPaired (λ tree other. Both (M tree) (M other)) items others → Both (S (call asked items)) (S (call asked others))
-  call_same asked items others same o = (
-    λ means. record { function = means.function; named = means.named; given = (arguments_same items others (CallGives now means.function) same o).0 means.given },
-    λ means. record { function = means.function; named = means.named; given = (arguments_same items others (CallGives now means.function) same o).1 means.given },
-  )
+    not_same : (operand other : Tree) → Both (M environment operand) (M environment other) → Both (S environment (logical_not operand)) (S environment (logical_not other))
+    not_same operand other same = after_both (M environment operand) (M environment other) NotGives NotGives same (λ v. itself (NotGives v))
 
-  -- the shape is that
-  at_shape : (shape known other : Shape) → other ≡ known → Both (S shape) (S known) → Both (S shape) (S other)
-  at_shape shape known other is same = subst (λ (s : Shape). Both (S shape) (S s)) (sym is) same
+    binary_same : (operator : BinaryOperator) (l r m s : Tree) → Both (M environment l) (M environment m) → Both (M environment r) (M environment s)
+        → BothTyped (T environment l) (T environment m) → BothTyped (T environment r) (T environment s)
+        → Both (S environment (binary operator l r)) (S environment (binary operator m s))
+    binary_same operator l r m s left right left_typed right_typed =
+        let N : ExprType → Type 0 = OperandsTyped (T environment l) (T environment r) (OperatorTyped operator) in
+        let K : ExprType → Type 0 = OperandsTyped (T environment m) (T environment s) (OperatorTyped operator) in
+        after_both (M environment l) (M environment m) (λ v. OperatorGives operator N v (M environment r)) (λ v. OperatorGives operator K v (M environment s)) left
+        (λ v. class_both (class_of operator) N K v (M environment r) (M environment s)
+        (operands_both (T environment l) (T environment m) (T environment r) (T environment s) (OperatorTyped operator) left_typed right_typed) right)
 
-  types_kept : (tree normal : Tree) → IsNormalForm tree normal → BothTyped (T tree) (T normal)
-  types_kept tree normal is type = kept.types slots root (scope_of environment) tree normal type is
+    -- of two operands that are both evaluated
+    two_same : (Gives : Val → Val → Outcome → Type 0) (l r m s : Tree) → Both (M environment l) (M environment m) → Both (M environment r) (M environment s)
+        → Both (After (M environment l) (λ v. After (M environment r) (Gives v))) (After (M environment m) (λ v. After (M environment s) (Gives v)))
+    two_same Gives l r m s left right =
+        after_both (M environment l) (M environment m) (λ v. After (M environment r) (Gives v)) (λ v. After (M environment s) (Gives v)) left
+        (λ v. after_both (M environment r) (M environment s) (Gives v) (Gives v) right (λ w. itself (Gives v w)))
+
+    in_list_same : (left other : Tree) (items others : Trees) → Both (M environment left) (M environment other) → Paired environment items others
+        → Both (S environment (in_list left items)) (S environment (in_list other others))
+    in_list_same left other items others same paired =
+        after_both (M environment left) (M environment other)
+        (λ l. ItemsGive l (length (list_of_trees items)) (ItemMeans slots root now entity environment items))
+        (λ l. ItemsGive l (length (list_of_trees others)) (ItemMeans slots root now entity environment others)) same
+        (λ l. items_same slots root now entity environment l items others paired)
+
+    -- the body comes to the same with each value of the variable
+    lambda_same : (quantifier : Quantifier) (base other : Tree) (variable : List ℕ) (body else_body : Tree)
+        → Both (M environment base) (M environment other) → BothTyped (T environment base) (T environment other)
+        → ((type : ExprType) (v : Val) → Both (M (bound_over environment variable type v) body) (M (bound_over environment variable type v) else_body))
+        → Both (S environment (lambda quantifier base variable body)) (S environment (lambda quantifier other variable else_body))
+    lambda_same quantifier base other variable body else_body same typed bodies =
+        let B : ExprType → Val → Outcome → Type 0 = λ type v. M (bound_over environment variable type v) body in
+        let C : ExprType → Val → Outcome → Type 0 = λ type v. M (bound_over environment variable type v) else_body in
+        after_both (M environment base) (M environment other) (LambdaGives quantifier (T environment base) B) (LambdaGives quantifier (T environment other) C) same
+        (λ v. lambda_both quantifier (T environment base) (T environment other) B C v typed bodies)
+
+    arguments_same : (items others : Trees) (Goes : List Val → Outcome → Type 0) → Paired environment items others → Both (A environment items Goes) (A environment others Goes)
+    arguments_same no_trees no_trees Goes same = itself (A environment no_trees Goes)
+    arguments_same (more_trees tree more) (more_trees other others) Goes same =
+        after_both (M environment tree) (M environment other) (λ v. A environment more (λ values. Goes (v ∷ values))) (λ v. A environment others (λ values. Goes (v ∷ values))) same.0
+        (λ v. arguments_same more others (λ values. Goes (v ∷ values)) same.1)
+    arguments_same _ _ Goes same = absurd same
+
+    call_same : (asked : List ℕ) (items others : Trees) → Paired environment items others → Both (S environment (call asked items)) (S environment (call asked others))
+    call_same asked items others same o = (
+      λ means. record { function = means.function; named = means.named; given = (arguments_same items others (CallGives now means.function) same o).0 means.given },
+      λ means. record { function = means.function; named = means.named; given = (arguments_same items others (CallGives now means.function) same o).1 means.given },
+    )
+
+    -- the shape is that
+    at_shape : (shape known other : Shape) → other ≡ known → Both (S environment shape) (S environment known) → Both (S environment shape) (S environment other)
+    at_shape shape known other is same = subst (λ (s : Shape). Both (S environment shape) (S environment s)) (sym is) same
+
+    types_kept : (tree normal : Tree) → IsNormalForm tree normal → BothTyped (T environment tree) (T environment normal)
+    types_kept tree normal is type = kept.types slots root (scope_of environment) tree normal type is
+
+    -- places say nothing
+    types_bare : (tree : Tree) → BothTyped (T environment tree) (T environment (bare tree))
+    types_bare tree type = kept.places slots root (scope_of environment) tree type
 
   mutual
-    normal_same : (tree normal : Tree) → IsNormalForm tree normal → Both (M tree) (M normal)
-    normal_same (node start stop shape) normal (other, is_shape, is) =
-        subst (λ (n : Tree). Both (M (node start stop shape)) (M n)) (sym is) (normal_shape_same shape other is_shape)
+    normal_same : (environment : Environment) (tree normal : Tree) → IsNormalForm tree normal → Both (M environment tree) (M environment normal)
+    normal_same environment (node start stop shape) normal (other, is_shape, is) =
+        subst (λ (n : Tree). Both (M environment (node start stop shape)) (M environment n)) (sym is) (normal_shape_same environment shape other is_shape)
 
-    normal_shape_same : (shape other : Shape) → IsNormalShape shape other → Both (S shape) (S other)
-    normal_shape_same (literal kind text) other (spelling, spelled, is) =
-        at_shape (literal kind text) (literal kind spelling) other is
+    normal_shape_same : (environment : Environment) (shape other : Shape) → IsNormalShape shape other → Both (S environment shape) (S environment other)
+    normal_shape_same environment (literal kind text) other (spelling, spelled, is) =
+        at_shape environment (literal kind text) (literal kind spelling) other is
         (some_both (LiteralValue slots kind text) (LiteralValue slots kind spelling) (λ v. kept.values slots kind text spelling v spelled))
-    normal_shape_same it other is = at_shape it it other is (itself (S it))
-    normal_shape_same (name asked) other is = at_shape (name asked) (name asked) other is (itself (S (name asked)))
-    normal_shape_same (member base asked) other (b, base_is, is) =
-        at_shape (member base asked) (member b asked) other is (member_same base b asked (normal_same base b base_is))
-    normal_shape_same (negation operand) other (n, operand_is, is) =
-        at_shape (negation operand) (negation n) other is (negation_same operand n (normal_same operand n operand_is) (types_kept operand n operand_is))
-    normal_shape_same (logical_not operand) other (n, operand_is, is) =
-        at_shape (logical_not operand) (logical_not n) other is (not_same operand n (normal_same operand n operand_is))
-    normal_shape_same (binary operator left right) other (l, r, left_is, right_is, is) =
-        at_shape (binary operator left right) (binary operator l r) other is
-        (binary_same operator left right l r (normal_same left l left_is) (normal_same right r right_is) (types_kept left l left_is) (types_kept right r right_is))
-    normal_shape_same (count base) other (b, base_is, is) = at_shape (count base) (count b) other is (itself (S (count base)))
-    normal_shape_same (has left right) other (l, r, left_is, right_is, is) = at_shape (has left right) (has l r) other is (itself (S (has left right)))
-    normal_shape_same (in_list left items) other (l, rest, left_is, items_are, is) = at_shape (in_list left items) (in_list l rest) other is (itself (S (in_list left items)))
-    normal_shape_same (in_path left path) other (l, p, left_is, path_is, is) = at_shape (in_path left path) (in_path l p) other is (itself (S (in_path left path)))
-    normal_shape_same (call asked arguments) other (rest, items_are, is) =
-        at_shape (call asked arguments) (call asked rest) other is (call_same asked arguments rest (normal_arguments_same arguments rest items_are))
-    normal_shape_same (any_item base) other (b, base_is, is) = at_shape (any_item base) (any_item b) other is (itself (S (any_item base)))
-    normal_shape_same (lambda quantifier base variable body) other (b, e, base_is, body_is, is) =
-        at_shape (lambda quantifier base variable body) (lambda quantifier b variable e) other is (itself (S (lambda quantifier base variable body)))
+    normal_shape_same environment it other is = at_shape environment it it other is (itself (S environment it))
+    normal_shape_same environment (name asked) other is = at_shape environment (name asked) (name asked) other is (itself (S environment (name asked)))
+    normal_shape_same environment (member base asked) other (b, base_is, is) =
+        at_shape environment (member base asked) (member b asked) other is (member_same environment base b asked (normal_same environment base b base_is))
+    normal_shape_same environment (count base) other (b, base_is, is) =
+        at_shape environment (count base) (count b) other is (count_same environment base b (normal_same environment base b base_is))
+    normal_shape_same environment (negation operand) other (n, operand_is, is) =
+        at_shape environment (negation operand) (negation n) other is
+        (negation_same environment operand n (normal_same environment operand n operand_is) (types_kept environment operand n operand_is))
+    normal_shape_same environment (logical_not operand) other (n, operand_is, is) =
+        at_shape environment (logical_not operand) (logical_not n) other is (not_same environment operand n (normal_same environment operand n operand_is))
+    normal_shape_same environment (binary operator left right) other (l, r, left_is, right_is, is) =
+        at_shape environment (binary operator left right) (binary operator l r) other is
+        (binary_same environment operator left right l r (normal_same environment left l left_is) (normal_same environment right r right_is)
+        (types_kept environment left l left_is) (types_kept environment right r right_is))
+    normal_shape_same environment (has left right) other (l, r, left_is, right_is, is) =
+        at_shape environment (has left right) (has l r) other is
+        (two_same environment HasGives left right l r (normal_same environment left l left_is) (normal_same environment right r right_is))
+    normal_shape_same environment (in_list left items) other (l, rest, left_is, items_are, is) =
+        at_shape environment (in_list left items) (in_list l rest) other is
+        (in_list_same environment left l items rest (normal_same environment left l left_is) (normal_trees_same environment items rest items_are))
+    normal_shape_same environment (in_path left path) other (l, p, left_is, path_is, is) =
+        at_shape environment (in_path left path) (in_path l p) other is
+        (two_same environment InGives left path l p (normal_same environment left l left_is) (normal_same environment path p path_is))
+    normal_shape_same environment (call asked arguments) other (rest, items_are, is) =
+        at_shape environment (call asked arguments) (call asked rest) other is (call_same environment asked arguments rest (normal_trees_same environment arguments rest items_are))
+    normal_shape_same environment (any_item base) other (b, base_is, is) =
+        at_shape environment (any_item base) (any_item b) other is (any_item_same environment base b (normal_same environment base b base_is))
+    normal_shape_same environment (lambda quantifier base variable body) other (b, e, base_is, body_is, is) =
+        at_shape environment (lambda quantifier base variable body) (lambda quantifier b variable e) other is
+        (lambda_same environment quantifier base b variable body e (normal_same environment base b base_is) (types_kept environment base b base_is)
+        (λ type v. normal_same (bound_over environment variable type v) body e body_is))
 
-    normal_arguments_same : (items rest : Trees) → AreNormalForms items rest → AllPaired (λ tree other. Both (M tree) (M other)) items rest
-    normal_arguments_same no_trees rest is = subst (λ (ts : Trees). AllPaired (λ tree other. Both (M tree) (M other)) no_trees ts) (sym is) tt
-    normal_arguments_same (more_trees tree more) rest (t, ts, tree_is, more_are, is) =
-        subst (λ (us : Trees). AllPaired (λ tree other. Both (M tree) (M other)) (more_trees tree more) us) (sym is) (normal_same tree t tree_is, normal_arguments_same more ts more_are)
-
-  -- places say nothing
-  types_bare : (tree : Tree) → BothTyped (T tree) (T (bare tree))
-  types_bare tree type = kept.places slots root (scope_of environment) tree type
+    normal_trees_same : (environment : Environment) (items rest : Trees) → AreNormalForms items rest → Paired environment items rest
+    normal_trees_same environment no_trees rest is = subst (λ (ts : Trees). Paired environment no_trees ts) (sym is) tt
+    normal_trees_same environment (more_trees tree more) rest (t, ts, tree_is, more_are, is) =
+        subst (λ (us : Trees). Paired environment (more_trees tree more) us) (sym is) (normal_same environment tree t tree_is, normal_trees_same environment more ts more_are)
 
   mutual
-    bare_same : (tree : Tree) → Both (M tree) (M (bare tree))
-    bare_same (node start stop shape) = bare_shape_same shape
+    bare_same : (environment : Environment) (tree : Tree) → Both (M environment tree) (M environment (bare tree))
+    bare_same environment (node start stop shape) = bare_shape_same environment shape
 
-    bare_shape_same : (shape : Shape) → Both (S shape) (S (bare_shape shape))
-    bare_shape_same (member base asked) = member_same base (bare base) asked (bare_same base)
-    bare_shape_same (negation operand) = negation_same operand (bare operand) (bare_same operand) (types_bare operand)
-    bare_shape_same (logical_not operand) = not_same operand (bare operand) (bare_same operand)
-    bare_shape_same (binary operator left right) =
-        binary_same operator left right (bare left) (bare right) (bare_same left) (bare_same right) (types_bare left) (types_bare right)
-    bare_shape_same (call asked arguments) = call_same asked arguments (bare_trees arguments) (bare_arguments_same arguments)
-    bare_shape_same _ = λ o. (λ is. is, λ is. is)
+    bare_shape_same : (environment : Environment) (shape : Shape) → Both (S environment shape) (S environment (bare_shape shape))
+    bare_shape_same environment (member base asked) = member_same environment base (bare base) asked (bare_same environment base)
+    bare_shape_same environment (count base) = count_same environment base (bare base) (bare_same environment base)
+    bare_shape_same environment (negation operand) = negation_same environment operand (bare operand) (bare_same environment operand) (types_bare environment operand)
+    bare_shape_same environment (logical_not operand) = not_same environment operand (bare operand) (bare_same environment operand)
+    bare_shape_same environment (binary operator left right) =
+        binary_same environment operator left right (bare left) (bare right) (bare_same environment left) (bare_same environment right)
+        (types_bare environment left) (types_bare environment right)
+    bare_shape_same environment (has left right) =
+        two_same environment HasGives left right (bare left) (bare right) (bare_same environment left) (bare_same environment right)
+    bare_shape_same environment (in_list left items) =
+        in_list_same environment left (bare left) items (bare_trees items) (bare_same environment left) (bare_trees_same environment items)
+    bare_shape_same environment (in_path left path) =
+        two_same environment InGives left path (bare left) (bare path) (bare_same environment left) (bare_same environment path)
+    bare_shape_same environment (call asked arguments) = call_same environment asked arguments (bare_trees arguments) (bare_trees_same environment arguments)
+    bare_shape_same environment (any_item base) = any_item_same environment base (bare base) (bare_same environment base)
+    bare_shape_same environment (lambda quantifier base variable body) =
+        lambda_same environment quantifier base (bare base) variable body (bare body) (bare_same environment base) (types_bare environment base)
+        (λ type v. bare_same (bound_over environment variable type v) body)
+    bare_shape_same environment _ = λ o. (λ is. is, λ is. is)
 
-    bare_arguments_same : (items : Trees) → AllPaired (λ tree other. Both (M tree) (M other)) items (bare_trees items)
-    bare_arguments_same no_trees = tt
-    bare_arguments_same (more_trees tree more) = (bare_same tree, bare_arguments_same more)
+    bare_trees_same : (environment : Environment) (items : Trees) → Paired environment items (bare_trees items)
+    bare_trees_same environment no_trees = tt
+    bare_trees_same environment (more_trees tree more) = (bare_same environment tree, bare_trees_same environment more)
 
-  again_same : (tree normal again : Tree) → IsNormalForm tree normal → bare again ≡ bare normal → Both (M tree) (M again)
-  again_same tree normal again is same =
-      in_turn (M tree) (M normal) (M again) (normal_same tree normal is)
-      (in_turn (M normal) (M (bare normal)) (M again) (bare_same normal)
-      (turned (M again) (M (bare normal)) (subst (λ (t : Tree). Both (M again) (M t)) same (bare_same again))))
+  again_same : (environment : Environment) (tree normal again : Tree) → IsNormalForm tree normal → bare again ≡ bare normal → Both (M environment tree) (M environment again)
+  again_same environment tree normal again is same =
+      in_turn (M environment tree) (M environment normal) (M environment again) (normal_same environment tree normal is)
+      (in_turn (M environment normal) (M environment (bare normal)) (M environment again) (bare_same environment normal)
+      (turned (M environment again) (M environment (bare normal)) (subst (λ (t : Tree). Both (M environment again) (M environment t)) same (bare_same environment again))))
 
 pub normal_forms_same : KeptForms → NormalFormsKeepOutcomes
 normal_forms_same kept tree normal is slots root now entity environment = normal_same kept slots root now entity environment tree normal is

@@ -5,7 +5,6 @@ use Rattle.csdl_schema.specs.ExprType.{ExprType}
 use Rattle.odata_expression_types.specs.Typed.{OperandTyped, OperandsTyped}
 use Rattle.odata_signatures.specs.declared.operator_class.Connective.{Connective}
 use Rattle.odata_signatures.specs.declared.operator_class.OperatorClass.{OperatorClass}
-use Rattle.odata_syntax.specs.declared.node.BinaryOperator.{BinaryOperator}
 use Rattle.odata_eval.specs.CalculationGives.{CalculationGives}
 use Rattle.odata_eval.specs.CompareGives.{CompareGives}
 use Rattle.odata_eval.specs.LeftFirst.{After, Then}
@@ -56,7 +55,7 @@ then_goes (gives v) F G goes o is = goes v o is
 then_goes overflow F G goes o is = is
 then_goes divides_by_zero F G goes o is = is
 
-after_goes : (P Q : Outcome → Type 0) (F G : Val → Outcome → Type 0) → Goes P Q → ((v : Val) → Goes (F v) (G v)) → Goes (After P F) (After Q G)
+pub after_goes : (P Q : Outcome → Type 0) (F G : Val → Outcome → Type 0) → Goes P Q → ((v : Val) → Goes (F v) (G v)) → Goes (After P F) (After Q G)
 after_goes P Q F G operand goes o (first, (is, follows)) = (first, (operand first is, then_goes first F G goes o follows))
 
 pub after_both : (P Q : Outcome → Type 0) (F G : Val → Outcome → Type 0) → Both P Q → ((v : Val) → Both (F v) (G v)) → Both (After P F) (After Q G)
@@ -105,16 +104,16 @@ operand_goes N M Makes type goes typed = record { operand = typed.operand; opera
 pub operand_both : (N M : ExprType → Type 0) (Makes : ExprType → ExprType → Type 0) → BothTyped N M → BothTyped (OperandTyped N Makes) (OperandTyped M Makes)
 operand_both N M Makes same type = (operand_goes N M Makes type (λ t. (same t).0), operand_goes M N Makes type (λ t. (same t).1))
 
-operands_go : (operator : BinaryOperator) (L K R S : ExprType → Type 0) (type : ExprType) → ((t : ExprType) → L t → K t) → ((t : ExprType) → R t → S t)
-    → OperandsTyped operator L R type → OperandsTyped operator K S type
-operands_go operator L K R S type left right typed = record {
+operands_go : (L K R S : ExprType → Type 0) (Makes : ExprType → ExprType → ExprType → Type 0) (type : ExprType) → ((t : ExprType) → L t → K t) → ((t : ExprType) → R t → S t)
+    → OperandsTyped L R Makes type → OperandsTyped K S Makes type
+operands_go L K R S Makes type left right typed = record {
   left = typed.left;
   right = typed.right;
   left_typed = left typed.left typed.left_typed;
   right_typed = right typed.right typed.right_typed;
-  operator_typed = typed.operator_typed;
+  makes = typed.makes;
 }
 
-pub operands_both : (operator : BinaryOperator) (L K R S : ExprType → Type 0) → BothTyped L K → BothTyped R S → BothTyped (OperandsTyped operator L R) (OperandsTyped operator K S)
-operands_both operator L K R S left right type =
-    (operands_go operator L K R S type (λ t. (left t).0) (λ t. (right t).0), operands_go operator K L S R type (λ t. (left t).1) (λ t. (right t).1))
+pub operands_both : (L K R S : ExprType → Type 0) (Makes : ExprType → ExprType → ExprType → Type 0) → BothTyped L K → BothTyped R S → BothTyped (OperandsTyped L R Makes) (OperandsTyped K S Makes)
+operands_both L K R S Makes left right type =
+    (operands_go L K R S Makes type (λ t. (left t).0) (λ t. (right t).0), operands_go K L S R Makes type (λ t. (left t).1) (λ t. (right t).1))

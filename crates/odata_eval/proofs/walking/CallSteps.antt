@@ -21,12 +21,12 @@ use Rattle.odata_eval.specs.Outcome.{Outcome, gives}
 use Rattle.odata_eval.specs.VerdictView.{fault_outcome}
 use Rattle.odata_eval.specs.private.Arguments.{Applies, AreArguments, IsArgument, MakesText}
 use Rattle.odata_eval.specs.private.DatumView.{answer_outcome, reading_at}
-use Rattle.odata_eval.specs.private.Place.{IsStopOf, PartStands}
+use Rattle.odata_eval.specs.private.Place.{HasKind, IsStopOf, PartStands}
 use Rattle.odata_eval.specs.private.Scene.{EndsOnceHere, MeansHere, StandsHere, TypedHere}
 use Rattle.odata_eval.specs.private.SceneModel.{SceneModel}
 use Rattle.odata_eval.specs.private.WalkAnswer.{AllAnswered, AnswersAtPlace, AnswersDatum, Tells}
 use Rattle.odata_eval.proofs.meaning.CallEnds.{HaveTypes, applies_of}
-use Rattle.odata_eval.proofs.walking.Parts.{HasKind, by_kind, tells_there}
+use Rattle.odata_eval.proofs.walking.Parts.{by_kind, tells_there}
 use Rattle.odata_eval.proofs.walking.Spines.{MeanAll, StandsAll, TypedAll, all_further, child_takes, fault_stays, first_child, further, some_taken, stops_here, stops_there}
 use Rattle.odata_eval.proofs.walking.WalkValues.{value_has}
 
@@ -46,7 +46,7 @@ read_all r s answer values answers (kind ∷ kinds) are rest =
     cc
 
 -- what is among later ones is among all
-behind_first : (tree child : Tree) (more : List Tree) → Contains more child → Contains (tree ∷ more) child
+pub behind_first : (tree child : Tree) (more : List Tree) → Contains more child → Contains (tree ∷ more) child
 behind_first tree child more among = (suc among.0, omega (arith, among.1), among.2)
 
 -- no two functions have one name
@@ -93,14 +93,14 @@ at_most_three Function.Date = omega arith
 at_most_three Function.Now = omega arith
 
 module _ (scene : SceneModel) where
-  no_more : (i j : ℕ) (tree : Tree) (more : Trees) → StandsAll scene i j (more_trees tree more) → ¬ (i ≡ j)
+  pub no_more : (i j : ℕ) (tree : Tree) (more : Trees) → StandsAll scene i j (more_trees tree more) → ¬ (i ≡ j)
   no_more i j tree more stand same =
       let a : i < stand.middle = further scene i stand.middle tree stand.left in
       let b : stand.middle ≤ j = all_further scene stand.middle j more stand.right in
       omega arith
 
   -- the rest stands from where the first argument stops
-  rest_stands : (i j stop : ℕ) (tree : Tree) (more : Trees) → IsStopOf scene.list i stop → StandsAll scene i j (more_trees tree more) → StandsAll scene stop j more
+  pub rest_stands : (i j stop : ℕ) (tree : Tree) (more : Trees) → IsStopOf scene.list i stop → StandsAll scene i j (more_trees tree more) → StandsAll scene stop j more
   rest_stands i j stop tree more stops stand =
       let same : stand.middle ≡ stop = stops_there scene i stand.middle stop tree stand.left stops in
       subst (λ (m : ℕ). StandsAll scene m j more) same stand.right

@@ -3,7 +3,7 @@ use Rattle.std.proofs.Common.{◌≡◌, ℕ, ◌<◌, List, Option, Some, None,
 use Rattle.std.specs.Prelude.{IsSomeAnd, slice_get}
 use Rattle.std.proofs.lemmas.Option.{slice_get_within}
 use Rattle.edm_values.specs.declared.value.Value.{Value}
-use Rattle.odata_syntax.specs.Tree.{Tree, node, Shape, literal, it, name, member, negation, logical_not, binary, call, Trees}
+use Rattle.odata_syntax.specs.Tree.{Shape, Tree, Trees, any_item, binary, call, count, has, in_list, in_path, it, literal, logical_not, member, name, negation, node}
 use Rattle.odata_syntax.specs.declared.node.LiteralKind.{LiteralKind}
 use Rattle.csdl_schema.specs.SchemaModel.{Slots, slots_of, type_name_at}
 use Rattle.odata_signatures.specs.Functions.{IsNamed}
@@ -11,12 +11,11 @@ use Rattle.odata_signatures.specs.declared.function.Function.{Function}
 use Rattle.odata_signatures.specs.TypeView.{expr_type}
 use Rattle.odata_checked_filter.specs.declared.checked_node.CheckedNode.{CheckedNode}
 use Rattle.odata_checked_filter.specs.declared.checked_node.NodeKind.{NodeKind}
-use Rattle.odata_checked_filter.specs.FlatTree.{FlatTree}
 use Rattle.odata_checked_filter.specs.Stands.{IsKindOf}
 use Rattle.odata_expression_types.specs.Typed.{Scope}
 use Rattle.odata_eval.specs.Environment.{scope_of}
 use Rattle.odata_eval.specs.Outcome.{Outcome}
-use Rattle.odata_eval.specs.private.Place.{PartStands}
+use Rattle.odata_eval.specs.private.Place.{HasKind, PartStands}
 use Rattle.odata_eval.specs.private.Scene.{StandsHere, TypedHere}
 use Rattle.odata_eval.specs.private.SceneModel.{SceneModel, environment_of}
 use Rattle.odata_eval.specs.private.WalkAnswer.{Tells}
@@ -57,10 +56,15 @@ CasesOf NodeKind.It P = P it
 CasesOf (NodeKind.Property slot) P = (asked : List ℕ) → P (name asked)
 CasesOf (NodeKind.Variable level) P = (asked : List ℕ) → P (name asked)
 CasesOf (NodeKind.Member slot) P = (base : Tree) (asked : List ℕ) → P (member base asked)
+CasesOf NodeKind.Count P = (base : Tree) → P (count base)
 CasesOf NodeKind.Neg P = (operand : Tree) → P (negation operand)
 CasesOf NodeKind.Not P = (operand : Tree) → P (logical_not operand)
+CasesOf NodeKind.Has P = (left right : Tree) → P (has left right)
+CasesOf NodeKind.InList P = (left : Tree) (items : Trees) → P (in_list left items)
+CasesOf NodeKind.InPath P = (left path : Tree) → P (in_path left path)
 CasesOf (NodeKind.Call function) P = (asked : List ℕ) (arguments : Trees) → IsNamed function asked → ¬ (function ≡ Function.Now) → P (call asked arguments)
 CasesOf NodeKind.Now P = (asked : List ℕ) (arguments : Trees) → IsNamed Function.Now asked → P (call asked arguments)
+CasesOf NodeKind.AnyItem P = (base : Tree) → P (any_item base)
 CasesOf (NodeKind.Binary operator) P = (left right : Tree) → P (binary operator left right)
 
 by_case : (values : List Value) (slots : Slots) (root : List ℕ) (scope : Scope) (P : Shape → Type 0) (shape : Shape) (kind : NodeKind)
@@ -70,16 +74,17 @@ by_case values slots root scope P it kind is cases = subst (λ (k : NodeKind). C
 by_case values slots root scope P (name asked) (NodeKind.Property slot) is cases = cases asked
 by_case values slots root scope P (name asked) (NodeKind.Variable level) is cases = cases asked
 by_case values slots root scope P (member base asked) (NodeKind.Member slot) is cases = cases base asked
+by_case values slots root scope P (count base) kind is cases = subst (λ (k : NodeKind). CasesOf k P) is cases base
 by_case values slots root scope P (negation operand) kind is cases = subst (λ (k : NodeKind). CasesOf k P) is cases operand
 by_case values slots root scope P (logical_not operand) kind is cases = subst (λ (k : NodeKind). CasesOf k P) is cases operand
 by_case values slots root scope P (binary operator left right) kind is cases = subst (λ (k : NodeKind). CasesOf k P) is cases left right
+by_case values slots root scope P (has left right) kind is cases = subst (λ (k : NodeKind). CasesOf k P) is cases left right
+by_case values slots root scope P (in_list left items) kind is cases = subst (λ (k : NodeKind). CasesOf k P) is cases left items
+by_case values slots root scope P (in_path left path) kind is cases = subst (λ (k : NodeKind). CasesOf k P) is cases left path
+by_case values slots root scope P (any_item base) kind is cases = subst (λ (k : NodeKind). CasesOf k P) is cases base
 by_case values slots root scope P (call asked arguments) (NodeKind.Call function) is cases = cases asked arguments is.0 is.1
 by_case values slots root scope P (call asked arguments) NodeKind.Now is cases = cases asked arguments is
 by_case values slots root scope P _ _ is cases = absurd is
-
--- a node of that kind is there
-abbrev pub HasKind : FlatTree → ℕ → NodeKind → Type 0
-HasKind list place kind = IsSomeAnd (slice_get list.nodes place) (λ found. found.kind ≡ kind)
 
 module _ (scene : SceneModel) (place : ℕ) where
   -- the kind is that of the node there

@@ -4,7 +4,7 @@ use Rattle.std.specs.Prelude.{Contains, IsSomeAnd}
 use Rattle.std.proofs.lemmas.Bool.{cases_lt}
 use Rattle.edm_values.specs.Val.{Val}
 use Rattle.odata_syntax.specs.Spans.{children_of, in_child, list_of_trees}
-use Rattle.odata_syntax.specs.Tree.{Tree, node, shape_of, literal, it, name, member, negation, logical_not, binary, call, Trees, no_trees, more_trees}
+use Rattle.odata_syntax.specs.Tree.{Tree, Trees, any_item, binary, call, count, has, in_list, in_path, it, literal, logical_not, member, more_trees, name, negation, no_trees, node, shape_of}
 use Rattle.odata_syntax.specs.declared.node.BinaryOperator.{BinaryOperator}
 use Rattle.csdl_schema.specs.ExprType.{ExprType}
 use Rattle.odata_signatures.specs.declared.operator_class.OperatorClass.{OperatorClass}
@@ -21,7 +21,7 @@ use Rattle.odata_eval.specs.Environment.{scope_of}
 use Rattle.odata_eval.specs.LeftFirst.{After}
 use Rattle.odata_eval.specs.Outcome.{Outcome, overflow, divides_by_zero}
 use Rattle.odata_eval.specs.VerdictView.{fault_outcome}
-use Rattle.odata_eval.specs.private.Place.{HasOperatorOf, IsClassAt, IsNumberOperand, IsOperatorOf, IsRightOf, PartStands, TypedStands}
+use Rattle.odata_eval.specs.private.Place.{HasKind, HasOperatorOf, IsClassAt, IsNumberOperand, IsOperatorOf, IsRightOf, PartStands, TypedStands}
 use Rattle.odata_eval.specs.private.Scene.{MeansHere, StandsHere, TypedHere}
 use Rattle.odata_eval.specs.private.SceneModel.{SceneModel, environment_of}
 use Rattle.odata_eval.specs.private.WalkAnswer.{AnswersAtPlace, Tells}
@@ -35,7 +35,7 @@ use Rattle.odata_eval.specs.Means.{ArgumentsMean}
 use Rattle.odata_eval.specs.CallGives.{CallGives}
 use Rattle.csdl_schema.specs.SchemaModel.{slots_of, type_name_at}
 use Rattle.edm_entities.specs.Row.{value_of}
-use Rattle.odata_eval.proofs.walking.Parts.{HasKind, by_kind, found_there, goes_there, some_there, tells_there, there_found}
+use Rattle.odata_eval.proofs.walking.Parts.{by_kind, found_there, goes_there, some_there, tells_there, there_found}
 
 -- which operator of the class it is
 pub record OperatorThere (list : FlatTree) (place : ℕ) (class : OperatorClass) : Type 0 where
@@ -220,6 +220,46 @@ module _ (scene : SceneModel) where
         typed = λ type typed. (typed.operand, (typed.operand_typed, tt));
         faults = λ fault. fault_stays fault (TakesMemory base) (TakesMemory (node from to (member base asked))) (MeansHere scene base) _ (child_takes (node from to (member base asked)) base (first_child base []));
       })
+  first_of_kind place NodeKind.Count inner here = by_kind scene place NodeKind.Count here (λ stop tree. FirstOperand scene place WalkClass.Eager tree)
+      (λ base stop from to stands. record {
+        stop = stop;
+        operand = base;
+        stands = stands.children;
+        typed = λ type typed. (typed.operand, (typed.operand_typed, tt));
+        faults = λ fault. fault_stays fault (TakesMemory base) (TakesMemory (node from to (count base))) (MeansHere scene base) _ (child_takes (node from to (count base)) base (first_child base []));
+      })
+  first_of_kind place NodeKind.AnyItem inner here = by_kind scene place NodeKind.AnyItem here (λ stop tree. FirstOperand scene place WalkClass.Eager tree)
+      (λ base stop from to stands. record {
+        stop = stop;
+        operand = base;
+        stands = stands.children;
+        typed = λ type typed. (typed.operand, (typed.operand_typed, tt));
+        faults = λ fault. fault_stays fault (TakesMemory base) (TakesMemory (node from to (any_item base))) (MeansHere scene base) _ (child_takes (node from to (any_item base)) base (first_child base []));
+      })
+  first_of_kind place NodeKind.Has inner here = by_kind scene place NodeKind.Has here (λ stop tree. FirstOperand scene place WalkClass.Eager tree)
+      (λ left right stop from to stands. record {
+        stop = stands.children.middle;
+        operand = left;
+        stands = stands.children.left;
+        typed = λ type typed. (typed.left, (typed.left_typed, tt));
+        faults = λ fault. fault_stays fault (TakesMemory left) (TakesMemory (node from to (has left right))) (MeansHere scene left) _ (child_takes (node from to (has left right)) left (first_child left (right ∷ [])));
+      })
+  first_of_kind place NodeKind.InPath inner here = by_kind scene place NodeKind.InPath here (λ stop tree. FirstOperand scene place WalkClass.Eager tree)
+      (λ left path stop from to stands. record {
+        stop = stands.children.middle;
+        operand = left;
+        stands = stands.children.left;
+        typed = λ type typed. (typed.left, (typed.left_typed, tt));
+        faults = λ fault. fault_stays fault (TakesMemory left) (TakesMemory (node from to (in_path left path))) (MeansHere scene left) _ (child_takes (node from to (in_path left path)) left (first_child left (path ∷ [])));
+      })
+  first_of_kind place NodeKind.InList inner here = by_kind scene place NodeKind.InList here (λ stop tree. FirstOperand scene place WalkClass.Eager tree)
+      (λ left items stop from to stands. record {
+        stop = stands.children.middle;
+        operand = left;
+        stands = stands.children.left;
+        typed = λ type typed. (typed.left, (typed.left_typed, tt));
+        faults = λ fault. fault_stays fault (TakesMemory left) (TakesMemory (node from to (in_list left items))) (MeansHere scene left) _ (child_takes (node from to (in_list left items)) left (first_child left (list_of_trees items)));
+      })
   first_of_kind place NodeKind.Neg inner here = by_kind scene place NodeKind.Neg here (λ stop tree. FirstOperand scene place WalkClass.Numeric tree)
       (λ operand stop from to stands. record {
         stop = stop;
@@ -241,7 +281,7 @@ module _ (scene : SceneModel) where
         stop = stands.children.middle;
         operand = left;
         stands = stands.children.left;
-        typed = λ type typed. (typed.left, (typed.left_typed, (operands_allowed (class_of operator) typed.left typed.right type typed.operator_typed).0));
+        typed = λ type typed. (typed.left, (typed.left_typed, (operands_allowed (class_of operator) typed.left typed.right type typed.makes).0));
         faults = λ fault. fault_stays fault (TakesMemory left) (TakesMemory (node from to (binary operator left right))) (MeansHere scene left) _ (child_takes (node from to (binary operator left right)) left (first_child left (right ∷ [])));
       })
   first_of_kind place (NodeKind.Call function) inner here = by_kind scene place (NodeKind.Call function) here (λ stop tree. FirstOperand scene place WalkClass.Eager tree)
@@ -268,7 +308,7 @@ module _ (scene : SceneModel) where
   }
 
   -- the next node is the first operand
-  has_type : (place stop : ℕ) (tree : Tree) → StandsHere scene place stop tree → (type : ExprType) × TypedHere scene tree type
+  pub has_type : (place stop : ℕ) (tree : Tree) → StandsHere scene place stop tree → (type : ExprType) × TypedHere scene tree type
   has_type place stop (node from to shape) stands = (_, stands.top.typed)
 
   pub first_step : (place : ℕ) (class : WalkClass) → ¬ (class ≡ WalkClass.Leaf) → IsClassAt scene.list class place → PartStands scene place
@@ -328,12 +368,29 @@ module _ (scene : SceneModel) where
     further i j (node from to it) stands = let e : i + 1 ≡ j = stands.children in omega arith
     further i j (node from to (name asked)) stands = let e : i + 1 ≡ j = stands.children in omega arith
     further i j (node from to (member base asked)) stands = let a : i + 1 < j = further (i + 1) j base stands.children in omega arith
+    further i j (node from to (count base)) stands = let a : i + 1 < j = further (i + 1) j base stands.children in omega arith
+    further i j (node from to (any_item base)) stands = let a : i + 1 < j = further (i + 1) j base stands.children in omega arith
     further i j (node from to (negation operand)) stands = let a : i + 1 < j = further (i + 1) j operand stands.children in omega arith
     further i j (node from to (logical_not operand)) stands = let a : i + 1 < j = further (i + 1) j operand stands.children in omega arith
     further i j (node from to (binary operator left right)) stands =
         let m = stands.children.middle in
         let a : i + 1 < m = further (i + 1) m left stands.children.left in
         let b : m < j = further m j right stands.children.right in
+        omega arith
+    further i j (node from to (has left right)) stands =
+        let m = stands.children.middle in
+        let a : i + 1 < m = further (i + 1) m left stands.children.left in
+        let b : m < j = further m j right stands.children.right in
+        omega arith
+    further i j (node from to (in_path left path)) stands =
+        let m = stands.children.middle in
+        let a : i + 1 < m = further (i + 1) m left stands.children.left in
+        let b : m < j = further m j path stands.children.right in
+        omega arith
+    further i j (node from to (in_list left items)) stands =
+        let m = stands.children.middle in
+        let a : i + 1 < m = further (i + 1) m left stands.children.left in
+        let b : m ≤ j = all_further m j items stands.children.right in
         omega arith
     further i j (node from to (call asked arguments)) stands = let a : i + 1 ≤ j = all_further (i + 1) j arguments stands.children in omega arith
     further i j (node from to _) stands = absurd stands.children
@@ -380,7 +437,7 @@ module _ (scene : SceneModel) where
               type_of = stands.top.typed.right;
               typed = stands.top.typed.right_typed;
               allowed = subst (λ (c : WalkClass). AllowedBy c stands.top.typed.right) class_is
-                  (operands_allowed (class_of operator) stands.top.typed.left stands.top.typed.right _ stands.top.typed.operator_typed).1;
+                  (operands_allowed (class_of operator) stands.top.typed.left stands.top.typed.right _ stands.top.typed.makes).1;
             })
             part.stop part.tree part.stands
 

@@ -1,31 +1,31 @@
 -- What a name stands for among range variables: the innermost one of that name, or none of them.
-use Rattle.std.proofs.Common.{◌≡◌, ◌∙◌, ℕ, ◌<◌, Bor, List, [], ◌∷◌, Option, Some, None, MatchOption, cond, true, false, find, length, nat_eq, refl, sym, ap, rules, arith}
+use Rattle.std.proofs.Common.{◌≡◌, ◌∙◌, ℕ, ◌<◌, ◌≤◌, ◌+◌, Bor, List, [], ◌∷◌, Option, Some, None, MatchOption, cond, true, false, find, length, nat_eq, refl, sym, ap, subst, rules, arith}
 use Rattle.std.specs.Prelude.{option_map}
 use Rattle.std.specs.Cmp.Lexicographic.{pointwise}
 use Rattle.edm_values.specs.Val.{Val}
 use Rattle.edm_values.specs.declared.value.Value.{Value}
 use Rattle.csdl_schema.specs.ExprType.{ExprType}
-use Rattle.csdl_schema.specs.SchemaModel.{Slots}
+use Rattle.csdl_schema.specs.SchemaModel.{SchemaModel, Slots, slots_of}
 use Rattle.edm_entities.specs.Row.{val_of}
 use Rattle.odata_expression_types.specs.Typed.{variable_type}
 use Rattle.odata_checked_filter.specs.Levels.{level_named}
-use Rattle.odata_eval.specs.Environment.{Environment, scope_of, variable_value}
+use Rattle.odata_eval.specs.Environment.{Bound as BoundVariable, Environment, scope_of, variable_value}
 use Rattle.odata_eval.specs.NameGives.{FoundGives}
 use Rattle.odata_eval.specs.Outcome.{gives}
 use Rattle.odata_eval.specs.declared.frames.Frames.{Frames, Bound, Empty, the_lemmas}
 use Rattle.odata_eval.specs.declared.frames.RangeVariable.{RangeVariable}
-use Rattle.odata_eval.specs.private.Frames.{StandsAtLevel, VariableHolds, frames_in, names_of}
+use Rattle.odata_eval.specs.private.Frames.{StandsAtLevel, VariableHolds, frame_of, frames_in, names_of}
 
 pub frames_in-Empty : frames_in Empty ≡ []
 frames_in-Empty = search (rules, the_lemmas)
 
 pub frames_in-Bound : (variable : Bor RangeVariable) (value : Bor Value) (outer : Bor Frames)
-    → frames_in (Bound variable value outer) ≡ record { name = variable.now.name.now; edm_type = variable.now.edm_type; value = value.now } ∷ frames_in outer.now
+    → frames_in (Bound variable value outer) ≡ frame_of variable.now value.now ∷ frames_in outer.now
 frames_in-Bound variable value outer = search (rules, the_lemmas)
 
 -- what a reference to frames with a variable holds
 pub bound_frames : (frames : Frames) (variable : Bor RangeVariable) (value : Bor Value) (outer : Bor Frames) → frames ≡ Bound variable value outer
-    → frames_in frames ≡ record { name = variable.now.name.now; edm_type = variable.now.edm_type; value = value.now } ∷ frames_in outer.now
+    → frames_in frames ≡ frame_of variable.now value.now ∷ frames_in outer.now
 bound_frames frames variable value outer is = ap frames_in is ∙ frames_in-Bound variable value outer
 
 pub level_below : (names : List (List ℕ)) (asked : List ℕ) (level : ℕ) → level_named names asked ≡ Some level → level < length names
@@ -41,9 +41,9 @@ pub unbound : (environment : Environment) (asked : List ℕ) → level_named (na
     → (variable_value environment asked ≡ None) × (variable_type (scope_of environment) asked ≡ None)
 unbound [] asked none = (refl, refl)
 unbound (bound ∷ more) asked none =
-    elim (pointwise nat_eq asked bound.0) as (λ is_it. cond is_it (Some (length (names_of more))) (level_named (names_of more) asked) ≡ None
-    → (option_map (λ b. b.1.1) (cond is_it (Some bound) (find (λ b. pointwise nat_eq asked b.0) more)) ≡ None)
-    × (option_map (λ b. b.1) (cond is_it (Some (bound.0, bound.1.0)) (find (λ b. pointwise nat_eq asked b.0) (scope_of more))) ≡ None)) [
+    elim (pointwise nat_eq asked bound.variable.name) as (λ is_it. cond is_it (Some (length (names_of more))) (level_named (names_of more) asked) ≡ None
+    → (option_map (λ b. b.value) (cond is_it (Some bound) (find (λ b. pointwise nat_eq asked b.variable.name) more)) ≡ None)
+    × (option_map (λ v. v.type_of) (cond is_it (Some bound.variable) (find (λ v. pointwise nat_eq asked v.name) (scope_of more))) ≡ None)) [
       | true ↦ λ there. absurd (cc)
       | false ↦ λ there. unbound more asked there
     ] none
@@ -55,15 +55,15 @@ variable_gives slots (Some t) (Some w) entity asked Otherwise type v holds typed
 variable_gives slots (Some t) None entity asked Otherwise type v holds typed = absurd holds
 variable_gives slots None value entity asked Otherwise type v holds typed = absurd holds
 
-module _ (slots : Slots) (environment : Environment) (bound : List ℕ × (ExprType × Val)) (level : ℕ) (value : Value) where
+module _ (slots : Slots) (environment : Environment) (bound : BoundVariable) (level : ℕ) (value : Value) where
   -- the innermost variable
-  pub at_innermost : level ≡ length (names_of environment) → bound.1.1 ≡ val_of value slots bound.1.0 → StandsAtLevel slots (bound ∷ environment) level value
+  pub at_innermost : level ≡ length (names_of environment) → bound.value ≡ val_of value slots bound.variable.type_of → StandsAtLevel slots (bound ∷ environment) level value
   at_innermost same is = record {
     within = omega (arith, same);
     holds = λ asked named.
-        elim (pointwise nat_eq asked bound.0) as (λ is_it. cond is_it (Some (length (names_of environment))) (level_named (names_of environment) asked) ≡ Some level
-        → VariableHolds slots (option_map (λ b. b.1) (cond is_it (Some (bound.0, bound.1.0)) (find (λ b. pointwise nat_eq asked b.0) (scope_of environment))))
-        (option_map (λ b. b.1.1) (cond is_it (Some bound) (find (λ b. pointwise nat_eq asked b.0) environment))) value) [
+        elim (pointwise nat_eq asked bound.variable.name) as (λ is_it. cond is_it (Some (length (names_of environment))) (level_named (names_of environment) asked) ≡ Some level
+        → VariableHolds slots (option_map (λ v. v.type_of) (cond is_it (Some bound.variable) (find (λ v. pointwise nat_eq asked v.name) (scope_of environment))))
+        (option_map (λ b. b.value) (cond is_it (Some bound) (find (λ b. pointwise nat_eq asked b.variable.name) environment))) value) [
           | true ↦ λ there. is
           | false ↦ λ there. let below : level < length (names_of environment) = level_below (names_of environment) asked level there in absurd (omega (arith, same))
         ] named;
@@ -76,9 +76,9 @@ module _ (slots : Slots) (environment : Environment) (bound : List ℕ × (ExprT
       record {
         within = omega (arith, below);
         holds = λ asked named.
-            elim (pointwise nat_eq asked bound.0) as (λ is_it. cond is_it (Some (length (names_of environment))) (level_named (names_of environment) asked) ≡ Some level
-            → VariableHolds slots (option_map (λ b. b.1) (cond is_it (Some (bound.0, bound.1.0)) (find (λ b. pointwise nat_eq asked b.0) (scope_of environment))))
-            (option_map (λ b. b.1.1) (cond is_it (Some bound) (find (λ b. pointwise nat_eq asked b.0) environment))) value) [
+            elim (pointwise nat_eq asked bound.variable.name) as (λ is_it. cond is_it (Some (length (names_of environment))) (level_named (names_of environment) asked) ≡ Some level
+            → VariableHolds slots (option_map (λ v. v.type_of) (cond is_it (Some bound.variable) (find (λ v. pointwise nat_eq asked v.name) (scope_of environment))))
+            (option_map (λ b. b.value) (cond is_it (Some bound) (find (λ b. pointwise nat_eq asked b.variable.name) environment))) value) [
               | true ↦ λ there. let same : length (names_of environment) ≡ level = cc in absurd (omega (arith, below))
               | false ↦ λ there. stands.holds asked there
             ] named;

@@ -30,7 +30,7 @@ use Rattle.odata_eval.specs.TruthGives.{ConnectiveGives, JoinGives, joined, trut
 use Rattle.odata_eval.specs.VerdictView.{fault_outcome}
 use Rattle.odata_eval.specs.private.DatumView.{answer_outcome}
 use Rattle.odata_eval.specs.private.Operands.{AreNumbers, IsOneNumber}
-use Rattle.odata_eval.specs.private.Place.{IsRightOf, PartStands}
+use Rattle.odata_eval.specs.private.Place.{HasKind, IsRightOf, PartStands}
 use Rattle.odata_eval.specs.private.Scene.{EndsOnceHere, MeansHere, StandsHere, TypedHere}
 use Rattle.odata_eval.specs.private.SceneModel.{SceneModel, environment_of}
 use Rattle.odata_eval.specs.private.WalkAnswer.{AnswersAtPlace, AnswersNumber, AnswersTruth, Tells}
@@ -38,7 +38,7 @@ use Rattle.odata_eval.specs.private.WalkClass.{IsDecided, walk_of_operator}
 use Rattle.odata_eval.proofs.meaning.LawsBelow.{Promotes}
 use Rattle.odata_eval.proofs.meaning.Numbers.{calculated_values, negated_value}
 use Rattle.odata_eval.proofs.meaning.Progress.{decided_gives, join_gives, not_gives, undecided_goes}
-use Rattle.odata_eval.proofs.walking.Parts.{HasKind, by_kind, goes_there, some_tells, tells_there, type_there}
+use Rattle.odata_eval.proofs.walking.Parts.{by_kind, goes_there, some_tells, tells_there, type_there}
 use Rattle.odata_eval.proofs.walking.Spines.{child_takes, fault_stays, right_stands, second_child}
 use Rattle.odata_eval.proofs.walking.Readings.{numbers_anywhere, one_number_anywhere}
 use Rattle.odata_eval.proofs.walking.WalkValues.{value_has}
@@ -211,7 +211,7 @@ module _ (scene : SceneModel) (place : ℕ) where
             typed.left,
             typed.right,
             (
-              typed.operator_typed,
+              typed.makes,
               value_has scene ends a typed.left (l typed.left) typed.left_typed (first.of_tree stands.children.middle a typed.left stands.children.left typed.left_typed),
               value_has scene ends b typed.right (r typed.right) typed.right_typed
                   (second.of_tree stop b typed.right (right_stands scene place right_place stop from to operator a b is_right stands) typed.right_typed),

@@ -10,10 +10,11 @@ use Rattle.odata_signatures.specs.declared.edm_type.EdmType.{EdmType}
 use Rattle.odata_expression_types.specs.Typed.{variable_type}
 use Rattle.odata_checked_filter.specs.Levels.{level_named}
 use Rattle.odata_checked_filter.specs.Stands.{variable_names}
-use Rattle.odata_eval.specs.Environment.{Environment, scope_of, variable_value}
+use Rattle.odata_eval.specs.Environment.{Bound, Environment, scope_of, variable_value}
 use Rattle.odata_eval.specs.declared.frames.AtLevel.{AtLevel}
 use Rattle.odata_eval.specs.declared.frames.Frames.{Frames, fold-Frames}
 use Rattle.odata_eval.specs.declared.frames.Frames.TheOpen.{Frames-F}
+use Rattle.odata_eval.specs.declared.frames.RangeVariable.{RangeVariable}
 
 -- a variable's name and type, and its value
 pub record Frame : Type 0 where
@@ -21,20 +22,23 @@ pub record Frame : Type 0 where
   pub edm_type : EdmType
   pub value : Value
 
+abbrev pub frame_of : RangeVariable → Value → Frame
+frame_of variable value = record { name = variable.name.now; edm_type = variable.edm_type; value = value }
+
 abbrev pub frame_step : Frames-F (List Frame) → List Frame
 frame_step Frames-F.Empty = []
-frame_step (Frames-F.Bound variable value outer) =
-    record { name = variable.now.name.now; edm_type = variable.now.edm_type; value = value.now } ∷ outer.now
+frame_step (Frames-F.Bound variable value outer) = frame_of variable.now value.now ∷ outer.now
 
 -- those of the code, the innermost first
 abbrev pub frames_in : Frames → List Frame
 frames_in = fold-Frames (List Frame) frame_step
 
 -- what a variable stands for, by its type
-abbrev pub bound_of : SchemaModel → Frame → List ℕ × (ExprType × Val)
-bound_of schema frame =
-    let type = expr_type schema frame.edm_type in
-    (frame.name, (type, val_of frame.value (slots_of schema) type))
+abbrev pub bound_of : SchemaModel → Frame → Bound
+bound_of schema frame = record {
+  variable = record { name = frame.name; type_of = expr_type schema frame.edm_type };
+  value = val_of frame.value (slots_of schema) (expr_type schema frame.edm_type);
+}
 
 -- the environment that they make
 abbrev pub environment_in : SchemaModel → List Frame → Environment

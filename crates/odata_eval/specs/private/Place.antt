@@ -45,10 +45,13 @@ NumberStands scene place = TypedStands scene place IsNumberOperand
 abbrev pub IsClassAt : FlatTree → WalkClass → ℕ → Type 0
 IsClassAt list class place = IsSomeAnd (slice_get list.nodes place) (λ found. walk_of_kind found.kind ≡ class)
 
+-- a node of that kind is there
+abbrev pub HasKind : FlatTree → ℕ → NodeKind → Type 0
+HasKind list place kind = IsSomeAnd (slice_get list.nodes place) (λ found. found.kind ≡ kind)
+
 -- the node there is that operator
 abbrev pub HasOperator : FlatTree → ℕ → BinaryOperator → Type 0
-HasOperator list place operator =
-    IsSomeAnd (slice_get list.nodes place) (λ found. found.kind ≡ NodeKind.Binary operator)
+HasOperator list place operator = HasKind list place (NodeKind.Binary operator)
 
 -- the node there is an operator with two operands, of that class
 pub record IsOperatorOf (class : OperatorClass) (kind : NodeKind) : Type 0 where
@@ -61,13 +64,12 @@ HasOperatorOf list place class = IsSomeAnd (slice_get list.nodes place) (λ foun
 
 -- the node there calls that function
 abbrev pub HasCall : FlatTree → ℕ → Function → Type 0
-HasCall list place function =
-    IsSomeAnd (slice_get list.nodes place) (λ found. found.kind ≡ NodeKind.Call function)
+HasCall list place function = HasKind list place (NodeKind.Call function)
 
 -- the node there stops in that place
 abbrev pub IsStopOf : FlatTree → ℕ → ℕ → Type 0
 IsStopOf list place stop = IsSomeAnd (slice_get list.nodes place) (λ found. found.stop ≡ stop)
 
--- the first operand of the node there stops where the second one stands
+-- the first child of the node there stops where the next one stands
 abbrev pub IsRightOf : FlatTree → ℕ → ℕ → Type 0
 IsRightOf list place right = IsSomeAnd (slice_get list.nodes (place + 1)) (λ left. left.stop ≡ right)

@@ -13,17 +13,22 @@ walk_of_operator (OperatorClass.Connective connective) = WalkClass.Logical
 walk_of_operator (OperatorClass.Comparison comparison) = WalkClass.Eager
 walk_of_operator (OperatorClass.Arithmetic arithmetic) = WalkClass.Numeric
 
--- `not` takes a truth value, `-` a number, a step a record, a call the values of all arguments; the others have no
--- operand
+-- `not` takes a truth value, `-` a number, a step a record, `$count` and `any()` a collection, `has` and `in` the values
+-- of both sides, a call those of all arguments; the others have no operand
 abbrev pub walk_of_kind : NodeKind → WalkClass
 walk_of_kind (NodeKind.Literal kind value) = WalkClass.Leaf
 walk_of_kind NodeKind.It = WalkClass.Leaf
 walk_of_kind (NodeKind.Property slot) = WalkClass.Leaf
 walk_of_kind (NodeKind.Variable level) = WalkClass.Leaf
 walk_of_kind (NodeKind.Member slot) = WalkClass.Eager
+walk_of_kind NodeKind.Count = WalkClass.Eager
 walk_of_kind NodeKind.Neg = WalkClass.Numeric
 walk_of_kind NodeKind.Not = WalkClass.Logical
+walk_of_kind NodeKind.Has = WalkClass.Eager
+walk_of_kind NodeKind.InList = WalkClass.Eager
+walk_of_kind NodeKind.InPath = WalkClass.Eager
 walk_of_kind (NodeKind.Call function) = WalkClass.Eager
+walk_of_kind NodeKind.AnyItem = WalkClass.Eager
 walk_of_kind NodeKind.Now = WalkClass.Leaf
 walk_of_kind (NodeKind.Binary operator) = walk_of_operator (class_of operator)
 

@@ -5,6 +5,7 @@ use Rattle.odata_syntax.specs.Tree.{Shape, Tree, Trees, any_item, binary, call, 
 use Rattle.csdl_schema.specs.ExprType.{ExprType}
 use Rattle.csdl_schema.specs.SchemaModel.{Slots}
 use Rattle.odata_expression_types.specs.Typed.{AreTyped, Scope, Typed}
+use Rattle.odata_expression_types.proofs.types.Carried.{arguments_carried, items_carried, operand_carried, operands_carried}
 use Rattle.odata_expression_types.proofs.printed.Literals.{LiteralFacts, alike, typed_from, typed_to}
 
 -- what the normal form is, by its shape
@@ -18,31 +19,42 @@ mutual
       subst (λ (t : Tree). Typed slots root scope t type) (sym (made start stop is.0 (literal kind is.1.0) normal is.2 is.1.2))
       (typed_to slots kind text is.1.0 type (alike facts slots kind text is.1.0 is.1.1.is) typed)
   types_to facts slots root scope (node start stop it) normal type is typed =
-      subst (λ (t : Tree). Typed slots root scope t type) (sym (made start stop is.0 it normal is.2 is.1)) typed
+      subst (λ (t : Tree). Typed slots root scope t type) (sym (made start stop is.0 it normal is.2 is.1))
+      typed
   types_to facts slots root scope (node start stop (name asked)) normal type is typed =
-      subst (λ (t : Tree). Typed slots root scope t type) (sym (made start stop is.0 (name asked) normal is.2 is.1)) typed
+      subst (λ (t : Tree). Typed slots root scope t type) (sym (made start stop is.0 (name asked) normal is.2 is.1))
+      typed
   types_to facts slots root scope (node start stop (member base asked)) normal type is typed =
       subst (λ (t : Tree). Typed slots root scope t type) (sym (made start stop is.0 (member is.1.0 asked) normal is.2 is.1.2))
-      (record { operand = typed.operand; operand_typed = types_to facts slots root scope base is.1.0 typed.operand is.1.1 typed.operand_typed; makes = typed.makes })
+      (operand_carried (λ t. types_to facts slots root scope base is.1.0 t is.1.1) typed)
+  types_to facts slots root scope (node start stop (count base)) normal type is typed =
+      subst (λ (t : Tree). Typed slots root scope t type) (sym (made start stop is.0 (count is.1.0) normal is.2 is.1.2))
+      (operand_carried (λ t. types_to facts slots root scope base is.1.0 t is.1.1) typed)
   types_to facts slots root scope (node start stop (negation operand)) normal type is typed =
       subst (λ (t : Tree). Typed slots root scope t type) (sym (made start stop is.0 (negation is.1.0) normal is.2 is.1.2))
-      (record { operand = typed.operand; operand_typed = types_to facts slots root scope operand is.1.0 typed.operand is.1.1 typed.operand_typed; makes = typed.makes })
+      (operand_carried (λ t. types_to facts slots root scope operand is.1.0 t is.1.1) typed)
   types_to facts slots root scope (node start stop (logical_not operand)) normal type is typed =
       subst (λ (t : Tree). Typed slots root scope t type) (sym (made start stop is.0 (logical_not is.1.0) normal is.2 is.1.2))
-      (record { operand = typed.operand; operand_typed = types_to facts slots root scope operand is.1.0 typed.operand is.1.1 typed.operand_typed; makes = typed.makes })
+      (operand_carried (λ t. types_to facts slots root scope operand is.1.0 t is.1.1) typed)
   types_to facts slots root scope (node start stop (binary operator left right)) normal type is typed =
       subst (λ (t : Tree). Typed slots root scope t type) (sym (made start stop is.0 (binary operator is.1.0 is.1.1) normal is.2 is.1.4))
-      (record {
-        left = typed.left;
-        right = typed.right;
-        left_typed = types_to facts slots root scope left is.1.0 typed.left is.1.2 typed.left_typed;
-        right_typed = types_to facts slots root scope right is.1.1 typed.right is.1.3 typed.right_typed;
-        operator_typed = typed.operator_typed;
-      })
+      (operands_carried (λ t. types_to facts slots root scope left is.1.0 t is.1.2) (λ t. types_to facts slots root scope right is.1.1 t is.1.3) typed)
+  types_to facts slots root scope (node start stop (has left right)) normal type is typed =
+      subst (λ (t : Tree). Typed slots root scope t type) (sym (made start stop is.0 (has is.1.0 is.1.1) normal is.2 is.1.4))
+      (operands_carried (λ t. types_to facts slots root scope left is.1.0 t is.1.2) (λ t. types_to facts slots root scope right is.1.1 t is.1.3) typed)
+  types_to facts slots root scope (node start stop (in_list left items)) normal type is typed =
+      subst (λ (t : Tree). Typed slots root scope t type) (sym (made start stop is.0 (in_list is.1.0 is.1.1) normal is.2 is.1.4))
+      (items_carried (λ t. types_to facts slots root scope left is.1.0 t is.1.2) (λ ts. all_to facts slots root scope items is.1.1 ts is.1.3) typed)
+  types_to facts slots root scope (node start stop (in_path left path)) normal type is typed =
+      subst (λ (t : Tree). Typed slots root scope t type) (sym (made start stop is.0 (in_path is.1.0 is.1.1) normal is.2 is.1.4))
+      (operands_carried (λ t. types_to facts slots root scope left is.1.0 t is.1.2) (λ t. types_to facts slots root scope path is.1.1 t is.1.3) typed)
   types_to facts slots root scope (node start stop (call asked arguments)) normal type is typed =
       subst (λ (t : Tree). Typed slots root scope t type) (sym (made start stop is.0 (call asked is.1.0) normal is.2 is.1.2))
-      (record { types = typed.types; arguments_typed = all_to facts slots root scope arguments is.1.0 typed.types is.1.1 typed.arguments_typed; call_typed = typed.call_typed })
-  types_to facts slots root scope (node start stop _) normal type is typed = absurd typed
+      (arguments_carried (λ ts. all_to facts slots root scope arguments is.1.0 ts is.1.1) typed)
+  types_to facts slots root scope (node start stop (any_item base)) normal type is typed =
+      subst (λ (t : Tree). Typed slots root scope t type) (sym (made start stop is.0 (any_item is.1.0) normal is.2 is.1.2))
+      (operand_carried (λ t. types_to facts slots root scope base is.1.0 t is.1.1) typed)
+  types_to facts slots root scope (node start stop (lambda quantifier base variable body)) normal type is typed = absurd typed
 
   all_to : LiteralFacts → (slots : Slots) (root : List ℕ) (scope : Scope) (trees normals : Trees) (types : List ExprType)
       → AreNormalForms trees normals → AreTyped slots root scope trees types → AreTyped slots root scope normals types
@@ -63,36 +75,35 @@ mutual
   types_from facts slots root scope (node start stop (name asked)) normal type is typed =
       subst (λ (t : Tree). Typed slots root scope t type) (made start stop is.0 (name asked) normal is.2 is.1) typed
   types_from facts slots root scope (node start stop (member base asked)) normal type is typed =
-      let here = subst (λ (t : Tree). Typed slots root scope t type) (made start stop is.0 (member is.1.0 asked) normal is.2 is.1.2) typed in
-      record { operand = here.operand; operand_typed = types_from facts slots root scope base is.1.0 here.operand is.1.1 here.operand_typed; makes = here.makes }
-  types_from facts slots root scope (node start stop (negation operand)) normal type is typed =
-      let here = subst (λ (t : Tree). Typed slots root scope t type) (made start stop is.0 (negation is.1.0) normal is.2 is.1.2) typed in
-      record { operand = here.operand; operand_typed = types_from facts slots root scope operand is.1.0 here.operand is.1.1 here.operand_typed; makes = here.makes }
-  types_from facts slots root scope (node start stop (logical_not operand)) normal type is typed =
-      let here = subst (λ (t : Tree). Typed slots root scope t type) (made start stop is.0 (logical_not is.1.0) normal is.2 is.1.2) typed in
-      record { operand = here.operand; operand_typed = types_from facts slots root scope operand is.1.0 here.operand is.1.1 here.operand_typed; makes = here.makes }
-  types_from facts slots root scope (node start stop (binary operator left right)) normal type is typed =
-      let here = subst (λ (t : Tree). Typed slots root scope t type) (made start stop is.0 (binary operator is.1.0 is.1.1) normal is.2 is.1.4) typed in
-      record {
-        left = here.left;
-        right = here.right;
-        left_typed = types_from facts slots root scope left is.1.0 here.left is.1.2 here.left_typed;
-        right_typed = types_from facts slots root scope right is.1.1 here.right is.1.3 here.right_typed;
-        operator_typed = here.operator_typed;
-      }
+      operand_carried (λ t. types_from facts slots root scope base is.1.0 t is.1.1)
+      (subst (λ (t : Tree). Typed slots root scope t type) (made start stop is.0 (member is.1.0 asked) normal is.2 is.1.2) typed)
   types_from facts slots root scope (node start stop (count base)) normal type is typed =
-      absurd (subst (λ (t : Tree). Typed slots root scope t type) (made start stop is.0 (count is.1.0) normal is.2 is.1.2) typed)
+      operand_carried (λ t. types_from facts slots root scope base is.1.0 t is.1.1)
+      (subst (λ (t : Tree). Typed slots root scope t type) (made start stop is.0 (count is.1.0) normal is.2 is.1.2) typed)
+  types_from facts slots root scope (node start stop (negation operand)) normal type is typed =
+      operand_carried (λ t. types_from facts slots root scope operand is.1.0 t is.1.1)
+      (subst (λ (t : Tree). Typed slots root scope t type) (made start stop is.0 (negation is.1.0) normal is.2 is.1.2) typed)
+  types_from facts slots root scope (node start stop (logical_not operand)) normal type is typed =
+      operand_carried (λ t. types_from facts slots root scope operand is.1.0 t is.1.1)
+      (subst (λ (t : Tree). Typed slots root scope t type) (made start stop is.0 (logical_not is.1.0) normal is.2 is.1.2) typed)
+  types_from facts slots root scope (node start stop (binary operator left right)) normal type is typed =
+      operands_carried (λ t. types_from facts slots root scope left is.1.0 t is.1.2) (λ t. types_from facts slots root scope right is.1.1 t is.1.3)
+      (subst (λ (t : Tree). Typed slots root scope t type) (made start stop is.0 (binary operator is.1.0 is.1.1) normal is.2 is.1.4) typed)
   types_from facts slots root scope (node start stop (has left right)) normal type is typed =
-      absurd (subst (λ (t : Tree). Typed slots root scope t type) (made start stop is.0 (has is.1.0 is.1.1) normal is.2 is.1.4) typed)
+      operands_carried (λ t. types_from facts slots root scope left is.1.0 t is.1.2) (λ t. types_from facts slots root scope right is.1.1 t is.1.3)
+      (subst (λ (t : Tree). Typed slots root scope t type) (made start stop is.0 (has is.1.0 is.1.1) normal is.2 is.1.4) typed)
   types_from facts slots root scope (node start stop (in_list left items)) normal type is typed =
-      absurd (subst (λ (t : Tree). Typed slots root scope t type) (made start stop is.0 (in_list is.1.0 is.1.1) normal is.2 is.1.4) typed)
+      items_carried (λ t. types_from facts slots root scope left is.1.0 t is.1.2) (λ ts. all_from facts slots root scope items is.1.1 ts is.1.3)
+      (subst (λ (t : Tree). Typed slots root scope t type) (made start stop is.0 (in_list is.1.0 is.1.1) normal is.2 is.1.4) typed)
   types_from facts slots root scope (node start stop (in_path left path)) normal type is typed =
-      absurd (subst (λ (t : Tree). Typed slots root scope t type) (made start stop is.0 (in_path is.1.0 is.1.1) normal is.2 is.1.4) typed)
+      operands_carried (λ t. types_from facts slots root scope left is.1.0 t is.1.2) (λ t. types_from facts slots root scope path is.1.1 t is.1.3)
+      (subst (λ (t : Tree). Typed slots root scope t type) (made start stop is.0 (in_path is.1.0 is.1.1) normal is.2 is.1.4) typed)
   types_from facts slots root scope (node start stop (call asked arguments)) normal type is typed =
-      let here = subst (λ (t : Tree). Typed slots root scope t type) (made start stop is.0 (call asked is.1.0) normal is.2 is.1.2) typed in
-      record { types = here.types; arguments_typed = all_from facts slots root scope arguments is.1.0 here.types is.1.1 here.arguments_typed; call_typed = here.call_typed }
+      arguments_carried (λ ts. all_from facts slots root scope arguments is.1.0 ts is.1.1)
+      (subst (λ (t : Tree). Typed slots root scope t type) (made start stop is.0 (call asked is.1.0) normal is.2 is.1.2) typed)
   types_from facts slots root scope (node start stop (any_item base)) normal type is typed =
-      absurd (subst (λ (t : Tree). Typed slots root scope t type) (made start stop is.0 (any_item is.1.0) normal is.2 is.1.2) typed)
+      operand_carried (λ t. types_from facts slots root scope base is.1.0 t is.1.1)
+      (subst (λ (t : Tree). Typed slots root scope t type) (made start stop is.0 (any_item is.1.0) normal is.2 is.1.2) typed)
   types_from facts slots root scope (node start stop (lambda quantifier base variable body)) normal type is typed =
       absurd (subst (λ (t : Tree). Typed slots root scope t type) (made start stop is.0 (lambda quantifier is.1.0 variable is.1.1) normal is.2 is.1.4) typed)
 

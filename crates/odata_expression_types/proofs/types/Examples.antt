@@ -37,18 +37,18 @@ item_filter_typed = record {
       right = int32;
       left_typed = refl;
       right_typed = (pos 1, one, (PrimitiveType.Int32, inl (one_fits, refl), refl));
-      operator_typed = (inl (tt, tt), refl);
+      makes = (inl (tt, tt), refl);
     };
-    operator_typed = (inl refl, inl refl, refl);
+    makes = (inl refl, inl refl, refl);
   };
   right_typed = record {
     left = string_type;
     right = string_type;
     left_typed = refl;
     right_typed = (97 ∷ [], refl, refl);
-    operator_typed = (inr refl, refl);
+    makes = (inr refl, refl);
   };
-  operator_typed = (inl refl, inl refl, refl);
+  makes = (inl refl, inl refl, refl);
 }
 
 declared_one : (a b : ExprType) → declared a ≡ declared b → a ≡ b
@@ -59,5 +59,5 @@ mixed_filter_untyped type typed =
     let P : ExprType → Type 0 = λ (t : ExprType). AreComparable t typed.right in
     let Q : ExprType → Type 0 = λ (t : ExprType). AreComparable int32 t in
     let compared : AreComparable int32 string_type =
-    subst Q typed.right_typed.2 (subst P (sym (declared_one int32 typed.left typed.left_typed)) typed.operator_typed.0) in
+    subst Q typed.right_typed.2 (subst P (sym (declared_one int32 typed.left typed.left_typed)) typed.makes.0) in
     elim compared [ inl numbers ↦ absurd numbers.1 | inr same ↦ (let e : PrimitiveType.Int32 ≡ PrimitiveType.String = same in cc) ]

@@ -6,7 +6,7 @@ use Rattle.edm_values.specs.NumberTypes.{IsIntLiteralType}
 use Rattle.edm_values.specs.StringLiteral.{quote}
 use Rattle.edm_values.specs.declared.primitive.PrimitiveType.{PrimitiveType}
 use Rattle.odata_functions.specs.Promotion.{promotion, negation_type}
-use Rattle.odata_syntax.specs.Tree.{Tree, Trees, node, literal, it, name, member, negation, logical_not, binary, call, more_trees, no_trees}
+use Rattle.odata_syntax.specs.Tree.{Tree, Trees, node, literal, it, name, member, count, negation, logical_not, binary, has, in_list, in_path, call, any_item, more_trees, no_trees}
 use Rattle.odata_syntax.specs.declared.node.LiteralKind.{LiteralKind}
 use Rattle.csdl_schema.specs.ExprType.{ExprType, null_type, single, collection, primitive, enumeration, structured}
 use Rattle.csdl_schema.specs.SchemaModel.{PropertyModel, Slots, declared}
@@ -134,6 +134,7 @@ module _ (one_call : OneCallType) where
     Typed-one slots root scope (node start stop (member base asked)) a b x y =
         let P : ExprType → Type 0 = λ (t : ExprType). StepTyped slots asked t b in
         StepTyped-one slots asked x.operand a b x.makes (subst P (Typed-one slots root scope base y.operand x.operand y.operand_typed x.operand_typed) y.makes)
+    Typed-one slots root scope (node start stop (count base)) a b x y = x.makes.1 ∙ sym y.makes.1
     Typed-one slots root scope (node start stop (negation operand)) a b x y =
         let P : ExprType → Type 0 = λ (t : ExprType). NegationTyped t b in
         NegationTyped-one x.operand a b x.makes (subst P (Typed-one slots root scope operand y.operand x.operand y.operand_typed x.operand_typed) y.makes)
@@ -141,13 +142,17 @@ module _ (one_call : OneCallType) where
     Typed-one slots root scope (node start stop (binary operator left right)) a b x y =
         let P : ExprType → Type 0 = λ (t : ExprType). OperatorTyped operator t y.right b in
         let Q : ExprType → Type 0 = λ (t : ExprType). OperatorTyped operator x.left t b in
-        ClassTyped-one (class_of operator) x.left x.right a b x.operator_typed
+        ClassTyped-one (class_of operator) x.left x.right a b x.makes
         (subst Q (Typed-one slots root scope right y.right x.right y.right_typed x.right_typed)
-        (subst P (Typed-one slots root scope left y.left x.left y.left_typed x.left_typed) y.operator_typed))
+        (subst P (Typed-one slots root scope left y.left x.left y.left_typed x.left_typed) y.makes))
+    Typed-one slots root scope (node start stop (has left right)) a b x y = x.makes.1 ∙ sym y.makes.1
+    Typed-one slots root scope (node start stop (in_list left items)) a b x y = x.makes.2 ∙ sym y.makes.2
+    Typed-one slots root scope (node start stop (in_path left path)) a b x y = x.makes.1 ∙ sym y.makes.1
     Typed-one slots root scope (node start stop (call asked arguments)) a b x y =
         let P : List ExprType → Type 0 = λ (ts : List ExprType). CallTyped asked ts b in
         one_call asked x.types a b x.call_typed
         (subst P (AreTyped-one slots root scope arguments y.types x.types y.arguments_typed x.arguments_typed) y.call_typed)
+    Typed-one slots root scope (node start stop (any_item base)) a b x y = x.makes.1 ∙ sym y.makes.1
     Typed-one slots root scope (node start stop _) a b x y = absurd x
 
     pub AreTyped-one : (slots : Slots) (root : List ℕ) (scope : Scope) (trees : Trees) (a b : List ExprType) → AreTyped slots root scope trees a → AreTyped slots root scope trees b → a ≡ b

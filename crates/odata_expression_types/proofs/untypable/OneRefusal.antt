@@ -7,10 +7,10 @@ use Rattle.odata_text.specs.declared.fault.TextFault.{TextFault}
 use Rattle.odata_text.specs.declared.span.Span.{Span}
 use Rattle.odata_syntax.specs.Grammar.{Derives, or_level}
 use Rattle.odata_syntax.specs.Parse.{HasNoParse, IsExpression, IsSyntaxFault}
-use Rattle.odata_syntax.specs.Tree.{Tree, node, literal, it, name, member, call, start_of, stop_of}
+use Rattle.odata_syntax.specs.Tree.{Tree, node, literal, it, name, member, count, in_path, call, any_item, start_of, stop_of}
 use Rattle.odata_syntax.specs.declared.node.LiteralKind.{LiteralKind}
 use Rattle.odata_syntax.specs.declared.syntax_fault.SyntaxFault.{SyntaxFault}
-use Rattle.csdl_schema.specs.ExprType.{ExprType, single, structured}
+use Rattle.csdl_schema.specs.ExprType.{ExprType, single, collection, structured}
 use Rattle.csdl_schema.specs.SchemaModel.{PropertyModel, PropertyType, Slots, declared, opaque, navigation}
 use Rattle.odata_expression_types.specs.declared.refusal.Refusal.{Refusal}
 use Rattle.odata_expression_types.specs.declared.refusal.TypeFault.{TypeFault}
@@ -18,7 +18,7 @@ use Rattle.odata_expression_types.specs.declared.refusal.TypeFaultCode.{TypeFaul
 use Rattle.odata_signatures.specs.CallTyped.{CallReason}
 use Rattle.odata_signatures.specs.declared.call.CallFault.{CallFault}
 use Rattle.odata_signatures.specs.ExprTypes.{IsBooleanOrNull}
-use Rattle.odata_expression_types.specs.FirstUntypable.{code_of_call, IsFirstUntypable, IsNotBoolean, IsReason, IsTypeFault, LiteralReason, PropertyReason, StepReason}
+use Rattle.odata_expression_types.specs.FirstUntypable.{code_of_call, IsFirstUntypable, IsNotBoolean, IsReason, IsTypeFault, LiteralReason, PathReason, PropertyReason, StepReason}
 use Rattle.odata_expression_types.specs.HasTyping.{HasNoTyping, HasTree, HasTypeFault, IsRefusal}
 use Rattle.odata_expression_types.specs.Laws.{OneUntypableStart}
 use Rattle.odata_expression_types.specs.Typed.{Scope, Typed, property_named}
@@ -60,6 +60,10 @@ step_reason : (slots : Slots) (asked : List ℕ) (type : ExprType) (a b : TypeFa
 step_reason slots asked (single (structured owner)) a b x y = found_reason (property_named (slots.properties owner) asked) a b x y
 step_reason slots asked _ a b x y = x ∙ sym y
 
+path_reason : (type : ExprType) (a b : TypeFaultCode) → PathReason type a → PathReason type b → a ≡ b
+path_reason (collection members) a b x y = x ∙ sym y
+path_reason _ a b x y = x ∙ sym y
+
 one_reason : Readings → (slots : Slots) (root : List ℕ) (scope : Scope) (tree : Tree) (a b : TypeFaultCode) → IsReason slots root scope tree a → IsReason slots root scope tree b → a ≡ b
 one_reason known slots root scope (node start stop (literal kind spelling)) a b x y = literal_reason kind a b x y
 one_reason known slots root scope (node start stop it) a b x y = absurd x
@@ -67,10 +71,15 @@ one_reason known slots root scope (node start stop (name asked)) a b x y = found
 one_reason known slots root scope (node start stop (member base asked)) a b x y =
     let same : y.0 ≡ x.0 = Typed-one known.call_type slots root scope base y.0 x.0 y.1 x.1 in
     step_reason slots asked x.0 a b x.2 (subst (λ (t : ExprType). StepReason slots asked t b) same y.2)
+one_reason known slots root scope (node start stop (count base)) a b x y = x ∙ sym y
+one_reason known slots root scope (node start stop (in_path left path)) a b x y =
+    let same : y.0 ≡ x.0 = Typed-one known.call_type slots root scope path y.0 x.0 y.1 x.1 in
+    path_reason x.0 a b x.2 (subst (λ (t : ExprType). PathReason t b) same y.2)
 one_reason known slots root scope (node start stop (call asked arguments)) a b x y =
     let same : y.types ≡ x.types = AreTyped-one known.call_type slots root scope arguments y.types x.types y.arguments_typed x.arguments_typed in
     let reason : CallReason asked x.types y.fault = subst (λ (ts : List ExprType). CallReason asked ts y.fault) same y.reason in
     x.same ∙ ap code_of_call (known.call_reason asked x.types x.fault y.fault x.reason reason) ∙ sym y.same
+one_reason known slots root scope (node start stop (any_item base)) a b x y = x ∙ sym y
 one_reason known slots root scope (node start stop shape) a b x y = x ∙ sym y
 
 same_span : (a b : Span) → a.start ≡ b.start → a.stop ≡ b.stop → a ≡ b

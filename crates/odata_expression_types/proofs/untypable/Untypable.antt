@@ -1,7 +1,7 @@
 -- The first untypable node of a tree, from those of its children.
 use Rattle.std.proofs.Common.{◌≡◌, refl, sym, ap, inl, inr, ◌⊎◌, ℕ, ◌<◌, ◌≤◌, List, [], ◌∷◌, ◌++◌, subst, arith}
 use Rattle.std.specs.List.{AllByRecursion}
-use Rattle.odata_syntax.specs.Tree.{Shape, Tree, Trees, node, literal, it, name, member, negation, logical_not, binary, call, more_trees, no_trees, shape_of, start_of}
+use Rattle.odata_syntax.specs.Tree.{Shape, Tree, Trees, node, literal, it, name, member, count, negation, logical_not, binary, has, in_list, in_path, call, any_item, more_trees, no_trees, shape_of, start_of}
 use Rattle.odata_syntax.specs.Spans.{list_of_trees}
 use Rattle.csdl_schema.specs.ExprType.{ExprType}
 use Rattle.csdl_schema.specs.SchemaModel.{Slots}
@@ -41,11 +41,19 @@ children_typed slots root scope (node start stop (literal kind spelling)) type t
 children_typed slots root scope (node start stop it) type typed = tt
 children_typed slots root scope (node start stop (name asked)) type typed = tt
 children_typed slots root scope (node start stop (member base asked)) type typed = ((typed.operand, typed.operand_typed), tt)
+children_typed slots root scope (node start stop (count base)) type typed = ((typed.operand, typed.operand_typed), tt)
 children_typed slots root scope (node start stop (negation operand)) type typed = ((typed.operand, typed.operand_typed), tt)
 children_typed slots root scope (node start stop (logical_not operand)) type typed = ((typed.operand, typed.operand_typed), tt)
 children_typed slots root scope (node start stop (binary operator left right)) type typed =
     ((typed.left, typed.left_typed), ((typed.right, typed.right_typed), tt))
+children_typed slots root scope (node start stop (has left right)) type typed =
+    ((typed.left, typed.left_typed), ((typed.right, typed.right_typed), tt))
+children_typed slots root scope (node start stop (in_list left items)) type typed =
+    ((typed.left, typed.left_typed), all_of_them slots root scope items typed.items typed.items_typed)
+children_typed slots root scope (node start stop (in_path left path)) type typed =
+    ((typed.left, typed.left_typed), ((typed.right, typed.right_typed), tt))
 children_typed slots root scope (node start stop (call asked arguments)) type typed = all_of_them slots root scope arguments typed.types typed.arguments_typed
+children_typed slots root scope (node start stop (any_item base)) type typed = ((typed.operand, typed.operand_typed), tt)
 children_typed slots root scope (node start stop _) type typed = absurd typed
 
 child_typed :

@@ -1,5 +1,5 @@
 -- The arguments of a call, from the left.
-use Rattle.std.proofs.Common.{◌≡◌, refl, sym, ap, ◌∙◌, subst, ℕ, List, [], ◌∷◌, ◌++◌, Option, Some, None, length, map}
+use Rattle.std.proofs.Common.{◌≡◌, refl, sym, ap, ◌∙◌, subst, ℕ, List, [], ◌∷◌, ◌++◌, Option, Some, None, IfNone, length, map}
 use Rattle.std.proofs.lemmas.List.{map-append}
 use Rattle.std.specs.List.{AllByRecursion}
 use Rattle.odata_syntax.specs.Spans.{list_of_trees}
@@ -9,6 +9,7 @@ use Rattle.csdl_schema.specs.ExprType.{ExprType}
 use Rattle.csdl_schema.specs.SchemaModel.{SchemaModel, Slots, slots_of, type_name_at}
 use Rattle.odata_signatures.specs.CallTyped.{CallReason, CallTyped, FunctionTyped}
 use Rattle.odata_signatures.specs.Functions.{IsNamed}
+use Rattle.odata_signatures.specs.TypeThere.{IsTypeThere}
 use Rattle.odata_signatures.specs.TypeView.{expr_type}
 use Rattle.odata_signatures.specs.declared.call.CallFault.{CallFault}
 use Rattle.odata_signatures.specs.declared.edm_type.EdmType.{EdmType}
@@ -60,6 +61,29 @@ stand_more schema n scope list i m j (x ∷ xs) tree before last =
 
 same_kept : (list : FlatTree) → IsKept list list
 same_kept list = record { nodes = λ k found at. at; values = λ k value at. at; texts = λ k text at. at }
+
+-- one more type of which the schema has the enumeration
+pub there_more :
+    (schema : SchemaModel) (types : List EdmType) (type : EdmType)
+    → AllByRecursion (IsTypeThere schema) types
+    → IsTypeThere schema type
+    → AllByRecursion (IsTypeThere schema) (types ++ type ∷ [])
+there_more schema [] type all last = (last, tt)
+there_more schema (t ∷ ts) type all last = (all.0, there_more schema ts type all.1 last)
+
+pub there_with :
+    (schema : SchemaModel) (types : List EdmType) (type : EdmType) (told : Option Untyped)
+    → IfNone told (AllByRecursion (IsTypeThere schema) types)
+    → IsTypeThere schema type
+    → IfNone told (AllByRecursion (IsTypeThere schema) (types ++ type ∷ []))
+there_with schema types type None all last = there_more schema types type all last
+there_with schema types type (Some untyped) all last = tt
+
+-- with a fault something is told
+pub told_something : (X : Type 0) (before after : Option Untyped) (untyped : Untyped) → IsEarlierOf before (Some untyped) after → IfNone after X
+told_something X before (Some told) untyped is = tt
+told_something X None None untyped is = let e : ◌≡◌ {A = Option Untyped} None (Some untyped) = is in cc
+told_something X (Some first) None untyped is = absurd is
 
 -- no argument is walked yet
 pub none_walked : (schema : SchemaModel) (n : ℕ) (scope : Scope) (list : FlatTree) → AreWalked schema n scope list [] list []
@@ -146,7 +170,7 @@ module _ (laws : LawsBelow) where
       → HasFaultAmong schema n scope trees told
       → HasFault schema n scope (node start stop (call asked (trees_of_list trees))) told
   call_fault schema n scope start stop asked trees told found =
-      told_below laws schema n scope (node start stop (call asked (trees_of_list trees))) told
+      told_below laws schema n scope (node start stop (call asked (trees_of_list trees))) told (λ at body none. none)
       (subst (λ (ts : List Tree). HasFaultAmong schema n scope ts told) (sym (listed_again trees)) found)
 
   -- a call's node, put before its arguments
@@ -173,7 +197,7 @@ module _ (laws : LawsBelow) where
       }
 
   -- trees have one list of types
-  one_types :
+  pub one_types :
       (slots : Slots) (root : List ℕ) (scope : Scope) (trees : List Tree) (a b : List ExprType)
       → AreTyped slots root scope (trees_of_list trees) a
       → AreTyped slots root scope (trees_of_list trees) b
@@ -198,6 +222,7 @@ module _ (laws : LawsBelow) where
       let slots = slots_of schema in
       let root = type_name_at schema n in
       first_itself laws slots root scope span.start span.stop (call asked (trees_of_list trees)) (record { code = code; span = span })
+      (λ at body none. none)
       (subst (λ (ts : List Tree). AllByRecursion (IsTyped slots root scope) ts) (sym (listed_again trees)) walked.each)
       (λ type typed.
       let types_are : typed.types ≡ map (expr_type schema) types = one_types slots root scope trees typed.types (map (expr_type schema) types) typed.arguments_typed walked.typed in

@@ -1,16 +1,14 @@
 -- The walk puts each form of node behind the list, from what it put there for the children.
-use Rattle.std.proofs.Common.{◌≡◌, refl, subst, ℕ, zero, suc, ◌+◌, List, [], ◌∷◌, ◌++◌, Some, Option, IsSomeAnd, slice_get, length, length-append, arith}
+use Rattle.std.proofs.Common.{◌≡◌, refl, sym, subst, ℕ, zero, suc, ◌+◌, List, [], ◌∷◌, ◌++◌, Some, Option, IsSomeAnd, slice_get, length, length-append, arith}
 use Rattle.std.proofs.lemmas.Option.{none-some}
 use Rattle.edm_values.specs.declared.value.Value.{Value}
-use Rattle.odata_syntax.specs.Tree.{Tree, node, literal, it, name, member, negation, logical_not, binary}
-use Rattle.odata_syntax.specs.declared.node.BinaryOperator.{BinaryOperator}
+use Rattle.odata_syntax.specs.Tree.{Tree, node, literal, it, name, member}
 use Rattle.odata_syntax.specs.declared.node.LiteralKind.{LiteralKind}
 use Rattle.odata_text.specs.declared.span.Span.{Span}
 use Rattle.csdl_schema.specs.ExprType.{ExprType, single, structured}
 use Rattle.csdl_schema.specs.SchemaModel.{SchemaModel, Slots, properties_at, slots_of, type_name_at}
 use Rattle.odata_signatures.specs.declared.edm_type.EdmType.{EdmType}
 use Rattle.odata_signatures.specs.declared.edm_type.ValueType.{ValueType}
-use Rattle.odata_signatures.specs.OperatorTyped.{NegationTyped, NotTyped, OperatorTyped}
 use Rattle.odata_signatures.specs.TypeView.{expr_type}
 use Rattle.odata_expression_types.specs.Typed.{NameTyped, Scope, StepTyped, Typed}
 use Rattle.odata_checked_filter.specs.declared.checked_node.CheckedNode.{CheckedNode}
@@ -18,9 +16,14 @@ use Rattle.odata_checked_filter.specs.declared.checked_node.NodeKind.{NodeKind}
 use Rattle.odata_checked_filter.specs.FlatTree.{FlatTree}
 use Rattle.odata_checked_filter.specs.ListGrowth.{IsGrownBy, IsKept, IsOpened, node_put, with_node, with_value}
 use Rattle.odata_checked_filter.specs.Stands.{IsMemberNode, IsNameNode, Stands, variable_names}
+use Rattle.odata_typing.specs.declared.binary_node.Infix.{Infix}
+use Rattle.odata_typing.specs.declared.unary_node.Unary.{Unary}
 use Rattle.odata_typing.specs.private.Answer.{IsReading, IsWalked}
+use Rattle.odata_typing.specs.private.Forms.{InfixTyped, UnaryTyped, infix_kind, infix_shape, unary_kind, unary_shape}
 use Rattle.odata_typing.specs.private.LawsBelow.{LawsBelow}
 use Rattle.odata_typing.specs.private.StepFound.{IsStepSlot}
+use Rattle.odata_typing.proofs.forms.Infix.{infix_of_kind, infix_stands, infix_text, infix_typed}
+use Rattle.odata_typing.proofs.forms.Unary.{unary_of_kind, unary_stands, unary_text, unary_typed}
 
 -- a node without children
 abbrev leaf : FlatTree → NodeKind → Span → EdmType → CheckedNode
@@ -136,34 +139,26 @@ module _ (laws : LawsBelow) where
         typed = typed;
       })
 
-  -- a node over one child
-  pub closed_negation :
-      (schema : SchemaModel) (n : ℕ) (scope : Scope) (start opened last : FlatTree) (place : ℕ) (span : Span) (operand : Tree) (below type : EdmType)
+  -- a node over one operand
+  pub closed_over :
+      (schema : SchemaModel) (n : ℕ) (scope : Scope) (start opened last : FlatTree) (place : ℕ) (span : Span) (unary : Unary) (operand : Tree) (below type : EdmType)
       → IsOpened start place [] opened
       → IsWalked schema n scope opened operand last below
-      → NegationTyped (expr_type schema below) (expr_type schema type)
-      → IsWalked schema n scope start (node span.start span.stop (negation operand)) (node_put last place (put_in last NodeKind.Neg span type)) type
-  closed_negation schema n scope start opened last place span operand below type is walked makes =
-      let typed : Typed (slots_of schema) (type_name_at schema n) scope (node span.start span.stop (negation operand)) (expr_type schema type) =
-      record { operand = expr_type schema below; operand_typed = walked.typed; makes = makes } in
+      → UnaryTyped unary (expr_type schema below) (expr_type schema type)
+      → IsWalked schema n scope start (node span.start span.stop (unary_shape unary operand)) (node_put last place (put_in last (unary_kind unary) span type)) type
+  closed_over schema n scope start opened last place span unary operand below type is walked makes =
+      let slots = slots_of schema in
+      let root = type_name_at schema n in
+      let typed : Typed slots root scope (node span.start span.stop (unary_shape unary operand)) (expr_type schema type) =
+      unary_typed slots root scope span.start span.stop unary operand (expr_type schema type)
+      (record { operand = expr_type schema below; operand_typed = walked.typed; makes = makes }) in
       record {
-        grown = laws.closed schema n scope start opened last place (put_in last NodeKind.Neg span type) (negation operand) is walked.grown.kept refl refl typed
-            (behind_opened schema n scope start opened last place (length last.nodes) [] operand is walked.grown.stands);
-        typed = typed;
-      }
-
-  pub closed_not :
-      (schema : SchemaModel) (n : ℕ) (scope : Scope) (start opened last : FlatTree) (place : ℕ) (span : Span) (operand : Tree) (below type : EdmType)
-      → IsOpened start place [] opened
-      → IsWalked schema n scope opened operand last below
-      → NotTyped (expr_type schema below) (expr_type schema type)
-      → IsWalked schema n scope start (node span.start span.stop (logical_not operand)) (node_put last place (put_in last NodeKind.Not span type)) type
-  closed_not schema n scope start opened last place span operand below type is walked makes =
-      let typed : Typed (slots_of schema) (type_name_at schema n) scope (node span.start span.stop (logical_not operand)) (expr_type schema type) =
-      record { operand = expr_type schema below; operand_typed = walked.typed; makes = makes } in
-      record {
-        grown = laws.closed schema n scope start opened last place (put_in last NodeKind.Not span type) (logical_not operand) is walked.grown.kept refl refl typed
-            (behind_opened schema n scope start opened last place (length last.nodes) [] operand is walked.grown.stands);
+        grown = laws.closed schema n scope start opened last place (put_in last (unary_kind unary) span type) (unary_shape unary operand)
+            (subst (λ (text : List ℕ). IsOpened start place text opened) (sym (unary_text unary operand)) is)
+            walked.grown.kept refl
+            (unary_of_kind last.values slots root scope unary operand) typed
+            (unary_stands schema n scope last (place + 1) (length last.nodes) unary operand
+            (behind_opened schema n scope start opened last place (length last.nodes) [] operand is walked.grown.stands));
         typed = typed;
       }
 
@@ -184,25 +179,30 @@ module _ (laws : LawsBelow) where
         typed = typed;
       }
 
-  -- an operator's node, put before its two operands
-  pub closed_operator :
-      (schema : SchemaModel) (n : ℕ) (scope : Scope) (start opened between last : FlatTree) (place : ℕ) (span : Span) (operator : BinaryOperator) (l r : Tree) (left right type : EdmType)
+  -- a node between two operands, put before them
+  pub closed_between :
+      (schema : SchemaModel) (n : ℕ) (scope : Scope) (start opened between last : FlatTree) (place : ℕ) (span : Span) (form : Infix) (l r : Tree) (left right type : EdmType)
       → IsOpened start place [] opened
       → IsWalked schema n scope opened l between left
       → IsWalked schema n scope between r last right
-      → OperatorTyped operator (expr_type schema left) (expr_type schema right) (expr_type schema type)
-      → IsWalked schema n scope start (node span.start span.stop (binary operator l r)) (node_put last place (put_in last (NodeKind.Binary operator) span type)) type
-  closed_operator schema n scope start opened between last place span operator l r left right type is a b makes =
-      let typed : Typed (slots_of schema) (type_name_at schema n) scope (node span.start span.stop (binary operator l r)) (expr_type schema type) =
-      record { left = expr_type schema left; right = expr_type schema right; left_typed = a.typed; right_typed = b.typed; operator_typed = makes } in
+      → InfixTyped form (expr_type schema left) (expr_type schema right) (expr_type schema type)
+      → IsWalked schema n scope start (node span.start span.stop (infix_shape form l r)) (node_put last place (put_in last (infix_kind form) span type)) type
+  closed_between schema n scope start opened between last place span form l r left right type is a b makes =
+      let slots = slots_of schema in
+      let root = type_name_at schema n in
+      let typed : Typed slots root scope (node span.start span.stop (infix_shape form l r)) (expr_type schema type) =
+      infix_typed slots root scope span.start span.stop form l r (expr_type schema type)
+      (record { left = expr_type schema left; right = expr_type schema right; left_typed = a.typed; right_typed = b.typed; makes = makes }) in
       record {
-        grown = laws.closed schema n scope start opened last place (put_in last (NodeKind.Binary operator) span type) (binary operator l r) is
-            (kept_on opened between last a.grown.kept b.grown.kept) refl refl typed
-            (record {
+        grown = laws.closed schema n scope start opened last place (put_in last (infix_kind form) span type) (infix_shape form l r)
+            (subst (λ (text : List ℕ). IsOpened start place text opened) (sym (infix_text form l r)) is)
+            (kept_on opened between last a.grown.kept b.grown.kept) refl
+            (infix_of_kind last.values slots root scope form l r) typed
+            (infix_stands schema n scope last (place + 1) (length last.nodes) form l r (record {
               middle = length between.nodes;
               left = behind_opened schema n scope start opened last place (length between.nodes) [] l is
                   (laws.kept schema n scope between last (length opened.nodes) (length between.nodes) l b.grown.kept a.grown.stands);
               right = b.grown.stands;
-            });
+            }));
         typed = typed;
       }

@@ -8,7 +8,7 @@ use Rattle.csdl_schema.specs.ExprType.{ExprType}
 use Rattle.csdl_schema.specs.SchemaModel.{SchemaModel, Slots}
 use Rattle.odata_signatures.specs.TypeView.{expr_type}
 use Rattle.odata_signatures.specs.declared.edm_type.EdmType.{EdmType}
-use Rattle.odata_expression_types.specs.Typed.{NameTyped, PropertyTyped, Scope, variable_type}
+use Rattle.odata_expression_types.specs.Typed.{NameTyped, PropertyTyped, Scope, variable_type, with_variable}
 use Rattle.odata_typing.specs.declared.variables.Variables.{Variables, Bound, Empty, the_lemmas}
 use Rattle.odata_typing.specs.declared.untyped.Untyped.{Untyped}
 use Rattle.odata_typing.specs.declared.variables.NamedVariable.{NamedVariable}
@@ -20,7 +20,7 @@ more_by_one n = omega arith
 pub scope_in-Empty : (schema : SchemaModel) → scope_in schema Empty ≡ []
 scope_in-Empty schema = search (rules, the_lemmas)
 
-pub scope_in-Bound : (schema : SchemaModel) (name : Bor (List ℕ)) (type : EdmType) (outer : Bor Variables) → scope_in schema (Bound name type outer) ≡ (name.now, expr_type schema type) ∷ scope_in schema outer.now
+pub scope_in-Bound : (schema : SchemaModel) (name : Bor (List ℕ)) (type : EdmType) (outer : Bor Variables) → scope_in schema (Bound name type outer) ≡ with_variable (scope_in schema outer.now) name.now (expr_type schema type)
 scope_in-Bound schema name type outer = search (rules, the_lemmas)
 
 -- one more variable

@@ -23,7 +23,7 @@ pub first_name :
     → NameReason (slots.properties root) asked code
     → IsFirstUntypable slots root scope (node span.start span.stop (name asked)) (record { code = code; span = span })
 first_name laws slots root scope asked span code none untyped reason =
-    first_itself laws slots root scope span.start span.stop (name asked) (record { code = code; span = span }) tt
+    first_itself laws slots root scope span.start span.stop (name asked) (record { code = code; span = span }) (λ at body is. is) tt
     (λ type typed. untyped type (unbound_only slots root scope asked type none typed)) reason refl refl
 
 -- there is no property of the name

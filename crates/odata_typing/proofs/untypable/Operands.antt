@@ -1,34 +1,31 @@
--- What the walk answers of an operator or of a node that is not typed yet, from its answers of the children.
-use Rattle.std.proofs.Common.{refl, sym, subst, ◌≡◌, ap, ℕ, List, [], ◌∷◌, ◌++◌, Option, Some, None}
-use Rattle.odata_syntax.specs.Tree.{Shape, Tree, node, binary, call, it, literal, logical_not, member, name, negation, shape_of, start_of, stop_of}
-use Rattle.odata_syntax.specs.Spans.{list_of_trees}
-use Rattle.odata_syntax.specs.TreeView.{tree_of, trees_of}
-use Rattle.odata_syntax.specs.declared.node.BinaryOperator.{BinaryOperator}
+-- What the walk answers of a node, from its answers of the children.
+use Rattle.std.proofs.Common.{refl, sym, subst, ◌≡◌, ℕ, List, [], ◌∷◌, ◌++◌, Option, Some, None}
+use Rattle.std.specs.List.{AllByRecursion}
+use Rattle.odata_syntax.specs.Tree.{Tree, lambda, literal, member, node, shape_of}
+use Rattle.odata_syntax.specs.declared.node.Quantifier.{Quantifier}
 use Rattle.odata_syntax.specs.declared.node.LiteralKind.{LiteralKind}
-use Rattle.odata_syntax.specs.declared.node.Node.{Node}
 use Rattle.odata_text.specs.declared.span.Span.{Span}
 use Rattle.csdl_schema.specs.ExprType.{ExprType}
 use Rattle.csdl_schema.specs.SchemaModel.{SchemaModel, Slots, slots_of, type_name_at}
 use Rattle.odata_signatures.specs.declared.edm_type.EdmType.{EdmType}
 use Rattle.odata_expression_types.specs.declared.refusal.TypeFaultCode.{TypeFaultCode}
+use Rattle.odata_typing.specs.declared.binary_node.Infix.{Infix}
+use Rattle.odata_typing.specs.declared.unary_node.Unary.{Unary}
 use Rattle.odata_typing.specs.declared.untyped.Untyped.{Untyped}
 use Rattle.odata_expression_types.specs.Considered.{children_in_scope}
 use Rattle.odata_typing.specs.private.Answer.{HasFault, IsWalked}
 use Rattle.odata_typing.specs.private.EarlierFault.{IsEarlier, IsEarlierOf}
 use Rattle.odata_typing.specs.private.LawsBelow.{LawsBelow}
-use Rattle.odata_typing.specs.private.Judged.{HasFaultAmong, IsToldOf, IsUnruled}
+use Rattle.odata_typing.specs.private.Forms.{InfixReason, InfixTyped, UnaryTyped, infix_shape, unary_code, unary_shape}
+use Rattle.odata_typing.specs.private.Judged.{HasFaultAmong, IsToldOf}
 use Rattle.odata_expression_types.specs.FirstUntypable.{IsFirstUntypable, IsReason, LiteralReason, StepReason}
 use Rattle.odata_checked_filter.specs.FlatTree.{FlatTree}
 use Rattle.odata_expression_types.specs.LiteralValue.{LiteralTyped}
-use Rattle.odata_signatures.specs.OperatorTyped.{NegationTyped, NotTyped, OperatorTyped}
-use Rattle.odata_expression_types.specs.Typed.{IsTyped, OperandTyped, Scope, StepTyped, Typed}
+use Rattle.odata_expression_types.specs.Typed.{IsTyped, OperandTyped, OperandsTyped, Scope, StepTyped, Typed}
 use Rattle.odata_signatures.specs.TypeView.{expr_type}
-use Rattle.odata_typing.proofs.untypable.Untypable.{all_typed, below_node, first_in_back, first_in_front, first_itself, first_of_both, one_of, typed_start}
-
--- trees of nodes, with one more behind
-pub listed_more : (nodes : List Node) (more : Node) → list_of_trees (trees_of (nodes ++ more ∷ [])) ≡ list_of_trees (trees_of nodes) ++ tree_of more ∷ []
-listed_more [] more = refl
-listed_more (first ∷ nodes) more = ap (λ (ts : List Tree). tree_of first ∷ ts) (listed_more nodes more)
+use Rattle.odata_typing.proofs.forms.Infix.{infix_bodiless, infix_children, infix_only, infix_reason}
+use Rattle.odata_typing.proofs.forms.Unary.{unary_bodiless, unary_children, unary_only, unary_reason}
+use Rattle.odata_typing.proofs.untypable.Untypable.{IsBodiless, all_typed, below_node, first_in_back, first_in_front, first_itself, first_of_both, one_of, typed_start}
 
 module _ (laws : LawsBelow) where
   -- a tree whose nodes stand in the list has a type
@@ -84,64 +81,84 @@ module _ (laws : LawsBelow) where
   -- what is told of a node's children is told of the node
   pub told_below :
       (schema : SchemaModel) (n : ℕ) (scope : Scope) (tree : Tree) (told : Untyped)
+      → IsBodiless (slots_of schema) (type_name_at schema n) scope (shape_of tree)
       → IsToldOf schema n scope (children_in_scope (shape_of tree)) (Some told)
       → HasFault schema n scope tree told
-  told_below schema n scope tree (Untyped.Fault fault) found = laws.below (slots_of schema) (type_name_at schema n) scope tree fault (below_node (slots_of schema) (type_name_at schema n) scope tree fault found)
-  told_below schema n scope tree Untyped.Memory found = tt
+  told_below schema n scope tree (Untyped.Fault fault) bodiless found =
+      laws.below (slots_of schema) (type_name_at schema n) scope tree fault (below_node (slots_of schema) (type_name_at schema n) scope tree fault bodiless found)
+  told_below schema n scope tree Untyped.Memory bodiless found = tt
+
+  -- what is told of two operands
+  told_between :
+      (schema : SchemaModel) (n : ℕ) (scope : Scope) (start stop : ℕ) (form : Infix) (l r : Tree) (told : Untyped)
+      → IsToldOf schema n scope (l ∷ r ∷ []) (Some told)
+      → HasFault schema n scope (node start stop (infix_shape form l r)) told
+  told_between schema n scope start stop form l r told found =
+      let P : List Tree → Type 0 = λ (ts : List Tree). IsToldOf schema n scope ts (Some told) in
+      told_below schema n scope (node start stop (infix_shape form l r)) told (infix_bodiless (slots_of schema) (type_name_at schema n) scope form l r)
+      (subst P (sym (infix_children form l r)) found)
 
   pub HasFault-left :
-      (schema : SchemaModel) (n : ℕ) (scope : Scope) (start stop : ℕ) (operator : BinaryOperator) (l r : Tree) (old new : FlatTree) (type : EdmType) (told : Untyped)
+      (schema : SchemaModel) (n : ℕ) (scope : Scope) (start stop : ℕ) (form : Infix) (l r : Tree) (old new : FlatTree) (type : EdmType) (told : Untyped)
       → HasFault schema n scope l told
       → IsWalked schema n scope old r new type
-      → HasFault schema n scope (node start stop (binary operator l r)) told
-  HasFault-left schema n scope start stop operator l r old new type told found walked =
-      told_below schema n scope (node start stop (binary operator l r)) told
+      → HasFault schema n scope (node start stop (infix_shape form l r)) told
+  HasFault-left schema n scope start stop form l r old new type told found walked =
+      told_between schema n scope start stop form l r told
       (told_both schema n scope (l ∷ []) (r ∷ []) (Some told) None (Some told) (told_fault schema n scope l told found) (told_typed schema n scope r (walked_typed schema n scope old r new type walked)) refl)
 
   pub HasFault-right :
-      (schema : SchemaModel) (n : ℕ) (scope : Scope) (start stop : ℕ) (operator : BinaryOperator) (l r : Tree) (old new : FlatTree) (type : EdmType) (told : Untyped)
+      (schema : SchemaModel) (n : ℕ) (scope : Scope) (start stop : ℕ) (form : Infix) (l r : Tree) (old new : FlatTree) (type : EdmType) (told : Untyped)
       → IsWalked schema n scope old l new type
       → HasFault schema n scope r told
-      → HasFault schema n scope (node start stop (binary operator l r)) told
-  HasFault-right schema n scope start stop operator l r old new type told walked found =
-      told_below schema n scope (node start stop (binary operator l r)) told
+      → HasFault schema n scope (node start stop (infix_shape form l r)) told
+  HasFault-right schema n scope start stop form l r old new type told walked found =
+      told_between schema n scope start stop form l r told
       (told_both schema n scope (l ∷ []) (r ∷ []) None (Some told) (Some told) (told_typed schema n scope l (walked_typed schema n scope old l new type walked)) (told_fault schema n scope r told found) refl)
 
   pub HasFault-both :
-      (schema : SchemaModel) (n : ℕ) (scope : Scope) (start stop : ℕ) (operator : BinaryOperator) (l r : Tree) (first second told : Untyped)
+      (schema : SchemaModel) (n : ℕ) (scope : Scope) (start stop : ℕ) (form : Infix) (l r : Tree) (first second told : Untyped)
       → HasFault schema n scope l first
       → HasFault schema n scope r second
       → IsEarlier first second told
-      → HasFault schema n scope (node start stop (binary operator l r)) told
-  HasFault-both schema n scope start stop operator l r first second told x y earlier =
-      told_below schema n scope (node start stop (binary operator l r)) told
+      → HasFault schema n scope (node start stop (infix_shape form l r)) told
+  HasFault-both schema n scope start stop form l r first second told x y earlier =
+      told_between schema n scope start stop form l r told
       (told_both schema n scope (l ∷ []) (r ∷ []) (Some first) (Some second) (Some told) (told_fault schema n scope l first x) (told_fault schema n scope r second y) earlier)
 
-  -- the operator does not take its operands
-  operator_untyped :
-      (slots : Slots) (root : List ℕ) (scope : Scope) (start stop : ℕ) (operator : BinaryOperator) (left right : Tree) (l r : ExprType)
+  -- a node between two operands, of whose types it makes none
+  between_untyped :
+      (slots : Slots) (root : List ℕ) (scope : Scope) (left right : Tree) (l r : ExprType) (Makes : ExprType → ExprType → ExprType → Type 0)
       → Typed slots root scope left l
       → Typed slots root scope right r
-      → ((type : ExprType) → ¬ OperatorTyped operator l r type)
-      → (type : ExprType) → ¬ Typed slots root scope (node start stop (binary operator left right)) type
-  operator_untyped slots root scope start stop operator left right l r left_typed right_typed refused type typed =
-      let P : ExprType → Type 0 = λ (t : ExprType). OperatorTyped operator t typed.right type in
-      let Q : ExprType → Type 0 = λ (t : ExprType). OperatorTyped operator l t type in
+      → ((type : ExprType) → ¬ Makes l r type)
+      → (type : ExprType) → ¬ OperandsTyped (Typed slots root scope left) (Typed slots root scope right) Makes type
+  between_untyped slots root scope left right l r Makes left_typed right_typed refused type typed =
+      let P : ExprType → Type 0 = λ (t : ExprType). Makes t typed.right type in
+      let Q : ExprType → Type 0 = λ (t : ExprType). Makes l t type in
       refused type
       (subst Q (laws.one_type slots root scope right typed.right r typed.right_typed right_typed)
-      (subst P (laws.one_type slots root scope left typed.left l typed.left_typed left_typed) typed.operator_typed))
+      (subst P (laws.one_type slots root scope left typed.left l typed.left_typed left_typed) typed.makes))
 
-  pub refused_itself :
-      (schema : SchemaModel) (n : ℕ) (scope : Scope) (span : Span) (operator : BinaryOperator) (l r : Tree) (opened between last : FlatTree) (left right : EdmType)
+  pub refused_between :
+      (schema : SchemaModel) (n : ℕ) (scope : Scope) (span : Span) (form : Infix) (l r : Tree) (opened between last : FlatTree) (left right : EdmType) (code : TypeFaultCode)
       → IsWalked schema n scope opened l between left
       → IsWalked schema n scope between r last right
-      → ((type : ExprType) → ¬ OperatorTyped operator (expr_type schema left) (expr_type schema right) type)
-      → IsFirstUntypable (slots_of schema) (type_name_at schema n) scope (node span.start span.stop (binary operator l r)) (record { code = TypeFaultCode.OperandTypes; span = span })
-  refused_itself schema n scope span operator l r opened between last left right a b refused =
-      first_itself laws (slots_of schema) (type_name_at schema n) scope span.start span.stop (binary operator l r) (record { code = TypeFaultCode.OperandTypes; span = span })
-      (walked_typed schema n scope opened l between left a, (walked_typed schema n scope between r last right b, tt))
-      (operator_untyped (slots_of schema) (type_name_at schema n) scope span.start span.stop operator l r (expr_type schema left) (expr_type schema right) a.typed b.typed refused)
-      refl refl refl
+      → ((type : ExprType) → ¬ InfixTyped form (expr_type schema left) (expr_type schema right) type)
+      → InfixReason form (expr_type schema right) code
+      → IsFirstUntypable (slots_of schema) (type_name_at schema n) scope (node span.start span.stop (infix_shape form l r)) (record { code = code; span = span })
+  refused_between schema n scope span form l r opened between last left right code a b refused reason =
+      let slots = slots_of schema in
+      let root = type_name_at schema n in
+      first_itself laws slots root scope span.start span.stop (infix_shape form l r) (record { code = code; span = span })
+      (infix_bodiless slots root scope form l r)
+      (subst (λ (ts : List Tree). AllByRecursion (IsTyped slots root scope) ts) (sym (infix_children form l r))
+      (walked_typed schema n scope opened l between left a, (walked_typed schema n scope between r last right b, tt)))
+      (λ type typed.
+      between_untyped slots root scope l r (expr_type schema left) (expr_type schema right) (InfixTyped form) a.typed b.typed refused type
+      (infix_only slots root scope span.start span.stop form l r type typed))
+      (infix_reason slots root scope span.start span.stop form l r (expr_type schema right) code b.typed reason)
+      refl refl
 
   -- a node over one operand, of whose type it makes none
   over_untyped :
@@ -153,27 +170,24 @@ module _ (laws : LawsBelow) where
       let P : ExprType → Type 0 = λ (t : ExprType). Makes t type in
       refused type (subst P (laws.one_type slots root scope operand typed.operand o typed.operand_typed is) typed.makes)
 
-  pub refused_negation :
-      (schema : SchemaModel) (n : ℕ) (scope : Scope) (span : Span) (operand : Tree) (opened last : FlatTree) (type : EdmType)
+  pub refused_over :
+      (schema : SchemaModel) (n : ℕ) (scope : Scope) (span : Span) (unary : Unary) (operand : Tree) (opened last : FlatTree) (type : EdmType) (code : TypeFaultCode)
       → IsWalked schema n scope opened operand last type
-      → ((made : ExprType) → ¬ NegationTyped (expr_type schema type) made)
-      → IsFirstUntypable (slots_of schema) (type_name_at schema n) scope (node span.start span.stop (negation operand)) (record { code = TypeFaultCode.OperandTypes; span = span })
-  refused_negation schema n scope span operand opened last type walked refused =
-      first_itself laws (slots_of schema) (type_name_at schema n) scope span.start span.stop (negation operand) (record { code = TypeFaultCode.OperandTypes; span = span })
-      (walked_typed schema n scope opened operand last type walked, tt)
-      (over_untyped (slots_of schema) (type_name_at schema n) scope operand (expr_type schema type) NegationTyped walked.typed refused)
-      refl refl refl
-
-  pub refused_not :
-      (schema : SchemaModel) (n : ℕ) (scope : Scope) (span : Span) (operand : Tree) (opened last : FlatTree) (type : EdmType)
-      → IsWalked schema n scope opened operand last type
-      → ((made : ExprType) → ¬ NotTyped (expr_type schema type) made)
-      → IsFirstUntypable (slots_of schema) (type_name_at schema n) scope (node span.start span.stop (logical_not operand)) (record { code = TypeFaultCode.OperandTypes; span = span })
-  refused_not schema n scope span operand opened last type walked refused =
-      first_itself laws (slots_of schema) (type_name_at schema n) scope span.start span.stop (logical_not operand) (record { code = TypeFaultCode.OperandTypes; span = span })
-      (walked_typed schema n scope opened operand last type walked, tt)
-      (over_untyped (slots_of schema) (type_name_at schema n) scope operand (expr_type schema type) NotTyped walked.typed refused)
-      refl refl refl
+      → ((made : ExprType) → ¬ UnaryTyped unary (expr_type schema type) made)
+      → code ≡ unary_code unary
+      → IsFirstUntypable (slots_of schema) (type_name_at schema n) scope (node span.start span.stop (unary_shape unary operand)) (record { code = code; span = span })
+  refused_over schema n scope span unary operand opened last type code walked refused is =
+      let slots = slots_of schema in
+      let root = type_name_at schema n in
+      first_itself laws slots root scope span.start span.stop (unary_shape unary operand) (record { code = code; span = span })
+      (unary_bodiless slots root scope unary operand)
+      (subst (λ (ts : List Tree). AllByRecursion (IsTyped slots root scope) ts) (sym (unary_children unary operand)) (walked_typed schema n scope opened operand last type walked, tt))
+      (λ made typed.
+      over_untyped slots root scope operand (expr_type schema type) (UnaryTyped unary) walked.typed refused made
+      (unary_only slots root scope span.start span.stop unary operand made typed))
+      (subst (λ (c : TypeFaultCode). IsReason slots root scope (node span.start span.stop (unary_shape unary operand)) c) (sym is)
+      (unary_reason slots root scope span.start span.stop unary operand))
+      refl refl
 
   pub refused_step :
       (schema : SchemaModel) (n : ℕ) (scope : Scope) (span : Span) (base : Tree) (asked : List ℕ) (opened last : FlatTree) (type : EdmType) (code : TypeFaultCode)
@@ -183,43 +197,43 @@ module _ (laws : LawsBelow) where
       → IsFirstUntypable (slots_of schema) (type_name_at schema n) scope (node span.start span.stop (member base asked)) (record { code = code; span = span })
   refused_step schema n scope span base asked opened last type code walked refused reason =
       first_itself laws (slots_of schema) (type_name_at schema n) scope span.start span.stop (member base asked) (record { code = code; span = span })
+      (λ at body is. is)
       (walked_typed schema n scope opened base last type walked, tt)
       (over_untyped (slots_of schema) (type_name_at schema n) scope base (expr_type schema type) (StepTyped (slots_of schema) asked) walked.typed refused)
       (expr_type schema type, walked.typed, reason) refl refl
 
   -- a fault of the one operand
-  pub fault_of_only :
-      (schema : SchemaModel) (n : ℕ) (scope : Scope) (tree child : Tree) (told : Untyped)
-      → children_in_scope (shape_of tree) ≡ child ∷ []
-      → HasFault schema n scope child told
-      → HasFault schema n scope tree told
-  fault_of_only schema n scope tree child told only found =
+  pub fault_over :
+      (schema : SchemaModel) (n : ℕ) (scope : Scope) (start stop : ℕ) (unary : Unary) (operand : Tree) (told : Untyped)
+      → HasFault schema n scope operand told
+      → HasFault schema n scope (node start stop (unary_shape unary operand)) told
+  fault_over schema n scope start stop unary operand told found =
       let P : List Tree → Type 0 = λ (ts : List Tree). IsToldOf schema n scope ts (Some told) in
-      told_below schema n scope tree told (subst P (sym only) (told_fault schema n scope child told found))
+      told_below schema n scope (node start stop (unary_shape unary operand)) told (unary_bodiless (slots_of schema) (type_name_at schema n) scope unary operand)
+      (subst P (sym (unary_children unary operand)) (told_fault schema n scope operand told found))
 
-  -- a node of a form that is not typed yet has no type
-  unruled_untyped : (slots : Slots) (root : List ℕ) (scope : Scope) (start stop : ℕ) (shape : Shape) (type : ExprType) → IsUnruled shape → ¬ Typed slots root scope (node start stop shape) type
-  unruled_untyped slots root scope start stop (literal kind spelling) type unruled typed = unruled
-  unruled_untyped slots root scope start stop it type unruled typed = unruled
-  unruled_untyped slots root scope start stop (name asked) type unruled typed = unruled
-  unruled_untyped slots root scope start stop (member base asked) type unruled typed = unruled
-  unruled_untyped slots root scope start stop (negation operand) type unruled typed = unruled
-  unruled_untyped slots root scope start stop (logical_not operand) type unruled typed = unruled
-  unruled_untyped slots root scope start stop (binary operator left right) type unruled typed = unruled
-  unruled_untyped slots root scope start stop (call asked arguments) type unruled typed = unruled
-  unruled_untyped slots root scope start stop _ type unruled typed = typed
+  pub fault_before_step :
+      (schema : SchemaModel) (n : ℕ) (scope : Scope) (start stop : ℕ) (base : Tree) (asked : List ℕ) (told : Untyped)
+      → HasFault schema n scope base told
+      → HasFault schema n scope (node start stop (member base asked)) told
+  fault_before_step schema n scope start stop base asked told found =
+      told_below schema n scope (node start stop (member base asked)) told (λ at body is. is) (told_fault schema n scope base told found)
+
+  -- a lambda operator with a body has no type yet
+  pub unruled_fault :
+      (schema : SchemaModel) (n : ℕ) (scope : Scope) (start stop : ℕ) (base : Tree) (told : Untyped) (quantifier : Quantifier) (variable : List ℕ) (body : Tree)
+      → HasFault schema n scope base told
+      → HasFault schema n scope (node start stop (lambda quantifier base variable body)) told
+  unruled_fault schema n scope start stop base told quantifier variable body found =
+      told_below schema n scope (node start stop (lambda quantifier base variable body)) told (λ at part is. is) (told_fault schema n scope base told found)
 
   pub unruled_itself :
-      (schema : SchemaModel) (n : ℕ) (scope : Scope) (tree : Tree) (span : Span) (code : TypeFaultCode)
-      → IsUnruled (shape_of tree)
-      → IsToldOf schema n scope (children_in_scope (shape_of tree)) None
-      → IsReason (slots_of schema) (type_name_at schema n) scope tree code
-      → span.start ≡ start_of tree
-      → span.stop ≡ stop_of tree
-      → HasFault schema n scope tree (Untyped.Fault (record { code = code; span = span }))
-  unruled_itself schema n scope (node start stop shape) span code unruled typed reason starts stops =
-      first_itself laws (slots_of schema) (type_name_at schema n) scope start stop shape (record { code = code; span = span })
-      typed (λ type. unruled_untyped (slots_of schema) (type_name_at schema n) scope start stop shape type unruled) reason starts stops
+      (schema : SchemaModel) (n : ℕ) (scope : Scope) (span : Span) (base : Tree) (opened last : FlatTree) (type : EdmType) (quantifier : Quantifier) (variable : List ℕ) (body : Tree)
+      → IsWalked schema n scope opened base last type
+      → HasFault schema n scope (node span.start span.stop (lambda quantifier base variable body)) (Untyped.Fault (record { code = TypeFaultCode.OperandTypes; span = span }))
+  unruled_itself schema n scope span base opened last type quantifier variable body walked =
+      first_itself laws (slots_of schema) (type_name_at schema n) scope span.start span.stop (lambda quantifier base variable body) (record { code = TypeFaultCode.OperandTypes; span = span })
+      (λ at part is. is) (walked_typed schema n scope opened base last type walked, tt) (λ made typed. typed) refl refl refl
 
   -- a literal that has no value
   pub unread_literal :
@@ -228,4 +242,4 @@ module _ (laws : LawsBelow) where
       → LiteralReason kind code
       → HasFault schema n scope (node span.start span.stop (literal kind spelling)) (Untyped.Fault (record { code = code; span = span }))
   unread_literal schema n scope span kind spelling code untyped reason =
-      first_itself laws (slots_of schema) (type_name_at schema n) scope span.start span.stop (literal kind spelling) (record { code = code; span = span }) tt untyped reason refl refl
+      first_itself laws (slots_of schema) (type_name_at schema n) scope span.start span.stop (literal kind spelling) (record { code = code; span = span }) (λ at body is. is) tt untyped reason refl refl

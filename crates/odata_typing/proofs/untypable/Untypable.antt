@@ -4,7 +4,7 @@ use Rattle.std.specs.List.{AllByRecursion}
 use Rattle.odata_syntax.specs.Tree.{Shape, Tree, node, shape_of, start_of}
 use Rattle.csdl_schema.specs.SchemaModel.{Slots}
 use Rattle.odata_expression_types.specs.declared.refusal.TypeFault.{TypeFault}
-use Rattle.odata_expression_types.specs.Considered.{ChildrenTyped, IsAmong, children_in_scope}
+use Rattle.odata_expression_types.specs.Considered.{ChildrenTyped, IsAmong, IsConsideredBody, children_in_scope}
 use Rattle.odata_expression_types.specs.FirstUntypable.{IsFirstUntypable, IsReason, IsUntypable}
 use Rattle.odata_expression_types.specs.Laws.{TypedIsClear}
 use Rattle.odata_expression_types.specs.Typed.{IsTyped, IsUntyped, Scope}
@@ -125,35 +125,42 @@ first_of_both slots root scope xs ys first second told x y (inr is) =
     let le : second.span.start ≤ first.span.start = omega arith in
     subst P (sym is.0) (first_in_back slots root scope xs ys second (lower slots root scope xs second.span.start first.span.start le x.others) y)
 
--- as long as no body is judged, the first fault among a node's children in its scope is the first below it
+-- the node has no body that is judged
+abbrev pub IsBodiless : Slots → List ℕ → Scope → Shape → Type 0
+IsBodiless slots root scope shape = (at : Scope) (body : Tree) → ¬ IsConsideredBody slots root scope shape at body
+
+-- of such a node the first fault among the children in its scope is the first below it
 pub below_node :
     (slots : Slots) (root : List ℕ) (scope : Scope) (tree : Tree) (fault : TypeFault)
+    → IsBodiless slots root scope (shape_of tree)
     → IsFirstAmong slots root scope (children_in_scope (shape_of tree)) fault
     → IsFirstBelow slots root scope tree fault
-below_node slots root scope tree fault first = record {
+below_node slots root scope tree fault bodiless first = record {
   at = scope;
   child = first.tree;
   is = inl first.among;
   found = first.found;
-  others = λ inner other is. elim is [ inl among ↦ first.others inner other among | inr body ↦ absurd body ];
+  others = λ inner other is. elim is [ inl among ↦ first.others inner other among | inr body ↦ absurd (bodiless inner other body) ];
 }
 
 -- and where these have types, all children that are judged have
 pub children_typed :
     (slots : Slots) (root : List ℕ) (scope : Scope) (start stop : ℕ) (shape : Shape)
+    → IsBodiless slots root scope shape
     → AllTyped slots root scope (children_in_scope shape)
     → ChildrenTyped slots root scope (node start stop shape)
-children_typed slots root scope start stop shape typed = λ at child is.
-    elim is [ inl among ↦ among_typed slots root scope (children_in_scope shape) at child typed among | inr body ↦ absurd body ]
+children_typed slots root scope start stop shape bodiless typed = λ at child is.
+    elim is [ inl among ↦ among_typed slots root scope (children_in_scope shape) at child typed among | inr body ↦ absurd (bodiless at child body) ]
 
 -- a node whose children have types, and that has none itself, is the first
 pub first_itself :
     LawsBelow → (slots : Slots) (root : List ℕ) (scope : Scope) (start stop : ℕ) (shape : Shape) (fault : TypeFault)
+    → IsBodiless slots root scope shape
     → AllTyped slots root scope (children_in_scope shape)
     → IsUntyped slots root scope (node start stop shape)
     → IsReason slots root scope (node start stop shape) fault.code
     → fault.span.start ≡ start
     → fault.span.stop ≡ stop
     → IsFirstUntypable slots root scope (node start stop shape) fault
-first_itself laws slots root scope start stop shape fault typed =
-    laws.itself slots root scope start stop shape fault (children_typed slots root scope start stop shape typed)
+first_itself laws slots root scope start stop shape fault bodiless typed =
+    laws.itself slots root scope start stop shape fault (children_typed slots root scope start stop shape bodiless typed)

@@ -1,23 +1,24 @@
--- For private clauses: what is told of the children of a node that is not typed yet.
+-- For private clauses: which shapes a function takes, and what is told of trees one behind another.
 use Rattle.std.specs.Prelude.{ℕ, List, Option, MatchOption}
 use Rattle.std.specs.List.{AllByRecursion}
-use Rattle.odata_syntax.specs.Tree.{Shape, Tree, binary, call, it, literal, logical_not, member, name, negation}
+use Rattle.odata_syntax.specs.Tree.{Shape, Tree, any_item, has, in_list, in_path, lambda}
 use Rattle.csdl_schema.specs.SchemaModel.{SchemaModel, slots_of, type_name_at}
 use Rattle.odata_typing.specs.declared.untyped.Untyped.{Untyped}
 use Rattle.odata_expression_types.specs.FirstAmong.{IsFirstAmong}
 use Rattle.odata_expression_types.specs.Typed.{Scope, IsTyped}
 
--- no node of that shape has a type yet
-abbrev pub IsUnruled : Shape → Type 0
-IsUnruled (literal kind spelling) = ⊥
-IsUnruled it = ⊥
-IsUnruled (name asked) = ⊥
-IsUnruled (member base asked) = ⊥
-IsUnruled (negation operand) = ⊥
-IsUnruled (logical_not operand) = ⊥
-IsUnruled (binary operator left right) = ⊥
-IsUnruled (call asked arguments) = ⊥
-IsUnruled shape = Unit {0}
+-- `has` and `in`
+abbrev pub IsMembership : Shape → Type 0
+IsMembership (has left right) = Unit {0}
+IsMembership (in_list left items) = Unit {0}
+IsMembership (in_path left path) = Unit {0}
+IsMembership shape = ⊥
+
+-- a lambda operator, with a body or without
+abbrev pub IsLambdaOperator : Shape → Type 0
+IsLambdaOperator (any_item base) = Unit {0}
+IsLambdaOperator (lambda quantifier base variable body) = Unit {0}
+IsLambdaOperator shape = ⊥
 
 -- the first fault among the trees; want of memory says nothing
 abbrev pub HasFaultAmong : SchemaModel → ℕ → Scope → List Tree → Untyped → Type 0

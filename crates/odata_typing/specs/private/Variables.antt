@@ -5,7 +5,7 @@ use Rattle.std.specs.List.{AllByRecursion}
 use Rattle.odata_signatures.specs.TypeThere.{IsTypeThere}
 use Rattle.odata_signatures.specs.TypeView.{expr_type}
 use Rattle.odata_signatures.specs.declared.edm_type.EdmType.{EdmType}
-use Rattle.odata_expression_types.specs.Typed.{Scope, variable_type}
+use Rattle.odata_expression_types.specs.Typed.{Scope, variable_type, with_variable}
 use Rattle.odata_checked_filter.specs.Levels.{level_named}
 use Rattle.odata_checked_filter.specs.Stands.{variable_names}
 use Rattle.odata_typing.specs.declared.setting.Setting.{Setting}
@@ -15,7 +15,7 @@ use Rattle.odata_typing.specs.declared.variables.Variables.TheOpen.{Variables-F}
 
 abbrev pub scope_step : SchemaModel → Variables-F Scope → Scope
 scope_step schema Variables-F.Empty = []
-scope_step schema (Variables-F.Bound name type outer) = (name.now, expr_type schema type) ∷ outer.now
+scope_step schema (Variables-F.Bound name type outer) = with_variable outer.now name.now (expr_type schema type)
 
 -- the variables of the code, each with its name and its type
 abbrev pub scope_in : SchemaModel → Variables → Scope

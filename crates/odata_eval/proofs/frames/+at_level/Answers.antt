@@ -1,7 +1,7 @@
-use Rattle.std.proofs.Common.{◌≡◌, ◌∙◌, ℕ, suc, ◌+◌, ◌≤◌, List, arith, inl, inr, length, refl, subst, sym}
+use Rattle.std.proofs.Common.{◌≡◌, ◌∙◌, ℕ, suc, ◌+◌, ◌≤◌, ◌<◌, List, Fits, w64, arith, inl, inr, length, refl, subst, sym}
 use Rattle.std.proofs.lemmas.Bool.{cases_lt}
-use Rattle.csdl_schema.specs.SchemaModel.{slots_of}
-use Rattle.odata_eval.specs.private.Frames.{Frame, StandsAtLevel, bound_of, environment_in, frames_in, names_of}
+use Rattle.csdl_schema.specs.SchemaModel.{SchemaModel, slots_of}
+use Rattle.odata_eval.specs.private.Frames.{Frame, StandsAtLevel, bound_of, environment_in, frame_of, frames_in, names_of}
 use Rattle.odata_eval.proofs.walking.OneReading.{one_schema}
 use Rattle.odata_eval.proofs.walking.Variables.{at_innermost, bound_frames}
 use Rattle.odata_eval.proofs.frames.+at_level.Goals as goal
@@ -21,7 +21,7 @@ overflow_add-result t c =
 pub returns-then-count-level : goal.returns-then-count-level
 returns-then-count-level t c = λ schema.
     let outer = frames_in c.in-Bound.outer.now in
-    let frame : Frame = record { name = c.in-Bound.field-0.now.name.now; edm_type = c.in-Bound.field-0.now.edm_type; value = c.in-Bound.value.now } in
+    let frame : Frame = frame_of c.in-Bound.field-0.now c.in-Bound.value.now in
     subst (λ (frames : List Frame). StandsAtLevel (slots_of schema) (environment_in schema frames) c.args.level c.in-Bound.value.now)
     (sym (bound_frames c.args.frames.now c.in-Bound.field-0 c.in-Bound.value c.in-Bound.outer c.in-Bound.is))
     (at_innermost (slots_of schema) (environment_in schema outer) (bound_of schema frame) c.args.level c.in-Bound.value.now

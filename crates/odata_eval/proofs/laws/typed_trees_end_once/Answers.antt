@@ -23,6 +23,7 @@ returns c = ends_once
       place = c.texts_have_one_answer.ensures.place_there;
       trimmed = c.texts_have_one_answer.ensures.trimmed_there;
       dates = c.day_numbers_have_one_date.ensures.there;
+      bits = c.bits_are_decided.ensures;
     })
     (record {
       left = c.operands_lie_within_promotion.ensures.left;

@@ -1,5 +1,5 @@
-use Rattle.std.proofs.Common.{sym, ap, ◌∙◌, inl, inr}
-use Rattle.odata_checked_filter.proofs.flat.Numbered.{level_found, level_of_kind, no_level_past, numbered, past_end}
+use Rattle.std.proofs.Common.{sym, ap, ◌∙◌}
+use Rattle.odata_checked_filter.proofs.flat.Numbered.{level_found, level_of_kind, no_level, no_level_past, numbered, past_end}
 use Rattle.odata_checked_filter.proofs.checked.Checked.level_of.Goals as goal
 
 pub returns-in-Variable : goal.returns-in-Variable
@@ -7,20 +7,10 @@ returns-in-Variable c =
     let found = level_found c.args.self.now c.args.node c.in-Some.found.now (numbered c.args.self.now c.args.node c.in-Some.found.now c.node_at.ensures.right (sym c.in-Some.ensures.same)) in
     sym (found ∙ ap level_of_kind c.in-Variable.is)
 
-pub returns-in-Literal : goal.returns-in-Literal
-returns-in-Literal c =
+pub returns-in_default : goal.returns-in_default
+returns-in_default c =
     let found = level_found c.args.self.now c.args.node c.in-Some.found.now (numbered c.args.self.now c.args.node c.in-Some.found.now c.node_at.ensures.right (sym c.in-Some.ensures.same)) in
-    elim c.in-Literal.is [
-      | inl x ↦ sym (found ∙ ap level_of_kind x.2)
-      | inr (inl x) ↦ sym (found ∙ ap level_of_kind x)
-      | inr (inr (inl x)) ↦ sym (found ∙ ap level_of_kind x.1)
-      | inr (inr (inr (inl x))) ↦ sym (found ∙ ap level_of_kind x.1)
-      | inr (inr (inr (inr (inl x)))) ↦ sym (found ∙ ap level_of_kind x)
-      | inr (inr (inr (inr (inr (inl x))))) ↦ sym (found ∙ ap level_of_kind x)
-      | inr (inr (inr (inr (inr (inr (inl x)))))) ↦ sym (found ∙ ap level_of_kind x)
-      | inr (inr (inr (inr (inr (inr (inr (inl x))))))) ↦ sym (found ∙ ap level_of_kind x.1)
-      | inr (inr (inr (inr (inr (inr (inr (inr x))))))) ↦ sym (found ∙ ap level_of_kind x.1)
-    ]
+    sym (found ∙ no_level c.in-Some.found.now.kind c.in_default.not-Variable)
 
 pub returns-in-None : goal.returns-in-None
 returns-in-None c =

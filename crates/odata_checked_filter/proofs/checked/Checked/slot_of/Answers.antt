@@ -1,5 +1,5 @@
-use Rattle.std.proofs.Common.{◌≡◌, ap, inl, inr, sym, Some, None}
-use Rattle.odata_checked_filter.proofs.flat.Numbered.{no_other_slot, no_slot_past, numbered, past_end, slot_at, slot_of_kind}
+use Rattle.std.proofs.Common.{ap, sym}
+use Rattle.odata_checked_filter.proofs.flat.Numbered.{no_slot, no_slot_past, no_slot_there, numbered, past_end, slot_at, slot_of_kind}
 use Rattle.odata_checked_filter.proofs.checked.Checked.slot_of.Goals as goal
 
 pub returns-in-Property-clause-found : goal.returns-in-Property-clause-found
@@ -14,24 +14,13 @@ returns-in-Member-clause-found c =
     (numbered c.args.self.now c.args.node c.in-Some.found.now c.node_at.ensures.right (sym c.in-Some.ensures.same))
     (ap slot_of_kind c.in-Member.is)
 
-pub returns-in-Literal : goal.returns-in-Literal
-returns-in-Literal c = record {
+pub returns-in_default : goal.returns-in_default
+returns-in_default c = record {
   found = tt;
-  none = λ slot names.
-      let is : slot_of_kind c.in-Some.found.now.kind ≡ Some slot =
-      no_other_slot c.trees_have_one_type.ensures c.args.self.now c.args.node slot c.in-Some.found.now
+  none = λ slot.
+      no_slot_there c.args.self.now c.args.node slot c.in-Some.found.now
       (numbered c.args.self.now c.args.node c.in-Some.found.now c.node_at.ensures.right (sym c.in-Some.ensures.same))
-      names in
-      elim c.in-Literal.is [
-        | inl x ↦ (let other : slot_of_kind c.in-Some.found.now.kind ≡ None = ap slot_of_kind x.2 in cc)
-        | inr (inl x) ↦ (let other : slot_of_kind c.in-Some.found.now.kind ≡ None = ap slot_of_kind x in cc)
-        | inr (inr (inl x)) ↦ (let other : slot_of_kind c.in-Some.found.now.kind ≡ None = ap slot_of_kind x.1 in cc)
-        | inr (inr (inr (inl x))) ↦ (let other : slot_of_kind c.in-Some.found.now.kind ≡ None = ap slot_of_kind x in cc)
-        | inr (inr (inr (inr (inl x)))) ↦ (let other : slot_of_kind c.in-Some.found.now.kind ≡ None = ap slot_of_kind x in cc)
-        | inr (inr (inr (inr (inr (inl x))))) ↦ (let other : slot_of_kind c.in-Some.found.now.kind ≡ None = ap slot_of_kind x in cc)
-        | inr (inr (inr (inr (inr (inr (inl x)))))) ↦ (let other : slot_of_kind c.in-Some.found.now.kind ≡ None = ap slot_of_kind x.1 in cc)
-        | inr (inr (inr (inr (inr (inr (inr x)))))) ↦ (let other : slot_of_kind c.in-Some.found.now.kind ≡ None = ap slot_of_kind x.1 in cc)
-      ];
+      (no_slot c.in-Some.found.now.kind c.in_default.not-Property c.in_default.not-Member);
 }
 
 pub returns-in-None-clause-none : goal.returns-in-None-clause-none

@@ -1,0 +1,93 @@
+-- What the walk that writes canonical text writes of an operand, in parentheses or without.
+use Rattle.std.proofs.Common.{◌≡◌, ◌∙◌, ℕ, ◌<◌, ◌≤◌, List, [], ◌∷◌, ◌++◌, append_assoc, Some, slice_get, true, false, refl, sym, subst, ap, arith}
+use Rattle.std.specs.Prelude.{nat_lt}
+use Rattle.odata_syntax.specs.CanonicalText.{IsCanonicalText, tree_level, tree_text}
+use Rattle.odata_syntax.specs.Grammar.{Level}
+use Rattle.odata_syntax.specs.Tree.{Tree}
+use Rattle.odata_checked_filter.specs.declared.canonical_text.Part.{Part}
+use Rattle.odata_checked_filter.specs.declared.canonical_text.Part.TheVariants.{Close, Operand}
+use Rattle.odata_checked_filter.specs.declared.checked_node.CheckedNode.{CheckedNode}
+use Rattle.odata_checked_filter.specs.FlatTree.{FlatTree}
+use Rattle.odata_checked_filter.specs.private.CanonicalWalk.{GoesOn, IsPieceOf, IsPieceText, Piece, StandsThere, WritesNode, WritesPart, further, operand, plain}
+use Rattle.odata_checked_filter.specs.private.KindTexts.{kind_level}
+use Rattle.odata_checked_filter.proofs.canonical.Arguments.{closing_weight}
+use Rattle.odata_checked_filter.proofs.canonical.Kinds.{level_there}
+use Rattle.odata_checked_filter.proofs.canonical.Leaves.{above, below, in_group, ungrouped}
+
+module _ (list : FlatTree) (i : ℕ) (found : CheckedNode) (at : slice_get list.nodes i ≡ Some found) where
+  -- where the node binds as tightly as needed, its text is the operand's
+  bare : (level : Level) (tree : Tree) (text : List ℕ) → level ≤ kind_level found.kind → StandsThere list i tree
+      → IsCanonicalText tree text → IsPieceText (operand level tree) text
+  bare level tree text fits there is =
+      let own : tree_level is.normal ≡ kind_level found.kind = level_there list i found tree is.normal at there is.is_normal in
+      let loose : nat_lt (tree_level is.normal) level ≡ false = ap (λ (n : ℕ). nat_lt n level) own ∙ below (kind_level found.kind) level fits in
+      (is.normal, is.is_normal, is.printed ∙ sym (ungrouped level (tree_level is.normal) (tree_text is.normal) loose))
+
+  -- where it does not, it stands in parentheses
+  group : (level : Level) (tree : Tree) (text : List ℕ) → kind_level found.kind < level → StandsThere list i tree
+      → IsCanonicalText tree text → IsPieceText (operand level tree) (40 ∷ (text ++ 41 ∷ []))
+  group level tree text tight there is =
+      let own : tree_level is.normal ≡ kind_level found.kind = level_there list i found tree is.normal at there is.is_normal in
+      let close : nat_lt (tree_level is.normal) level ≡ true = ap (λ (n : ℕ). nat_lt n level) own ∙ above (kind_level found.kind) level tight in (
+        is.normal,
+        is.is_normal,
+        ap (λ (t : List ℕ). 40 ∷ (t ++ 41 ∷ [])) is.printed ∙ sym (in_group level (tree_level is.normal) (tree_text is.normal) close),
+      )
+
+  bare_goes : (needed : ℕ) (parts : List Part) (text : List ℕ) → needed ≤ kind_level found.kind
+      → ((tree : Tree) → StandsThere list i tree → GoesOn list parts text (IsCanonicalText tree))
+      → (piece : Piece) → IsPieceOf list (Operand i needed) piece → GoesOn list parts text (IsPieceText piece)
+  bare_goes needed parts text fits goes (plain spelled) of = absurd of
+  bare_goes needed parts text fits goes (further trees) of = absurd of
+  bare_goes needed parts text fits goes (operand level tree) of =
+      let g = goes tree of.there in
+      let within : level ≤ kind_level found.kind = subst (λ (n : ℕ). n ≤ kind_level found.kind) of.same fits in
+      record {
+        pieces = g.pieces;
+        are = g.are;
+        whole = λ rest texts. bare level tree (text ++ rest) within of.there (g.whole rest texts);
+      }
+
+  group_goes : (needed : ℕ) (parts : List Part) (text : List ℕ) → kind_level found.kind < needed
+      → ((tree : Tree) → StandsThere list i tree → GoesOn list parts text (IsCanonicalText tree))
+      → (piece : Piece) → IsPieceOf list (Operand i needed) piece → GoesOn list (Close ∷ parts) (40 ∷ text) (IsPieceText piece)
+  group_goes needed parts text tight goes (plain spelled) of = absurd of
+  group_goes needed parts text tight goes (further trees) of = absurd of
+  group_goes needed parts text tight goes (operand level tree) of =
+      let g = goes tree of.there in
+      let over : kind_level found.kind < level = subst (λ (n : ℕ). kind_level found.kind < n) of.same tight in
+      record {
+        pieces = plain (41 ∷ []) ∷ g.pieces;
+        are = (refl, g.are);
+        whole = λ rest texts.
+            let same : text ++ rest ≡ (text ++ texts.front) ++ 41 ∷ [] =
+            ap (λ (t : List ℕ). text ++ t) (texts.whole ∙ ap (λ (t : List ℕ). texts.front ++ t) texts.is_back)
+            ∙ sym (append_assoc text texts.front (41 ∷ [])) in
+            subst (λ (t : List ℕ). IsPieceText (operand level tree) (40 ∷ t)) (sym same)
+            (group level tree (text ++ texts.front) over of.there (g.whole texts.front texts.is_front));
+      }
+
+  pub bare_written : (needed : ℕ) (before after : List ℕ) (parts new : List Part)
+      → needed ≤ kind_level found.kind → WritesNode list i before after parts new
+      → WritesPart list (Operand i needed) before after parts new
+  bare_written needed before after parts new fits writes = record {
+    parts = writes.parts;
+    pushed = writes.pushed;
+    lighter = omega (arith, writes.lighter);
+    text = writes.text;
+    written = writes.written;
+    goes_on = bare_goes needed writes.parts writes.text fits writes.goes_on;
+  }
+
+  pub group_written : (needed : ℕ) (before between_texts after : List ℕ) (parts more new : List Part)
+      → kind_level found.kind < needed → between_texts ≡ before ++ 40 ∷ [] → more ≡ parts ++ Close ∷ []
+      → WritesNode list i between_texts after more new
+      → WritesPart list (Operand i needed) before after parts new
+  group_written needed before between_texts after parts more new tight opened closed writes = record {
+    parts = Close ∷ writes.parts;
+    pushed = writes.pushed ∙ ap (λ (ps : List Part). ps ++ writes.parts) closed ∙ append_assoc parts (Close ∷ []) writes.parts;
+    lighter = omega (arith, writes.lighter, closing_weight list writes.parts);
+    text = 40 ∷ writes.text;
+    written = writes.written ∙ ap (λ (t : List ℕ). t ++ writes.text) opened ∙ append_assoc before (40 ∷ []) writes.text;
+    goes_on = group_goes needed writes.parts writes.text tight writes.goes_on;
+  }

@@ -1,0 +1,67 @@
+-- What the walk that writes canonical text writes of a node with a first operand and something behind that.
+use Rattle.std.proofs.Common.{◌≡◌, ◌∙◌, ℕ, ◌+◌, ◌<◌, List, [], ◌∷◌, ◌++◌, append_assoc, append-nil, length, refl, sym, subst, ap, arith}
+use Rattle.std.proofs.lemmas.List.Sums.{sum_by-append}
+use Rattle.odata_syntax.specs.CanonicalText.{IsCanonicalText, grouped, tree_level, tree_text}
+use Rattle.odata_syntax.specs.Grammar.{Level}
+use Rattle.odata_syntax.specs.NormalForm.{IsNormalForm}
+use Rattle.odata_syntax.specs.Tree.{Tree}
+use Rattle.odata_checked_filter.specs.declared.canonical_text.Part.{Part}
+use Rattle.odata_checked_filter.specs.declared.canonical_text.Part.TheVariants.{Joint}
+use Rattle.odata_checked_filter.specs.FlatTree.{FlatTree}
+use Rattle.odata_checked_filter.specs.private.CanonicalWalk.{ArePieceTexts, ArePiecesOf, GoesOn, IsJointAt, Piece, StandsThere, WritesNode, node_weight, operand, operand_of, part_weight, plain, stop_at, weight}
+use Rattle.odata_checked_filter.proofs.canonical.Pieces.{joined, split_texts}
+
+-- behind the first operand, whose place needs a level, stands what the node has there, and behind that these parts
+pub record Joins (list : FlatTree) (i : ℕ) (tree : Tree) (level : Level) (behind : List Part) : Type 0 where
+  pub first : Tree
+  pub there : StandsThere list (i + 1) first
+  pub spelled : List ℕ
+  pub is_joint : IsJointAt list i spelled
+  pub pieces : List Piece
+  pub are : ArePiecesOf list behind pieces
+  pub whole : (normal : Tree) (rest : List ℕ) → IsNormalForm first normal → ArePieceTexts pieces rest
+      → IsCanonicalText tree (grouped level (tree_level normal) (tree_text normal) ++ (spelled ++ rest))
+  pub second : stop_at list (i + 1) < stop_at list i → stop_at list (i + 1) < length list.nodes
+  pub lighter : weight list behind + node_weight list (i + 1) + 2 < node_weight list i
+
+abbrev pub joint_parts : ℕ → Level → List Part
+joint_parts i level = Joint i ∷ operand_of (i + 1) level
+
+goes : (list : FlatTree) (i : ℕ) (tree : Tree) (level : Level) (behind : List Part) → Joins list i tree level behind
+    → GoesOn list (behind ++ joint_parts i level) [] (IsCanonicalText tree)
+goes list i tree level behind j =
+    let last : List Piece = plain j.spelled ∷ (operand level j.first ∷ []) in
+    record {
+      pieces = j.pieces ++ last;
+      are = joined list behind (joint_parts i level) j.pieces last j.are (j.is_joint, (record { same = refl; there = j.there }, tt));
+      whole = λ rest texts.
+          let cut = split_texts j.pieces last rest texts in
+          let words = cut.is_front in
+          let operands = words.is_front in
+          let n = operands.is_back in
+          let text = grouped level (tree_level n.0) (tree_text n.0) in
+          let first : words.front ≡ text = operands.whole ∙ ap (λ (t : List ℕ). t ++ operands.back) operands.is_front ∙ n.2 in
+          let front : cut.front ≡ text ++ j.spelled =
+          words.whole ∙ ap (λ (t : List ℕ). t ++ words.back) first ∙ ap (λ (t : List ℕ). text ++ t) words.is_back in
+          let all : rest ≡ text ++ (j.spelled ++ cut.back) =
+          cut.whole ∙ ap (λ (t : List ℕ). t ++ cut.back) front ∙ append_assoc text j.spelled cut.back in
+          subst (IsCanonicalText tree) (sym all) (j.whole n.0 cut.back n.1 cut.is_back);
+    }
+
+pub joins_written : (list : FlatTree) (i : ℕ) (level : Level) (behind : List Part) (text : List ℕ) (parts new : List Part)
+    → ((tree : Tree) → StandsThere list i tree → Joins list i tree level behind)
+    → (tree : Tree) → StandsThere list i tree
+    → new ≡ parts ++ (behind ++ joint_parts i level)
+    → WritesNode list i text text parts new
+joins_written list i level behind text parts new joins tree there pushed =
+    let j = joins tree there in
+    let sums : weight list (behind ++ joint_parts i level) ≡ weight list behind + weight list (joint_parts i level) =
+    sum_by-append (part_weight list) behind (joint_parts i level) in
+    record {
+      parts = behind ++ joint_parts i level;
+      pushed = pushed;
+      lighter = omega (arith, sums, j.lighter);
+      text = [];
+      written = sym (append-nil text);
+      goes_on = λ t there. goes list i t level behind (joins t there);
+    }

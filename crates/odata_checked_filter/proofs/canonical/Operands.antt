@@ -1,0 +1,330 @@
+-- What the nodes with a first operand have behind that, form by form.
+use Rattle.std.proofs.Common.{◌≡◌, ◌∙◌, ℕ, suc, ◌+◌, ◌*◌, ◌-◌, ◌<◌, ◌≤◌, List, [], ◌∷◌, ◌++◌, append_assoc, append-nil, add-one, Some, slice_get, length, refl, sym, subst, ap, arith}
+use Rattle.std.specs.Prelude.{codes}
+use Rattle.odata_syntax.specs.CanonicalText.{grouped, shape_text, tree_level, tree_text, trees_text}
+use Rattle.odata_syntax.specs.Grammar.{Level, base_level, operator_level, path_level, primary_level}
+use Rattle.odata_syntax.specs.Lexeme.{operator_word}
+use Rattle.odata_syntax.specs.NormalForm.{IsNormalForm, IsNormalShape}
+use Rattle.odata_syntax.specs.Tree.{Shape, Tree, Trees, any_item, binary, count, has, in_list, in_path, member, node}
+use Rattle.odata_syntax.specs.declared.node.BinaryOperator.{BinaryOperator}
+use Rattle.odata_syntax.specs.declared.node.LiteralKind.{LiteralKind}
+use Rattle.odata_signatures.specs.declared.function.Function.{Function}
+use Rattle.csdl_schema.specs.SchemaModel.{SchemaModel}
+use Rattle.odata_expression_types.specs.Typed.{Scope}
+use Rattle.odata_checked_filter.specs.declared.canonical_text.Part.{Part}
+use Rattle.odata_checked_filter.specs.declared.canonical_text.Part.TheVariants.{Close}
+use Rattle.odata_checked_filter.specs.declared.checked_node.CheckedNode.{CheckedNode}
+use Rattle.odata_checked_filter.specs.declared.checked_node.NodeKind.{NodeKind}
+use Rattle.odata_checked_filter.specs.FlatTree.{FlatTree}
+use Rattle.odata_checked_filter.specs.Stands.{AllStand, Stands, text_of_shape}
+use Rattle.odata_checked_filter.specs.private.CanonicalWalk.{HasTreeAt, IsJointAt, StandsThere, WritesNode, arguments_of, behind_kind, joining_parts, node_weight, operand, operand_of, plain, stop_at}
+use Rattle.odata_checked_filter.specs.private.KindTexts.{IsJoining, first_level, joint_text}
+use Rattle.odata_checked_filter.proofs.flat.Standing.{stand_onward, stands_nonempty}
+use Rattle.odata_checked_filter.proofs.canonical.Arguments.{arguments_there, closing_weight, within_list}
+use Rattle.odata_checked_filter.proofs.canonical.Joints.{Joins, joins_written}
+use Rattle.odata_checked_filter.proofs.canonical.Kinds.{shape_there}
+use Rattle.odata_checked_filter.proofs.canonical.Leaves.{below, place_of, stop_is, ungrouped}
+use Rattle.odata_checked_filter.proofs.canonical.Signs.{HasChild, child_there}
+
+-- what the node that stands there has behind its first operand
+joint_here : (list : FlatTree) (i : ℕ) (found : CheckedNode) (kind : NodeKind) (start stop : ℕ) (shape : Shape)
+    → slice_get list.nodes i ≡ Some found → found.kind ≡ kind → StandsThere list i (node start stop shape)
+    → IsJointAt list i (joint_text kind (text_of_shape shape))
+joint_here list i found kind start stop shape at is there = record {
+  found = found;
+  at = at;
+  beside = text_of_shape shape;
+  text_at = there.stands.top.text_at;
+  is = sym (ap (λ (k : NodeKind). joint_text k (text_of_shape shape)) is);
+}
+
+-- ---- a step, `$count`, `any()`
+
+-- a form whose text is that of its one operand and this
+record IsOnly (spelled : List ℕ) (of : Tree → Shape) : Type 0 where
+  text : (b : Tree) → shape_text (of b) ≡ tree_text b ++ spelled
+  normal : (b n : Tree) → IsNormalForm b n → IsNormalShape (of b) (of n)
+  child : (list : FlatTree) (i start stop : ℕ) (b : Tree) → StandsThere list i (node start stop (of b)) → HasChild list i b
+
+member_only : (asked : List ℕ) → IsOnly (47 ∷ asked) (λ b. member b asked)
+member_only asked = record {
+  text = λ b. refl;
+  normal = λ b n is. (n, is, refl);
+  child = λ list i start stop b there. child_there list i (node start stop (member b asked)) b there there.stands.children;
+}
+
+count_only : IsOnly (codes "/$count") count
+count_only = record {
+  text = λ b. refl;
+  normal = λ b n is. (n, is, refl);
+  child = λ list i start stop b there. child_there list i (node start stop (count b)) b there there.stands.children;
+}
+
+any_only : IsOnly (codes "/any()") any_item
+any_only = record {
+  text = λ b. refl;
+  normal = λ b n is. (n, is, refl);
+  child = λ list i start stop b there. child_there list i (node start stop (any_item b)) b there there.stands.children;
+}
+
+only_joins : (list : FlatTree) (i start stop : ℕ) (spelled : List ℕ) (of : Tree → Shape) (base : Tree) → IsOnly spelled of
+    → IsJointAt list i spelled → StandsThere list i (node start stop (of base)) → Joins list i (node start stop (of base)) 0 []
+only_joins list i start stop spelled of base is joint there =
+    let child = is.child list i start stop base there in
+    record {
+      first = base;
+      there = child.there;
+      spelled = spelled;
+      is_joint = joint;
+      pieces = [];
+      are = tt;
+      whole = λ n rest normal none. record {
+        normal = node start stop (of n);
+        is_normal = (of n, is.normal base n normal, refl);
+        printed =
+            ap (λ (t : List ℕ). t ++ (spelled ++ rest)) (ungrouped 0 (tree_level n) (tree_text n) (below (tree_level n) 0 (omega arith)))
+            ∙ ap (λ (r : List ℕ). tree_text n ++ (spelled ++ r)) none
+            ∙ ap (λ (r : List ℕ). tree_text n ++ r) (append-nil spelled)
+            ∙ sym (is.text n);
+      };
+      second = λ more. absurd (omega (arith, child.ends, more));
+      lighter = omega (arith, child.lighter);
+    }
+
+-- ---- two operands
+
+-- both operands of the node at a place, the second where the first stops
+record HasBoth (list : FlatTree) (i : ℕ) (left right : Tree) : Type 0 where
+  first : StandsThere list (i + 1) left
+  second : StandsThere list (stop_at list (i + 1)) right
+  lighter : node_weight list (stop_at list (i + 1)) + node_weight list (i + 1) + 3 < node_weight list i
+
+lighter_both : (a b c i m j : ℕ) → a ≡ j → b ≡ m → c ≡ j → i + 1 < m → m < j → 4 * (a - (b + 1)) + 3 + (4 * (b - (i + 1 + 1)) + 3) + 3 < 4 * (c - (i + 1)) + 3
+lighter_both a b c i m j ea eb ec first second = omega arith
+
+both_there : (list : FlatTree) (i : ℕ) (tree left right : Tree) (there : StandsThere list i tree) (inner : Scope) (m : ℕ)
+    → Stands there.schema there.filtered there.scope list (i + 1) m left → Stands there.schema there.filtered inner list m there.stop right
+    → HasBoth list i left right
+both_there list i tree left right there inner m stands behind =
+    let first : stop_at list (i + 1) ≡ m = stop_is there.schema there.filtered there.scope list (i + 1) m left stands in
+    let second : stop_at list m ≡ there.stop = stop_is there.schema there.filtered inner list m there.stop right behind in
+    record {
+      first = record { schema = there.schema; filtered = there.filtered; scope = there.scope; stop = m; stands = stands };
+      second = record {
+        schema = there.schema;
+        filtered = there.filtered;
+        scope = inner;
+        stop = there.stop;
+        stands = subst (λ (k : ℕ). Stands there.schema there.filtered inner list k there.stop right) (sym first) behind;
+      };
+      lighter = lighter_both (stop_at list (stop_at list (i + 1))) (stop_at list (i + 1)) (stop_at list i) i m there.stop
+          (ap (stop_at list) first ∙ second) first
+          (stop_is there.schema there.filtered there.scope list i there.stop tree there.stands)
+          (stands_nonempty there.schema there.filtered there.scope list (i + 1) m left stands)
+          (stands_nonempty there.schema there.filtered inner list m there.stop right behind);
+    }
+
+-- a form whose text is those of its operands, whose places need these levels, and this between them
+record IsPair (spelled : List ℕ) (low high : Level) (of : Tree → Tree → Shape) : Type 0 where
+  text : (a b : Tree) → shape_text (of a b) ≡ grouped low (tree_level a) (tree_text a) ++ (spelled ++ grouped high (tree_level b) (tree_text b))
+  normal : (a b x y : Tree) → IsNormalForm a x → IsNormalForm b y → IsNormalShape (of a b) (of x y)
+  children : (list : FlatTree) (i start stop : ℕ) (a b : Tree) → StandsThere list i (node start stop (of a b)) → HasBoth list i a b
+
+operator_text : (operator : BinaryOperator) (a c : List ℕ) → a ++ (32 ∷ (operator_word operator ++ (32 ∷ c))) ≡ a ++ ((32 ∷ (operator_word operator ++ 32 ∷ [])) ++ c)
+operator_text operator a c = ap (λ (t : List ℕ). a ++ (32 ∷ t)) (sym (append_assoc (operator_word operator) (32 ∷ []) c))
+
+operator_pair : (operator : BinaryOperator) → IsPair (32 ∷ (operator_word operator ++ 32 ∷ [])) (operator_level operator) (operator_level operator + 1) (binary operator)
+operator_pair operator = record {
+  text = λ a b.
+      let first = grouped (operator_level operator) (tree_level a) (tree_text a) in
+      let next : operator_level operator + 1 ≡ suc (operator_level operator) = add-one (operator_level operator) in
+      ap (λ (n : ℕ). first ++ (32 ∷ (operator_word operator ++ (32 ∷ grouped n (tree_level b) (tree_text b))))) (sym next)
+      ∙ operator_text operator first (grouped (operator_level operator + 1) (tree_level b) (tree_text b));
+  normal = λ a b x y first second. (x, y, first, second, refl);
+  children = λ list i start stop a b there.
+      both_there list i (node start stop (binary operator a b)) a b there there.scope there.stands.children.middle there.stands.children.left there.stands.children.right;
+}
+
+has_pair : IsPair (codes " has ") primary_level base_level has
+has_pair = record {
+  text = λ a b. refl;
+  normal = λ a b x y first second. (x, y, first, second, refl);
+  children = λ list i start stop a b there.
+      both_there list i (node start stop (has a b)) a b there there.scope there.stands.children.middle there.stands.children.left there.stands.children.right;
+}
+
+path_pair : IsPair (codes " in ") primary_level path_level in_path
+path_pair = record {
+  text = λ a b. refl;
+  normal = λ a b x y first second. (x, y, first, second, refl);
+  children = λ list i start stop a b there.
+      both_there list i (node start stop (in_path a b)) a b there there.scope there.stands.children.middle there.stands.children.left there.stands.children.right;
+}
+
+pair_joins : (list : FlatTree) (i start stop : ℕ) (spelled : List ℕ) (low high : Level) (of : Tree → Tree → Shape) (left right : Tree) → IsPair spelled low high of
+    → IsJointAt list i spelled → StandsThere list i (node start stop (of left right))
+    → Joins list i (node start stop (of left right)) low (operand_of (stop_at list (i + 1)) high)
+pair_joins list i start stop spelled low high of left right is joint there =
+    let both = is.children list i start stop left right there in
+    record {
+      first = left;
+      there = both.first;
+      spelled = spelled;
+      is_joint = joint;
+      pieces = operand high right ∷ [];
+      are = (record { same = refl; there = both.second }, tt);
+      whole = λ n rest normal texts.
+          let r = texts.is_back in
+          let same : rest ≡ grouped high (tree_level r.0) (tree_text r.0) = texts.whole ∙ ap (λ (t : List ℕ). t ++ texts.back) texts.is_front ∙ r.2 in
+          record {
+            normal = node start stop (of n r.0);
+            is_normal = (of n r.0, is.normal left right n r.0 normal r.1, refl);
+            printed = ap (λ (t : List ℕ). grouped low (tree_level n) (tree_text n) ++ (spelled ++ t)) same ∙ sym (is.text n r.0);
+          };
+      second = λ more. place_of both.second.schema both.second.filtered both.second.scope list (stop_at list (i + 1)) both.second.stop right both.second.stands;
+      lighter = omega (arith, both.lighter);
+    }
+
+-- ---- `in` before a list
+
+-- the operand on the left, and the items where that stops
+record HasItems (list : FlatTree) (i : ℕ) (left : Tree) (items : Trees) : Type 0 where
+  schema : SchemaModel
+  filtered : ℕ
+  scope : Scope
+  first : StandsThere list (i + 1) left
+  all : AllStand schema filtered scope list (stop_at list (i + 1)) (stop_at list i) items
+  lighter : 4 * (stop_at list i - stop_at list (i + 1)) + node_weight list (i + 1) + 3 < node_weight list i
+
+lighter_items : (b c i m j : ℕ) → b ≡ m → c ≡ j → i + 1 < m → m ≤ j → 4 * (c - b) + (4 * (b - (i + 1 + 1)) + 3) + 3 < 4 * (c - (i + 1)) + 3
+lighter_items b c i m j eb ec first second = omega arith
+
+items_there : (list : FlatTree) (i start stop : ℕ) (left : Tree) (items : Trees) → StandsThere list i (node start stop (in_list left items)) → HasItems list i left items
+items_there list i start stop left items there =
+    let m = there.stands.children.middle in
+    let first : stop_at list (i + 1) ≡ m = stop_is there.schema there.filtered there.scope list (i + 1) m left there.stands.children.left in
+    let last : stop_at list i ≡ there.stop = stop_is there.schema there.filtered there.scope list i there.stop (node start stop (in_list left items)) there.stands in
+    let A : ℕ → Type 0 = λ (k : ℕ). AllStand there.schema there.filtered there.scope list k there.stop items in
+    let B : ℕ → Type 0 = λ (k : ℕ). AllStand there.schema there.filtered there.scope list (stop_at list (i + 1)) k items in
+    record {
+      schema = there.schema;
+      filtered = there.filtered;
+      scope = there.scope;
+      first = record { schema = there.schema; filtered = there.filtered; scope = there.scope; stop = m; stands = there.stands.children.left };
+      all = subst B (sym last) (subst A (sym first) there.stands.children.right);
+      lighter = lighter_items (stop_at list (i + 1)) (stop_at list i) i m there.stop first last
+          (stands_nonempty there.schema there.filtered there.scope list (i + 1) m left there.stands.children.left)
+          (stand_onward there.schema there.filtered there.scope list m there.stop items there.stands.children.right);
+    }
+
+list_joins : (list : FlatTree) (i start stop : ℕ) (left : Tree) (items : Trees)
+    → IsJointAt list i (codes " in (") → StandsThere list i (node start stop (in_list left items))
+    → Joins list i (node start stop (in_list left items)) primary_level (Close ∷ arguments_of list (stop_at list (i + 1)) (stop_at list i))
+list_joins list i start stop left items joint there =
+    let h = items_there list i start stop left items there in
+    let args = arguments_there h.schema h.filtered h.scope list (stop_at list (i + 1)) (stop_at list i) items h.all in
+    record {
+      first = left;
+      there = h.first;
+      spelled = codes " in (";
+      is_joint = joint;
+      pieces = plain (41 ∷ []) ∷ args.pieces;
+      are = (refl, args.are);
+      whole = λ n rest normal texts.
+          let w = args.whole texts.front texts.is_front in
+          let closed : rest ≡ trees_text w.0 ++ 41 ∷ [] =
+          texts.whole ∙ ap (λ (t : List ℕ). texts.front ++ t) texts.is_back ∙ ap (λ (t : List ℕ). t ++ 41 ∷ []) w.2 in
+          record {
+            normal = node start stop (in_list n w.0);
+            is_normal = (in_list n w.0, (n, w.0, normal, w.1, refl), refl);
+            printed = ap (λ (t : List ℕ). grouped primary_level (tree_level n) (tree_text n) ++ (codes " in (" ++ t)) closed;
+          };
+      second = within_list h.schema h.filtered h.scope list (stop_at list (i + 1)) (stop_at list i) items h.all;
+      lighter = omega (arith, h.lighter, args.light, closing_weight list (arguments_of list (stop_at list (i + 1)) (stop_at list i)));
+    }
+
+-- ---- each kind
+
+module _ (list : FlatTree) (i : ℕ) (found : CheckedNode) (at : slice_get list.nodes i ≡ Some found) where
+  joins : (kind : NodeKind) (tree : Tree) → found.kind ≡ kind → IsJoining kind → StandsThere list i tree
+      → Joins list i tree (first_level kind) (behind_kind list kind (stop_at list (i + 1)) (stop_at list i))
+  joins (NodeKind.Member slot) (node start stop shape) is joining there =
+      let m = shape_there list i found (NodeKind.Member slot) start stop shape at is there in
+      let P : Shape → Type 0 = λ (s : Shape). StandsThere list i (node start stop s) → Joins list i (node start stop s) 0 [] in
+      subst P (sym m.2)
+      (λ here. only_joins list i start stop (47 ∷ m.1) (λ b. member b m.1) m.0 (member_only m.1)
+      (joint_here list i found (NodeKind.Member slot) start stop (member m.0 m.1) at is here) here) there
+  joins NodeKind.Count (node start stop shape) is joining there =
+      let m = shape_there list i found NodeKind.Count start stop shape at is there in
+      let P : Shape → Type 0 = λ (s : Shape). StandsThere list i (node start stop s) → Joins list i (node start stop s) 0 [] in
+      subst P (sym m.1)
+      (λ here. only_joins list i start stop (codes "/$count") count m.0 count_only
+      (joint_here list i found NodeKind.Count start stop (count m.0) at is here) here) there
+  joins NodeKind.AnyItem (node start stop shape) is joining there =
+      let m = shape_there list i found NodeKind.AnyItem start stop shape at is there in
+      let P : Shape → Type 0 = λ (s : Shape). StandsThere list i (node start stop s) → Joins list i (node start stop s) 0 [] in
+      subst P (sym m.1)
+      (λ here. only_joins list i start stop (codes "/any()") any_item m.0 any_only
+      (joint_here list i found NodeKind.AnyItem start stop (any_item m.0) at is here) here) there
+  joins (NodeKind.Binary operator) (node start stop shape) is joining there =
+      let m = shape_there list i found (NodeKind.Binary operator) start stop shape at is there in
+      let behind = operand_of (stop_at list (i + 1)) (operator_level operator + 1) in
+      let P : Shape → Type 0 = λ (s : Shape). StandsThere list i (node start stop s) → Joins list i (node start stop s) (operator_level operator) behind in
+      subst P (sym m.2)
+      (λ here. pair_joins list i start stop (32 ∷ (operator_word operator ++ 32 ∷ [])) (operator_level operator) (operator_level operator + 1) (binary operator) m.0 m.1
+      (operator_pair operator) (joint_here list i found (NodeKind.Binary operator) start stop (binary operator m.0 m.1) at is here) here) there
+  joins NodeKind.Has (node start stop shape) is joining there =
+      let m = shape_there list i found NodeKind.Has start stop shape at is there in
+      let behind = operand_of (stop_at list (i + 1)) base_level in
+      let P : Shape → Type 0 = λ (s : Shape). StandsThere list i (node start stop s) → Joins list i (node start stop s) primary_level behind in
+      subst P (sym m.2)
+      (λ here. pair_joins list i start stop (codes " has ") primary_level base_level has m.0 m.1 has_pair
+      (joint_here list i found NodeKind.Has start stop (has m.0 m.1) at is here) here) there
+  joins NodeKind.InPath (node start stop shape) is joining there =
+      let m = shape_there list i found NodeKind.InPath start stop shape at is there in
+      let behind = operand_of (stop_at list (i + 1)) path_level in
+      let P : Shape → Type 0 = λ (s : Shape). StandsThere list i (node start stop s) → Joins list i (node start stop s) primary_level behind in
+      subst P (sym m.2)
+      (λ here. pair_joins list i start stop (codes " in ") primary_level path_level in_path m.0 m.1 path_pair
+      (joint_here list i found NodeKind.InPath start stop (in_path m.0 m.1) at is here) here) there
+  joins NodeKind.InList (node start stop shape) is joining there =
+      let m = shape_there list i found NodeKind.InList start stop shape at is there in
+      let behind = Close ∷ arguments_of list (stop_at list (i + 1)) (stop_at list i) in
+      let P : Shape → Type 0 = λ (s : Shape). StandsThere list i (node start stop s) → Joins list i (node start stop s) primary_level behind in
+      subst P (sym m.2)
+      (λ here. list_joins list i start stop m.0 m.1 (joint_here list i found NodeKind.InList start stop (in_list m.0 m.1) at is here) here) there
+  joins _ tree is joining there = absurd joining
+
+  pub joined_written : (text : List ℕ) (parts new : List Part) → HasTreeAt list i → IsJoining found.kind
+      → new ≡ parts ++ joining_parts list found.kind i → WritesNode list i text text parts new
+  joined_written text parts new tree joining pushed =
+      joins_written list i (first_level found.kind) (behind_kind list found.kind (stop_at list (i + 1)) (stop_at list i)) text parts new
+      (λ t there. joins found.kind t refl joining there) tree.0 tree.1 pushed
+
+  -- the first operand is there
+  pub first_within : HasTreeAt list i → IsJoining found.kind → i + 1 < length list.nodes
+  first_within tree joining =
+      let j = joins found.kind tree.0 refl joining tree.1 in
+      place_of j.there.schema j.there.filtered j.there.scope list (i + 1) j.there.stop j.first j.there.stands
+
+  -- and so is the second one, or the first item of a list
+  pub second_within : HasTreeAt list i → IsJoining found.kind → stop_at list (i + 1) < stop_at list i → stop_at list (i + 1) < length list.nodes
+  second_within tree joining =
+      let j = joins found.kind tree.0 refl joining tree.1 in
+      j.second
+
+-- a node that is none of these has a first operand
+pub joining_else : (kind : NodeKind)
+    → ((k : LiteralKind) (value : ℕ) → kind ≡ NodeKind.Literal k value → ⊥) → (kind ≡ NodeKind.It → ⊥)
+    → ((slot : ℕ) → kind ≡ NodeKind.Property slot → ⊥) → ((level : ℕ) → kind ≡ NodeKind.Variable level → ⊥)
+    → (kind ≡ NodeKind.Now → ⊥) → ((function : Function) → kind ≡ NodeKind.Call function → ⊥)
+    → (kind ≡ NodeKind.Neg → ⊥) → (kind ≡ NodeKind.Not → ⊥) → IsJoining kind
+joining_else (NodeKind.Literal k value) literal_not it_not property_not variable_not now_not call_not neg_not not_not = literal_not k value refl
+joining_else NodeKind.It literal_not it_not property_not variable_not now_not call_not neg_not not_not = it_not refl
+joining_else (NodeKind.Property slot) literal_not it_not property_not variable_not now_not call_not neg_not not_not = property_not slot refl
+joining_else (NodeKind.Variable level) literal_not it_not property_not variable_not now_not call_not neg_not not_not = variable_not level refl
+joining_else NodeKind.Now literal_not it_not property_not variable_not now_not call_not neg_not not_not = now_not refl
+joining_else (NodeKind.Call function) literal_not it_not property_not variable_not now_not call_not neg_not not_not = call_not function refl
+joining_else NodeKind.Neg literal_not it_not property_not variable_not now_not call_not neg_not not_not = neg_not refl
+joining_else NodeKind.Not literal_not it_not property_not variable_not now_not call_not neg_not not_not = not_not refl
+joining_else _ literal_not it_not property_not variable_not now_not call_not neg_not not_not = tt

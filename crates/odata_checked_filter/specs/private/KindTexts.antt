@@ -1,0 +1,53 @@
+-- For private clauses: what the canonical text of a node takes from its kind.
+use Rattle.std.specs.Prelude.{ℕ, List, [], ◌∷◌, ◌++◌, codes}
+use Rattle.odata_syntax.specs.Grammar.{Level, base_level, open_path_level, operator_level, path_level, primary_level, unary_level}
+use Rattle.odata_syntax.specs.Lexeme.{operator_word}
+use Rattle.odata_checked_filter.specs.declared.checked_node.NodeKind.{NodeKind}
+
+-- the tightest level at which it stands without parentheses
+abbrev pub kind_level : NodeKind → Level
+kind_level (NodeKind.Literal kind value) = base_level
+kind_level NodeKind.It = open_path_level
+kind_level (NodeKind.Property slot) = open_path_level
+kind_level (NodeKind.Variable level) = open_path_level
+kind_level (NodeKind.Member slot) = open_path_level
+kind_level NodeKind.Count = path_level
+kind_level NodeKind.AnyItem = path_level
+kind_level NodeKind.Now = base_level
+kind_level NodeKind.Neg = unary_level
+kind_level NodeKind.Not = unary_level
+kind_level (NodeKind.Binary operator) = operator_level operator
+kind_level NodeKind.Has = primary_level
+kind_level NodeKind.InList = primary_level
+kind_level NodeKind.InPath = primary_level
+kind_level (NodeKind.Call function) = base_level
+
+-- the level that the place of its first operand needs
+abbrev pub first_level : NodeKind → Level
+first_level (NodeKind.Binary operator) = operator_level operator
+first_level NodeKind.Has = primary_level
+first_level NodeKind.InList = primary_level
+first_level NodeKind.InPath = primary_level
+first_level _ = 0
+
+-- what stands behind its first operand, up to the next one, where that name stands beside it
+abbrev pub joint_text : NodeKind → List ℕ → List ℕ
+joint_text (NodeKind.Member slot) beside = 47 ∷ beside
+joint_text NodeKind.Count beside = codes "/$count"
+joint_text NodeKind.AnyItem beside = codes "/any()"
+joint_text (NodeKind.Binary operator) beside = 32 ∷ (operator_word operator ++ 32 ∷ [])
+joint_text NodeKind.Has beside = codes " has "
+joint_text NodeKind.InList beside = codes " in ("
+joint_text NodeKind.InPath beside = codes " in "
+joint_text _ beside = []
+
+-- it has a first operand with something behind
+abbrev pub IsJoining : NodeKind → Type 0
+IsJoining (NodeKind.Member slot) = Unit {0}
+IsJoining NodeKind.Count = Unit {0}
+IsJoining NodeKind.AnyItem = Unit {0}
+IsJoining (NodeKind.Binary operator) = Unit {0}
+IsJoining NodeKind.Has = Unit {0}
+IsJoining NodeKind.InList = Unit {0}
+IsJoining NodeKind.InPath = Unit {0}
+IsJoining _ = ⊥

@@ -1,0 +1,57 @@
+//! How tightly nodes bind in canonical text, by their kinds.
+ghost use Rattle.std.specs.Prelude.{◌≡◌};
+ghost use Rattle.odata_checked_filter.specs.private.KindTexts.{first_level, kind_level};
+
+use super::checked_node::NodeKind;
+use odata_syntax::operator_level;
+
+/// `-` and `not`.
+pub(crate) const UNARY: u8 = 7;
+
+/// `has` and `in`.
+const PRIMARY: u8 = 8;
+
+/// An operand without operators.
+pub(crate) const BASE: u8 = 9;
+
+/// A path.
+pub(crate) const PATH: u8 = 10;
+
+/// A path that may go on.
+const OPEN_PATH: u8 = 11;
+
+/// The tightest level at which a node of that kind stands without parentheses.
+pub(crate) fn kind_level(kind: NodeKind) -> u8
+    ensures { result ≡ kind_level kind }
+{
+    match kind {
+        NodeKind::Literal { .. } => BASE,
+        NodeKind::It => OPEN_PATH,
+        NodeKind::Property { .. } => OPEN_PATH,
+        NodeKind::Variable { .. } => OPEN_PATH,
+        NodeKind::Member { .. } => OPEN_PATH,
+        NodeKind::Count => PATH,
+        NodeKind::AnyItem => PATH,
+        NodeKind::Now => BASE,
+        NodeKind::Neg => UNARY,
+        NodeKind::Not => UNARY,
+        NodeKind::Binary { operator } => operator_level(operator),
+        NodeKind::Has => PRIMARY,
+        NodeKind::InList => PRIMARY,
+        NodeKind::InPath => PRIMARY,
+        NodeKind::Call { .. } => BASE,
+    }
+}
+
+/// The level that the first operand of such a node needs; 0 before a slash, where a path stands.
+pub(crate) fn first_level(kind: NodeKind) -> u8
+    ensures { result ≡ first_level kind }
+{
+    match kind {
+        NodeKind::Binary { operator } => operator_level(operator),
+        NodeKind::Has => PRIMARY,
+        NodeKind::InList => PRIMARY,
+        NodeKind::InPath => PRIMARY,
+        _ => 0,
+    }
+}

@@ -1,0 +1,21 @@
+-- A comparison of values of types that its operator takes has an outcome.
+use Rattle.edm_values.specs.Val.{Val, boolean}
+use Rattle.csdl_schema.specs.ExprType.{ExprType}
+use Rattle.csdl_schema.specs.SchemaModel.{Slots}
+use Rattle.edm_entities.specs.HasType.{HasType}
+use Rattle.odata_functions.specs.declared.comparison.ComparisonOperator.{ComparisonOperator}
+use Rattle.odata_signatures.specs.declared.operator_class.OperatorClass.{OperatorClass}
+use Rattle.odata_signatures.specs.ExprTypes.{boolean_type}
+use Rattle.odata_signatures.specs.OperatorTyped.{ClassTyped}
+use Rattle.odata_eval.specs.CompareGives.{CompareGives}
+use Rattle.odata_eval.specs.Outcome.{gives}
+use Rattle.odata_eval.proofs.meaning.Ends.{Ends, typed_value}
+use Rattle.odata_eval.proofs.meaning.Kinds.{comparable_values}
+use Rattle.odata_eval.proofs.meaning.LawsBelow.{SomeEach}
+
+pub compare_ends : (some : SomeEach) (slots : Slots) (operator : ComparisonOperator) (left right type : ExprType) (l r : Val)
+    → ClassTyped (OperatorClass.Comparison operator) left right type → HasType slots left l → HasType slots right r
+    → Ends slots type (CompareGives operator l r)
+compare_ends some slots operator left right type l r typed of_l of_r =
+    let answer = some.decided operator l r in
+    (gives (boolean answer.0), ((comparable_values slots operator left right l r typed.0 of_l of_r, answer.1), typed_value slots boolean_type type (boolean answer.0) typed.1 tt))

@@ -1,0 +1,175 @@
+-- What asks for a collection or for flags has an outcome of values of its operands' types.
+use Rattle.std.proofs.Common.{◌≡◌, ℕ, List, [], ◌∷◌, length, Bool, true, false, Option, Some, None, refl, sym, subst, inl}
+use Rattle.std.specs.Prelude.{pos}
+use Rattle.std.specs.List.{AllByRecursion}
+use Rattle.edm_values.specs.MomentParts.{MomentParts}
+use Rattle.edm_values.specs.Val.{Val, null, boolean, member, items, Vals, no_items, item}
+use Rattle.edm_values.specs.declared.primitive.PrimitiveType.{PrimitiveType}
+use Rattle.csdl_schema.specs.ExprType.{ExprType, null_type, single, collection, SingleType, enumeration, primitive}
+use Rattle.csdl_schema.specs.SchemaModel.{Slots}
+use Rattle.edm_entities.specs.HasType.{AllHaveType, HasType}
+use Rattle.odata_functions.specs.Bits.{HasBits}
+use Rattle.odata_functions.specs.declared.comparison.ComparisonOperator.{ComparisonOperator}
+use Rattle.odata_signatures.specs.CollectionTyped.{AnyItemTyped, CountTyped, InListTyped, InPathTyped}
+use Rattle.odata_signatures.specs.ComparableTypes.{AreComparable}
+use Rattle.odata_signatures.specs.ExprTypes.{IsBooleanOrNull, boolean_type}
+use Rattle.odata_signatures.specs.HasTyped.{AreFlags, HasTyped}
+use Rattle.odata_syntax.specs.Spans.{list_of_trees}
+use Rattle.odata_syntax.specs.Tree.{Tree, Trees, no_trees, more_trees}
+use Rattle.odata_syntax.specs.declared.node.Quantifier.{Quantifier}
+use Rattle.odata_eval.specs.CollectionGives.{AnyItemGives, CountGives, members_of}
+use Rattle.odata_eval.specs.CompareGives.{CompareGives}
+use Rattle.odata_eval.specs.Environment.{Environment}
+use Rattle.odata_eval.specs.HasGives.{HasGives}
+use Rattle.odata_eval.specs.LambdaGives.{InGives, ItemsGive, LambdaGives, MembersGive}
+use Rattle.odata_eval.specs.LeftFirst.{After}
+use Rattle.odata_eval.specs.Means.{ItemMeans, Means}
+use Rattle.odata_eval.specs.OneByOne.{GoesOn, ItemsGo, MembersGo}
+use Rattle.odata_eval.specs.Outcome.{Outcome, gives}
+use Rattle.odata_eval.specs.QuantifierGives.{undecided_val}
+use Rattle.odata_eval.specs.TruthGives.{truth_val}
+use Rattle.odata_eval.proofs.meaning.AllTrees.{AllTyped}
+use Rattle.odata_eval.proofs.meaning.Ends.{Ends, after_ends, typed_value}
+use Rattle.odata_eval.proofs.meaning.CompareEnds.{compare_ends}
+use Rattle.odata_eval.proofs.meaning.FunctionEnds.{truth_given}
+use Rattle.odata_eval.proofs.meaning.Kinds.{IsTruth, truth_of}
+use Rattle.odata_eval.proofs.meaning.LawsBelow.{SomeEach}
+use Rattle.odata_eval.proofs.meaning.NumberComes.{number_given}
+use Rattle.odata_eval.proofs.meaning.OneByOne.{items_both, members_both}
+use Rattle.odata_eval.proofs.meaning.SameGives.{Both}
+
+of_type : (slots : Slots) (given type : ExprType) (Gives : Outcome → Type 0) → type ≡ given → Ends slots given Gives → Ends slots type Gives
+of_type slots given type Gives same ends = subst (λ (t : ExprType). Ends slots t Gives) (sym same) ends
+
+both_ends : (slots : Slots) (type : ExprType) (P Q : Outcome → Type 0) → Both P Q → Ends slots type Q → Ends slots type P
+both_ends slots type P Q same ends = (ends.0, ((same ends.0).1 ends.1.0, ends.1.1))
+
+-- ---- how many members
+
+pub count_ends : SomeEach → (slots : Slots) (base type : ExprType) (v : Val) → CountTyped base type → HasType slots base v → Ends slots type (CountGives v)
+count_ends some slots (collection m) type null typed has = (gives null, (refl, tt))
+count_ends some slots (collection m) type (items values) typed has =
+    of_type slots (single (primitive PrimitiveType.Int64)) type (CountGives (items values)) typed.1
+    (number_given some slots PrimitiveType.Int64 tt (pos (length (members_of values))))
+count_ends some slots (collection m) type _ typed has = absurd has
+count_ends some slots _ type v typed has = absurd typed.0
+
+pub any_item_ends : (slots : Slots) (base type : ExprType) (v : Val) → AnyItemTyped base type → HasType slots base v → Ends slots type (AnyItemGives v)
+any_item_ends slots (collection m) type null typed has = (gives null, (refl, tt))
+any_item_ends slots (collection m) type (items no_items) typed has = (gives (boolean false), (refl, typed_value slots boolean_type type (boolean false) typed.1 tt))
+any_item_ends slots (collection m) type (items (item v more)) typed has = (gives (boolean true), (refl, typed_value slots boolean_type type (boolean true) typed.1 tt))
+any_item_ends slots (collection m) type _ typed has = absurd has
+any_item_ends slots _ type v typed has = absurd typed.0
+
+-- ---- flags
+
+-- a number of an enumeration, or null
+abbrev IsFlags : Val → Type 0
+IsFlags null = Unit {0}
+IsFlags (member n) = Unit {0}
+IsFlags _ = ⊥
+
+null_flags : (slots : Slots) (v : Val) → HasType slots null_type v → IsFlags v
+null_flags slots null has = tt
+null_flags slots _ has = absurd has
+
+member_flags : (slots : Slots) (name : List ℕ) (v : Val) → HasType slots (single (enumeration name)) v → IsFlags v
+member_flags slots name null has = tt
+member_flags slots name (member n) has = tt
+member_flags slots name _ has = absurd has
+
+flags_values : (slots : Slots) (left right : ExprType) (l r : Val) → AreFlags left right → HasType slots left l → HasType slots right r → IsFlags l × IsFlags r
+flags_values slots null_type null_type l r are of_l of_r = (null_flags slots l of_l, null_flags slots r of_r)
+flags_values slots null_type (single (enumeration b)) l r are of_l of_r = (null_flags slots l of_l, member_flags slots b r of_r)
+flags_values slots (single (enumeration a)) null_type l r are of_l of_r = (member_flags slots a l of_l, null_flags slots r of_r)
+flags_values slots (single (enumeration a)) (single (enumeration b)) l r are of_l of_r = (member_flags slots a l of_l, member_flags slots b r of_r)
+flags_values slots _ _ l r are of_l of_r = absurd are
+
+flags_end : SomeEach → (slots : Slots) (l r : Val) → IsFlags l → IsFlags r → Ends slots boolean_type (HasGives l r)
+flags_end some slots null null p q = (gives null, (refl, tt))
+flags_end some slots null (member b) p q = (gives null, (refl, tt))
+flags_end some slots (member a) null p q = (gives null, (refl, tt))
+flags_end some slots (member a) (member b) p q = truth_given slots (HasBits a b) (some.bits a b)
+flags_end some slots null _ p q = absurd q
+flags_end some slots (member a) _ p q = absurd q
+flags_end some slots _ r p q = absurd p
+
+pub has_ends : SomeEach → (slots : Slots) (left right type : ExprType) (l r : Val) → HasTyped left right type → HasType slots left l → HasType slots right r
+    → Ends slots type (HasGives l r)
+has_ends some slots left right type l r typed of_l of_r =
+    let flags = flags_values slots left right l r typed.0 of_l of_r in
+    of_type slots boolean_type type (HasGives l r) typed.1 (flags_end some slots l r flags.0 flags.1)
+
+-- ---- members and items one by one
+
+truth_goes : (slots : Slots) (quantifier : Quantifier) (More : Outcome → Type 0) (truth : Option Bool) → Ends slots boolean_type More
+    → Ends slots boolean_type (GoesOn quantifier More (truth_val truth))
+truth_goes slots Quantifier.Any More (Some true) ends = (gives (boolean true), (refl, tt))
+truth_goes slots Quantifier.Any More (Some false) ends = ends
+truth_goes slots Quantifier.Any More None ends = ends
+truth_goes slots Quantifier.All More (Some true) ends = ends
+truth_goes slots Quantifier.All More (Some false) ends = (gives (boolean false), (refl, tt))
+truth_goes slots Quantifier.All More None ends = (gives (boolean false), (refl, tt))
+
+goes_on_ends : (slots : Slots) (quantifier : Quantifier) (More : Outcome → Type 0) (v : Val) → IsTruth v → Ends slots boolean_type More
+    → Ends slots boolean_type (GoesOn quantifier More v)
+goes_on_ends slots quantifier More v truth ends =
+    subst (λ (w : Val). Ends slots boolean_type (GoesOn quantifier More w)) (sym truth.1) (truth_goes slots quantifier More truth.0 ends)
+
+undecided_typed : (slots : Slots) (quantifier : Quantifier) → HasType slots boolean_type (undecided_val quantifier)
+undecided_typed slots Quantifier.Any = tt
+undecided_typed slots Quantifier.All = tt
+
+module _ (slots : Slots) (quantifier : Quantifier) (Body : Val → Outcome → Type 0) (m : SingleType) (body : ExprType) (truth : IsBooleanOrNull body)
+    (each : (v : Val) → HasType slots (single m) v → Ends slots body (Body v)) where
+  members_go_end : (values : Vals) → AllHaveType slots m values → Ends slots boolean_type (MembersGo quantifier Body values)
+  members_go_end no_items all = (gives (undecided_val quantifier), (refl, undecided_typed slots quantifier))
+  members_go_end (item v more) all =
+      after_ends slots body boolean_type (Body v) (GoesOn quantifier (MembersGo quantifier Body more)) (each v all.0)
+      (λ w has. goes_on_ends slots quantifier (MembersGo quantifier Body more) w (truth_of slots body w truth has) (members_go_end more all.1))
+
+  members_end : (values : Vals) → AllHaveType slots m values → Ends slots boolean_type (MembersGive quantifier Body values)
+  members_end values all =
+      both_ends slots boolean_type (MembersGive quantifier Body values) (MembersGo quantifier Body values) (members_both quantifier Body values) (members_go_end values all)
+
+-- ---- by their places
+
+pub lambda_ends : (slots : Slots) (quantifier : Quantifier) (BaseTyped : ExprType → Type 0) (Body : ExprType → Val → Outcome → Type 0) (m : SingleType) (body type : ExprType) (v : Val)
+    → BaseTyped (collection m) → IsBooleanOrNull body → type ≡ boolean_type → HasType slots (collection m) v
+    → ((w : Val) → HasType slots (single m) w → Ends slots body (Body (single m) w)) → Ends slots type (LambdaGives quantifier BaseTyped Body v)
+lambda_ends slots quantifier BaseTyped Body m body type null over truth is has each = (gives null, (refl, tt))
+lambda_ends slots quantifier BaseTyped Body m body type (items values) over truth is has each =
+    let ends = of_type slots boolean_type type (MembersGive quantifier (Body (single m)) values) is (members_end slots quantifier (Body (single m)) m body truth each values has) in
+    (ends.0, ((m, over, ends.1.0), ends.1.1))
+lambda_ends slots quantifier BaseTyped Body m body type _ over truth is has each = absurd has
+
+pub in_path_ends : SomeEach → (slots : Slots) (left path type : ExprType) (l v : Val) → InPathTyped left path type → HasType slots left l → HasType slots path v
+    → Ends slots type (InGives l v)
+in_path_ends some slots left (collection m) type l null typed of_l has = (gives null, (refl, tt))
+in_path_ends some slots left (collection m) type l (items values) typed of_l has =
+    of_type slots boolean_type type (InGives l (items values)) typed.1
+    (members_end slots Quantifier.Any (CompareGives ComparisonOperator.Eq l) m boolean_type (inl refl)
+    (λ w of_w. compare_ends some slots ComparisonOperator.Eq left (single m) boolean_type l w (typed.0, refl) of_l of_w) values has)
+in_path_ends some slots left (collection m) type l _ typed of_l has = absurd has
+in_path_ends some slots left _ type l v typed of_l has = absurd typed.0
+
+items_go_end : SomeEach → (slots : Slots) (Item : Tree → Outcome → Type 0) (left : ExprType) (l : Val) (trees : Trees) (types : List ExprType) → HasType slots left l
+    → AllByRecursion (AreComparable left) types → AllTyped (λ tree t. Ends slots t (Item tree)) trees types → Ends slots boolean_type (ItemsGo Item l trees)
+items_go_end some slots Item left l no_trees [] of_l alike all = (gives (boolean false), (refl, tt))
+items_go_end some slots Item left l (more_trees tree more) (t ∷ types) of_l alike all =
+    let Equal : Val → Outcome → Type 0 = CompareGives ComparisonOperator.Eq l in
+    after_ends slots boolean_type boolean_type (After (Item tree) Equal) (GoesOn Quantifier.Any (ItemsGo Item l more))
+    (after_ends slots t boolean_type (Item tree) Equal all.0
+    (λ w of_w. compare_ends some slots ComparisonOperator.Eq left t boolean_type l w (alike.0, refl) of_l of_w))
+    (λ w has. goes_on_ends slots Quantifier.Any (ItemsGo Item l more) w (truth_of slots boolean_type w (inl refl) has)
+    (items_go_end some slots Item left l more types of_l alike.1 all.1))
+items_go_end some slots Item left l _ _ of_l alike all = absurd all
+
+pub in_list_ends : SomeEach → (slots : Slots) (root : List ℕ) (now : MomentParts) (entity : Val) (environment : Environment) (left : ExprType) (l : Val) (trees : Trees) (types : List ExprType)
+    (type : ExprType) → InListTyped left types type → HasType slots left l → AllTyped (λ tree t. Ends slots t (Means slots root now entity environment tree)) trees types
+    → Ends slots type (ItemsGive l (length (list_of_trees trees)) (ItemMeans slots root now entity environment trees))
+in_list_ends some slots root now entity environment left l trees types type typed of_l all =
+    let Given : Outcome → Type 0 = ItemsGive l (length (list_of_trees trees)) (ItemMeans slots root now entity environment trees) in
+    of_type slots boolean_type type Given typed.2
+    (both_ends slots boolean_type Given (ItemsGo (Means slots root now entity environment) l trees) (items_both slots root now entity environment l trees)
+    (items_go_end some slots (Means slots root now entity environment) left l trees types of_l typed.1 all))

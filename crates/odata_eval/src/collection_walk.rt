@@ -1,0 +1,81 @@
+//! The walk of a filter's list where collections, lists and flags are asked: of `in`, and of `has`.
+ghost use Rattle.std.specs.Prelude.{◌+◌, Ok};
+ghost use Rattle.odata_checked_filter.specs.declared.checked_node.NodeKind.{NodeKind as Kind};
+ghost use Rattle.odata_eval.specs.private.Place.{HasKind, PartStands};
+ghost use Rattle.odata_eval.specs.private.WalkAnswer.{AnswersDatum};
+
+use super::collections::{among, flags_of};
+use super::fault::EvalFault;
+use super::part::{right_of, stop_of};
+use super::scene::Scene;
+use super::walk::operand_at;
+use edm_values::Datum;
+use odata_functions::{ComparisonOperator, compare, comparisons_are_decided};
+
+/// What `has` comes to.
+#[cycle(evaluate)]
+pub(crate) fn flags_at<'e>(
+    scene: &Scene<'e, '_, '_>,
+    place: usize,
+    left: &Datum<'_>,
+) -> Result<Datum<'e>, EvalFault>
+    requires stands { PartStands scene.now place }
+    requires here { HasKind scene.now.list place Kind.Has }
+    requires left { AnswersDatum scene.now (place + 1) (Ok left.now) }
+    ensures { AnswersDatum scene.now place result }
+{
+    scene.ends_once();
+    match operand_at(scene, right_of(scene, place)) {
+        Ok(right) => Ok(flags_of(left, &right)),
+        Err(fault) => Err(fault),
+    }
+}
+
+/// What `in` before a path comes to.
+#[cycle(evaluate)]
+pub(crate) fn among_at<'e>(
+    scene: &Scene<'e, '_, '_>,
+    place: usize,
+    left: &Datum<'_>,
+) -> Result<Datum<'e>, EvalFault>
+    requires stands { PartStands scene.now place }
+    requires here { HasKind scene.now.list place Kind.InPath }
+    requires left { AnswersDatum scene.now (place + 1) (Ok left.now) }
+    ensures { AnswersDatum scene.now place result }
+{
+    scene.ends_once();
+    match operand_at(scene, right_of(scene, place)) {
+        Ok(path) => Ok(among(left, &path)),
+        Err(fault) => Err(fault),
+    }
+}
+
+/// What `in` before a list comes to. The items are evaluated from the left until one is equal.
+#[cycle(evaluate)]
+pub(crate) fn listed_at<'e>(
+    scene: &Scene<'e, '_, '_>,
+    place: usize,
+    left: &Datum<'_>,
+) -> Result<Datum<'e>, EvalFault>
+    requires stands { PartStands scene.now place }
+    requires here { HasKind scene.now.list place Kind.InList }
+    requires left { AnswersDatum scene.now (place + 1) (Ok left.now) }
+    ensures { AnswersDatum scene.now place result }
+{
+    scene.ends_once();
+    comparisons_are_decided();
+    let own_stop = stop_of(scene, place);
+    let mut at = right_of(scene, place);
+    while at != own_stop {
+        match operand_at(scene, at) {
+            Ok(item) => {
+                if compare(ComparisonOperator::Eq, left, &item) {
+                    return Ok(Datum::Bool(true));
+                }
+            }
+            Err(fault) => return Err(fault),
+        }
+        at = stop_of(scene, at);
+    }
+    Ok(Datum::Bool(false))
+}

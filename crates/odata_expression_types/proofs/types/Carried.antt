@@ -1,0 +1,36 @@
+-- What a node's type is made of, carried over to operands that have the types of its own.
+use Rattle.std.proofs.Common.{ℕ, List}
+use Rattle.csdl_schema.specs.ExprType.{ExprType}
+use Rattle.odata_expression_types.specs.Typed.{ArgumentsTyped, ItemsTyped, OperandTyped, OperandsTyped}
+
+pub operand_carried : {From To : ExprType → Type 0} {Makes : ExprType → ExprType → Type 0} {type : ExprType}
+    → ((t : ExprType) → From t → To t) → OperandTyped From Makes type → OperandTyped To Makes type
+operand_carried carry typed =
+    record { operand = typed.operand; operand_typed = carry typed.operand typed.operand_typed; makes = typed.makes }
+
+pub operands_carried : {Left Left' Right Right' : ExprType → Type 0} {Makes : ExprType → ExprType → ExprType → Type 0} {type : ExprType}
+    → ((t : ExprType) → Left t → Left' t) → ((t : ExprType) → Right t → Right' t)
+    → OperandsTyped Left Right Makes type → OperandsTyped Left' Right' Makes type
+operands_carried left right typed = record {
+  left = typed.left;
+  right = typed.right;
+  left_typed = left typed.left typed.left_typed;
+  right_typed = right typed.right typed.right_typed;
+  makes = typed.makes;
+}
+
+pub items_carried : {Left Left' : ExprType → Type 0} {Items Items' : List ExprType → Type 0} {type : ExprType}
+    → ((t : ExprType) → Left t → Left' t) → ((ts : List ExprType) → Items ts → Items' ts)
+    → ItemsTyped Left Items type → ItemsTyped Left' Items' type
+items_carried left items typed = record {
+  left = typed.left;
+  items = typed.items;
+  left_typed = left typed.left typed.left_typed;
+  items_typed = items typed.items typed.items_typed;
+  makes = typed.makes;
+}
+
+pub arguments_carried : {asked : List ℕ} {From To : List ExprType → Type 0} {type : ExprType}
+    → ((ts : List ExprType) → From ts → To ts) → ArgumentsTyped asked From type → ArgumentsTyped asked To type
+arguments_carried carry typed =
+    record { types = typed.types; arguments_typed = carry typed.types typed.arguments_typed; call_typed = typed.call_typed }

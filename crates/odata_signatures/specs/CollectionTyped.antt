@@ -1,0 +1,34 @@
+-- Which type an expression has that asks for a collection (OData URL Conventions 4.01, sections 4.8, 5.1.1.1.11 and
+-- 5.1.1.13.1).
+use Rattle.std.specs.Prelude.{◌≡◌, List}
+use Rattle.std.specs.List.{AllByRecursion}
+use Rattle.edm_values.specs.declared.primitive.PrimitiveType.{PrimitiveType}
+use Rattle.csdl_schema.specs.ExprType.{ExprType, single, collection, primitive}
+use Rattle.odata_signatures.specs.ComparableTypes.{AreComparable}
+use Rattle.odata_signatures.specs.ExprTypes.{boolean_type}
+
+abbrev pub IsCollection : ExprType → Type 0
+IsCollection (collection member) = Unit {0}
+IsCollection _ = ⊥
+
+-- `/$count` behind a base of the first type gives the second: how many members a collection has (section 4.8)
+abbrev pub CountTyped : ExprType → ExprType → Type 0
+CountTyped base type = IsCollection base × (type ≡ single (primitive PrimitiveType.Int64))
+
+-- so does `/any()`: whether a collection has members (section 5.1.1.13.1)
+abbrev pub AnyItemTyped : ExprType → ExprType → Type 0
+AnyItemTyped base type = IsCollection base × (type ≡ boolean_type)
+
+-- a value of the type on the left is compared with each member of the collection on the right
+abbrev pub IsComparableWithMembers : ExprType → ExprType → Type 0
+IsComparableWithMembers left (collection member) = AreComparable left (single member)
+IsComparableWithMembers left _ = ⊥
+
+-- `in` before a path takes operands of the first two types and gives a value of the third (section 5.1.1.1.11)
+abbrev pub InPathTyped : ExprType → ExprType → ExprType → Type 0
+InPathTyped left path type = IsComparableWithMembers left path × (type ≡ boolean_type)
+
+-- `in` before a list: the value on the left is none of a collection, and is compared with each item (section 5.1.1.1.11)
+abbrev pub InListTyped : ExprType → List ExprType → ExprType → Type 0
+InListTyped left items type =
+    (¬ IsCollection left) × AllByRecursion (AreComparable left) items × (type ≡ boolean_type)

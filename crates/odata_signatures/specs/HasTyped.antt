@@ -1,0 +1,16 @@
+-- Which type `has` makes of those of its operands (OData URL Conventions 4.01, section 5.1.1.1.10).
+use Rattle.std.specs.Prelude.{◌≡◌}
+use Rattle.csdl_schema.specs.ExprType.{ExprType, null_type, single, enumeration}
+use Rattle.odata_signatures.specs.ExprTypes.{boolean_type}
+
+-- one enumeration on both sides, or Null for either or both
+abbrev pub AreFlags : ExprType → ExprType → Type 0
+AreFlags null_type null_type = Unit {0}
+AreFlags null_type (single (enumeration right)) = Unit {0}
+AreFlags (single (enumeration left)) null_type = Unit {0}
+AreFlags (single (enumeration left)) (single (enumeration right)) = left ≡ right
+AreFlags _ _ = ⊥
+
+-- `has` takes operands of the first two types and gives a value of the third
+abbrev pub HasTyped : ExprType → ExprType → ExprType → Type 0
+HasTyped left right type = AreFlags left right × (type ≡ boolean_type)

@@ -1,0 +1,67 @@
+//! Which type `in` makes of those of its operands.
+ghost use Rattle.std.specs.Prelude.{◌↔◌, IsTrue, IfSome, IfNone, map};
+ghost use Rattle.std.specs.List.{AllByRecursion};
+ghost use Rattle.csdl_schema.specs.ExprType.{ExprType};
+ghost use Rattle.odata_signatures.specs.CollectionTyped.{InListTyped, InPathTyped};
+ghost use Rattle.odata_signatures.specs.ComparableTypes.{AreComparable};
+ghost use Rattle.odata_signatures.specs.TypeView.{expr_type};
+ghost use Rattle.odata_signatures.specs.TypeThere.{IsTypeThere};
+
+use super::comparison::are_comparable;
+use super::edm_type::{BOOLEAN, EdmType};
+use csdl_schema::Schema;
+
+/// The type of `in` before a path of the second type. `None` where that is no collection, or its members cannot be
+/// compared with a value of the first.
+pub fn in_path_type(schema: &Schema, left: &EdmType, path: &EdmType) -> Option<EdmType>
+    requires left { IsTypeThere schema.now left.now }
+    requires path { IsTypeThere schema.now path.now }
+    ensures typed { IfSome result (λ t. InPathTyped
+        (expr_type schema.now left.now) (expr_type schema.now path.now) (expr_type schema.now t)) }
+    ensures there { IfSome result (IsTypeThere schema.now) }
+    ensures none { IfNone result ((type : ExprType) → ¬ InPathTyped
+        (expr_type schema.now left.now) (expr_type schema.now path.now) type) }
+{
+    match path {
+        EdmType::Collection(member) => {
+            if are_comparable(schema, left, &EdmType::Single(*member)) {
+                Some(BOOLEAN)
+            } else {
+                None
+            }
+        }
+        EdmType::Null => None,
+        EdmType::Single(_) => None,
+    }
+}
+
+/// The type of `in` before a list of items of these types. `None` where the value on the left is of a collection, or
+/// cannot be compared with an item.
+pub fn in_list_type(schema: &Schema, left: &EdmType, items: &[EdmType]) -> Option<EdmType>
+    requires left { IsTypeThere schema.now left.now }
+    requires items { AllByRecursion (IsTypeThere schema.now) items.now }
+    ensures typed { IfSome result (λ t. InListTyped
+        (expr_type schema.now left.now) (map (expr_type schema.now) items.now) (expr_type schema.now t)) }
+    ensures there { IfSome result (IsTypeThere schema.now) }
+    ensures none { IfNone result ((type : ExprType) → ¬ InListTyped
+        (expr_type schema.now left.now) (map (expr_type schema.now) items.now) type) }
+{
+    if !left.is_collection() && are_comparable_items(schema, left, items) {
+        Some(BOOLEAN)
+    } else {
+        None
+    }
+}
+
+fn are_comparable_items(schema: &Schema, left: &EdmType, items: &[EdmType]) -> bool
+    requires left { IsTypeThere schema.now left.now }
+    requires items { AllByRecursion (IsTypeThere schema.now) items.now }
+    ensures { IsTrue result ↔ AllByRecursion (AreComparable (expr_type schema.now left.now))
+        (map (expr_type schema.now) items.now) }
+{
+    match items {
+        [] => true,
+        [item, items @ ..] => are_comparable(schema, left, item)
+            && are_comparable_items(schema, left, items),
+    }
+}

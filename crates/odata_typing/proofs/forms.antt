@@ -1,0 +1,3 @@
+-- The forms over one operand and between two, by cases.
+pub mod Infix
+pub mod Unary
