@@ -1,6 +1,7 @@
 //! The list of nodes of a checked filter, by numbers.
 ghost use Rattle.csdl_schema.specs.SchemaModel.{HoldsType};
 
+use crate::shop::SHOP;
 use csdl_schema::{Schema, TypeId};
 use edm_values::Value;
 use odata_syntax::{BinaryOperator, LiteralKind};
@@ -216,6 +217,67 @@ fn kinds_and_ends_of_operators(rt: HostRuntime) -> Result<(), Fail> {
     let asked = Asked::Kinds(KINDS_OF_OPERATORS);
     asks(rt.alloc(), ROWS, "N.Row", OPERATORS, asked)?;
     asks(rt.alloc(), ROWS, "N.Row", OPERATORS, Asked::OneAndNull)
+}
+
+const COLLECTIONS: &str =
+    "Color has null or Rating in (1,ID) or 'a' in Tags or Parts/any() and Tags/$count eq 1";
+
+const OR: NodeKind = NodeKind::Binary {
+    operator: BinaryOperator::Or,
+};
+
+/// The kind of each node of that filter of products, and where its last descendant ends.
+const KINDS_OF_COLLECTIONS: &[(NodeKind, usize)] = &[
+    (OR, 20),
+    (OR, 13),
+    (OR, 10),
+    (NodeKind::Has, 6),
+    (NodeKind::Property { slot: 3 }, 5),
+    (
+        NodeKind::Literal {
+            kind: LiteralKind::Null,
+            value: 0,
+        },
+        6,
+    ),
+    (NodeKind::InList, 10),
+    (NodeKind::Property { slot: 9 }, 8),
+    (
+        NodeKind::Literal {
+            kind: LiteralKind::Int,
+            value: 1,
+        },
+        9,
+    ),
+    (NodeKind::Property { slot: 5 }, 10),
+    (NodeKind::InPath, 13),
+    (
+        NodeKind::Literal {
+            kind: LiteralKind::Str,
+            value: 2,
+        },
+        12,
+    ),
+    (NodeKind::Property { slot: 12 }, 13),
+    (AND, 20),
+    (NodeKind::AnyItem, 16),
+    (NodeKind::Property { slot: 7 }, 16),
+    (EQUAL, 20),
+    (NodeKind::Count, 19),
+    (NodeKind::Property { slot: 12 }, 19),
+    (
+        NodeKind::Literal {
+            kind: LiteralKind::Int,
+            value: 3,
+        },
+        20,
+    ),
+];
+
+#[test]
+fn kinds_and_ends_of_collections(rt: HostRuntime) -> Result<(), Fail> {
+    let asked = Asked::Kinds(KINDS_OF_COLLECTIONS);
+    asks(rt.alloc(), SHOP, "Shop.Product", COLLECTIONS, asked)
 }
 
 /// A type of one truth value.
