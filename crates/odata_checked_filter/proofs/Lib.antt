@@ -1,4 +1,5 @@
 pub mod flat
+pub mod nesting
 pub mod canonical
 pub mod pre_orders
 pub mod explained

@@ -1,12 +1,13 @@
 -- A tree as one list of its nodes in pre-order.
 use Rattle.std.specs.Prelude.{ℕ, ◌+◌, List, [], ◌∷◌, slice_get, nat_lt, unwrap_or, if◌then◌else◌, codes}
 use Rattle.edm_values.specs.declared.value.Value.{Value}
-use Rattle.odata_syntax.specs.Tree.{Tree, node, Shape, literal, it, name, member, negation, logical_not, binary, has, in_list, in_path, count, call, any_item, trees_of_list}
+use Rattle.odata_syntax.specs.Tree.{Tree, node, Shape, literal, it, name, member, negation, logical_not, binary, has, in_list, in_path, count, call, any_item, lambda, trees_of_list}
 use Rattle.odata_signatures.specs.Functions.{row_of}
 use Rattle.odata_checked_filter.specs.declared.checked_node.CheckedNode.{CheckedNode}
 use Rattle.odata_checked_filter.specs.declared.checked_node.NodeKind.{NodeKind}
 
--- the nodes, the values of their literals, and a text beside each node: a literal's spelling, a name, else nothing
+-- the nodes, the values of their literals, and a text beside each node: a literal's spelling, a name (of a lambda operator
+-- that of its variable), else nothing
 pub record FlatTree : Type 0 where
   pub nodes : List CheckedNode
   pub values : List Value
@@ -25,6 +26,7 @@ shape_of_kind (NodeKind.Binary operator) text (left ∷ right ∷ []) = binary o
 shape_of_kind NodeKind.Has text (left ∷ right ∷ []) = has left right
 shape_of_kind NodeKind.InList text (left ∷ items) = in_list left (trees_of_list items)
 shape_of_kind NodeKind.InPath text (left ∷ path ∷ []) = in_path left path
+shape_of_kind (NodeKind.Lambda quantifier) text (base ∷ body ∷ []) = lambda quantifier base text body
 shape_of_kind NodeKind.Now text children = call (codes "now") (trees_of_list children)
 shape_of_kind (NodeKind.Call function) text children = call (row_of function).name (trees_of_list children)
 shape_of_kind kind text children = name text

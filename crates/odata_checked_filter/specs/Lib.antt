@@ -25,5 +25,6 @@ pub mod Depths
 pub mod TypeText
 pub mod Explanation
 pub mod Calls
+pub mod LambdaDepth
 pub mod Laws
 pub mod private

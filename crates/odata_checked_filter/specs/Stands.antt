@@ -3,16 +3,16 @@ use Rattle.std.specs.Prelude.{◌≡◌, ◌≢◌, ℕ, ◌+◌, List, [], Some
 use Rattle.edm_values.specs.PlainVal.{plain_val}
 use Rattle.edm_values.specs.Val.{Val}
 use Rattle.edm_values.specs.declared.value.Value.{Value}
-use Rattle.odata_syntax.specs.Tree.{Tree, Trees, node, Shape, literal, it, name, member, count, negation, logical_not, binary, has, in_list, in_path, call, any_item, more_trees, no_trees}
+use Rattle.odata_syntax.specs.Tree.{Tree, Trees, node, Shape, literal, it, name, member, count, negation, logical_not, binary, has, in_list, in_path, call, any_item, lambda, more_trees, no_trees}
 use Rattle.odata_syntax.specs.declared.node.LiteralKind.{LiteralKind}
-use Rattle.csdl_schema.specs.ExprType.{ExprType, single, structured}
+use Rattle.csdl_schema.specs.ExprType.{ExprType, SingleType, single, structured}
 use Rattle.csdl_schema.specs.SchemaModel.{PropertyModel, SchemaModel, Slots, slots_of, type_name_at, slot_named}
 use Rattle.odata_checked_filter.specs.declared.checked_node.CheckedNode.{CheckedNode}
 use Rattle.odata_checked_filter.specs.declared.checked_node.NodeKind.{NodeKind}
 use Rattle.odata_checked_filter.specs.FlatTree.{FlatTree}
 use Rattle.odata_checked_filter.specs.Levels.{level_named}
 use Rattle.odata_expression_types.specs.LiteralValue.{LiteralValue}
-use Rattle.odata_expression_types.specs.Typed.{Scope, Typed}
+use Rattle.odata_expression_types.specs.Typed.{BindsVariable, Scope, Typed, with_variable}
 use Rattle.odata_signatures.specs.Functions.{IsNamed}
 use Rattle.odata_signatures.specs.TypeView.{expr_type}
 use Rattle.odata_signatures.specs.declared.function.Function.{Function}
@@ -52,8 +52,7 @@ IsCallNode asked NodeKind.Now = IsNamed Function.Now asked
 IsCallNode asked (NodeKind.Call function) = IsNamed function asked × (function ≢ Function.Now)
 IsCallNode asked _ = ⊥
 
--- the kind of a node, where these values and types are, the filtered type is root and these variables are in scope;
--- lambda operators have none yet
+-- the kind of a node, where these values and types are, the filtered type is root and these variables are in scope
 abbrev pub IsKindOf : List Value → Slots → List ℕ → Scope → Shape → NodeKind → Type 0
 IsKindOf values slots root scope (literal kind spelling) k = IsLiteralNode slots values kind spelling k
 IsKindOf values slots root scope it k = k ≡ NodeKind.It
@@ -68,13 +67,14 @@ IsKindOf values slots root scope (in_list left items) k = k ≡ NodeKind.InList
 IsKindOf values slots root scope (in_path left path) k = k ≡ NodeKind.InPath
 IsKindOf values slots root scope (call asked arguments) k = IsCallNode asked k
 IsKindOf values slots root scope (any_item base) k = k ≡ NodeKind.AnyItem
-IsKindOf values slots root scope _ k = ⊥
+IsKindOf values slots root scope (lambda quantifier base variable body) k = k ≡ NodeKind.Lambda quantifier
 
 -- the text beside a node
 abbrev pub text_of_shape : Shape → List ℕ
 text_of_shape (literal kind spelling) = spelling
 text_of_shape (name asked) = asked
 text_of_shape (member base asked) = asked
+text_of_shape (lambda quantifier base variable body) = variable
 text_of_shape _ = []
 
 -- the i-th node is the tree's top node, with its text, and stops at j
@@ -100,6 +100,13 @@ pub record SideBySide (Left Right : ℕ → Type 0) : Type 0 where
   pub middle : ℕ
   pub left : Left middle
   pub right : Right middle
+
+-- a lambda operator binds its variable, and the nodes stand for its body in the scope with that (OData URL Conventions
+-- 4.01, section 5.1.1.13)
+pub record InBody (scope : Scope) (variable : List ℕ) (Base : ExprType → Type 0) (Body : Scope → Type 0) : Type 0 where
+  pub member_type : SingleType
+  pub binds : BindsVariable scope variable Base member_type
+  pub body : Body (with_variable scope variable (single member_type))
 
 -- the nodes from the i-th up to the j-th stand for the tree, or for the children of the shape, where the filtered type
 -- is the schema's n-th and these variables are in scope
@@ -130,7 +137,10 @@ abbrev mutual
       (λ middle. Stands schema n scope list middle j path)
   ChildrenStand schema n scope list i j (any_item base) = Stands schema n scope list i j base
   ChildrenStand schema n scope list i j (call asked arguments) = AllStand schema n scope list i j arguments
-  ChildrenStand schema n scope list i j shape = ⊥
+  ChildrenStand schema n scope list i j (lambda quantifier base variable body) =
+      SideBySide (λ middle. Stands schema n scope list i middle base)
+      (λ middle. InBody scope variable (Typed (slots_of schema) (type_name_at schema n) scope base)
+      (λ at. Stands schema n at list middle j body))
 
   -- likewise for trees one behind another
   pub AllStand : SchemaModel → ℕ → Scope → FlatTree → ℕ → ℕ → Trees → Type 0

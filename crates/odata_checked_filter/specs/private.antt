@@ -3,3 +3,4 @@ pub mod CalledKinds
 pub mod CanonicalWalk
 pub mod ExplanationWalk
 pub mod KindTexts
+pub mod LambdaLines

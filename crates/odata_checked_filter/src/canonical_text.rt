@@ -6,12 +6,12 @@ ghost use Rattle.odata_checked_filter.specs.private.CanonicalWalk.{AreFurtherPut
 ghost use Rattle.odata_checked_filter.specs.private.CanonicalWalk.{IsSignAt, IsTextAdded, Piece, StandsThere, WritesNode};
 ghost use Rattle.odata_checked_filter.specs.private.CanonicalWalk.{WritesPart, arguments_of, behind_kind, joining_parts};
 ghost use Rattle.odata_checked_filter.specs.private.CanonicalWalk.{operand_of, stop_at};
-ghost use Rattle.odata_checked_filter.specs.private.KindTexts.{joint_text};
+ghost use Rattle.odata_checked_filter.specs.private.KindTexts.{joint_text, quantifier_joint};
 
 use super::checked_node::NodeKind;
 use super::kind_levels::{BASE, PATH, UNARY, first_level, kind_level};
 use super::node_list::NodeList;
-use odata_syntax::{operator_level, operator_word, write_literal};
+use odata_syntax::{Quantifier, operator_level, operator_word, write_literal};
 use std::alloc::{AllocError, Global};
 
 /// What is still to be written.
@@ -72,11 +72,32 @@ fn write_joint(kind: NodeKind, beside: &str, text: &mut String) -> Result<(), Al
         NodeKind::Member { .. } => write_step(beside, text),
         NodeKind::Count => text.push_str("/$count"),
         NodeKind::AnyItem => text.push_str("/any()"),
+        NodeKind::Lambda { quantifier } => write_binder(quantifier, beside, text),
         NodeKind::Binary { operator } => write_word(operator_word(operator), text),
         NodeKind::Has => text.push_str(" has "),
         NodeKind::InList => text.push_str(" in ("),
         NodeKind::InPath => text.push_str(" in "),
         _ => Ok(()),
+    }
+}
+
+/// Writes a slash, a quantifier, and behind `(` the variable that it binds with its colon.
+fn write_binder(quantifier: Quantifier, variable: &str, text: &mut String) -> Result<(), AllocError>
+    ensures { OnOk result (string_bytes text.new
+        ≡ string_bytes text.old ++ (quantifier_joint quantifier ++ (variable.now ++ 58 ∷ []))) }
+{
+    text.push_str(joint_of_quantifier(quantifier))?;
+    text.push_str(variable)?;
+    text.push(':')
+}
+
+/// A slash, a quantifier and `(`.
+fn joint_of_quantifier(quantifier: Quantifier) -> &'static str
+    ensures { result.now ≡ quantifier_joint quantifier }
+{
+    match quantifier {
+        Quantifier::Any => "/any(",
+        Quantifier::All => "/all(",
     }
 }
 
@@ -288,6 +309,7 @@ fn put_behind(
         NodeKind::Has => put_operand(second, BASE, pending),
         NodeKind::InPath => put_operand(second, PATH, pending),
         NodeKind::InList => put_items(list, second, stop, pending),
+        NodeKind::Lambda { .. } => put_body(second, pending),
         _ => Ok(()),
     }
 }
@@ -304,6 +326,14 @@ fn put_items(
 {
     pending.push(Part::Close)?;
     put_arguments(list, place, stop, pending)
+}
+
+/// Puts the body of a lambda operator on the stack, and `)` below it.
+fn put_body(place: usize, pending: &mut Vec<Part>) -> Result<(), AllocError>
+    ensures { OnOk result (pending.new.items ≡ pending.old.items ++ (Part.Close ∷ operand_of place 0)) }
+{
+    pending.push(Part::Close)?;
+    put_operand(place, 0, pending)
 }
 
 /// Puts an operand on the stack.

@@ -6,6 +6,7 @@ ghost use Rattle.csdl_schema.specs.SchemaModel.{HoldsType};
 ghost use Rattle.odata_checked_filter.specs.Calls.{TakesMemory, UsesNow};
 ghost use Rattle.odata_checked_filter.specs.Explanation.{IsExplanation};
 ghost use Rattle.odata_checked_filter.specs.Filter.{IsFilter, IsTypeAt, tree_of_filter};
+ghost use Rattle.odata_checked_filter.specs.LambdaDepth.{lambda_depth};
 ghost use Rattle.odata_checked_filter.specs.NameKinds.{IsSlotAt, level_at};
 ghost use Rattle.odata_expression_types.specs.PreOrder.{pre_order, span_of_tree};
 ghost use Rattle.odata_signatures.specs.TypeView.{expr_type};
@@ -14,6 +15,7 @@ use super::called::{any_maker, any_now};
 use super::canonical_text::text_of_list;
 use super::checked_node::{CheckedNode, NodeKind};
 use super::explanation::explanation_of;
+use super::lambda_depth::deepest;
 use super::node_list::NodeList;
 use csdl_schema::{Schema, TypeId};
 use edm_values::Value;
@@ -188,6 +190,15 @@ impl<'s> Checked<'s> {
         ensures { IfOk result (λ text. IsExplanation self.now (string_bytes text)) }
     {
         explanation_of(alloc, self)
+    }
+
+    /// The greatest number of lambda operators with a body that stand in one another, 0 where there is none. What judging
+    /// a row takes may grow with the product of so many lengths of its collections.
+    pub fn lambda_depth(&self) -> usize
+        ensures { result ≡ lambda_depth (tree_of_filter self.now) }
+    {
+        let list = self.list();
+        deepest(list, 0, list.nodes().len())
     }
 
     /// Whether evaluating the filter makes texts.

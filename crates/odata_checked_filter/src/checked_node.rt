@@ -1,5 +1,5 @@
 use odata_signatures::{EdmType, Function};
-use odata_syntax::{BinaryOperator, LiteralKind};
+use odata_syntax::{BinaryOperator, LiteralKind, Quantifier};
 use odata_text::Span;
 
 /// What a node is, with what its evaluation needs beside its children.
@@ -12,7 +12,6 @@ pub enum NodeKind {
     /// A property of the filtered type, by its slot.
     Property { slot: usize },
     /// A range variable, by the number of variables in scope where its lambda operator bound it, so the outermost is 0.
-    /// No lambda operator has a type yet, so no filter has one.
     Variable { level: usize },
     /// A property of the type of what stands before the slash, by its slot there.
     Member { slot: usize },
@@ -20,6 +19,9 @@ pub enum NodeKind {
     Count,
     /// `any()`, behind the slash.
     AnyItem,
+    /// `any(v:..)` or `all(v:..)`, behind the slash. What stands before that and its body stand behind it, and the name
+    /// of its range variable stands beside it.
+    Lambda { quantifier: Quantifier },
     /// `now()`, the moment of the evaluation.
     Now,
     /// `-`. Its operand stands behind it.

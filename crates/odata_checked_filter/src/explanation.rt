@@ -1,6 +1,7 @@
 //! The text that explains a checked filter, a line a node, written from its list.
 ghost use Rattle.std.specs.Prelude.{◌≡◌, ◌*◌, ◌∷◌, [], ◌++◌, ◌<◌, codes, decimal, length};
 ghost use Rattle.std.specs.Prelude.{replicate, string_bytes, IfOk, OnOk};
+ghost use Rattle.odata_syntax.specs.Lexeme.{quantifier_word};
 ghost use Rattle.odata_checked_filter.specs.Explanation.{IsExplanation, span_text};
 ghost use Rattle.odata_checked_filter.specs.TypeText.{primitive_name, type_text, value_type_text};
 ghost use Rattle.odata_checked_filter.specs.private.ExplanationWalk.{IsLinePut, kind_label, listed_line, still_around};
@@ -11,7 +12,7 @@ use csdl_schema::Schema;
 use edm_values::Prim;
 use itoa::Buffer;
 use odata_signatures::{EdmType, Function, ValueType};
-use odata_syntax::operator_word;
+use odata_syntax::{Quantifier, operator_word};
 use odata_text::Span;
 use std::alloc::{AllocError, Global};
 
@@ -133,6 +134,7 @@ fn push_label(text: &mut String, kind: NodeKind, beside: &str) -> Result<(), All
         NodeKind::Member { .. } => push_named(text, "member ", beside),
         NodeKind::Count => text.push_str("$count"),
         NodeKind::AnyItem => text.push_str("any"),
+        NodeKind::Lambda { quantifier } => push_named(text, quantifier_label(quantifier), beside),
         NodeKind::Neg => text.push_str("-"),
         NodeKind::Not => text.push_str("not"),
         NodeKind::Binary { operator } => text.push_str(operator_word(operator)),
@@ -141,6 +143,16 @@ fn push_label(text: &mut String, kind: NodeKind, beside: &str) -> Result<(), All
         NodeKind::InPath => text.push_str("in"),
         NodeKind::Call { function } => text.push_str(function.name()),
         NodeKind::Now => text.push_str(Function::Now.name()),
+    }
+}
+
+/// What a lambda operator is called before the name of its variable.
+fn quantifier_label(quantifier: Quantifier) -> &'static str
+    ensures { result.now ≡ quantifier_word quantifier ++ 32 ∷ [] }
+{
+    match quantifier {
+        Quantifier::Any => "any ",
+        Quantifier::All => "all ",
     }
 }
 

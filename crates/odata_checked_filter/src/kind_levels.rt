@@ -32,6 +32,7 @@ pub(crate) fn kind_level(kind: NodeKind) -> u8
         NodeKind::Member { .. } => OPEN_PATH,
         NodeKind::Count => PATH,
         NodeKind::AnyItem => PATH,
+        NodeKind::Lambda { .. } => PATH,
         NodeKind::Now => BASE,
         NodeKind::Neg => UNARY,
         NodeKind::Not => UNARY,

@@ -5,10 +5,12 @@ pub mod CallValues
 pub mod Compared
 pub mod ItemSteps
 pub mod KeptValues
+pub mod Lambdas
 pub mod Leaves
 pub mod MemberSteps
 pub mod MemberValues
 pub mod Members
+pub mod MembersAsked
 pub mod OneReading
 pub mod Parts
 pub mod Readings

@@ -1,5 +1,4 @@
-//! The range variables around a place, with their values. No lambda operator has a meaning yet, so the walk begins and
-//! ends with none.
+//! The range variables around a place, with their values.
 ghost use Rattle.csdl_schema.specs.SchemaModel.{SchemaModel, slots_of};
 ghost use Rattle.odata_eval.specs.private.Frames.{IsAtLevel, environment_in, frames_in};
 

@@ -8,6 +8,7 @@ mod datum;
 mod evaluator;
 mod fault;
 mod frames;
+mod lambda_walk;
 mod laws;
 mod number_walk;
 mod operators;

@@ -51,6 +51,7 @@ fn walk_of_kind(kind: NodeKind) -> WalkClass
         NodeKind::InPath => WalkClass::Eager,
         NodeKind::Call { .. } => WalkClass::Eager,
         NodeKind::AnyItem => WalkClass::Eager,
+        NodeKind::Lambda { .. } => WalkClass::Eager,
         NodeKind::Now => WalkClass::Leaf,
         NodeKind::Binary { operator } => match class_of(operator) {
             OperatorClass::Connective(_) => WalkClass::Logical,
@@ -60,7 +61,7 @@ fn walk_of_kind(kind: NodeKind) -> WalkClass
     }
 }
 
-/// What stands in a place. Most often it is a property or a literal.
+/// What stands in a place. Most often it is a property, a literal or a variable.
 #[inline(always)]
 pub(crate) fn part_at<'e>(scene: &Scene<'e, '_, '_>, place: usize) -> Part<'e>
     requires stands { PartStands scene.now place }
@@ -72,6 +73,9 @@ pub(crate) fn part_at<'e>(scene: &Scene<'e, '_, '_>, place: usize) -> Part<'e>
     }
     if let NodeKind::Literal { value, .. } = kind {
         return Part::Leaf(scene.literal(value));
+    }
+    if let NodeKind::Variable { level } = kind {
+        return Part::Leaf(scene.variable(level));
     }
     match walk_of_kind(kind) {
         WalkClass::Leaf => Part::Leaf(leaf_at(scene, place)),

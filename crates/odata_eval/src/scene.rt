@@ -5,15 +5,17 @@ ghost use Rattle.edm_values.specs.declared.value.Value.{Value, Record, Moment as
 ghost use Rattle.csdl_schema.specs.SchemaModel.{properties_at, slots_of};
 ghost use Rattle.edm_entities.specs.Row.{IsEntity};
 ghost use Rattle.odata_checked_filter.specs.Filter.{IsFilter};
-ghost use Rattle.odata_eval.specs.private.Frames.{StandsAtLevel, names_of};
+ghost use Rattle.odata_eval.specs.private.Frames.{StandsAtLevel, frame_of, names_of};
+ghost use Rattle.odata_eval.specs.private.Lambda.{IsOverMembers, IsVariableOf, Suits};
 ghost use Rattle.odata_eval.specs.private.Scene.{EndsOnceHere, HoldsAt};
-ghost use Rattle.odata_eval.specs.private.SceneModel.{environment_of};
+ghost use Rattle.odata_eval.specs.private.SceneModel.{environment_of, with_frame};
 
-use super::frames::{AtLevel, Frames, at_level};
+use super::frames::{AtLevel, Frames, RangeVariable, at_level};
 use super::laws::typed_trees_end_once_on_entities;
 use edm_entities::Entity;
 use edm_values::{Moment, Value};
 use odata_checked_filter::{Checked, CheckedNode};
+use odata_signatures::EdmType;
 use std::alloc::Global;
 use std::marker::Model;
 
@@ -81,6 +83,44 @@ impl<'e, 'c, 'r> Scene<'e, 'c, 'r> {
         }
     }
 
+    /// The same with a range variable more, the innermost, at this value.
+    #[inline(always)]
+    pub(crate) fn with<'f>(
+        &'f self,
+        variable: &'f RangeVariable<'f>,
+        value: &'f Value,
+    ) -> Scene<'f, 'c, 'r>
+        requires { Suits self.now variable.now value.now }
+        ensures { result ≡ with_frame self.entry.now (frame_of variable.entry.now value.entry.now) }
+    {
+        Scene {
+            checked: self.checked,
+            entity: self.entity,
+            moment: self.moment,
+            nodes: self.nodes,
+            values: self.values,
+            slots: self.slots,
+            now_value: self.now_value,
+            frames: Frames::Bound(variable, value, &self.frames),
+            alloc: self.alloc,
+        }
+    }
+
+    /// The variable of the lambda operator in a place. It has the type of the members of the operator's base.
+    pub(crate) fn variable_bound(&self, place: usize) -> RangeVariable<'e>
+        requires { IsOverMembers self.now.list place }
+        ensures { IsVariableOf self.now.list place result }
+    {
+        let nodes = self.nodes();
+        match nodes[place + 1].edm_type {
+            EdmType::Collection(member) => RangeVariable {
+                name: self.checked.text(place),
+                edm_type: EdmType::Single(member),
+            },
+            _ => unreachable!(),
+        }
+    }
+
     /// A law: an expression that has a type has exactly one outcome here.
     pub(crate) fn ends_once(&self)
         ensures { EndsOnceHere self.now }
@@ -143,11 +183,17 @@ impl<'e, 'c, 'r> Scene<'e, 'c, 'r> {
         self.entity.value()
     }
 
-    /// The value of the variable around which so many are.
+    /// The value of the variable around which so many are. The only variable is taken at once.
+    #[inline(always)]
     pub(crate) fn variable(&self, level: usize) -> &'e Value
         requires { level < length (names_of (environment_of self.now)) }
         ensures { StandsAtLevel (slots_of self.now.row.schema) (environment_of self.now) level result.now }
     {
+        if let Frames::Bound(_, value, outer) = self.frames {
+            if let Frames::Empty = *outer {
+                return value;
+            }
+        }
         match at_level(&self.frames, level) {
             AtLevel::There(value) => value,
             AtLevel::Fewer(_) => unreachable!(),

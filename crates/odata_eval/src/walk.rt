@@ -14,6 +14,7 @@ use super::collection_walk::{among_at, flags_at, listed_at};
 use super::collections::{any_item_of, count_of};
 use super::datum::{datum_of, datum_of_number, datum_of_truth, kept_truth, step, truth_of};
 use super::fault::EvalFault;
+use super::lambda_walk::lambda_at;
 use super::number_walk::{number_at, number_chain_at};
 use super::operators::{
     compare_kept, compare_numbers, comparison_of, connective_of, decides, join,
@@ -219,7 +220,8 @@ fn logical_at(
 
 /// The same as `truth_at`, where no chain is likely: a node that is none of truth values is taken at once.
 #[cycle(evaluate)]
-fn side_at(scene: &Scene<'_, '_, '_>, place: usize) -> Result<Option<bool>, EvalFault>
+#[inline(always)]
+pub(crate) fn side_at(scene: &Scene<'_, '_, '_>, place: usize) -> Result<Option<bool>, EvalFault>
     requires stands { TruthStands scene.now place }
     ensures { AnswersTruth scene.now place result }
 {
@@ -319,6 +321,7 @@ fn made_at<'e>(
         NodeKind::Has => flags_at(scene, place, &first),
         NodeKind::InPath => among_at(scene, place, &first),
         NodeKind::InList => listed_at(scene, place, &first),
+        NodeKind::Lambda { quantifier } => lambda_at(scene, place, quantifier, first),
         NodeKind::Binary { operator } => match class_of(operator) {
             OperatorClass::Comparison(comparison) => {
                 compared_at(scene, place, comparison, first)

@@ -2,8 +2,9 @@
 use Rattle.std.specs.Prelude.{◌≡◌, ◌⊎◌, ℕ, List, [], ◌∷◌}
 use Rattle.odata_syntax.specs.Spans.{children_of}
 use Rattle.odata_syntax.specs.Tree.{Shape, Tree, lambda, shape_of}
+use Rattle.csdl_schema.specs.ExprType.{ExprType, SingleType, single}
 use Rattle.csdl_schema.specs.SchemaModel.{Slots}
-use Rattle.odata_expression_types.specs.Typed.{Scope, IsTyped}
+use Rattle.odata_expression_types.specs.Typed.{BindsVariable, IsTyped, Scope, Typed, with_variable}
 
 -- the tree itself, in its scope
 abbrev pub IsItself : Scope → Tree → Scope → Tree → Type 0
@@ -19,9 +20,18 @@ abbrev pub children_in_scope : Shape → List Tree
 children_in_scope (lambda quantifier base variable body) = base ∷ []
 children_in_scope shape = children_of shape
 
--- the body of a lambda operator, and the scope with its variable that it is judged in; no body is judged yet
+-- the body of a lambda operator that binds its variable, in the scope with that variable
+pub record IsBodyInScope
+    (scope : Scope) (variable : List ℕ) (Base : ExprType → Type 0) (body : Tree) (at : Scope) (part : Tree) : Type 0 where
+  pub member_type : SingleType
+  pub binds : BindsVariable scope variable Base member_type
+  pub itself : IsItself (with_variable scope variable (single member_type)) body at part
+
+-- the body of a node, if it is judged, and the scope that it is judged in
 abbrev pub IsConsideredBody : Slots → List ℕ → Scope → Shape → Scope → Tree → Type 0
-IsConsideredBody slots root scope shape at body = ⊥
+IsConsideredBody slots root scope (lambda quantifier base variable body) at part =
+    IsBodyInScope scope variable (Typed slots root scope base) body at part
+IsConsideredBody slots root scope _ at part = ⊥
 
 -- a child of a node that is judged, and the scope that it is judged in
 abbrev pub IsConsideredChild : Slots → List ℕ → Scope → Shape → Scope → Tree → Type 0

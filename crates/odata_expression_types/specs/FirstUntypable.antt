@@ -1,6 +1,6 @@
 -- Where and why a tree is no filter (OData URL Conventions 4.01, section 5.1.1).
 use Rattle.std.specs.Prelude.{◌≡◌, ◌⊎◌, ℕ, ◌≤◌, List, [], MatchOption}
-use Rattle.odata_syntax.specs.Tree.{Tree, node, literal, it, name, member, count, in_path, call, any_item, start_of, stop_of}
+use Rattle.odata_syntax.specs.Tree.{Tree, node, literal, it, name, member, count, in_path, call, any_item, lambda, start_of, stop_of}
 use Rattle.odata_syntax.specs.declared.node.LiteralKind.{LiteralKind}
 use Rattle.csdl_schema.specs.ExprType.{ExprType, single, collection, structured}
 use Rattle.csdl_schema.specs.SchemaModel.{PropertyModel, PropertyType, declared, opaque, navigation, Slots}
@@ -10,7 +10,7 @@ use Rattle.odata_expression_types.specs.Considered.{IsConsidered, ChildrenTyped}
 use Rattle.odata_signatures.specs.ExprTypes.{IsBooleanOrNull}
 use Rattle.odata_signatures.specs.CallTyped.{CallReason}
 use Rattle.odata_signatures.specs.declared.call.CallFault.{CallFault}
-use Rattle.odata_expression_types.specs.Typed.{AreTyped, Scope, Typed, IsUntyped, property_named}
+use Rattle.odata_expression_types.specs.Typed.{AreTyped, Scope, Typed, IsUntyped, property_named, variable_type}
 
 -- why a property has no type
 abbrev pub PropertyReason : PropertyType → TypeFaultCode → Type 0
@@ -35,6 +35,15 @@ StepReason slots asked _ code = code ≡ TypeFaultCode.UnknownProperty
 abbrev pub PathReason : ExprType → TypeFaultCode → Type 0
 PathReason (collection members) code = code ≡ TypeFaultCode.OperandTypes
 PathReason _ code = code ≡ TypeFaultCode.NotCollection
+
+-- why a lambda operator over a base of that type has none: it is over no collection; else its variable is in scope
+-- already; else its body is neither Boolean nor Null
+abbrev pub LambdaReason : Scope → List ℕ → ExprType → TypeFaultCode → Type 0
+LambdaReason scope variable (collection members) code =
+    MatchOption (variable_type scope variable)
+    (code ≡ TypeFaultCode.BodyNotBoolean)
+    (λ _. code ≡ TypeFaultCode.VariableTaken)
+LambdaReason scope variable _ code = code ≡ TypeFaultCode.NotCollection
 
 -- why a literal has no type: it has no value
 abbrev pub LiteralReason : LiteralKind → TypeFaultCode → Type 0
@@ -68,6 +77,8 @@ IsReason slots root scope (node start stop (in_path left path)) code =
 IsReason slots root scope (node start stop (call asked arguments)) code =
     IsCallReason asked (AreTyped slots root scope arguments) code
 IsReason slots root scope (node start stop (any_item base)) code = code ≡ TypeFaultCode.NotCollection
+IsReason slots root scope (node start stop (lambda quantifier base variable body)) code =
+    (type : ExprType) × Typed slots root scope base type × LambdaReason scope variable type code
 IsReason slots root scope (node start stop shape) code = code ≡ TypeFaultCode.OperandTypes
 
 -- a considered node that has no type, while all its considered children have one

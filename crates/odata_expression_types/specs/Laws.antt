@@ -8,7 +8,7 @@ use Rattle.odata_syntax.specs.Tree.{Shape, Tree, start_of, node, literal, name, 
 use Rattle.odata_syntax.specs.declared.node.BinaryOperator.{BinaryOperator}
 use Rattle.odata_syntax.specs.declared.node.LiteralKind.{LiteralKind}
 use Rattle.csdl_schema.specs.ExprType.{ExprType, single, primitive}
-use Rattle.csdl_schema.specs.SchemaModel.{PropertyModel, SchemaModel, Slots, declared}
+use Rattle.csdl_schema.specs.SchemaModel.{PropertyModel, Slots, declared}
 use Rattle.odata_signatures.specs.ExprTypes.{boolean_type}
 use Rattle.odata_syntax.specs.Parse.{IsExpression}
 use Rattle.odata_expression_types.specs.Considered.{ChildrenTyped}

@@ -1,14 +1,15 @@
 -- Which type an expression has (OData URL Conventions 4.01, sections 4.8, 5.1.1.1, 5.1.1.2, 5.1.1.13 to 5.1.1.15 and
 -- 5.1.1.18).
-use Rattle.std.specs.Prelude.{◌≡◌, ℕ, List, [], ◌∷◌, Option, IsSomeAnd, MatchOption, find, nat_eq}
+use Rattle.std.specs.Prelude.{◌≡◌, ℕ, List, [], ◌∷◌, Option, None, IsSomeAnd, MatchOption, find, nat_eq}
 use Rattle.std.specs.Option.{option_map}
 use Rattle.std.specs.Cmp.Lexicographic.{pointwise}
-use Rattle.odata_syntax.specs.Tree.{Tree, Trees, node, literal, it, name, member, count, negation, logical_not, binary, has, in_list, in_path, call, any_item, more_trees, no_trees}
-use Rattle.csdl_schema.specs.ExprType.{ExprType, single, structured}
+use Rattle.odata_syntax.specs.Tree.{Tree, Trees, node, literal, it, name, member, count, negation, logical_not, binary, has, in_list, in_path, call, any_item, lambda, more_trees, no_trees}
+use Rattle.csdl_schema.specs.ExprType.{SingleType, ExprType, single, collection, structured}
 use Rattle.csdl_schema.specs.SchemaModel.{PropertyModel, Slots, declared}
 use Rattle.odata_expression_types.specs.LiteralValue.{LiteralTyped}
 use Rattle.odata_signatures.specs.CallTyped.{CallTyped}
 use Rattle.odata_signatures.specs.CollectionTyped.{AnyItemTyped, CountTyped, InListTyped, InPathTyped}
+use Rattle.odata_signatures.specs.ExprTypes.{boolean_type, IsBooleanOrNull}
 use Rattle.odata_signatures.specs.HasTyped.{HasTyped}
 use Rattle.odata_signatures.specs.OperatorTyped.{OperatorTyped, NegationTyped, NotTyped}
 
@@ -78,9 +79,25 @@ pub record ArgumentsTyped (asked : List ℕ) (Arguments : List ExprType → Type
   pub arguments_typed : Arguments types
   pub call_typed : CallTyped asked types type
 
+-- a lambda operator binds its variable: its base is a collection whose members have that type, and the name is new
+pub record BindsVariable
+    (scope : Scope) (variable : List ℕ) (Base : ExprType → Type 0) (member_type : SingleType) : Type 0 where
+  pub over : Base (collection member_type)
+  pub fresh : variable_type scope variable ≡ None
+
+-- it does so, and with that variable in scope its body has type Boolean or Null (section 5.1.1.13)
+pub record LambdaTyped
+    (scope : Scope) (variable : List ℕ) (Base : ExprType → Type 0) (Body : Scope → ExprType → Type 0)
+    (type : ExprType) : Type 0 where
+  pub member_type : SingleType
+  pub body : ExprType
+  pub binds : BindsVariable scope variable Base member_type
+  pub body_typed : Body (with_variable scope variable (single member_type)) body
+  pub truth : IsBooleanOrNull body
+  pub makes : type ≡ boolean_type
+
 abbrev mutual
-  -- the tree has the type, where the filtered type is root and these variables are in scope; a lambda operator with a
-  -- body has none yet
+  -- the tree has the type, where the filtered type is root and these variables are in scope
   pub Typed : Slots → List ℕ → Scope → Tree → ExprType → Type 0
   Typed slots root scope (node start stop (literal kind spelling)) type = LiteralTyped slots kind spelling type
   Typed slots root scope (node start stop it) type = type ≡ single (structured root)
@@ -105,7 +122,8 @@ abbrev mutual
       ArgumentsTyped asked (AreTyped slots root scope arguments) type
   Typed slots root scope (node start stop (any_item base)) type =
       OperandTyped (Typed slots root scope base) AnyItemTyped type
-  Typed slots root scope (node start stop shape) type = ⊥
+  Typed slots root scope (node start stop (lambda quantifier base variable body)) type =
+      LambdaTyped scope variable (Typed slots root scope base) (λ at. Typed slots root at body) type
 
   -- trees one behind another have these types
   pub AreTyped : Slots → List ℕ → Scope → Trees → List ExprType → Type 0

@@ -31,19 +31,24 @@ pub fn enumeration_literals_have_one_name()
 /// A law: a tree that has a type has no untypable node.
 pub fn typed_trees_are_clear()
     ensures { TypedIsClear }
-{}
+{
+    calls_have_one_type();
+}
 
 /// A law: the first fault below a node, among its children that are judged, is the first of its tree; where these have
 /// types, the node itself is at fault.
 pub fn children_come_first()
     ensures below { FirstBelow }
     ensures itself { FirstItself }
-{}
+{
+    calls_have_one_type();
+}
 
 /// A law: of an expression at most one untypable node starts in a place, so the first one is the only one there.
 pub fn untypable_nodes_start_apart()
     ensures { OneUntypableStart }
 {
+    calls_have_one_type();
     children_apart();
     spans_hold();
     spans_take_bytes();

@@ -3,9 +3,6 @@ use odata_text::{Span, TextFault};
 use thiserror::Error;
 
 /// Why a node has no type. It is shown by its name.
-///
-/// A lambda operator with a body has no type yet and is blamed as `OperandTypes`. `VariableTaken` and `BodyNotBoolean` are
-/// still to come.
 #[derive(Clone, Copy, Debug, PartialEq, Eq, Error)]
 pub enum TypeFaultCode {
     /// A name that is no property of its type.

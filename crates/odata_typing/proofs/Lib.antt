@@ -1,3 +1,4 @@
+pub mod bodies
 pub mod calls
 pub mod flat
 pub mod forms

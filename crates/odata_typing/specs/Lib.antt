@@ -16,6 +16,7 @@ pub use Rattle.odata_checked_filter.specs.Depths
 pub use Rattle.odata_checked_filter.specs.Explanation
 pub use Rattle.odata_checked_filter.specs.Filter
 pub use Rattle.odata_checked_filter.specs.FlatTree
+pub use Rattle.odata_checked_filter.specs.LambdaDepth
 pub use Rattle.odata_checked_filter.specs.Levels
 pub use Rattle.odata_checked_filter.specs.NameKinds
 pub use Rattle.odata_checked_filter.specs.ScopedNodes
@@ -30,8 +31,10 @@ pub use Rattle.odata_expression_types.specs.PreOrder
 pub use Rattle.odata_expression_types.specs.SameTypes
 pub use Rattle.odata_expression_types.specs.Typed
 pub use Rattle.odata_functions.specs.Promotion
+pub use Rattle.odata_signatures.specs.CollectionTyped
 pub use Rattle.odata_signatures.specs.ComparableTypes
 pub use Rattle.odata_signatures.specs.ExprTypes
+pub use Rattle.odata_signatures.specs.HasTyped
 pub use Rattle.odata_signatures.specs.OperatorClass
 pub use Rattle.odata_signatures.specs.OperatorTyped
 pub use Rattle.odata_signatures.specs.TypeView

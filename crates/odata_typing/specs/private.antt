@@ -5,6 +5,7 @@ pub mod Begun
 pub mod EarlierFault
 pub mod Forms
 pub mod Judged
+pub mod Lambda
 pub mod LawsBelow
 pub mod StepFound
 pub mod Variables

@@ -29,6 +29,7 @@ use odata_text::Span;
 
 /// The node of a call, and those of its arguments behind it.
 #[cycle(typing)]
+#[inline(never)]
 pub(crate) fn checked_call(
     setting: &Setting<'_>,
     span: Span,

@@ -8,6 +8,7 @@ mod call_node;
 mod checker;
 mod enumeration_literal;
 mod in_list;
+mod lambda;
 mod laws_below;
 mod left_operand;
 mod literal;
@@ -19,7 +20,6 @@ mod reading;
 mod setting;
 mod unary_node;
 mod untyped;
-mod untyped_form;
 mod variables;
 
 pub use checker::check;

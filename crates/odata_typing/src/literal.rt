@@ -18,6 +18,7 @@ use odata_syntax::LiteralKind;
 use odata_text::Span;
 
 /// Puts the literal's node behind the others, with its value, and answers its type.
+#[inline(never)]
 pub(crate) fn checked_literal(
     setting: &Setting<'_>,
     span: Span,

@@ -9,6 +9,7 @@ ghost use Rattle.odata_typing.specs.private.Variables.{AreThere};
 use super::binary_node::{Infix, Operands, checked_right, close_infix};
 use super::call_node::checked_call;
 use super::in_list::checked_in_list;
+use super::lambda::{Lambda, checked_base, checked_body};
 use super::left_operand::checked_left;
 use super::literal::checked_literal;
 use super::opened_node::open_node;
@@ -17,10 +18,9 @@ use super::property::checked_name;
 use super::setting::Setting;
 use super::unary_node::{Unary, checked_unary};
 use super::untyped::Untyped;
-use super::untyped_form::untyped_form;
 use odata_checked_filter::{NodeKind, NodeList};
 use odata_signatures::EdmType;
-use odata_syntax::Node;
+use odata_syntax::{Node, Quantifier};
 
 /// Puts the nodes of the tree behind those of the list, with types, values and slots, and answers the tree's type; or
 /// its first untypable node.
@@ -81,6 +81,7 @@ pub(crate) fn checked_tree(
 
 /// The same of `has` and of `in`.
 #[cycle(typing)]
+#[inline(never)]
 fn checked_membership(
     setting: &Setting<'_>,
     node: &Node,
@@ -112,8 +113,9 @@ fn checked_membership(
     }
 }
 
-/// The same of the lambda operators. One with a body has no type yet.
+/// The same of the lambda operators.
 #[cycle(typing)]
+#[inline(never)]
 fn checked_lambda_operator(
     setting: &Setting<'_>,
     node: &Node,
@@ -133,8 +135,33 @@ fn checked_lambda_operator(
         Node::InList { .. } | Node::InPath { .. } => unreachable!(),
         Node::Any { span, base, lambda } => match lambda {
             None => checked_unary(setting, *span, Unary::AnyItem, base, list),
-            Some(_) => Err(untyped_form(setting, *span, base, list)),
+            Some((variable, body)) => {
+                let any = Lambda {
+                    span: *span,
+                    quantifier: Quantifier::Any,
+                    variable: variable.as_str(),
+                };
+                match checked_base(setting, &any, base, list) {
+                    Ok(binding) => checked_body(setting, &any, binding, body, list),
+                    Err(untyped) => Err(untyped),
+                }
+            }
         },
-        Node::All { span, base, .. } => Err(untyped_form(setting, *span, base, list)),
+        Node::All {
+            span,
+            base,
+            variable,
+            body,
+        } => {
+            let all = Lambda {
+                span: *span,
+                quantifier: Quantifier::All,
+                variable: variable.as_str(),
+            };
+            match checked_base(setting, &all, base, list) {
+                Ok(binding) => checked_body(setting, &all, binding, body, list),
+                Err(untyped) => Err(untyped),
+            }
+        }
     }
 }

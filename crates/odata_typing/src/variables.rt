@@ -1,4 +1,4 @@
-//! The range variables in scope. No lambda operator has a type yet, so the checker begins and ends with none.
+//! The range variables in scope.
 ghost use Rattle.std.specs.Prelude.{◌≡◌, length, IfOk, IfErr, IfSome};
 ghost use Rattle.csdl_schema.specs.SchemaModel.{SchemaModel};
 ghost use Rattle.odata_typing.specs.private.Variables.{AreThere, IsNamedBy, scope_in};

@@ -25,6 +25,7 @@ Matches (NodeKind.Variable level) shape = (asked : List ℕ) × (shape ≡ name 
 Matches (NodeKind.Member slot) shape = (base : Tree) × (asked : List ℕ) × (shape ≡ member base asked)
 Matches NodeKind.Count shape = (base : Tree) × (shape ≡ count base)
 Matches NodeKind.AnyItem shape = (base : Tree) × (shape ≡ any_item base)
+Matches (NodeKind.Lambda quantifier) shape = (base : Tree) × (variable : List ℕ) × (body : Tree) × (shape ≡ lambda quantifier base variable body)
 Matches NodeKind.Now shape = (arguments : Trees) × (shape ≡ call (codes "now") arguments)
 Matches (NodeKind.Call function) shape = (arguments : Trees) × (shape ≡ call (row_of function).name arguments)
 Matches NodeKind.Neg shape = (operand : Tree) × (shape ≡ negation operand)
@@ -56,7 +57,8 @@ matched values slots root scope (in_path left path) kind is = subst (λ (k : Nod
 matched values slots root scope (call asked arguments) NodeKind.Now is = (arguments, ap (λ (called : List ℕ). call called arguments) (sym is))
 matched values slots root scope (call asked arguments) (NodeKind.Call function) is = (arguments, ap (λ (called : List ℕ). call called arguments) (sym is.0))
 matched values slots root scope (call asked arguments) _ is = absurd is
-matched values slots root scope _ kind is = absurd is
+matched values slots root scope (lambda quantifier base variable body) kind is =
+    subst (λ (k : NodeKind). Matches k (lambda quantifier base variable body)) (sym is) (base, variable, body, refl)
 
 same_node : (nodes : List CheckedNode) (i : ℕ) (a b : CheckedNode) → slice_get nodes i ≡ Some a → slice_get nodes i ≡ Some b → a ≡ b
 same_node nodes i a b first second = cc
@@ -93,7 +95,7 @@ level_told values slots root scope (has left right) kind is = rw is refl
 level_told values slots root scope (in_list left items) kind is = rw is refl
 level_told values slots root scope (in_path left path) kind is = rw is refl
 level_told values slots root scope (any_item base) kind is = rw is refl
-level_told values slots root scope _ kind is = absurd is
+level_told values slots root scope (lambda quantifier base variable body) kind is = rw is refl
 
 -- a normal form binds as tightly
 normal_level : (shape other : Shape) → IsNormalShape shape other → shape_level other ≡ shape_level shape

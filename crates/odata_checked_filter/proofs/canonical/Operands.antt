@@ -3,14 +3,16 @@ use Rattle.std.proofs.Common.{◌≡◌, ◌∙◌, ℕ, suc, ◌+◌, ◌*◌, 
 use Rattle.std.specs.Prelude.{codes}
 use Rattle.odata_syntax.specs.CanonicalText.{grouped, shape_text, tree_level, tree_text, trees_text}
 use Rattle.odata_syntax.specs.Grammar.{Level, base_level, operator_level, path_level, primary_level}
-use Rattle.odata_syntax.specs.Lexeme.{operator_word}
+use Rattle.odata_syntax.specs.Lexeme.{operator_word, quantifier_word}
+use Rattle.odata_syntax.specs.declared.node.Quantifier.{Quantifier}
+use Rattle.csdl_schema.specs.ExprType.{single}
 use Rattle.odata_syntax.specs.NormalForm.{IsNormalForm, IsNormalShape}
-use Rattle.odata_syntax.specs.Tree.{Shape, Tree, Trees, any_item, binary, count, has, in_list, in_path, member, node}
+use Rattle.odata_syntax.specs.Tree.{Shape, Tree, Trees, any_item, binary, count, has, in_list, in_path, lambda, member, node}
 use Rattle.odata_syntax.specs.declared.node.BinaryOperator.{BinaryOperator}
 use Rattle.odata_syntax.specs.declared.node.LiteralKind.{LiteralKind}
 use Rattle.odata_signatures.specs.declared.function.Function.{Function}
 use Rattle.csdl_schema.specs.SchemaModel.{SchemaModel}
-use Rattle.odata_expression_types.specs.Typed.{Scope}
+use Rattle.odata_expression_types.specs.Typed.{Scope, with_variable}
 use Rattle.odata_checked_filter.specs.declared.canonical_text.Part.{Part}
 use Rattle.odata_checked_filter.specs.declared.canonical_text.Part.TheVariants.{Close}
 use Rattle.odata_checked_filter.specs.declared.checked_node.CheckedNode.{CheckedNode}
@@ -18,7 +20,7 @@ use Rattle.odata_checked_filter.specs.declared.checked_node.NodeKind.{NodeKind}
 use Rattle.odata_checked_filter.specs.FlatTree.{FlatTree}
 use Rattle.odata_checked_filter.specs.Stands.{AllStand, Stands, text_of_shape}
 use Rattle.odata_checked_filter.specs.private.CanonicalWalk.{HasTreeAt, IsJointAt, StandsThere, WritesNode, arguments_of, behind_kind, joining_parts, node_weight, operand, operand_of, plain, stop_at}
-use Rattle.odata_checked_filter.specs.private.KindTexts.{IsJoining, first_level, joint_text}
+use Rattle.odata_checked_filter.specs.private.KindTexts.{IsJoining, first_level, joint_text, quantifier_joint}
 use Rattle.odata_checked_filter.proofs.flat.Standing.{stand_onward, stands_nonempty}
 use Rattle.odata_checked_filter.proofs.canonical.Arguments.{arguments_there, closing_weight, within_list}
 use Rattle.odata_checked_filter.proofs.canonical.Joints.{Joins, joins_written}
@@ -243,6 +245,51 @@ list_joins list i start stop left items joint there =
       lighter = omega (arith, h.lighter, args.light, closing_weight list (arguments_of list (stop_at list (i + 1)) (stop_at list i)));
     }
 
+-- ---- a lambda operator
+
+-- what stands between its base and its body, as the tree's text has it
+binder_text : (quantifier : Quantifier) (variable rest : List ℕ)
+    → (quantifier_joint quantifier ++ (variable ++ 58 ∷ [])) ++ rest ≡ 47 ∷ (quantifier_word quantifier ++ (40 ∷ (variable ++ (58 ∷ rest))))
+binder_text Quantifier.Any variable rest = ap (λ (t : List ℕ). codes "/any(" ++ t) (append_assoc variable (58 ∷ []) rest)
+binder_text Quantifier.All variable rest = ap (λ (t : List ℕ). codes "/all(" ++ t) (append_assoc variable (58 ∷ []) rest)
+
+lambda_joins : (list : FlatTree) (i start stop : ℕ) (quantifier : Quantifier) (base : Tree) (variable : List ℕ) (body : Tree)
+    → IsJointAt list i (quantifier_joint quantifier ++ (variable ++ 58 ∷ []))
+    → StandsThere list i (node start stop (lambda quantifier base variable body))
+    → Joins list i (node start stop (lambda quantifier base variable body)) 0 (Close ∷ operand_of (stop_at list (i + 1)) 0)
+lambda_joins list i start stop quantifier base variable body joint there =
+    let binds = there.stands.children.right in
+    let both = both_there list i (node start stop (lambda quantifier base variable body)) base body there
+    (with_variable there.scope variable (single binds.member_type)) there.stands.children.middle there.stands.children.left binds.body in
+    record {
+      first = base;
+      there = both.first;
+      spelled = quantifier_joint quantifier ++ (variable ++ 58 ∷ []);
+      is_joint = joint;
+      pieces = plain (41 ∷ []) ∷ (operand 0 body ∷ []);
+      are = (refl, (record { same = refl; there = both.second }, tt));
+      whole = λ n rest normal texts.
+          let inner = texts.is_front in
+          let b = inner.is_back in
+          let same : texts.front ≡ tree_text b.0 =
+          inner.whole ∙ ap (λ (t : List ℕ). t ++ inner.back) inner.is_front ∙ b.2
+          ∙ ungrouped 0 (tree_level b.0) (tree_text b.0) (below (tree_level b.0) 0 (omega arith)) in
+          let closed : rest ≡ tree_text b.0 ++ 41 ∷ [] =
+          texts.whole ∙ ap (λ (t : List ℕ). texts.front ++ t) texts.is_back ∙ ap (λ (t : List ℕ). t ++ 41 ∷ []) same in
+          record {
+            normal = node start stop (lambda quantifier n variable b.0);
+            is_normal = (lambda quantifier n variable b.0, (n, b.0, normal, b.1, refl), refl);
+            printed =
+                ap (λ (t : List ℕ). t ++ ((quantifier_joint quantifier ++ (variable ++ 58 ∷ [])) ++ rest))
+                (ungrouped 0 (tree_level n) (tree_text n) (below (tree_level n) 0 (omega arith)))
+                ∙ ap (λ (t : List ℕ). tree_text n ++ t)
+                (binder_text quantifier variable rest
+                ∙ ap (λ (t : List ℕ). 47 ∷ (quantifier_word quantifier ++ (40 ∷ (variable ++ (58 ∷ t))))) closed);
+          };
+      second = λ more. place_of both.second.schema both.second.filtered both.second.scope list (stop_at list (i + 1)) both.second.stop body both.second.stands;
+      lighter = omega (arith, both.lighter);
+    }
+
 -- ---- each kind
 
 module _ (list : FlatTree) (i : ℕ) (found : CheckedNode) (at : slice_get list.nodes i ≡ Some found) where
@@ -293,6 +340,13 @@ module _ (list : FlatTree) (i : ℕ) (found : CheckedNode) (at : slice_get list.
       let P : Shape → Type 0 = λ (s : Shape). StandsThere list i (node start stop s) → Joins list i (node start stop s) primary_level behind in
       subst P (sym m.2)
       (λ here. list_joins list i start stop m.0 m.1 (joint_here list i found NodeKind.InList start stop (in_list m.0 m.1) at is here) here) there
+  joins (NodeKind.Lambda quantifier) (node start stop shape) is joining there =
+      let m = shape_there list i found (NodeKind.Lambda quantifier) start stop shape at is there in
+      let behind = Close ∷ operand_of (stop_at list (i + 1)) 0 in
+      let P : Shape → Type 0 = λ (s : Shape). StandsThere list i (node start stop s) → Joins list i (node start stop s) 0 behind in
+      subst P (sym m.3)
+      (λ here. lambda_joins list i start stop quantifier m.0 m.1 m.2
+      (joint_here list i found (NodeKind.Lambda quantifier) start stop (lambda quantifier m.0 m.1 m.2) at is here) here) there
   joins _ tree is joining there = absurd joining
 
   pub joined_written : (text : List ℕ) (parts new : List Part) → HasTreeAt list i → IsJoining found.kind

@@ -3,13 +3,14 @@ use Rattle.std.proofs.Common.{◌≡◌, refl, sym, ap, ◌∙◌, ℕ, ◌<◌,
 use Rattle.std.specs.List.{AllByRecursion}
 use Rattle.std.proofs.lemmas.Bool.Decides.{nat_tests}
 use Rattle.std.proofs.lemmas.List.Elements.{filter-append}
-use Rattle.odata_syntax.specs.Tree.{Tree, Trees, node, Shape, literal, it, name, member, count, negation, logical_not, binary, has, in_list, in_path, call, any_item, no_trees, more_trees}
+use Rattle.odata_syntax.specs.Tree.{Tree, Trees, node, Shape, literal, it, name, member, count, negation, logical_not, binary, has, in_list, in_path, call, any_item, lambda, no_trees, more_trees}
 use Rattle.csdl_schema.specs.SchemaModel.{SchemaModel}
 use Rattle.odata_checked_filter.specs.declared.checked_node.CheckedNode.{CheckedNode}
 use Rattle.odata_checked_filter.specs.Depths.{depths, depths_among, depths_below}
 use Rattle.odata_checked_filter.specs.FlatTree.{FlatTree}
 use Rattle.odata_checked_filter.specs.Stands.{AllStand, ChildrenStand, IsTop, Stands}
-use Rattle.odata_expression_types.specs.Typed.{Scope}
+use Rattle.odata_expression_types.specs.Typed.{Scope, with_variable}
+use Rattle.csdl_schema.specs.ExprType.{single}
 use Rattle.odata_checked_filter.specs.private.ExplanationWalk.{still_around}
 use Rattle.odata_checked_filter.proofs.flat.Places.{drop_at}
 use Rattle.odata_checked_filter.proofs.flat.Standing.{stand_onward, stands_nonempty}
@@ -158,7 +159,14 @@ mutual
       (tree_told schema n scope list m j path stops stand.right all))
   below_told schema n scope list i j (call asked arguments) stops around deep stand all =
       rw (← deep) (among_told schema n scope list i j arguments stops stand all)
-  below_told schema n scope list i j _ stops around deep stand all = absurd stand
+  below_told schema n scope list i j (lambda quantifier base variable body) stops around deep stand all =
+      let m = stand.middle in
+      let inner = with_variable scope variable (single stand.right.member_type) in
+      let last : m < j = stands_nonempty schema n inner list m j body stand.right.body in
+      rw (← deep)
+      (both_told list i m j stops (depths (length stops) base) (depths (length stops) body)
+      (tree_told schema n scope list i m base stops stand.left (earlier_too m j stops (omega arith) all))
+      (tree_told schema n inner list m j body stops stand.right.body all))
 
   among_told :
       (schema : SchemaModel) (n : ℕ) (scope : Scope) (list : FlatTree) (i j : ℕ) (trees : Trees) (stops : List ℕ)

@@ -1,6 +1,7 @@
 -- What a node of the list is called, as the tree's.
-use Rattle.std.proofs.Common.{◌≡◌, refl, sym, ap, ℕ, List, Option}
-use Rattle.odata_syntax.specs.Tree.{Shape, literal, it, name, member, count, negation, logical_not, binary, has, in_list, in_path, call, any_item}
+use Rattle.std.proofs.Common.{◌≡◌, ◌∙◌, append_assoc, [], ◌∷◌, refl, sym, ap, ℕ, List, Option}
+use Rattle.odata_syntax.specs.Tree.{Shape, literal, it, name, member, count, negation, logical_not, binary, has, in_list, in_path, call, any_item, lambda}
+use Rattle.odata_syntax.specs.Lexeme.{quantifier_word}
 use Rattle.csdl_schema.specs.SchemaModel.{Slots}
 use Rattle.odata_checked_filter.specs.declared.checked_node.NodeKind.{NodeKind}
 use Rattle.odata_checked_filter.specs.Explanation.{name_label, node_label}
@@ -32,4 +33,5 @@ label_told list slots root scope (any_item base) kind is = rw is refl
 label_told list slots root scope (call asked arguments) (NodeKind.Call function) is = is.0
 label_told list slots root scope (call asked arguments) NodeKind.Now is = is
 label_told list slots root scope (call asked arguments) _ is = absurd is
-label_told list slots root scope _ kind is = absurd is
+label_told list slots root scope (lambda quantifier base variable body) kind is =
+    ap (λ (k : NodeKind). kind_label k variable) is ∙ append_assoc (quantifier_word quantifier) (32 ∷ []) variable

@@ -1,7 +1,7 @@
 -- The tree of a list is the tree that the list stands for.
 use Rattle.std.proofs.Common.{◌≡◌, refl, ap, ◌∙◌, ℕ, ◌<◌, ◌≤◌, ◌+◌, List, [], ◌∷◌, Some, true, false, nat_lt, slice_get, drop, arith}
 use Rattle.std.proofs.lemmas.Bool.Decides.{nat_tests}
-use Rattle.odata_syntax.specs.Tree.{Tree, Trees, node, Shape, literal, it, name, member, count, negation, logical_not, binary, has, in_list, in_path, call, any_item, more_trees, no_trees, trees_of_list}
+use Rattle.odata_syntax.specs.Tree.{Tree, Trees, node, Shape, literal, it, name, member, count, negation, logical_not, binary, has, in_list, in_path, call, any_item, lambda, more_trees, no_trees, trees_of_list}
 use Rattle.odata_syntax.specs.Spans.{children_of, list_of_trees}
 use Rattle.csdl_schema.specs.SchemaModel.{SchemaModel, Slots, slots_of, type_name_at}
 use Rattle.edm_values.specs.declared.value.Value.{Value}
@@ -11,7 +11,8 @@ use Rattle.odata_checked_filter.specs.FlatTree.{FlatTree, PlacedTree, forest, sh
 use Rattle.odata_checked_filter.specs.Stands.{AllStand, ChildrenStand, IsTop, IsKindOf, Stands, text_of_shape}
 use Rattle.std.specs.Prelude.{codes}
 use Rattle.odata_signatures.specs.Functions.{row_of}
-use Rattle.odata_expression_types.specs.Typed.{Scope}
+use Rattle.odata_expression_types.specs.Typed.{Scope, with_variable}
+use Rattle.csdl_schema.specs.ExprType.{single}
 use Rattle.odata_checked_filter.proofs.flat.Places.{drop_at}
 use Rattle.odata_checked_filter.proofs.flat.Standing.{stand_onward, stands_nonempty}
 
@@ -67,7 +68,7 @@ kind_shape values slots root scope (call asked arguments) (NodeKind.Call functio
     ap (λ (ts : Trees). call (row_of function).name ts) (trees_again arguments) ∙ ap (λ (called : List ℕ). call called arguments) is.0
 kind_shape values slots root scope (call asked arguments) _ is = absurd is
 kind_shape values slots root scope (any_item base) k is = rw is refl
-kind_shape values slots root scope _ k is = absurd is
+kind_shape values slots root scope (lambda quantifier base variable body) k is = rw is refl
 
 -- a node's tree, and what is left behind it
 abbrev planted : List (List ℕ) → ℕ → CheckedNode → List PlacedTree → List PlacedTree
@@ -194,7 +195,12 @@ mutual
   children_forest schema n scope list i j (call asked arguments) stand = stand_forest schema n scope list i j arguments stand
   children_forest schema n scope list i j (any_item base) stand =
       one_planted list i j base (stands_nonempty schema n scope list i j base stand) (stands_forest schema n scope list i j base stand)
-  children_forest schema n scope list i j _ stand = absurd stand
+  children_forest schema n scope list i j (lambda quantifier base variable body) stand =
+      let inner = with_variable scope variable (single stand.right.member_type) in
+      both_planted list i stand.middle j base body (stands_nonempty schema n scope list i stand.middle base stand.left)
+      (stands_nonempty schema n inner list stand.middle j body stand.right.body)
+      (stands_forest schema n scope list i stand.middle base stand.left)
+      (stands_forest schema n inner list stand.middle j body stand.right.body)
 
   stand_forest :
       (schema : SchemaModel) (n : ℕ) (scope : Scope) (list : FlatTree) (i j : ℕ) (trees : Trees)

@@ -2,7 +2,7 @@
 use Rattle.std.proofs.Common.{◌≡◌, refl, sym, ap, ◌∙◌, subst, inl, inr, ℕ, ◌<◌, ◌≤◌, ◌+◌, List, [], Some, None, Option, slice_get, length, arith}
 use Rattle.std.specs.Option.{option_map}
 use Rattle.std.proofs.lemmas.Option.{none-some, slice_get-map, slice_get_cases, slice_get_past, slice_get_within}
-use Rattle.odata_syntax.specs.Tree.{Shape, Tree, node, literal, it, name, member, count, negation, logical_not, binary, has, in_list, in_path, call, any_item}
+use Rattle.odata_syntax.specs.Tree.{Shape, Tree, node, literal, it, name, member, count, negation, logical_not, binary, has, in_list, in_path, call, any_item, lambda}
 use Rattle.odata_text.specs.declared.span.Span.{Span}
 use Rattle.csdl_schema.specs.SchemaModel.{Slots, slots_of, type_name_at}
 use Rattle.odata_checked_filter.specs.declared.checked_node.CheckedNode.{CheckedNode}
@@ -75,7 +75,7 @@ names_slot list slots root scope start stop (any_item base) kind slot is found =
 names_slot list slots root scope start stop (call asked arguments) NodeKind.Now slot is found = absurd (slot_of_none slot found)
 names_slot list slots root scope start stop (call asked arguments) (NodeKind.Call function) slot is found = absurd (slot_of_none slot found)
 names_slot list slots root scope start stop (call asked arguments) _ slot is found = absurd is
-names_slot list slots root scope start stop _ kind slot is found = absurd is
+names_slot list slots root scope start stop (lambda quantifier base variable body) kind slot is found = slotless kind (NodeKind.Lambda quantifier) slot refl is found
 
 none_some : (o : Option ℕ) (a : ℕ) → o ≡ Some a → o ≡ None → ⊥
 none_some o a x y = cc
@@ -122,7 +122,7 @@ level_of_top list slots root scope start stop (any_item base) kind is = rw is re
 level_of_top list slots root scope start stop (call asked arguments) NodeKind.Now is = refl
 level_of_top list slots root scope start stop (call asked arguments) (NodeKind.Call function) is = refl
 level_of_top list slots root scope start stop (call asked arguments) _ is = absurd is
-level_of_top list slots root scope start stop _ kind is = absurd is
+level_of_top list slots root scope start stop (lambda quantifier base variable body) kind is = rw is refl
 
 -- what a node of the list says of the tree that stands there, in a scope
 pub record IsNodeOf (filter : Filter) (found : CheckedNode) (scope : Scope) (part : Tree) : Type 0 where

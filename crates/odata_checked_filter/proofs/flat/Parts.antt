@@ -10,7 +10,8 @@ use Rattle.odata_checked_filter.specs.FlatTree.{FlatTree}
 use Rattle.odata_expression_types.specs.PreOrder.{nodes_among, nodes_below, pre_order}
 use Rattle.odata_checked_filter.specs.ScopedNodes.{ScopedNode, scoped_among, scoped_below, scoped_nodes}
 use Rattle.odata_checked_filter.specs.Stands.{AllStand, ChildrenStand, SideBySide, Stands, variable_names}
-use Rattle.odata_expression_types.specs.Typed.{Scope}
+use Rattle.odata_expression_types.specs.Typed.{Scope, with_variable}
+use Rattle.csdl_schema.specs.ExprType.{single}
 use Rattle.odata_checked_filter.proofs.flat.Places.{get_parts}
 use Rattle.odata_checked_filter.proofs.flat.Standing.{stands_size}
 
@@ -230,7 +231,19 @@ mutual
   part_below schema n scope list i j (any_item base) k at stand found =
       in_scope schema n scope list (any_item base) (i + k) at
       (of_first schema n scope list base [] (i + k) at (part_stands schema n scope list i j base k at stand found))
-  part_below schema n scope list i j _ k at stand found = absurd stand
+  part_below schema n scope list i j (lambda quantifier base variable body) k at stand found =
+      let inner = with_variable scope variable (single stand.right.member_type) in
+      in_either (λ (x : ℕ). IsPartBelow schema n scope list (lambda quantifier base variable body) x at)
+      (scoped_nodes (variable_names scope) base) (scoped_nodes (variable ∷ variable_names scope) body) i stand.middle k at
+      (scoped_size schema n scope list i stand.middle base stand.left) found
+      (λ h. in_scope schema n scope list (lambda quantifier base variable body) (i + k) at
+      (of_first schema n scope list base [] (i + k) at (part_stands schema n scope list i stand.middle base k at stand.left h)))
+      (λ h there. record {
+        around = inner;
+        child = body;
+        is_child = inr (record { member_type = stand.right.member_type; binds = stand.right.binds; itself = (refl, refl) });
+        part = part_stands schema n inner list stand.middle j body h at stand.right.body there;
+      })
 
   part_among :
       (schema : SchemaModel) (n : ℕ) (scope : Scope) (list : FlatTree) (i j : ℕ) (trees : Trees) (k : ℕ) (at : ScopedNode)

@@ -1,14 +1,15 @@
 -- What stands for a tree: how many nodes, and that it still does where they are kept.
 use Rattle.std.proofs.Common.{◌≡◌, ℕ, ◌<◌, ◌≤◌, ◌+◌, List, ◌++◌, Some, None, slice_get, length, length-append, IsSomeAnd, Option, refl, arith}
 use Rattle.edm_values.specs.declared.value.Value.{Value}
-use Rattle.odata_syntax.specs.Tree.{Tree, Trees, node, Shape, literal, it, name, member, count, negation, logical_not, binary, has, in_list, in_path, call, any_item, more_trees, no_trees}
+use Rattle.odata_syntax.specs.Tree.{Tree, Trees, node, Shape, literal, it, name, member, count, negation, logical_not, binary, has, in_list, in_path, call, any_item, lambda, more_trees, no_trees}
 use Rattle.csdl_schema.specs.SchemaModel.{SchemaModel, Slots}
 use Rattle.odata_checked_filter.specs.declared.checked_node.CheckedNode.{CheckedNode}
 use Rattle.odata_checked_filter.specs.declared.checked_node.NodeKind.{NodeKind}
 use Rattle.odata_checked_filter.specs.FlatTree.{FlatTree}
 use Rattle.odata_expression_types.specs.PreOrder.{nodes_among, nodes_below, pre_order}
 use Rattle.odata_checked_filter.specs.Stands.{AllStand, ChildrenStand, Stands, IsTop, IsKindOf}
-use Rattle.odata_expression_types.specs.Typed.{Scope}
+use Rattle.odata_expression_types.specs.Typed.{Scope, with_variable}
+use Rattle.csdl_schema.specs.ExprType.{single}
 use Rattle.odata_checked_filter.specs.ListGrowth.{IsKept}
 
 -- ---- as many nodes as the tree has
@@ -49,7 +50,10 @@ mutual
       (stands_size schema n scope list i stand.middle left stand.left) (stands_size schema n scope list stand.middle j path stand.right)
   children_size schema n scope list i j (call asked arguments) stand = stand_size schema n scope list i j arguments stand
   children_size schema n scope list i j (any_item base) stand = stands_size schema n scope list i j base stand
-  children_size schema n scope list i j _ stand = absurd stand
+  children_size schema n scope list i j (lambda quantifier base variable body) stand =
+      let inner = with_variable scope variable (single stand.right.member_type) in
+      both_sizes i stand.middle j (pre_order base) (pre_order body)
+      (stands_size schema n scope list i stand.middle base stand.left) (stands_size schema n inner list stand.middle j body stand.right.body)
 
   pub stand_size :
       (schema : SchemaModel) (n : ℕ) (scope : Scope) (list : FlatTree) (i j : ℕ) (trees : Trees)
@@ -177,7 +181,19 @@ mutual
       }
   children_kept from old new schema n scope i j (call asked arguments) kept behind stand = stand_kept from old new schema n scope i j arguments kept behind stand
   children_kept from old new schema n scope i j (any_item base) kept behind stand = stands_kept from old new schema n scope i j base kept behind stand
-  children_kept from old new schema n scope i j _ kept behind stand = absurd stand
+  children_kept from old new schema n scope i j (lambda quantifier base variable body) kept behind stand =
+      let m = stand.middle in
+      let a : i < m = stands_nonempty schema n scope old i m base stand.left in
+      let inner = with_variable scope variable (single stand.right.member_type) in
+      record {
+        middle = m;
+        left = stands_kept from old new schema n scope i m base kept behind stand.left;
+        right = record {
+          member_type = stand.right.member_type;
+          binds = stand.right.binds;
+          body = stands_kept from old new schema n inner m j body kept (omega arith) stand.right.body;
+        };
+      }
 
   pub stand_kept :
       (from : ℕ) (old new : FlatTree) (schema : SchemaModel) (n : ℕ) (scope : Scope) (i j : ℕ) (trees : Trees)

@@ -106,7 +106,8 @@ child_contained scope at (any_item base) child among = among_contained scope at 
 
 considered_contained : (slots : Slots) (root : List ℕ) (scope at : Scope) (shape : Shape) (child : Tree) → IsConsideredChild slots root scope shape at child → Contains (children_of shape) child
 considered_contained slots root scope at shape child (inl among) = child_contained scope at shape child among
-considered_contained slots root scope at shape child (inr body) = absurd body
+considered_contained slots root scope at (lambda quantifier base variable body) child (inr is) = (1, omega arith, sym is.itself.1)
+considered_contained slots root scope at _ child (inr none) = absurd none
 
 within_considered : (slots : Slots) (root : List ℕ) (scope : Scope) (tree : Tree) (at : Scope) (part : Tree) → IsConsidered slots root scope tree at part → IsWithin part tree
 within_considered slots root scope tree at part considers_itself = is_root
@@ -224,7 +225,7 @@ maker_sound values slots root scope (any_item base) (NodeKind.Call function) is 
 maker_sound values slots root scope (has left right) (NodeKind.Call function) is passes = cc
 maker_sound values slots root scope (in_list left items) (NodeKind.Call function) is passes = cc
 maker_sound values slots root scope (in_path left path) (NodeKind.Call function) is passes = cc
-maker_sound values slots root scope _ (NodeKind.Call function) is passes = absurd is
+maker_sound values slots root scope (lambda quantifier base variable body) (NodeKind.Call function) is passes = cc
 maker_sound values slots root scope shape _ is passes = cc
 
 maker_complete : AreDistinct →
@@ -253,7 +254,7 @@ now_sound values slots root scope (any_item base) NodeKind.Now is passes = cc
 now_sound values slots root scope (has left right) NodeKind.Now is passes = cc
 now_sound values slots root scope (in_list left items) NodeKind.Now is passes = cc
 now_sound values slots root scope (in_path left path) NodeKind.Now is passes = cc
-now_sound values slots root scope _ NodeKind.Now is passes = absurd is
+now_sound values slots root scope (lambda quantifier base variable body) NodeKind.Now is passes = cc
 now_sound values slots root scope shape _ is passes = cc
 
 now_complete : AreDistinct →

@@ -150,6 +150,7 @@ behind_kind list (NodeKind.Binary operator) second stop = operand_of second (ope
 behind_kind list NodeKind.Has second stop = operand_of second base_level
 behind_kind list NodeKind.InPath second stop = operand_of second path_level
 behind_kind list NodeKind.InList second stop = Close ∷ arguments_of list second stop
+behind_kind list (NodeKind.Lambda quantifier) second stop = Close ∷ operand_of second 0
 behind_kind list _ second stop = []
 
 -- the operands of a node of a kind, the first one last, and what it has between them

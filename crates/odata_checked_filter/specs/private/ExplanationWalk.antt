@@ -1,6 +1,6 @@
 -- For private clauses: how the explanation of a list grows by a line.
 use Rattle.std.specs.Prelude.{◌≡◌, ℕ, ◌*◌, List, [], ◌∷◌, ◌++◌, Some, codes, filter, length, nat_lt, replicate, slice_get}
-use Rattle.odata_syntax.specs.Lexeme.{operator_word}
+use Rattle.odata_syntax.specs.Lexeme.{operator_word, quantifier_word}
 use Rattle.csdl_schema.specs.SchemaModel.{SchemaModel}
 use Rattle.odata_signatures.specs.Functions.{row_of}
 use Rattle.odata_signatures.specs.declared.function.Function.{Function}
@@ -19,6 +19,7 @@ kind_label (NodeKind.Variable level) beside = codes "variable " ++ beside
 kind_label (NodeKind.Member slot) beside = codes "member " ++ beside
 kind_label NodeKind.Count beside = codes "$count"
 kind_label NodeKind.AnyItem beside = codes "any"
+kind_label (NodeKind.Lambda quantifier) beside = (quantifier_word quantifier ++ 32 ∷ []) ++ beside
 kind_label NodeKind.Neg beside = codes "-"
 kind_label NodeKind.Not beside = codes "not"
 kind_label (NodeKind.Binary operator) beside = operator_word operator

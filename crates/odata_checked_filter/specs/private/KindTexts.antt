@@ -2,6 +2,7 @@
 use Rattle.std.specs.Prelude.{ℕ, List, [], ◌∷◌, ◌++◌, codes}
 use Rattle.odata_syntax.specs.Grammar.{Level, base_level, open_path_level, operator_level, path_level, primary_level, unary_level}
 use Rattle.odata_syntax.specs.Lexeme.{operator_word}
+use Rattle.odata_syntax.specs.declared.node.Quantifier.{Quantifier}
 use Rattle.odata_checked_filter.specs.declared.checked_node.NodeKind.{NodeKind}
 
 -- the tightest level at which it stands without parentheses
@@ -13,6 +14,7 @@ kind_level (NodeKind.Variable level) = open_path_level
 kind_level (NodeKind.Member slot) = open_path_level
 kind_level NodeKind.Count = path_level
 kind_level NodeKind.AnyItem = path_level
+kind_level (NodeKind.Lambda quantifier) = path_level
 kind_level NodeKind.Now = base_level
 kind_level NodeKind.Neg = unary_level
 kind_level NodeKind.Not = unary_level
@@ -30,11 +32,17 @@ first_level NodeKind.InList = primary_level
 first_level NodeKind.InPath = primary_level
 first_level _ = 0
 
+-- a slash, a quantifier and `(`
+abbrev pub quantifier_joint : Quantifier → List ℕ
+quantifier_joint Quantifier.Any = codes "/any("
+quantifier_joint Quantifier.All = codes "/all("
+
 -- what stands behind its first operand, up to the next one, where that name stands beside it
 abbrev pub joint_text : NodeKind → List ℕ → List ℕ
 joint_text (NodeKind.Member slot) beside = 47 ∷ beside
 joint_text NodeKind.Count beside = codes "/$count"
 joint_text NodeKind.AnyItem beside = codes "/any()"
+joint_text (NodeKind.Lambda quantifier) beside = quantifier_joint quantifier ++ (beside ++ 58 ∷ [])
 joint_text (NodeKind.Binary operator) beside = 32 ∷ (operator_word operator ++ 32 ∷ [])
 joint_text NodeKind.Has beside = codes " has "
 joint_text NodeKind.InList beside = codes " in ("
@@ -46,6 +54,7 @@ abbrev pub IsJoining : NodeKind → Type 0
 IsJoining (NodeKind.Member slot) = Unit {0}
 IsJoining NodeKind.Count = Unit {0}
 IsJoining NodeKind.AnyItem = Unit {0}
+IsJoining (NodeKind.Lambda quantifier) = Unit {0}
 IsJoining (NodeKind.Binary operator) = Unit {0}
 IsJoining NodeKind.Has = Unit {0}
 IsJoining NodeKind.InList = Unit {0}

@@ -1,7 +1,8 @@
-use Rattle.std.proofs.Common.{◌≡◌, ◌<◌, ◌≤◌, ◌+◌, ◌-◌, ◌*◌, ℕ, ℤ, [], ◌∷◌, refl, Bool, Option, Some, Result, Ok, SFits, w64, ap, sym, subst, slice_get, length, rules, arith}
+use Rattle.std.proofs.Common.{Err, ◌≡◌, ◌<◌, ◌≤◌, ◌+◌, ◌-◌, ◌*◌, ℕ, ℤ, [], ◌∷◌, refl, Bool, Option, Some, Result, Ok, SFits, w64, ap, sym, subst, slice_get, length, rules, arith}
 use Rattle.edm_values.specs.declared.datum.Datum.{Datum}
 use Rattle.std.specs.Prelude.{◌↔◌, IsTrue}
 use Rattle.std.proofs.lemmas.Int.{to_z-of_z}
+use Rattle.std.proofs.lemmas.Option.{slice_get_read}
 use Rattle.edm_values.specs.PlainVal.{plain_val}
 use Rattle.csdl_schema.specs.SchemaModel.{slots_of}
 use Rattle.odata_functions.specs.Comparison.{ComparesTrue}
@@ -26,19 +27,23 @@ use Rattle.odata_eval.specs.private.DatumView.{reading_at}
 use Rattle.odata_eval.specs.private.Place.{HasCall, HasKind, IsStopOf, NumberStands, PartStands, TruthStands}
 use Rattle.odata_eval.specs.private.WalkClass.{walk_of_kind}
 use Rattle.odata_eval.specs.private.WalkAnswer.{AllAnswered, AnswersDatum, AnswersNumber, AnswersTruth}
-use Rattle.odata_eval.specs.private.SceneModel.{SceneModel}
+use Rattle.odata_eval.specs.private.Frames.{frame_of}
+use Rattle.odata_eval.specs.private.Lambda.{Suits}
+use Rattle.odata_eval.specs.private.SceneModel.{SceneModel, with_frame}
 use Rattle.odata_eval.proofs.walking.Parts.{found_there, part_inside, there_found}
 use Rattle.odata_eval.proofs.walking.CallSteps.{OneName, argument_behind, argument_faults, argument_stands, call_answers, call_applies, first_argument, third_is_last}
 use Rattle.odata_eval.proofs.meaning.LawsBelow.{Promotes}
 use Rattle.odata_eval.proofs.walking.BaseSteps.{any_item_base, base_answers, base_members, count_base}
 use Rattle.odata_eval.proofs.walking.ItemSteps.{item_differs, item_equals, item_faults, items_there, list_begins, may_compare_item, next_item, no_item, stop_further}
+use Rattle.odata_eval.proofs.walking.Lambdas.{body_behind, body_place, body_there, fault_answers, members_suit, null_answers, over_members, truth_answers}
+use Rattle.odata_eval.proofs.walking.MembersAsked.{all_undecided, body_truth, decided_at, each_is, fault_at, none_yet, undecided_at}
 use Rattle.odata_eval.proofs.walking.MemberValues.{flags_are, path_gives, some_compared}
 use Rattle.odata_eval.proofs.walking.Sides.{flags_sides, next_faults, next_further, next_part, next_there, path_sides, sides_answer, some_sides}
 use Rattle.odata_eval.proofs.walking.MemberSteps.{step_answers, step_slot}
 use Rattle.odata_eval.proofs.walking.Compared.{kept_compared, may_compare, may_compare_kept, numbers_compared, truth_compared}
 use Rattle.odata_eval.proofs.walking.KeptValues.{kept_value, value_kept}
 use Rattle.odata_eval.proofs.walking.Readings.{number_values, truth_values}
-use Rattle.odata_eval.proofs.walking.Spines.{StepUp, at_top, below_bottom, bottom_down, class_of_operator, first_faults, first_part, first_step, only_neg, only_not, operator_of_class, part_down, right_further, right_part, right_there, right_typed, step_up, typed_down, typed_part, walks_by}
+use Rattle.odata_eval.proofs.walking.Spines.{StepUp, at_top, below_bottom, bottom_down, class_of_operator, first_faults, logical_stands, first_part, first_step, only_neg, only_not, operator_of_class, part_down, right_further, right_part, right_there, right_typed, step_up, typed_down, typed_part, walks_by}
 use Rattle.odata_eval.proofs.walking.WalkSteps.{TakesBoth, both_faults, calculation_answers, decided_answers, joined_answers, joined_faults, negated_operand, negation_answers, not_answers, numbers_taken, numbers_there, values_taken}
 use Rattle.odata_eval.proofs.walking.WalkValues.{kept_datum, made_value, read_value, value_there}
 use Rattle.odata_eval.proofs.+evaluate.Goals as goal
@@ -690,3 +695,104 @@ collection_walk::listed_at-loop-at-smaller t c =
 
 pub collection_walk::listed_at-returns : goal.collection_walk::listed_at-returns
 collection_walk::listed_at-returns t c = no_item c.args.scene.now c.args.place c.stop_of-own_stop.result c.loop-at.at c.args.left.now c.loop-at.invariant c.loop-at-test.false
+
+-- ---- a lambda operator
+
+pub walk::made_at-lambda_at-requires : goal.walk::made_at-lambda_at-requires
+walk::made_at-lambda_at-requires t c =
+    let first : AnswersDatum c.args.scene.now (c.args.place + 1) (Ok c.in-Ok.first) = subst (λ (r : Result Datum EvalFault). AnswersDatum c.args.scene.now (c.args.place + 1) r) c.in-Ok.is c.requires.first in
+    let here : HasKind c.args.scene.now.list c.args.place (NodeKind.Lambda c.in-Lambda.quantifier) = there_found (λ (f : CheckedNode). f.kind ≡ NodeKind.Lambda c.in-Lambda.quantifier) (slice_get c.args.scene.now.list.nodes c.args.place) c.node.result.now c.node.ensures c.in-Lambda.is in
+    let smaller : 16 * (length c.args.scene.now.list.nodes - c.args.place) + 3 < 16 * (length c.args.scene.now.list.nodes - c.args.place) + 4 = omega arith in
+    search rules
+
+pub lambda_walk::lambda_at-returns-in_default : goal.lambda_walk::lambda_at-returns-in_default
+lambda_walk::lambda_at-returns-in_default t c = null_answers c.trees_have_one_type.ensures c.args.scene.now c.args.place c.args.quantifier c.requires.here c.ends_once.ensures c.args.base c.requires.first c.in_default.not-List
+
+pub lambda_walk::lambda_at-variable_bound-variable-requires : goal.lambda_walk::lambda_at-variable_bound-variable-requires
+lambda_walk::lambda_at-variable_bound-variable-requires t c = over_members c.trees_have_one_type.ensures c.args.scene.now c.args.place c.args.quantifier c.requires.here c.requires.stands
+
+pub lambda_walk::lambda_at-right_of-requires : goal.lambda_walk::lambda_at-right_of-requires
+lambda_walk::lambda_at-right_of-requires t c = body_place c.trees_have_one_type.ensures c.args.scene.now c.args.place c.args.quantifier c.requires.here c.requires.stands
+
+pub lambda_walk::lambda_at-members_at-requires : goal.lambda_walk::lambda_at-members_at-requires
+lambda_walk::lambda_at-members_at-requires t c =
+    let inside : c.args.place < length c.args.scene.now.list.nodes = part_inside c.args.scene.now c.args.place c.requires.stands in
+    let behind : c.args.place < c.right_of.result = body_behind c.trees_have_one_type.ensures c.args.scene.now c.args.place c.args.quantifier c.requires.here c.right_of.result c.right_of.ensures c.requires.stands in
+    let smaller : 16 * (length c.args.scene.now.list.nodes - c.right_of.result) + 13 < 16 * (length c.args.scene.now.list.nodes - c.args.place) + 3 = omega arith in
+    let body = body_there c.trees_have_one_type.ensures c.args.scene.now c.args.place c.args.quantifier c.requires.here c.variable_bound-variable.result c.variable_bound-variable.ensures c.right_of.result c.right_of.ensures c.requires.stands in
+    let suit = members_suit c.trees_have_one_type.ensures c.args.scene.now c.args.place c.args.quantifier c.requires.here c.variable_bound-variable.result c.variable_bound-variable.ensures c.right_of.result c.right_of.ensures c.ends_once.ensures c.in-List.members (subst (λ (d : Datum). AnswersDatum c.args.scene.now (c.args.place + 1) (Ok d)) c.in-List.is c.requires.first) c.requires.stands in
+    search rules
+
+pub lambda_walk::lambda_at-returns-in-Ok : goal.lambda_walk::lambda_at-returns-in-Ok
+lambda_walk::lambda_at-returns-in-Ok t c =
+    made_value c.args.scene.now c.args.place c.datum_of_truth.result (truth_val c.in-Ok.truth) (truth_answers c.trees_have_one_type.ensures c.args.scene.now c.args.place c.args.quantifier c.requires.here c.variable_bound-variable.result c.variable_bound-variable.ensures c.right_of.result c.right_of.ensures c.in-List.members (subst (λ (d : Datum). AnswersDatum c.args.scene.now (c.args.place + 1) (Ok d)) c.in-List.is c.requires.first) c.in-Ok.truth c.in-Ok.ensures) c.datum_of_truth.ensures
+
+pub lambda_walk::lambda_at-returns-in-Err : goal.lambda_walk::lambda_at-returns-in-Err
+lambda_walk::lambda_at-returns-in-Err t c = fault_answers c.trees_have_one_type.ensures c.args.scene.now c.args.place c.args.quantifier c.requires.here c.variable_bound-variable.result c.variable_bound-variable.ensures c.right_of.result c.right_of.ensures c.in-List.members (subst (λ (d : Datum). AnswersDatum c.args.scene.now (c.args.place + 1) (Ok d)) c.in-List.is c.requires.first) c.in-Err.fault c.in-Err.ensures
+
+pub lambda_walk::members_at-loop-at-init : goal.lambda_walk::members_at-loop-at-init
+lambda_walk::members_at-loop-at-init t c = record { left = none_yet c.args.scene.now c.args.place c.args.quantifier c.args.variable.now c.args.members.now }
+
+pub lambda_walk::members_at-with-bound-requires : goal.lambda_walk::members_at-with-bound-requires
+lambda_walk::members_at-with-bound-requires t c =
+    each_is (Suits c.args.scene.now c.args.variable.now) c.args.members.now c.loop-at.at c.index-members-at.result c.requires.suit
+    (slice_get_read c.args.members.now (length c.args.members.now) c.loop-at.at c.index-members-at.result refl c.loop-at-test.true c.index-members-at.is)
+
+pub lambda_walk::members_at-side_at-requires : goal.lambda_walk::members_at-side_at-requires
+lambda_walk::members_at-side_at-requires t c =
+    let bound = c.with-bound.result in
+    let same : bound ≡ with_frame c.args.scene.now (frame_of c.args.variable.now c.index-members-at.result) = c.with-bound.ensures in
+    let stands : TruthStands bound c.args.place = subst (λ (s : SceneModel). TruthStands s c.args.place) (sym same) (body_truth c.args.scene.now c.args.variable.now c.args.place c.index-members-at.result c.requires.body) in
+    let smaller : 16 * (length bound.list.nodes - c.args.place) + 12 < 16 * (length c.args.scene.now.list.nodes - c.args.place) + 13 =
+    subst (λ (s : SceneModel). 16 * (length s.list.nodes - c.args.place) + 12 < 16 * (length c.args.scene.now.list.nodes - c.args.place) + 13) (sym same) (omega arith) in
+    search rules
+
+pub lambda_walk::members_at-returns-then-not-is_undecided : goal.lambda_walk::members_at-returns-then-not-is_undecided
+lambda_walk::members_at-returns-then-not-is_undecided t c =
+    decided_at c.args.scene.now c.args.place c.args.quantifier c.args.variable.now c.args.members.now c.loop-at.at c.loop-at.invariant.left c.loop-at-test.true c.index-members-at.result (sym c.index-members-at.is) c.in-Ok.truth c.undecided.result (subst (λ (s : SceneModel). AnswersTruth s c.args.place (Ok c.in-Ok.truth)) c.with-bound.ensures c.in-Ok.ensures) c.undecided.ensures
+    (λ passes. let e = c.is_undecided.ensures.1 passes in cc)
+
+pub lambda_walk::members_at-loop-at-preserved : goal.lambda_walk::members_at-loop-at-preserved
+lambda_walk::members_at-loop-at-preserved t c = record {
+  left = undecided_at c.args.scene.now c.args.place c.args.quantifier c.args.variable.now c.args.members.now c.loop-at.at c.loop-at.invariant.left c.loop-at-test.true c.index-members-at.result (sym c.index-members-at.is) c.in-Ok.truth (subst (λ (s : SceneModel). AnswersTruth s c.args.place (Ok c.in-Ok.truth)) c.with-bound.ensures c.in-Ok.ensures)
+      (c.is_undecided.ensures.0 c.if-not-is_undecided.false);
+}
+
+pub lambda_walk::members_at-returns-in-Err : goal.lambda_walk::members_at-returns-in-Err
+lambda_walk::members_at-returns-in-Err t c =
+    fault_at c.args.scene.now c.args.place c.args.quantifier c.args.variable.now c.args.members.now c.loop-at.at c.loop-at.invariant.left c.loop-at-test.true c.index-members-at.result (sym c.index-members-at.is) c.in-Err.fault (subst (λ (s : SceneModel). AnswersTruth s c.args.place (Err c.in-Err.fault)) c.with-bound.ensures c.in-Err.ensures)
+
+pub lambda_walk::members_at-returns : goal.lambda_walk::members_at-returns
+lambda_walk::members_at-returns t c = all_undecided c.args.scene.now c.args.place c.args.quantifier c.args.variable.now c.args.members.now c.loop-at.at c.loop-at.invariant.left c.loop-at-test.false c.undecided-2.result c.undecided-2.ensures
+
+-- ---- what search does not find any more with so many kinds
+
+pub number_walk::number_chain_at-class_at-requires : goal.number_walk::number_chain_at-class_at-requires
+number_walk::number_chain_at-class_at-requires t c = part_inside c.args.scene.now (c.args.place + 1) (first_part c.args.scene.now c.args.place WalkClass.Numeric (λ leaf. cc) c.requires.numeric c.requires.stands)
+
+pub number_walk::number_chain_at-overflow_add-place-in-Numeric : goal.number_walk::number_chain_at-overflow_add-place-in-Numeric
+number_walk::number_chain_at-overflow_add-place-in-Numeric t c =
+    let within : c.args.place + 1 < length c.args.scene.now.list.nodes = part_inside c.args.scene.now (c.args.place + 1) (first_part c.args.scene.now c.args.place WalkClass.Numeric (λ leaf. cc) c.requires.numeric c.requires.stands) in
+    let same = c.nodes-nodes.ensures in
+    search rules
+
+pub number_walk::number_chain_at-number_on_leaf_at-first-requires : goal.number_walk::number_chain_at-number_on_leaf_at-first-requires
+number_walk::number_chain_at-number_on_leaf_at-first-requires t c =
+    let inside : c.args.place < length c.args.scene.now.list.nodes = part_inside c.args.scene.now c.args.place c.requires.stands in
+    let smaller : 16 * (length c.args.scene.now.list.nodes - (c.args.place + 1)) + 9 < 16 * (length c.args.scene.now.list.nodes - c.args.place) + 10 = omega arith in
+    let stands : PartStands c.args.scene.now (c.args.place + 1) = first_part c.args.scene.now c.args.place WalkClass.Numeric (λ leaf. cc) c.requires.numeric c.requires.stands in
+    search rules
+
+pub number_walk::number_on_leaf_at-part_at-requires : goal.number_walk::number_on_leaf_at-part_at-requires
+number_walk::number_on_leaf_at-part_at-requires t c = record { stands = first_part c.args.scene.now c.args.place WalkClass.Numeric (λ leaf. cc) c.requires.numeric c.requires.stands }
+
+pub walk::compared_at-part_at-requires : goal.walk::compared_at-part_at-requires
+walk::compared_at-part_at-requires t c =
+    let there = operator_of_class c.args.scene.now.list c.args.place (OperatorClass.Comparison c.args.comparison) c.requires.comparison in
+    record { stands = right_part c.args.scene.now c.args.place there.operator there.here c.requires.stands c.right_of-right_place.result c.right_of-right_place.ensures }
+
+pub walk::operand_at-truth_at-requires : goal.walk::operand_at-truth_at-requires
+walk::operand_at-truth_at-requires t c =
+    let stands : TruthStands c.args.scene.now c.args.place = logical_stands c.args.scene.now c.args.place c.in-Logical.ensures c.requires.stands in
+    let smaller : 16 * (length c.args.scene.now.list.nodes - c.args.place) + 11 < 16 * (length c.args.scene.now.list.nodes - c.args.place) + 12 = omega arith in
+    search rules

@@ -1,6 +1,7 @@
 use Rattle.std.proofs.Common.{◌≤◌, ◌+◌, ◌-◌, ◌*◌, length}
 use Rattle.odata_eval.specs.private.WalkAnswer.{AnswersDatum, AnswersNumber, AnswersTruth}
 use Rattle.odata_eval.proofs.walking.ItemSteps.{ListLeft}
+use Rattle.odata_eval.proofs.walking.MembersAsked.{MembersLeft}
 use Rattle.odata_eval.proofs.+evaluate.Given as goal
 
 -- what is left of the list counts first, and in one place the order of the calls
@@ -79,6 +80,12 @@ decreases-collection_walk::listed_at l = 16 * (length l.scene.now.list.nodes - l
 abbrev pub decreases-walk::connected_at : goal.decreases-walk::connected_at
 decreases-walk::connected_at l = 16 * (length l.scene.now.list.nodes - l.place) + 3
 
+abbrev pub decreases-lambda_walk::lambda_at : goal.decreases-lambda_walk::lambda_at
+decreases-lambda_walk::lambda_at l = 16 * (length l.scene.now.list.nodes - l.place) + 3
+
+abbrev pub decreases-lambda_walk::members_at : goal.decreases-lambda_walk::members_at
+decreases-lambda_walk::members_at l = 16 * (length l.scene.now.list.nodes - l.place) + 13
+
 abbrev pub invariant-walk::truth_at-loop-at : goal.invariant-walk::truth_at-loop-at
 invariant-walk::truth_at-loop-at l = record {
   above : l.place ≤ l.at;
@@ -115,3 +122,9 @@ invariant-collection_walk::listed_at-loop-at l = ListLeft l.scene l.place l.own_
 
 abbrev pub decreases-collection_walk::listed_at-loop-at : goal.decreases-collection_walk::listed_at-loop-at
 decreases-collection_walk::listed_at-loop-at l = l.own_stop - l.at
+
+-- the members before the place are all undecided
+abbrev pub invariant-lambda_walk::members_at-loop-at : goal.invariant-lambda_walk::members_at-loop-at
+invariant-lambda_walk::members_at-loop-at l = record {
+  left : MembersLeft l.scene l.place l.quantifier l.variable l.members l.at;
+}

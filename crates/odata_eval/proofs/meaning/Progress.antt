@@ -15,7 +15,7 @@ use Rattle.odata_syntax.specs.Spans.{list_of_trees}
 use Rattle.odata_syntax.specs.Tree.{Tree, node, literal, it, name, count, negation, logical_not, binary, in_list, in_path, call, any_item, lambda, Trees, no_trees, more_trees}
 use Rattle.odata_syntax.specs.Tree as tree
 use Rattle.odata_syntax.specs.declared.node.LiteralKind.{LiteralKind}
-use Rattle.csdl_schema.specs.ExprType.{ExprType, single, primitive, enumeration, structured}
+use Rattle.csdl_schema.specs.ExprType.{ExprType, single, collection, primitive, enumeration, structured}
 use Rattle.csdl_schema.specs.SchemaModel.{Slots, PropertyModel, declared}
 use Rattle.edm_entities.specs.HasType.{HasType, HasPropertyType}
 use Rattle.odata_functions.specs.Arithmetic.{ArithmeticGives, ComesWithin}
@@ -36,9 +36,9 @@ use Rattle.odata_eval.specs.CallGives.{CallGives}
 use Rattle.odata_eval.specs.CollectionGives.{AnyItemGives, CountGives}
 use Rattle.odata_eval.specs.CompareGives.{CompareGives}
 use Rattle.odata_eval.specs.EndsOnce.{IsOutcomeOf}
-use Rattle.odata_eval.specs.Environment.{Environment, variable_value, scope_of, IsFitting}
+use Rattle.odata_eval.specs.Environment.{Environment, bound_over, variable_value, scope_of, IsFitting}
 use Rattle.odata_eval.specs.HasGives.{HasGives}
-use Rattle.odata_eval.specs.LambdaGives.{InGives, ItemsGive}
+use Rattle.odata_eval.specs.LambdaGives.{InGives, ItemsGive, LambdaGives}
 use Rattle.odata_eval.specs.LeftFirst.{After}
 use Rattle.odata_eval.specs.LiteralGives.{LiteralGives}
 use Rattle.odata_eval.specs.Means.{ArgumentsMean, ItemMeans, Means}
@@ -52,7 +52,7 @@ use Rattle.odata_eval.proofs.meaning.AllTrees.{AllTyped}
 use Rattle.odata_eval.proofs.meaning.CallEnds.{HaveTypes, call_ends}
 use Rattle.odata_eval.proofs.meaning.CompareEnds.{compare_ends}
 use Rattle.odata_eval.proofs.meaning.Ends.{Ends, after_ends, typed_value}
-use Rattle.odata_eval.proofs.meaning.FormsEnd.{any_item_ends, count_ends, has_ends, in_list_ends, in_path_ends}
+use Rattle.odata_eval.proofs.meaning.FormsEnd.{any_item_ends, count_ends, has_ends, in_list_ends, in_path_ends, lambda_ends}
 use Rattle.odata_eval.proofs.meaning.Kinds.{IsTruth, truth_of}
 use Rattle.odata_eval.proofs.meaning.LawsBelow.{Promotes, SomeEach}
 use Rattle.odata_eval.proofs.meaning.NumberComes.{number_typed}
@@ -311,7 +311,13 @@ module _ (some : SomeEach) (promotes : Promotes) (slots : Slots) (root : List �
     tree_ends environment fitting (node start stop (any_item base)) type typed =
         after_ends slots typed.operand type (Means slots root now entity environment base) AnyItemGives
         (tree_ends environment fitting base typed.operand typed.operand_typed) (λ v is. any_item_ends slots typed.operand type v typed.makes is)
-    tree_ends environment fitting (node start stop (lambda quantifier base variable body)) type typed = absurd typed
+    tree_ends environment fitting (node start stop (lambda quantifier base variable body)) type typed =
+        let BaseTyped : ExprType → Type 0 = Typed slots root (scope_of environment) base in
+        let Body : ExprType → Val → Outcome → Type 0 = λ t v. Means slots root now entity (bound_over environment variable t v) body in
+        after_ends slots (collection typed.member_type) type (Means slots root now entity environment base) (LambdaGives quantifier BaseTyped Body)
+        (tree_ends environment fitting base (collection typed.member_type) typed.binds.over)
+        (λ v is. lambda_ends slots quantifier BaseTyped Body typed.member_type typed.body type v typed.binds.over typed.truth typed.makes is
+        (λ w of_w. tree_ends (bound_over environment variable (single typed.member_type) w) (of_w, fitting) body typed.body typed.body_typed))
 
     -- each of trees one behind another
     trees_end : (environment : Environment) → IsFitting slots environment → (trees : Trees) (types : List ExprType) → AreTyped slots root (scope_of environment) trees types

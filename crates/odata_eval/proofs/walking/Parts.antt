@@ -3,7 +3,7 @@ use Rattle.std.proofs.Common.{◌≡◌, ℕ, ◌<◌, List, Option, Some, None,
 use Rattle.std.specs.Prelude.{IsSomeAnd, slice_get}
 use Rattle.std.proofs.lemmas.Option.{slice_get_within}
 use Rattle.edm_values.specs.declared.value.Value.{Value}
-use Rattle.odata_syntax.specs.Tree.{Shape, Tree, Trees, any_item, binary, call, count, has, in_list, in_path, it, literal, logical_not, member, name, negation, node}
+use Rattle.odata_syntax.specs.Tree.{Shape, Tree, Trees, any_item, binary, call, count, has, in_list, in_path, it, lambda, literal, logical_not, member, name, negation, node}
 use Rattle.odata_syntax.specs.declared.node.LiteralKind.{LiteralKind}
 use Rattle.csdl_schema.specs.SchemaModel.{Slots, slots_of, type_name_at}
 use Rattle.odata_signatures.specs.Functions.{IsNamed}
@@ -65,6 +65,7 @@ CasesOf NodeKind.InPath P = (left path : Tree) → P (in_path left path)
 CasesOf (NodeKind.Call function) P = (asked : List ℕ) (arguments : Trees) → IsNamed function asked → ¬ (function ≡ Function.Now) → P (call asked arguments)
 CasesOf NodeKind.Now P = (asked : List ℕ) (arguments : Trees) → IsNamed Function.Now asked → P (call asked arguments)
 CasesOf NodeKind.AnyItem P = (base : Tree) → P (any_item base)
+CasesOf (NodeKind.Lambda quantifier) P = (base : Tree) (asked : List ℕ) (body : Tree) → P (lambda quantifier base asked body)
 CasesOf (NodeKind.Binary operator) P = (left right : Tree) → P (binary operator left right)
 
 by_case : (values : List Value) (slots : Slots) (root : List ℕ) (scope : Scope) (P : Shape → Type 0) (shape : Shape) (kind : NodeKind)
@@ -82,6 +83,7 @@ by_case values slots root scope P (has left right) kind is cases = subst (λ (k 
 by_case values slots root scope P (in_list left items) kind is cases = subst (λ (k : NodeKind). CasesOf k P) is cases left items
 by_case values slots root scope P (in_path left path) kind is cases = subst (λ (k : NodeKind). CasesOf k P) is cases left path
 by_case values slots root scope P (any_item base) kind is cases = subst (λ (k : NodeKind). CasesOf k P) is cases base
+by_case values slots root scope P (lambda quantifier base asked body) kind is cases = subst (λ (k : NodeKind). CasesOf k P) is cases base asked body
 by_case values slots root scope P (call asked arguments) (NodeKind.Call function) is cases = cases asked arguments is.0 is.1
 by_case values slots root scope P (call asked arguments) NodeKind.Now is cases = cases asked arguments is
 by_case values slots root scope P _ _ is cases = absurd is

@@ -4,9 +4,9 @@ use Rattle.std.specs.Prelude.{Contains, IsSomeAnd}
 use Rattle.std.proofs.lemmas.Bool.{cases_lt}
 use Rattle.edm_values.specs.Val.{Val}
 use Rattle.odata_syntax.specs.Spans.{children_of, in_child, list_of_trees}
-use Rattle.odata_syntax.specs.Tree.{Tree, Trees, any_item, binary, call, count, has, in_list, in_path, it, literal, logical_not, member, more_trees, name, negation, no_trees, node, shape_of}
+use Rattle.odata_syntax.specs.Tree.{Tree, Trees, any_item, binary, call, count, has, in_list, in_path, it, lambda, literal, logical_not, member, more_trees, name, negation, no_trees, node, shape_of}
 use Rattle.odata_syntax.specs.declared.node.BinaryOperator.{BinaryOperator}
-use Rattle.csdl_schema.specs.ExprType.{ExprType}
+use Rattle.csdl_schema.specs.ExprType.{ExprType, collection, single}
 use Rattle.odata_signatures.specs.declared.operator_class.OperatorClass.{OperatorClass}
 use Rattle.odata_signatures.specs.ExprTypes.{IsBooleanOrNull}
 use Rattle.odata_signatures.specs.OperatorClass.{class_of}
@@ -29,11 +29,11 @@ use Rattle.odata_eval.specs.private.WalkClass.{walk_of_kind, walk_of_operator}
 use Rattle.odata_signatures.specs.Functions.{IsNamed, row_of}
 use Rattle.odata_signatures.specs.declared.function.Function.{Function}
 use Rattle.odata_signatures.specs.CallTyped.{CallTyped}
-use Rattle.odata_checked_filter.specs.Stands.{AllStand}
-use Rattle.odata_expression_types.specs.Typed.{AreTyped}
+use Rattle.odata_checked_filter.specs.Stands.{AllStand, Stands}
+use Rattle.odata_expression_types.specs.Typed.{AreTyped, Scope, with_variable}
 use Rattle.odata_eval.specs.Means.{ArgumentsMean}
 use Rattle.odata_eval.specs.CallGives.{CallGives}
-use Rattle.csdl_schema.specs.SchemaModel.{slots_of, type_name_at}
+use Rattle.csdl_schema.specs.SchemaModel.{SchemaModel, slots_of, type_name_at}
 use Rattle.edm_entities.specs.Row.{value_of}
 use Rattle.odata_eval.proofs.walking.Parts.{by_kind, found_there, goes_there, some_there, tells_there, there_found}
 
@@ -114,6 +114,11 @@ operands_allowed (OperatorClass.Connective connective) left right type typed = (
 operands_allowed (OperatorClass.Comparison comparison) left right type typed = (tt, tt)
 operands_allowed (OperatorClass.Arithmetic arithmetic) left right type typed = ((typed.left_number, typed.left_is), (typed.right_number, typed.right_is))
 
+-- a connective makes a truth value
+connected_type : (class : OperatorClass) (left right type : ExprType) → walk_of_operator class ≡ WalkClass.Logical → ClassTyped class left right type → IsBooleanOrNull type
+connected_type (OperatorClass.Connective connective) left right type logical typed = inl typed.2
+connected_type _ left right type logical typed = absurd (cc)
+
 -- the first operand of a node: its faults are those of the node
 pub record FirstOperand (scene : SceneModel) (place : ℕ) (class : WalkClass) (tree : Tree) : Type 0 where
   pub stop : ℕ
@@ -178,6 +183,52 @@ TypedAll scene = AreTyped (slots_of scene.row.schema) (type_name_at scene.row.sc
 
 abbrev pub MeanAll : SceneModel → Trees → (List Val → Outcome → Type 0) → Outcome → Type 0
 MeanAll scene = ArgumentsMean (slots_of scene.row.schema) (type_name_at scene.row.schema scene.row.type_id) scene.moment (value_of scene.row) (environment_of scene)
+
+-- what stands somewhere stops behind that
+module _ (schema : SchemaModel) (n : ℕ) (list : FlatTree) where
+  mutual
+    pub further_in : (scope : Scope) (i j : ℕ) (tree : Tree) → Stands schema n scope list i j tree → i < j
+    further_in scope i j (node from to (literal kind spelling)) stands = let e : i + 1 ≡ j = stands.children in omega arith
+    further_in scope i j (node from to it) stands = let e : i + 1 ≡ j = stands.children in omega arith
+    further_in scope i j (node from to (name asked)) stands = let e : i + 1 ≡ j = stands.children in omega arith
+    further_in scope i j (node from to (member base asked)) stands = let a : i + 1 < j = further_in scope (i + 1) j base stands.children in omega arith
+    further_in scope i j (node from to (count base)) stands = let a : i + 1 < j = further_in scope (i + 1) j base stands.children in omega arith
+    further_in scope i j (node from to (any_item base)) stands = let a : i + 1 < j = further_in scope (i + 1) j base stands.children in omega arith
+    further_in scope i j (node from to (negation operand)) stands = let a : i + 1 < j = further_in scope (i + 1) j operand stands.children in omega arith
+    further_in scope i j (node from to (logical_not operand)) stands = let a : i + 1 < j = further_in scope (i + 1) j operand stands.children in omega arith
+    further_in scope i j (node from to (binary operator left right)) stands =
+        let m = stands.children.middle in
+        let a : i + 1 < m = further_in scope (i + 1) m left stands.children.left in
+        let b : m < j = further_in scope m j right stands.children.right in
+        omega arith
+    further_in scope i j (node from to (has left right)) stands =
+        let m = stands.children.middle in
+        let a : i + 1 < m = further_in scope (i + 1) m left stands.children.left in
+        let b : m < j = further_in scope m j right stands.children.right in
+        omega arith
+    further_in scope i j (node from to (in_path left path)) stands =
+        let m = stands.children.middle in
+        let a : i + 1 < m = further_in scope (i + 1) m left stands.children.left in
+        let b : m < j = further_in scope m j path stands.children.right in
+        omega arith
+    further_in scope i j (node from to (in_list left items)) stands =
+        let m = stands.children.middle in
+        let a : i + 1 < m = further_in scope (i + 1) m left stands.children.left in
+        let b : m ≤ j = all_further_in scope m j items stands.children.right in
+        omega arith
+    further_in scope i j (node from to (call asked arguments)) stands = let a : i + 1 ≤ j = all_further_in scope (i + 1) j arguments stands.children in omega arith
+    further_in scope i j (node from to (lambda quantifier base asked body)) stands =
+        let m = stands.children.middle in
+        let a : i + 1 < m = further_in scope (i + 1) m base stands.children.left in
+        let b : m < j = further_in (with_variable scope asked (single stands.children.right.member_type)) m j body stands.children.right.body in
+        omega arith
+
+    pub all_further_in : (scope : Scope) (i j : ℕ) (trees : Trees) → AllStand schema n scope list i j trees → i ≤ j
+    all_further_in scope i j no_trees stand = let same : i ≡ j = stand in omega arith
+    all_further_in scope i j (more_trees tree more) stand =
+        let a : i < stand.middle = further_in scope i stand.middle tree stand.left in
+        let b : stand.middle ≤ j = all_further_in scope stand.middle j more stand.right in
+        omega arith
 
 module _ (scene : SceneModel) where
   no_empty_call : (asked : List ℕ) (types : List ExprType) (type : ExprType) → ¬ (IsNamed Function.Now asked) → TypedAll scene no_trees types → CallTyped asked types type → ⊥
@@ -260,6 +311,16 @@ module _ (scene : SceneModel) where
         typed = λ type typed. (typed.left, (typed.left_typed, tt));
         faults = λ fault. fault_stays fault (TakesMemory left) (TakesMemory (node from to (in_list left items))) (MeansHere scene left) _ (child_takes (node from to (in_list left items)) left (first_child left (list_of_trees items)));
       })
+  first_of_kind place (NodeKind.Lambda quantifier) inner here = by_kind scene place (NodeKind.Lambda quantifier) here (λ stop tree. FirstOperand scene place WalkClass.Eager tree)
+      (λ base asked body stop from to stands.
+      let whole = node from to (lambda quantifier base asked body) in
+      record {
+        stop = stands.children.middle;
+        operand = base;
+        stands = stands.children.left;
+        typed = λ type typed. (collection typed.member_type, (typed.binds.over, tt));
+        faults = λ fault. fault_stays fault (TakesMemory base) (TakesMemory whole) (MeansHere scene base) _ (child_takes whole base (first_child base (body ∷ [])));
+      })
   first_of_kind place NodeKind.Neg inner here = by_kind scene place NodeKind.Neg here (λ stop tree. FirstOperand scene place WalkClass.Numeric tree)
       (λ operand stop from to stands. record {
         stop = stop;
@@ -319,6 +380,32 @@ module _ (scene : SceneModel) where
       let of_it = it.typed typed.0 typed.1 in
       record { stop = it.stop; tree = it.operand; stands = it.stands; type_of = of_it.0; typed = of_it.1.0; allowed = of_it.1.1 }
 
+  -- a node of truth values is of type Boolean
+  truth_of_kind : (place : ℕ) (kind : NodeKind) → walk_of_kind kind ≡ WalkClass.Logical → HasKind scene.list place kind
+      → (stop : ℕ) (tree : Tree) → StandsHere scene place stop tree → (type : ExprType) → TypedHere scene tree type → IsBooleanOrNull type
+  truth_of_kind place NodeKind.Not logical here =
+      by_kind scene place NodeKind.Not here (λ stop tree. (type : ExprType) → TypedHere scene tree type → IsBooleanOrNull type)
+      (λ operand stop from to stands type typed. inl typed.makes.1)
+  truth_of_kind place (NodeKind.Binary operator) logical here =
+      by_kind scene place (NodeKind.Binary operator) here (λ stop tree. (type : ExprType) → TypedHere scene tree type → IsBooleanOrNull type)
+      (λ left right stop from to stands type typed. connected_type (class_of operator) typed.left typed.right type logical typed.makes)
+  truth_of_kind place _ logical here = absurd (cc)
+
+  pub logical_stands : (place : ℕ) → IsClassAt scene.list WalkClass.Logical place → PartStands scene place → TypedStands scene place IsBooleanOrNull
+  logical_stands place is part =
+      let found = some_there (λ (f : CheckedNode). walk_of_kind f.kind ≡ WalkClass.Logical) (slice_get scene.list.nodes place) is in
+      let typed = has_type place part.stop part.tree part.stands in
+      record {
+        stop = part.stop;
+        tree = part.tree;
+        stands = part.stands;
+        type_of = typed.0;
+        typed = typed.1;
+        allowed = truth_of_kind place found.0.kind found.1.1
+            (there_found (λ (f : CheckedNode). f.kind ≡ found.0.kind) (slice_get scene.list.nodes place) found.0 found.1.0 refl)
+            part.stop part.tree part.stands typed.0 typed.1;
+      }
+
   pub first_part : (place : ℕ) (class : WalkClass) → ¬ (class ≡ WalkClass.Leaf) → IsClassAt scene.list class place → PartStands scene place → PartStands scene (place + 1)
   first_part place class inner is part = typed_part scene (place + 1) (AllowedBy class) (first_step place class inner is part)
 
@@ -362,45 +449,11 @@ module _ (scene : SceneModel) where
         first = subst Answers e answers;
       }
 
-  mutual
-    pub further : (i j : ℕ) (tree : Tree) → StandsHere scene i j tree → i < j
-    further i j (node from to (literal kind spelling)) stands = let e : i + 1 ≡ j = stands.children in omega arith
-    further i j (node from to it) stands = let e : i + 1 ≡ j = stands.children in omega arith
-    further i j (node from to (name asked)) stands = let e : i + 1 ≡ j = stands.children in omega arith
-    further i j (node from to (member base asked)) stands = let a : i + 1 < j = further (i + 1) j base stands.children in omega arith
-    further i j (node from to (count base)) stands = let a : i + 1 < j = further (i + 1) j base stands.children in omega arith
-    further i j (node from to (any_item base)) stands = let a : i + 1 < j = further (i + 1) j base stands.children in omega arith
-    further i j (node from to (negation operand)) stands = let a : i + 1 < j = further (i + 1) j operand stands.children in omega arith
-    further i j (node from to (logical_not operand)) stands = let a : i + 1 < j = further (i + 1) j operand stands.children in omega arith
-    further i j (node from to (binary operator left right)) stands =
-        let m = stands.children.middle in
-        let a : i + 1 < m = further (i + 1) m left stands.children.left in
-        let b : m < j = further m j right stands.children.right in
-        omega arith
-    further i j (node from to (has left right)) stands =
-        let m = stands.children.middle in
-        let a : i + 1 < m = further (i + 1) m left stands.children.left in
-        let b : m < j = further m j right stands.children.right in
-        omega arith
-    further i j (node from to (in_path left path)) stands =
-        let m = stands.children.middle in
-        let a : i + 1 < m = further (i + 1) m left stands.children.left in
-        let b : m < j = further m j path stands.children.right in
-        omega arith
-    further i j (node from to (in_list left items)) stands =
-        let m = stands.children.middle in
-        let a : i + 1 < m = further (i + 1) m left stands.children.left in
-        let b : m ≤ j = all_further m j items stands.children.right in
-        omega arith
-    further i j (node from to (call asked arguments)) stands = let a : i + 1 ≤ j = all_further (i + 1) j arguments stands.children in omega arith
-    further i j (node from to _) stands = absurd stands.children
+  pub further : (i j : ℕ) (tree : Tree) → StandsHere scene i j tree → i < j
+  further = further_in scene.row.schema scene.row.type_id scene.list (scope_of (environment_of scene))
 
-    pub all_further : (i j : ℕ) (trees : Trees) → StandsAll scene i j trees → i ≤ j
-    all_further i j no_trees stand = let same : i ≡ j = stand in omega arith
-    all_further i j (more_trees tree more) stand =
-        let a : i < stand.middle = further i stand.middle tree stand.left in
-        let b : stand.middle ≤ j = all_further stand.middle j more stand.right in
-        omega arith
+  pub all_further : (i j : ℕ) (trees : Trees) → StandsAll scene i j trees → i ≤ j
+  all_further = all_further_in scene.row.schema scene.row.type_id scene.list (scope_of (environment_of scene))
 
   -- where a node says that it stops
   pub stops_there : (i j right : ℕ) (tree : Tree) → StandsHere scene i j tree

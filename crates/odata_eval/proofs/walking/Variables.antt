@@ -14,7 +14,7 @@ use Rattle.odata_eval.specs.NameGives.{FoundGives}
 use Rattle.odata_eval.specs.Outcome.{gives}
 use Rattle.odata_eval.specs.declared.frames.Frames.{Frames, Bound, Empty, the_lemmas}
 use Rattle.odata_eval.specs.declared.frames.RangeVariable.{RangeVariable}
-use Rattle.odata_eval.specs.private.Frames.{StandsAtLevel, VariableHolds, frame_of, frames_in, names_of}
+use Rattle.odata_eval.specs.private.Frames.{Frame, StandsAtLevel, VariableHolds, bound_of, environment_in, frame_of, frames_in, names_of}
 
 pub frames_in-Empty : frames_in Empty ≡ []
 frames_in-Empty = search (rules, the_lemmas)
@@ -83,3 +83,12 @@ module _ (slots : Slots) (environment : Environment) (bound : BoundVariable) (le
               | false ↦ λ there. stands.holds asked there
             ] named;
       }
+
+-- the only variable is the innermost
+pub only_variable : (schema : SchemaModel) (frames : List Frame) (frame : Frame) (level : ℕ) → frames ≡ frame ∷ [] → level < length (names_of (environment_in schema frames))
+    → StandsAtLevel (slots_of schema) (environment_in schema frames) level frame.value
+only_variable schema frames frame level is within =
+    let below : level < 1 = subst (λ (fs : List Frame). level < length (names_of (environment_in schema fs))) is within in
+    let first : level ≡ 0 = omega arith in
+    subst (λ (fs : List Frame). StandsAtLevel (slots_of schema) (environment_in schema fs) level frame.value) (sym is)
+    (at_innermost (slots_of schema) [] (bound_of schema frame) level frame.value first refl)

@@ -1,5 +1,5 @@
 -- For private clauses: what a walk of a filter's list goes by.
-use Rattle.std.specs.Prelude.{◌≡◌, List, Vec}
+use Rattle.std.specs.Prelude.{◌≡◌, List, ◌∷◌, Vec}
 use Rattle.std.specs.declared.alloc.Global.{Global}
 use Rattle.edm_values.specs.MomentParts.{MomentParts}
 use Rattle.edm_values.specs.declared.value.Value.{Value, Moment, Record}
@@ -19,6 +19,10 @@ pub record SceneModel : Type 0 where
 
 abbrev pub scene_in : Row → MomentParts → FlatTree → List Frame → SceneModel
 scene_in row moment list frames = record { row = row; moment = moment; list = list; frames = frames }
+
+-- the scene with a variable more, the innermost
+abbrev pub with_frame : SceneModel → Frame → SceneModel
+with_frame scene frame = scene_in scene.row scene.moment scene.list (frame ∷ scene.frames)
 
 -- the variables with their values
 abbrev pub environment_of : SceneModel → Environment

@@ -13,8 +13,8 @@ walk_of_operator (OperatorClass.Connective connective) = WalkClass.Logical
 walk_of_operator (OperatorClass.Comparison comparison) = WalkClass.Eager
 walk_of_operator (OperatorClass.Arithmetic arithmetic) = WalkClass.Numeric
 
--- `not` takes a truth value, `-` a number, a step a record, `$count` and `any()` a collection, `has` and `in` the values
--- of both sides, a call those of all arguments; the others have no operand
+-- `not` takes a truth value, `-` a number, a step a record, `$count`, `any()`, `any` and `all` a collection, `has` and
+-- `in` the values of both sides, a call those of all arguments; the others have no operand
 abbrev pub walk_of_kind : NodeKind → WalkClass
 walk_of_kind (NodeKind.Literal kind value) = WalkClass.Leaf
 walk_of_kind NodeKind.It = WalkClass.Leaf
@@ -29,6 +29,7 @@ walk_of_kind NodeKind.InList = WalkClass.Eager
 walk_of_kind NodeKind.InPath = WalkClass.Eager
 walk_of_kind (NodeKind.Call function) = WalkClass.Eager
 walk_of_kind NodeKind.AnyItem = WalkClass.Eager
+walk_of_kind (NodeKind.Lambda quantifier) = WalkClass.Eager
 walk_of_kind NodeKind.Now = WalkClass.Leaf
 walk_of_kind (NodeKind.Binary operator) = walk_of_operator (class_of operator)
 

@@ -1,11 +1,11 @@
 -- The types of a tree ask for no places.
 use Rattle.std.proofs.Common.{ℕ, List, [], ◌∷◌}
 use Rattle.odata_syntax.specs.NormalForm.{bare, bare_trees}
-use Rattle.odata_syntax.specs.Tree.{Tree, Trees, any_item, binary, call, count, has, in_list, in_path, it, literal, logical_not, member, more_trees, name, negation, no_trees, node}
+use Rattle.odata_syntax.specs.Tree.{Tree, Trees, any_item, binary, call, count, has, in_list, in_path, it, lambda, literal, logical_not, member, more_trees, name, negation, no_trees, node}
 use Rattle.csdl_schema.specs.ExprType.{ExprType}
 use Rattle.csdl_schema.specs.SchemaModel.{Slots}
 use Rattle.odata_expression_types.specs.Typed.{AreTyped, Scope, Typed}
-use Rattle.odata_expression_types.proofs.types.Carried.{arguments_carried, items_carried, operand_carried, operands_carried}
+use Rattle.odata_expression_types.proofs.types.Carried.{arguments_carried, items_carried, lambda_carried, operand_carried, operands_carried}
 
 mutual
   pub bare_to : (slots : Slots) (root : List ℕ) (scope : Scope) (tree : Tree) (type : ExprType) → Typed slots root scope tree type → Typed slots root scope (bare tree) type
@@ -26,7 +26,8 @@ mutual
       operands_carried (bare_to slots root scope left) (bare_to slots root scope path) typed
   bare_to slots root scope (node start stop (call asked arguments)) type typed = arguments_carried (all_bare_to slots root scope arguments) typed
   bare_to slots root scope (node start stop (any_item base)) type typed = operand_carried (bare_to slots root scope base) typed
-  bare_to slots root scope (node start stop _) type typed = absurd typed
+  bare_to slots root scope (node start stop (lambda quantifier base variable body)) type typed =
+      lambda_carried (bare_to slots root scope base) (λ at. bare_to slots root at body) typed
 
   all_bare_to : (slots : Slots) (root : List ℕ) (scope : Scope) (trees : Trees) (types : List ExprType) → AreTyped slots root scope trees types → AreTyped slots root scope (bare_trees trees) types
   all_bare_to slots root scope no_trees types typed = typed
@@ -53,7 +54,8 @@ mutual
       operands_carried (bare_from slots root scope left) (bare_from slots root scope path) typed
   bare_from slots root scope (node start stop (call asked arguments)) type typed = arguments_carried (all_bare_from slots root scope arguments) typed
   bare_from slots root scope (node start stop (any_item base)) type typed = operand_carried (bare_from slots root scope base) typed
-  bare_from slots root scope (node start stop _) type typed = absurd typed
+  bare_from slots root scope (node start stop (lambda quantifier base variable body)) type typed =
+      lambda_carried (bare_from slots root scope base) (λ at. bare_from slots root at body) typed
 
   all_bare_from : (slots : Slots) (root : List ℕ) (scope : Scope) (trees : Trees) (types : List ExprType) → AreTyped slots root scope (bare_trees trees) types → AreTyped slots root scope trees types
   all_bare_from slots root scope no_trees types typed = typed

@@ -5,7 +5,7 @@ use Rattle.odata_syntax.specs.Tree.{Shape, Tree, Trees, any_item, binary, call, 
 use Rattle.csdl_schema.specs.ExprType.{ExprType}
 use Rattle.csdl_schema.specs.SchemaModel.{Slots}
 use Rattle.odata_expression_types.specs.Typed.{AreTyped, Scope, Typed}
-use Rattle.odata_expression_types.proofs.types.Carried.{arguments_carried, items_carried, operand_carried, operands_carried}
+use Rattle.odata_expression_types.proofs.types.Carried.{arguments_carried, items_carried, lambda_carried, operand_carried, operands_carried}
 use Rattle.odata_expression_types.proofs.printed.Literals.{LiteralFacts, alike, typed_from, typed_to}
 
 -- what the normal form is, by its shape
@@ -54,7 +54,9 @@ mutual
   types_to facts slots root scope (node start stop (any_item base)) normal type is typed =
       subst (λ (t : Tree). Typed slots root scope t type) (sym (made start stop is.0 (any_item is.1.0) normal is.2 is.1.2))
       (operand_carried (λ t. types_to facts slots root scope base is.1.0 t is.1.1) typed)
-  types_to facts slots root scope (node start stop (lambda quantifier base variable body)) normal type is typed = absurd typed
+  types_to facts slots root scope (node start stop (lambda quantifier base variable body)) normal type is typed =
+      subst (λ (t : Tree). Typed slots root scope t type) (sym (made start stop is.0 (lambda quantifier is.1.0 variable is.1.1) normal is.2 is.1.4))
+      (lambda_carried (λ t. types_to facts slots root scope base is.1.0 t is.1.2) (λ at t. types_to facts slots root at body is.1.1 t is.1.3) typed)
 
   all_to : LiteralFacts → (slots : Slots) (root : List ℕ) (scope : Scope) (trees normals : Trees) (types : List ExprType)
       → AreNormalForms trees normals → AreTyped slots root scope trees types → AreTyped slots root scope normals types
@@ -105,7 +107,8 @@ mutual
       operand_carried (λ t. types_from facts slots root scope base is.1.0 t is.1.1)
       (subst (λ (t : Tree). Typed slots root scope t type) (made start stop is.0 (any_item is.1.0) normal is.2 is.1.2) typed)
   types_from facts slots root scope (node start stop (lambda quantifier base variable body)) normal type is typed =
-      absurd (subst (λ (t : Tree). Typed slots root scope t type) (made start stop is.0 (lambda quantifier is.1.0 variable is.1.1) normal is.2 is.1.4) typed)
+      lambda_carried (λ t. types_from facts slots root scope base is.1.0 t is.1.2) (λ at t. types_from facts slots root at body is.1.1 t is.1.3)
+      (subst (λ (t : Tree). Typed slots root scope t type) (made start stop is.0 (lambda quantifier is.1.0 variable is.1.1) normal is.2 is.1.4) typed)
 
   all_from : LiteralFacts → (slots : Slots) (root : List ℕ) (scope : Scope) (trees normals : Trees) (types : List ExprType)
       → AreNormalForms trees normals → AreTyped slots root scope normals types → AreTyped slots root scope trees types

@@ -1,7 +1,7 @@
 -- What a node's type is made of, carried over to operands that have the types of its own.
 use Rattle.std.proofs.Common.{ℕ, List}
-use Rattle.csdl_schema.specs.ExprType.{ExprType}
-use Rattle.odata_expression_types.specs.Typed.{ArgumentsTyped, ItemsTyped, OperandTyped, OperandsTyped}
+use Rattle.csdl_schema.specs.ExprType.{ExprType, single, collection}
+use Rattle.odata_expression_types.specs.Typed.{ArgumentsTyped, ItemsTyped, LambdaTyped, OperandTyped, OperandsTyped, Scope, with_variable}
 
 pub operand_carried : {From To : ExprType → Type 0} {Makes : ExprType → ExprType → Type 0} {type : ExprType}
     → ((t : ExprType) → From t → To t) → OperandTyped From Makes type → OperandTyped To Makes type
@@ -34,3 +34,15 @@ pub arguments_carried : {asked : List ℕ} {From To : List ExprType → Type 0} 
     → ((ts : List ExprType) → From ts → To ts) → ArgumentsTyped asked From type → ArgumentsTyped asked To type
 arguments_carried carry typed =
     record { types = typed.types; arguments_typed = carry typed.types typed.arguments_typed; call_typed = typed.call_typed }
+
+pub lambda_carried : {scope : Scope} {variable : List ℕ} {Base Base' : ExprType → Type 0} {Body Body' : Scope → ExprType → Type 0} {type : ExprType}
+    → ((t : ExprType) → Base t → Base' t) → ((at : Scope) (t : ExprType) → Body at t → Body' at t)
+    → LambdaTyped scope variable Base Body type → LambdaTyped scope variable Base' Body' type
+lambda_carried {scope = scope} {variable = variable} base body typed = record {
+  member_type = typed.member_type;
+  body = typed.body;
+  binds = record { over = base (collection typed.member_type) typed.binds.over; fresh = typed.binds.fresh };
+  body_typed = body (with_variable scope variable (single typed.member_type)) typed.body typed.body_typed;
+  truth = typed.truth;
+  makes = typed.makes;
+}

@@ -6,7 +6,7 @@ use Rattle.edm_values.specs.NumberTypes.{IsIntLiteralType}
 use Rattle.edm_values.specs.StringLiteral.{quote}
 use Rattle.edm_values.specs.declared.primitive.PrimitiveType.{PrimitiveType}
 use Rattle.odata_functions.specs.Promotion.{promotion, negation_type}
-use Rattle.odata_syntax.specs.Tree.{Tree, Trees, node, literal, it, name, member, count, negation, logical_not, binary, has, in_list, in_path, call, any_item, more_trees, no_trees}
+use Rattle.odata_syntax.specs.Tree.{Tree, Trees, node, literal, it, name, member, count, negation, logical_not, binary, has, in_list, in_path, call, any_item, lambda, more_trees, no_trees}
 use Rattle.odata_syntax.specs.declared.node.LiteralKind.{LiteralKind}
 use Rattle.csdl_schema.specs.ExprType.{ExprType, null_type, single, collection, primitive, enumeration, structured}
 use Rattle.csdl_schema.specs.SchemaModel.{PropertyModel, Slots, declared}
@@ -153,7 +153,7 @@ module _ (one_call : OneCallType) where
         one_call asked x.types a b x.call_typed
         (subst P (AreTyped-one slots root scope arguments y.types x.types y.arguments_typed x.arguments_typed) y.call_typed)
     Typed-one slots root scope (node start stop (any_item base)) a b x y = x.makes.1 ∙ sym y.makes.1
-    Typed-one slots root scope (node start stop _) a b x y = absurd x
+    Typed-one slots root scope (node start stop (lambda quantifier base variable body)) a b x y = x.makes ∙ sym y.makes
 
     pub AreTyped-one : (slots : Slots) (root : List ℕ) (scope : Scope) (trees : Trees) (a b : List ExprType) → AreTyped slots root scope trees a → AreTyped slots root scope trees b → a ≡ b
     AreTyped-one slots root scope no_trees [] [] x y = refl

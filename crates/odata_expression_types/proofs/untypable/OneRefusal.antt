@@ -7,7 +7,7 @@ use Rattle.odata_text.specs.declared.fault.TextFault.{TextFault}
 use Rattle.odata_text.specs.declared.span.Span.{Span}
 use Rattle.odata_syntax.specs.Grammar.{Derives, or_level}
 use Rattle.odata_syntax.specs.Parse.{HasNoParse, IsExpression, IsSyntaxFault}
-use Rattle.odata_syntax.specs.Tree.{Tree, node, literal, it, name, member, count, in_path, call, any_item, start_of, stop_of}
+use Rattle.odata_syntax.specs.Tree.{Tree, node, literal, it, name, member, count, in_path, call, any_item, lambda, start_of, stop_of}
 use Rattle.odata_syntax.specs.declared.node.LiteralKind.{LiteralKind}
 use Rattle.odata_syntax.specs.declared.syntax_fault.SyntaxFault.{SyntaxFault}
 use Rattle.csdl_schema.specs.ExprType.{ExprType, single, collection, structured}
@@ -18,10 +18,10 @@ use Rattle.odata_expression_types.specs.declared.refusal.TypeFaultCode.{TypeFaul
 use Rattle.odata_signatures.specs.CallTyped.{CallReason}
 use Rattle.odata_signatures.specs.declared.call.CallFault.{CallFault}
 use Rattle.odata_signatures.specs.ExprTypes.{IsBooleanOrNull}
-use Rattle.odata_expression_types.specs.FirstUntypable.{code_of_call, IsFirstUntypable, IsNotBoolean, IsReason, IsTypeFault, LiteralReason, PathReason, PropertyReason, StepReason}
+use Rattle.odata_expression_types.specs.FirstUntypable.{code_of_call, IsFirstUntypable, IsNotBoolean, IsReason, IsTypeFault, LambdaReason, LiteralReason, PathReason, PropertyReason, StepReason}
 use Rattle.odata_expression_types.specs.HasTyping.{HasNoTyping, HasTree, HasTypeFault, IsRefusal}
 use Rattle.odata_expression_types.specs.Laws.{OneUntypableStart}
-use Rattle.odata_expression_types.specs.Typed.{Scope, Typed, property_named}
+use Rattle.odata_expression_types.specs.Typed.{Scope, Typed, property_named, variable_type}
 use Rattle.odata_expression_types.proofs.types.OneType.{AreTyped-one, OneCallType, Typed-one}
 use Rattle.odata_expression_types.proofs.untypable.Untypable.{untypable_blocks}
 
@@ -64,6 +64,18 @@ path_reason : (type : ExprType) (a b : TypeFaultCode) → PathReason type a → 
 path_reason (collection members) a b x y = x ∙ sym y
 path_reason _ a b x y = x ∙ sym y
 
+fresh_reason :
+    (bound : Option ExprType) (a b : TypeFaultCode)
+    → MatchOption bound (a ≡ TypeFaultCode.BodyNotBoolean) (λ _. a ≡ TypeFaultCode.VariableTaken)
+    → MatchOption bound (b ≡ TypeFaultCode.BodyNotBoolean) (λ _. b ≡ TypeFaultCode.VariableTaken)
+    → a ≡ b
+fresh_reason None a b x y = x ∙ sym y
+fresh_reason (Some t) a b x y = x ∙ sym y
+
+lambda_reason : (scope : Scope) (variable : List ℕ) (type : ExprType) (a b : TypeFaultCode) → LambdaReason scope variable type a → LambdaReason scope variable type b → a ≡ b
+lambda_reason scope variable (collection members) a b x y = fresh_reason (variable_type scope variable) a b x y
+lambda_reason scope variable _ a b x y = x ∙ sym y
+
 one_reason : Readings → (slots : Slots) (root : List ℕ) (scope : Scope) (tree : Tree) (a b : TypeFaultCode) → IsReason slots root scope tree a → IsReason slots root scope tree b → a ≡ b
 one_reason known slots root scope (node start stop (literal kind spelling)) a b x y = literal_reason kind a b x y
 one_reason known slots root scope (node start stop it) a b x y = absurd x
@@ -80,6 +92,9 @@ one_reason known slots root scope (node start stop (call asked arguments)) a b x
     let reason : CallReason asked x.types y.fault = subst (λ (ts : List ExprType). CallReason asked ts y.fault) same y.reason in
     x.same ∙ ap code_of_call (known.call_reason asked x.types x.fault y.fault x.reason reason) ∙ sym y.same
 one_reason known slots root scope (node start stop (any_item base)) a b x y = x ∙ sym y
+one_reason known slots root scope (node start stop (lambda quantifier base variable body)) a b x y =
+    let same : y.0 ≡ x.0 = Typed-one known.call_type slots root scope base y.0 x.0 y.1 x.1 in
+    lambda_reason scope variable x.0 a b x.2 (subst (λ (t : ExprType). LambdaReason scope variable t b) same y.2)
 one_reason known slots root scope (node start stop shape) a b x y = x ∙ sym y
 
 same_span : (a b : Span) → a.start ≡ b.start → a.stop ≡ b.stop → a ≡ b
@@ -108,13 +123,13 @@ one_not_boolean : (slots : Slots) (root : List ℕ) (tree : Tree) (len : ℕ) (a
 one_not_boolean slots root tree len a b x y =
     same_fault a b (x.reason ∙ sym y.reason) (x.starts ∙ sym y.starts) (x.stops ∙ sym y.stops)
 
-untypable_or_typed : (slots : Slots) (root : List ℕ) (tree : Tree) (len : ℕ) (a b : TypeFault) → IsFirstUntypable slots root [] tree a → IsNotBoolean slots root tree len b → ⊥
-untypable_or_typed slots root tree len a b x y = untypable_blocks slots root [] tree a x (y.type_of, y.typed)
+untypable_or_typed : Readings → (slots : Slots) (root : List ℕ) (tree : Tree) (len : ℕ) (a b : TypeFault) → IsFirstUntypable slots root [] tree a → IsNotBoolean slots root tree len b → ⊥
+untypable_or_typed known slots root tree len a b x y = untypable_blocks known.call_type slots root [] tree a x (y.type_of, y.typed)
 
 one_type_fault : Readings → (slots : Slots) (root : List ℕ) (tree : Tree) (len : ℕ) (a b : TypeFault) → IsExpression tree → IsTypeFault slots root tree len a → IsTypeFault slots root tree len b → a ≡ b
 one_type_fault known slots root tree len a b e (inl x) (inl y) = one_first known slots root [] tree a b e x y
-one_type_fault known slots root tree len a b e (inl x) (inr y) = absurd (untypable_or_typed slots root tree len a b x y)
-one_type_fault known slots root tree len a b e (inr x) (inl y) = absurd (untypable_or_typed slots root tree len b a y x)
+one_type_fault known slots root tree len a b e (inl x) (inr y) = absurd (untypable_or_typed known slots root tree len a b x y)
+one_type_fault known slots root tree len a b e (inr x) (inl y) = absurd (untypable_or_typed known slots root tree len b a y x)
 one_type_fault known slots root tree len a b e (inr x) (inr y) = one_not_boolean slots root tree len a b x y
 
 -- one tree of a text, which is an expression
@@ -165,7 +180,7 @@ one_refusal known slots root text a Refusal.Memory x y = absurd y
 
 -- a tree with a fault of types has no type that a filter may have
 fault_untyped : Readings → (slots : Slots) (root : List ℕ) (tree : Tree) (len : ℕ) (fault : TypeFault) (type : ExprType) → IsTypeFault slots root tree len fault → Typed slots root [] tree type → IsBooleanOrNull type → ⊥
-fault_untyped known slots root tree len fault type (inl x) typed truth = untypable_blocks slots root [] tree fault x (type, typed)
+fault_untyped known slots root tree len fault type (inl x) typed truth = untypable_blocks known.call_type slots root [] tree fault x (type, typed)
 fault_untyped known slots root tree len fault type (inr x) typed truth =
     x.other (subst IsBooleanOrNull (Typed-one known.call_type slots root [] tree type x.type_of typed x.typed) truth)
 

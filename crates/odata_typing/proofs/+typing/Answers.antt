@@ -10,17 +10,11 @@ use Rattle.odata_signatures.specs.TypeThere.{IsTypeThere}
 use Rattle.odata_signatures.specs.declared.edm_type.EdmType.{EdmType}
 use Rattle.odata_typing.specs.private.Arguments.{AreAnswered}
 use Rattle.odata_typing.specs.private.Variables.{scope_of}
+use Rattle.odata_typing.proofs.bodies.Faults.{base_fault, body_fault, unbound_fault}
 use Rattle.odata_typing.proofs.calls.Walking.{answered_fault, answered_typed, call_fault, there_with, told_something}
-use Rattle.odata_typing.proofs.untypable.Operands.{fault_before_step, fault_over, unruled_fault, unruled_itself}
+use Rattle.odata_typing.proofs.scopes.Scopes.{scope_in-Bound}
+use Rattle.odata_typing.proofs.untypable.Operands.{fault_before_step, fault_over}
 use Rattle.odata_typing.proofs.+typing.Goals as goal
-
-pub untyped_form::untyped_form-returns-in-Ok-clause-fault : goal.untyped_form::untyped_form-returns-in-Ok-clause-fault
-untyped_form::untyped_form-returns-in-Ok-clause-fault t c = λ quantifier variable body.
-    unruled_itself c.laws_below.ensures c.args.setting.now.schema.now c.args.setting.now.filtered_type (scope_of c.args.setting.now) c.args.span (tree_of c.args.base.now) c.args.list.now c.checked_tree.new.list c.in-Ok.field-0 quantifier variable body c.in-Ok.ensures.answer
-
-pub untyped_form::untyped_form-returns-in-Err-clause-fault : goal.untyped_form::untyped_form-returns-in-Err-clause-fault
-untyped_form::untyped_form-returns-in-Err-clause-fault t c = λ quantifier variable body.
-    unruled_fault c.laws_below.ensures c.args.setting.now.schema.now c.args.setting.now.filtered_type (scope_of c.args.setting.now) c.args.span.start c.args.span.stop (tree_of c.args.base.now) c.in-Err.untyped quantifier variable body c.in-Err.ensures.answer
 
 pub path_node::checked_member-returns-in-Err-checked_tree-clause-answer : goal.path_node::checked_member-returns-in-Err-checked_tree-clause-answer
 path_node::checked_member-returns-in-Err-checked_tree-clause-answer t c =
@@ -89,15 +83,40 @@ in_list::checked_in_list-returns-clause-answer t c = λ old l begun.
     let P : List EdmType → Type 0 = λ (types : List EdmType). AreAnswered c.args.setting.now c.args.list.now (map tree_of c.args.items.now) c.checked_arguments-told.new.list types c.checked_arguments-told.result in
     c.close_items.ensures.answer old l c.args.list.now (map tree_of c.args.items.now) begun (subst P (sym c.as_slice.ensures) c.checked_arguments-told.ensures.answer)
 
-pub node::checked_lambda_operator-returns-in-Some-clause-answer : goal.node::checked_lambda_operator-returns-in-Some-clause-answer
-node::checked_lambda_operator-returns-in-Some-clause-answer t c =
-    let body = c.in-Some.field-0 in
-    let seen : tree_of (any_of c.in-Any.span c.in-Any.base (Some body)) ≡ node c.in-Any.span.start c.in-Any.span.stop (lambda Quantifier.Any (tree_of c.in-Any.base.value) (string_bytes body.0) (tree_of body.1.value)) = search (rules, the_lemmas) in
-    rw (c.in-Any.is, c.in-Some.is, seen)
-    (rw c.deref-in-Some.ensures at c.untyped_form.ensures.fault Quantifier.Any (string_bytes body.0) (tree_of body.1.value))
+pub lambda::checked_base-returns-in-Err-member_bound-clause-fault : goal.lambda::checked_base-returns-in-Err-member_bound-clause-fault
+lambda::checked_base-returns-in-Err-member_bound-clause-fault t c = λ body.
+    unbound_fault c.laws_below.ensures c.args.setting.now.schema.now c.args.setting.now.filtered_type (scope_of c.args.setting.now) c.args.lambda.now (tree_of c.args.base.now) body c.open_node.new.list c.checked_tree.new.list c.in-Ok-checked_tree.base c.in-Err-member_bound.untyped
+    c.in-Ok-checked_tree.ensures.answer c.in-Err-member_bound.ensures.fault
 
-pub node::checked_lambda_operator-returns-in-All-clause-answer : goal.node::checked_lambda_operator-returns-in-All-clause-answer
-node::checked_lambda_operator-returns-in-All-clause-answer t c =
+pub lambda::checked_base-returns-in-Err-checked_tree-clause-fault : goal.lambda::checked_base-returns-in-Err-checked_tree-clause-fault
+lambda::checked_base-returns-in-Err-checked_tree-clause-fault t c = λ body.
+    base_fault c.laws_below.ensures c.args.setting.now.schema.now c.args.setting.now.filtered_type (scope_of c.args.setting.now) c.args.lambda.now.span.start c.args.lambda.now.span.stop c.args.lambda.now.quantifier c.args.lambda.now.variable.now (tree_of c.args.base.now) body
+    c.in-Err-checked_tree.untyped c.in-Err-checked_tree.ensures.answer
+
+pub lambda::checked_body-returns-in-Ok-clause-answer : goal.lambda::checked_body-returns-in-Ok-clause-answer
+lambda::checked_body-returns-in-Ok-clause-answer t c = λ old base binding.
+    let schema = c.args.setting.now.schema.now in
+    c.close_lambda.ensures.answer schema c.args.setting.now.filtered_type (scope_of c.args.setting.now) base (tree_of c.args.body.now) old binding.before c.args.list.now binding.opened binding.walked binding.fresh
+    (rw (scope_in-Bound schema c.args.lambda.now.variable (EdmType.Single c.args.binding.member) c.args.setting.now.variables) at c.in-Ok.ensures.answer)
+
+pub lambda::checked_body-returns-in-Ok-clause-there : goal.lambda::checked_body-returns-in-Ok-clause-there
+lambda::checked_body-returns-in-Ok-clause-there t c = c.close_lambda.ensures.there c.args.setting.now.schema.now
+
+pub lambda::checked_body-returns-in-Err-clause-answer : goal.lambda::checked_body-returns-in-Err-clause-answer
+lambda::checked_body-returns-in-Err-clause-answer t c = λ old base binding.
+    let schema = c.args.setting.now.schema.now in
+    body_fault c.laws_below.ensures schema c.args.setting.now.filtered_type (scope_of c.args.setting.now) c.args.lambda.now.span.start c.args.lambda.now.span.stop c.args.lambda.now.quantifier c.args.lambda.now.variable.now base (tree_of c.args.body.now) c.args.binding.member binding.before c.args.list.now c.in-Err.untyped
+    binding.walked binding.fresh
+    (rw (scope_in-Bound schema c.args.lambda.now.variable (EdmType.Single c.args.binding.member) c.args.setting.now.variables) at c.in-Err.ensures.answer)
+
+pub node::checked_lambda_operator-returns-in-Err-clause-answer : goal.node::checked_lambda_operator-returns-in-Err-clause-answer
+node::checked_lambda_operator-returns-in-Err-clause-answer t c =
+    let seen : tree_of (any_of c.in-Any.span c.in-Any.base (Some (c.in-Some.variable, c.in-Some.body))) ≡ node c.in-Any.span.start c.in-Any.span.stop (lambda Quantifier.Any (tree_of c.in-Any.base.value) (string_bytes c.in-Some.variable) (tree_of c.in-Some.body.value)) = search (rules, the_lemmas) in
+    rw (c.in-Any.is, c.in-Some.is, seen)
+    (rw (c.deref-in-Some.ensures, c.as_str.ensures.value) at c.in-Err.ensures.fault (tree_of c.in-Some.body.value))
+
+pub node::checked_lambda_operator-returns-in-Err-checked_base-clause-answer : goal.node::checked_lambda_operator-returns-in-Err-checked_base-clause-answer
+node::checked_lambda_operator-returns-in-Err-checked_base-clause-answer t c =
     let seen : tree_of (all_of c.in-All.span c.in-All.base c.in-All.variable c.in-All.body) ≡ node c.in-All.span.start c.in-All.span.stop (lambda Quantifier.All (tree_of c.in-All.base.value) (string_bytes c.in-All.variable) (tree_of c.in-All.body.value)) = search (rules, the_lemmas) in
     rw (c.in-All.is, seen)
-    (rw c.deref-in-All.ensures at c.untyped_form-in-All.ensures.fault Quantifier.All (string_bytes c.in-All.variable) (tree_of c.in-All.body.value))
+    (rw (c.deref-in-All.ensures, c.as_str-in-All.ensures.value) at c.in-Err-checked_base.ensures.fault (tree_of c.in-All.body.value))

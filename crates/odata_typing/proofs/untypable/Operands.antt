@@ -1,8 +1,7 @@
 -- What the walk answers of a node, from its answers of the children.
 use Rattle.std.proofs.Common.{refl, sym, subst, ◌≡◌, ℕ, List, [], ◌∷◌, ◌++◌, Option, Some, None}
 use Rattle.std.specs.List.{AllByRecursion}
-use Rattle.odata_syntax.specs.Tree.{Tree, lambda, literal, member, node, shape_of}
-use Rattle.odata_syntax.specs.declared.node.Quantifier.{Quantifier}
+use Rattle.odata_syntax.specs.Tree.{Tree, literal, member, node, shape_of}
 use Rattle.odata_syntax.specs.declared.node.LiteralKind.{LiteralKind}
 use Rattle.odata_text.specs.declared.span.Span.{Span}
 use Rattle.csdl_schema.specs.ExprType.{ExprType}
@@ -218,22 +217,6 @@ module _ (laws : LawsBelow) where
       → HasFault schema n scope (node start stop (member base asked)) told
   fault_before_step schema n scope start stop base asked told found =
       told_below schema n scope (node start stop (member base asked)) told (λ at body is. is) (told_fault schema n scope base told found)
-
-  -- a lambda operator with a body has no type yet
-  pub unruled_fault :
-      (schema : SchemaModel) (n : ℕ) (scope : Scope) (start stop : ℕ) (base : Tree) (told : Untyped) (quantifier : Quantifier) (variable : List ℕ) (body : Tree)
-      → HasFault schema n scope base told
-      → HasFault schema n scope (node start stop (lambda quantifier base variable body)) told
-  unruled_fault schema n scope start stop base told quantifier variable body found =
-      told_below schema n scope (node start stop (lambda quantifier base variable body)) told (λ at part is. is) (told_fault schema n scope base told found)
-
-  pub unruled_itself :
-      (schema : SchemaModel) (n : ℕ) (scope : Scope) (span : Span) (base : Tree) (opened last : FlatTree) (type : EdmType) (quantifier : Quantifier) (variable : List ℕ) (body : Tree)
-      → IsWalked schema n scope opened base last type
-      → HasFault schema n scope (node span.start span.stop (lambda quantifier base variable body)) (Untyped.Fault (record { code = TypeFaultCode.OperandTypes; span = span }))
-  unruled_itself schema n scope span base opened last type quantifier variable body walked =
-      first_itself laws (slots_of schema) (type_name_at schema n) scope span.start span.stop (lambda quantifier base variable body) (record { code = TypeFaultCode.OperandTypes; span = span })
-      (λ at part is. is) (walked_typed schema n scope opened base last type walked, tt) (λ made typed. typed) refl refl refl
 
   -- a literal that has no value
   pub unread_literal :

@@ -1,8 +1,8 @@
 use Rattle.std.proofs.Common.{◌≡◌}
 use Rattle.odata_checked_filter.specs.declared.checked_node.CheckedNode.{CheckedNode}
 use Rattle.odata_checked_filter.specs.declared.checked_node.NodeKind.{NodeKind}
-use Rattle.odata_eval.proofs.walking.Leaves.{literal_answers, literal_within, property_answers}
-use Rattle.odata_eval.proofs.walking.Parts.{there_found}
+use Rattle.odata_eval.proofs.walking.Leaves.{literal_answers, literal_within, property_answers, property_within, variable_answers, variable_within}
+use Rattle.odata_eval.proofs.walking.Parts.{part_inside, there_found}
 use Rattle.odata_eval.proofs.part.part_at.Goals as goal
 
 pub returns-in-Property : goal.returns-in-Property
@@ -21,3 +21,22 @@ returns-in-Literal c =
     literal_answers c.args.scene.now c.args.place _ c.in-Literal.value
     (there_found (λ (f : CheckedNode). f.kind ≡ NodeKind.Literal _ c.in-Literal.value) _ c.node.result.now c.node.ensures c.in-Literal.is)
     c.literal.result.now c.literal.ensures
+
+pub node-requires : goal.node-requires
+node-requires c = part_inside c.args.scene.now c.args.place c.requires.stands
+
+pub property-requires : goal.property-requires
+property-requires c =
+    property_within c.args.scene.now c.args.place c.in-Property.slot
+    (there_found (λ (f : CheckedNode). f.kind ≡ NodeKind.Property c.in-Property.slot) _ c.node.result.now c.node.ensures c.in-Property.is) c.requires.stands
+
+pub variable-requires : goal.variable-requires
+variable-requires c =
+    variable_within c.args.scene.now c.args.place c.in-Variable.level
+    (there_found (λ (f : CheckedNode). f.kind ≡ NodeKind.Variable c.in-Variable.level) _ c.node.result.now c.node.ensures c.in-Variable.is) c.requires.stands
+
+pub returns-in-Variable : goal.returns-in-Variable
+returns-in-Variable c =
+    variable_answers c.args.scene.now c.args.place c.in-Variable.level
+    (there_found (λ (f : CheckedNode). f.kind ≡ NodeKind.Variable c.in-Variable.level) _ c.node.result.now c.node.ensures c.in-Variable.is)
+    c.variable.result.now c.variable.ensures

@@ -1,0 +1,2 @@
+-- How deep lambda operators stand in one another.
+pub mod Lines

@@ -1,0 +1,96 @@
+-- For private clauses: the body of a lambda operator, over the members of its collection.
+use Rattle.std.specs.Prelude.{◌+◌, ℕ, List, [], ◌∷◌, Bool, Option, Result, Some, IsSomeAnd, slice_get, ◌≡◌}
+use Rattle.edm_values.specs.Val.{Val, Vals, no_items, item}
+use Rattle.edm_values.specs.declared.value.Value.{Value}
+use Rattle.odata_syntax.specs.Tree.{Tree}
+use Rattle.odata_syntax.specs.declared.node.Quantifier.{Quantifier}
+use Rattle.csdl_schema.specs.ExprType.{ExprType}
+use Rattle.csdl_schema.specs.SchemaModel.{Slots, slots_of, type_name_at}
+use Rattle.edm_entities.specs.HasType.{HasType}
+use Rattle.edm_entities.specs.Row.{val_of, value_of}
+use Rattle.odata_signatures.specs.ExprTypes.{IsBooleanOrNull}
+use Rattle.odata_signatures.specs.TypeView.{expr_type}
+use Rattle.odata_signatures.specs.declared.edm_type.EdmType.{EdmType}
+use Rattle.odata_signatures.specs.declared.edm_type.ValueType.{ValueType}
+use Rattle.odata_expression_types.specs.Typed.{Scope, Typed, with_variable}
+use Rattle.odata_checked_filter.specs.Calls.{TakesMemory}
+use Rattle.odata_checked_filter.specs.FlatTree.{FlatTree}
+use Rattle.odata_checked_filter.specs.Stands.{Stands}
+use Rattle.odata_eval.specs.Environment.{bound_over, scope_of}
+use Rattle.odata_eval.specs.Means.{Means}
+use Rattle.odata_eval.specs.OneByOne.{MembersGo}
+use Rattle.odata_eval.specs.Outcome.{Outcome}
+use Rattle.odata_eval.specs.TruthGives.{truth_val}
+use Rattle.odata_eval.specs.declared.fault.EvalFault.{EvalFault}
+use Rattle.odata_eval.specs.declared.frames.RangeVariable.{RangeVariable}
+use Rattle.odata_eval.specs.private.DatumView.{answer_outcome}
+use Rattle.odata_eval.specs.private.SceneModel.{SceneModel, environment_of}
+use Rattle.odata_eval.specs.private.WalkAnswer.{Tells}
+
+-- the base there has members of some type
+abbrev pub IsOverMembers : FlatTree → ℕ → Type 0
+IsOverMembers list place =
+    IsSomeAnd (slice_get list.nodes (place + 1)) (λ base. (member : ValueType) × (base.edm_type ≡ EdmType.Collection member))
+
+-- it is the variable of the operator there: it has the name beside the node, and the type of the base's members
+pub record IsVariableOf (list : FlatTree) (place : ℕ) (variable : RangeVariable) : Type 0 where
+  pub name_is : slice_get list.texts place ≡ Some variable.name.now
+  pub member : ValueType
+  pub type_is : variable.edm_type ≡ EdmType.Single member
+  pub base_is : IsSomeAnd (slice_get list.nodes (place + 1)) (λ base. base.edm_type ≡ EdmType.Collection member)
+
+-- the type of a variable
+abbrev pub type_of_variable : SceneModel → RangeVariable → ExprType
+type_of_variable scene variable = expr_type scene.row.schema variable.edm_type
+
+-- the scope of a body, in which the variable is the innermost
+abbrev pub body_scope : SceneModel → RangeVariable → Scope
+body_scope scene variable =
+    with_variable (scope_of (environment_of scene)) variable.name.now (type_of_variable scene variable)
+
+-- the nodes from the place up to the stop stand for the body
+abbrev pub BodyStands : SceneModel → RangeVariable → ℕ → ℕ → Tree → Type 0
+BodyStands scene variable = Stands scene.row.schema scene.row.type_id (body_scope scene variable) scene.list
+
+-- the body has the type
+abbrev pub BodyTyped : SceneModel → RangeVariable → Tree → ExprType → Type 0
+BodyTyped scene variable =
+    Typed (slots_of scene.row.schema) (type_name_at scene.row.schema scene.row.type_id) (body_scope scene variable)
+
+-- a body of type Boolean or Null stands there
+pub record BodyIsThere (scene : SceneModel) (variable : RangeVariable) (place : ℕ) : Type 0 where
+  pub stop : ℕ
+  pub body : Tree
+  pub stands : BodyStands scene variable place stop body
+  pub type_of : ExprType
+  pub typed : BodyTyped scene variable body type_of
+  pub truth : IsBooleanOrNull type_of
+
+-- what the body comes to where the variable has that value
+abbrev pub BodyMeans : SceneModel → RangeVariable → Tree → Val → Outcome → Type 0
+BodyMeans scene variable body v =
+    Means (slots_of scene.row.schema) (type_name_at scene.row.schema scene.row.type_id) scene.moment (value_of scene.row)
+    (bound_over (environment_of scene) variable.name.now (type_of_variable scene variable) v) body
+
+-- the value is of the variable's type
+abbrev pub Suits : SceneModel → RangeVariable → Value → Type 0
+Suits scene variable value =
+    HasType (slots_of scene.row.schema) (type_of_variable scene variable)
+    (val_of value (slots_of scene.row.schema) (type_of_variable scene variable))
+
+-- what members are, each of that type
+abbrev pub vals_of : Slots → ExprType → List Value → Vals
+vals_of slots type [] = no_items
+vals_of slots type (value ∷ more) = item (val_of value slots type) (vals_of slots type more)
+
+-- the answer is an outcome of the operator over these members, whatever body stands in the place
+pub record AnswersMembers
+    (scene : SceneModel) (place : ℕ) (quantifier : Quantifier) (variable : RangeVariable) (members : List Value)
+    (answer : Result (Option Bool) EvalFault) : Type 0 where
+  pub of_body :
+      (stop : ℕ) (body : Tree) (type : ExprType) → BodyStands scene variable place stop body
+      → BodyTyped scene variable body type
+      → Tells (TakesMemory body)
+      (MembersGo quantifier (BodyMeans scene variable body)
+      (vals_of (slots_of scene.row.schema) (type_of_variable scene variable) members))
+      (answer_outcome truth_val answer)
