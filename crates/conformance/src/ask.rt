@@ -188,6 +188,7 @@ fn answer(case: &Case<'_>, asked: Asked, given: &Value) -> Result<String, Troubl
         Asked::CanonicalOfFilter => filter_answer(case, given, AskedOfFilter::Canonical),
         Asked::Nodes => filter_answer(case, given, AskedOfFilter::Nodes),
         Asked::Explanation => filter_answer(case, given, AskedOfFilter::Explanation),
+        Asked::LambdaDepth => filter_answer(case, given, AskedOfFilter::LambdaDepth),
         _ => answer_of_given(case, asked, given),
     }
 }

@@ -1,9 +1,10 @@
 //! The forms of cases. `data/README.md` has the same table in words.
 use crate::form::Asked::{
     AtPlaces, CanonicalOfFilter, CanonicalOfText, Conforms, Explanation, FilterOfQuery, Fits,
-    Identifier, Instant, Letters, LineFits, LineLetters, Literal, LookUps, Nodes, Outcome,
-    OutcomeOnChanged, OutcomeOnRow, QueryRefusal, Refusal, RowBeginnings, Run, SchemaBeginnings,
-    SchemaFault, TextRefusal, TokenCount, Tokens, Tree, TypeLetters, Values, WhatChangedFits,
+    Identifier, Instant, LambdaDepth, Letters, LineFits, LineLetters, Literal, LookUps, Nodes,
+    Outcome, OutcomeOnChanged, OutcomeOnRow, QueryRefusal, Refusal, RowBeginnings, Run,
+    SchemaBeginnings, SchemaFault, TextRefusal, TokenCount, Tokens, Tree, TypeLetters, Values,
+    WhatChangedFits,
 };
 use crate::form::Shape::{One, Pairs, Whole};
 use serde_json::{Map, Value};
@@ -19,6 +20,7 @@ pub(crate) enum Asked {
     CanonicalOfFilter,
     Nodes,
     Explanation,
+    LambdaDepth,
     Tokens,
     TokenCount,
     Tree,
@@ -138,6 +140,18 @@ const FORMS: &[Form] = &[
         Explanation,
         One("filter", "explained"),
         &["schema", "type", "filter", "explained"],
+        NONE,
+    ),
+    (
+        LambdaDepth,
+        One("filter", "lambda_depth"),
+        &["schema", "type", "filter", "lambda_depth"],
+        NONE,
+    ),
+    (
+        LambdaDepth,
+        Pairs("lambda_depths"),
+        &["schema", "type", "lambda_depths"],
         NONE,
     ),
     (

@@ -22,6 +22,7 @@ pub enum AskedOfFilter<'a> {
     Explanation,
     /// The type of the second node, which is the first operand of the first one.
     SecondType,
+    LambdaDepth,
     /// The outcome on this row, at this moment.
     Outcome(&'a Value, &'a Moment),
 }
@@ -131,6 +132,7 @@ fn answer(
         AskedOfFilter::Nodes => told_nodes(alloc, checked),
         AskedOfFilter::Explanation => Ok(checked.explain(alloc)?),
         AskedOfFilter::SecondType => second_type(alloc, checked),
+        AskedOfFilter::LambdaDepth => Ok(format!(in alloc; "{}", checked.lambda_depth())?),
         AskedOfFilter::Outcome(row, now) => agreed_outcome(alloc, checked, row, now),
     }
 }
