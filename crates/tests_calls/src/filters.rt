@@ -4,7 +4,7 @@ ghost use Rattle.csdl_schema.specs.SchemaModel.{HoldsType};
 use crate::shop::SHOP;
 use csdl_schema::{Schema, TypeId};
 use edm_values::Value;
-use odata_syntax::{BinaryOperator, LiteralKind};
+use odata_syntax::{BinaryOperator, LiteralKind, Quantifier};
 use odata_text::Span;
 use odata_typing::{Checked, NodeKind, check};
 use std::alloc::{AllocError, Global};
@@ -278,6 +278,63 @@ const KINDS_OF_COLLECTIONS: &[(NodeKind, usize)] = &[
 fn kinds_and_ends_of_collections(rt: HostRuntime) -> Result<(), Fail> {
     let asked = Asked::Kinds(KINDS_OF_COLLECTIONS);
     asks(rt.alloc(), SHOP, "Shop.Product", COLLECTIONS, asked)
+}
+
+const LAMBDAS: &str = "Parts/any(p:p/Sub/any(q:q/Qty gt p/Qty))";
+
+const ANY: NodeKind = NodeKind::Lambda {
+    quantifier: Quantifier::Any,
+};
+
+const GREATER: NodeKind = NodeKind::Binary {
+    operator: BinaryOperator::Gt,
+};
+
+/// The kind of each node of that filter of products, and where its last descendant ends.
+const KINDS_OF_LAMBDAS: &[(NodeKind, usize)] = &[
+    (ANY, 10),
+    (NodeKind::Property { slot: 7 }, 2),
+    (ANY, 10),
+    (NodeKind::Member { slot: 2 }, 5),
+    (NodeKind::Variable { level: 0 }, 5),
+    (GREATER, 10),
+    (NodeKind::Member { slot: 1 }, 8),
+    (NodeKind::Variable { level: 1 }, 8),
+    (NodeKind::Member { slot: 1 }, 10),
+    (NodeKind::Variable { level: 0 }, 10),
+];
+
+/// The same of `Tags/all(t:t eq 'a')`.
+const KINDS_OF_ALL: &[(NodeKind, usize)] = &[
+    (
+        NodeKind::Lambda {
+            quantifier: Quantifier::All,
+        },
+        5,
+    ),
+    (NodeKind::Property { slot: 12 }, 2),
+    (EQUAL, 5),
+    (NodeKind::Variable { level: 0 }, 4),
+    (
+        NodeKind::Literal {
+            kind: LiteralKind::Str,
+            value: 0,
+        },
+        5,
+    ),
+];
+
+#[test]
+fn kinds_and_ends_of_lambdas(rt: HostRuntime) -> Result<(), Fail> {
+    let (any, all) = (Asked::Kinds(KINDS_OF_LAMBDAS), Asked::Kinds(KINDS_OF_ALL));
+    asks(rt.alloc(), SHOP, "Shop.Product", LAMBDAS, any)?;
+    asks(
+        rt.alloc(),
+        SHOP,
+        "Shop.Product",
+        "Tags/all(t:t eq 'a')",
+        all,
+    )
 }
 
 /// A type of one truth value.
