@@ -1,10 +1,10 @@
 -- The node of a lambda operator, from what was answered of its base and its body.
-use Rattle.std.proofs.Common.{◌≡◌, refl, sym, ap, subst, ℕ, ◌+◌, List, Option, Some, None, MatchOption, length}
+use Rattle.std.proofs.Common.{◌≡◌, refl, subst, ℕ, List, None, length}
 use Rattle.odata_syntax.specs.Tree.{Tree, lambda, node}
 use Rattle.odata_syntax.specs.declared.node.Quantifier.{Quantifier}
 use Rattle.odata_text.specs.declared.span.Span.{Span}
-use Rattle.csdl_schema.specs.ExprType.{ExprType, SingleType, collection, single}
-use Rattle.csdl_schema.specs.SchemaModel.{SchemaModel, Slots, slots_of, type_name_at}
+use Rattle.csdl_schema.specs.ExprType.{single}
+use Rattle.csdl_schema.specs.SchemaModel.{SchemaModel, slots_of, type_name_at}
 use Rattle.edm_values.specs.declared.primitive.PrimitiveType.{PrimitiveType}
 use Rattle.odata_signatures.specs.ExprTypes.{IsBooleanOrNull}
 use Rattle.odata_signatures.specs.TypeView.{expr_type, single_type}

@@ -11,9 +11,9 @@ use Rattle.odata_signatures.specs.declared.edm_type.EdmType.{EdmType}
 use Rattle.odata_signatures.specs.declared.edm_type.ValueType.{ValueType}
 use Rattle.odata_expression_types.specs.declared.refusal.TypeFault.{TypeFault}
 use Rattle.odata_expression_types.specs.declared.refusal.TypeFaultCode.{TypeFaultCode}
-use Rattle.odata_expression_types.specs.Considered.{IsBodyInScope, IsConsideredBody}
+use Rattle.odata_expression_types.specs.Considered.{IsBodyInScope}
 use Rattle.odata_expression_types.specs.FirstAmong.{StartFrom}
-use Rattle.odata_expression_types.specs.FirstUntypable.{IsFirstUntypable, IsUntypable, LambdaReason}
+use Rattle.odata_expression_types.specs.FirstUntypable.{IsFirstUntypable, LambdaReason}
 use Rattle.odata_expression_types.specs.Typed.{IsTyped, IsUntyped, Scope, Typed, variable_type, with_variable}
 use Rattle.odata_checked_filter.specs.FlatTree.{FlatTree}
 use Rattle.odata_typing.specs.declared.lambda.Lambda.{Lambda}
@@ -23,7 +23,7 @@ use Rattle.odata_typing.specs.private.Lambda.{BindingFault, IsBindingFault, has_
 use Rattle.odata_typing.specs.private.LawsBelow.{LawsBelow}
 use Rattle.odata_typing.proofs.bodies.Bodies.{within}
 use Rattle.odata_typing.proofs.untypable.Operands.{told_below, told_fault, walked_typed}
-use Rattle.odata_typing.proofs.untypable.Untypable.{IsBodiless, among_typed, first_itself, typed_start}
+use Rattle.odata_typing.proofs.untypable.Untypable.{among_typed, first_itself, typed_start}
 
 -- of a tree with a first untypable node all such nodes start there or later
 start_itself : (slots : Slots) (root : List ℕ) (scope : Scope) (tree : Tree) (fault : TypeFault) → IsFirstUntypable slots root scope tree fault → StartFrom slots root scope tree fault.span.start
