@@ -1,5 +1,5 @@
 //! Values of the types without parts, from JSON values without parts; of null and of nothing.
-ghost use Rattle.std.specs.Prelude.{◌≡◌, ◌⊎◌, true, false, None, Ok, Err, IfOk, IfErr};
+ghost use Rattle.std.specs.Prelude.{◌≡◌, ◌≢◌, ◌⊎◌, true, false, None, Ok, Err, IfOk, IfErr};
 ghost use Rattle.serde_json.specs.Data.{Data, boolean, string};
 ghost use Rattle.csdl_schema.specs.ExprType.{ExprType};
 ghost use Rattle.csdl_schema.specs.SchemaModel.{Slots, slots_of, type_name_at};
@@ -24,6 +24,7 @@ pub(crate) fn read_primitive(
         → IfOk result (λ v. FitsPrimitive wanted json (val_of v slots type)) }
     ensures flaw { (json : Data) → IsScalar scalar.entry json
         → IfErr result (λ f. OnFlaw f (IsPrimitiveFlaw wanted json)) }
+    ensures memory { IfErr result (λ f. f ≡ ReadFlaw.Memory → wanted ≡ Prim.String) }
 {
     match scalar {
         Scalar::Truth(truth) => read_truth(wanted, truth),
@@ -37,6 +38,7 @@ fn read_truth(wanted: Prim, truth: bool) -> Result<Value, ReadFlaw>
     ensures fits { (slots : Slots) (type : ExprType)
         → IfOk result (λ v. FitsPrimitive wanted (boolean truth) (val_of v slots type)) }
     ensures flaw { IfErr result (λ f. OnFlaw f (IsPrimitiveFlaw wanted (boolean truth))) }
+    ensures no_memory { IfErr result (λ f. f ≢ ReadFlaw.Memory) }
 {
     match wanted {
         Prim::Bool => Ok(Value::Bool(truth)),
@@ -49,6 +51,7 @@ fn read_number(wanted: Prim, number: JsonNumber) -> Result<Value, ReadFlaw>
         → IfOk result (λ v. FitsPrimitive wanted json (val_of v slots type)) }
     ensures flaw { (json : Data) → IsJsonNumber number json
         → IfErr result (λ f. OnFlaw f (IsPrimitiveFlaw wanted json)) }
+    ensures no_memory { IfErr result (λ f. f ≢ ReadFlaw.Memory) }
 {
     if wanted.is_number() {
         read_whole(wanted, number)
@@ -62,6 +65,7 @@ fn read_whole(wanted: Prim, number: JsonNumber) -> Result<Value, ReadFlaw>
         → IfOk result (λ v. FitsNumber wanted json (val_of v slots type)) }
     ensures flaw { (json : Data) → IsJsonNumber number json
         → IfErr result (λ f. OnFlaw f (IsNumberFlaw wanted json)) }
+    ensures no_memory { IfErr result (λ f. f ≢ ReadFlaw.Memory) }
 {
     match number {
         JsonNumber::Whole(n) => if wanted.holds_number(n) {
@@ -78,6 +82,7 @@ fn read_text(alloc: Global, wanted: Prim, text: &str) -> Result<Value, ReadFlaw>
     ensures fits { (slots : Slots) (type : ExprType)
         → IfOk result (λ v. FitsPrimitive wanted (string text.now) (val_of v slots type)) }
     ensures flaw { IfErr result (λ f. OnFlaw f (IsPrimitiveFlaw wanted (string text.now))) }
+    ensures memory { IfErr result (λ f. f ≡ ReadFlaw.Memory → wanted ≡ Prim.String) }
 {
     match wanted {
         Prim::String => match String::from_str(alloc, text) {
@@ -111,6 +116,7 @@ pub(crate) fn read_member(
         (val_of v slots type)) }
     ensures flaw { (json : Data) → IsScalar scalar.entry json → IfErr result (λ f. OnFlaw f
         (IsTextFlaw (IsMemberText ((slots_of schema.now).enumerations (type_name_at schema.now id))) json)) }
+    ensures no_memory { IfErr result (λ f. f ≢ ReadFlaw.Memory) }
 {
     match scalar {
         Scalar::Text(text) => match schema.enum_value(id, text) {
