@@ -7,7 +7,7 @@ use Rattle.edm_values.specs.Val.{Val, null, boolean, whole, text, date, moment, 
 use Rattle.edm_values.specs.declared.value.Value.{Value, Record, fold-Value}
 use Rattle.edm_values.specs.declared.value.Value.TheOpen.{Value-F}
 use Rattle.csdl_schema.specs.ExprType.{ExprType, single, collection, SingleType, structured}
-use Rattle.csdl_schema.specs.SchemaModel.{Slots, SchemaModel, PropertyModel, PropertyType, declared, opaque, navigation, slots_of, type_name_at, properties_at, HasDistinctNames}
+use Rattle.csdl_schema.specs.SchemaModel.{Slots, SchemaModel, PropertyModel, PropertyType, declared, opaque, navigation, slots_of, type_name_at, properties_at, HasDistinctNames, HoldsType}
 use Rattle.edm_entities.specs.Fits.{Fits}
 
 -- what a value stands for once its type is known: a record's names are those of its type's properties
@@ -83,6 +83,7 @@ pub record HoldsSlots (row : Row) : Type 0 where
 
 -- what is true of every entity
 pub record IsEntity (row : Row) : Type 0 where
+  pub held : HoldsType row.schema row.type_id
   pub holds_slots : HoldsSlots row
   pub distinct : HasDistinctNames (properties_at row.schema row.type_id)
   pub conforms : Conforms row

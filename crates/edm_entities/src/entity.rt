@@ -62,7 +62,7 @@ impl<'s> Entity<'s> {
     }
 
     /// The entity of that type with these values by slot.
-    pub fn from_values(schema: &'s Schema, type_id: TypeId, values: Vec<Value>) -> Entity<'s>
+    pub(crate) fn from_values(schema: &'s Schema, type_id: TypeId, values: Vec<Value>) -> Entity<'s>
         requires { IsEntity (row_of schema.now type_id values) }
         ensures { result ≡ row_of schema.now type_id values }
     {
@@ -74,7 +74,7 @@ impl<'s> Entity<'s> {
     }
 
     /// Its values by slot, given back.
-    pub fn into_values(self) -> Vec<Value>
+    pub(crate) fn into_values(self) -> Vec<Value>
         ensures values { self.entry ≡ row_of self.entry.schema self.entry.type_id result }
         ensures entity { IsEntity self.entry }
     {

@@ -2,7 +2,7 @@ ghost use Rattle.std.specs.Prelude.{◌≡◌, Some, IsSome, IfSome};
 ghost use Rattle.serde_json.specs.Data.{Data};
 ghost use Rattle.serde_json.specs.Find.{as_object};
 ghost use Rattle.serde_json.specs.Read.{read};
-ghost use Rattle.csdl_schema.specs.SchemaModel.{HasDistinctNames, properties_at, slots_of};
+ghost use Rattle.csdl_schema.specs.SchemaModel.{HasDistinctNames, HoldsType, properties_at, slots_of};
 ghost use Rattle.edm_entities.specs.RowReading.{IsLineOf};
 ghost use Rattle.edm_entities.specs.private.Walk.{FitSlots};
 
@@ -29,16 +29,19 @@ pub struct RowReader<'s> {
 }
 
 impl<'s> Model for RowReader<'s> {
-    ghost use Rattle.edm_entities.specs.RowReading.{RowType};
+    ghost use Rattle.edm_entities.specs.RowReading.{RowType, IsRowType};
 
     ghost Value = { RowType };
 
     ghost view = { λ r. record { schema = r.schema.now; type_id = r.type_id } };
+
+    ghost invariant = { λ r. IsRowType (record { schema = r.schema.now; type_id = r.type_id }) };
 }
 
 impl<'s> RowReader<'s> {
     /// A reader for an entity type of that schema.
     pub fn new(alloc: Global, schema: &'s Schema, type_id: TypeId) -> RowReader<'s>
+        requires { HoldsType schema.now type_id }
         ensures schema { result.schema ≡ schema.now }
         ensures type_id { result.type_id ≡ type_id }
     {

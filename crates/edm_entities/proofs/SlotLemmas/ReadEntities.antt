@@ -4,7 +4,7 @@ use Rattle.serde_json.specs.Data.{Data}
 use Rattle.serde_json.specs.Find.{get, as_object}
 use Rattle.edm_values.specs.declared.value.Value.{Value, Record, List as ListOf, the_lemmas}
 use Rattle.csdl_schema.specs.ExprType.{ExprType, single, structured}
-use Rattle.csdl_schema.specs.SchemaModel.{SchemaModel, Slots, HasDistinctNames, slots_of, type_name_at, properties_at}
+use Rattle.csdl_schema.specs.SchemaModel.{SchemaModel, Slots, HasDistinctNames, HoldsType, slots_of, type_name_at, properties_at}
 use Rattle.edm_entities.specs.Fits.{Fits, FitsType}
 use Rattle.edm_entities.specs.Row.{IsEntity, row_of, val_of, record_of, list_of, value_of}
 use Rattle.edm_entities.specs.private.Walk.{FitsSlot, FitSlots}
@@ -29,10 +29,11 @@ pub entity_fits : (schema : SchemaModel) (id : ℕ) (json : Data) (values : Vec 
     → Fits (slots_of schema) (type_name_at schema id) json (value_of (row_of schema id values))
 entity_fits schema id json values distinct is_object fits = slots_fit schema id false json values distinct is_object fits
 
-pub is_entity : (schema : SchemaModel) (id : ℕ) (json : Data) (values : Vec Value Global) → HasDistinctNames (properties_at schema id) → IsSome (as_object json)
+pub is_entity : (schema : SchemaModel) (id : ℕ) (json : Data) (values : Vec Value Global) → HoldsType schema id → HasDistinctNames (properties_at schema id) → IsSome (as_object json)
     → FitSlots (slots_of schema) json (properties_at schema id) values.items → IsEntity (row_of schema id values)
-is_entity schema id json values distinct is_object fits =
+is_entity schema id json values held distinct is_object fits =
     record {
+      held = held;
       holds_slots = record { slots = values; value_is = refl; as_many = as_many (FitsSlot (slots_of schema) (λ name. get name json)) (properties_at schema id) values.items fits };
       distinct = distinct;
       conforms = (json, entity_fits schema id json values distinct is_object fits);

@@ -10,7 +10,7 @@ use Rattle.edm_entities.proofs.entity.Entity.from_json.Goals as goal
 
 pub from_values-requires : goal.from_values-requires
 from_values-requires c =
-    is_entity c.args.schema.now c.args.type_id (view c.args.row.now) c.in-Ok.values c.in-Ok.ensures.distinct c.in-Ok.ensures.object c.in-Ok.ensures.fits
+    is_entity c.args.schema.now c.args.type_id (view c.args.row.now) c.in-Ok.values c.requires c.in-Ok.ensures.distinct c.in-Ok.ensures.object c.in-Ok.ensures.fits
 
 pub returns-in-Ok-clause-fits : goal.returns-in-Ok-clause-fits
 returns-in-Ok-clause-fits c =

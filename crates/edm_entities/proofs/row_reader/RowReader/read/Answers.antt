@@ -8,7 +8,7 @@ use Rattle.edm_entities.proofs.row_reader.RowReader.read.Goals.{in-Some, in-None
 pub from_values-requires : goal.from_values-requires
 from_values-requires c =
     let found = c.in-Some.ensures.fits in
-    is_entity c.self.inside.schema.now c.self.inside.type_id found.0 c.in-Some.values c.in-Some.ensures.distinct found.2 found.3
+    is_entity c.self.inside.schema.now c.self.inside.type_id found.0 c.in-Some.values c.self.invariant c.in-Some.ensures.distinct found.2 found.3
 
 pub returns-clause-row : goal.returns-clause-row
 returns-clause-row c =
