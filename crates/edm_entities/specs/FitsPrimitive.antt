@@ -1,5 +1,6 @@
 -- Which JSON fits the types without parts, and what is wrong with other JSON (OData JSON Format 4.01, section 7.1).
 use Rattle.std.specs.Prelude.{◌≡◌, ℕ, ℤ, List, Bool, Option, Some, None, option_and_then}
+use Rattle.std.specs.Str.{IsUtf8}
 use Rattle.serde_json.specs.Data.{Data}
 use Rattle.serde_json.specs.Find.{as_bool, as_number, as_str, as_integer}
 use Rattle.edm_values.specs.Civil as civil
@@ -30,9 +31,10 @@ FitsNumber type json value = (n : ℤ) × (whole_number json ≡ Some n) × IsNu
 abbrev pub TextMeaning : Type 1
 TextMeaning = List ℕ → Val → Type 0
 
--- a String stands for itself, a text of the other three types for the value of the literal that it spells
+-- a String stands for itself, a text of the other three types for the value of the literal that it spells; a text of JSON
+-- is one in UTF-8
 abbrev pub IsTextValue : PrimitiveType → TextMeaning
-IsTextValue EdmString s value = value ≡ text s
+IsTextValue EdmString s value = IsUtf8 s × (value ≡ text s)
 IsTextValue EdmDate s value = (d : civil.Date) × DateValue s d × (value ≡ date d)
 IsTextValue EdmDateTimeOffset s value = (m : MomentParts) × MomentValue s m × (value ≡ moment m)
 IsTextValue EdmGuid s value = (g : List ℕ) × GuidValue s g × (value ≡ guid g)

@@ -1,5 +1,8 @@
 -- Which values a type has (CSDL JSON 4.01, sections 3.3, 6, 7, 9 and 10).
+use Rattle.std.specs.Prelude.{◌≡◌, length}
 use Rattle.std.specs.List.{AllByRecursion}
+use Rattle.std.specs.Str.{IsUtf8}
+use Rattle.edm_values.specs.MomentParts.{IsFourDigitYear, IsMoment}
 use Rattle.edm_values.specs.Val.{Val, null, boolean, whole, text, date, moment, guid, member, fields, items, FieldVal, absent, present, Vals, no_items, item}
 use Rattle.edm_values.specs.declared.primitive.PrimitiveType.{PrimitiveType}
 use Rattle.edm_values.specs.declared.primitive.PrimitiveType.TheVariants.{Bool as EdmBoolean, String as EdmString, Date as EdmDate, DateTimeOffset as EdmDateTimeOffset, Guid as EdmGuid}
@@ -8,14 +11,15 @@ use Rattle.csdl_schema.specs.ExprType.{ExprType, single, collection, SingleType,
 use Rattle.csdl_schema.specs.SchemaModel.{Slots, PropertyType, declared, opaque, navigation}
 use Rattle.edm_values.specs.NumberTypes.{IsNumberOf}
 
--- a value of a primitive type, a number within its range
+-- a value of a primitive type: a number within its range, a text in UTF-8, a date or a moment that a literal can spell, the
+-- sixteen bytes of a Guid
 abbrev pub IsPrimitiveValue : Val → PrimitiveType → Type 0
 IsPrimitiveValue (boolean b) EdmBoolean = Unit {0}
 IsPrimitiveValue (whole n) type = IsNumberOf type n
-IsPrimitiveValue (text s) EdmString = Unit {0}
-IsPrimitiveValue (date d) EdmDate = Unit {0}
-IsPrimitiveValue (moment m) EdmDateTimeOffset = Unit {0}
-IsPrimitiveValue (guid g) EdmGuid = Unit {0}
+IsPrimitiveValue (text s) EdmString = IsUtf8 s
+IsPrimitiveValue (date d) EdmDate = IsFourDigitYear d.year
+IsPrimitiveValue (moment m) EdmDateTimeOffset = IsMoment m.civil m.offset_minutes
+IsPrimitiveValue (guid g) EdmGuid = length g ≡ 16
 IsPrimitiveValue _ type = ⊥
 
 abbrev mutual

@@ -1,6 +1,9 @@
 //! Laws of what fits, as contracts of functions that do nothing.
-ghost use Rattle.std.specs.Prelude.{◌≡◌, ℕ, List, Some, slice_get};
+ghost use Rattle.std.specs.Prelude.{◌≡◌, ℕ, List, Some, length, slice_get};
 ghost use Rattle.serde_json.specs.Data.{Data};
+ghost use Rattle.edm_values.specs.GuidLiteral.{GuidValue};
+ghost use Rattle.edm_values.specs.MomentLiteral.{MomentValue};
+ghost use Rattle.edm_values.specs.MomentParts.{IsMoment, MomentParts};
 ghost use Rattle.edm_values.specs.Val.{Val, fields};
 ghost use Rattle.csdl_schema.specs.ExprType.{ExprType, single, structured};
 ghost use Rattle.csdl_schema.specs.SchemaModel.{Slots, PropertyModel, properties_at, declared};
@@ -26,6 +29,13 @@ pub fn one_value_fits()
 pub fn what_fits_has_its_type()
     ensures { (slots : Slots) (type_name : List ℕ) (json : Data) (v : Val)
         → Fits slots type_name json v → HasType slots (single (structured type_name)) v }
+{}
+
+/// What a literal spells lies within its type: a moment has a year 1 to 9999 and an offset of less than a day, a Guid
+/// sixteen bytes.
+pub fn spelled_values_lie_within()
+    ensures moments { (text : List ℕ) (m : MomentParts) → MomentValue text m → IsMoment m.civil m.offset_minutes }
+    ensures guids { (text bytes : List ℕ) → GuidValue text bytes → length bytes ≡ 16 }
 {}
 
 /// A JSON tree with a fault stands for no value.

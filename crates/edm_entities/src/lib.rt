@@ -24,6 +24,6 @@ pub use entity::Entity;
 pub use fault::RowFault;
 pub use laws::{
     a_slot_holds_its_property, example_rows, one_fault_is_first, one_value_fits,
-    what_fits_has_its_type, what_has_a_fault_fits_nothing,
+    spelled_values_lie_within, what_fits_has_its_type, what_has_a_fault_fits_nothing,
 };
 pub use row_reader::RowReader;

@@ -1,10 +1,11 @@
 -- The example rows: one stands for its value, the other for none.
-use Rattle.std.proofs.Common.{◌≡◌, ◌≢◌, ℕ, pos, List, Bool, true, false, None, codes, nat_eq, refl, sym, subst, arith}
+use Rattle.std.proofs.Common.{◌≡◌, ◌≢◌, ℕ, pos, List, Bool, true, false, None, codes, nat_eq, refl, rules, sym, subst, arith}
 use Rattle.std.proofs.lemmas.Int.{ints}
 use Rattle.std.specs.Prelude.{FitsSigned}
 use Rattle.std.specs.Int.{w32}
 use Rattle.std.specs.Cmp.Lexicographic.{pointwise, same_text}
 use Rattle.std.specs.List.{AllByRecursion}
+use Rattle.std.specs.Str.{IsUtf8}
 use Rattle.serde_json.specs.Data.{Data}
 use Rattle.serde_json.specs.Find.{get}
 use Rattle.edm_values.specs.Val.{Val, fields, FieldVal, absent, present}
@@ -24,6 +25,9 @@ apart a b other = by (pointwise nat_eq a b) refl
 one_in_range : FitsSigned w32 (pos 1)
 one_in_range = omega (arith, ints)
 
+letter : IsUtf8 (codes "a")
+letter = search rules
+
 others : (name : List ℕ) → AllByRecursion (λ p. p.name ≢ name) item_properties → item_field name ≡ absent
 others name all = rw (apart (codes "Active") name all.0, apart (codes "ID") name all.1.0, apart (codes "Name") name all.1.1.0)
 
@@ -35,7 +39,7 @@ record_fits : (slots : Slots) → FitsRecord item_properties item_row item_field
 record_fits slots =
     record {
       is_object = refl;
-      each_fits = ((true, refl, refl), ((pos 1, refl, one_in_range, refl), ((codes "a", refl, refl), tt)));
+      each_fits = ((true, refl, refl), ((pos 1, refl, one_in_range, refl), ((codes "a", refl, (letter, refl)), tt)));
       others_absent = others;
     }
 

@@ -1,8 +1,12 @@
 -- A value that fits has its type.
-use Rattle.std.proofs.Common.{ℕ, List, [], ◌∷◌, Bool, false, Option, Some, None, sym, subst}
+use Rattle.std.proofs.Common.{◌≡◌, ℕ, ℤ, zero, suc, ◌+◌, List, [], ◌∷◌, length, Bool, false, Option, Some, None, inl, inr, refl, sym, ap, ◌∙◌, subst, arith}
+use Rattle.std.proofs.lemmas.Int.{ints}
 use Rattle.std.specs.List.{AllByRecursion}
 use Rattle.serde_json.specs.Data.{Data, null as json_null, boolean as json_boolean, number, string, array, object, Items, no_items as no_json, item as json_item}
 use Rattle.serde_json.specs.Find.{get}
+use Rattle.edm_values.specs.GuidLiteral.{GuidValue, hex_bytes}
+use Rattle.edm_values.specs.MomentLiteral.{MomentValue, OffsetValue}
+use Rattle.edm_values.specs.MomentParts.{IsMoment, IsOffset, MomentParts}
 use Rattle.edm_values.specs.Val.{Val, fields, items, FieldVal, absent, present, Vals, no_items, item}
 use Rattle.edm_values.specs.declared.primitive.PrimitiveType.{PrimitiveType}
 use Rattle.edm_values.specs.declared.primitive.PrimitiveType.TheVariants.{Bool as EdmBoolean, Byte, SByte, Int16, Int32, Int64, String as EdmString, Date as EdmDate, DateTimeOffset as EdmDateTimeOffset, Guid as EdmGuid}
@@ -11,6 +15,26 @@ use Rattle.csdl_schema.specs.SchemaModel.{Slots, PropertyModel, PropertyType, de
 use Rattle.edm_entities.specs.Fits.{FitsFound, FitsType, FitsProperty, FitItems, Fits}
 use Rattle.edm_entities.specs.FitsPrimitive.{FitsNumber, FitsPrimitive, FitsText, IsMemberText}
 use Rattle.edm_entities.specs.HasType.{HasType, HasPropertyType, AllHaveType}
+
+-- the offset of a literal is less than 24 hours
+offset_within : (spelled : List ℕ) (offset : ℤ) → OffsetValue spelled offset → IsOffset offset
+offset_within spelled offset (inl utc) = let none = utc.1 in omega (arith, ints, none)
+offset_within spelled offset (inr (hours, minutes, h, m, inl ahead)) = let is = ahead.1 in omega (arith, ints, h, m, is)
+offset_within spelled offset (inr (hours, minutes, h, m, inr behind)) = let is = behind.1 in omega (arith, ints, h, m, is)
+
+pub moment_spelled : (s : List ℕ) (m : MomentParts) → MomentValue s m → IsMoment m.civil m.offset_minutes
+moment_spelled s m value = (value.is_minutes.0, offset_within value.offset m.offset_minutes value.is_offset)
+
+-- two digits are a byte
+half_as_many : (n : ℕ) (digits : List ℕ) → length digits ≡ n + n → length (hex_bytes digits) ≡ n
+half_as_many zero [] count = refl
+half_as_many zero (high ∷ digits) count = absurd (omega (arith, count))
+half_as_many (suc n) [] count = absurd (omega (arith, count))
+half_as_many (suc n) (high ∷ []) count = absurd (omega (arith, count))
+half_as_many (suc n) (high ∷ low ∷ digits) count = ap suc (half_as_many n digits (omega (arith, count)))
+
+pub sixteen_bytes : (s bytes : List ℕ) → GuidValue s bytes → length bytes ≡ 16
+sixteen_bytes s bytes value = ap length value.value ∙ half_as_many 16 value.digits value.count
 
 number_has_type : (slots : Slots) (type : PrimitiveType) (json : Data) (v : Val) → FitsNumber type json v → HasType slots (single (primitive type)) v
 number_has_type slots type json v fits = subst (HasType slots (single (primitive type))) (sym fits.3) fits.2
@@ -22,10 +46,10 @@ primitive_has_type slots SByte json v fits = number_has_type slots SByte json v 
 primitive_has_type slots Int16 json v fits = number_has_type slots Int16 json v fits
 primitive_has_type slots Int32 json v fits = number_has_type slots Int32 json v fits
 primitive_has_type slots Int64 json v fits = number_has_type slots Int64 json v fits
-primitive_has_type slots EdmString json v fits = subst (HasType slots (single (primitive EdmString))) (sym fits.2) tt
-primitive_has_type slots EdmDate json v fits = subst (HasType slots (single (primitive EdmDate))) (sym fits.2.2) tt
-primitive_has_type slots EdmDateTimeOffset json v fits = subst (HasType slots (single (primitive EdmDateTimeOffset))) (sym fits.2.2) tt
-primitive_has_type slots EdmGuid json v fits = subst (HasType slots (single (primitive EdmGuid))) (sym fits.2.2) tt
+primitive_has_type slots EdmString json v fits = subst (HasType slots (single (primitive EdmString))) (sym fits.2.1) fits.2.0
+primitive_has_type slots EdmDate json v fits = subst (HasType slots (single (primitive EdmDate))) (sym fits.2.2) fits.2.1.0
+primitive_has_type slots EdmDateTimeOffset json v fits = subst (HasType slots (single (primitive EdmDateTimeOffset))) (sym fits.2.2) (moment_spelled fits.0 fits.2.0 fits.2.1)
+primitive_has_type slots EdmGuid json v fits = subst (HasType slots (single (primitive EdmGuid))) (sym fits.2.2) (sixteen_bytes fits.0 fits.2.0 fits.2.1)
 
 member_has_type : (slots : Slots) (name : List ℕ) (json : Data) (v : Val) → FitsText (IsMemberText (slots.enumerations name)) json v → HasType slots (single (enumeration name)) v
 member_has_type slots name json v fits = subst (HasType slots (single (enumeration name))) (sym fits.2.3) fits.2.2

@@ -74,7 +74,7 @@ module _ (f g : List ℕ → FieldVal) (P Q : PropertyModel → Type 0) (once : 
 
 module _ (texts : TextsOnce) where
   same_text_value : (type : PrimitiveType) (s : List ℕ) (v w : Val) → IsTextValue type s v → IsTextValue type s w → v ≡ w
-  same_text_value EdmString s v w a b = a ∙ sym b
+  same_text_value EdmString s v w a b = a.1 ∙ sym b.1
   same_text_value EdmDate s v w a b = a.2 ∙ (ap date (texts.date s a.0 b.0 a.1 b.1) ∙ sym b.2)
   same_text_value EdmDateTimeOffset s v w a b = a.2 ∙ (ap moment (texts.moment s a.0 b.0 a.1 b.1) ∙ sym b.2)
   same_text_value EdmGuid s v w a b = a.2 ∙ (ap guid (texts.guid s a.0 b.0 a.1 b.1) ∙ sym b.2)

@@ -1,6 +1,12 @@
-use Rattle.std.proofs.Common.{refl}
-use Rattle.edm_entities.proofs.FitLemmas.Numbers.{val_of-Date, val_of-Moment, none_some}
+use Rattle.std.proofs.Common.{refl, ap, ◌∙◌}
+use Rattle.edm_values.specs.Val.{text}
+use Rattle.edm_entities.proofs.FitLemmas.Numbers.{val_of-Text, val_of-Date, val_of-Moment, none_some}
 use Rattle.edm_entities.proofs.leaf.read_text.Goals as goal
+
+pub returns-in-Ok-clause-fits : goal.returns-in-Ok-clause-fits
+returns-in-Ok-clause-fits c slots type =
+    rw c.in-String.is
+    (c.args.text.now, refl, (c.utf8.text, val_of-Text slots type c.in-Ok.text ∙ ap text c.in-Ok.ensures.ok))
 
 pub returns-in-Some-clause-fits : goal.returns-in-Some-clause-fits
 returns-in-Some-clause-fits c slots type =
