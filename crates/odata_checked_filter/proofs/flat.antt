@@ -1,6 +1,8 @@
 -- A list of nodes and the tree that it stands for.
+pub mod Alone
 pub mod Forests
 pub mod Growth
+pub mod Nodes
 pub mod Numbered
 pub mod Parts
 pub mod Places

@@ -1,15 +1,14 @@
 -- A checked filter.
-use Rattle.std.specs.Prelude.{◌≡◌, ℕ, ◌≤◌, [], Some, length, slice_get}
+use Rattle.std.specs.Prelude.{ℕ, ◌≤◌, [], length}
 use Rattle.odata_text.specs.Tokens.{token_limit}
 use Rattle.odata_syntax.specs.Tree.{Tree}
 use Rattle.csdl_schema.specs.ExprType.{ExprType}
 use Rattle.csdl_schema.specs.SchemaModel.{SchemaModel, HoldsType, slots_of, type_name_at}
-use Rattle.odata_expression_types.specs.Considered.{IsConsidered}
 use Rattle.odata_signatures.specs.ExprTypes.{IsBooleanOrNull}
 use Rattle.odata_checked_filter.specs.FlatTree.{FlatTree, tree_of_nodes}
 use Rattle.odata_expression_types.specs.PreOrder.{pre_order}
-use Rattle.odata_checked_filter.specs.ScopedNodes.{scoped_nodes}
-use Rattle.odata_checked_filter.specs.Stands.{Stands, variable_names}
+use Rattle.odata_checked_filter.specs.NodeScopes.{IsNode}
+use Rattle.odata_checked_filter.specs.Stands.{Stands}
 use Rattle.odata_expression_types.specs.Typed.{Scope, Typed}
 
 -- a filter of the n-th type of a schema, by the list of its nodes
@@ -38,8 +37,5 @@ pub record IsTypeAt (filter : Filter) (k : ℕ) (type : ExprType) : Type 0 where
   pub at : Scope
   pub part : Tree
   pub numbered :
-      slice_get (scoped_nodes [] (tree_of_filter filter)) k ≡ Some (record { variables = variable_names at; part = part })
-  pub considered :
-      IsConsidered (slots_of filter.schema) (type_name_at filter.schema filter.filtered) []
-      (tree_of_filter filter) at part
+      IsNode (slots_of filter.schema) (type_name_at filter.schema filter.filtered) [] (tree_of_filter filter) k at part
   pub typed : Typed (slots_of filter.schema) (type_name_at filter.schema filter.filtered) at part type

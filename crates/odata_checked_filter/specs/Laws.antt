@@ -13,6 +13,9 @@ use Rattle.odata_signatures.specs.declared.edm_type.ValueType.{ValueType}
 use Rattle.odata_expression_types.specs.Typed.{Scope, Typed}
 use Rattle.odata_checked_filter.specs.declared.checked_node.CheckedNode.{CheckedNode}
 use Rattle.odata_checked_filter.specs.declared.checked_node.NodeKind.{NodeKind}
+use Rattle.csdl_schema.specs.ExprType.{ExprType}
+use Rattle.odata_checked_filter.specs.Filter.{Filter, IsTypeAt}
+use Rattle.odata_checked_filter.specs.NameKinds.{IsSlotAt}
 use Rattle.odata_checked_filter.specs.FlatTree.{FlatTree, tree_of_nodes}
 use Rattle.odata_checked_filter.specs.ListGrowth.{IsGrownBy, IsKept, IsOpened, node_put, with_node}
 use Rattle.odata_checked_filter.specs.Stands.{ChildrenStand, IsKindOf, Stands, text_of_shape}
@@ -87,3 +90,11 @@ ClosedStands =
     (expr_type schema put.edm_type)
     → ChildrenStand schema n scope last (place + 1) (length last.nodes) shape
     → IsGrownBy schema n scope start (node put.span.start put.span.stop shape) (node_put last place put)
+
+-- a number of a filter is that of a node of one type
+abbrev pub OneTypeAt : Type 0
+OneTypeAt = (filter : Filter) (k : ℕ) (a b : ExprType) → IsTypeAt filter k a → IsTypeAt filter k b → a ≡ b
+
+-- and of one slot at most
+abbrev pub OneSlotAt : Type 0
+OneSlotAt = (filter : Filter) (k a b : ℕ) → IsSlotAt filter k a → IsSlotAt filter k b → a ≡ b

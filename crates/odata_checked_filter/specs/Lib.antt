@@ -19,6 +19,7 @@ pub mod Levels
 pub mod Stands
 pub mod ListGrowth
 pub mod ScopedNodes
+pub mod NodeScopes
 pub mod Filter
 pub mod NameKinds
 pub mod Depths

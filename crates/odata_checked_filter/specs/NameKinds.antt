@@ -3,9 +3,9 @@ use Rattle.std.specs.Prelude.{◌≡◌, ℕ, List, [], Option, Some, None, slic
 use Rattle.odata_syntax.specs.Tree.{Tree, node, name, member}
 use Rattle.csdl_schema.specs.ExprType.{single, structured}
 use Rattle.csdl_schema.specs.SchemaModel.{Slots, slots_of, type_name_at, slot_named}
-use Rattle.odata_expression_types.specs.Considered.{IsConsidered}
 use Rattle.odata_checked_filter.specs.Filter.{Filter, tree_of_filter}
 use Rattle.odata_checked_filter.specs.Levels.{level_named}
+use Rattle.odata_checked_filter.specs.NodeScopes.{IsNode}
 use Rattle.odata_checked_filter.specs.ScopedNodes.{scoped_nodes}
 use Rattle.odata_checked_filter.specs.Stands.{variable_names}
 use Rattle.odata_expression_types.specs.Typed.{Scope, Typed}
@@ -30,10 +30,7 @@ pub record IsSlotAt (filter : Filter) (k slot : ℕ) : Type 0 where
   pub at : Scope
   pub part : Tree
   pub numbered :
-      slice_get (scoped_nodes [] (tree_of_filter filter)) k ≡ Some (record { variables = variable_names at; part = part })
-  pub considered :
-      IsConsidered (slots_of filter.schema) (type_name_at filter.schema filter.filtered) []
-      (tree_of_filter filter) at part
+      IsNode (slots_of filter.schema) (type_name_at filter.schema filter.filtered) [] (tree_of_filter filter) k at part
   pub names : NamesSlot (slots_of filter.schema) (type_name_at filter.schema filter.filtered) at part slot
 
 -- the level of the variable that the filter's k-th node names

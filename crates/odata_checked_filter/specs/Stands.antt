@@ -101,8 +101,8 @@ pub record SideBySide (Left Right : ℕ → Type 0) : Type 0 where
   pub left : Left middle
   pub right : Right middle
 
--- a lambda operator binds its variable, and the nodes stand for its body in the scope with that (OData URL Conventions
--- 4.01, section 5.1.1.13)
+-- a lambda operator binds its variable, and this holds of its body in the scope with that (OData URL Conventions 4.01,
+-- section 5.1.1.13)
 pub record InBody (scope : Scope) (variable : List ℕ) (Base : ExprType → Type 0) (Body : Scope → Type 0) : Type 0 where
   pub member_type : SingleType
   pub binds : BindsVariable scope variable Base member_type

@@ -19,6 +19,7 @@ use super::lambda_depth::deepest;
 use super::node_list::NodeList;
 use csdl_schema::{Schema, TypeId};
 use edm_values::Value;
+use odata_expression_types::trees_have_one_type;
 use odata_signatures::{EdmType, calls_have_one_type};
 use odata_text::Span;
 use std::alloc::{AllocError, Global};
@@ -86,7 +87,8 @@ impl<'s> Checked<'s> {
         self.list.nodes()
     }
 
-    /// The text beside a node: a literal's spelling, a name, else nothing.
+    /// The text beside a node: a literal's spelling, a name, of a lambda operator the name of its range variable, else
+    /// nothing.
     pub fn text(&self, node: usize) -> &str
         requires { node < length self.now.list.nodes }
         ensures { slice_get self.now.list.texts node ≡ Some result.now }
@@ -151,6 +153,7 @@ impl<'s> Checked<'s> {
         ensures found { IfSome result (IsSlotAt self.now node) }
         ensures none { IfNone result ((slot : ℕ) → ¬ IsSlotAt self.now node slot) }
     {
+        trees_have_one_type();
         match self.node_at(node) {
             Some(found) => match found.kind {
                 NodeKind::Property { slot } => Some(slot),

@@ -1,4 +1,7 @@
-ghost use Rattle.odata_checked_filter.specs.Laws.{ClosedStands, ItemListStands, KeptStands, OneTree, PushedStands};
+ghost use Rattle.odata_checked_filter.specs.Laws.{ClosedStands, ItemListStands, KeptStands, OneSlotAt, OneTree};
+ghost use Rattle.odata_checked_filter.specs.Laws.{OneTypeAt, PushedStands};
+
+use odata_expression_types::trees_have_one_type;
 
 /// A law: a list of nodes stands for one tree at most, and that is read off it as `tree_of_nodes` says.
 pub fn a_list_stands_for_one_tree()
@@ -17,3 +20,11 @@ pub fn nodes_stand_where_they_are_put()
     ensures pushed { PushedStands }
     ensures closed { ClosedStands }
 {}
+
+/// A law: a node's number has one type and one slot at most.
+pub fn numbers_have_one_type_and_slot()
+    ensures types { OneTypeAt }
+    ensures slots { OneSlotAt }
+{
+    trees_have_one_type();
+}

@@ -16,5 +16,6 @@ pub use checked::Checked;
 pub use checked_node::{CheckedNode, NodeKind};
 pub use laws::{
     a_list_is_read_as_its_tree, a_list_stands_for_one_tree, nodes_stand_where_they_are_put,
+    numbers_have_one_type_and_slot,
 };
 pub use node_list::NodeList;

@@ -8,8 +8,8 @@ use odata_text::Span;
 use std::alloc::{AllocError, Global};
 use std::marker::Model;
 
-/// Nodes in pre-order, with the values of their literals, and a text beside each node: a literal's spelling, a name,
-/// and nothing for an operator.
+/// Nodes in pre-order, with the values of their literals, and a text beside each node: a literal's spelling, a name, of
+/// a lambda operator the name of its range variable, and nothing for other operators.
 #[derive(Drop)]
 pub struct NodeList {
     nodes: Vec<CheckedNode>,

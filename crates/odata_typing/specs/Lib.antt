@@ -19,6 +19,7 @@ pub use Rattle.odata_checked_filter.specs.FlatTree
 pub use Rattle.odata_checked_filter.specs.LambdaDepth
 pub use Rattle.odata_checked_filter.specs.Levels
 pub use Rattle.odata_checked_filter.specs.NameKinds
+pub use Rattle.odata_checked_filter.specs.NodeScopes
 pub use Rattle.odata_checked_filter.specs.ScopedNodes
 pub use Rattle.odata_checked_filter.specs.Stands
 pub use Rattle.odata_checked_filter.specs.TypeText

@@ -7,7 +7,9 @@ use Rattle.odata_text.specs.declared.span.Span.{Span}
 use Rattle.csdl_schema.specs.SchemaModel.{Slots, slots_of, type_name_at}
 use Rattle.odata_checked_filter.specs.declared.checked_node.CheckedNode.{CheckedNode}
 use Rattle.odata_checked_filter.specs.declared.checked_node.NodeKind.{NodeKind}
-use Rattle.odata_expression_types.specs.Considered.{IsConsidered}
+use Rattle.odata_expression_types.specs.Laws.{OneType}
+use Rattle.odata_checked_filter.specs.NodeScopes.{IsNode}
+use Rattle.odata_checked_filter.proofs.flat.Nodes.{node_before, node_one}
 use Rattle.odata_checked_filter.specs.Filter.{Filter, IsFilter, IsTypeAt, tree_of_filter}
 use Rattle.odata_checked_filter.specs.FlatTree.{FlatTree}
 use Rattle.odata_checked_filter.specs.Levels.{level_named}
@@ -83,21 +85,20 @@ none_some o a x y = cc
 no_kind : (kind : NodeKind) (slot : ℕ) → slot_of_kind kind ≡ Some slot → slot_of_kind kind ≡ None → ⊥
 no_kind kind slot some none = cc
 
--- a node whose kind has no slot names none, in any scope with these variables
+-- a node whose kind has no slot names none
 slots_none :
-    (list : FlatTree) (slots : Slots) (root : List ℕ) (scope at : Scope) (start stop : ℕ) (shape : Shape) (kind : NodeKind) (slot : ℕ)
+    (list : FlatTree) (slots : Slots) (root : List ℕ) (scope : Scope) (start stop : ℕ) (shape : Shape) (kind : NodeKind) (slot : ℕ)
     → IsKindOf list.values slots root scope shape kind
-    → variable_names at ≡ variable_names scope
     → slot_of_kind kind ≡ None
-    → NamesSlot slots root at (node start stop shape) slot
+    → NamesSlot slots root scope (node start stop shape) slot
     → ⊥
-slots_none list slots root scope at start stop (name asked) (NodeKind.Property other) slot is same none names = no_kind (NodeKind.Property other) other refl none
-slots_none list slots root scope at start stop (name asked) (NodeKind.Variable level) slot is same none names =
-    none_some (level_named (variable_names scope) asked) level is (ap (λ (v : List (List ℕ)). level_named v asked) (sym same) ∙ names.0)
-slots_none list slots root scope at start stop (name asked) _ slot is same none names = is
-slots_none list slots root scope at start stop (member base asked) (NodeKind.Member other) slot is same none names = no_kind (NodeKind.Member other) other refl none
-slots_none list slots root scope at start stop (member base asked) _ slot is same none names = is
-slots_none list slots root scope at start stop _ kind slot is same none names = names
+slots_none list slots root scope start stop (name asked) (NodeKind.Property other) slot is none names = no_kind (NodeKind.Property other) other refl none
+slots_none list slots root scope start stop (name asked) (NodeKind.Variable level) slot is none names =
+    none_some (level_named (variable_names scope) asked) level is names.0
+slots_none list slots root scope start stop (name asked) _ slot is none names = is
+slots_none list slots root scope start stop (member base asked) (NodeKind.Member other) slot is none names = no_kind (NodeKind.Member other) other refl none
+slots_none list slots root scope start stop (member base asked) _ slot is none names = is
+slots_none list slots root scope start stop _ kind slot is none names = names
 
 level_of_top :
     (list : FlatTree) (slots : Slots) (root : List ℕ) (scope : Scope) (start stop : ℕ) (shape : Shape) (kind : NodeKind)
@@ -129,7 +130,7 @@ pub record IsNodeOf (filter : Filter) (found : CheckedNode) (scope : Scope) (par
   pub span : found.span ≡ span_of_tree part
   pub typed : Typed (slots_of filter.schema) (type_name_at filter.schema filter.filtered) scope part (expr_type filter.schema found.edm_type)
   pub slots : (slot : ℕ) → slot_of_kind found.kind ≡ Some slot → NamesSlot (slots_of filter.schema) (type_name_at filter.schema filter.filtered) scope part slot
-  pub slotless : (at : Scope) (slot : ℕ) → variable_names at ≡ variable_names scope → slot_of_kind found.kind ≡ None → ¬ NamesSlot (slots_of filter.schema) (type_name_at filter.schema filter.filtered) at part slot
+  pub slotless : (slot : ℕ) → slot_of_kind found.kind ≡ None → ¬ NamesSlot (slots_of filter.schema) (type_name_at filter.schema filter.filtered) scope part slot
   pub levels : level_of_node (variable_names scope) part ≡ level_of_kind found.kind
 
 span_same : (span : Span) (start stop : ℕ) → span.start ≡ start → span.stop ≡ stop → span ≡ record { start = start; stop = stop }
@@ -151,7 +152,7 @@ top_says filter scope k j (node start stop shape) stands found here =
       span = span_same top.found.span start stop top.starts top.stops;
       typed = top.typed;
       slots = λ slot is. names_slot filter.list (slots_of schema) root scope start stop shape top.found.kind slot top.kind is;
-      slotless = λ at slot same none names. slots_none filter.list (slots_of schema) root scope at start stop shape top.found.kind slot top.kind same none names;
+      slotless = λ slot none names. slots_none filter.list (slots_of schema) root scope start stop shape top.found.kind slot top.kind none names;
       levels = level_of_top filter.list (slots_of schema) root scope start stop shape top.found.kind top.kind;
     })
 
@@ -168,7 +169,7 @@ pub record IsNumbered (filter : Filter) (k : ℕ) (found : CheckedNode) : Type 0
   pub part : Tree
   pub scoped : slice_get (scoped_nodes [] (tree_of_filter filter)) k ≡ Some (record { variables = variable_names scope; part = part })
   pub ordered : slice_get (pre_order (tree_of_filter filter)) k ≡ Some part
-  pub considered : IsConsidered (slots_of filter.schema) (type_name_at filter.schema filter.filtered) [] (tree_of_filter filter) scope part
+  pub is_node : IsNode (slots_of filter.schema) (type_name_at filter.schema filter.filtered) [] (tree_of_filter filter) k scope part
   pub says : IsNodeOf filter found scope part
   pub stop : ℕ
   pub stands : Stands filter.schema filter.filtered scope filter.list k stop part
@@ -181,7 +182,7 @@ numbered filter k found is here =
     let parts : length (scoped_nodes [] tree) ≡ length (pre_order tree) = parts_count [] tree in
     let inside : k < length (scoped_nodes [] tree) = omega arith in
     let s = found_within (scoped_nodes [] tree) k inside in
-    let P : ℕ → Type 0 = λ (x : ℕ). IsPart filter.schema filter.filtered [] filter.list tree x s.0 in
+    let P : ℕ → Type 0 = λ (x : ℕ). IsPart filter.schema filter.filtered filter.list x (IsNode (slots_of filter.schema) (type_name_at filter.schema filter.filtered) [] tree k) s.0 in
     let zero_more : 0 + k ≡ k = omega arith in
     let part = subst P zero_more (part_stands filter.schema filter.filtered [] filter.list 0 (length filter.list.nodes) tree k s.0 is.stands s.1) in
     let at : List (List ℕ) → ScopedNode = λ (variables : List (List ℕ)). record { variables = variables; part = s.0.part } in
@@ -193,7 +194,7 @@ numbered filter k found is here =
           ap (λ (ts : List Tree). slice_get ts k) (sym (parts_of [] tree))
           ∙ slice_get-map (λ (x : ScopedNode). x.part) (scoped_nodes [] tree) k
           ∙ ap (option_map (λ (x : ScopedNode). x.part)) s.1;
-      considered = part.considered;
+      is_node = part.is_node;
       says = top_says filter part.inner k part.j s.0.part part.stands found here;
       stop = part.j;
       stands = part.stands;
@@ -212,34 +213,34 @@ past_scoped filter k is past =
     slice_get_past (scoped_nodes [] (tree_of_filter filter)) k (omega arith)
 
 pub type_at : (filter : Filter) (k : ℕ) (found : CheckedNode) → IsNumbered filter k found → IsTypeAt filter k (expr_type filter.schema found.edm_type)
-type_at filter k found is = record { at = is.scope; part = is.part; numbered = is.scoped; considered = is.considered; typed = is.says.typed }
+type_at filter k found is = record { at = is.scope; part = is.part; numbered = is.is_node; typed = is.says.typed }
 
 pub span_at : (filter : Filter) (k : ℕ) (found : CheckedNode) → IsNumbered filter k found → Some found.span ≡ option_map span_of_tree (slice_get (pre_order (tree_of_filter filter)) k)
 span_at filter k found is = ap Some is.says.span ∙ sym (ap (option_map span_of_tree) is.ordered)
 
 pub slot_at : (filter : Filter) (k slot : ℕ) (found : CheckedNode) → IsNumbered filter k found → slot_of_kind found.kind ≡ Some slot → IsSlotAt filter k slot
 slot_at filter k slot found is kind =
-    record { at = is.scope; part = is.part; numbered = is.scoped; considered = is.considered; names = is.says.slots slot kind }
-
-same_scoped : (o : Option ScopedNode) (a b : ScopedNode) → o ≡ Some a → o ≡ Some b → a ≡ b
-same_scoped o a b x y = cc
+    record { at = is.scope; part = is.part; numbered = is.is_node; names = is.says.slots slot kind }
 
 -- a node whose kind has no slot has none in the tree
-pub no_slot_there : (filter : Filter) (k slot : ℕ) (found : CheckedNode) → IsNumbered filter k found → slot_of_kind found.kind ≡ None → ¬ IsSlotAt filter k slot
-no_slot_there filter k slot found is none other =
-    let named : ScopedNode = record { variables = variable_names other.at; part = other.part } in
-    let here : ScopedNode = record { variables = variable_names is.scope; part = is.part } in
-    let same : named ≡ here = same_scoped (slice_get (scoped_nodes [] (tree_of_filter filter)) k) named here other.numbered is.scoped in
-    let part : other.part ≡ is.part = ap (λ (x : ScopedNode). x.part) same in
-    let Q : Tree → Type 0 = λ (t : Tree). NamesSlot (slots_of filter.schema) (type_name_at filter.schema filter.filtered) other.at t slot in
-    is.says.slotless other.at slot (ap (λ (x : ScopedNode). x.variables) same) none (subst Q part other.names)
+pub no_slot_there : OneType → (filter : Filter) (k slot : ℕ) (found : CheckedNode) → IsNumbered filter k found → slot_of_kind found.kind ≡ None → ¬ IsSlotAt filter k slot
+no_slot_there one filter k slot found is none other =
+    let slots = slots_of filter.schema in
+    let root = type_name_at filter.schema filter.filtered in
+    let same = node_one one slots root [] (tree_of_filter filter) k other.at is.scope other.part is.part other.numbered is.is_node in
+    let P : Scope → Type 0 = λ (s : Scope). NamesSlot slots root s other.part slot in
+    let Q : Tree → Type 0 = λ (t : Tree). NamesSlot slots root is.scope t slot in
+    is.says.slotless slot none (subst Q same.parts (subst P same.scopes other.names))
 
 pub level_found : (filter : Filter) (k : ℕ) (found : CheckedNode) → IsNumbered filter k found → level_at filter k ≡ level_of_kind found.kind
 level_found filter k found is = rw is.scoped is.says.levels
 
 pub no_slot_past : (filter : Filter) (k slot : ℕ) → IsFilter filter → length filter.list.nodes ≤ k → ¬ IsSlotAt filter k slot
 no_slot_past filter k slot is past names =
-    none-some (record { variables = variable_names names.at; part = names.part }) (sym (past_scoped filter k is past) ∙ names.numbered)
+    let before : k < length (pre_order (tree_of_filter filter)) =
+    node_before (slots_of filter.schema) (type_name_at filter.schema filter.filtered) [] (tree_of_filter filter) k names.at names.part names.numbered in
+    let count : length filter.list.nodes ≡ length (pre_order (tree_of_filter filter)) = count_of filter is in
+    omega arith
 
 pub no_level_past : (filter : Filter) (k : ℕ) → IsFilter filter → length filter.list.nodes ≤ k → level_at filter k ≡ None
 no_level_past filter k is past = rw (past_scoped filter k is past) refl

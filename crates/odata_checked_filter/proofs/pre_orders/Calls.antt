@@ -1,5 +1,5 @@
 -- A tree calls a function where a node of its list does.
-use Rattle.std.proofs.Common.{◌≡◌, ◌↔◌, ◌∙◌, refl, sym, ap, subst, inl, inr, ℕ, zero, suc, ◌<◌, List, [], ◌∷◌, ◌++◌, Bool, true, false, Some, append-nil, length, slice_get, arith}
+use Rattle.std.proofs.Common.{◌≡◌, ◌↔◌, ◌∙◌, refl, sym, ap, subst, ℕ, zero, suc, ◌<◌, List, [], ◌∷◌, ◌++◌, Bool, true, false, Some, append-nil, length, slice_get, arith}
 use Rattle.std.specs.Prelude.{◌||◌, Contains, codes, slice_index_or}
 use Rattle.std.specs.List.{flat_map, list_any}
 use Rattle.std.proofs.lemmas.Option.{none-some, slice_get_within}
@@ -9,7 +9,6 @@ use Rattle.csdl_schema.specs.SchemaModel.{Slots, slots_of, type_name_at}
 use Rattle.odata_signatures.specs.Functions.{IsNamed}
 use Rattle.odata_signatures.specs.declared.function.Function.{Function}
 use Rattle.edm_values.specs.declared.value.Value.{Value}
-use Rattle.odata_expression_types.specs.Considered.{IsAmong, IsConsidered, IsConsideredChild, children_in_scope, considers_below, considers_itself}
 use Rattle.odata_expression_types.specs.PreOrder.{nodes_among, nodes_below, pre_order}
 use Rattle.odata_expression_types.specs.Typed.{Scope}
 use Rattle.odata_checked_filter.specs.declared.checked_node.CheckedNode.{CheckedNode}
@@ -19,6 +18,7 @@ use Rattle.odata_checked_filter.specs.Filter.{Filter, IsFilter, tree_of_filter}
 use Rattle.odata_checked_filter.specs.Stands.{IsKindOf, Stands}
 use Rattle.odata_checked_filter.specs.private.CalledKinds.{function_makes_text, kind_is_now, kind_makes_text}
 use Rattle.odata_checked_filter.proofs.flat.Numbered.{count_of, numbered}
+use Rattle.odata_checked_filter.proofs.flat.Nodes.{node_within}
 use Rattle.odata_checked_filter.proofs.flat.Places.{found_within, same_found}
 
 -- ---- nodes below and nodes in order
@@ -76,43 +76,6 @@ ordered (node start stop shape) part (in_child {child = child} contains within) 
     let k = ordered child part within in
     let j = in_flat (children_of shape) child part contains.0 k.0 contains.1 contains.2 k.1 in
     (suc j.0, subst (λ (ts : List Tree). slice_get ts j.0 ≡ Some part) (sym (below_flat shape)) j.1)
-
--- ---- what is judged is a node
-
-among_contained : (scope at : Scope) (trees : List Tree) (child : Tree) → IsAmong scope trees at child → Contains trees child
-among_contained scope at [] child among = absurd among
-among_contained scope at (tree ∷ trees) child (inl same) = (0, omega arith, sym same.1)
-among_contained scope at (tree ∷ trees) child (inr among) =
-    let rest = among_contained scope at trees child among in
-    let h : rest.0 < length trees = rest.1 in
-    (suc rest.0, omega arith, rest.2)
-
-child_contained : (scope at : Scope) (shape : Shape) (child : Tree) → IsAmong scope (children_in_scope shape) at child → Contains (children_of shape) child
-child_contained scope at (lambda quantifier base variable body) child (inl same) = (0, omega arith, sym same.1)
-child_contained scope at (lambda quantifier base variable body) child (inr none) = absurd none
-child_contained scope at (literal kind spelling) child among = absurd among
-child_contained scope at it child among = absurd among
-child_contained scope at (name asked) child among = absurd among
-child_contained scope at (member base asked) child among = among_contained scope at (base ∷ []) child among
-child_contained scope at (count base) child among = among_contained scope at (base ∷ []) child among
-child_contained scope at (negation operand) child among = among_contained scope at (operand ∷ []) child among
-child_contained scope at (logical_not operand) child among = among_contained scope at (operand ∷ []) child among
-child_contained scope at (binary operator left right) child among = among_contained scope at (left ∷ right ∷ []) child among
-child_contained scope at (has left right) child among = among_contained scope at (left ∷ right ∷ []) child among
-child_contained scope at (in_list left items) child among = among_contained scope at (left ∷ list_of_trees items) child among
-child_contained scope at (in_path left path) child among = among_contained scope at (left ∷ path ∷ []) child among
-child_contained scope at (call asked arguments) child among = among_contained scope at (list_of_trees arguments) child among
-child_contained scope at (any_item base) child among = among_contained scope at (base ∷ []) child among
-
-considered_contained : (slots : Slots) (root : List ℕ) (scope at : Scope) (shape : Shape) (child : Tree) → IsConsideredChild slots root scope shape at child → Contains (children_of shape) child
-considered_contained slots root scope at shape child (inl among) = child_contained scope at shape child among
-considered_contained slots root scope at (lambda quantifier base variable body) child (inr is) = (1, omega arith, sym is.itself.1)
-considered_contained slots root scope at _ child (inr none) = absurd none
-
-within_considered : (slots : Slots) (root : List ℕ) (scope : Scope) (tree : Tree) (at : Scope) (part : Tree) → IsConsidered slots root scope tree at part → IsWithin part tree
-within_considered slots root scope tree at part considers_itself = is_root
-within_considered slots root scope tree at part (considers_below {inner = inner} {child = child} among below) =
-    in_child {child = child} (considered_contained slots root scope inner (shape_of tree) child among) (within_considered slots root inner child at part below)
 
 -- ---- a test of kinds
 
@@ -173,7 +136,7 @@ calls_by_nodes test functions filter tests is =
           let f = any_found (λ (n : CheckedNode). test n.kind) nodes any in
           let n = numbered filter f.0 f.1 is f.2 in
           node_calls test functions filter n.scope f.0 n.stop n.part f.1 tests n.stands f.2 f.3
-          (within_considered (slots_of filter.schema) (type_name_at filter.schema filter.filtered) [] tree n.scope n.part n.considered),
+          (node_within (slots_of filter.schema) (type_name_at filter.schema filter.filtered) [] tree f.0 n.scope n.part n.is_node),
       λ calls.
           let k = ordered tree calls.part calls.within in
           let count : length nodes ≡ length (pre_order tree) = count_of filter is in

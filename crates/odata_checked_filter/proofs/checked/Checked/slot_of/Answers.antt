@@ -18,7 +18,7 @@ pub returns-in_default : goal.returns-in_default
 returns-in_default c = record {
   found = tt;
   none = λ slot.
-      no_slot_there c.args.self.now c.args.node slot c.in-Some.found.now
+      no_slot_there c.trees_have_one_type.ensures c.args.self.now c.args.node slot c.in-Some.found.now
       (numbered c.args.self.now c.args.node c.in-Some.found.now c.node_at.ensures.right (sym c.in-Some.ensures.same))
       (no_slot c.in-Some.found.now.kind c.in_default.not-Property c.in_default.not-Member);
 }
