@@ -1,9 +1,11 @@
-ghost use Rattle.std.specs.Prelude.{◌≡◌, ◌≢◌, IfOk};
+ghost use Rattle.std.specs.Prelude.{◌≡◌, ◌≢◌, IfOk, IsOk, OnErr};
 ghost use Rattle.serde_json.specs.Data.{Data};
 ghost use Rattle.serde_json.specs.View.{view};
 ghost use Rattle.csdl_schema.specs.SchemaModel.{slots_of, type_name_at};
 ghost use Rattle.edm_entities.specs.Fits.{Fits};
 ghost use Rattle.edm_entities.specs.Row.{value_of};
+ghost use Rattle.odata_checked_filter.specs.Calls.{TakesMemory};
+ghost use Rattle.odata_checked_filter.specs.Filter.{tree_of_filter};
 ghost use Rattle.odata_filter.specs.RowJudgment.{JudgesValue, JudgesRow};
 ghost use Rattle.odata_filter.specs.private.Verdicts.{judgment_of};
 
@@ -41,9 +43,10 @@ impl RowJudge<'_, '_> {
     pub(crate) fn judge_entity(&self, entity: &Entity<'_>) -> Result<Judgment<BadRow>, AllocError>
         requires schema { entity.now.schema ≡ self.now.checked.now.schema }
         requires type_id { entity.now.type_id ≡ self.now.checked.now.filtered }
-        ensures { (json : Data) → Fits (slots_of entity.now.schema)
+        ensures judged { (json : Data) → Fits (slots_of entity.now.schema)
             (type_name_at entity.now.schema entity.now.type_id) json (value_of entity.now)
             → IfOk result (JudgesValue self.now.checked.now self.now.moment.now json) }
+        ensures no_memory { ¬ TakesMemory (tree_of_filter self.now.checked.now) → IsOk result }
     {
         match evaluate(self.alloc, self.checked, entity, self.moment) {
             Ok(verdict) => Ok(judgment_of(verdict)),
@@ -80,8 +83,9 @@ fn judgment_of(verdict: Verdict) -> Judgment<BadRow>
 
 /// What a fault says of its row. Want of memory says nothing of it.
 fn judgment_of_fault(fault: EvalFault) -> Result<Judgment<BadRow>, AllocError>
-    ensures { IfOk result (λ said. (fault ≢ EvalFault.Memory)
+    ensures said { IfOk result (λ said. (fault ≢ EvalFault.Memory)
         × (said ≡ Judgment.Fault (BadRow.NoValue fault))) }
+    ensures memory { OnErr result (fault ≡ EvalFault.Memory) }
 {
     match fault {
         EvalFault::Memory => Err(AllocError),
