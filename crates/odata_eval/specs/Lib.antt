@@ -29,6 +29,7 @@ pub mod CalculationGives
 pub mod CallGives
 pub mod CollectionGives
 pub mod ComesTo
+pub mod ComesToMembers
 pub mod CompareGives
 pub mod EndsOnce
 pub mod Environment

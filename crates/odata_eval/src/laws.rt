@@ -1,11 +1,16 @@
 //! Laws of what expressions mean, as contracts of functions that do nothing but cite others.
-ghost use Rattle.std.specs.Prelude.{pos, true, false, codes};
-ghost use Rattle.edm_values.specs.Val.{Val, boolean};
+ghost use Rattle.std.specs.Prelude.{pos, true, false, codes, [], ◌∷◌};
+ghost use Rattle.edm_values.specs.Val.{Val, boolean, items, no_items, null, whole};
 ghost use Rattle.odata_syntax.specs.FirstRun.{first_run_tree};
+ghost use Rattle.odata_syntax.specs.Tree.{Tree, any_item, count, in_list, in_path, trees_of_list};
+ghost use Rattle.odata_syntax.specs.declared.node.Quantifier.{Quantifier};
+ghost use Rattle.odata_syntax.specs.declared.node.Quantifier.TheVariants.{All, Any};
 ghost use Rattle.odata_eval.specs.EndsOnce.{EndsOnceOnEntities, TypedEndsOnce};
 ghost use Rattle.odata_eval.specs.ComesTo.{ComesTo, false_and_missing, item_value};
+ghost use Rattle.odata_eval.specs.ComesToMembers.{ComesToOn, all_alike, is_null, named, null_literal, one_div_zero};
+ghost use Rattle.odata_eval.specs.ComesToMembers.{over_tags, text_and_null};
 ghost use Rattle.odata_eval.specs.OneByOne.{ComparedOneByOne, ItemsOneByOne, MembersOneByOne};
-ghost use Rattle.odata_eval.specs.Outcome.{gives};
+ghost use Rattle.odata_eval.specs.Outcome.{gives, divides_by_zero};
 ghost use Rattle.odata_eval.specs.SameMeaning.{NormalFormsKeepOutcomes, CanonicalTextsKeepOutcomes};
 
 use edm_entities::what_fits_has_its_type;
@@ -72,6 +77,35 @@ pub fn first_run_comes_to()
     ensures other_name { ComesTo first_run_tree (item_value (pos 1) (codes "b") true) (gives (boolean false)) }
     ensures inactive { ComesTo first_run_tree (item_value (pos 2) (codes "a") false) (gives (boolean false)) }
     ensures right_side_left_out { (value : Val) → ComesTo false_and_missing value (gives (boolean false)) }
+{
+    literals_have_one_value();
+    trees_have_one_type();
+    arithmetic_has_one_answer();
+    calls_have_one_type();
+    texts_have_one_answer();
+    day_numbers_have_one_date();
+}
+
+/// What the definitions say of `any`, `all`, `in`, `$count` and `any()` on the members `'a'` and null of a property `Tags`,
+/// on none, and where it is null: `t` and `u` are range variables.
+pub fn members_come_to()
+    ensures some { ComesToOn text_and_null (over_tags Any is_null) (gives (boolean true)) }
+    ensures not_all { ComesToOn text_and_null (over_tags All is_null) (gives (boolean false)) }
+    ensures null_body_of_any { ComesToOn text_and_null (over_tags Any null_literal) (gives (boolean false)) }
+    ensures null_body_of_all { ComesToOn text_and_null (over_tags All null_literal) (gives (boolean false)) }
+    ensures any_of_none { (body : Tree) → ComesToOn (items no_items) (over_tags Any body) (gives (boolean false)) }
+    ensures all_of_none { (body : Tree) → ComesToOn (items no_items) (over_tags All body) (gives (boolean true)) }
+    ensures of_null { (quantifier : Quantifier) (body : Tree) → ComesToOn null (over_tags quantifier body) (gives null) }
+    ensures outer_variable { ComesToOn text_and_null (over_tags Any all_alike) (gives (boolean false)) }
+    ensures fault_behind { (tags : Val)
+        → ComesToOn tags (in_list null_literal (trees_of_list (null_literal ∷ one_div_zero ∷ []))) (gives (boolean true)) }
+    ensures fault_before { (tags : Val)
+        → ComesToOn tags (in_list null_literal (trees_of_list (one_div_zero ∷ null_literal ∷ []))) divides_by_zero }
+    ensures two_counted { ComesToOn text_and_null (count (named (codes "Tags"))) (gives (whole (pos 2))) }
+    ensures null_counted { ComesToOn null (count (named (codes "Tags"))) (gives null) }
+    ensures any_member { ComesToOn text_and_null (any_item (named (codes "Tags"))) (gives (boolean true)) }
+    ensures null_member { ComesToOn text_and_null (in_path null_literal (named (codes "Tags"))) (gives (boolean true)) }
+    ensures in_null { ComesToOn null (in_path null_literal (named (codes "Tags"))) (gives null) }
 {
     literals_have_one_value();
     trees_have_one_type();

@@ -20,7 +20,7 @@ mod walk;
 pub use evaluator::evaluate;
 pub use fault::EvalFault;
 pub use laws::{
-    canonical_texts_keep_outcomes, first_run_comes_to, one_by_one, typed_trees_end_once,
-    typed_trees_end_once_on_entities,
+    canonical_texts_keep_outcomes, first_run_comes_to, members_come_to, one_by_one,
+    typed_trees_end_once, typed_trees_end_once_on_entities,
 };
 pub use verdict::Verdict;
