@@ -24,3 +24,4 @@ pub mod OneStep
 pub mod Progress
 pub mod SameForms
 pub mod SameGives
+pub mod TypeValues

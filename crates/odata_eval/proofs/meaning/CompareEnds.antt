@@ -12,10 +12,11 @@ use Rattle.odata_eval.specs.Outcome.{gives}
 use Rattle.odata_eval.proofs.meaning.Ends.{Ends, typed_value}
 use Rattle.odata_eval.proofs.meaning.Kinds.{comparable_values}
 use Rattle.odata_eval.proofs.meaning.LawsBelow.{SomeEach}
+use Rattle.odata_eval.proofs.meaning.TypeValues.{truth_has}
 
 pub compare_ends : (some : SomeEach) (slots : Slots) (operator : ComparisonOperator) (left right type : ExprType) (l r : Val)
     → ClassTyped (OperatorClass.Comparison operator) left right type → HasType slots left l → HasType slots right r
     → Ends slots type (CompareGives operator l r)
 compare_ends some slots operator left right type l r typed of_l of_r =
     let answer = some.decided operator l r in
-    (gives (boolean answer.0), ((comparable_values slots operator left right l r typed.0 of_l of_r, answer.1), typed_value slots boolean_type type (boolean answer.0) typed.1 tt))
+    (gives (boolean answer.0), ((comparable_values slots operator left right l r typed.0 of_l of_r, answer.1), typed_value slots boolean_type type (boolean answer.0) typed.1 (truth_has slots answer.0)))

@@ -1,6 +1,6 @@
 -- A function has an outcome on arguments of its kinds none of which is null.
 use Rattle.std.proofs.Common.{◌≡◌, ◌≤◌, ℕ, ℤ, List, [], ◌∷◌, Bool, false, IsTrue, length, refl, sym, subst}
-use Rattle.std.specs.Prelude.{◌↔◌, pos}
+use Rattle.std.specs.Prelude.{◌↔◌, pos, encode_utf8_all}
 use Rattle.std.specs.Str.{chars}
 use Rattle.edm_values.specs.Civil.{Date, epoch_day}
 use Rattle.edm_values.specs.Instant.{offset_of}
@@ -24,6 +24,7 @@ use Rattle.odata_eval.proofs.meaning.ArgumentForms.{IsDated, IsPartAsked, one_da
 use Rattle.odata_eval.proofs.meaning.Ends.{Ends}
 use Rattle.odata_eval.proofs.meaning.LawsBelow.{SomeEach}
 use Rattle.odata_eval.proofs.meaning.NumberComes.{number_given}
+use Rattle.odata_eval.proofs.meaning.TypeValues.{date_has, moment_has, text_has, truth_has}
 
 module _ (slots : Slots) (type : ExprType) where
   -- ---- arguments by their kinds
@@ -66,10 +67,10 @@ module _ (slots : Slots) (type : ExprType) where
 -- ---- what is given
 
 pub truth_given : (slots : Slots) (Fact : Type 0) → (answer : Bool) × (IsTrue answer ↔ Fact) → Ends slots (single (primitive PrimitiveType.Bool)) (GivesTruth Fact)
-truth_given slots Fact decided = (gives (boolean decided.0), (decided.1, tt))
+truth_given slots Fact decided = (gives (boolean decided.0), (decided.1, truth_has slots decided.0))
 
 text_given : (slots : Slots) (characters : List ℕ) → Ends slots (single (primitive PrimitiveType.String)) (GivesText characters)
-text_given slots characters = (gives _, (refl, tt))
+text_given slots characters = (gives (text (encode_utf8_all characters)), (refl, text_has slots (encode_utf8_all characters)))
 
 module _ (some : SomeEach) (slots : Slots) where
   count_given : (n : ℤ) → Ends slots (single (primitive PrimitiveType.Int32)) (GivesCount n)
@@ -119,6 +120,6 @@ module _ (some : SomeEach) (slots : Slots) where
   function_ends now Function.Minute values full applies = moment_ends slots _ _ (λ m. count_given (minute_of m)) values applies.enough applies.are full
   function_ends now Function.Second values full applies = moment_ends slots _ _ (λ m. count_given (second_of m)) values applies.enough applies.are full
   function_ends now Function.TotalOffsetMinutes values full applies = moment_ends slots _ _ (λ m. count_given (offset_of m)) values applies.enough applies.are full
-  function_ends now Function.Date values full applies = moment_ends slots _ _ (λ m. (gives (date (date_of m)), (refl, tt))) values applies.enough applies.are full
-  function_ends now Function.Now [] full applies = (gives (moment now), (refl, tt))
+  function_ends now Function.Date values full applies = moment_ends slots _ _ (λ m. (gives (date (date_of m)), (refl, date_has slots (date_of m)))) values applies.enough applies.are full
+  function_ends now Function.Now [] full applies = (gives (moment now), (refl, moment_has slots now))
   function_ends now Function.Now (v ∷ more) full applies = absurd applies.are

@@ -11,61 +11,9 @@ use Rattle.odata_functions.specs.declared.comparison.ComparisonOperator.{Compari
 use Rattle.odata_signatures.specs.ComparableTypes.{AreAlikePrimitives, AreComparable, AreComparableSingles, AreComparedBy, AreOrdered, IsOrderedPrimitive, IsOrderedSingle}
 use Rattle.odata_signatures.specs.ExprTypes.{IsBooleanOrNull}
 use Rattle.odata_eval.specs.TruthGives.{truth_val}
+use Rattle.odata_eval.proofs.meaning.TypeValues.{IsOfKind, ValueKind, dates, guids, kind_of_primitive, member_kind, members, moments, null_value, primitive_kind, record_form, texts, truths, wholes}
 
--- the kinds of values without parts
-pub data ValueKind : Type 0 where
-  truths : ValueKind
-  wholes : ValueKind
-  texts : ValueKind
-  dates : ValueKind
-  moments : ValueKind
-  guids : ValueKind
-  members : ValueKind
-
--- a value of that kind, or null
-abbrev pub IsOfKind : ValueKind → Val → Type 0
-IsOfKind kind null = Unit {0}
-IsOfKind kind (boolean b) = kind ≡ truths
-IsOfKind kind (whole n) = kind ≡ wholes
-IsOfKind kind (text t) = kind ≡ texts
-IsOfKind kind (date d) = kind ≡ dates
-IsOfKind kind (moment m) = kind ≡ moments
-IsOfKind kind (guid g) = kind ≡ guids
-IsOfKind kind (member n) = kind ≡ members
-IsOfKind kind _ = ⊥
-
-abbrev pub kind_of_primitive : PrimitiveType → ValueKind
-kind_of_primitive PrimitiveType.Bool = truths
-kind_of_primitive PrimitiveType.Byte = wholes
-kind_of_primitive PrimitiveType.SByte = wholes
-kind_of_primitive PrimitiveType.Int16 = wholes
-kind_of_primitive PrimitiveType.Int32 = wholes
-kind_of_primitive PrimitiveType.Int64 = wholes
-kind_of_primitive PrimitiveType.String = texts
-kind_of_primitive PrimitiveType.Date = dates
-kind_of_primitive PrimitiveType.DateTimeOffset = moments
-kind_of_primitive PrimitiveType.Guid = guids
-
-primitive_kind : (slots : Slots) (p : PrimitiveType) (v : Val) → HasType slots (single (primitive p)) v → IsOfKind (kind_of_primitive p) v
-primitive_kind slots p null has = tt
-primitive_kind slots PrimitiveType.Bool (boolean b) has = refl
-primitive_kind slots PrimitiveType.Byte (whole n) has = refl
-primitive_kind slots PrimitiveType.SByte (whole n) has = refl
-primitive_kind slots PrimitiveType.Int16 (whole n) has = refl
-primitive_kind slots PrimitiveType.Int32 (whole n) has = refl
-primitive_kind slots PrimitiveType.Int64 (whole n) has = refl
-primitive_kind slots PrimitiveType.String (text t) has = refl
-primitive_kind slots PrimitiveType.Date (date d) has = refl
-primitive_kind slots PrimitiveType.DateTimeOffset (moment m) has = refl
-primitive_kind slots PrimitiveType.Guid (guid g) has = refl
-primitive_kind slots _ _ has = absurd has
-
-member_kind : (slots : Slots) (name : _) (v : Val) → HasType slots (single (enumeration name)) v → IsOfKind members v
-member_kind slots name null has = tt
-member_kind slots name (member n) has = refl
-member_kind slots name _ has = absurd has
-
-number_kind : (p : PrimitiveType) → IsNumberType p → kind_of_primitive p ≡ wholes
+pub number_kind : (p : PrimitiveType) → IsNumberType p → kind_of_primitive p ≡ wholes
 number_kind PrimitiveType.Byte is = refl
 number_kind PrimitiveType.SByte is = refl
 number_kind PrimitiveType.Int16 is = refl
@@ -126,12 +74,10 @@ kind_no_list kind _ is = tt
 single_no_list : (slots : Slots) (type : SingleType) (v : Val) → HasType slots (single type) v → IsNoList v
 single_no_list slots (primitive p) v has = kind_no_list (kind_of_primitive p) v (primitive_kind slots p v has)
 single_no_list slots (enumeration name) v has = kind_no_list members v (member_kind slots name v has)
-single_no_list slots (structured name) (items vs) has = has
-single_no_list slots (structured name) _ has = tt
-
-null_value : (slots : Slots) (v : Val) → HasType slots null_type v → v ≡ null
-null_value slots null has = refl
-null_value slots _ has = absurd has
+single_no_list slots (structured name) v has = elim (record_form slots name v has) [
+  | inl is_null ↦ rw is_null tt
+  | inr record_is ↦ (let is : v ≡ fields record_is.0 = record_is.1 in rw is tt)
+]
 
 null_left : (v : Val) → IsNoList v → HaveEquality null v
 null_left (items vs) is = is

@@ -16,6 +16,7 @@ use Rattle.odata_eval.proofs.meaning.Ends.{Ends}
 use Rattle.odata_eval.proofs.meaning.LawsBelow.{OneEach, SomeEach}
 use Rattle.odata_eval.proofs.meaning.OneLeaf.{same_number}
 use Rattle.odata_eval.proofs.meaning.OneStep.{AtMostOne}
+use Rattle.odata_eval.proofs.meaning.TypeValues.{null_has, number_has}
 
 -- a number is the negation of its own
 twice_negated : (p : PrimitiveType) (n : ℤ) (answer : Result (Option ℤ) ArithFault) → ComesWithin p n answer → ComesWithin p (neg_ℤ (neg_ℤ n)) answer
@@ -29,8 +30,8 @@ GivesNumber-one known p n a b of_a of_b =
 -- what comes of a number in a type lies within that
 pub number_typed : (slots : Slots) (p : PrimitiveType) (n : ℤ) (answer : Result (Option ℤ) ArithFault) → ComesWithin p n answer
     → IsOutcomeOf slots (single (primitive p)) (number_outcome answer)
-number_typed slots p n (Ok (Some m)) comes = let same : m ≡ n = cc in subst (λ (k : ℤ). IsNumberOf p k) (sym same) comes.1
-number_typed slots p n (Ok None) comes = tt
+number_typed slots p n (Ok (Some m)) comes = let same : m ≡ n = cc in number_has slots p m (subst (λ (k : ℤ). IsNumberOf p k) (sym same) comes.1)
+number_typed slots p n (Ok None) comes = null_has slots (single (primitive p))
 number_typed slots p n (Err Overflow) comes = tt
 number_typed slots p n (Err DivideByZero) comes = tt
 

@@ -2,7 +2,7 @@
 use Rattle.std.proofs.Common.{refl, sym, subst, Option, Some, None}
 use Rattle.std.specs.Prelude.{IfSome}
 use Rattle.edm_values.specs.NumberTypes.{IsNumberOf, IsNumberType}
-use Rattle.edm_values.specs.Val.{Val, null, whole}
+use Rattle.edm_values.specs.Val.{Val, null, whole, fields, items}
 use Rattle.edm_values.specs.declared.primitive.PrimitiveType.{PrimitiveType}
 use Rattle.csdl_schema.specs.ExprType.{ExprType, null_type, single, primitive}
 use Rattle.csdl_schema.specs.SchemaModel.{Slots}
@@ -11,7 +11,9 @@ use Rattle.odata_functions.specs.Promotion.{negation_type, promotion, wider_type
 use Rattle.odata_signatures.specs.ExprTypes.{IsNumberOrNull, number_or_null}
 use Rattle.odata_signatures.specs.OperatorTyped.{ArithmeticTyped, NegationTyped}
 use Rattle.odata_eval.specs.private.Operands.{AreNumbers, IsOneNumber}
+use Rattle.odata_eval.proofs.meaning.Kinds.{number_kind}
 use Rattle.odata_eval.proofs.meaning.LawsBelow.{Promotes}
+use Rattle.odata_eval.proofs.meaning.TypeValues.{IsOfKind, ValueKind, null_value, number_within, primitive_kind, wholes}
 
 -- a number of that type, or null
 abbrev pub IsNumberIn : Option PrimitiveType → Val → Type 0
@@ -25,19 +27,20 @@ are_numbers null_type number is = rw is tt
 are_numbers (single (primitive p)) number is = rw is.1 is.0
 are_numbers _ number is = absurd is
 
+-- a value of that kind is a number
+wholes_in : (slots : Slots) (p : PrimitiveType) (v : Val) → IsOfKind wholes v → HasType slots (single (primitive p)) v → IsNumberIn (Some p) v
+wholes_in slots p null is has = tt
+wholes_in slots p (whole n) is has = number_within slots p n has
+wholes_in slots p (fields held) is has = absurd is
+wholes_in slots p (items vs) is has = absurd is
+wholes_in slots p _ is has = absurd (cc)
+
 primitive_number : (slots : Slots) (p : PrimitiveType) (v : Val) → IsNumberType p → HasType slots (single (primitive p)) v → IsNumberIn (Some p) v
-primitive_number slots p null is has = tt
-primitive_number slots p (whole n) is has = has
-primitive_number slots PrimitiveType.Byte _ is has = absurd has
-primitive_number slots PrimitiveType.SByte _ is has = absurd has
-primitive_number slots PrimitiveType.Int16 _ is has = absurd has
-primitive_number slots PrimitiveType.Int32 _ is has = absurd has
-primitive_number slots PrimitiveType.Int64 _ is has = absurd has
-primitive_number slots _ _ is has = absurd is
+primitive_number slots p v is has =
+    wholes_in slots p v (subst (λ (kind : ValueKind). IsOfKind kind v) (number_kind p is) (primitive_kind slots p v has)) has
 
 null_number : (slots : Slots) (v : Val) → HasType slots null_type v → IsNumberIn None v
-null_number slots null has = tt
-null_number slots _ has = absurd has
+null_number slots v has = rw (null_value slots v has) tt
 
 pub number_in : (slots : Slots) (type : ExprType) (number : Option PrimitiveType) (v : Val) → IsNumberOrNull type number → HasType slots type v → IsNumberIn number v
 number_in slots null_type number v is has = rw is (null_number slots v has)

@@ -5,7 +5,6 @@ use Rattle.std.specs.Int.{w64}
 use Rattle.std.specs.List.{AllByRecursion}
 use Rattle.std.specs.Option.{option_map}
 use Rattle.std.specs.Cmp.Lexicographic.{pointwise}
-use Rattle.std.proofs.lemmas.Slice.Eq.{bytes_eq-Decides}
 use Rattle.edm_values.specs.MomentParts.{MomentParts}
 use Rattle.edm_values.specs.IntLiteral.{IntValue}
 use Rattle.edm_values.specs.NumberTypes.{IsIntLiteralType, IsNumberOf}
@@ -17,7 +16,7 @@ use Rattle.odata_syntax.specs.Tree as tree
 use Rattle.odata_syntax.specs.declared.node.LiteralKind.{LiteralKind}
 use Rattle.csdl_schema.specs.ExprType.{ExprType, single, collection, primitive, enumeration, structured}
 use Rattle.csdl_schema.specs.SchemaModel.{Slots, PropertyModel, declared}
-use Rattle.edm_entities.specs.HasType.{HasType, HasPropertyType}
+use Rattle.edm_entities.specs.HasType.{HasType}
 use Rattle.odata_functions.specs.Arithmetic.{ArithmeticGives, ComesWithin}
 use Rattle.odata_functions.specs.Connectives.{not3}
 use Rattle.odata_functions.specs.declared.arithmetic.ArithFault.{ArithFault}
@@ -57,28 +56,29 @@ use Rattle.odata_eval.proofs.meaning.Kinds.{IsTruth, truth_of}
 use Rattle.odata_eval.proofs.meaning.LawsBelow.{Promotes, SomeEach}
 use Rattle.odata_eval.proofs.meaning.NumberComes.{number_typed}
 use Rattle.odata_eval.proofs.meaning.Numbers.{calculated_values, negated_value}
+use Rattle.odata_eval.proofs.meaning.TypeValues.{date_has, guid_has, held_present, member_has, moment_has, null_has, number_has, record_form, text_has, truth_has}
 
 int_has : (slots : Slots) (n : ℤ) (p : PrimitiveType) → FitsSigned w64 n → IsIntLiteralType n p → HasType slots (single (primitive p)) (whole n)
-int_has slots n p fits (inl small) = subst (λ (q : PrimitiveType). HasType slots (single (primitive q)) (whole n)) (sym small.1) small.0
-int_has slots n p fits (inr large) = subst (λ (q : PrimitiveType). HasType slots (single (primitive q)) (whole n)) (sym large.1) fits
+int_has slots n p fits (inl small) = number_has slots p n (subst (λ (q : PrimitiveType). IsNumberOf q n) (sym small.1) small.0)
+int_has slots n p fits (inr large) = number_has slots p n (subst (λ (q : PrimitiveType). IsNumberOf q n) (sym large.1) fits)
 
 int_ends : (slots : Slots) (type : ExprType) (spelling : List ℕ) (n : ℤ) → IntValue spelling n → IntTyped n type → HasType slots type (whole n)
 int_ends slots type spelling n value typed =
     typed_value slots (single (primitive typed.0)) type (whole n) typed.2 (int_has slots n typed.0 value.1 typed.1)
 
 literal_ends : (slots : Slots) (kind : LiteralKind) (spelling : List ℕ) (type : ExprType) → LiteralTyped slots kind spelling type → Ends slots type (LiteralGives slots kind spelling)
-literal_ends slots LiteralKind.Null spelling type typed = (gives null, (tt, tt))
-literal_ends slots LiteralKind.Bool spelling type typed = (gives (boolean typed.0), (typed.1, typed_value slots boolean_type type (boolean typed.0) typed.2 tt))
+literal_ends slots LiteralKind.Null spelling type typed = (gives null, (tt, null_has slots type))
+literal_ends slots LiteralKind.Bool spelling type typed = (gives (boolean typed.0), (typed.1, typed_value slots boolean_type type (boolean typed.0) typed.2 (truth_has slots typed.0)))
 literal_ends slots LiteralKind.Int spelling type typed = (gives (whole typed.0), (typed.1, int_ends slots type spelling typed.0 typed.1 typed.2))
 literal_ends slots LiteralKind.Date spelling type typed =
-    (gives (date typed.0), (typed.1, typed_value slots (single (primitive PrimitiveType.Date)) type (date typed.0) typed.2 tt))
+    (gives (date typed.0), (typed.1, typed_value slots (single (primitive PrimitiveType.Date)) type (date typed.0) typed.2 (date_has slots typed.0)))
 literal_ends slots LiteralKind.Moment spelling type typed =
-    (gives (moment typed.0), (typed.1, typed_value slots (single (primitive PrimitiveType.DateTimeOffset)) type (moment typed.0) typed.2 tt))
+    (gives (moment typed.0), (typed.1, typed_value slots (single (primitive PrimitiveType.DateTimeOffset)) type (moment typed.0) typed.2 (moment_has slots typed.0)))
 literal_ends slots LiteralKind.Guid spelling type typed =
-    (gives (guid typed.0), (typed.1, typed_value slots (single (primitive PrimitiveType.Guid)) type (guid typed.0) typed.2 tt))
-literal_ends slots LiteralKind.Str spelling type typed = (gives (text typed.0), (typed.1, typed_value slots string_type type (text typed.0) typed.2 tt))
+    (gives (guid typed.0), (typed.1, typed_value slots (single (primitive PrimitiveType.Guid)) type (guid typed.0) typed.2 (guid_has slots typed.0)))
+literal_ends slots LiteralKind.Str spelling type typed = (gives (text typed.0), (typed.1, typed_value slots string_type type (text typed.0) typed.2 (text_has slots typed.0)))
 literal_ends slots LiteralKind.EnumLit spelling type typed =
-    (gives (member typed.1), ((typed.0, typed.2), typed_value slots (single (enumeration typed.0)) type (member typed.1) typed.3 typed.2.names.within))
+    (gives (member typed.1), ((typed.0, typed.2), typed_value slots (single (enumeration typed.0)) type (member typed.1) typed.3 (member_has slots typed.0 typed.1 typed.2.names.within)))
 
 -- a name is found in the scope where it is in the environment, with a value of its type
 abbrev VariableFits : Slots → Option ExprType → Option Val → Type 0
@@ -97,36 +97,19 @@ variable_fits slots (bound ∷ more) asked fitting =
       | false ↦ variable_fits slots more asked fitting.1
     ]
 
-held_of : (slots : Slots) (type : ExprType) (held : FieldVal) → HasPropertyType slots (declared type) held → (v : Val) × ((held ≡ present v) × HasType slots type v)
-held_of slots type (present v) has = (v, (refl, has))
-held_of slots type absent has = absurd has
-
--- a record of the type has a value of its type under the name of a property that has a type
-pub held_present : (slots : Slots) (asked : List ℕ) (type : ExprType) (properties : List PropertyModel) (held : List ℕ → FieldVal)
-    → AllByRecursion (λ p. HasPropertyType slots p.type_of (held p.name)) properties → PropertyTyped properties asked type
-    → (v : Val) × ((held asked ≡ present v) × HasType slots type v)
-held_present slots asked type [] held all typed = absurd typed
-held_present slots asked type (p ∷ more) held all typed =
-    elim (pointwise nat_eq asked p.name) as (λ is_it. pointwise nat_eq asked p.name ≡ is_it
-    → IsSomeAnd (cond is_it (Some p) (property_named more asked)) (λ q. q.type_of ≡ declared type)
-    → (v : Val) × ((held asked ≡ present v) × HasType slots type v)) [
-      | true ↦ λ same is_typed.
-          let named : asked ≡ p.name = (bytes_eq-Decides asked p.name).0 same in
-          let there = held_of slots type (held p.name) (subst (λ t. HasPropertyType slots t (held p.name)) is_typed all.0) in
-          (there.0, (ap held named ∙ there.1.0, there.1.1))
-      | false ↦ λ other is_typed. held_present slots asked type more held all.1 is_typed
-    ] refl typed
-
 pub field_gives : (held : List ℕ → FieldVal) (asked : List ℕ) (v : Val) → held asked ≡ present v → StepGives (fields held) asked (gives v)
 field_gives held asked v here = subst (λ (h : FieldVal). FieldGives h (gives v)) (sym here) refl
 
 step_ends : (slots : Slots) (owner : List ℕ) (v : Val) (asked : List ℕ) (type : ExprType)
     → HasType slots (single (structured owner)) v → PropertyTyped (slots.properties owner) asked type → Ends slots type (StepGives v asked)
-step_ends slots owner null asked type conforms typed = (gives null, (refl, tt))
-step_ends slots owner (fields held) asked type conforms typed =
-    let there = held_present slots asked type (slots.properties owner) held conforms typed in
-    (gives there.0, (field_gives held asked there.0 there.1.0, there.1.1))
-step_ends slots owner _ asked type conforms typed = absurd conforms
+step_ends slots owner v asked type conforms typed =
+    elim (record_form slots owner v conforms) [
+      | inl is_null ↦ rw is_null (gives null, (refl, null_has slots type))
+      | inr record_is ↦
+          let is : v ≡ fields record_is.0 = record_is.1 in
+          let there = held_present slots asked type (slots.properties owner) record_is.0 record_is.2 typed in
+          subst (λ (w : Val). Ends slots type (StepGives w asked)) (sym is) (gives there.0, (field_gives record_is.0 asked there.0 there.1.0, there.1.1))
+    ]
 
 -- a step from what has a type
 member_ends : (slots : Slots) (base : ExprType) (v : Val) (asked : List ℕ) (type : ExprType)
@@ -145,8 +128,8 @@ found_ends slots root entity asked type _ _ conforms is_found typed = absurd is_
 
 -- a truth value is of type Boolean
 truth_ends : (slots : Slots) (type : ExprType) (t : Option Bool) → type ≡ boolean_type → HasType slots type (truth_val t)
-truth_ends slots type (Some b) is = typed_value slots boolean_type type (boolean b) is tt
-truth_ends slots type None is = tt
+truth_ends slots type (Some b) is = typed_value slots boolean_type type (boolean b) is (truth_has slots b)
+truth_ends slots type None is = null_has slots type
 
 -- the tables at truth values
 pub not_gives : (truth : Option Bool) → NotGives (truth_val truth) (gives (truth_val (not3 truth)))
@@ -194,7 +177,7 @@ connective_ends slots connective right type left Right is truths_right ends =
     elim (decided_or_not connective left) [
       | inl decided ↦ (gives (truth_val left), (decided_gives connective left Right decided, truth_ends slots type left is))
       | inr undecided ↦
-          let goes = after_ends slots right type Right (JoinGives connective left) ends (λ v has. join_ends slots type connective left v is (truths_right v has)) in
+          let goes = after_ends slots slots right type Right (JoinGives connective left) ends (λ v has. join_ends slots type connective left v is (truths_right v has)) in
           (goes.0, (undecided_goes connective left Right goes.0 undecided goes.1.0, goes.1.1))
     ]
 
@@ -206,16 +189,16 @@ answer_typed slots operator p a b (Ok answer) given = number_typed slots p given
 
 calculation_ends : (some : SomeEach) (slots : Slots) (operator : ArithmeticOperator) (type : ExprType) (l r : Val)
     → AreNumbers type l r → Ends slots type (CalculationGives operator type l r)
-calculation_ends some slots operator type null null are = (gives null, (refl, tt))
-calculation_ends some slots operator type null (whole b) are = (gives null, (refl, tt))
-calculation_ends some slots operator type (whole a) null are = (gives null, (refl, tt))
+calculation_ends some slots operator type null null are = (gives null, (refl, null_has slots type))
+calculation_ends some slots operator type null (whole b) are = (gives null, (refl, null_has slots type))
+calculation_ends some slots operator type (whole a) null are = (gives null, (refl, null_has slots type))
 calculation_ends some slots operator (single (primitive p)) (whole a) (whole b) are =
     let answer = some.answer operator p (Some a) (Some b) are.0 in
     (number_outcome answer.0, ((answer.0, answer.1, refl), answer_typed slots operator p a b answer.0 answer.1))
 calculation_ends some slots operator _ _ _ are = absurd are
 
 negation_ends : (some : SomeEach) (slots : Slots) (type : ExprType) (v : Val) → IsOneNumber type v → Ends slots type (NegatedGives type v)
-negation_ends some slots type null is = (gives null, (refl, tt))
+negation_ends some slots type null is = (gives null, (refl, null_has slots type))
 negation_ends some slots (single (primitive p)) (whole a) is =
     let answer = some.negation p (Some a) is.0 in
     (number_outcome answer.0, ((answer.0, answer.1, refl), number_typed slots p _ answer.0 answer.1))
@@ -234,9 +217,9 @@ class_ends some promotes slots (OperatorClass.Connective connective) NodeTyped l
     subst (λ (v : Val). Ends slots type (ConnectiveGives connective v Right)) (sym truth.1)
     (connective_ends slots connective right type truth.0 Right typed.2 (λ v has. truth_of slots right v typed.1 has) ends)
 class_ends some promotes slots (OperatorClass.Comparison comparison) NodeTyped left right type l Right typed is of_l ends =
-    after_ends slots right type Right (CompareGives comparison l) ends (λ r of_r. compare_ends some slots comparison left right type l r typed of_l of_r)
+    after_ends slots slots right type Right (CompareGives comparison l) ends (λ r of_r. compare_ends some slots comparison left right type l r typed of_l of_r)
 class_ends some promotes slots (OperatorClass.Arithmetic arithmetic) NodeTyped left right type l Right typed is of_l ends =
-    after_ends slots right type Right (λ r. InType NodeTyped (λ t. CalculationGives arithmetic t l r)) ends
+    after_ends slots slots right type Right (λ r. InType NodeTyped (λ t. CalculationGives arithmetic t l r)) ends
     (λ r of_r. in_type slots NodeTyped (λ t. CalculationGives arithmetic t l r) type is
     (calculation_ends some slots arithmetic type l r (calculated_values promotes slots left right type l r typed of_l of_r)))
 
@@ -246,7 +229,7 @@ behind_arguments : (slots : Slots) (root : List ℕ) (now : MomentParts) (entity
     → ((values : List Val) → HaveTypes slots types values → Ends slots type (Goes values)) → Ends slots type (ArgumentsMean slots root now entity environment arguments Goes)
 behind_arguments slots root now entity environment no_trees [] type Goes all goes = goes [] tt
 behind_arguments slots root now entity environment (more_trees argument more) (t ∷ types) type Goes all goes =
-    after_ends slots t type (Means slots root now entity environment argument)
+    after_ends slots slots t type (Means slots root now entity environment argument)
     (λ v. ArgumentsMean slots root now entity environment more (λ values. Goes (v ∷ values))) all.0
     (λ v has. behind_arguments slots root now entity environment more types type (λ values. Goes (v ∷ values)) all.1 (λ values have. goes (v ∷ values) (has, have)))
 behind_arguments slots root now entity environment _ _ type Goes all goes = absurd all
@@ -262,44 +245,44 @@ module _ (some : SomeEach) (promotes : Promotes) (slots : Slots) (root : List �
         found_ends slots root entity asked type (variable_type (scope_of environment) asked) (variable_value environment asked)
         conforms (variable_fits slots environment asked fitting) typed
     tree_ends environment fitting (node start stop (tree.member base asked)) type typed =
-        after_ends slots typed.operand type (Means slots root now entity environment base) (λ v. StepGives v asked)
+        after_ends slots slots typed.operand type (Means slots root now entity environment base) (λ v. StepGives v asked)
         (tree_ends environment fitting base typed.operand typed.operand_typed) (λ v has. member_ends slots typed.operand v asked type typed.makes has)
     tree_ends environment fitting (node start stop (count base)) type typed =
-        after_ends slots typed.operand type (Means slots root now entity environment base) CountGives
+        after_ends slots slots typed.operand type (Means slots root now entity environment base) CountGives
         (tree_ends environment fitting base typed.operand typed.operand_typed) (λ v is. count_ends some slots typed.operand type v typed.makes is)
     tree_ends environment fitting (node start stop (negation operand)) type typed =
         let NodeTyped : ExprType → Type 0 = OperandTyped (Typed slots root (scope_of environment) operand) NegationTyped in
-        after_ends slots typed.operand type (Means slots root now entity environment operand) (λ v. InType NodeTyped (λ t. NegatedGives t v))
+        after_ends slots slots typed.operand type (Means slots root now entity environment operand) (λ v. InType NodeTyped (λ t. NegatedGives t v))
         (tree_ends environment fitting operand typed.operand typed.operand_typed)
         (λ v has. in_type slots NodeTyped (λ t. NegatedGives t v) type typed
         (negation_ends some slots type v (negated_value promotes slots typed.operand type v typed.makes has)))
     tree_ends environment fitting (node start stop (logical_not operand)) type typed =
-        after_ends slots typed.operand type (Means slots root now entity environment operand) NotGives
+        after_ends slots slots typed.operand type (Means slots root now entity environment operand) NotGives
         (tree_ends environment fitting operand typed.operand typed.operand_typed) (λ v has. not_ends slots typed.operand type v typed.makes has)
     tree_ends environment fitting (node start stop (binary operator left right)) type typed =
         let NodeTyped : ExprType → Type 0 =
         OperandsTyped (Typed slots root (scope_of environment) left) (Typed slots root (scope_of environment) right) (OperatorTyped operator) in
-        after_ends slots typed.left type (Means slots root now entity environment left)
+        after_ends slots slots typed.left type (Means slots root now entity environment left)
         (λ l. ClassGives (class_of operator) NodeTyped l (Means slots root now entity environment right))
         (tree_ends environment fitting left typed.left typed.left_typed)
         (λ l of_l. class_ends some promotes slots (class_of operator) NodeTyped typed.left typed.right type l (Means slots root now entity environment right)
         typed.makes typed of_l (tree_ends environment fitting right typed.right typed.right_typed))
     tree_ends environment fitting (node start stop (tree.has left right)) type typed =
-        after_ends slots typed.left type (Means slots root now entity environment left) (λ l. After (Means slots root now entity environment right) (HasGives l))
+        after_ends slots slots typed.left type (Means slots root now entity environment left) (λ l. After (Means slots root now entity environment right) (HasGives l))
         (tree_ends environment fitting left typed.left typed.left_typed)
-        (λ l of_l. after_ends slots typed.right type (Means slots root now entity environment right) (HasGives l)
+        (λ l of_l. after_ends slots slots typed.right type (Means slots root now entity environment right) (HasGives l)
         (tree_ends environment fitting right typed.right typed.right_typed)
         (λ r of_r. has_ends some slots typed.left typed.right type l r typed.makes of_l of_r))
     tree_ends environment fitting (node start stop (in_list left items)) type typed =
-        after_ends slots typed.left type (Means slots root now entity environment left)
+        after_ends slots slots typed.left type (Means slots root now entity environment left)
         (λ l. ItemsGive l (length (list_of_trees items)) (ItemMeans slots root now entity environment items))
         (tree_ends environment fitting left typed.left typed.left_typed)
         (λ l of_l. in_list_ends some slots root now entity environment typed.left l items typed.items type typed.makes of_l
         (trees_end environment fitting items typed.items typed.items_typed))
     tree_ends environment fitting (node start stop (in_path left path)) type typed =
-        after_ends slots typed.left type (Means slots root now entity environment left) (λ l. After (Means slots root now entity environment path) (InGives l))
+        after_ends slots slots typed.left type (Means slots root now entity environment left) (λ l. After (Means slots root now entity environment path) (InGives l))
         (tree_ends environment fitting left typed.left typed.left_typed)
-        (λ l of_l. after_ends slots typed.right type (Means slots root now entity environment path) (InGives l)
+        (λ l of_l. after_ends slots slots typed.right type (Means slots root now entity environment path) (InGives l)
         (tree_ends environment fitting path typed.right typed.right_typed)
         (λ v of_v. in_path_ends some slots typed.left typed.right type l v typed.makes of_l of_v))
     tree_ends environment fitting (node start stop (call asked arguments)) type typed =
@@ -309,12 +292,12 @@ module _ (some : SomeEach) (promotes : Promotes) (slots : Slots) (root : List �
         (λ values have. call_ends some slots now called.function typed.types type values called.typed have) in
         (ends.0, (record { function = called.function; named = called.named; given = ends.1.0 }, ends.1.1))
     tree_ends environment fitting (node start stop (any_item base)) type typed =
-        after_ends slots typed.operand type (Means slots root now entity environment base) AnyItemGives
+        after_ends slots slots typed.operand type (Means slots root now entity environment base) AnyItemGives
         (tree_ends environment fitting base typed.operand typed.operand_typed) (λ v is. any_item_ends slots typed.operand type v typed.makes is)
     tree_ends environment fitting (node start stop (lambda quantifier base variable body)) type typed =
         let BaseTyped : ExprType → Type 0 = Typed slots root (scope_of environment) base in
         let Body : ExprType → Val → Outcome → Type 0 = λ t v. Means slots root now entity (bound_over environment variable t v) body in
-        after_ends slots (collection typed.member_type) type (Means slots root now entity environment base) (LambdaGives quantifier BaseTyped Body)
+        after_ends slots slots (collection typed.member_type) type (Means slots root now entity environment base) (LambdaGives quantifier BaseTyped Body)
         (tree_ends environment fitting base (collection typed.member_type) typed.binds.over)
         (λ v is. lambda_ends slots quantifier BaseTyped Body typed.member_type typed.body type v typed.binds.over typed.truth typed.makes is
         (λ w of_w. tree_ends (bound_over environment variable (single typed.member_type) w) (of_w, fitting) body typed.body typed.body_typed))

@@ -22,7 +22,8 @@ use Rattle.odata_eval.specs.private.Place.{HasKind, PartStands}
 use Rattle.odata_eval.specs.private.Scene.{EndsOnceHere, MeansHere, TypedHere}
 use Rattle.odata_eval.specs.private.SceneModel.{SceneModel, environment_of}
 use Rattle.odata_eval.specs.private.WalkAnswer.{AnswersDatum}
-use Rattle.odata_eval.proofs.meaning.Progress.{field_gives, held_present}
+use Rattle.odata_eval.proofs.meaning.Progress.{field_gives}
+use Rattle.odata_eval.proofs.meaning.TypeValues.{held_present}
 use Rattle.odata_eval.proofs.walking.Parts.{by_kind, kind_there, some_there}
 use Rattle.odata_eval.proofs.walking.SlotValue.{field_at, found_slot, slot_within}
 use Rattle.odata_eval.proofs.walking.WalkValues.{value_has}
