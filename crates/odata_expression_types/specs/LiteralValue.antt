@@ -1,5 +1,5 @@
 -- The value and the type of a literal (OData ABNF Construction Rules 4.01, section 7).
-use Rattle.std.specs.Prelude.{◌≡◌, ◌≢◌, ℕ, ℤ, List, [], ◌∷◌, ◌++◌, Bool, true, false, Some, IsTrue, codes}
+use Rattle.std.specs.Prelude.{◌≡◌, ◌≢◌, ℕ, ℤ, List, [], ◌∷◌, ◌++◌, Bool, true, false, Some, IsTrue, IsUtf8, codes}
 use Rattle.std.specs.List.{AllByRecursion}
 use Rattle.std.specs.Str.{str_eq_ignore_ascii_case}
 use Rattle.edm_values.specs.Civil as civil
@@ -27,6 +27,10 @@ truth_word false = codes "false"
 abbrev pub BooleanValue : List ℕ → Bool → Type 0
 BooleanValue spelling b = IsTrue (str_eq_ignore_ascii_case spelling (truth_word b))
 
+-- the text that a String literal spells: its characters in UTF-8
+abbrev pub TextValue : List ℕ → List ℕ → Type 0
+TextValue spelling bytes = StringValue spelling bytes × IsUtf8 bytes
+
 -- an enumeration literal is a name, a quote, a text and a quote; the name holds no quote
 pub record IsNameAndText (spelling asked inner : List ℕ) : Type 0 where
   pub spelled : spelling ≡ asked ++ (quote ∷ inner ++ quote ∷ [])
@@ -53,7 +57,7 @@ LiteralValue slots LiteralKind.Int spelling (whole n) = IntValue spelling n
 LiteralValue slots LiteralKind.Date spelling (date d) = DateValue spelling d
 LiteralValue slots LiteralKind.Moment spelling (moment m) = MomentValue spelling m
 LiteralValue slots LiteralKind.Guid spelling (guid bytes) = GuidValue spelling bytes
-LiteralValue slots LiteralKind.Str spelling (val.text bytes) = StringValue spelling bytes
+LiteralValue slots LiteralKind.Str spelling (val.text bytes) = TextValue spelling bytes
 LiteralValue slots LiteralKind.EnumLit spelling (member n) =
     (qualified : List ℕ) × EnumerationLiteral slots spelling qualified n
 LiteralValue slots _ spelling _ = ⊥
@@ -74,7 +78,7 @@ LiteralTyped slots LiteralKind.Moment spelling type =
 LiteralTyped slots LiteralKind.Guid spelling type =
     (bytes : List ℕ) × GuidValue spelling bytes × (type ≡ single (primitive PrimitiveType.Guid))
 LiteralTyped slots LiteralKind.Str spelling type =
-    (bytes : List ℕ) × StringValue spelling bytes × (type ≡ string_type)
+    (bytes : List ℕ) × TextValue spelling bytes × (type ≡ string_type)
 LiteralTyped slots LiteralKind.EnumLit spelling type =
     (qualified : List ℕ) × (n : ℤ) × EnumerationLiteral slots spelling qualified n
     × (type ≡ single (enumeration qualified))

@@ -6,7 +6,6 @@ use Rattle.edm_values.specs.DateLiteral.{DateValue}
 use Rattle.edm_values.specs.GuidLiteral.{GuidValue, guid_spelling}
 use Rattle.edm_values.specs.IntLiteral.{IntValue, int_spelling}
 use Rattle.edm_values.specs.MomentLiteral.{MomentValue, moment_spelling}
-use Rattle.edm_values.specs.StringLiteral.{StringValue}
 use Rattle.edm_values.specs.Val.{Val, null, boolean, whole, date, moment, guid, member}
 use Rattle.edm_values.specs.Val as val
 use Rattle.odata_text.specs.LiteralSpelling.{IsSpellingOf, enumeration_spelling}
@@ -14,7 +13,7 @@ use Rattle.odata_syntax.specs.NormalForm.{literal_token}
 use Rattle.odata_syntax.specs.declared.node.LiteralKind.{LiteralKind}
 use Rattle.csdl_schema.specs.ExprType.{ExprType}
 use Rattle.csdl_schema.specs.SchemaModel.{Slots}
-use Rattle.odata_expression_types.specs.LiteralValue.{BooleanValue, EnumerationLiteral, LiteralTyped, LiteralValue, truth_word}
+use Rattle.odata_expression_types.specs.LiteralValue.{BooleanValue, EnumerationLiteral, LiteralTyped, LiteralValue, TextValue, truth_word}
 use Rattle.odata_expression_types.proofs.printed.Enumerations.{enumeration_from, enumeration_to}
 use Rattle.odata_expression_types.proofs.printed.Values.{AreKept, HaveSameValues, kept_values}
 
@@ -63,7 +62,7 @@ AreAlike slots LiteralKind.Int text spelling = HaveSameValues IntValue text spel
 AreAlike slots LiteralKind.Date text spelling = HaveSameValues DateValue text spelling
 AreAlike slots LiteralKind.Moment text spelling = HaveSameValues MomentValue text spelling
 AreAlike slots LiteralKind.Guid text spelling = HaveSameValues GuidValue text spelling
-AreAlike slots LiteralKind.Str text spelling = HaveSameValues StringValue text spelling
+AreAlike slots LiteralKind.Str text spelling = HaveSameValues TextValue text spelling
 AreAlike slots LiteralKind.EnumLit text spelling = HaveSameValues (IsMember slots) text spelling
 
 pub alike : LiteralFacts → (slots : Slots) (kind : LiteralKind) (text spelling : List ℕ) → IsSpellingOf (literal_token kind) text spelling → AreAlike slots kind text spelling
@@ -73,7 +72,7 @@ alike facts slots LiteralKind.Int text spelling is = kept_values IntValue int_sp
 alike facts slots LiteralKind.Date text spelling is = unchanged DateValue text spelling is
 alike facts slots LiteralKind.Moment text spelling is = kept_values MomentValue moment_spelling facts.moments text spelling is
 alike facts slots LiteralKind.Guid text spelling is = kept_values GuidValue guid_spelling facts.guids text spelling is
-alike facts slots LiteralKind.Str text spelling is = unchanged StringValue text spelling is
+alike facts slots LiteralKind.Str text spelling is = unchanged TextValue text spelling is
 alike facts slots LiteralKind.EnumLit text spelling is = same_members slots text spelling is
 
 -- ---- values

@@ -45,7 +45,7 @@ item_filter_typed = record {
     left = string_type;
     right = string_type;
     left_typed = refl;
-    right_typed = (97 ∷ [], refl, refl);
+    right_typed = (97 ∷ [], (refl, (97 ∷ [], (refl, refl))), refl);
     makes = (inr refl, refl);
   };
   makes = (inl refl, inl refl, refl);

@@ -88,7 +88,7 @@ one_literal_value values slots LiteralKind.Int spelling (whole x) (whole y) p q 
 one_literal_value values slots LiteralKind.Date spelling (date x) (date y) p q = ap date (values.date spelling x y p q)
 one_literal_value values slots LiteralKind.Moment spelling (moment x) (moment y) p q = ap moment (values.moment spelling x y p q)
 one_literal_value values slots LiteralKind.Guid spelling (guid x) (guid y) p q = ap guid (values.guid spelling x y p q)
-one_literal_value values slots LiteralKind.Str spelling (text x) (text y) p q = ap text (values.string spelling x y p q)
+one_literal_value values slots LiteralKind.Str spelling (text x) (text y) p q = ap text (values.string spelling x y p.0 q.0)
 one_literal_value values slots LiteralKind.EnumLit spelling (member x) (member y) p q =
     ap member (member_one values slots spelling p.0 q.0 x y p.1 q.1)
 one_literal_value values slots LiteralKind.Null spelling null _ p q = absurd q

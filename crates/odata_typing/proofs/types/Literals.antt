@@ -1,7 +1,8 @@
 -- Literals that have been read have their value and their type.
 use Rattle.std.proofs.Common.{◌≡◌, refl, ap, subst, ℕ, ℤ, Bool, List, Option, Some, None, w64, to_z, of_z}
 use Rattle.std.proofs.Math.Facts.{to_z-of_z}
-use Rattle.std.specs.Prelude.{string_bytes}
+use Rattle.std.proofs.lemmas.Str.{IsUtf8-string_bytes}
+use Rattle.std.specs.Prelude.{IsUtf8, string_bytes}
 use Rattle.edm_values.specs.IntLiteral.{IntValue}
 use Rattle.edm_values.specs.NumberTypes.{IsIntLiteralType}
 use Rattle.edm_values.specs.StringLiteral.{StringValue}
@@ -43,10 +44,12 @@ reads_int schema spelling n p value typed =
 
 pub reads_text :
     (schema : SchemaModel) (spelling bytes : List ℕ) (text : _) → string_bytes text ≡ bytes → StringValue spelling bytes → IsReading schema LiteralKind.Str spelling (code.Text text) (plain PrimitiveType.String)
-reads_text schema spelling bytes text same value = record {
-  value_of = record { val = val.text bytes; plain = ap (λ (b : List ℕ). Some (val.text b)) same; value_of = value };
-  typed = (bytes, value, refl);
-}
+reads_text schema spelling bytes text same value =
+    let utf8 : IsUtf8 bytes = subst IsUtf8 same (IsUtf8-string_bytes text) in
+    record {
+      value_of = record { val = val.text bytes; plain = ap (λ (b : List ℕ). Some (val.text b)) same; value_of = (value, utf8) };
+      typed = (bytes, (value, utf8), refl);
+    }
 
 pub reads_null : (schema : SchemaModel) (spelling : List ℕ) → IsReading schema LiteralKind.Null spelling code.Null EdmType.Null
 reads_null schema spelling = record { value_of = record { val = null; plain = refl; value_of = tt }; typed = refl }
