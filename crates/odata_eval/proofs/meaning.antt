@@ -13,6 +13,7 @@ pub mod FunctionEnds
 pub mod FunctionLaws
 pub mod Kinds
 pub mod LawsBelow
+pub mod MadeTexts
 pub mod MembersLaws
 pub mod NumberComes
 pub mod Numbers

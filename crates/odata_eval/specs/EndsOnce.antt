@@ -1,6 +1,6 @@
 -- An expression that has a type has exactly one outcome (OData URL Conventions 4.01, section 5.1.1).
 use Rattle.std.specs.Prelude.{◌≡◌, ℕ, List}
-use Rattle.edm_values.specs.MomentParts.{MomentParts}
+use Rattle.edm_values.specs.MomentParts.{IsMoment, MomentParts}
 use Rattle.edm_values.specs.Val.{Val}
 use Rattle.odata_syntax.specs.Tree.{Tree}
 use Rattle.csdl_schema.specs.ExprType.{ExprType, single, structured}
@@ -27,12 +27,14 @@ pub record EndsOnce
   pub of_type : IsOutcomeOf slots type outcome
   pub only : (other : Outcome) → Means slots root now entity environment tree other → other ≡ outcome
 
--- so does every tree with a type, on every entity of the filtered type and with variables of every depth
+-- so does every tree with a type, on every entity of the filtered type and with variables of every depth; `now` stands
+-- for a moment that a literal can spell
 abbrev pub TypedEndsOnce : Type 0
 TypedEndsOnce =
     (slots : Slots) (root : List ℕ) (now : MomentParts) (entity : Val) (environment : Environment) (tree : Tree)
     (type : ExprType)
-    → HasType slots (single (structured root)) entity → IsFitting slots environment
+    → IsMoment now.civil now.offset_minutes → HasType slots (single (structured root)) entity
+    → IsFitting slots environment
     → Typed slots root (scope_of environment) tree type
     → EndsOnce slots root now entity environment tree type
 
@@ -40,6 +42,6 @@ TypedEndsOnce =
 abbrev pub EndsOnceOnEntities : Type 0
 EndsOnceOnEntities =
     (row : Row) (now : MomentParts) (environment : Environment) (tree : Tree) (type : ExprType)
-    → IsEntity row → IsFitting (slots_of row.schema) environment
+    → IsMoment now.civil now.offset_minutes → IsEntity row → IsFitting (slots_of row.schema) environment
     → Typed (slots_of row.schema) (type_name_at row.schema row.type_id) (scope_of environment) tree type
     → EndsOnce (slots_of row.schema) (type_name_at row.schema row.type_id) now (value_of row) environment tree type

@@ -13,7 +13,7 @@ ghost use Rattle.odata_eval.specs.OneByOne.{ComparedOneByOne, ItemsOneByOne, Mem
 ghost use Rattle.odata_eval.specs.Outcome.{gives, divides_by_zero};
 ghost use Rattle.odata_eval.specs.SameMeaning.{NormalFormsKeepOutcomes, CanonicalTextsKeepOutcomes};
 
-use edm_entities::what_fits_has_its_type;
+use edm_entities::{spelled_values_lie_within, what_fits_has_its_type};
 use odata_expression_types::{
     literals_have_one_value, normal_forms_keep_types, trees_have_one_type,
 };
@@ -25,8 +25,8 @@ use odata_signatures::calls_have_one_type;
 use odata_syntax::{canonical_texts_read_back, one_tree};
 use odata_text::one_list_of_any_length;
 
-/// A law: an expression that has a type has exactly one outcome on every value of the filtered type, whatever the range
-/// variables around it hold: a value of its type, or the fault of an arithmetic operator.
+/// A law: an expression that has a type has exactly one outcome on every value of the filtered type, at every moment and
+/// whatever the range variables around it hold: a value of its type, or the fault of an arithmetic operator.
 pub fn typed_trees_end_once()
     ensures { TypedEndsOnce }
 {
@@ -35,6 +35,7 @@ pub fn typed_trees_end_once()
     arithmetic_has_one_answer();
     comparisons_are_decided();
     bits_are_decided();
+    spelled_values_lie_within();
     operands_lie_within_promotion();
     calls_have_one_type();
     texts_have_one_answer();

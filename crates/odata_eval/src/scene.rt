@@ -127,6 +127,8 @@ impl<'e, 'c, 'r> Scene<'e, 'c, 'r> {
     {
         typed_trees_end_once_on_entities();
         let _entity = &self.entity;
+        // The moment is one that a literal can spell.
+        let (_civil, _offset) = (self.moment.civil(), self.moment.offset_minutes());
     }
 
     /// The nodes of the filter's list.

@@ -4,7 +4,7 @@ use Rattle.std.proofs.lemmas.Int.{fits_signed_from_abs}
 use Rattle.std.specs.Prelude.{codes, FitsSigned}
 use Rattle.std.specs.Int.{w64}
 use Rattle.std.specs.Cmp.Lexicographic.{pointwise}
-use Rattle.std.specs.Str.{chars}
+use Rattle.std.specs.Str.{IsUtf8, chars}
 use Rattle.std.specs.Str.Parse.{IsNumeral}
 use Rattle.edm_values.specs.IntLiteral.{IntValue}
 use Rattle.edm_values.specs.MomentParts.{MomentParts}
@@ -39,6 +39,9 @@ small = fits_signed_from_abs w64 (pos 1) (lit< tt)
 one : IntValue (codes "1") (pos 1)
 one = (inr (inr (numeral, refl)), small)
 
+letter : IsUtf8 (codes "a")
+letter = (codes "a", (refl, refl))
+
 -- true with a truth value is that
 joins : (answer : Bool) → gives (boolean answer) ≡ gives (truth_val (and3 (Some true) (Some answer)))
 joins true = refl
@@ -66,7 +69,7 @@ named_item known title answer compared = comes_to known first_run_tree (item_val
     (
       gives (boolean answer),
       (
-        (gives (text title), (refl, (gives (text (codes "a")), (refl, (tt, compared))))),
+        (gives (text title), (refl, (gives (text (codes "a")), ((refl, letter), (tt, compared))))),
         joins answer,
       ),
     ),

@@ -1,7 +1,10 @@
 -- What is known of the layers below.
-use Rattle.std.proofs.Common.{◌≡◌, ◌↔◌, ℕ, ℤ, List, Bool, IsTrue, Option, Some, Result}
+use Rattle.std.proofs.Common.{◌≡◌, ◌↔◌, ℕ, ℤ, List, Bool, IsTrue, Option, Some, Result, length}
 use Rattle.std.specs.Prelude.{IfSome}
 use Rattle.edm_values.specs.Civil.{Date, epoch_day}
+use Rattle.edm_values.specs.GuidLiteral.{GuidValue}
+use Rattle.edm_values.specs.MomentLiteral.{MomentValue}
+use Rattle.edm_values.specs.MomentParts.{IsMoment, MomentParts}
 use Rattle.edm_values.specs.NumberTypes.{IsNumberOf, IsNumberType}
 use Rattle.edm_values.specs.Val.{Val}
 use Rattle.edm_values.specs.declared.primitive.PrimitiveType.{PrimitiveType}
@@ -44,6 +47,8 @@ pub record SomeEach : Type 0 where
   pub place : (text part : List ℕ) → (n : ℤ) × IsPlaceOf text part n
   pub trimmed : (text : List ℕ) → (part : List ℕ) × IsTrimmed text part
   pub dates : (date : Date) → IsDateOf (epoch_day date) date.year date.month date.day
+  pub moments : (text : List ℕ) (m : MomentParts) → MomentValue text m → IsMoment m.civil m.offset_minutes
+  pub guids : (text bytes : List ℕ) → GuidValue text bytes → length bytes ≡ 16
   pub bits : (value flags : ℤ) → (answer : Bool) × (IsTrue answer ↔ HasBits value flags)
 
 -- where operands lie

@@ -13,8 +13,8 @@ use Rattle.odata_eval.proofs.meaning.OneMeaning.{Means-one}
 use Rattle.odata_eval.proofs.meaning.Progress.{tree_ends}
 
 pub ends_once : OneEach → SomeEach → Promotes → TypedEndsOnce
-ends_once one some promotes slots root now entity environment tree type conforms fitting typed =
-    let ends = tree_ends some promotes slots root now entity conforms environment fitting tree type typed in
+ends_once one some promotes slots root now entity environment tree type is_moment conforms fitting typed =
+    let ends = tree_ends some promotes slots root now entity is_moment conforms environment fitting tree type typed in
     record {
       outcome = ends.0;
       related = ends.1.0;
@@ -26,6 +26,6 @@ pub ends_on_entities :
     TypedEndsOnce
     → ((slots : Slots) (type_name : List ℕ) (json : Data) (v : Val) → Fits slots type_name json v → HasType slots (single (structured type_name)) v)
     → EndsOnceOnEntities
-ends_on_entities ends fits row now environment tree type entity fitting typed =
-    ends (slots_of row.schema) (type_name_at row.schema row.type_id) now (value_of row) environment tree type
+ends_on_entities ends fits row now environment tree type is_moment entity fitting typed =
+    ends (slots_of row.schema) (type_name_at row.schema row.type_id) now (value_of row) environment tree type is_moment
     (fits (slots_of row.schema) (type_name_at row.schema row.type_id) entity.conforms.0 (value_of row) entity.conforms.1) fitting typed

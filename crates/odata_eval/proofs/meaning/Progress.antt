@@ -5,7 +5,7 @@ use Rattle.std.specs.Int.{w64}
 use Rattle.std.specs.List.{AllByRecursion}
 use Rattle.std.specs.Option.{option_map}
 use Rattle.std.specs.Cmp.Lexicographic.{pointwise}
-use Rattle.edm_values.specs.MomentParts.{MomentParts}
+use Rattle.edm_values.specs.MomentParts.{IsMoment, MomentParts}
 use Rattle.edm_values.specs.IntLiteral.{IntValue}
 use Rattle.edm_values.specs.NumberTypes.{IsIntLiteralType, IsNumberOf}
 use Rattle.edm_values.specs.Val.{Val, null, boolean, whole, date, moment, guid, member, text, fields, FieldVal, absent, present}
@@ -66,18 +66,18 @@ int_ends : (slots : Slots) (type : ExprType) (spelling : List ℕ) (n : ℤ) →
 int_ends slots type spelling n value typed =
     typed_value slots (single (primitive typed.0)) type (whole n) typed.2 (int_has slots n typed.0 value.1 typed.1)
 
-literal_ends : (slots : Slots) (kind : LiteralKind) (spelling : List ℕ) (type : ExprType) → LiteralTyped slots kind spelling type → Ends slots type (LiteralGives slots kind spelling)
-literal_ends slots LiteralKind.Null spelling type typed = (gives null, (tt, null_has slots type))
-literal_ends slots LiteralKind.Bool spelling type typed = (gives (boolean typed.0), (typed.1, typed_value slots boolean_type type (boolean typed.0) typed.2 (truth_has slots typed.0)))
-literal_ends slots LiteralKind.Int spelling type typed = (gives (whole typed.0), (typed.1, int_ends slots type spelling typed.0 typed.1 typed.2))
-literal_ends slots LiteralKind.Date spelling type typed =
-    (gives (date typed.0), (typed.1, typed_value slots (single (primitive PrimitiveType.Date)) type (date typed.0) typed.2 (date_has slots typed.0)))
-literal_ends slots LiteralKind.Moment spelling type typed =
-    (gives (moment typed.0), (typed.1, typed_value slots (single (primitive PrimitiveType.DateTimeOffset)) type (moment typed.0) typed.2 (moment_has slots typed.0)))
-literal_ends slots LiteralKind.Guid spelling type typed =
-    (gives (guid typed.0), (typed.1, typed_value slots (single (primitive PrimitiveType.Guid)) type (guid typed.0) typed.2 (guid_has slots typed.0)))
-literal_ends slots LiteralKind.Str spelling type typed = (gives (text typed.0), (typed.1, typed_value slots string_type type (text typed.0) typed.2 (text_has slots typed.0)))
-literal_ends slots LiteralKind.EnumLit spelling type typed =
+literal_ends : SomeEach → (slots : Slots) (kind : LiteralKind) (spelling : List ℕ) (type : ExprType) → LiteralTyped slots kind spelling type → Ends slots type (LiteralGives slots kind spelling)
+literal_ends some slots LiteralKind.Null spelling type typed = (gives null, (tt, null_has slots type))
+literal_ends some slots LiteralKind.Bool spelling type typed = (gives (boolean typed.0), (typed.1, typed_value slots boolean_type type (boolean typed.0) typed.2 (truth_has slots typed.0)))
+literal_ends some slots LiteralKind.Int spelling type typed = (gives (whole typed.0), (typed.1, int_ends slots type spelling typed.0 typed.1 typed.2))
+literal_ends some slots LiteralKind.Date spelling type typed =
+    (gives (date typed.0), (typed.1, typed_value slots (single (primitive PrimitiveType.Date)) type (date typed.0) typed.2 (date_has slots typed.0 typed.1.0)))
+literal_ends some slots LiteralKind.Moment spelling type typed =
+    (gives (moment typed.0), (typed.1, typed_value slots (single (primitive PrimitiveType.DateTimeOffset)) type (moment typed.0) typed.2 (moment_has slots typed.0 (some.moments spelling typed.0 typed.1))))
+literal_ends some slots LiteralKind.Guid spelling type typed =
+    (gives (guid typed.0), (typed.1, typed_value slots (single (primitive PrimitiveType.Guid)) type (guid typed.0) typed.2 (guid_has slots typed.0 (some.guids spelling typed.0 typed.1))))
+literal_ends some slots LiteralKind.Str spelling type typed = (gives (text typed.0), (typed.1, typed_value slots string_type type (text typed.0) typed.2 (text_has slots typed.0 typed.1.1)))
+literal_ends some slots LiteralKind.EnumLit spelling type typed =
     (gives (member typed.1), ((typed.0, typed.2), typed_value slots (single (enumeration typed.0)) type (member typed.1) typed.3 (member_has slots typed.0 typed.1 typed.2.names.within)))
 
 -- a name is found in the scope where it is in the environment, with a value of its type
@@ -235,11 +235,11 @@ behind_arguments slots root now entity environment (more_trees argument more) (t
 behind_arguments slots root now entity environment _ _ type Goes all goes = absurd all
 
 module _ (some : SomeEach) (promotes : Promotes) (slots : Slots) (root : List ℕ) (now : MomentParts) (entity : Val)
-    (conforms : HasType slots (single (structured root)) entity) where
+    (is_moment : IsMoment now.civil now.offset_minutes) (conforms : HasType slots (single (structured root)) entity) where
   mutual
     pub tree_ends : (environment : Environment) → IsFitting slots environment → (tree : Tree) (type : ExprType) → Typed slots root (scope_of environment) tree type
         → Ends slots type (Means slots root now entity environment tree)
-    tree_ends environment fitting (node start stop (literal kind spelling)) type typed = literal_ends slots kind spelling type typed
+    tree_ends environment fitting (node start stop (literal kind spelling)) type typed = literal_ends some slots kind spelling type typed
     tree_ends environment fitting (node start stop it) type typed = (gives entity, (refl, typed_value slots (single (structured root)) type entity typed conforms))
     tree_ends environment fitting (node start stop (name asked)) type typed =
         found_ends slots root entity asked type (variable_type (scope_of environment) asked) (variable_value environment asked)
@@ -289,7 +289,7 @@ module _ (some : SomeEach) (promotes : Promotes) (slots : Slots) (root : List �
         let called = typed.call_typed in
         let ends = behind_arguments slots root now entity environment arguments typed.types type (CallGives now called.function)
         (trees_end environment fitting arguments typed.types typed.arguments_typed)
-        (λ values have. call_ends some slots now called.function typed.types type values called.typed have) in
+        (λ values have. call_ends some slots now is_moment called.function typed.types type values called.typed have) in
         (ends.0, (record { function = called.function; named = called.named; given = ends.1.0 }, ends.1.1))
     tree_ends environment fitting (node start stop (any_item base)) type typed =
         after_ends slots slots typed.operand type (Means slots root now entity environment base) AnyItemGives

@@ -1,11 +1,11 @@
 -- Which values a type has, as the few facts by which one outcome goes.
-use Rattle.std.proofs.Common.{◌≡◌, ◌⊎◌, ◌∙◌, refl, sym, ap, subst, inl, inr, ℕ, ℤ, List, [], ◌∷◌, Bool, true, false, Some, cond, nat_eq}
+use Rattle.std.proofs.Common.{◌≡◌, ◌⊎◌, ◌∙◌, refl, sym, ap, subst, inl, inr, ℕ, ℤ, List, [], ◌∷◌, Bool, true, false, Some, IsUtf8, cond, length, nat_eq}
 use Rattle.std.specs.Prelude.{IsSomeAnd}
 use Rattle.std.specs.List.{AllByRecursion}
 use Rattle.std.specs.Cmp.Lexicographic.{pointwise}
 use Rattle.std.proofs.lemmas.Slice.Eq.{bytes_eq-Decides}
 use Rattle.edm_values.specs.Civil.{Date}
-use Rattle.edm_values.specs.MomentParts.{MomentParts}
+use Rattle.edm_values.specs.MomentParts.{IsFourDigitYear, IsMoment, MomentParts}
 use Rattle.edm_values.specs.NumberTypes.{IsNumberOf}
 use Rattle.edm_values.specs.Val.{Val, null, boolean, whole, text, date, moment, guid, member, fields, items, FieldVal, absent, present, Vals, no_items, item}
 use Rattle.edm_values.specs.declared.primitive.PrimitiveType.{PrimitiveType}
@@ -28,17 +28,17 @@ module _ (slots : Slots) where
   pub number_has : (p : PrimitiveType) (n : ℤ) → IsNumberOf p n → HasType slots (single (primitive p)) (whole n)
   number_has p n is = is
 
-  pub text_has : (t : List ℕ) → HasType slots string_type (text t)
-  text_has t = tt
+  pub text_has : (t : List ℕ) → IsUtf8 t → HasType slots string_type (text t)
+  text_has t is = is
 
-  pub date_has : (d : Date) → HasType slots (single (primitive PrimitiveType.Date)) (date d)
-  date_has d = tt
+  pub date_has : (d : Date) → IsFourDigitYear d.year → HasType slots (single (primitive PrimitiveType.Date)) (date d)
+  date_has d is = is
 
-  pub moment_has : (m : MomentParts) → HasType slots (single (primitive PrimitiveType.DateTimeOffset)) (moment m)
-  moment_has m = tt
+  pub moment_has : (m : MomentParts) → IsMoment m.civil m.offset_minutes → HasType slots (single (primitive PrimitiveType.DateTimeOffset)) (moment m)
+  moment_has m is = is
 
-  pub guid_has : (g : List ℕ) → HasType slots (single (primitive PrimitiveType.Guid)) (guid g)
-  guid_has g = tt
+  pub guid_has : (g : List ℕ) → length g ≡ 16 → HasType slots (single (primitive PrimitiveType.Guid)) (guid g)
+  guid_has g is = is
 
   pub member_has : (name : List ℕ) (n : ℤ) → IsOfUnderlying (slots.enumerations name) n → HasType slots (single (enumeration name)) (member n)
   member_has name n is = is
@@ -93,6 +93,16 @@ module _ (slots : Slots) where
   primitive_kind PrimitiveType.DateTimeOffset (moment m) has = refl
   primitive_kind PrimitiveType.Guid (guid g) has = refl
   primitive_kind _ _ has = absurd has
+
+  -- a text is one in UTF-8, a date and a moment are such as a literal can spell
+  pub text_within : (t : List ℕ) → HasType slots (single (primitive PrimitiveType.String)) (text t) → IsUtf8 t
+  text_within t has = has
+
+  pub date_within : (d : Date) → HasType slots (single (primitive PrimitiveType.Date)) (date d) → IsFourDigitYear d.year
+  date_within d has = has
+
+  pub moment_within : (m : MomentParts) → HasType slots (single (primitive PrimitiveType.DateTimeOffset)) (moment m) → IsMoment m.civil m.offset_minutes
+  moment_within m has = has
 
   -- a number lies within its type
   pub number_within : (p : PrimitiveType) (n : ℤ) → HasType slots (single (primitive p)) (whole n) → IsNumberOf p n

@@ -1,18 +1,19 @@
 -- For private clauses: which values a function may be applied to.
-use Rattle.std.specs.Prelude.{◌≤◌, List, [], ◌∷◌, length}
+use Rattle.std.specs.Prelude.{◌≤◌, List, [], ◌∷◌, IsUtf8, length}
+use Rattle.edm_values.specs.MomentParts.{IsFourDigitYear, IsMoment}
 use Rattle.edm_values.specs.Val.{Val, null, whole, text, date, moment}
 use Rattle.odata_signatures.specs.Functions.{row_of}
 use Rattle.odata_signatures.specs.declared.argument_kind.ArgumentKind.{ArgumentKind}
 use Rattle.odata_signatures.specs.declared.function.Function.{Function}
 
--- a value of that kind, or null
+-- a value of that kind, as the types of that kind have it, or null
 abbrev pub IsArgument : ArgumentKind → Val → Type 0
 IsArgument kind null = Unit {0}
-IsArgument ArgumentKind.Text (text t) = Unit {0}
+IsArgument ArgumentKind.Text (text t) = IsUtf8 t
 IsArgument ArgumentKind.Number (whole n) = Unit {0}
-IsArgument ArgumentKind.DateOrMoment (date d) = Unit {0}
-IsArgument ArgumentKind.DateOrMoment (moment m) = Unit {0}
-IsArgument ArgumentKind.Moment (moment m) = Unit {0}
+IsArgument ArgumentKind.DateOrMoment (date d) = IsFourDigitYear d.year
+IsArgument ArgumentKind.DateOrMoment (moment m) = IsMoment m.civil m.offset_minutes
+IsArgument ArgumentKind.Moment (moment m) = IsMoment m.civil m.offset_minutes
 IsArgument kind _ = ⊥
 
 -- each value is of the kind at its place

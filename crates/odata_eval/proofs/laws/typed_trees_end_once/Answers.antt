@@ -24,6 +24,8 @@ returns c = ends_once
       trimmed = c.texts_have_one_answer.ensures.trimmed_there;
       dates = c.day_numbers_have_one_date.ensures.there;
       bits = c.bits_are_decided.ensures;
+      moments = c.spelled_values_lie_within.ensures.moments;
+      guids = c.spelled_values_lie_within.ensures.guids;
     })
     (record {
       left = c.operands_lie_within_promotion.ensures.left;
