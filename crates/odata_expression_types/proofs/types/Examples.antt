@@ -1,7 +1,7 @@
 -- Two filters of items.
 use Rattle.std.proofs.Common.{◌≡◌, refl, sym, subst, inl, inr, pos, [], ◌∷◌, FitsSigned, w32, w64, lit<, rules}
 use Rattle.std.proofs.lemmas.Int.{fits_signed_from_abs}
-use Rattle.std.specs.Prelude.{codes}
+use Rattle.std.specs.Prelude.{IsUtf8, codes}
 use Rattle.std.specs.Str.Parse.{IsNumeral}
 use Rattle.edm_values.specs.IntLiteral.{IntValue}
 use Rattle.csdl_schema.specs.ExprType.{ExprType, single, primitive}
@@ -24,6 +24,10 @@ one = (inr (inr (numeral, refl)), fits_signed_from_abs w64 (pos 1) (lit< tt))
 one_fits : FitsSigned w32 (pos 1)
 one_fits = fits_signed_from_abs w32 (pos 1) (lit< tt)
 
+letter : IsUtf8 (97 ∷ [])
+unfolding lib.Utf8.encode
+letter = (97 ∷ [], (refl, refl))
+
 pub item_filter_typed : ItemFilterTyped
 item_filter_typed = record {
   left = boolean_type;
@@ -45,7 +49,7 @@ item_filter_typed = record {
     left = string_type;
     right = string_type;
     left_typed = refl;
-    right_typed = (97 ∷ [], (refl, (97 ∷ [], (refl, refl))), refl);
+    right_typed = (97 ∷ [], (refl, letter), refl);
     makes = (inr refl, refl);
   };
   makes = (inl refl, inl refl, refl);
