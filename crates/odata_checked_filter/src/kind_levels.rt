@@ -44,15 +44,15 @@ pub(crate) fn kind_level(kind: NodeKind) -> u8
     }
 }
 
-/// The level that the first operand of such a node needs; 0 before a slash, where a path stands.
+/// The level that the first operand of such a node needs: that of the node, or 0 before a slash, where a path stands.
 pub(crate) fn first_level(kind: NodeKind) -> u8
     ensures { result ≡ first_level kind }
 {
     match kind {
-        NodeKind::Binary { operator } => operator_level(operator),
-        NodeKind::Has => PRIMARY,
-        NodeKind::InList => PRIMARY,
-        NodeKind::InPath => PRIMARY,
+        NodeKind::Binary { .. } => kind_level(kind),
+        NodeKind::Has => kind_level(kind),
+        NodeKind::InList => kind_level(kind),
+        NodeKind::InPath => kind_level(kind),
         _ => 0,
     }
 }

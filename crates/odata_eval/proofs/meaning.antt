@@ -24,5 +24,6 @@ pub mod OneOutcome
 pub mod OneStep
 pub mod Progress
 pub mod SameForms
+pub mod Sides
 pub mod SameGives
 pub mod TypeValues

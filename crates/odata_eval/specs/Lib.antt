@@ -23,6 +23,7 @@ pub use Rattle.odata_signatures.specs.Functions
 pub use Rattle.odata_signatures.specs.OperatorClass
 pub use Rattle.odata_signatures.specs.OperatorTyped
 pub use Rattle.odata_checked_filter.specs.Stands
+pub use Rattle.odata_expression_types.specs.Sides
 pub use Rattle.odata_expression_types.specs.Typed
 pub mod ArgumentValues
 pub mod CalculationGives

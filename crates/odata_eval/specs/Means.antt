@@ -7,6 +7,7 @@ use Rattle.odata_syntax.specs.Tree.{Shape, Tree, any_item, binary, call, count, 
 use Rattle.odata_syntax.specs.Tree.{Trees, no_trees, more_trees}
 use Rattle.csdl_schema.specs.SchemaModel.{Slots}
 use Rattle.odata_signatures.specs.OperatorTyped.{NegationTyped, OperatorTyped}
+use Rattle.odata_expression_types.specs.Sides.{Between}
 use Rattle.odata_expression_types.specs.Typed.{OperandTyped, OperandsTyped, Typed}
 use Rattle.odata_eval.specs.CalculationGives.{NegatedGives}
 use Rattle.odata_eval.specs.CallGives.{CallMeans}
@@ -46,7 +47,7 @@ abbrev mutual
       After (Means slots root now entity environment left)
       (λ l. OperatorGives operator
       (OperandsTyped (Typed slots root (scope_of environment) left) (Typed slots root (scope_of environment) right)
-      (OperatorTyped operator))
+      (Between (OperatorTyped operator) left right))
       l (Means slots root now entity environment right))
   ShapeMeans slots root now entity environment (has left right) =
       After (Means slots root now entity environment left)

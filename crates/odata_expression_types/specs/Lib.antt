@@ -35,4 +35,5 @@ pub mod FirstAmong
 pub mod HasTyping
 pub mod PreOrder
 pub mod SameTypes
+pub mod Sides
 pub mod Laws

@@ -7,6 +7,7 @@ use Rattle.odata_syntax.specs.Tree.{Tree, Trees, node, literal, it, name, member
 use Rattle.csdl_schema.specs.ExprType.{SingleType, ExprType, single, collection, structured}
 use Rattle.csdl_schema.specs.SchemaModel.{PropertyModel, Slots, declared}
 use Rattle.odata_expression_types.specs.LiteralValue.{LiteralTyped}
+use Rattle.odata_expression_types.specs.Sides.{BeforeList, Between}
 use Rattle.odata_signatures.specs.CallTyped.{CallTyped}
 use Rattle.odata_signatures.specs.CollectionTyped.{AnyItemTyped, CountTyped, InListTyped, InPathTyped}
 use Rattle.odata_signatures.specs.ExprTypes.{boolean_type, IsBooleanOrNull}
@@ -64,14 +65,15 @@ pub record OperandsTyped
   pub right_typed : Right right
   pub makes : Makes left right type
 
--- the operand on the left and the items of the list have types, and of these `in` makes the type
+-- the operand on the left and the items of the list have types, and of these the node makes the type
 pub record ItemsTyped
-    (Left : ExprType → Type 0) (Items : List ExprType → Type 0) (type : ExprType) : Type 0 where
+    (Left : ExprType → Type 0) (Items : List ExprType → Type 0) (Makes : ExprType → List ExprType → ExprType → Type 0)
+    (type : ExprType) : Type 0 where
   pub left : ExprType
   pub items : List ExprType
   pub left_typed : Left left
   pub items_typed : Items items
-  pub makes : InListTyped left items type
+  pub makes : Makes left items type
 
 -- the arguments have types, and of these the function of that name makes the type
 pub record ArgumentsTyped (asked : List ℕ) (Arguments : List ExprType → Type 0) (type : ExprType) : Type 0 where
@@ -111,13 +113,14 @@ abbrev mutual
   Typed slots root scope (node start stop (logical_not operand)) type =
       OperandTyped (Typed slots root scope operand) NotTyped type
   Typed slots root scope (node start stop (binary operator left right)) type =
-      OperandsTyped (Typed slots root scope left) (Typed slots root scope right) (OperatorTyped operator) type
+      OperandsTyped (Typed slots root scope left) (Typed slots root scope right)
+      (Between (OperatorTyped operator) left right) type
   Typed slots root scope (node start stop (has left right)) type =
-      OperandsTyped (Typed slots root scope left) (Typed slots root scope right) HasTyped type
+      OperandsTyped (Typed slots root scope left) (Typed slots root scope right) (Between HasTyped left right) type
   Typed slots root scope (node start stop (in_list left items)) type =
-      ItemsTyped (Typed slots root scope left) (AreTyped slots root scope items) type
+      ItemsTyped (Typed slots root scope left) (AreTyped slots root scope items) (BeforeList InListTyped left items) type
   Typed slots root scope (node start stop (in_path left path)) type =
-      OperandsTyped (Typed slots root scope left) (Typed slots root scope path) InPathTyped type
+      OperandsTyped (Typed slots root scope left) (Typed slots root scope path) (Between InPathTyped left path) type
   Typed slots root scope (node start stop (call asked arguments)) type =
       ArgumentsTyped asked (AreTyped slots root scope arguments) type
   Typed slots root scope (node start stop (any_item base)) type =

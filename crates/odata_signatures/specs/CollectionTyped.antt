@@ -6,6 +6,7 @@ use Rattle.edm_values.specs.declared.primitive.PrimitiveType.{PrimitiveType}
 use Rattle.csdl_schema.specs.ExprType.{ExprType, single, collection, primitive}
 use Rattle.odata_signatures.specs.ComparableTypes.{AreComparable}
 use Rattle.odata_signatures.specs.ExprTypes.{boolean_type}
+use Rattle.odata_signatures.specs.Side.{Side, types_of}
 
 abbrev pub IsCollection : ExprType → Type 0
 IsCollection (collection member) = Unit {0}
@@ -24,11 +25,12 @@ abbrev pub IsComparableWithMembers : ExprType → ExprType → Type 0
 IsComparableWithMembers left (collection member) = AreComparable left (single member)
 IsComparableWithMembers left _ = ⊥
 
--- `in` before a path takes operands of the first two types and gives a value of the third (section 5.1.1.1.11)
-abbrev pub InPathTyped : ExprType → ExprType → ExprType → Type 0
-InPathTyped left path type = IsComparableWithMembers left path × (type ≡ boolean_type)
+-- `in` before a path takes these sides and gives a value of the type (section 5.1.1.1.11)
+abbrev pub InPathTyped : Side → Side → ExprType → Type 0
+InPathTyped left path type = IsComparableWithMembers left.type_of path.type_of × (type ≡ boolean_type)
 
 -- `in` before a list: the value on the left is none of a collection, and is compared with each item (section 5.1.1.1.11)
-abbrev pub InListTyped : ExprType → List ExprType → ExprType → Type 0
+abbrev pub InListTyped : Side → List Side → ExprType → Type 0
 InListTyped left items type =
-    (¬ IsCollection left) × AllByRecursion (AreComparable left) items × (type ≡ boolean_type)
+    (¬ IsCollection left.type_of) × AllByRecursion (AreComparable left.type_of) (types_of items)
+    × (type ≡ boolean_type)

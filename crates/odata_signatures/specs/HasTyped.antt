@@ -2,6 +2,7 @@
 use Rattle.std.specs.Prelude.{◌≡◌}
 use Rattle.csdl_schema.specs.ExprType.{ExprType, null_type, single, enumeration}
 use Rattle.odata_signatures.specs.ExprTypes.{boolean_type}
+use Rattle.odata_signatures.specs.Side.{Side}
 
 -- one enumeration on both sides, or Null for either or both
 abbrev pub AreFlags : ExprType → ExprType → Type 0
@@ -11,6 +12,6 @@ AreFlags (single (enumeration left)) null_type = Unit {0}
 AreFlags (single (enumeration left)) (single (enumeration right)) = left ≡ right
 AreFlags _ _ = ⊥
 
--- `has` takes operands of the first two types and gives a value of the third
-abbrev pub HasTyped : ExprType → ExprType → ExprType → Type 0
-HasTyped left right type = AreFlags left right × (type ≡ boolean_type)
+-- `has` takes these sides and gives a value of the type
+abbrev pub HasTyped : Side → Side → ExprType → Type 0
+HasTyped left right type = AreFlags left.type_of right.type_of × (type ≡ boolean_type)

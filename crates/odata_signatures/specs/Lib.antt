@@ -12,5 +12,6 @@ pub mod HasTyped
 pub mod ManyValues
 pub mod OperatorClass
 pub mod OperatorTyped
+pub mod Side
 pub mod TypeThere
 pub mod TypeView

@@ -9,6 +9,7 @@ use Rattle.odata_signatures.specs.declared.operator_class.OperatorClass.TheVaria
 use Rattle.odata_signatures.specs.ComparableTypes.{AreComparedBy}
 use Rattle.odata_signatures.specs.ExprTypes.{boolean_type, IsBooleanOrNull, IsNumberOrNull, number_or_null}
 use Rattle.odata_signatures.specs.OperatorClass.{class_of}
+use Rattle.odata_signatures.specs.Side.{Side}
 
 -- arithmetic of two numbers or nulls has the type to which these are promoted, that of two nulls type Null
 pub record ArithmeticTyped (left right type : ExprType) : Type 0 where
@@ -18,15 +19,16 @@ pub record ArithmeticTyped (left right type : ExprType) : Type 0 where
   pub right_is : IsNumberOrNull right right_number
   pub type_is : type ≡ number_or_null (promotion left_number right_number)
 
+-- an operator of the class takes operands of the first two types and gives a value of the third
 abbrev pub ClassTyped : OperatorClass → ExprType → ExprType → ExprType → Type 0
 ClassTyped (Connective connective) left right type =
     IsBooleanOrNull left × IsBooleanOrNull right × (type ≡ boolean_type)
 ClassTyped (Comparison comparison) left right type = AreComparedBy comparison left right × (type ≡ boolean_type)
 ClassTyped (Arithmetic arithmetic) left right type = ArithmeticTyped left right type
 
--- the operator takes operands of the first two types and gives a value of the third
-abbrev pub OperatorTyped : BinaryOperator → ExprType → ExprType → ExprType → Type 0
-OperatorTyped operator left right type = ClassTyped (class_of operator) left right type
+-- the operator takes these sides and gives a value of the type; their types alone count
+abbrev pub OperatorTyped : BinaryOperator → Side → Side → ExprType → Type 0
+OperatorTyped operator left right type = ClassTyped (class_of operator) left.type_of right.type_of type
 
 -- `-` before an operand of the first type gives the second
 pub record NegationTyped (operand type : ExprType) : Type 0 where

@@ -1,9 +1,10 @@
 //! Which type `in` makes of those of its operands.
-ghost use Rattle.std.specs.Prelude.{◌↔◌, IsTrue, IfSome, IfNone, map};
+ghost use Rattle.std.specs.Prelude.{◌≡◌, ◌↔◌, ℕ, List, Option, IsTrue, IfSome, IfNone, map};
 ghost use Rattle.std.specs.List.{AllByRecursion};
 ghost use Rattle.csdl_schema.specs.ExprType.{ExprType};
 ghost use Rattle.odata_signatures.specs.CollectionTyped.{InListTyped, InPathTyped};
 ghost use Rattle.odata_signatures.specs.ComparableTypes.{AreComparable};
+ghost use Rattle.odata_signatures.specs.Side.{Side, quoting, types_of};
 ghost use Rattle.odata_signatures.specs.TypeView.{expr_type};
 ghost use Rattle.odata_signatures.specs.TypeThere.{IsTypeThere};
 
@@ -16,11 +17,12 @@ use csdl_schema::Schema;
 pub fn in_path_type(schema: &Schema, left: &EdmType, path: &EdmType) -> Option<EdmType>
     requires left { IsTypeThere schema.now left.now }
     requires path { IsTypeThere schema.now path.now }
-    ensures typed { IfSome result (λ t. InPathTyped
-        (expr_type schema.now left.now) (expr_type schema.now path.now) (expr_type schema.now t)) }
+    ensures typed { (l r : Option (List ℕ)) → IfSome result (λ t. InPathTyped
+        (quoting l (expr_type schema.now left.now)) (quoting r (expr_type schema.now path.now))
+        (expr_type schema.now t)) }
     ensures there { IfSome result (IsTypeThere schema.now) }
-    ensures none { IfNone result ((type : ExprType) → ¬ InPathTyped
-        (expr_type schema.now left.now) (expr_type schema.now path.now) type) }
+    ensures none { (l r : Option (List ℕ)) → IfNone result ((type : ExprType) → ¬ InPathTyped
+        (quoting l (expr_type schema.now left.now)) (quoting r (expr_type schema.now path.now)) type) }
 {
     match path {
         EdmType::Collection(member) => {
@@ -40,11 +42,13 @@ pub fn in_path_type(schema: &Schema, left: &EdmType, path: &EdmType) -> Option<E
 pub fn in_list_type(schema: &Schema, left: &EdmType, items: &[EdmType]) -> Option<EdmType>
     requires left { IsTypeThere schema.now left.now }
     requires items { AllByRecursion (IsTypeThere schema.now) items.now }
-    ensures typed { IfSome result (λ t. InListTyped
-        (expr_type schema.now left.now) (map (expr_type schema.now) items.now) (expr_type schema.now t)) }
+    ensures typed { (l : Option (List ℕ)) (sides : List Side)
+        → types_of sides ≡ map (expr_type schema.now) items.now
+        → IfSome result (λ t. InListTyped (quoting l (expr_type schema.now left.now)) sides (expr_type schema.now t)) }
     ensures there { IfSome result (IsTypeThere schema.now) }
-    ensures none { IfNone result ((type : ExprType) → ¬ InListTyped
-        (expr_type schema.now left.now) (map (expr_type schema.now) items.now) type) }
+    ensures none { (l : Option (List ℕ)) (sides : List Side)
+        → types_of sides ≡ map (expr_type schema.now) items.now
+        → IfNone result ((type : ExprType) → ¬ InListTyped (quoting l (expr_type schema.now left.now)) sides type) }
 {
     if !left.is_collection() && are_comparable_items(schema, left, items) {
         Some(BOOLEAN)

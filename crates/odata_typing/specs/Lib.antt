@@ -30,6 +30,7 @@ pub use Rattle.odata_expression_types.specs.Laws
 pub use Rattle.odata_expression_types.specs.LiteralValue
 pub use Rattle.odata_expression_types.specs.PreOrder
 pub use Rattle.odata_expression_types.specs.SameTypes
+pub use Rattle.odata_expression_types.specs.Sides
 pub use Rattle.odata_expression_types.specs.Typed
 pub use Rattle.odata_functions.specs.Promotion
 pub use Rattle.odata_signatures.specs.CollectionTyped
@@ -38,6 +39,7 @@ pub use Rattle.odata_signatures.specs.ExprTypes
 pub use Rattle.odata_signatures.specs.HasTyped
 pub use Rattle.odata_signatures.specs.OperatorClass
 pub use Rattle.odata_signatures.specs.OperatorTyped
+pub use Rattle.odata_signatures.specs.Side
 pub use Rattle.odata_signatures.specs.TypeView
 pub use Rattle.odata_syntax.specs.CanonicalText
 pub use Rattle.odata_syntax.specs.FirstRun

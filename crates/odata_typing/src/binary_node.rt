@@ -1,10 +1,11 @@
 //! Nodes between two operands: operators, `has`, and `in` before a path.
-ghost use Rattle.std.specs.Prelude.{◌≡◌, ◌<◌, ◌≤◌, [], ℕ, length, IfOk, IfSome, IfNone};
+ghost use Rattle.std.specs.Prelude.{◌≡◌, ◌<◌, ◌≤◌, [], ℕ, List, Option, length, IfOk, IfSome, IfNone};
 ghost use Rattle.odata_syntax.specs.Tree.{Tree, node};
 ghost use Rattle.odata_syntax.specs.TreeView.{tree_of};
 ghost use Rattle.csdl_schema.specs.ExprType.{ExprType};
 ghost use Rattle.csdl_schema.specs.SchemaModel.{SchemaModel};
 ghost use Rattle.odata_expression_types.specs.Typed.{Scope};
+ghost use Rattle.odata_signatures.specs.Side.{quoting};
 ghost use Rattle.odata_signatures.specs.TypeThere.{IsTypeThere};
 ghost use Rattle.odata_signatures.specs.TypeView.{expr_type};
 ghost use Rattle.odata_checked_filter.specs.FlatTree.{FlatTree};
@@ -137,11 +138,12 @@ fn close_pair(
 fn infix_type(schema: &Schema, form: Infix, left: &EdmType, right: &EdmType) -> Option<EdmType>
     requires left { IsTypeThere schema.now left.now }
     requires right { IsTypeThere schema.now right.now }
-    ensures typed { IfSome result (λ t. InfixTyped form
-        (expr_type schema.now left.now) (expr_type schema.now right.now) (expr_type schema.now t)) }
+    ensures typed { (l r : Option (List ℕ)) → IfSome result (λ t. InfixTyped form
+        (quoting l (expr_type schema.now left.now)) (quoting r (expr_type schema.now right.now))
+        (expr_type schema.now t)) }
     ensures there { IfSome result (IsTypeThere schema.now) }
-    ensures none { IfNone result ((type : ExprType) → ¬ InfixTyped form
-        (expr_type schema.now left.now) (expr_type schema.now right.now) type) }
+    ensures none { (l r : Option (List ℕ)) → IfNone result ((type : ExprType) → ¬ InfixTyped form
+        (quoting l (expr_type schema.now left.now)) (quoting r (expr_type schema.now right.now)) type) }
 {
     match form {
         Infix::Operator(operator) => made_type(schema, operator, left, right),

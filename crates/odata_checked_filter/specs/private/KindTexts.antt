@@ -24,12 +24,12 @@ kind_level NodeKind.InList = primary_level
 kind_level NodeKind.InPath = primary_level
 kind_level (NodeKind.Call function) = base_level
 
--- the level that the place of its first operand needs
+-- the level that the place of its first operand needs: its own, where an operator stands behind that
 abbrev pub first_level : NodeKind → Level
-first_level (NodeKind.Binary operator) = operator_level operator
-first_level NodeKind.Has = primary_level
-first_level NodeKind.InList = primary_level
-first_level NodeKind.InPath = primary_level
+first_level (NodeKind.Binary operator) = kind_level (NodeKind.Binary operator)
+first_level NodeKind.Has = kind_level NodeKind.Has
+first_level NodeKind.InList = kind_level NodeKind.InList
+first_level NodeKind.InPath = kind_level NodeKind.InPath
 first_level _ = 0
 
 -- a slash, a quantifier and `(`

@@ -10,10 +10,10 @@ use Rattle.csdl_schema.specs.SchemaModel.{Slots}
 use Rattle.edm_entities.specs.HasType.{AllHaveType, HasType}
 use Rattle.odata_functions.specs.Bits.{HasBits}
 use Rattle.odata_functions.specs.declared.comparison.ComparisonOperator.{ComparisonOperator}
-use Rattle.odata_signatures.specs.CollectionTyped.{AnyItemTyped, CountTyped, InListTyped, InPathTyped, IsCollection}
+use Rattle.odata_signatures.specs.CollectionTyped.{AnyItemTyped, CountTyped, IsCollection, IsComparableWithMembers}
 use Rattle.odata_signatures.specs.ComparableTypes.{AreComparable}
 use Rattle.odata_signatures.specs.ExprTypes.{IsBooleanOrNull, boolean_type}
-use Rattle.odata_signatures.specs.HasTyped.{AreFlags, HasTyped}
+use Rattle.odata_signatures.specs.HasTyped.{AreFlags}
 use Rattle.odata_syntax.specs.Spans.{list_of_trees}
 use Rattle.odata_syntax.specs.Tree.{Tree, Trees, no_trees, more_trees}
 use Rattle.odata_syntax.specs.declared.node.Quantifier.{Quantifier}
@@ -37,6 +37,7 @@ use Rattle.odata_eval.proofs.meaning.LawsBelow.{SomeEach}
 use Rattle.odata_eval.proofs.meaning.NumberComes.{number_given}
 use Rattle.odata_eval.proofs.meaning.OneByOne.{items_both, members_both}
 use Rattle.odata_eval.proofs.meaning.SameGives.{Both}
+use Rattle.odata_eval.proofs.meaning.Sides.{AreItemTypes}
 use Rattle.odata_eval.proofs.meaning.TypeValues.{IsOfKind, list_form, member_kind, members, null_has, null_value, truth_has}
 
 of_type : (slots : Slots) (given type : ExprType) (Gives : Outcome → Type 0) → type ≡ given → Ends slots given Gives → Ends slots type Gives
@@ -116,7 +117,7 @@ flags_end some slots null _ p q = absurd q
 flags_end some slots (member a) _ p q = absurd q
 flags_end some slots _ r p q = absurd p
 
-pub has_ends : SomeEach → (slots : Slots) (left right type : ExprType) (l r : Val) → HasTyped left right type → HasType slots left l → HasType slots right r
+pub has_ends : SomeEach → (slots : Slots) (left right type : ExprType) (l r : Val) → AreFlags left right × (type ≡ boolean_type) → HasType slots left l → HasType slots right r
     → Ends slots type (HasGives l r)
 has_ends some slots left right type l r typed of_l of_r =
     let flags = flags_values slots left right l r typed.0 of_l of_r in
@@ -169,7 +170,7 @@ lambda_ends slots quantifier BaseTyped Body m body type v over truth is has each
           subst (λ (w : Val). Ends slots type (LambdaGives quantifier BaseTyped Body w)) (sym v_is) (ends.0, ((m, over, ends.1.0), ends.1.1))
     ]
 
-pub in_path_ends : SomeEach → (slots : Slots) (left path type : ExprType) (l v : Val) → InPathTyped left path type → HasType slots left l → HasType slots path v
+pub in_path_ends : SomeEach → (slots : Slots) (left path type : ExprType) (l v : Val) → IsComparableWithMembers left path × (type ≡ boolean_type) → HasType slots left l → HasType slots path v
     → Ends slots type (InGives l v)
 in_path_ends some slots left (collection m) type l v typed of_l has =
     elim (list_form slots m v has) [
@@ -197,7 +198,7 @@ items_go_end some slots Item left l (more_trees tree more) (t ∷ types) of_l al
 items_go_end some slots Item left l _ _ of_l alike all = absurd all
 
 pub in_list_ends : SomeEach → (slots : Slots) (root : List ℕ) (now : MomentParts) (entity : Val) (environment : Environment) (left : ExprType) (l : Val) (trees : Trees) (types : List ExprType)
-    (type : ExprType) → InListTyped left types type → HasType slots left l → AllTyped (λ tree t. Ends slots t (Means slots root now entity environment tree)) trees types
+    (type : ExprType) → AreItemTypes left types type → HasType slots left l → AllTyped (λ tree t. Ends slots t (Means slots root now entity environment tree)) trees types
     → Ends slots type (ItemsGive l (length (list_of_trees trees)) (ItemMeans slots root now entity environment trees))
 in_list_ends some slots root now entity environment left l trees types type typed of_l all =
     let Given : Outcome → Type 0 = ItemsGive l (length (list_of_trees trees)) (ItemMeans slots root now entity environment trees) in

@@ -11,6 +11,7 @@ use Rattle.odata_expression_types.specs.LiteralValue.{LiteralValue}
 use Rattle.odata_signatures.specs.OperatorClass.{class_of}
 use Rattle.odata_signatures.specs.declared.function.Function.{Function}
 use Rattle.odata_signatures.specs.OperatorTyped.{NegationTyped, OperatorTyped}
+use Rattle.odata_expression_types.specs.Sides.{Between}
 use Rattle.odata_expression_types.specs.Typed.{OperandTyped, OperandsTyped, Typed}
 use Rattle.odata_eval.specs.CalculationGives.{NegatedGives}
 use Rattle.odata_eval.specs.CallGives.{CallGives}
@@ -64,7 +65,7 @@ module _ (known : OneEach) (slots : Slots) (root : List ℕ) (now : MomentParts)
         After-one (Means slots root now entity environment operand) NotGives (Means-one environment operand) NotGives-one
     ShapeMeans-one environment (binary operator left right) =
         let NodeTyped : ExprType → Type 0 =
-        OperandsTyped (Typed slots root (scope_of environment) left) (Typed slots root (scope_of environment) right) (OperatorTyped operator) in
+        OperandsTyped (Typed slots root (scope_of environment) left) (Typed slots root (scope_of environment) right) (Between (OperatorTyped operator) left right) in
         After-one (Means slots root now entity environment left) (λ l. OperatorGives operator NodeTyped l (Means slots root now entity environment right))
         (Means-one environment left)
         (λ l. ClassGives-one known (class_of operator) NodeTyped l (Means slots root now entity environment right)

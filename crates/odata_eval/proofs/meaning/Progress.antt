@@ -29,6 +29,7 @@ use Rattle.odata_signatures.specs.ExprTypes.{boolean_type, string_type}
 use Rattle.odata_expression_types.specs.LiteralValue.{LiteralTyped, IntTyped}
 use Rattle.odata_signatures.specs.OperatorClass.{class_of}
 use Rattle.odata_signatures.specs.OperatorTyped.{ClassTyped, NegationTyped, NotTyped, OperatorTyped}
+use Rattle.odata_expression_types.specs.Sides.{Between}
 use Rattle.odata_expression_types.specs.Typed.{AreTyped, OperandTyped, OperandsTyped, Typed, PropertyTyped, StepTyped, variable_type, property_named}
 use Rattle.odata_eval.specs.CalculationGives.{CalculationGives, NegatedGives, number_outcome}
 use Rattle.odata_eval.specs.CallGives.{CallGives}
@@ -56,6 +57,7 @@ use Rattle.odata_eval.proofs.meaning.Kinds.{IsTruth, truth_of}
 use Rattle.odata_eval.proofs.meaning.LawsBelow.{Promotes, SomeEach}
 use Rattle.odata_eval.proofs.meaning.NumberComes.{number_typed}
 use Rattle.odata_eval.proofs.meaning.Numbers.{calculated_values, negated_value}
+use Rattle.odata_eval.proofs.meaning.Sides.{item_types}
 use Rattle.odata_eval.proofs.meaning.TypeValues.{date_has, guid_has, held_present, member_has, moment_has, null_has, number_has, record_form, text_has, truth_has}
 
 int_has : (slots : Slots) (n : ℤ) (p : PrimitiveType) → FitsSigned w64 n → IsIntLiteralType n p → HasType slots (single (primitive p)) (whole n)
@@ -261,7 +263,7 @@ module _ (some : SomeEach) (promotes : Promotes) (slots : Slots) (root : List �
         (tree_ends environment fitting operand typed.operand typed.operand_typed) (λ v has. not_ends slots typed.operand type v typed.makes has)
     tree_ends environment fitting (node start stop (binary operator left right)) type typed =
         let NodeTyped : ExprType → Type 0 =
-        OperandsTyped (Typed slots root (scope_of environment) left) (Typed slots root (scope_of environment) right) (OperatorTyped operator) in
+        OperandsTyped (Typed slots root (scope_of environment) left) (Typed slots root (scope_of environment) right) (Between (OperatorTyped operator) left right) in
         after_ends slots slots typed.left type (Means slots root now entity environment left)
         (λ l. ClassGives (class_of operator) NodeTyped l (Means slots root now entity environment right))
         (tree_ends environment fitting left typed.left typed.left_typed)
@@ -277,7 +279,8 @@ module _ (some : SomeEach) (promotes : Promotes) (slots : Slots) (root : List �
         after_ends slots slots typed.left type (Means slots root now entity environment left)
         (λ l. ItemsGive l (length (list_of_trees items)) (ItemMeans slots root now entity environment items))
         (tree_ends environment fitting left typed.left typed.left_typed)
-        (λ l of_l. in_list_ends some slots root now entity environment typed.left l items typed.items type typed.makes of_l
+        (λ l of_l. in_list_ends some slots root now entity environment typed.left l items typed.items type
+        (item_types slots root (scope_of environment) left items typed.left typed.items type typed.items_typed typed.makes) of_l
         (trees_end environment fitting items typed.items typed.items_typed))
     tree_ends environment fitting (node start stop (in_path left path)) type typed =
         after_ends slots slots typed.left type (Means slots root now entity environment left) (λ l. After (Means slots root now entity environment path) (InGives l))

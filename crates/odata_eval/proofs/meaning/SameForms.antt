@@ -21,6 +21,7 @@ use Rattle.odata_syntax.specs.declared.node.Quantifier.{Quantifier}
 use Rattle.odata_expression_types.specs.LiteralValue.{LiteralValue}
 use Rattle.odata_signatures.specs.OperatorClass.{class_of}
 use Rattle.odata_signatures.specs.OperatorTyped.{NegationTyped, OperatorTyped}
+use Rattle.odata_expression_types.specs.Sides.{Between}
 use Rattle.odata_expression_types.specs.Typed.{OperandTyped, OperandsTyped, Scope, Typed}
 use Rattle.odata_eval.specs.CalculationGives.{NegatedGives}
 use Rattle.odata_eval.specs.CallGives.{CallGives}
@@ -93,11 +94,12 @@ module _ (kept : KeptForms) (slots : Slots) (root : List ℕ) (now : MomentParts
         → BothTyped (T environment l) (T environment m) → BothTyped (T environment r) (T environment s)
         → Both (S environment (binary operator l r)) (S environment (binary operator m s))
     binary_same operator l r m s left right left_typed right_typed =
-        let N : ExprType → Type 0 = OperandsTyped (T environment l) (T environment r) (OperatorTyped operator) in
-        let K : ExprType → Type 0 = OperandsTyped (T environment m) (T environment s) (OperatorTyped operator) in
+        let N : ExprType → Type 0 = OperandsTyped (T environment l) (T environment r) (Between (OperatorTyped operator) l r) in
+        let K : ExprType → Type 0 = OperandsTyped (T environment m) (T environment s) (Between (OperatorTyped operator) m s) in
         after_both (M environment l) (M environment m) (λ v. OperatorGives operator N v (M environment r)) (λ v. OperatorGives operator K v (M environment s)) left
         (λ v. class_both (class_of operator) N K v (M environment r) (M environment s)
-        (operands_both (T environment l) (T environment m) (T environment r) (T environment s) (OperatorTyped operator) left_typed right_typed) right)
+        (operands_both (T environment l) (T environment m) (T environment r) (T environment s) (Between (OperatorTyped operator) l r) (Between (OperatorTyped operator) m s)
+        left_typed right_typed (λ s t type. (λ made. made, λ made. made))) right)
 
     -- of two operands that are both evaluated
     two_same : (Gives : Val → Val → Outcome → Type 0) (l r m s : Tree) → Both (M environment l) (M environment m) → Both (M environment r) (M environment s)

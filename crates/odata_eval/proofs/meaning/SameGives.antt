@@ -104,16 +104,19 @@ operand_goes N M Makes type goes typed = record { operand = typed.operand; opera
 pub operand_both : (N M : ExprType → Type 0) (Makes : ExprType → ExprType → Type 0) → BothTyped N M → BothTyped (OperandTyped N Makes) (OperandTyped M Makes)
 operand_both N M Makes same type = (operand_goes N M Makes type (λ t. (same t).0), operand_goes M N Makes type (λ t. (same t).1))
 
-operands_go : (L K R S : ExprType → Type 0) (Makes : ExprType → ExprType → ExprType → Type 0) (type : ExprType) → ((t : ExprType) → L t → K t) → ((t : ExprType) → R t → S t)
-    → OperandsTyped L R Makes type → OperandsTyped K S Makes type
-operands_go L K R S Makes type left right typed = record {
+operands_go : (L K R S : ExprType → Type 0) (Makes Also : ExprType → ExprType → ExprType → Type 0) (type : ExprType) → ((t : ExprType) → L t → K t) → ((t : ExprType) → R t → S t)
+    → ((l r : ExprType) → Makes l r type → Also l r type) → OperandsTyped L R Makes type → OperandsTyped K S Also type
+operands_go L K R S Makes Also type left right made typed = record {
   left = typed.left;
   right = typed.right;
   left_typed = left typed.left typed.left_typed;
   right_typed = right typed.right typed.right_typed;
-  makes = typed.makes;
+  makes = made typed.left typed.right typed.makes;
 }
 
-pub operands_both : (L K R S : ExprType → Type 0) (Makes : ExprType → ExprType → ExprType → Type 0) → BothTyped L K → BothTyped R S → BothTyped (OperandsTyped L R Makes) (OperandsTyped K S Makes)
-operands_both L K R S Makes left right type =
-    (operands_go L K R S Makes type (λ t. (left t).0) (λ t. (right t).0), operands_go K L S R Makes type (λ t. (left t).1) (λ t. (right t).1))
+pub operands_both : (L K R S : ExprType → Type 0) (Makes Also : ExprType → ExprType → ExprType → Type 0) → BothTyped L K → BothTyped R S
+    → ((l r : ExprType) → BothTyped (Makes l r) (Also l r)) → BothTyped (OperandsTyped L R Makes) (OperandsTyped K S Also)
+operands_both L K R S Makes Also left right made type = (
+  operands_go L K R S Makes Also type (λ t. (left t).0) (λ t. (right t).0) (λ l r. (made l r type).0),
+  operands_go K L S R Also Makes type (λ t. (left t).1) (λ t. (right t).1) (λ l r. (made l r type).1),
+)

@@ -33,6 +33,7 @@ use Rattle.odata_eval.specs.private.Scene.{EndsOnceHere, MeansHere, StandsHere, 
 use Rattle.odata_eval.specs.private.SceneModel.{SceneModel, environment_of}
 use Rattle.odata_eval.specs.private.WalkAnswer.{AnswersAtPlace, AnswersDatum, Tells}
 use Rattle.odata_eval.proofs.meaning.Kinds.{comparable_values}
+use Rattle.odata_eval.proofs.meaning.Sides.{item_types}
 use Rattle.odata_eval.proofs.walking.CallSteps.{behind_first, no_more, rest_stands}
 use Rattle.odata_eval.proofs.walking.Compared.{ComparedAnyhow}
 use Rattle.odata_eval.proofs.walking.Parts.{by_kind}
@@ -118,7 +119,7 @@ module _ (scene : SceneModel) where
             types = typed.items;
             stand = subst (λ (j : ℕ). StandsAll scene at j items) e (subst (λ (i : ℕ). StandsAll scene i stop items) f stands.children.right);
             typed = typed.items_typed;
-            alike = typed.makes.1;
+            alike = (item_types (slots_of scene.row.schema) (type_name_at scene.row.schema scene.row.type_id) (scope_of (environment_of scene)) a items typed.left typed.items type typed.items_typed typed.makes).1;
             takes = λ child among. child_takes whole child (behind_first a child (list_of_trees items) among);
             goes = λ o given. (gives l, (first_is, given));
           })

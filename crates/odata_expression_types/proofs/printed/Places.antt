@@ -6,6 +6,7 @@ use Rattle.csdl_schema.specs.ExprType.{ExprType}
 use Rattle.csdl_schema.specs.SchemaModel.{Slots}
 use Rattle.odata_expression_types.specs.Typed.{AreTyped, Scope, Typed}
 use Rattle.odata_expression_types.proofs.types.Carried.{arguments_carried, items_carried, lambda_carried, operand_carried, operands_carried}
+use Rattle.odata_expression_types.proofs.types.Sides.{in_list_carried}
 
 mutual
   pub bare_to : (slots : Slots) (root : List ℕ) (scope : Scope) (tree : Tree) (type : ExprType) → Typed slots root scope tree type → Typed slots root scope (bare tree) type
@@ -17,13 +18,14 @@ mutual
   bare_to slots root scope (node start stop (negation operand)) type typed = operand_carried (bare_to slots root scope operand) typed
   bare_to slots root scope (node start stop (logical_not operand)) type typed = operand_carried (bare_to slots root scope operand) typed
   bare_to slots root scope (node start stop (binary operator left right)) type typed =
-      operands_carried (bare_to slots root scope left) (bare_to slots root scope right) typed
+      operands_carried (bare_to slots root scope left) (bare_to slots root scope right) (λ l r makes. makes) typed
   bare_to slots root scope (node start stop (has left right)) type typed =
-      operands_carried (bare_to slots root scope left) (bare_to slots root scope right) typed
+      operands_carried (bare_to slots root scope left) (bare_to slots root scope right) (λ l r makes. makes) typed
   bare_to slots root scope (node start stop (in_list left items)) type typed =
-      items_carried (bare_to slots root scope left) (all_bare_to slots root scope items) typed
+      items_carried (bare_to slots root scope left) (all_bare_to slots root scope items)
+      (λ l types before after makes. in_list_carried slots root scope left (bare left) items (bare_trees items) l types type before after makes) typed
   bare_to slots root scope (node start stop (in_path left path)) type typed =
-      operands_carried (bare_to slots root scope left) (bare_to slots root scope path) typed
+      operands_carried (bare_to slots root scope left) (bare_to slots root scope path) (λ l r makes. makes) typed
   bare_to slots root scope (node start stop (call asked arguments)) type typed = arguments_carried (all_bare_to slots root scope arguments) typed
   bare_to slots root scope (node start stop (any_item base)) type typed = operand_carried (bare_to slots root scope base) typed
   bare_to slots root scope (node start stop (lambda quantifier base variable body)) type typed =
@@ -45,13 +47,14 @@ mutual
   bare_from slots root scope (node start stop (negation operand)) type typed = operand_carried (bare_from slots root scope operand) typed
   bare_from slots root scope (node start stop (logical_not operand)) type typed = operand_carried (bare_from slots root scope operand) typed
   bare_from slots root scope (node start stop (binary operator left right)) type typed =
-      operands_carried (bare_from slots root scope left) (bare_from slots root scope right) typed
+      operands_carried (bare_from slots root scope left) (bare_from slots root scope right) (λ l r makes. makes) typed
   bare_from slots root scope (node start stop (has left right)) type typed =
-      operands_carried (bare_from slots root scope left) (bare_from slots root scope right) typed
+      operands_carried (bare_from slots root scope left) (bare_from slots root scope right) (λ l r makes. makes) typed
   bare_from slots root scope (node start stop (in_list left items)) type typed =
-      items_carried (bare_from slots root scope left) (all_bare_from slots root scope items) typed
+      items_carried (bare_from slots root scope left) (all_bare_from slots root scope items)
+      (λ l types before after makes. in_list_carried slots root scope (bare left) left (bare_trees items) items l types type before after makes) typed
   bare_from slots root scope (node start stop (in_path left path)) type typed =
-      operands_carried (bare_from slots root scope left) (bare_from slots root scope path) typed
+      operands_carried (bare_from slots root scope left) (bare_from slots root scope path) (λ l r makes. makes) typed
   bare_from slots root scope (node start stop (call asked arguments)) type typed = arguments_carried (all_bare_from slots root scope arguments) typed
   bare_from slots root scope (node start stop (any_item base)) type typed = operand_carried (bare_from slots root scope base) typed
   bare_from slots root scope (node start stop (lambda quantifier base variable body)) type typed =

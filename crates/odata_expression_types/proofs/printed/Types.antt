@@ -6,6 +6,7 @@ use Rattle.csdl_schema.specs.ExprType.{ExprType}
 use Rattle.csdl_schema.specs.SchemaModel.{Slots}
 use Rattle.odata_expression_types.specs.Typed.{AreTyped, Scope, Typed}
 use Rattle.odata_expression_types.proofs.types.Carried.{arguments_carried, items_carried, lambda_carried, operand_carried, operands_carried}
+use Rattle.odata_expression_types.proofs.types.Sides.{in_list_carried}
 use Rattle.odata_expression_types.proofs.printed.Literals.{LiteralFacts, alike, typed_from, typed_to}
 
 -- what the normal form is, by its shape
@@ -38,16 +39,20 @@ mutual
       (operand_carried (λ t. types_to facts slots root scope operand is.1.0 t is.1.1) typed)
   types_to facts slots root scope (node start stop (binary operator left right)) normal type is typed =
       subst (λ (t : Tree). Typed slots root scope t type) (sym (made start stop is.0 (binary operator is.1.0 is.1.1) normal is.2 is.1.4))
-      (operands_carried (λ t. types_to facts slots root scope left is.1.0 t is.1.2) (λ t. types_to facts slots root scope right is.1.1 t is.1.3) typed)
+      (operands_carried (λ t. types_to facts slots root scope left is.1.0 t is.1.2) (λ t. types_to facts slots root scope right is.1.1 t is.1.3)
+      (λ l r makes. makes) typed)
   types_to facts slots root scope (node start stop (has left right)) normal type is typed =
       subst (λ (t : Tree). Typed slots root scope t type) (sym (made start stop is.0 (has is.1.0 is.1.1) normal is.2 is.1.4))
-      (operands_carried (λ t. types_to facts slots root scope left is.1.0 t is.1.2) (λ t. types_to facts slots root scope right is.1.1 t is.1.3) typed)
+      (operands_carried (λ t. types_to facts slots root scope left is.1.0 t is.1.2) (λ t. types_to facts slots root scope right is.1.1 t is.1.3)
+      (λ l r makes. makes) typed)
   types_to facts slots root scope (node start stop (in_list left items)) normal type is typed =
       subst (λ (t : Tree). Typed slots root scope t type) (sym (made start stop is.0 (in_list is.1.0 is.1.1) normal is.2 is.1.4))
-      (items_carried (λ t. types_to facts slots root scope left is.1.0 t is.1.2) (λ ts. all_to facts slots root scope items is.1.1 ts is.1.3) typed)
+      (items_carried (λ t. types_to facts slots root scope left is.1.0 t is.1.2) (λ ts. all_to facts slots root scope items is.1.1 ts is.1.3)
+      (λ l types before after makes. in_list_carried slots root scope left is.1.0 items is.1.1 l types type before after makes) typed)
   types_to facts slots root scope (node start stop (in_path left path)) normal type is typed =
       subst (λ (t : Tree). Typed slots root scope t type) (sym (made start stop is.0 (in_path is.1.0 is.1.1) normal is.2 is.1.4))
-      (operands_carried (λ t. types_to facts slots root scope left is.1.0 t is.1.2) (λ t. types_to facts slots root scope path is.1.1 t is.1.3) typed)
+      (operands_carried (λ t. types_to facts slots root scope left is.1.0 t is.1.2) (λ t. types_to facts slots root scope path is.1.1 t is.1.3)
+      (λ l r makes. makes) typed)
   types_to facts slots root scope (node start stop (call asked arguments)) normal type is typed =
       subst (λ (t : Tree). Typed slots root scope t type) (sym (made start stop is.0 (call asked is.1.0) normal is.2 is.1.2))
       (arguments_carried (λ ts. all_to facts slots root scope arguments is.1.0 ts is.1.1) typed)
@@ -90,15 +95,19 @@ mutual
       (subst (λ (t : Tree). Typed slots root scope t type) (made start stop is.0 (logical_not is.1.0) normal is.2 is.1.2) typed)
   types_from facts slots root scope (node start stop (binary operator left right)) normal type is typed =
       operands_carried (λ t. types_from facts slots root scope left is.1.0 t is.1.2) (λ t. types_from facts slots root scope right is.1.1 t is.1.3)
+      (λ l r makes. makes)
       (subst (λ (t : Tree). Typed slots root scope t type) (made start stop is.0 (binary operator is.1.0 is.1.1) normal is.2 is.1.4) typed)
   types_from facts slots root scope (node start stop (has left right)) normal type is typed =
       operands_carried (λ t. types_from facts slots root scope left is.1.0 t is.1.2) (λ t. types_from facts slots root scope right is.1.1 t is.1.3)
+      (λ l r makes. makes)
       (subst (λ (t : Tree). Typed slots root scope t type) (made start stop is.0 (has is.1.0 is.1.1) normal is.2 is.1.4) typed)
   types_from facts slots root scope (node start stop (in_list left items)) normal type is typed =
       items_carried (λ t. types_from facts slots root scope left is.1.0 t is.1.2) (λ ts. all_from facts slots root scope items is.1.1 ts is.1.3)
+      (λ l types before after makes. in_list_carried slots root scope is.1.0 left is.1.1 items l types type before after makes)
       (subst (λ (t : Tree). Typed slots root scope t type) (made start stop is.0 (in_list is.1.0 is.1.1) normal is.2 is.1.4) typed)
   types_from facts slots root scope (node start stop (in_path left path)) normal type is typed =
       operands_carried (λ t. types_from facts slots root scope left is.1.0 t is.1.2) (λ t. types_from facts slots root scope path is.1.1 t is.1.3)
+      (λ l r makes. makes)
       (subst (λ (t : Tree). Typed slots root scope t type) (made start stop is.0 (in_path is.1.0 is.1.1) normal is.2 is.1.4) typed)
   types_from facts slots root scope (node start stop (call asked arguments)) normal type is typed =
       arguments_carried (λ ts. all_from facts slots root scope arguments is.1.0 ts is.1.1)

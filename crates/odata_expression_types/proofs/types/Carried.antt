@@ -8,26 +8,27 @@ pub operand_carried : {From To : ExprType → Type 0} {Makes : ExprType → Expr
 operand_carried carry typed =
     record { operand = typed.operand; operand_typed = carry typed.operand typed.operand_typed; makes = typed.makes }
 
-pub operands_carried : {Left Left' Right Right' : ExprType → Type 0} {Makes : ExprType → ExprType → ExprType → Type 0} {type : ExprType}
-    → ((t : ExprType) → Left t → Left' t) → ((t : ExprType) → Right t → Right' t)
-    → OperandsTyped Left Right Makes type → OperandsTyped Left' Right' Makes type
-operands_carried left right typed = record {
+pub operands_carried : {Left Left' Right Right' : ExprType → Type 0} {Makes Makes' : ExprType → ExprType → ExprType → Type 0} {type : ExprType}
+    → ((t : ExprType) → Left t → Left' t) → ((t : ExprType) → Right t → Right' t) → ((l r : ExprType) → Makes l r type → Makes' l r type)
+    → OperandsTyped Left Right Makes type → OperandsTyped Left' Right' Makes' type
+operands_carried left right makes typed = record {
   left = typed.left;
   right = typed.right;
   left_typed = left typed.left typed.left_typed;
   right_typed = right typed.right typed.right_typed;
-  makes = typed.makes;
+  makes = makes typed.left typed.right typed.makes;
 }
 
-pub items_carried : {Left Left' : ExprType → Type 0} {Items Items' : List ExprType → Type 0} {type : ExprType}
+pub items_carried : {Left Left' : ExprType → Type 0} {Items Items' : List ExprType → Type 0} {Makes Makes' : ExprType → List ExprType → ExprType → Type 0} {type : ExprType}
     → ((t : ExprType) → Left t → Left' t) → ((ts : List ExprType) → Items ts → Items' ts)
-    → ItemsTyped Left Items type → ItemsTyped Left' Items' type
-items_carried left items typed = record {
+    → ((l : ExprType) (ts : List ExprType) → Items ts → Items' ts → Makes l ts type → Makes' l ts type)
+    → ItemsTyped Left Items Makes type → ItemsTyped Left' Items' Makes' type
+items_carried left items makes typed = record {
   left = typed.left;
   items = typed.items;
   left_typed = left typed.left typed.left_typed;
   items_typed = items typed.items typed.items_typed;
-  makes = typed.makes;
+  makes = makes typed.left typed.items typed.items_typed (items typed.items typed.items_typed) typed.makes;
 }
 
 pub arguments_carried : {asked : List ℕ} {From To : List ExprType → Type 0} {type : ExprType}

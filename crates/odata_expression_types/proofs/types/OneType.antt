@@ -15,7 +15,7 @@ use Rattle.odata_signatures.specs.ExprTypes.{IsNumberOrNull, number_or_null}
 use Rattle.odata_expression_types.specs.LiteralValue.{EnumerationLiteral, IntTyped, IsNameAndText, LiteralTyped}
 use Rattle.odata_signatures.specs.CallTyped.{CallTyped}
 use Rattle.odata_signatures.specs.OperatorClass.{class_of}
-use Rattle.odata_signatures.specs.OperatorTyped.{ArithmeticTyped, ClassTyped, NegationTyped, OperatorTyped}
+use Rattle.odata_signatures.specs.OperatorTyped.{ArithmeticTyped, ClassTyped, NegationTyped}
 use Rattle.odata_expression_types.specs.Typed.{AreTyped, Scope, StepTyped, Typed, PropertyTyped, variable_type, property_named}
 
 -- an Int literal stands for one number at most
@@ -140,8 +140,8 @@ module _ (one_call : OneCallType) where
         NegationTyped-one x.operand a b x.makes (subst P (Typed-one slots root scope operand y.operand x.operand y.operand_typed x.operand_typed) y.makes)
     Typed-one slots root scope (node start stop (logical_not operand)) a b x y = x.makes.1 ∙ sym y.makes.1
     Typed-one slots root scope (node start stop (binary operator left right)) a b x y =
-        let P : ExprType → Type 0 = λ (t : ExprType). OperatorTyped operator t y.right b in
-        let Q : ExprType → Type 0 = λ (t : ExprType). OperatorTyped operator x.left t b in
+        let P : ExprType → Type 0 = λ (t : ExprType). ClassTyped (class_of operator) t y.right b in
+        let Q : ExprType → Type 0 = λ (t : ExprType). ClassTyped (class_of operator) x.left t b in
         ClassTyped-one (class_of operator) x.left x.right a b x.makes
         (subst Q (Typed-one slots root scope right y.right x.right y.right_typed x.right_typed)
         (subst P (Typed-one slots root scope left y.left x.left y.left_typed x.left_typed) y.makes))

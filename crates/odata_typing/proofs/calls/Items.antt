@@ -1,14 +1,16 @@
 -- `in` before a list, from what was answered of the left operand and of the items.
-use Rattle.std.proofs.Common.{refl, sym, subst, ℕ, List, [], ◌∷◌, Option, Some, length, map}
+use Rattle.std.proofs.Common.{◌≡◌, refl, sym, ap, subst, ℕ, List, [], ◌∷◌, Option, Some, length, map}
 use Rattle.std.specs.List.{AllByRecursion}
 use Rattle.odata_syntax.specs.Tree.{Tree, in_list, node, trees_of_list}
 use Rattle.odata_text.specs.declared.span.Span.{Span}
 use Rattle.csdl_schema.specs.ExprType.{ExprType}
 use Rattle.csdl_schema.specs.SchemaModel.{SchemaModel, Slots, slots_of, type_name_at}
 use Rattle.odata_signatures.specs.CollectionTyped.{InListTyped}
+use Rattle.odata_signatures.specs.Side.{types_of}
 use Rattle.odata_signatures.specs.TypeView.{expr_type}
 use Rattle.odata_signatures.specs.declared.edm_type.EdmType.{EdmType}
 use Rattle.odata_expression_types.specs.declared.refusal.TypeFaultCode.{TypeFaultCode}
+use Rattle.odata_expression_types.specs.Sides.{BeforeList, sides_of}
 use Rattle.odata_expression_types.specs.Typed.{AreTyped, IsTyped, Scope, Typed}
 use Rattle.odata_checked_filter.specs.declared.checked_node.NodeKind.{NodeKind}
 use Rattle.odata_checked_filter.specs.FlatTree.{FlatTree}
@@ -24,6 +26,14 @@ use Rattle.odata_typing.proofs.calls.Walking.{listed_again, one_types}
 use Rattle.odata_typing.proofs.flat.Closing.{kept_on, opened_length, put_in}
 use Rattle.odata_typing.proofs.untypable.Operands.{told_below, told_both, walked_typed}
 use Rattle.odata_typing.proofs.untypable.Untypable.{first_itself}
+
+-- sides have the types that their trees were given
+pub sided_types : (slots : Slots) (root : List ℕ) (scope : Scope) (trees : List Tree) (types : List ExprType) → AreTyped slots root scope (trees_of_list trees) types → types_of (sides_of (trees_of_list trees) types) ≡ types
+sided_types slots root scope [] [] typed = refl
+sided_types slots root scope [] (type ∷ types) typed = absurd typed
+sided_types slots root scope (tree ∷ trees) [] typed = absurd typed
+sided_types slots root scope (tree ∷ trees) (type ∷ types) typed =
+    ap (λ (ts : List ExprType). type ∷ ts) (sided_types slots root scope trees types typed.1)
 
 module _ (laws : LawsBelow) where
   -- what is told of the left operand and of the items
@@ -44,7 +54,7 @@ module _ (laws : LawsBelow) where
       → IsOpened start place [] opened
       → IsWalked schema n scope opened l between left
       → AreWalked schema n scope between trees last types
-      → InListTyped (expr_type schema left) (map (expr_type schema) types) (expr_type schema type)
+      → BeforeList InListTyped l (trees_of_list trees) (expr_type schema left) (map (expr_type schema) types) (expr_type schema type)
       → IsWalked schema n scope start (node span.start span.stop (in_list l (trees_of_list trees))) (node_put last place (put_in last NodeKind.InList span type)) type
   closed_items schema n scope start opened between last place span l trees left types type is walked items makes =
       let typed : Typed (slots_of schema) (type_name_at schema n) scope (node span.start span.stop (in_list l (trees_of_list trees))) (expr_type schema type) =
@@ -67,11 +77,11 @@ module _ (laws : LawsBelow) where
       (slots : Slots) (root : List ℕ) (scope : Scope) (start stop : ℕ) (l : Tree) (trees : List Tree) (left : ExprType) (types : List ExprType)
       → Typed slots root scope l left
       → AreTyped slots root scope (trees_of_list trees) types
-      → ((type : ExprType) → ¬ InListTyped left types type)
+      → ((type : ExprType) → ¬ BeforeList InListTyped l (trees_of_list trees) left types type)
       → (type : ExprType) → ¬ Typed slots root scope (node start stop (in_list l (trees_of_list trees))) type
   items_untyped slots root scope start stop l trees left types left_typed items_typed refused type typed =
-      let P : ExprType → Type 0 = λ (t : ExprType). InListTyped t typed.items type in
-      let Q : List ExprType → Type 0 = λ (ts : List ExprType). InListTyped left ts type in
+      let P : ExprType → Type 0 = λ (t : ExprType). BeforeList InListTyped l (trees_of_list trees) t typed.items type in
+      let Q : List ExprType → Type 0 = λ (ts : List ExprType). BeforeList InListTyped l (trees_of_list trees) left ts type in
       refused type
       (subst Q (one_types laws slots root scope trees typed.items types typed.items_typed items_typed)
       (subst P (laws.one_type slots root scope l typed.left left typed.left_typed left_typed) typed.makes))
@@ -80,7 +90,7 @@ module _ (laws : LawsBelow) where
       (schema : SchemaModel) (n : ℕ) (scope : Scope) (span : Span) (l : Tree) (trees : List Tree) (opened between last : FlatTree) (left : EdmType) (types : List EdmType)
       → IsWalked schema n scope opened l between left
       → AreWalked schema n scope between trees last types
-      → ((type : ExprType) → ¬ InListTyped (expr_type schema left) (map (expr_type schema) types) type)
+      → ((type : ExprType) → ¬ BeforeList InListTyped l (trees_of_list trees) (expr_type schema left) (map (expr_type schema) types) type)
       → HasFault schema n scope (node span.start span.stop (in_list l (trees_of_list trees))) (Untyped.Fault (record { code = TypeFaultCode.OperandTypes; span = span }))
   refused_items schema n scope span l trees opened between last left types walked items refused =
       let slots = slots_of schema in

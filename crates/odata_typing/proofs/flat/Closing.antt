@@ -10,6 +10,7 @@ use Rattle.csdl_schema.specs.SchemaModel.{SchemaModel, Slots, properties_at, slo
 use Rattle.odata_signatures.specs.declared.edm_type.EdmType.{EdmType}
 use Rattle.odata_signatures.specs.declared.edm_type.ValueType.{ValueType}
 use Rattle.odata_signatures.specs.TypeView.{expr_type}
+use Rattle.odata_expression_types.specs.Sides.{Between}
 use Rattle.odata_expression_types.specs.Typed.{NameTyped, Scope, StepTyped, Typed}
 use Rattle.odata_checked_filter.specs.declared.checked_node.CheckedNode.{CheckedNode}
 use Rattle.odata_checked_filter.specs.declared.checked_node.NodeKind.{NodeKind}
@@ -185,7 +186,7 @@ module _ (laws : LawsBelow) where
       → IsOpened start place [] opened
       → IsWalked schema n scope opened l between left
       → IsWalked schema n scope between r last right
-      → InfixTyped form (expr_type schema left) (expr_type schema right) (expr_type schema type)
+      → Between (InfixTyped form) l r (expr_type schema left) (expr_type schema right) (expr_type schema type)
       → IsWalked schema n scope start (node span.start span.stop (infix_shape form l r)) (node_put last place (put_in last (infix_kind form) span type)) type
   closed_between schema n scope start opened between last place span form l r left right type is a b makes =
       let slots = slots_of schema in

@@ -7,6 +7,7 @@ use Rattle.csdl_schema.specs.SchemaModel.{SchemaModel, Slots}
 use Rattle.odata_expression_types.specs.declared.refusal.TypeFaultCode.{TypeFaultCode}
 use Rattle.odata_expression_types.specs.Considered.{IsConsideredBody, children_in_scope}
 use Rattle.odata_expression_types.specs.FirstUntypable.{IsReason}
+use Rattle.odata_expression_types.specs.Sides.{Between}
 use Rattle.odata_expression_types.specs.Typed.{OperandsTyped, Scope, Typed}
 use Rattle.odata_checked_filter.specs.FlatTree.{FlatTree}
 use Rattle.odata_checked_filter.specs.Stands.{ChildrenStand, IsKindOf, SideBySide, Stands, text_of_shape}
@@ -15,7 +16,7 @@ use Rattle.odata_typing.specs.private.Forms.{InfixReason, InfixTyped, infix_kind
 
 pub infix_typed :
     (slots : Slots) (root : List ℕ) (scope : Scope) (start stop : ℕ) (form : Infix) (left right : Tree) (type : ExprType)
-    → OperandsTyped (Typed slots root scope left) (Typed slots root scope right) (InfixTyped form) type
+    → OperandsTyped (Typed slots root scope left) (Typed slots root scope right) (Between (InfixTyped form) left right) type
     → Typed slots root scope (node start stop (infix_shape form left right)) type
 infix_typed slots root scope start stop (Infix.Operator operator) left right type typed = typed
 infix_typed slots root scope start stop Infix.Has left right type typed = typed
@@ -24,7 +25,7 @@ infix_typed slots root scope start stop Infix.InPath left right type typed = typ
 pub infix_only :
     (slots : Slots) (root : List ℕ) (scope : Scope) (start stop : ℕ) (form : Infix) (left right : Tree) (type : ExprType)
     → Typed slots root scope (node start stop (infix_shape form left right)) type
-    → OperandsTyped (Typed slots root scope left) (Typed slots root scope right) (InfixTyped form) type
+    → OperandsTyped (Typed slots root scope left) (Typed slots root scope right) (Between (InfixTyped form) left right) type
 infix_only slots root scope start stop (Infix.Operator operator) left right type typed = typed
 infix_only slots root scope start stop Infix.Has left right type typed = typed
 infix_only slots root scope start stop Infix.InPath left right type typed = typed

@@ -5,6 +5,7 @@ use Rattle.csdl_schema.specs.ExprType.{ExprType}
 use Rattle.odata_signatures.specs.CollectionTyped.{AnyItemTyped, CountTyped, InPathTyped}
 use Rattle.odata_signatures.specs.HasTyped.{HasTyped}
 use Rattle.odata_signatures.specs.OperatorTyped.{NegationTyped, NotTyped, OperatorTyped}
+use Rattle.odata_signatures.specs.Side.{Side}
 use Rattle.odata_expression_types.specs.FirstUntypable.{PathReason}
 use Rattle.odata_expression_types.specs.declared.refusal.TypeFaultCode.{TypeFaultCode}
 use Rattle.odata_checked_filter.specs.declared.checked_node.NodeKind.{NodeKind}
@@ -49,8 +50,8 @@ infix_kind (Infix.Operator operator) = NodeKind.Binary operator
 infix_kind Infix.Has = NodeKind.Has
 infix_kind Infix.InPath = NodeKind.InPath
 
--- the type that it makes of those of its operands
-abbrev pub InfixTyped : Infix → ExprType → ExprType → ExprType → Type 0
+-- the type that it makes of the sides
+abbrev pub InfixTyped : Infix → Side → Side → ExprType → Type 0
 InfixTyped (Infix.Operator operator) = OperatorTyped operator
 InfixTyped Infix.Has = HasTyped
 InfixTyped Infix.InPath = InPathTyped
