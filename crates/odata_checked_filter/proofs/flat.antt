@@ -1,5 +1,6 @@
 -- A list of nodes and the tree that it stands for.
 pub mod Alone
+pub mod Children
 pub mod Forests
 pub mod Growth
 pub mod Nodes

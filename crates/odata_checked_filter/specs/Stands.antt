@@ -1,5 +1,5 @@
 -- When a part of a list of nodes stands for a tree, with the right types, values and slots.
-use Rattle.std.specs.Prelude.{◌≡◌, ◌≢◌, ℕ, ◌+◌, List, [], Some, None, map, slice_get, IsSomeAnd}
+use Rattle.std.specs.Prelude.{◌≡◌, ◌≢◌, ℕ, ◌+◌, List, [], ◌∷◌, Some, None, map, slice_get, IsSomeAnd}
 use Rattle.edm_values.specs.PlainVal.{plain_val}
 use Rattle.edm_values.specs.Val.{Val}
 use Rattle.edm_values.specs.declared.value.Value.{Value}
@@ -108,43 +108,54 @@ pub record InBody (scope : Scope) (variable : List ℕ) (Base : ExprType → Typ
   pub binds : BindsVariable scope variable Base member_type
   pub body : Body (with_variable scope variable (single member_type))
 
--- the nodes from the i-th up to the j-th stand for the tree, or for the children of the shape, where the filtered type
--- is the schema's n-th and these variables are in scope
+-- parts one behind another, from one place up to another
+abbrev pub InLine : List (ℕ → ℕ → Type 0) → ℕ → ℕ → Type 0
+InLine [] i j = i ≡ j
+InLine (Part ∷ parts) i j = SideBySide (λ middle. Part i middle) (λ middle. InLine parts middle j)
+
 abbrev mutual
+  -- the nodes from the i-th up to the j-th stand for the tree, where the filtered type is the schema's n-th and these
+  -- variables are in scope
   pub Stands : SchemaModel → ℕ → Scope → FlatTree → ℕ → ℕ → Tree → Type 0
   Stands schema n scope list i j (node start stop shape) =
-      HasTop (IsTop schema n scope list i j start stop shape) (ChildrenStand schema n scope list (i + 1) j shape)
+      HasTop (IsTop schema n scope list i j start stop shape)
+      (InLine (child_parts schema n scope list shape) (i + 1) j)
 
-  pub ChildrenStand : SchemaModel → ℕ → Scope → FlatTree → ℕ → ℕ → Shape → Type 0
-  ChildrenStand schema n scope list i j (literal kind spelling) = i ≡ j
-  ChildrenStand schema n scope list i j it = i ≡ j
-  ChildrenStand schema n scope list i j (name asked) = i ≡ j
-  ChildrenStand schema n scope list i j (member base asked) = Stands schema n scope list i j base
-  ChildrenStand schema n scope list i j (count base) = Stands schema n scope list i j base
-  ChildrenStand schema n scope list i j (negation operand) = Stands schema n scope list i j operand
-  ChildrenStand schema n scope list i j (logical_not operand) = Stands schema n scope list i j operand
-  ChildrenStand schema n scope list i j (binary operator left right) =
-      SideBySide (λ middle. Stands schema n scope list i middle left)
-      (λ middle. Stands schema n scope list middle j right)
-  ChildrenStand schema n scope list i j (has left right) =
-      SideBySide (λ middle. Stands schema n scope list i middle left)
-      (λ middle. Stands schema n scope list middle j right)
-  ChildrenStand schema n scope list i j (in_list left items) =
-      SideBySide (λ middle. Stands schema n scope list i middle left)
-      (λ middle. AllStand schema n scope list middle j items)
-  ChildrenStand schema n scope list i j (in_path left path) =
-      SideBySide (λ middle. Stands schema n scope list i middle left)
-      (λ middle. Stands schema n scope list middle j path)
-  ChildrenStand schema n scope list i j (any_item base) = Stands schema n scope list i j base
-  ChildrenStand schema n scope list i j (call asked arguments) = AllStand schema n scope list i j arguments
-  ChildrenStand schema n scope list i j (lambda quantifier base variable body) =
-      SideBySide (λ middle. Stands schema n scope list i middle base)
-      (λ middle. InBody scope variable (Typed (slots_of schema) (type_name_at schema n) scope base)
-      (λ at. Stands schema n at list middle j body))
+  -- what stands for each child of the shape
+  pub child_parts : SchemaModel → ℕ → Scope → FlatTree → Shape → List (ℕ → ℕ → Type 0)
+  child_parts schema n scope list (literal kind spelling) = []
+  child_parts schema n scope list it = []
+  child_parts schema n scope list (name asked) = []
+  child_parts schema n scope list (member base asked) = (λ i j. Stands schema n scope list i j base) ∷ []
+  child_parts schema n scope list (count base) = (λ i j. Stands schema n scope list i j base) ∷ []
+  child_parts schema n scope list (negation operand) = (λ i j. Stands schema n scope list i j operand) ∷ []
+  child_parts schema n scope list (logical_not operand) = (λ i j. Stands schema n scope list i j operand) ∷ []
+  child_parts schema n scope list (binary operator left right) =
+      (λ i j. Stands schema n scope list i j left) ∷ (λ i j. Stands schema n scope list i j right) ∷ []
+  child_parts schema n scope list (has left right) =
+      (λ i j. Stands schema n scope list i j left) ∷ (λ i j. Stands schema n scope list i j right) ∷ []
+  child_parts schema n scope list (in_list left items) =
+      (λ i j. Stands schema n scope list i j left) ∷ tree_parts schema n scope list items
+  child_parts schema n scope list (in_path left path) =
+      (λ i j. Stands schema n scope list i j left) ∷ (λ i j. Stands schema n scope list i j path) ∷ []
+  child_parts schema n scope list (call asked arguments) = tree_parts schema n scope list arguments
+  child_parts schema n scope list (any_item base) = (λ i j. Stands schema n scope list i j base) ∷ []
+  child_parts schema n scope list (lambda quantifier base variable body) =
+      (λ i j. Stands schema n scope list i j base)
+      ∷ (λ i j. InBody scope variable (Typed (slots_of schema) (type_name_at schema n) scope base)
+      (λ at. Stands schema n at list i j body))
+      ∷ []
 
-  -- likewise for trees one behind another
-  pub AllStand : SchemaModel → ℕ → Scope → FlatTree → ℕ → ℕ → Trees → Type 0
-  AllStand schema n scope list i j no_trees = i ≡ j
-  AllStand schema n scope list i j (more_trees tree trees) =
-      SideBySide (λ middle. Stands schema n scope list i middle tree)
-      (λ middle. AllStand schema n scope list middle j trees)
+  -- likewise for each of these trees
+  pub tree_parts : SchemaModel → ℕ → Scope → FlatTree → Trees → List (ℕ → ℕ → Type 0)
+  tree_parts schema n scope list no_trees = []
+  tree_parts schema n scope list (more_trees tree trees) =
+      (λ i j. Stands schema n scope list i j tree) ∷ tree_parts schema n scope list trees
+
+-- the nodes from the i-th up to the j-th stand for the children of the shape, one behind another
+abbrev pub ChildrenStand : SchemaModel → ℕ → Scope → FlatTree → ℕ → ℕ → Shape → Type 0
+ChildrenStand schema n scope list i j shape = InLine (child_parts schema n scope list shape) i j
+
+-- likewise for trees
+abbrev pub AllStand : SchemaModel → ℕ → Scope → FlatTree → ℕ → ℕ → Trees → Type 0
+AllStand schema n scope list i j trees = InLine (tree_parts schema n scope list trees) i j

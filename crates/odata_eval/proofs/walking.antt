@@ -2,6 +2,7 @@
 pub mod BaseSteps
 pub mod CallSteps
 pub mod CallValues
+pub mod Children
 pub mod Compared
 pub mod ItemSteps
 pub mod KeptValues

@@ -21,6 +21,7 @@ use Rattle.odata_checked_filter.specs.FlatTree.{FlatTree}
 use Rattle.odata_checked_filter.specs.Stands.{AllStand, Stands, text_of_shape}
 use Rattle.odata_checked_filter.specs.private.CanonicalWalk.{HasTreeAt, IsJointAt, StandsThere, WritesNode, arguments_of, behind_kind, joining_parts, node_weight, operand, operand_of, plain, stop_at}
 use Rattle.odata_checked_filter.specs.private.KindTexts.{IsJoining, first_level, joint_text, quantifier_joint}
+use Rattle.odata_checked_filter.proofs.flat.Children.{body_there, one_there, two_there}
 use Rattle.odata_checked_filter.proofs.flat.Standing.{stand_onward, stands_nonempty}
 use Rattle.odata_checked_filter.proofs.canonical.Arguments.{arguments_there, closing_weight, within_list}
 use Rattle.odata_checked_filter.proofs.canonical.Joints.{Joins, joins_written}
@@ -52,21 +53,21 @@ member_only : (asked : List ℕ) → IsOnly (47 ∷ asked) (λ b. member b asked
 member_only asked = record {
   text = λ b. refl;
   normal = λ b n is. (n, is, refl);
-  child = λ list i start stop b there. child_there list i (node start stop (member b asked)) b there there.stands.children;
+  child = λ list i start stop b there. child_there list i (node start stop (member b asked)) b there (one_there there.schema there.filtered there.scope list (i + 1) there.stop b there.stands.children);
 }
 
 count_only : IsOnly (codes "/$count") count
 count_only = record {
   text = λ b. refl;
   normal = λ b n is. (n, is, refl);
-  child = λ list i start stop b there. child_there list i (node start stop (count b)) b there there.stands.children;
+  child = λ list i start stop b there. child_there list i (node start stop (count b)) b there (one_there there.schema there.filtered there.scope list (i + 1) there.stop b there.stands.children);
 }
 
 any_only : IsOnly (codes "/any()") any_item
 any_only = record {
   text = λ b. refl;
   normal = λ b n is. (n, is, refl);
-  child = λ list i start stop b there. child_there list i (node start stop (any_item b)) b there there.stands.children;
+  child = λ list i start stop b there. child_there list i (node start stop (any_item b)) b there (one_there there.schema there.filtered there.scope list (i + 1) there.stop b there.stands.children);
 }
 
 only_joins : (list : FlatTree) (i start stop : ℕ) (spelled : List ℕ) (of : Tree → Shape) (base : Tree) → IsOnly spelled of
@@ -144,7 +145,8 @@ operator_pair operator = record {
       ∙ operator_text operator first (grouped (operator_level operator + 1) (tree_level b) (tree_text b));
   normal = λ a b x y first second. (x, y, first, second, refl);
   children = λ list i start stop a b there.
-      both_there list i (node start stop (binary operator a b)) a b there there.scope there.stands.children.middle there.stands.children.left there.stands.children.right;
+      let sides = two_there there.schema there.filtered there.scope list (i + 1) there.stop a b there.stands.children in
+      both_there list i (node start stop (binary operator a b)) a b there there.scope sides.middle sides.left sides.right;
 }
 
 has_pair : IsPair (codes " has ") primary_level base_level has
@@ -152,7 +154,8 @@ has_pair = record {
   text = λ a b. refl;
   normal = λ a b x y first second. (x, y, first, second, refl);
   children = λ list i start stop a b there.
-      both_there list i (node start stop (has a b)) a b there there.scope there.stands.children.middle there.stands.children.left there.stands.children.right;
+      let sides = two_there there.schema there.filtered there.scope list (i + 1) there.stop a b there.stands.children in
+      both_there list i (node start stop (has a b)) a b there there.scope sides.middle sides.left sides.right;
 }
 
 path_pair : IsPair (codes " in ") primary_level path_level in_path
@@ -160,7 +163,8 @@ path_pair = record {
   text = λ a b. refl;
   normal = λ a b x y first second. (x, y, first, second, refl);
   children = λ list i start stop a b there.
-      both_there list i (node start stop (in_path a b)) a b there there.scope there.stands.children.middle there.stands.children.left there.stands.children.right;
+      let sides = two_there there.schema there.filtered there.scope list (i + 1) there.stop a b there.stands.children in
+      both_there list i (node start stop (in_path a b)) a b there there.scope sides.middle sides.left sides.right;
 }
 
 pair_joins : (list : FlatTree) (i start stop : ℕ) (spelled : List ℕ) (low high : Level) (of : Tree → Tree → Shape) (left right : Tree) → IsPair spelled low high of
@@ -258,9 +262,10 @@ lambda_joins : (list : FlatTree) (i start stop : ℕ) (quantifier : Quantifier) 
     → StandsThere list i (node start stop (lambda quantifier base variable body))
     → Joins list i (node start stop (lambda quantifier base variable body)) 0 (Close ∷ operand_of (stop_at list (i + 1)) 0)
 lambda_joins list i start stop quantifier base variable body joint there =
-    let binds = there.stands.children.right in
+    let parts = body_there there.schema there.filtered there.scope list (i + 1) there.stop base variable body there.stands.children in
+    let binds = parts.right in
     let both = both_there list i (node start stop (lambda quantifier base variable body)) base body there
-    (with_variable there.scope variable (single binds.member_type)) there.stands.children.middle there.stands.children.left binds.body in
+    (with_variable there.scope variable (single binds.member_type)) parts.middle parts.left binds.body in
     record {
       first = base;
       there = both.first;

@@ -10,6 +10,7 @@ use Rattle.odata_checked_filter.specs.declared.checked_node.NodeKind.{NodeKind}
 use Rattle.odata_checked_filter.specs.FlatTree.{FlatTree}
 use Rattle.odata_checked_filter.specs.Stands.{Stands}
 use Rattle.odata_checked_filter.specs.private.CanonicalWalk.{GoesOn, HasTreeAt, IsSign, IsSignAt, StandsThere, WritesNode, node_weight, operand, operand_of, stop_at}
+use Rattle.odata_checked_filter.proofs.flat.Children.{one_there}
 use Rattle.odata_checked_filter.proofs.flat.Standing.{stands_nonempty}
 use Rattle.odata_checked_filter.proofs.canonical.Kinds.{Matches, shape_there}
 use Rattle.odata_checked_filter.proofs.canonical.Leaves.{stop_is}
@@ -50,14 +51,14 @@ negation_sign : IsSignOf (codes "- ") negation
 negation_sign = record {
   text = λ o. refl;
   normal = λ o n is. (n, is, refl);
-  child = λ list i start stop o there. child_there list i (node start stop (negation o)) o there there.stands.children;
+  child = λ list i start stop o there. child_there list i (node start stop (negation o)) o there (one_there there.schema there.filtered there.scope list (i + 1) there.stop o there.stands.children);
 }
 
 not_sign : IsSignOf (codes "not ") logical_not
 not_sign = record {
   text = λ o. refl;
   normal = λ o n is. (n, is, refl);
-  child = λ list i start stop o there. child_there list i (node start stop (logical_not o)) o there there.stands.children;
+  child = λ list i start stop o there. child_there list i (node start stop (logical_not o)) o there (one_there there.schema there.filtered there.scope list (i + 1) there.stop o there.stands.children);
 }
 
 -- a shape of a sign with its operand

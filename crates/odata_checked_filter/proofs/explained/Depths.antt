@@ -12,6 +12,7 @@ use Rattle.odata_checked_filter.specs.Stands.{AllStand, ChildrenStand, IsTop, St
 use Rattle.odata_expression_types.specs.Typed.{Scope, with_variable}
 use Rattle.csdl_schema.specs.ExprType.{single}
 use Rattle.odata_checked_filter.specs.private.ExplanationWalk.{still_around}
+use Rattle.odata_checked_filter.proofs.flat.Children.{body_there, one_there, two_there}
 use Rattle.odata_checked_filter.proofs.flat.Places.{drop_at}
 use Rattle.odata_checked_filter.proofs.flat.Standing.{stand_onward, stands_nonempty}
 
@@ -120,23 +121,25 @@ mutual
   below_told schema n scope list i j it stops around deep stand all = ap (λ (k : ℕ). told_depths k (drop k list.nodes) stops) stand
   below_told schema n scope list i j (name asked) stops around deep stand all = ap (λ (k : ℕ). told_depths k (drop k list.nodes) stops) stand
   below_told schema n scope list i j (member base asked) stops around deep stand all =
-      rw (← deep) (tree_told schema n scope list i j base stops stand all)
+      rw (← deep) (tree_told schema n scope list i j base stops (one_there schema n scope list i j base stand) all)
   below_told schema n scope list i j (count base) stops around deep stand all =
-      rw (← deep) (tree_told schema n scope list i j base stops stand all)
+      rw (← deep) (tree_told schema n scope list i j base stops (one_there schema n scope list i j base stand) all)
   below_told schema n scope list i j (any_item base) stops around deep stand all =
-      rw (← deep) (tree_told schema n scope list i j base stops stand all)
+      rw (← deep) (tree_told schema n scope list i j base stops (one_there schema n scope list i j base stand) all)
   below_told schema n scope list i j (negation operand) stops around deep stand all =
-      rw (← deep) (tree_told schema n scope list i j operand stops stand all)
+      rw (← deep) (tree_told schema n scope list i j operand stops (one_there schema n scope list i j operand stand) all)
   below_told schema n scope list i j (logical_not operand) stops around deep stand all =
-      rw (← deep) (tree_told schema n scope list i j operand stops stand all)
-  below_told schema n scope list i j (binary operator left right) stops around deep stand all =
+      rw (← deep) (tree_told schema n scope list i j operand stops (one_there schema n scope list i j operand stand) all)
+  below_told schema n scope list i j (binary operator left right) stops around deep stands all =
+      let stand = two_there schema n scope list i j left right stands in
       let m = stand.middle in
       let last : m < j = stands_nonempty schema n scope list m j right stand.right in
       rw (← deep)
       (both_told list i m j stops (depths (length stops) left) (depths (length stops) right)
       (tree_told schema n scope list i m left stops stand.left (earlier_too m j stops (omega arith) all))
       (tree_told schema n scope list m j right stops stand.right all))
-  below_told schema n scope list i j (has left right) stops around deep stand all =
+  below_told schema n scope list i j (has left right) stops around deep stands all =
+      let stand = two_there schema n scope list i j left right stands in
       let m = stand.middle in
       let last : m < j = stands_nonempty schema n scope list m j right stand.right in
       rw (← deep)
@@ -150,7 +153,8 @@ mutual
       (both_told list i m j stops (depths (length stops) left) (depths_among (length stops) items)
       (tree_told schema n scope list i m left stops stand.left (earlier_too m j stops last all))
       (among_told schema n scope list m j items stops stand.right all))
-  below_told schema n scope list i j (in_path left path) stops around deep stand all =
+  below_told schema n scope list i j (in_path left path) stops around deep stands all =
+      let stand = two_there schema n scope list i j left path stands in
       let m = stand.middle in
       let last : m < j = stands_nonempty schema n scope list m j path stand.right in
       rw (← deep)
@@ -159,7 +163,8 @@ mutual
       (tree_told schema n scope list m j path stops stand.right all))
   below_told schema n scope list i j (call asked arguments) stops around deep stand all =
       rw (← deep) (among_told schema n scope list i j arguments stops stand all)
-  below_told schema n scope list i j (lambda quantifier base variable body) stops around deep stand all =
+  below_told schema n scope list i j (lambda quantifier base variable body) stops around deep stands all =
+      let stand = body_there schema n scope list i j base variable body stands in
       let m = stand.middle in
       let inner = with_variable scope variable (single stand.right.member_type) in
       let last : m < j = stands_nonempty schema n inner list m j body stand.right.body in

@@ -13,6 +13,7 @@ use Rattle.std.specs.Prelude.{codes}
 use Rattle.odata_signatures.specs.Functions.{row_of}
 use Rattle.odata_expression_types.specs.Typed.{Scope, with_variable}
 use Rattle.csdl_schema.specs.ExprType.{single}
+use Rattle.odata_checked_filter.proofs.flat.Children.{body_there, one_there, two_there}
 use Rattle.odata_checked_filter.proofs.flat.Places.{drop_at}
 use Rattle.odata_checked_filter.proofs.flat.Standing.{stand_onward, stands_nonempty}
 
@@ -168,18 +169,20 @@ mutual
   children_forest schema n scope list i j it stand = none_planted list i j stand
   children_forest schema n scope list i j (name asked) stand = none_planted list i j stand
   children_forest schema n scope list i j (member base asked) stand =
-      one_planted list i j base (stands_nonempty schema n scope list i j base stand) (stands_forest schema n scope list i j base stand)
+      one_planted list i j base (stands_nonempty schema n scope list i j base (one_there schema n scope list i j base stand)) (stands_forest schema n scope list i j base (one_there schema n scope list i j base stand))
   children_forest schema n scope list i j (count base) stand =
-      one_planted list i j base (stands_nonempty schema n scope list i j base stand) (stands_forest schema n scope list i j base stand)
+      one_planted list i j base (stands_nonempty schema n scope list i j base (one_there schema n scope list i j base stand)) (stands_forest schema n scope list i j base (one_there schema n scope list i j base stand))
   children_forest schema n scope list i j (negation operand) stand =
-      one_planted list i j operand (stands_nonempty schema n scope list i j operand stand) (stands_forest schema n scope list i j operand stand)
+      one_planted list i j operand (stands_nonempty schema n scope list i j operand (one_there schema n scope list i j operand stand)) (stands_forest schema n scope list i j operand (one_there schema n scope list i j operand stand))
   children_forest schema n scope list i j (logical_not operand) stand =
-      one_planted list i j operand (stands_nonempty schema n scope list i j operand stand) (stands_forest schema n scope list i j operand stand)
-  children_forest schema n scope list i j (binary operator left right) stand =
+      one_planted list i j operand (stands_nonempty schema n scope list i j operand (one_there schema n scope list i j operand stand)) (stands_forest schema n scope list i j operand (one_there schema n scope list i j operand stand))
+  children_forest schema n scope list i j (binary operator left right) stands =
+      let stand = two_there schema n scope list i j left right stands in
       both_planted list i stand.middle j left right (stands_nonempty schema n scope list i stand.middle left stand.left)
       (stands_nonempty schema n scope list stand.middle j right stand.right)
       (stands_forest schema n scope list i stand.middle left stand.left) (stands_forest schema n scope list stand.middle j right stand.right)
-  children_forest schema n scope list i j (has left right) stand =
+  children_forest schema n scope list i j (has left right) stands =
+      let stand = two_there schema n scope list i j left right stands in
       both_planted list i stand.middle j left right (stands_nonempty schema n scope list i stand.middle left stand.left)
       (stands_nonempty schema n scope list stand.middle j right stand.right)
       (stands_forest schema n scope list i stand.middle left stand.left) (stands_forest schema n scope list stand.middle j right stand.right)
@@ -188,14 +191,16 @@ mutual
       first_planted list i m j left (list_of_trees items) (stands_nonempty schema n scope list i m left stand.left)
       (stand_onward schema n scope list m j items stand.right)
       (stands_forest schema n scope list i m left stand.left) (stand_forest schema n scope list m j items stand.right)
-  children_forest schema n scope list i j (in_path left path) stand =
+  children_forest schema n scope list i j (in_path left path) stands =
+      let stand = two_there schema n scope list i j left path stands in
       both_planted list i stand.middle j left path (stands_nonempty schema n scope list i stand.middle left stand.left)
       (stands_nonempty schema n scope list stand.middle j path stand.right)
       (stands_forest schema n scope list i stand.middle left stand.left) (stands_forest schema n scope list stand.middle j path stand.right)
   children_forest schema n scope list i j (call asked arguments) stand = stand_forest schema n scope list i j arguments stand
   children_forest schema n scope list i j (any_item base) stand =
-      one_planted list i j base (stands_nonempty schema n scope list i j base stand) (stands_forest schema n scope list i j base stand)
-  children_forest schema n scope list i j (lambda quantifier base variable body) stand =
+      one_planted list i j base (stands_nonempty schema n scope list i j base (one_there schema n scope list i j base stand)) (stands_forest schema n scope list i j base (one_there schema n scope list i j base stand))
+  children_forest schema n scope list i j (lambda quantifier base variable body) stands =
+      let stand = body_there schema n scope list i j base variable body stands in
       let inner = with_variable scope variable (single stand.right.member_type) in
       both_planted list i stand.middle j base body (stands_nonempty schema n scope list i stand.middle base stand.left)
       (stands_nonempty schema n inner list stand.middle j body stand.right.body)

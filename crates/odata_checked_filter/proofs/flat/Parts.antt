@@ -12,6 +12,7 @@ use Rattle.odata_checked_filter.specs.ScopedNodes.{ScopedNode, scoped_among, sco
 use Rattle.odata_checked_filter.specs.Stands.{AllStand, ChildrenStand, InBody, Stands, variable_names}
 use Rattle.odata_expression_types.specs.Typed.{Scope, Typed, with_variable}
 use Rattle.csdl_schema.specs.ExprType.{single}
+use Rattle.odata_checked_filter.proofs.flat.Children.{body_there, one_there, two_there}
 use Rattle.odata_checked_filter.proofs.flat.Places.{get_parts}
 use Rattle.odata_checked_filter.proofs.flat.Standing.{stands_size}
 
@@ -140,18 +141,20 @@ mutual
   part_below schema n scope list i j (literal kind spelling) k at stand found = absurd (none-some at found)
   part_below schema n scope list i j it k at stand found = absurd (none-some at found)
   part_below schema n scope list i j (name asked) k at stand found = absurd (none-some at found)
-  part_below schema n scope list i j (member base asked) k at stand found = part_stands schema n scope list i j base k at stand found
-  part_below schema n scope list i j (count base) k at stand found = part_stands schema n scope list i j base k at stand found
-  part_below schema n scope list i j (negation operand) k at stand found = part_stands schema n scope list i j operand k at stand found
-  part_below schema n scope list i j (logical_not operand) k at stand found = part_stands schema n scope list i j operand k at stand found
-  part_below schema n scope list i j (binary operator left right) k at stand found =
+  part_below schema n scope list i j (member base asked) k at stand found = part_stands schema n scope list i j base k at (one_there schema n scope list i j base stand) found
+  part_below schema n scope list i j (count base) k at stand found = part_stands schema n scope list i j base k at (one_there schema n scope list i j base stand) found
+  part_below schema n scope list i j (negation operand) k at stand found = part_stands schema n scope list i j operand k at (one_there schema n scope list i j operand stand) found
+  part_below schema n scope list i j (logical_not operand) k at stand found = part_stands schema n scope list i j operand k at (one_there schema n scope list i j operand stand) found
+  part_below schema n scope list i j (binary operator left right) k at stands found =
+      let stand = two_there schema n scope list i j left right stands in
       in_either schema n list i stand.middle k (length (pre_order left))
       (scoped_nodes (variable_names scope) left) (scoped_nodes (variable_names scope) right) at
       (λ h. IsNode (slots_of schema) (type_name_at schema n) scope left h) (λ h. IsNode (slots_of schema) (type_name_at schema n) scope right h)
       (parts_count (variable_names scope) left) (stands_size schema n scope list i stand.middle left stand.left) found
       (λ there. part_stands schema n scope list i stand.middle left k at stand.left there)
       (λ h there. part_stands schema n scope list stand.middle j right h at stand.right there)
-  part_below schema n scope list i j (has left right) k at stand found =
+  part_below schema n scope list i j (has left right) k at stands found =
+      let stand = two_there schema n scope list i j left right stands in
       in_either schema n list i stand.middle k (length (pre_order left))
       (scoped_nodes (variable_names scope) left) (scoped_nodes (variable_names scope) right) at
       (λ h. IsNode (slots_of schema) (type_name_at schema n) scope left h) (λ h. IsNode (slots_of schema) (type_name_at schema n) scope right h)
@@ -165,7 +168,8 @@ mutual
       (parts_count (variable_names scope) left) (stands_size schema n scope list i stand.middle left stand.left) found
       (λ there. part_stands schema n scope list i stand.middle left k at stand.left there)
       (λ h there. part_among schema n scope list stand.middle j items h at stand.right there)
-  part_below schema n scope list i j (in_path left path) k at stand found =
+  part_below schema n scope list i j (in_path left path) k at stands found =
+      let stand = two_there schema n scope list i j left path stands in
       in_either schema n list i stand.middle k (length (pre_order left))
       (scoped_nodes (variable_names scope) left) (scoped_nodes (variable_names scope) path) at
       (λ h. IsNode (slots_of schema) (type_name_at schema n) scope left h) (λ h. IsNode (slots_of schema) (type_name_at schema n) scope path h)
@@ -173,8 +177,9 @@ mutual
       (λ there. part_stands schema n scope list i stand.middle left k at stand.left there)
       (λ h there. part_stands schema n scope list stand.middle j path h at stand.right there)
   part_below schema n scope list i j (call asked arguments) k at stand found = part_among schema n scope list i j arguments k at stand found
-  part_below schema n scope list i j (any_item base) k at stand found = part_stands schema n scope list i j base k at stand found
-  part_below schema n scope list i j (lambda quantifier base variable body) k at stand found =
+  part_below schema n scope list i j (any_item base) k at stand found = part_stands schema n scope list i j base k at (one_there schema n scope list i j base stand) found
+  part_below schema n scope list i j (lambda quantifier base variable body) k at stands found =
+      let stand = body_there schema n scope list i j base variable body stands in
       let slots = slots_of schema in
       let root = type_name_at schema n in
       let inner = with_variable scope variable (single stand.right.member_type) in

@@ -11,6 +11,7 @@ use Rattle.odata_checked_filter.specs.Stands.{AllStand, ChildrenStand, Stands, I
 use Rattle.odata_expression_types.specs.Typed.{Scope, with_variable}
 use Rattle.csdl_schema.specs.ExprType.{single}
 use Rattle.odata_checked_filter.specs.ListGrowth.{IsKept}
+use Rattle.odata_checked_filter.proofs.flat.Children.{body_stands, body_there, one_stands, one_there, two_stand, two_there}
 
 -- ---- as many nodes as the tree has
 
@@ -32,25 +33,29 @@ mutual
   children_size schema n scope list i j (literal kind spelling) stand = let e : i ≡ j = stand in omega arith
   children_size schema n scope list i j it stand = let e : i ≡ j = stand in omega arith
   children_size schema n scope list i j (name asked) stand = let e : i ≡ j = stand in omega arith
-  children_size schema n scope list i j (member base asked) stand = stands_size schema n scope list i j base stand
-  children_size schema n scope list i j (count base) stand = stands_size schema n scope list i j base stand
-  children_size schema n scope list i j (negation operand) stand = stands_size schema n scope list i j operand stand
-  children_size schema n scope list i j (logical_not operand) stand = stands_size schema n scope list i j operand stand
-  children_size schema n scope list i j (binary operator left right) stand =
+  children_size schema n scope list i j (member base asked) stand = stands_size schema n scope list i j base (one_there schema n scope list i j base stand)
+  children_size schema n scope list i j (count base) stand = stands_size schema n scope list i j base (one_there schema n scope list i j base stand)
+  children_size schema n scope list i j (negation operand) stand = stands_size schema n scope list i j operand (one_there schema n scope list i j operand stand)
+  children_size schema n scope list i j (logical_not operand) stand = stands_size schema n scope list i j operand (one_there schema n scope list i j operand stand)
+  children_size schema n scope list i j (binary operator left right) stands =
+      let stand = two_there schema n scope list i j left right stands in
       both_sizes i stand.middle j (pre_order left) (pre_order right)
       (stands_size schema n scope list i stand.middle left stand.left) (stands_size schema n scope list stand.middle j right stand.right)
-  children_size schema n scope list i j (has left right) stand =
+  children_size schema n scope list i j (has left right) stands =
+      let stand = two_there schema n scope list i j left right stands in
       both_sizes i stand.middle j (pre_order left) (pre_order right)
       (stands_size schema n scope list i stand.middle left stand.left) (stands_size schema n scope list stand.middle j right stand.right)
   children_size schema n scope list i j (in_list left items) stand =
       both_sizes i stand.middle j (pre_order left) (nodes_among items)
       (stands_size schema n scope list i stand.middle left stand.left) (stand_size schema n scope list stand.middle j items stand.right)
-  children_size schema n scope list i j (in_path left path) stand =
+  children_size schema n scope list i j (in_path left path) stands =
+      let stand = two_there schema n scope list i j left path stands in
       both_sizes i stand.middle j (pre_order left) (pre_order path)
       (stands_size schema n scope list i stand.middle left stand.left) (stands_size schema n scope list stand.middle j path stand.right)
   children_size schema n scope list i j (call asked arguments) stand = stand_size schema n scope list i j arguments stand
-  children_size schema n scope list i j (any_item base) stand = stands_size schema n scope list i j base stand
-  children_size schema n scope list i j (lambda quantifier base variable body) stand =
+  children_size schema n scope list i j (any_item base) stand = stands_size schema n scope list i j base (one_there schema n scope list i j base stand)
+  children_size schema n scope list i j (lambda quantifier base variable body) stands =
+      let stand = body_there schema n scope list i j base variable body stands in
       let inner = with_variable scope variable (single stand.right.member_type) in
       both_sizes i stand.middle j (pre_order base) (pre_order body)
       (stands_size schema n scope list i stand.middle base stand.left) (stands_size schema n inner list stand.middle j body stand.right.body)
@@ -143,26 +148,36 @@ mutual
   children_kept from old new schema n scope i j (literal kind spelling) kept behind stand = stand
   children_kept from old new schema n scope i j it kept behind stand = stand
   children_kept from old new schema n scope i j (name asked) kept behind stand = stand
-  children_kept from old new schema n scope i j (member base asked) kept behind stand = stands_kept from old new schema n scope i j base kept behind stand
-  children_kept from old new schema n scope i j (count base) kept behind stand = stands_kept from old new schema n scope i j base kept behind stand
-  children_kept from old new schema n scope i j (negation operand) kept behind stand = stands_kept from old new schema n scope i j operand kept behind stand
-  children_kept from old new schema n scope i j (logical_not operand) kept behind stand = stands_kept from old new schema n scope i j operand kept behind stand
-  children_kept from old new schema n scope i j (binary operator left right) kept behind stand =
+  children_kept from old new schema n scope i j (member base asked) kept behind stand =
+      one_stands schema n scope new i j base
+      (stands_kept from old new schema n scope i j base kept behind (one_there schema n scope old i j base stand))
+  children_kept from old new schema n scope i j (count base) kept behind stand =
+      one_stands schema n scope new i j base
+      (stands_kept from old new schema n scope i j base kept behind (one_there schema n scope old i j base stand))
+  children_kept from old new schema n scope i j (negation operand) kept behind stand =
+      one_stands schema n scope new i j operand
+      (stands_kept from old new schema n scope i j operand kept behind (one_there schema n scope old i j operand stand))
+  children_kept from old new schema n scope i j (logical_not operand) kept behind stand =
+      one_stands schema n scope new i j operand
+      (stands_kept from old new schema n scope i j operand kept behind (one_there schema n scope old i j operand stand))
+  children_kept from old new schema n scope i j (binary operator left right) kept behind stands =
+      let stand = two_there schema n scope old i j left right stands in
       let m = stand.middle in
       let a : i < m = stands_nonempty schema n scope old i m left stand.left in
-      record {
+      two_stand schema n scope new i j left right (record {
         middle = m;
         left = stands_kept from old new schema n scope i m left kept behind stand.left;
         right = stands_kept from old new schema n scope m j right kept (omega arith) stand.right;
-      }
-  children_kept from old new schema n scope i j (has left right) kept behind stand =
+      })
+  children_kept from old new schema n scope i j (has left right) kept behind stands =
+      let stand = two_there schema n scope old i j left right stands in
       let m = stand.middle in
       let a : i < m = stands_nonempty schema n scope old i m left stand.left in
-      record {
+      two_stand schema n scope new i j left right (record {
         middle = m;
         left = stands_kept from old new schema n scope i m left kept behind stand.left;
         right = stands_kept from old new schema n scope m j right kept (omega arith) stand.right;
-      }
+      })
   children_kept from old new schema n scope i j (in_list left items) kept behind stand =
       let m = stand.middle in
       let a : i < m = stands_nonempty schema n scope old i m left stand.left in
@@ -171,21 +186,25 @@ mutual
         left = stands_kept from old new schema n scope i m left kept behind stand.left;
         right = stand_kept from old new schema n scope m j items kept (omega arith) stand.right;
       }
-  children_kept from old new schema n scope i j (in_path left path) kept behind stand =
+  children_kept from old new schema n scope i j (in_path left path) kept behind stands =
+      let stand = two_there schema n scope old i j left path stands in
       let m = stand.middle in
       let a : i < m = stands_nonempty schema n scope old i m left stand.left in
-      record {
+      two_stand schema n scope new i j left path (record {
         middle = m;
         left = stands_kept from old new schema n scope i m left kept behind stand.left;
         right = stands_kept from old new schema n scope m j path kept (omega arith) stand.right;
-      }
+      })
   children_kept from old new schema n scope i j (call asked arguments) kept behind stand = stand_kept from old new schema n scope i j arguments kept behind stand
-  children_kept from old new schema n scope i j (any_item base) kept behind stand = stands_kept from old new schema n scope i j base kept behind stand
-  children_kept from old new schema n scope i j (lambda quantifier base variable body) kept behind stand =
+  children_kept from old new schema n scope i j (any_item base) kept behind stand =
+      one_stands schema n scope new i j base
+      (stands_kept from old new schema n scope i j base kept behind (one_there schema n scope old i j base stand))
+  children_kept from old new schema n scope i j (lambda quantifier base variable body) kept behind stands =
+      let stand = body_there schema n scope old i j base variable body stands in
       let m = stand.middle in
       let a : i < m = stands_nonempty schema n scope old i m base stand.left in
       let inner = with_variable scope variable (single stand.right.member_type) in
-      record {
+      body_stands schema n scope new i j base variable body (record {
         middle = m;
         left = stands_kept from old new schema n scope i m base kept behind stand.left;
         right = record {
@@ -193,7 +212,7 @@ mutual
           binds = stand.right.binds;
           body = stands_kept from old new schema n inner m j body kept (omega arith) stand.right.body;
         };
-      }
+      })
 
   pub stand_kept :
       (from : ℕ) (old new : FlatTree) (schema : SchemaModel) (n : ℕ) (scope : Scope) (i j : ℕ) (trees : Trees)

@@ -15,6 +15,7 @@ use Rattle.odata_checked_filter.specs.FlatTree.{FlatTree}
 use Rattle.odata_checked_filter.specs.LambdaDepth.{lambda_depth, lambda_depth_among, lambda_depth_in}
 use Rattle.odata_checked_filter.specs.Stands.{AllStand, ChildrenStand, IsKindOf, Stands}
 use Rattle.odata_checked_filter.specs.private.LambdaLines.{AreInLine, StandsBetween, deepest_of, kind_is_lambda}
+use Rattle.odata_checked_filter.proofs.flat.Children.{body_there, one_there, two_there}
 use Rattle.odata_checked_filter.proofs.flat.Places.{same_found}
 use Rattle.odata_checked_filter.proofs.flat.Standing.{stands_nonempty}
 
@@ -78,24 +79,28 @@ children_line :
 children_line schema n scope list i j (literal kind spelling) stand = stand
 children_line schema n scope list i j it stand = stand
 children_line schema n scope list i j (name asked) stand = stand
-children_line schema n scope list i j (member base asked) stand = one_line schema n scope list i j base stand
-children_line schema n scope list i j (count base) stand = one_line schema n scope list i j base stand
-children_line schema n scope list i j (negation operand) stand = one_line schema n scope list i j operand stand
-children_line schema n scope list i j (logical_not operand) stand = one_line schema n scope list i j operand stand
-children_line schema n scope list i j (binary operator left right) stand =
+children_line schema n scope list i j (member base asked) stand = one_line schema n scope list i j base (one_there schema n scope list i j base stand)
+children_line schema n scope list i j (count base) stand = one_line schema n scope list i j base (one_there schema n scope list i j base stand)
+children_line schema n scope list i j (negation operand) stand = one_line schema n scope list i j operand (one_there schema n scope list i j operand stand)
+children_line schema n scope list i j (logical_not operand) stand = one_line schema n scope list i j operand (one_there schema n scope list i j operand stand)
+children_line schema n scope list i j (binary operator left right) stands =
+    let stand = two_there schema n scope list i j left right stands in
     two_line schema n scope scope list i stand.middle j left right stand.left stand.right
-children_line schema n scope list i j (has left right) stand =
+children_line schema n scope list i j (has left right) stands =
+    let stand = two_there schema n scope list i j left right stands in
     two_line schema n scope scope list i stand.middle j left right stand.left stand.right
 children_line schema n scope list i j (in_list left items) stand = record {
   middle = stand.middle;
   left = record { schema = schema; filtered = n; scope = scope; stands = stand.left };
   right = all_line schema n scope list stand.middle j items stand.right;
 }
-children_line schema n scope list i j (in_path left path) stand =
+children_line schema n scope list i j (in_path left path) stands =
+    let stand = two_there schema n scope list i j left path stands in
     two_line schema n scope scope list i stand.middle j left path stand.left stand.right
 children_line schema n scope list i j (call asked arguments) stand = all_line schema n scope list i j arguments stand
-children_line schema n scope list i j (any_item base) stand = one_line schema n scope list i j base stand
-children_line schema n scope list i j (lambda quantifier base variable body) stand =
+children_line schema n scope list i j (any_item base) stand = one_line schema n scope list i j base (one_there schema n scope list i j base stand)
+children_line schema n scope list i j (lambda quantifier base variable body) stands =
+    let stand = body_there schema n scope list i j base variable body stands in
     two_line schema n scope _ list i stand.middle j base body stand.left stand.right.body
 
 -- ---- a node's depth, from those of its children

@@ -22,6 +22,7 @@ use Rattle.odata_eval.specs.private.Place.{HasKind, PartStands}
 use Rattle.odata_eval.specs.private.Scene.{EndsOnceHere, MeansHere, StandsHere, TypedHere}
 use Rattle.odata_eval.specs.private.SceneModel.{SceneModel}
 use Rattle.odata_eval.specs.private.WalkAnswer.{AnswersDatum, Tells}
+use Rattle.odata_eval.proofs.walking.Children.{only_child}
 use Rattle.odata_eval.proofs.walking.Parts.{by_kind, goes_there, some_tells}
 use Rattle.odata_eval.proofs.walking.Spines.{has_type}
 use Rattle.odata_eval.proofs.walking.WalkValues.{value_has}
@@ -51,7 +52,7 @@ count_base scene place here =
     by_kind scene place NodeKind.Count here (λ stop tree. OfBase scene place stop CountGives tree)
     (λ base stop from to stands. record {
       base = base;
-      stands = stands.children;
+      stands = only_child scene (place + 1) stop base stands.children;
       typed = λ type typed. typed_collection scene base typed.operand typed.operand_typed typed.makes.0;
       means = λ o given. given;
     })
@@ -61,7 +62,7 @@ any_item_base scene place here =
     by_kind scene place NodeKind.AnyItem here (λ stop tree. OfBase scene place stop AnyItemGives tree)
     (λ base stop from to stands. record {
       base = base;
-      stands = stands.children;
+      stands = only_child scene (place + 1) stop base stands.children;
       typed = λ type typed. typed_collection scene base typed.operand typed.operand_typed typed.makes.0;
       means = λ o given. given;
     })

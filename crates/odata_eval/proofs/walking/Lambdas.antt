@@ -36,6 +36,7 @@ use Rattle.odata_eval.specs.private.Scene.{EndsOnceHere, MeansHere, StandsHere, 
 use Rattle.odata_eval.specs.private.SceneModel.{SceneModel, environment_of}
 use Rattle.odata_eval.specs.private.WalkAnswer.{AnswersDatum, AnswersTruth, Tells}
 use Rattle.odata_eval.proofs.meaning.OneByOne.{members_one_by_one}
+use Rattle.odata_eval.proofs.walking.Children.{body_stands}
 use Rattle.odata_eval.proofs.walking.Parts.{by_kind, found_there, some_there, tells_there, there_found}
 use Rattle.odata_eval.proofs.walking.Spines.{child_takes, further, second_child, stops_here, stops_there}
 use Rattle.odata_eval.proofs.walking.WalkValues.{value_has}
@@ -158,7 +159,7 @@ module _ (types : OneType) (scene : SceneModel) (place : ℕ) (quantifier : Quan
           by_kind scene place (NodeKind.Lambda quantifier) here (λ stop tree. BodyIsThere scene variable right)
           (λ base asked body stop from to stands.
           let typed = stands.top.typed in
-          let behind = stands.children.right in
+          let behind = body_stands scene.row.schema scene.row.type_id (scope_of (environment_of scene)) scene.list stands.children.middle stop base asked body stands.children.right in
           record {
             stop = stop;
             body = body;
@@ -196,7 +197,7 @@ module _ (types : OneType) (scene : SceneModel) (place : ℕ) (quantifier : Quan
         members_tell answer answers stop from to base asked body stands type typed =
             let slots = slots_of scene.row.schema in
             let root = type_name_at scene.row.schema scene.row.type_id in
-            let behind = stands.children.right in
+            let behind = body_stands scene.row.schema scene.row.type_id (scope_of (environment_of scene)) scene.list stands.children.middle stop base asked body stands.children.right in
             let whole = node from to (lambda quantifier base asked body) in
             let named = is_named stop from to base asked body stands typed.member_type typed.binds.over in
             tells_there (answer_outcome truth_val answer) (TakesMemory body) (TakesMemory whole)

@@ -24,6 +24,7 @@ use Rattle.odata_eval.specs.private.SceneModel.{SceneModel, environment_of}
 use Rattle.odata_eval.specs.private.WalkAnswer.{AnswersDatum}
 use Rattle.odata_eval.proofs.meaning.Progress.{field_gives}
 use Rattle.odata_eval.proofs.meaning.TypeValues.{held_present}
+use Rattle.odata_eval.proofs.walking.Children.{only_child}
 use Rattle.odata_eval.proofs.walking.Parts.{by_kind, kind_there, some_there}
 use Rattle.odata_eval.proofs.walking.SlotValue.{field_at, found_slot, slot_within}
 use Rattle.odata_eval.proofs.walking.WalkValues.{value_has}
@@ -61,7 +62,7 @@ module _ (types : OneType) (scene : SceneModel) (ends : EndsOnceHere scene) (pla
       let same : typed.operand ≡ single (structured there.0) = types slots root (scope_of (environment_of scene)) base typed.operand (single (structured there.0)) typed.operand_typed there.1 in
       slot_in slots there.0 asked slot (expr_type scene.row.schema stands.top.found.edm_type) made there.2
       (subst (λ (t : ExprType). StepTyped slots asked t (expr_type scene.row.schema stands.top.found.edm_type)) same typed.makes)
-      (value_has scene ends base (single (structured there.0)) (datum_val (reading_at slots (single (structured there.0))) made) there.1 (first.of_tree stop base (single (structured there.0)) stands.children there.1)))
+      (value_has scene ends base (single (structured there.0)) (datum_val (reading_at slots (single (structured there.0))) made) there.1 (first.of_tree stop base (single (structured there.0)) (only_child scene (place + 1) stop base stands.children) there.1)))
       part.stop part.tree part.stands
 
   pub step_answers : (made stepped : Datum) → AnswersDatum scene (place + 1) (Ok made) → IsStepOf made slot stepped → AnswersDatum scene place (Ok stepped)
@@ -75,7 +76,7 @@ module _ (types : OneType) (scene : SceneModel) (ends : EndsOnceHere scene) (pla
         let same : typed.operand ≡ single (structured there.0) = types slots root (scope_of (environment_of scene)) base typed.operand (single (structured there.0)) typed.operand_typed there.1 in (
           gives (datum_val (reading_at slots (single (structured there.0))) made),
           (
-            first.of_tree stop base (single (structured there.0)) stands.children there.1,
+            first.of_tree stop base (single (structured there.0)) (only_child scene (place + 1) stop base stands.children) there.1,
             step_gives slots there.0 asked slot t made stepped there.2 (subst (λ (s : ExprType). StepTyped slots asked s t) same typed.makes) is,
           ),
         ))

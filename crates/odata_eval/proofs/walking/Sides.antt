@@ -23,6 +23,7 @@ use Rattle.odata_eval.specs.private.Place.{HasKind, IsRightOf, PartStands}
 use Rattle.odata_eval.specs.private.Scene.{EndsOnceHere, MeansHere, StandsHere, TypedHere}
 use Rattle.odata_eval.specs.private.SceneModel.{SceneModel}
 use Rattle.odata_eval.specs.private.WalkAnswer.{AnswersAtPlace, AnswersDatum, Tells}
+use Rattle.odata_eval.proofs.walking.Children.{two_children}
 use Rattle.odata_eval.proofs.walking.Parts.{by_kind, tells_there}
 use Rattle.odata_eval.proofs.walking.Spines.{child_takes, fault_stays, further, has_type, second_child, stops_here, stops_there}
 use Rattle.odata_eval.proofs.walking.WalkValues.{value_has}
@@ -46,7 +47,7 @@ flags_sides scene place here =
     (λ left right stop from to stands. record {
       left = left;
       right = right;
-      sides = stands.children;
+      sides = two_children scene (place + 1) stop left right stands.children;
       typed = λ type typed. (typed.left, typed.right, (typed.left_typed, typed.right_typed, typed.makes.0));
       takes = child_takes (node from to (has left right)) right (second_child left right []);
       means = λ o given. given;
@@ -58,7 +59,7 @@ path_sides scene place here =
     (λ left path stop from to stands. record {
       left = left;
       right = path;
-      sides = stands.children;
+      sides = two_children scene (place + 1) stop left path stands.children;
       typed = λ type typed. (typed.left, typed.right, (typed.left_typed, typed.right_typed, typed.makes.0));
       takes = child_takes (node from to (in_path left path)) path (second_child left path []);
       means = λ o given. given;

@@ -35,6 +35,7 @@ use Rattle.odata_eval.specs.Means.{ArgumentsMean}
 use Rattle.odata_eval.specs.CallGives.{CallGives}
 use Rattle.csdl_schema.specs.SchemaModel.{SchemaModel, slots_of, type_name_at}
 use Rattle.edm_entities.specs.Row.{value_of}
+use Rattle.odata_eval.proofs.walking.Children.{body_stands, one_there, only_child}
 use Rattle.odata_eval.proofs.walking.Parts.{by_kind, found_there, goes_there, some_there, tells_there, there_found}
 
 -- which operator of the class it is
@@ -191,25 +192,25 @@ module _ (schema : SchemaModel) (n : ℕ) (list : FlatTree) where
     further_in scope i j (node from to (literal kind spelling)) stands = let e : i + 1 ≡ j = stands.children in omega arith
     further_in scope i j (node from to it) stands = let e : i + 1 ≡ j = stands.children in omega arith
     further_in scope i j (node from to (name asked)) stands = let e : i + 1 ≡ j = stands.children in omega arith
-    further_in scope i j (node from to (member base asked)) stands = let a : i + 1 < j = further_in scope (i + 1) j base stands.children in omega arith
-    further_in scope i j (node from to (count base)) stands = let a : i + 1 < j = further_in scope (i + 1) j base stands.children in omega arith
-    further_in scope i j (node from to (any_item base)) stands = let a : i + 1 < j = further_in scope (i + 1) j base stands.children in omega arith
-    further_in scope i j (node from to (negation operand)) stands = let a : i + 1 < j = further_in scope (i + 1) j operand stands.children in omega arith
-    further_in scope i j (node from to (logical_not operand)) stands = let a : i + 1 < j = further_in scope (i + 1) j operand stands.children in omega arith
+    further_in scope i j (node from to (member base asked)) stands = let a : i + 1 < j = further_in scope (i + 1) j base (one_there schema n scope list (i + 1) j base stands.children) in omega arith
+    further_in scope i j (node from to (count base)) stands = let a : i + 1 < j = further_in scope (i + 1) j base (one_there schema n scope list (i + 1) j base stands.children) in omega arith
+    further_in scope i j (node from to (any_item base)) stands = let a : i + 1 < j = further_in scope (i + 1) j base (one_there schema n scope list (i + 1) j base stands.children) in omega arith
+    further_in scope i j (node from to (negation operand)) stands = let a : i + 1 < j = further_in scope (i + 1) j operand (one_there schema n scope list (i + 1) j operand stands.children) in omega arith
+    further_in scope i j (node from to (logical_not operand)) stands = let a : i + 1 < j = further_in scope (i + 1) j operand (one_there schema n scope list (i + 1) j operand stands.children) in omega arith
     further_in scope i j (node from to (binary operator left right)) stands =
         let m = stands.children.middle in
         let a : i + 1 < m = further_in scope (i + 1) m left stands.children.left in
-        let b : m < j = further_in scope m j right stands.children.right in
+        let b : m < j = further_in scope m j right (one_there schema n scope list m j right stands.children.right) in
         omega arith
     further_in scope i j (node from to (has left right)) stands =
         let m = stands.children.middle in
         let a : i + 1 < m = further_in scope (i + 1) m left stands.children.left in
-        let b : m < j = further_in scope m j right stands.children.right in
+        let b : m < j = further_in scope m j right (one_there schema n scope list m j right stands.children.right) in
         omega arith
     further_in scope i j (node from to (in_path left path)) stands =
         let m = stands.children.middle in
         let a : i + 1 < m = further_in scope (i + 1) m left stands.children.left in
-        let b : m < j = further_in scope m j path stands.children.right in
+        let b : m < j = further_in scope m j path (one_there schema n scope list m j path stands.children.right) in
         omega arith
     further_in scope i j (node from to (in_list left items)) stands =
         let m = stands.children.middle in
@@ -220,7 +221,8 @@ module _ (schema : SchemaModel) (n : ℕ) (list : FlatTree) where
     further_in scope i j (node from to (lambda quantifier base asked body)) stands =
         let m = stands.children.middle in
         let a : i + 1 < m = further_in scope (i + 1) m base stands.children.left in
-        let b : m < j = further_in (with_variable scope asked (single stands.children.right.member_type)) m j body stands.children.right.body in
+        let behind = body_stands schema n scope list m j base asked body stands.children.right in
+        let b : m < j = further_in (with_variable scope asked (single behind.member_type)) m j body behind.body in
         omega arith
 
     pub all_further_in : (scope : Scope) (i j : ℕ) (trees : Trees) → AllStand schema n scope list i j trees → i ≤ j
@@ -267,7 +269,7 @@ module _ (scene : SceneModel) where
       (λ base asked stop from to stands. record {
         stop = stop;
         operand = base;
-        stands = stands.children;
+        stands = only_child scene (place + 1) stop base stands.children;
         typed = λ type typed. (typed.operand, (typed.operand_typed, tt));
         faults = λ fault. fault_stays fault (TakesMemory base) (TakesMemory (node from to (member base asked))) (MeansHere scene base) _ (child_takes (node from to (member base asked)) base (first_child base []));
       })
@@ -275,7 +277,7 @@ module _ (scene : SceneModel) where
       (λ base stop from to stands. record {
         stop = stop;
         operand = base;
-        stands = stands.children;
+        stands = only_child scene (place + 1) stop base stands.children;
         typed = λ type typed. (typed.operand, (typed.operand_typed, tt));
         faults = λ fault. fault_stays fault (TakesMemory base) (TakesMemory (node from to (count base))) (MeansHere scene base) _ (child_takes (node from to (count base)) base (first_child base []));
       })
@@ -283,7 +285,7 @@ module _ (scene : SceneModel) where
       (λ base stop from to stands. record {
         stop = stop;
         operand = base;
-        stands = stands.children;
+        stands = only_child scene (place + 1) stop base stands.children;
         typed = λ type typed. (typed.operand, (typed.operand_typed, tt));
         faults = λ fault. fault_stays fault (TakesMemory base) (TakesMemory (node from to (any_item base))) (MeansHere scene base) _ (child_takes (node from to (any_item base)) base (first_child base []));
       })
@@ -325,7 +327,7 @@ module _ (scene : SceneModel) where
       (λ operand stop from to stands. record {
         stop = stop;
         operand = operand;
-        stands = stands.children;
+        stands = only_child scene (place + 1) stop operand stands.children;
         typed = λ type typed. (typed.operand, (typed.operand_typed, (typed.makes.number, typed.makes.operand_is)));
         faults = λ fault. fault_stays fault (TakesMemory operand) (TakesMemory (node from to (negation operand))) (MeansHere scene operand) _ (child_takes (node from to (negation operand)) operand (first_child operand []));
       })
@@ -333,7 +335,7 @@ module _ (scene : SceneModel) where
       (λ operand stop from to stands. record {
         stop = stop;
         operand = operand;
-        stands = stands.children;
+        stands = only_child scene (place + 1) stop operand stands.children;
         typed = λ type typed. (typed.operand, (typed.operand_typed, typed.makes.0));
         faults = λ fault. fault_stays fault (TakesMemory operand) (TakesMemory (node from to (logical_not operand))) (MeansHere scene operand) _ (child_takes (node from to (logical_not operand)) operand (first_child operand []));
       })
@@ -472,7 +474,7 @@ module _ (scene : SceneModel) where
         → StandsHere scene right stop r
     right_stands right stop from to operator l r is stands =
         subst (λ (m : ℕ). StandsHere scene m stop r)
-        (stops_there (place + 1) stands.children.middle right l stands.children.left is) stands.children.right
+        (stops_there (place + 1) stands.children.middle right l stands.children.left is) (only_child scene stands.children.middle stop r stands.children.right)
 
     module _ (operator : BinaryOperator) (here : HasKind scene.list place (NodeKind.Binary operator)) (part : PartStands scene place) where
       pub right_there : (right : ℕ) × IsRightOf scene.list place right

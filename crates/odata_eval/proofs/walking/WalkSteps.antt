@@ -38,6 +38,7 @@ use Rattle.odata_eval.specs.private.WalkClass.{IsDecided, walk_of_operator}
 use Rattle.odata_eval.proofs.meaning.LawsBelow.{Promotes}
 use Rattle.odata_eval.proofs.meaning.Numbers.{calculated_values, negated_value}
 use Rattle.odata_eval.proofs.meaning.Progress.{decided_gives, join_gives, not_gives, undecided_goes}
+use Rattle.odata_eval.proofs.walking.Children.{only_child}
 use Rattle.odata_eval.proofs.walking.Parts.{by_kind, goes_there, some_tells, tells_there, type_there}
 use Rattle.odata_eval.proofs.walking.Spines.{child_takes, fault_stays, right_stands, second_child}
 use Rattle.odata_eval.proofs.walking.Readings.{numbers_anywhere, one_number_anywhere}
@@ -79,7 +80,7 @@ module _ (scene : SceneModel) (place : ℕ) where
   not_answers truth here first = record {
     of_tree = λ stop tree type stands typed.
         by_kind scene place NodeKind.Not here (λ stop tree. TypedHere scene tree type → MeansHere scene tree (gives (truth_val (not3 truth))))
-        (λ operand stop from to stands typed. (gives (truth_val truth), (first.of_tree stop operand typed.operand stands.children typed.operand_typed, not_gives truth)))
+        (λ operand stop from to stands typed. (gives (truth_val truth), (first.of_tree stop operand typed.operand (only_child scene (place + 1) stop operand stands.children) typed.operand_typed, not_gives truth)))
         stop tree stands typed;
   }
 
@@ -99,7 +100,7 @@ module _ (scene : SceneModel) (place : ℕ) where
         let type = expr_type scene.row.schema found.edm_type in
         by_kind scene place NodeKind.Neg here (λ stop tree. TypedHere scene tree type → IsOneNumber (expr_type other found.edm_type) (number_val number))
         (λ operand stop from to stands typed.
-        let has = value_has scene ends operand typed.operand (number_val number) typed.operand_typed (first.of_tree stop operand typed.operand stands.children typed.operand_typed) in
+        let has = value_has scene ends operand typed.operand (number_val number) typed.operand_typed (first.of_tree stop operand typed.operand (only_child scene (place + 1) stop operand stands.children) typed.operand_typed) in
         one_number_anywhere scene.row.schema other found.edm_type (number_val number)
         (negated_value promotes (slots_of scene.row.schema) typed.operand type (number_val number) typed.makes has))
         part.stop part.tree part.stands (type_there scene place found at part.stop part.tree part.stands)
@@ -118,7 +119,7 @@ module _ (scene : SceneModel) (place : ℕ) where
           (λ o gives_it. (
             gives (number_val number),
             (
-              first.of_tree stop operand typed.operand stands.children typed.operand_typed,
+              first.of_tree stop operand typed.operand (only_child scene (place + 1) stop operand stands.children) typed.operand_typed,
               (type, typed, subst (λ (s : ExprType). NegatedGives s (number_val number) o) is gives_it),
             ),
           ))

@@ -49,7 +49,11 @@ module _ (laws : LawsBelow) where
               middle = length between.nodes;
               left = subst S (opened_length start place variable opened is)
                   (laws.kept schema n scope between last (length opened.nodes) (length between.nodes) base body_walked.grown.kept walked.grown.stands);
-              right = record { member_type = single_type schema member; binds = binds; body = body_walked.grown.stands };
+              right = record {
+                middle = length last.nodes;
+                left = record { member_type = single_type schema member; binds = binds; body = body_walked.grown.stands };
+                right = refl;
+              };
             });
         typed = typed;
       }

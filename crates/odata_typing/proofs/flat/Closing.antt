@@ -176,7 +176,11 @@ module _ (laws : LawsBelow) where
       record {
         grown = laws.closed schema n scope start opened last place (put_in last (NodeKind.Member slot) span type) (member base asked) is walked.grown.kept refl
             (member_kind (slots_of schema) (Typed (slots_of schema) (type_name_at schema n) scope base) (expr_type schema below) asked slot walked.typed at) typed
-            (behind_opened schema n scope start opened last place (length last.nodes) asked base is walked.grown.stands);
+            (record {
+              middle = length last.nodes;
+              left = behind_opened schema n scope start opened last place (length last.nodes) asked base is walked.grown.stands;
+              right = refl;
+            });
         typed = typed;
       }
 

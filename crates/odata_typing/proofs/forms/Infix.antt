@@ -67,6 +67,9 @@ pub infix_stands :
     (schema : SchemaModel) (n : ℕ) (scope : Scope) (list : FlatTree) (i j : ℕ) (form : Infix) (left right : Tree)
     → SideBySide (λ middle. Stands schema n scope list i middle left) (λ middle. Stands schema n scope list middle j right)
     → ChildrenStand schema n scope list i j (infix_shape form left right)
-infix_stands schema n scope list i j (Infix.Operator operator) left right stand = stand
-infix_stands schema n scope list i j Infix.Has left right stand = stand
-infix_stands schema n scope list i j Infix.InPath left right stand = stand
+infix_stands schema n scope list i j (Infix.Operator operator) left right stand =
+    record { middle = stand.middle; left = stand.left; right = record { middle = j; left = stand.right; right = refl } }
+infix_stands schema n scope list i j Infix.Has left right stand =
+    record { middle = stand.middle; left = stand.left; right = record { middle = j; left = stand.right; right = refl } }
+infix_stands schema n scope list i j Infix.InPath left right stand =
+    record { middle = stand.middle; left = stand.left; right = record { middle = j; left = stand.right; right = refl } }

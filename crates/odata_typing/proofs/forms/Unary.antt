@@ -70,7 +70,7 @@ pub unary_stands :
     (schema : SchemaModel) (n : ℕ) (scope : Scope) (list : FlatTree) (i j : ℕ) (unary : Unary) (operand : Tree)
     → Stands schema n scope list i j operand
     → ChildrenStand schema n scope list i j (unary_shape unary operand)
-unary_stands schema n scope list i j Unary.Negation operand stands = stands
-unary_stands schema n scope list i j Unary.Not operand stands = stands
-unary_stands schema n scope list i j Unary.Count operand stands = stands
-unary_stands schema n scope list i j Unary.AnyItem operand stands = stands
+unary_stands schema n scope list i j Unary.Negation operand stands = record { middle = j; left = stands; right = refl }
+unary_stands schema n scope list i j Unary.Not operand stands = record { middle = j; left = stands; right = refl }
+unary_stands schema n scope list i j Unary.Count operand stands = record { middle = j; left = stands; right = refl }
+unary_stands schema n scope list i j Unary.AnyItem operand stands = record { middle = j; left = stands; right = refl }
