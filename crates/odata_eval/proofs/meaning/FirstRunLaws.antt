@@ -40,6 +40,7 @@ one : IntValue (codes "1") (pos 1)
 one = (inr (inr (numeral, refl)), small)
 
 letter : IsUtf8 (codes "a")
+unfolding lib.Utf8.encode
 letter = (codes "a", (refl, refl))
 
 -- true with a truth value is that
