@@ -30,7 +30,9 @@ fn by_tree(alloc: Global, schema: &Schema, id: TypeId, line: &[u8]) -> Result<St
 }
 
 /// The same, straight from its bytes; nothing where that is no row that fits, or not seen to be one.
-fn by_bytes(alloc: Global, schema: &Schema, id: TypeId, line: &[u8]) -> Result<String, Trouble> {
+fn by_bytes(alloc: Global, schema: &Schema, id: TypeId, line: &[u8]) -> Result<String, Trouble>
+    requires { HoldsType schema.now id }
+{
     match RowReader::new(alloc, schema, id).read(line) {
         Some(entity) => told(alloc, &entity),
         None => Ok(String::new(alloc)),

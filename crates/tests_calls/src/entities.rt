@@ -1,5 +1,4 @@
-//! Entities that are made of the values which an entity gives back.
-ghost use Rattle.std.specs.Prelude.{◌≡◌};
+//! What an entity of a row holds, slot by slot.
 ghost use Rattle.csdl_schema.specs.SchemaModel.{HoldsType};
 
 use crate::shop::{E0, SHOP};
@@ -43,23 +42,6 @@ fn shows(alloc: Global, value: &Value, wanted: &str) -> Result<bool, AllocError>
     Ok(slots.as_str() == wanted)
 }
 
-/// The entity that is made of the values which an entity gives back.
-fn made_again(entity: Entity<'_>) -> Entity<'_>
-    ensures { result ≡ entity.entry }
-{
-    let (schema, type_id) = (entity.schema(), entity.type_id());
-    Entity::from_values(schema, type_id, entity.into_values())
-}
-
-/// Whether an entity has these values by slot, and so has the one that is made of them.
-fn has_values(alloc: Global, entity: Entity<'_>, wanted: &str) -> Result<bool, AllocError> {
-    if !shows(alloc, entity.value(), wanted)? {
-        return Ok(false);
-    }
-    let again = made_again(entity);
-    shows(alloc, again.value(), wanted)
-}
-
 /// Whether a JSON value is an entity of a type with these values by slot.
 fn is_entity(
     alloc: Global,
@@ -72,7 +54,7 @@ fn is_entity(
 {
     let entity = Entity::from_json(alloc, schema, id, json)?;
     let is_typed = entity.type_id() == id && entity.schema().slots(id) == 13;
-    Ok(is_typed && has_values(alloc, entity, wanted)?)
+    Ok(is_typed && shows(alloc, entity.value(), wanted)?)
 }
 
 /// Whether the shop's row is an entity of a type with these values by slot.

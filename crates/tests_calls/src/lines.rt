@@ -55,10 +55,9 @@ fn push_by_tree(
     type_id: TypeId,
     line: &[u8],
     text: &mut String,
-) -> Result<(), AllocError> {
-    if !schema.holds(type_id) {
-        return text.push_str("no type");
-    }
+) -> Result<(), AllocError>
+    requires { HoldsType schema.now type_id }
+{
     match &Json::from_slice(alloc, line) {
         Ok(json) => push_entity(alloc, schema, type_id, json, text),
         Err(_) => Ok(()),
@@ -88,7 +87,9 @@ fn both_ways(
     type_id: TypeId,
     reader: &mut RowReader<'_>,
     line: &[u8],
-) -> Result<&'static str, AllocError> {
+) -> Result<&'static str, AllocError>
+    requires { HoldsType schema.now type_id }
+{
     let mut told = Told {
         tokens: String::new(alloc),
         tree: String::new(alloc),
@@ -108,7 +109,9 @@ fn wanted_of(
     type_id: TypeId,
     reader: &mut RowReader<'_>,
     row: &(Vec<u8>, &'static str),
-) -> Result<&'static str, Fail> {
+) -> Result<&'static str, Fail>
+    requires { HoldsType schema.now type_id }
+{
     let (line, wanted) = (row.0.as_slice(), row.1);
     let told = both_ways(alloc, schema, type_id, reader, line)?;
     if wanted.contains(told) {
@@ -125,7 +128,9 @@ fn entities_of(
     schema: &Schema,
     type_id: TypeId,
     lines: &[(Vec<u8>, &'static str)],
-) -> Result<u64, Fail> {
+) -> Result<u64, Fail>
+    requires { HoldsType schema.now type_id }
+{
     let mut reader = RowReader::new(alloc, schema, type_id);
     let mut entities = 0_u64;
     for row in lines {
@@ -144,8 +149,10 @@ pub(crate) fn entities(
     lines: &Lines,
 ) -> Result<u64, Fail> {
     let schema = Schema::read(alloc, document.as_bytes())?;
-    let type_id = schema.type_named(named).ok_or("the type")?;
-    entities_of(alloc, &schema, type_id, lines.as_slice())
+    match schema.type_named(named) {
+        Some(id) if schema.holds(id) => entities_of(alloc, &schema, id, lines.as_slice()),
+        _ => Err(Fail::from("no type")),
+    }
 }
 
 /// What stands before and behind the members of a product, and the answer.
