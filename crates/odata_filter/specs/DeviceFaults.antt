@@ -7,6 +7,7 @@ use Rattle.line_filter.specs.Kept.{StopsWith}
 use Rattle.line_filter.specs.LineSource.{LineSource}
 use Rattle.line_filter.specs.LineStreams.{LacksLine, ReadWell, WhyUnread}
 use Rattle.odata_checked_filter.specs.Filter.{Filter}
+use Rattle.odata_filter.specs.declared.command.whole.NotWhole.{NotWhole}
 use Rattle.odata_filter.specs.declared.run_fault.RunFault.{RunFault}
 use Rattle.odata_filter.specs.RowJudgment.{JudgesRow, rows_of}
 use Rattle.odata_filter.specs.RunStops.{run_stop}
@@ -41,3 +42,8 @@ WritesUntilFault old new (RunFault.LineTooLong line) = StaysWell old new
 WritesUntilFault old new RunFault.NotACollection = StaysWell old new
 WritesUntilFault old new (RunFault.Read line) = StaysWell old new
 WritesUntilFault old new (RunFault.Memory line) = StaysWell old new
+
+-- which reads were made of a reader that was not read whole: at Read the last one failed, at Memory each did its work
+abbrev pub ReadsUntilNotWhole : Calls → Calls → NotWhole → Type 0
+ReadsUntilNotWhole old new NotWhole.Read = FailsLast old new
+ReadsUntilNotWhole old new NotWhole.Memory = StaysWell old new

@@ -17,7 +17,7 @@ pub use command::command_line;
 pub use command::laws::worked_lines;
 pub use command::planner::plan;
 pub use command::runner::run;
-pub use command::whole::{NotWhole, read_whole};
+pub use command::whole::{NotWhole, read_whole, read_whole_by};
 pub use filter::{filter_lines, filter_lines_by, filter_slice};
 pub use headline::filters_keep_what_is_true;
 pub use laws::{rows_stop_once, unfailing_devices_never_fail};

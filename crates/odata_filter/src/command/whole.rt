@@ -1,6 +1,9 @@
 //! All that a reader has, in memory.
-ghost use Rattle.std.specs.Prelude.{◌≡◌, IfOk, IfSome};
+ghost use Rattle.std.specs.Prelude.{◌≡◌, IfOk, IfSome, MatchResult};
+ghost use Rattle.line_filter.specs.DeviceCalls.{StaysWell};
+ghost use Rattle.odata_filter.specs.DeviceFaults.{ReadsUntilNotWhole};
 
+use line_filter::{Reads, Untold};
 use std::alloc::Global;
 use std::io::Read;
 use thiserror::Error;
@@ -17,9 +20,14 @@ pub enum NotWhole {
 /// How many bytes are asked for at a time.
 const ONE_READ: usize = 65_536;
 
-/// Reads up to the end. An interrupted read has failed, and is not tried again.
-pub fn read_whole<R: Read>(alloc: Global, reader: &mut R) -> Result<Vec<u8>, NotWhole>
-    ensures { IfOk result (λ bytes. IfSome (R.remaining reader.old) (λ all. bytes.items ≡ all)) }
+/// [`read_whole`], by how the reader's reads are told. It tells that a read failed only where one did.
+pub fn read_whole_by<R: Read, S: Reads<R>>(
+    alloc: Global,
+    reader: &mut R,
+) -> Result<Vec<u8>, NotWhole>
+    ensures whole { IfOk result (λ bytes. IfSome (R.remaining reader.old) (λ all. bytes.items ≡ all)) }
+    ensures reads { MatchResult result (λ bytes. StaysWell (S.calls reader.old) (S.calls reader.new))
+        (λ fault. ReadsUntilNotWhole (S.calls reader.old) (S.calls reader.new) fault) }
 {
     let mut buffer = Vec::new(alloc);
     if buffer.resize(ONE_READ, 0).is_err() {
@@ -27,7 +35,7 @@ pub fn read_whole<R: Read>(alloc: Global, reader: &mut R) -> Result<Vec<u8>, Not
     }
     let mut bytes = Vec::new(alloc);
     loop {
-        let count = match reader.read(buffer.as_mut_slice()) {
+        let count = match S::read(reader, buffer.as_mut_slice(), &[]) {
             Ok(count) => count,
             Err(_) => return Err(NotWhole::Read),
         };
@@ -41,4 +49,11 @@ pub fn read_whole<R: Read>(alloc: Global, reader: &mut R) -> Result<Vec<u8>, Not
             return Err(NotWhole::Memory);
         }
     }
+}
+
+/// Reads up to the end. An interrupted read has failed, and is not tried again.
+pub fn read_whole<R: Read>(alloc: Global, reader: &mut R) -> Result<Vec<u8>, NotWhole>
+    ensures { IfOk result (λ bytes. IfSome (R.remaining reader.old) (λ all. bytes.items ≡ all)) }
+{
+    read_whole_by::<R, Untold>(alloc, reader)
 }
