@@ -17,8 +17,8 @@ pub enum NotWhole {
     Memory,
 }
 
-/// How many bytes are asked for at a time.
-const ONE_READ: usize = 65_536;
+/// How many bytes are asked for at a time: few, since the room for them is zeroed first, and most schemas are short.
+const ONE_READ: usize = 8_192;
 
 /// [`read_whole`], by how the reader's reads are told. It tells that a read failed only where one did.
 pub fn read_whole_by<R: Read, S: Reads<R>>(
