@@ -2,7 +2,7 @@
 -- means that a text is refused (OData URL Conventions 4.01, section 5.1.1).
 use Rattle.std.specs.Prelude.{◌≡◌, ◌≢◌, ◌⊎◌, ◌↔◌, ◌≤◌, ℕ, List, [], ◌∷◌, length, true, Option, Some, IfSome, Result, Err}
 use Rattle.serde_json.specs.Data.{Data}
-use Rattle.edm_values.specs.MomentParts.{MomentParts}
+use Rattle.edm_values.specs.MomentParts.{IsMoment, MomentParts}
 use Rattle.edm_values.specs.Val.{Val, null, boolean}
 use Rattle.csdl_schema.specs.JsonText.{IsJsonOf}
 use Rattle.csdl_schema.specs.SchemaModel.{Slots, slots_of, type_name_at}
@@ -59,11 +59,12 @@ pub record ComesToOne (filter : Filter) (now : MomentParts) (value : Val) (outco
   pub related : FilterMeans filter now value outcome
   pub only : (other : Outcome) → FilterMeans filter now value other → other ≡ outcome
 
--- a filter that `check` accepts comes to one outcome on every entity of its type, at every moment
+-- a filter that `check` accepts comes to one outcome on every entity of its type, at every moment of the years 1 to
+-- 9999
 abbrev pub HaveOneOutcome : Type 0
 HaveOneOutcome =
     (text : List ℕ) (filter : Filter) (now : MomentParts) (value : Val)
-    → IsCheckedOf text filter → ConformsTo filter value
+    → IsCheckedOf text filter → IsMoment now.civil now.offset_minutes → ConformsTo filter value
     → (outcome : Outcome) × ComesToOne filter now value outcome
 
 -- what `evaluate` says of its answer tells that outcome, unless memory was refused
@@ -87,7 +88,8 @@ pub record IsTrueRow (filter : Filter) (now : MomentParts) (line : List ℕ) : T
 -- a line is kept exactly where it is such a row
 abbrev pub KeepTrueRows : Type 0
 KeepTrueRows =
-    (text : List ℕ) (filter : Filter) (now : MomentParts) (line : List ℕ) → IsCheckedOf text filter
+    (text : List ℕ) (filter : Filter) (now : MomentParts) (line : List ℕ)
+    → IsCheckedOf text filter → IsMoment now.civil now.offset_minutes
     → IsFoundOf (JudgesRow filter now) line (Finding.Judged Judgment.Kept) ↔ IsTrueRow filter now line
 
 -- these are the ones among the lines of which P holds, in their order
@@ -106,7 +108,7 @@ HasTrueRows filter now lines text =
 abbrev pub WriteTrueRows : Type 0
 WriteTrueRows =
     (text : List ℕ) (filter : Filter) (now : MomentParts) (bytes written : List ℕ) (tally : Tally)
-    → IsCheckedOf text filter → Filters (rows_of filter now bytes) written tally
+    → IsCheckedOf text filter → IsMoment now.civil now.offset_minutes → Filters (rows_of filter now bytes) written tally
     → HasTrueRows filter now (lines_of bytes) written
 
 -- The line of this number is the first at fault, and what was written is just those of the lines before it.
@@ -121,7 +123,8 @@ pub record StopsBehind
 abbrev pub StopAtFaults : Type 0
 StopAtFaults =
     (text : List ℕ) (filter : Filter) (now : MomentParts) (bytes written : List ℕ) (fault : RunFault)
-    → IsCheckedOf text filter → IsOfRow fault → StopsBy (rows_of filter now bytes) written fault
+    → IsCheckedOf text filter → IsMoment now.civil now.offset_minutes → IsOfRow fault
+    → StopsBy (rows_of filter now bytes) written fault
     → (number : ℕ) × (finding : Finding BadRow) × StopsBehind filter now bytes written number finding
 
 -- a text that is refused, by anything but want of memory, is no filter, and there is one refusal of it: its first fault

@@ -3,7 +3,7 @@ use Rattle.std.proofs.Common.{◌≡◌, ◌≢◌, ℕ, List, [], ◌∷◌, �
 use Rattle.std.specs.Prelude.{map, All, true, IfSome, Result, Ok, Err}
 use Rattle.std.proofs.lemmas.List.Elements.{All-head, All-tail}
 use Rattle.serde_json.specs.Data.{Data}
-use Rattle.edm_values.specs.MomentParts.{MomentParts}
+use Rattle.edm_values.specs.MomentParts.{IsMoment, MomentParts}
 use Rattle.edm_values.specs.declared.primitive.PrimitiveType.TheVariants.{Bool as EdmBoolean}
 use Rattle.edm_values.specs.Val.{Val, null, boolean, whole, text as of_text, date, moment, guid, member, fields, items}
 use Rattle.csdl_schema.specs.ExprType.{ExprType, null_type, single, primitive, structured}
@@ -71,8 +71,8 @@ known_of slots type overflow truth of_type = tt
 known_of slots type divides_by_zero truth of_type = tt
 
 pub one_outcome : TypedEndsOnce → FitsHasType → HaveOneOutcome
-one_outcome ends has_type text filter now value checked (json, fits) =
-    let once = ends (slots_of filter.schema) (type_name_at filter.schema filter.filtered) now value [] (tree_of_filter filter) checked.type_of
+one_outcome ends has_type text filter now value checked is_moment (json, fits) =
+    let once = ends (slots_of filter.schema) (type_name_at filter.schema filter.filtered) now value [] (tree_of_filter filter) checked.type_of is_moment
     (has_type (slots_of filter.schema) (type_name_at filter.schema filter.filtered) json value fits) tt checked.typed in
     (once.outcome, record { known = known_of (slots_of filter.schema) checked.type_of once.outcome checked.truth once.of_type; related = once.related; only = once.only })
 
@@ -105,9 +105,10 @@ answered text filter now row (Err EvalFault.Memory) checked for told given = abs
 -- ---- the rows that are kept
 
 module _ (ends : TypedEndsOnce) (has_type : FitsHasType) where
-  true_judged : (text : List ℕ) (filter : Filter) (now : MomentParts) (line : List ℕ) → IsCheckedOf text filter → IsTrueRow filter now line → JudgesRow filter now line Judgment.Kept
-  true_judged text filter now line checked row =
-      let (outcome, one) = one_outcome ends has_type text filter now row.value checked (row.json, row.fits) in
+  true_judged : (text : List ℕ) (filter : Filter) (now : MomentParts) (line : List ℕ) → IsCheckedOf text filter → IsMoment now.civil now.offset_minutes → IsTrueRow filter now line
+      → JudgesRow filter now line Judgment.Kept
+  true_judged text filter now line checked is_moment row =
+      let (outcome, one) = one_outcome ends has_type text filter now row.value checked is_moment (row.json, row.fits) in
       record {
         json = row.json;
         is_json = row.is_json;
@@ -131,16 +132,16 @@ module _ (ends : TypedEndsOnce) (has_type : FitsHasType) where
   }
 
   pub kept : KeepTrueRows
-  kept text filter now line checked = (kept_true filter now line, λ row. (row.short, row.some, true_judged text filter now line checked row))
+  kept text filter now line checked is_moment = (kept_true filter now line, λ row. (row.short, row.some, true_judged text filter now line checked is_moment row))
 
   module _ (one_fits : OneFits) (fits_nothing : FaultFitsNothing) (one_fault : OneFirstFault) where
-    module _ (of : List ℕ) (filter : Filter) (now : MomentParts) (checked : IsCheckedOf of filter) where
+    module _ (of : List ℕ) (filter : Filter) (now : MomentParts) (checked : IsCheckedOf of filter) (is_moment : IsMoment now.civil now.offset_minutes) where
       abbrev IsFine : SiftedItem (List ℕ) BadRow → Type 0
       IsFine s = IsFoundOf (JudgesRow filter now) s.item s.finding × IsFaultless s.finding
 
       left_out : (line : List ℕ) → JudgesRow filter now line Judgment.LeftOut → ¬ IsTrueRow filter now line
       left_out line out row =
-          judged_once one_fits fits_nothing one_fault filter now line Judgment.Kept Judgment.LeftOut (true_judged of filter now line checked row) out
+          judged_once one_fits fits_nothing one_fault filter now line Judgment.Kept Judgment.LeftOut (true_judged of filter now line checked is_moment row) out
 
       pick : (line : List ℕ) (finding : Finding BadRow) (more : List (SiftedItem (List ℕ) BadRow)) → IsFoundOf (JudgesRow filter now) line finding → IsFaultless finding
           → HasTrueRows filter now (map (λ s. s.item) more) (kept_text text_of_line more)
@@ -164,18 +165,18 @@ module _ (ends : TypedEndsOnce) (has_type : FitsHasType) where
           (picked, subst (λ (l : List (List ℕ)). ArePicked (IsTrueRow filter now) l picked) passes.in_order are, passes.kept ∙ is)
 
     pub written : WriteTrueRows
-    written text filter now bytes out tally checked filters = passing text filter now checked (lines_of bytes) out tally filters
+    written text filter now bytes out tally checked is_moment filters = passing text filter now checked is_moment (lines_of bytes) out tally filters
 
     pub stopped : StopAtFaults
-    stopped text filter now bytes out (RunFault.Json n) checked of_row stop =
-        (n, Finding.Judged (Judgment.Fault BadRow.NotJson), record { faulty = λ fine. fine; first = stop; written_before = passing text filter now checked stop.before out stop.tally stop.passes })
-    stopped text filter now bytes out (RunFault.Row n fault) checked of_row stop =
-        (n, Finding.Judged (Judgment.Fault (BadRow.NoEntity fault)), record { faulty = λ fine. fine; first = stop; written_before = passing text filter now checked stop.before out stop.tally stop.passes })
-    stopped text filter now bytes out (RunFault.Arithmetic n fault) checked of_row stop =
-        (n, Finding.Judged (Judgment.Fault (BadRow.NoValue fault)), record { faulty = λ fine. fine; first = stop; written_before = passing text filter now checked stop.before out stop.tally stop.passes })
-    stopped text filter now bytes out (RunFault.LineTooLong n) checked of_row stop =
-        (n, Finding.TooLong, record { faulty = λ fine. fine; first = stop; written_before = passing text filter now checked stop.before out stop.tally stop.passes })
-    stopped text filter now bytes out RunFault.NotACollection checked of_row stop = absurd of_row
-    stopped text filter now bytes out (RunFault.Read n) checked of_row stop = absurd of_row
-    stopped text filter now bytes out RunFault.Write checked of_row stop = absurd of_row
-    stopped text filter now bytes out (RunFault.Memory n) checked of_row stop = absurd of_row
+    stopped text filter now bytes out (RunFault.Json n) checked is_moment of_row stop =
+        (n, Finding.Judged (Judgment.Fault BadRow.NotJson), record { faulty = λ fine. fine; first = stop; written_before = passing text filter now checked is_moment stop.before out stop.tally stop.passes })
+    stopped text filter now bytes out (RunFault.Row n fault) checked is_moment of_row stop =
+        (n, Finding.Judged (Judgment.Fault (BadRow.NoEntity fault)), record { faulty = λ fine. fine; first = stop; written_before = passing text filter now checked is_moment stop.before out stop.tally stop.passes })
+    stopped text filter now bytes out (RunFault.Arithmetic n fault) checked is_moment of_row stop =
+        (n, Finding.Judged (Judgment.Fault (BadRow.NoValue fault)), record { faulty = λ fine. fine; first = stop; written_before = passing text filter now checked is_moment stop.before out stop.tally stop.passes })
+    stopped text filter now bytes out (RunFault.LineTooLong n) checked is_moment of_row stop =
+        (n, Finding.TooLong, record { faulty = λ fine. fine; first = stop; written_before = passing text filter now checked is_moment stop.before out stop.tally stop.passes })
+    stopped text filter now bytes out RunFault.NotACollection checked is_moment of_row stop = absurd of_row
+    stopped text filter now bytes out (RunFault.Read n) checked is_moment of_row stop = absurd of_row
+    stopped text filter now bytes out RunFault.Write checked is_moment of_row stop = absurd of_row
+    stopped text filter now bytes out (RunFault.Memory n) checked is_moment of_row stop = absurd of_row
