@@ -21,6 +21,7 @@ use Rattle.odata_checked_filter.specs.Calls.{TakesMemory}
 use Rattle.odata_checked_filter.specs.declared.checked_node.NodeKind.{NodeKind}
 use Rattle.odata_eval.specs.declared.fault.EvalFault.{EvalFault}
 use Rattle.odata_eval.specs.CompareGives.{CompareGives}
+use Rattle.odata_eval.specs.Environment.{scope_of}
 use Rattle.odata_eval.specs.LambdaGives.{ItemsGive}
 use Rattle.odata_eval.specs.LeftFirst.{After}
 use Rattle.odata_eval.specs.Means.{ItemMeans}
