@@ -1,5 +1,6 @@
 -- Lemmas on slots, items, and the faults within them.
 pub mod Depth
+pub mod EachSlot
 pub mod EntitySlots
 pub mod FaultsBelow
 pub mod FoundWalk

@@ -19,6 +19,7 @@ pub mod Example
 pub mod Fits
 pub mod FitsPrimitive
 pub mod HasType
+pub mod HoldsEachSlot
 pub mod Row
 pub mod RowFaults
 pub mod RowReading

@@ -9,6 +9,7 @@ use Rattle.edm_values.specs.declared.value.Value.TheOpen.{Value-F}
 use Rattle.csdl_schema.specs.ExprType.{ExprType, single, collection, SingleType, structured}
 use Rattle.csdl_schema.specs.SchemaModel.{Slots, SchemaModel, PropertyModel, PropertyType, declared, opaque, navigation, slots_of, type_name_at, properties_at, HasDistinctNames, HoldsType}
 use Rattle.edm_entities.specs.Fits.{Fits}
+use Rattle.edm_entities.specs.HoldsEachSlot.{HoldsEachSlot}
 
 -- what a value stands for once its type is known: a record's names are those of its type's properties
 abbrev pub ValAtType : Type 0
@@ -85,5 +86,7 @@ pub record HoldsSlots (row : Row) : Type 0 where
 pub record IsEntity (row : Row) : Type 0 where
   pub held : HoldsType row.schema row.type_id
   pub holds_slots : HoldsSlots row
+  pub each_slot :
+      HoldsEachSlot row.value (slots_of row.schema) (single (structured (type_name_at row.schema row.type_id)))
   pub distinct : HasDistinctNames (properties_at row.schema row.type_id)
   pub conforms : Conforms row

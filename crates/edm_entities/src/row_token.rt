@@ -6,6 +6,7 @@ ghost use Rattle.serde_json.specs.Data.{Data, boolean, string};
 ghost use Rattle.csdl_schema.specs.ExprType.{ExprType, single};
 ghost use Rattle.csdl_schema.specs.SchemaModel.{Slots, slots_of};
 ghost use Rattle.edm_entities.specs.FitsPrimitive.{FitsPrimitive};
+ghost use Rattle.edm_entities.specs.HoldsEachSlot.{HoldsEachSlot};
 ghost use Rattle.edm_entities.specs.Row.{val_of};
 ghost use Rattle.edm_entities.specs.private.RowTokens.{ReadsToken, FitsHoweverNullable};
 ghost use Rattle.edm_entities.specs.private.Scalars.{IsJsonNumber, IsScalar};
@@ -54,8 +55,10 @@ pub(crate) fn take_leaf(
     token: Token<'_>,
     place: &mut Value,
 ) -> bool
-    ensures { IsTrue result → ReadsToken (token_of token.entry)
+    ensures read { IsTrue result → ReadsToken (token_of token.entry)
         (FitsHoweverNullable (slots_of schema.now) (single (wanted_single schema.now wanted.now)) place.new) }
+    ensures holds { IsTrue result
+        → HoldsEachSlot place.new (slots_of schema.now) (single (wanted_single schema.now wanted.now)) }
 {
     let Some(scalar) = scalar_of_token(token) else {
         return false;

@@ -7,11 +7,12 @@ ghost use Rattle.csdl_schema.specs.ExprType.{single, collection};
 ghost use Rattle.csdl_schema.specs.PropertyView.{property_type};
 ghost use Rattle.csdl_schema.specs.SchemaModel.{HasDistinctNames, properties_at, slots_of};
 ghost use Rattle.edm_entities.specs.Fits.{FitsProperty};
+ghost use Rattle.edm_entities.specs.HoldsEachSlot.{HoldsEachSlot};
 ghost use Rattle.edm_entities.specs.Row.{field_of, val_of};
 ghost use Rattle.edm_entities.specs.private.Lent.{IsLent};
 ghost use Rattle.edm_entities.specs.private.RowTokens.{Reads, ReadsItems, ReadsMembers, FitsNullable, FitsHoweverNullable};
 ghost use Rattle.edm_entities.specs.private.SlotsSoFar.{SlotsSoFar};
-ghost use Rattle.edm_entities.specs.private.Walk.{FitList, FitSlots, wanted_single};
+ghost use Rattle.edm_entities.specs.private.Walk.{FitList, FitSlots, HoldsInSlot, HoldInItems, wanted_single};
 
 use super::lent_piece::{LentPiece, first_piece};
 use super::row_cache::RowCache;
@@ -96,7 +97,7 @@ fn take_member<'s>(
     }
 }
 
-/// Puts the value of a property into its place. One that is not looked at leaves what stands there.
+/// Puts the value of a property into its place. One that is not looked at is held as null.
 #[cycle(row)]
 fn take_property(
     cache: &mut RowCache,
@@ -106,11 +107,14 @@ fn take_property(
     depth: usize,
     place: &mut Value,
 ) -> bool
-    ensures { IsTrue result → Reads depth reader.old reader.new (λ json. FitsProperty (slots_of schema.now)
+    ensures read { IsTrue result → Reads depth reader.old reader.new (λ json. FitsProperty (slots_of schema.now)
         property.nullable (property_type schema.now property) (Some json)
         (field_of (slots_of schema.now) (property_type schema.now property) (val_of place.new))) }
+    ensures holds { IsTrue result
+        → HoldsInSlot (slots_of schema.now) (property_type schema.now property) place.new }
 {
     let Some(wanted) = wanted_as(property.kind) else {
+        *place = Value::Null;
         return skip_value(reader, depth);
     };
     if property.many {
@@ -147,8 +151,10 @@ fn take_single(
     depth: usize,
     place: &mut Value,
 ) -> bool
-    ensures { IsTrue result → Reads depth reader.old reader.new (FitsNullable (slots_of schema.now) nullable nullable
-        (single (wanted_single schema.now wanted.now)) place.new) }
+    ensures read { IsTrue result → Reads depth reader.old reader.new (FitsNullable (slots_of schema.now) nullable
+        nullable (single (wanted_single schema.now wanted.now)) place.new) }
+    ensures holds { IsTrue result
+        → HoldsEachSlot place.new (slots_of schema.now) (single (wanted_single schema.now wanted.now)) }
 {
     let Some(token) = reader.next() else {
         return false;
@@ -178,8 +184,10 @@ fn take_record(
     depth: usize,
     place: &mut Value,
 ) -> bool
-    ensures { IsTrue result → Reads depth (begin_object ∷ reader.old) reader.new
+    ensures read { IsTrue result → Reads depth (begin_object ∷ reader.old) reader.new
         (FitsHoweverNullable (slots_of schema.now) (single (wanted_single schema.now wanted.now)) place.new) }
+    ensures holds { IsTrue result
+        → HoldsEachSlot place.new (slots_of schema.now) (single (wanted_single schema.now wanted.now)) }
 {
     if depth == 0 {
         return false;
@@ -207,8 +215,10 @@ fn take_array(
     depth: usize,
     place: &mut Value,
 ) -> bool
-    ensures { IsTrue result → Reads depth reader.old reader.new (FitsNullable (slots_of schema.now) false nullable
-        (collection (wanted_single schema.now wanted.now)) place.new) }
+    ensures read { IsTrue result → Reads depth reader.old reader.new (FitsNullable (slots_of schema.now) false
+        nullable (collection (wanted_single schema.now wanted.now)) place.new) }
+    ensures holds { IsTrue result
+        → HoldsEachSlot place.new (slots_of schema.now) (collection (wanted_single schema.now wanted.now)) }
 {
     let Some(Token::BeginArray) = reader.next() else {
         return false;
@@ -235,8 +245,10 @@ fn take_items(
     reader: &mut TokenReader<'_>,
     depth: usize,
 ) -> Option<Vec<Value>>
-    ensures { IfSome result (λ values. ReadsItems depth reader.old reader.new
+    ensures read { IfSome result (λ values. ReadsItems depth reader.old reader.new
         (λ jsons. FitList (slots_of schema.now) nullable (wanted_single schema.now wanted.now) jsons values.items)) }
+    ensures holds { IfSome result
+        (λ values. HoldInItems (slots_of schema.now) (wanted_single schema.now wanted.now) values.items) }
 {
     let mut values = cache.list();
     'items: while !reader.take_end_array() {

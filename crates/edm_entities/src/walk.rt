@@ -7,10 +7,11 @@ ghost use Rattle.csdl_schema.specs.ExprType.{single, collection, structured};
 ghost use Rattle.csdl_schema.specs.PropertyView.{property_type};
 ghost use Rattle.csdl_schema.specs.SchemaModel.{HasDistinctNames, properties_at, slots_of, type_name_at};
 ghost use Rattle.edm_entities.specs.Fits.{FitsFound, FitsProperty, FitsType};
+ghost use Rattle.edm_entities.specs.HoldsEachSlot.{HoldsEachSlot};
 ghost use Rattle.edm_entities.specs.Row.{field_of, val_of};
 ghost use Rattle.edm_entities.specs.RowFaults.{IsFoundFault, IsPropertyFault, IsValueFault};
 ghost use Rattle.edm_entities.specs.private.Faults.{IsFaultOf};
-ghost use Rattle.edm_entities.specs.private.Walk.{FitSlots, FitList, wanted_single};
+ghost use Rattle.edm_entities.specs.private.Walk.{FitSlots, FitList, HoldsInSlot, HoldInItems, wanted_single};
 
 use super::flaw::{ReadFault, ReadFlaw, fault_below, fault_here, fault_in_item};
 use super::leaf::{absent_value, leaf_read, null_value, read_member, read_primitive};
@@ -71,6 +72,7 @@ fn read_property(
     ensures fits { IfOk result (λ v. FitsProperty (slots_of schema.now) property.nullable
         (property_type schema.now property) (option_map (λ json. view json.now) found.entry)
         (field_of (slots_of schema.now) (property_type schema.now property) (val_of v))) }
+    ensures holds { IfOk result (HoldsInSlot (slots_of schema.now) (property_type schema.now property)) }
     ensures fault { IfErr result (IsFaultOf (IsPropertyFault (slots_of schema.now) property.nullable
         (property_type schema.now property) (option_map (λ json. view json.now) found.entry))) }
 {
@@ -100,6 +102,8 @@ fn read_single(
         (val_of v (slots_of schema.now) (single (wanted_single schema.now wanted.now)))
         (λ found. FitsType (slots_of schema.now) nullable (single (wanted_single schema.now wanted.now)) found
         (val_of v (slots_of schema.now) (single (wanted_single schema.now wanted.now))))) }
+    ensures holds { IfOk result
+        (λ v. HoldsEachSlot v (slots_of schema.now) (single (wanted_single schema.now wanted.now))) }
     ensures fault { IfErr result (IsFaultOf (λ path flaw. IsFoundFault (Some (view json.now)) nullable path flaw
         (λ found. IsValueFault (slots_of schema.now) nullable path
         (single (wanted_single schema.now wanted.now)) found flaw))) }
@@ -121,6 +125,8 @@ fn read_value(
     ensures fits { (nullable : Bool) → IfOk result (λ v. FitsType (slots_of schema.now) nullable
         (single (wanted_single schema.now wanted.now)) (view json.now)
         (val_of v (slots_of schema.now) (single (wanted_single schema.now wanted.now)))) }
+    ensures holds { IfOk result
+        (λ v. HoldsEachSlot v (slots_of schema.now) (single (wanted_single schema.now wanted.now))) }
     ensures fault { (nullable : Bool) → IfErr result (IsFaultOf (λ path flaw. IsValueFault (slots_of schema.now)
         nullable path (single (wanted_single schema.now wanted.now)) (view json.now) flaw)) }
 {
@@ -147,6 +153,8 @@ fn read_items(
         (val_of v (slots_of schema.now) (collection (wanted_single schema.now wanted.now)))
         (λ found. FitsType (slots_of schema.now) nullable (collection (wanted_single schema.now wanted.now)) found
         (val_of v (slots_of schema.now) (collection (wanted_single schema.now wanted.now))))) }
+    ensures holds { IfOk result
+        (λ v. HoldsEachSlot v (slots_of schema.now) (collection (wanted_single schema.now wanted.now))) }
     ensures fault { IfErr result (IsFaultOf (λ path flaw. IsFoundFault (Some (view json.now)) false path flaw
         (λ found. IsValueFault (slots_of schema.now) nullable path
         (collection (wanted_single schema.now wanted.now)) found flaw))) }
@@ -174,6 +182,8 @@ fn read_list(
 ) -> Result<Vec<Value>, ReadFault>
     ensures fits { IfOk result (λ values. FitList (slots_of schema.now) nullable (wanted_single schema.now wanted.now)
         (items_view items.now) values.items) }
+    ensures holds { IfOk result
+        (λ values. HoldInItems (slots_of schema.now) (wanted_single schema.now wanted.now) values.items) }
     ensures fault { IfErr result (IsFaultOf (λ path flaw. IsValueFault (slots_of schema.now) nullable path
         (collection (wanted_single schema.now wanted.now)) (array (items_view items.now)) flaw)) }
 {

@@ -11,7 +11,8 @@ use Rattle.csdl_schema.specs.declared.property.Property.{Property}
 use Rattle.edm_entities.specs.Fits.{FitsProperty}
 use Rattle.edm_entities.specs.Row.{field_of, val_of}
 use Rattle.edm_entities.specs.private.SlotsSoFar.{HoldsSoFar, SlotsSoFar, may_be_absent, IsFilled}
-use Rattle.edm_entities.specs.private.Walk.{HoldEach, FitsSlot, FitSlots}
+use Rattle.edm_entities.specs.private.Walk.{HoldEach, FitsSlot, FitSlots, HoldsInSlot}
+use Rattle.edm_entities.proofs.SlotLemmas.EachSlot.{null_in_slot}
 use Rattle.edm_entities.proofs.SlotLemmas.FoundWalk.{val_of-Null}
 
 abbrev found_in : Members → List ℕ → Option Data
@@ -33,7 +34,7 @@ module _ (slots : Slots) (found : Members) (name : List ℕ) (json : Data) where
   other_holds : (p : PropertyModel) (v : Value) → p.name ≢ name → HoldsSoFar slots (found_in found) p v → HoldsSoFar slots (found_in (put name json found)) p v
   other_holds p v other (inl (none, null)) = inl (get_member-put_other p.name name json found other ∙ none, null)
   other_holds p v other (inr fits) =
-      inr (subst (λ (o : Option Data). FitsProperty slots p.nullable p.type_of o (field_of slots p.type_of (val_of v))) (sym (get_member-put_other p.name name json found other)) fits)
+      inr (subst (λ (o : Option Data). FitsProperty slots p.nullable p.type_of o (field_of slots p.type_of (val_of v))) (sym (get_member-put_other p.name name json found other)) fits.0, fits.1)
 
   pub others_hold : (ps : List PropertyModel) (values : List Value) → AllByRecursion (λ p. p.name ≢ name) ps → HoldEach (HoldsSoFar slots (found_in found)) ps values
       → HoldEach (HoldsSoFar slots (found_in (put name json found))) ps values
@@ -49,17 +50,17 @@ module _ (slots : Slots) (found : Members) (name : List ℕ) (json : Data) where
   apart first (p ∷ ps) (suc n) others at = apart first ps n others.1 at
 
   pub slot_set : (ps : List PropertyModel) (values : List Value) (n : ℕ) (v : Value) → HasDistinctNames ps → slice_get (map (λ p. p.name) ps) n ≡ Some name
-      → IfSome (slice_get ps n) (λ p. FitsProperty slots p.nullable p.type_of (Some json) (field_of slots p.type_of (val_of v)))
+      → IfSome (slice_get ps n) (λ p. FitsProperty slots p.nullable p.type_of (Some json) (field_of slots p.type_of (val_of v))) → IfSome (slice_get ps n) (λ p. HoldsInSlot slots p.type_of v)
       → HoldEach (HoldsSoFar slots (found_in found)) ps values → HoldEach (HoldsSoFar slots (found_in (put name json found))) ps (slice_set values n v)
-  slot_set [] values n v distinct at fits hold = absurd (cc)
-  slot_set (p ∷ ps) [] n v distinct at fits hold = absurd hold
-  slot_set (p ∷ ps) (w ∷ values) zero v distinct at fits hold =
+  slot_set [] values n v distinct at fits holds hold = absurd (cc)
+  slot_set (p ∷ ps) [] n v distinct at fits holds hold = absurd hold
+  slot_set (p ∷ ps) (w ∷ values) zero v distinct at fits holds hold =
       let named : p.name ≡ name = cc in
       let here : Some json ≡ get_member p.name (put name json found) = sym (ap (λ (s : List ℕ). get_member s (put name json found)) named ∙ get_member-put name json found) in
       let others = subst (λ (s : List ℕ). AllByRecursion (λ q. q.name ≢ s) ps) named distinct.0 in
-      (inr (subst (λ (o : Option Data). FitsProperty slots p.nullable p.type_of o (field_of slots p.type_of (val_of v))) here fits), others_hold ps values others hold.1)
-  slot_set (p ∷ ps) (w ∷ values) (suc n) v distinct at fits hold =
-      (other_holds p w (apart p.name ps n distinct.0 at) hold.0, slot_set ps values n v distinct.1 at fits hold.1)
+      (inr (subst (λ (o : Option Data). FitsProperty slots p.nullable p.type_of o (field_of slots p.type_of (val_of v))) here fits, holds), others_hold ps values others hold.1)
+  slot_set (p ∷ ps) (w ∷ values) (suc n) v distinct at fits holds hold =
+      (other_holds p w (apart p.name ps n distinct.0 at) hold.0, slot_set ps values n v distinct.1 at fits holds hold.1)
 
 -- ---- at the end
 
@@ -73,7 +74,7 @@ absent_fits slots navigation nullable found v none null may = tt
 
 slot_fits : (slots : Slots) (found : List ℕ → Option Data) (p : PropertyModel) (v : Value) → HoldsSoFar slots found p v → IsFilled p v → FitsSlot slots found p v
 slot_fits slots found p v (inr fits) filled = fits
-slot_fits slots found p v (inl (none, null)) (inl may) = absent_fits slots p.type_of p.nullable (found p.name) v none null may
+slot_fits slots found p v (inl (none, null)) (inl may) = (absent_fits slots p.type_of p.nullable (found p.name) v none null may, null_in_slot slots p.type_of v null)
 slot_fits slots found p v (inl (none, null)) (inr some) = absurd (some null)
 
 each_fits : (slots : Slots) (found : List ℕ → Option Data) (ps : List PropertyModel) (values : List Value) → HoldEach (HoldsSoFar slots found) ps values → HoldEach IsFilled ps values

@@ -8,6 +8,7 @@ use Rattle.csdl_schema.specs.SchemaModel.{SchemaModel, Slots, HasDistinctNames, 
 use Rattle.edm_entities.specs.Fits.{Fits, FitsType}
 use Rattle.edm_entities.specs.Row.{IsEntity, row_of, val_of, record_of, list_of, value_of}
 use Rattle.edm_entities.specs.private.Walk.{FitsSlot, FitSlots}
+use Rattle.edm_entities.proofs.SlotLemmas.EachSlot.{slots_held}
 use Rattle.edm_entities.proofs.SlotLemmas.SlotsByName.{record_fits, as_many}
 
 pub val_of-Record : (slots : Slots) (type : ExprType) (v : Vec Value Global) → val_of (Record v) slots type ≡ record_of slots type (map val_of v.items)
@@ -35,6 +36,7 @@ is_entity schema id json values held distinct is_object fits =
     record {
       held = held;
       holds_slots = record { slots = values; value_is = refl; as_many = as_many (FitsSlot (slots_of schema) (λ name. get name json)) (properties_at schema id) values.items fits };
+      each_slot = slots_held schema id (λ name. get name json) values fits;
       distinct = distinct;
       conforms = (json, entity_fits schema id json values distinct is_object fits);
     }

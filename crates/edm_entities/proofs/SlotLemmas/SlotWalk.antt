@@ -13,7 +13,7 @@ use Rattle.edm_entities.specs.FitsPrimitive.{Flaw}
 use Rattle.edm_entities.specs.Row.{field_of, val_of}
 use Rattle.edm_entities.specs.RowFaults.{Path, HasFitting, IsPropertyFault, IsValueFault}
 use Rattle.edm_entities.specs.private.Faults.{IsFaultOf, IsBelow}
-use Rattle.edm_entities.specs.private.Walk.{HoldEach, FitsSlot, FitSlots}
+use Rattle.edm_entities.specs.private.Walk.{HoldEach, FitsSlot, FitSlots, HoldsInSlot}
 use Rattle.edm_entities.specs.declared.flaw.ReadFault.{ReadFault}
 use Rattle.edm_entities.proofs.SlotLemmas.FaultsBelow.{fault_below}
 
@@ -31,7 +31,7 @@ some_fit : (slots : Slots) (json : Data) (properties : List PropertyModel) (valu
     → AllByRecursion (HasFitting slots json) properties
 some_fit slots json [] values fits = tt
 some_fit slots json (p ∷ ps) [] fits = absurd fits
-some_fit slots json (p ∷ ps) (v ∷ values) fits = ((field_of slots p.type_of (val_of v), fits.0), some_fit slots json ps values fits.1)
+some_fit slots json (p ∷ ps) (v ∷ values) fits = ((field_of slots p.type_of (val_of v), fits.0.0), some_fit slots json ps values fits.1)
 
 cut_at : (properties : List PropertyModel) (n : ℕ) (p : PropertyModel) → slice_get properties n ≡ Some p → properties ≡ take n properties ++ p ∷ drop (suc n) properties
 cut_at [] n p at = absurd (cc)
@@ -71,13 +71,14 @@ module _ (schema : SchemaModel) (id n : ℕ) (json : Data) (values : List Value)
 
   -- a value that fits its property takes its slot
   pub slot_pushed : (v : Value) → FitsProperty (slots_of schema) property.nullable (property_type schema property) (get name json) (field_of (slots_of schema) (property_type schema property) (val_of v))
-      → FitSlots (slots_of schema) json (take (suc n) (properties_at schema id)) (values ++ v ∷ [])
-  slot_pushed v here =
+      → HoldsInSlot (slots_of schema) (property_type schema property) v → FitSlots (slots_of schema) json (take (suc n) (properties_at schema id)) (values ++ v ∷ [])
+  slot_pushed v here holds =
       let by_type : FitsProperty (slots_of schema) property.nullable slot.model.type_of (get name json) (field_of (slots_of schema) slot.model.type_of (val_of v)) =
       subst (λ (t : PropertyType). FitsProperty (slots_of schema) property.nullable t (get name json) (field_of (slots_of schema) t (val_of v))) slot.type_of here in
       let by_null = subst (λ (b : Bool). FitsProperty (slots_of schema) b slot.model.type_of (get name json) (field_of (slots_of schema) slot.model.type_of (val_of v))) slot.nullable by_type in
       let by_name = subst (λ (s : List ℕ). FitsProperty (slots_of schema) slot.model.nullable slot.model.type_of (get s json) (field_of (slots_of schema) slot.model.type_of (val_of v))) (sym slot.named) by_null in
-      hold_push (FitsSlot (slots_of schema) (λ s. get s json)) (properties_at schema id) n values v slot.model slot.at_slot fits by_name
+      hold_push (FitsSlot (slots_of schema) (λ s. get s json)) (properties_at schema id) n values v slot.model slot.at_slot fits
+      (by_name, subst (λ (t : PropertyType). HoldsInSlot (slots_of schema) t v) slot.type_of holds)
 
   -- a fault of a property is the first of the object
   slot_fault : (nullable : Bool) (path : Path) (flaw : Flaw) → IsSome (as_object json)

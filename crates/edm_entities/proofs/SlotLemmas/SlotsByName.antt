@@ -49,7 +49,7 @@ each_fits : (slots : Slots) (found : List ℕ → Option Data) (properties : Lis
 each_fits slots found [] values distinct fits = tt
 each_fits slots found (p ∷ ps) [] distinct fits = absurd fits
 each_fits slots found (p ∷ ps) (v ∷ values) distinct fits = (
-  subst (FitsProperty slots p.nullable p.type_of (found p.name)) (sym (here slots p ps (val_of v) (map val_of values))) fits.0,
+  subst (FitsProperty slots p.nullable p.type_of (found p.name)) (sym (here slots p ps (val_of v) (map val_of values))) fits.0.0,
   fits_shifted slots found p ps v values ps distinct.0 (each_fits slots found ps values distinct.1 fits.1),
 )
 

@@ -1,13 +1,14 @@
 -- For private clauses: what the walk over an object's slots and an array's items has read so far.
-use Rattle.std.specs.Prelude.{ℕ, List, [], ◌∷◌, Bool, Option, Some, None, map}
+use Rattle.std.specs.Prelude.{◌≡◌, ℕ, List, [], ◌∷◌, Bool, true, Option, Some, None, map}
 use Rattle.serde_json.specs.Data.{Data, Items}
 use Rattle.serde_json.specs.Find.{get}
 use Rattle.edm_values.specs.declared.value.Value.{Value}
 use Rattle.csdl_schema.specs.ExprType.{SingleType, primitive, enumeration, structured}
-use Rattle.csdl_schema.specs.SchemaModel.{SchemaModel, Slots, PropertyModel, type_name_at}
+use Rattle.csdl_schema.specs.SchemaModel.{SchemaModel, Slots, PropertyModel, PropertyType, type_name_at}
 use Rattle.csdl_schema.specs.declared.property.PropertyKind.{PropertyKind}
 use Rattle.csdl_schema.specs.declared.property.PropertyKind.TheVariants as kind
 use Rattle.edm_entities.specs.Fits.{FitsProperty, FitItems}
+use Rattle.edm_entities.specs.HoldsEachSlot.{holding_of, items_hold, slot_holds}
 use Rattle.edm_entities.specs.Row.{field_of, items_of, val_of}
 use Rattle.edm_entities.specs.declared.wanted.Wanted.{Wanted}
 use Rattle.edm_entities.specs.declared.wanted.Wanted.TheVariants.{Prim, Enum, Complex}
@@ -32,14 +33,23 @@ HoldEach Q [] [] = Unit {0}
 HoldEach Q (p ∷ ps) (value ∷ values) = Q p value × HoldEach Q ps values
 HoldEach Q _ _ = ⊥
 
--- a slot's value is what fits what was found under the property's name
+-- what stands in the slot of a property of that type: null of one that is not looked at
+abbrev pub HoldsInSlot : Slots → PropertyType → Value → Type 0
+HoldsInSlot slots type value = slot_holds slots type (holding_of value) ≡ true
+
+-- a slot's value is what fits what was found under the property's name, and null where the property is not looked at
 abbrev pub FitsSlot : Slots → (List ℕ → Option Data) → PropertyModel → Value → Type 0
 FitsSlot slots found p value =
     FitsProperty slots p.nullable p.type_of (found p.name) (field_of slots p.type_of (val_of value))
+    × HoldsInSlot slots p.type_of value
 
 -- these slots hold values that fit the members of an object
 abbrev pub FitSlots : Slots → Data → List PropertyModel → List Value → Type 0
 FitSlots slots json properties values = HoldEach (FitsSlot slots (λ name. get name json)) properties values
+
+-- each of these values, as an item of that type, holds one value for each slot
+abbrev pub HoldInItems : Slots → SingleType → List Value → Type 0
+HoldInItems slots type values = items_hold slots type (map holding_of values) ≡ true
 
 -- these values fit the items of an array
 abbrev pub FitList : Slots → Bool → SingleType → Items → List Value → Type 0

@@ -1,11 +1,11 @@
-use Rattle.std.proofs.Common.{◌≡◌, ◌<◌, ◌∷◌, ◌++◌, [], false, length, Some, None, replicate, slice_get, slice_set, sym, ap, ◌∙◌, subst, rules, arith}
+use Rattle.std.proofs.Common.{◌≡◌, ◌<◌, ◌∷◌, ◌++◌, [], false, length, Some, None, replicate, slice_get, slice_set, refl, sym, ap, ◌∙◌, subst, rules, arith}
 use Rattle.std.proofs.lemmas.Grind.{common_steps}
 use Rattle.json.specs.Token.{Token}
 use Rattle.json.specs.Json.{after_end_array, read_key}
 use Rattle.json.specs.Reads.{token_of}
 use Rattle.json.proofs.Grammar.{read_key-shorter}
 use Rattle.serde_json.specs.Data.{Data, no_items, item, Members, object, put}
-use Rattle.serde_json.specs.Find.{get_member}
+use Rattle.serde_json.specs.Find.{get, get_member}
 use Rattle.edm_values.specs.declared.value.Value.{Null, Record, List as ListOf}
 use Rattle.csdl_schema.specs.ExprType.{single, collection, structured, SingleType}
 use Rattle.csdl_schema.specs.PropertyView.{property_type}
@@ -14,17 +14,18 @@ use Rattle.edm_entities.specs.Fits.{FitsProperty}
 use Rattle.edm_entities.specs.Row.{field_of, val_of}
 use Rattle.edm_entities.specs.private.RowTokens.{Reads, ReadsMembers, append_items, FitsNullable, FitsHoweverNullable}
 use Rattle.edm_entities.specs.private.SlotsSoFar.{HoldsSoFar, SlotsSoFar, IsFilled}
-use Rattle.edm_entities.specs.private.Walk.{HoldEach, FitList, FitSlots, wanted_single}
+use Rattle.edm_entities.specs.private.Walk.{HoldEach, FitList, FitSlots, HoldInItems, wanted_single}
 use Rattle.edm_entities.proofs.RowLemmas.Leads.{members_start, member_more, members_over, items_start, item_more, items_over}
 use Rattle.edm_entities.proofs.RowLemmas.Leaves.{null_taken, some_by}
 use Rattle.edm_entities.proofs.RowLemmas.Parts.{fit_push, list_held, record_held}
 use Rattle.edm_entities.proofs.RowLemmas.SlotsRead.{slots_start, slot_set, others_hold, slots_over, property_fits}
 use Rattle.edm_entities.proofs.RowLemmas.Tokens.{read_shorter, reads_as, unclosed, object_reads, array_reads}
+use Rattle.edm_entities.proofs.SlotLemmas.EachSlot.{null_holds, slots_held, list_held as array_holds, holds_push, slot_as_read, holds_as}
 use Rattle.edm_entities.proofs.SlotLemmas.SlotsByName.{as_many}
 use Rattle.edm_entities.proofs.row_walk.+row.Goals as goal
 
-pub take_array-returns-in-Some : goal.take_array-returns-in-Some
-take_array-returns-in-Some t c done =
+pub take_array-returns-in-Some-clause-read : goal.take_array-returns-in-Some-clause-read
+take_array-returns-in-Some-clause-read t c done =
     let slots = slots_of c.args.schema.now in
     let type = wanted_single c.args.schema.now c.args.wanted.now in
     let values = c.in-Some.values in
@@ -33,21 +34,27 @@ take_array-returns-in-Some t c done =
     subst (λ ts. Reads c.args.depth ts c.take_items.new.reader (FitsNullable slots false c.args.nullable (collection type) (ListOf values))) (sym first)
     (array_reads c.args.depth c.next.new.self c.take_items.new.reader (λ jsons. FitList slots c.args.nullable type jsons values.items)
     (FitsNullable slots false c.args.nullable (collection type) (ListOf values)) (omega arith)
-    (λ jsons fits. list_held slots c.args.nullable type values jsons fits) c.in-Some.ensures)
+    (λ jsons fits. list_held slots c.args.nullable type values jsons fits) c.in-Some.ensures.read)
+
+pub take_array-returns-in-Some-clause-holds : goal.take_array-returns-in-Some-clause-holds
+take_array-returns-in-Some-clause-holds t c done =
+    array_holds (slots_of c.args.schema.now) (wanted_single c.args.schema.now c.args.wanted.now) c.in-Some.values c.in-Some.ensures.holds
 
 pub take_items-items-init : goal.take_items-items-init
 take_items-items-init t c =
     let slots = slots_of c.args.schema.now in
-    let type = wanted_single c.args.schema.now c.args.wanted.now in
-    items_start c.args.depth c.args.reader.now (λ jsons. FitList slots c.args.nullable type jsons c.list-values.result.items)
-    (subst (λ vs. FitList slots c.args.nullable type no_items vs) (sym c.list-values.ensures) tt)
+    let type = wanted_single c.args.schema.now c.args.wanted.now in (
+      items_start c.args.depth c.args.reader.now (λ jsons. FitList slots c.args.nullable type jsons c.list-values.result.items)
+          (subst (λ vs. FitList slots c.args.nullable type no_items vs) (sym c.list-values.ensures) tt),
+      subst (HoldInItems slots type) (sym c.list-values.ensures) refl,
+    )
 
 pub take_items-items-smaller : goal.take_items-items-smaller
 take_items-items-smaller t c =
     let l = c.items in
     let Q : (Data → Type 0) = FitsNullable (slots_of c.args.schema.now) c.args.nullable c.args.nullable (single (wanted_single c.args.schema.now c.args.wanted.now)) c.take_single.new.place in
     let kept : c.take_end_array.new.self ≡ l.reader = grind arith in
-    let read : Reads c.args.depth l.reader c.take_single.new.reader Q = subst (λ ts. Reads c.args.depth ts c.take_single.new.reader Q) kept (c.take_single.ensures c.if-not-take_single.false) in
+    let read : Reads c.args.depth l.reader c.take_single.new.reader Q = subst (λ ts. Reads c.args.depth ts c.take_single.new.reader Q) kept (c.take_single.ensures.read c.if-not-take_single.false) in
     let less : length c.take_single.new.reader < length l.reader = read_shorter c.args.depth l.reader c.take_single.new.reader Q read in
     omega arith
 
@@ -60,19 +67,21 @@ take_items-items-preserved t c =
     let v = c.take_single.new.place in
     let Q : (Data → Type 0) = FitsNullable slots nullable nullable (single type) v in
     let kept : c.take_end_array.new.self ≡ l.reader = grind arith in
-    let read : Reads c.args.depth l.reader c.take_single.new.reader Q = subst (λ ts. Reads c.args.depth ts c.take_single.new.reader Q) kept (c.take_single.ensures c.if-not-take_single.false) in
-    let pushed : c.push.new.self.items ≡ l.values.items ++ v ∷ [] = grind (arith, common_steps) in
-    item_more c.args.depth c.args.reader.now l.reader c.take_single.new.reader (λ jsons. FitList slots nullable type jsons l.values.items) Q
-    (λ jsons. FitList slots nullable type jsons c.push.new.self.items) (unclosed c.args.depth l.reader c.take_single.new.reader Q read)
-    (λ found json fits here. subst (λ vs. FitList slots nullable type (append_items found (item json no_items)) vs) (sym pushed)
-    (fit_push slots nullable type found l.values.items json v fits here)) read l.invariant
+    let read : Reads c.args.depth l.reader c.take_single.new.reader Q = subst (λ ts. Reads c.args.depth ts c.take_single.new.reader Q) kept (c.take_single.ensures.read c.if-not-take_single.false) in
+    let pushed : c.push.new.self.items ≡ l.values.items ++ v ∷ [] = grind (arith, common_steps) in (
+      item_more c.args.depth c.args.reader.now l.reader c.take_single.new.reader (λ jsons. FitList slots nullable type jsons l.values.items) Q
+          (λ jsons. FitList slots nullable type jsons c.push.new.self.items) (unclosed c.args.depth l.reader c.take_single.new.reader Q read)
+          (λ found json fits here. subst (λ vs. FitList slots nullable type (append_items found (item json no_items)) vs) (sym pushed)
+          (fit_push slots nullable type found l.values.items json v fits here)) read l.invariant.0,
+      subst (HoldInItems slots type) (sym pushed) (holds_push slots type l.values.items v l.invariant.1 (c.take_single.ensures.holds c.if-not-take_single.false)),
+    )
 
-pub take_items-returns : goal.take_items-returns
-take_items-returns t c =
+pub take_items-returns-clause-read : goal.take_items-returns-clause-read
+take_items-returns-clause-read t c =
     let l = c.items in
     let closed : after_end_array l.reader ≡ Some c.take_end_array.new.self = grind arith in
     items_over c.args.depth c.args.reader.now l.reader c.take_end_array.new.self
-    (λ jsons. FitList (slots_of c.args.schema.now) c.args.nullable (wanted_single c.args.schema.now c.args.wanted.now) jsons l.values.items) closed l.invariant
+    (λ jsons. FitList (slots_of c.args.schema.now) c.args.nullable (wanted_single c.args.schema.now c.args.wanted.now) jsons l.values.items) closed l.invariant.0
 
 pub take_member-returns-else-not-take_property-clause-read : goal.take_member-returns-else-not-take_property-clause-read
 take_member-returns-else-not-take_property-clause-read t c done =
@@ -88,8 +97,9 @@ take_member-returns-else-not-take_property-clause-read t c done =
     (λ json. FitsProperty slots property.nullable (property_type schema property) (Some json) (field_of slots (property_type schema property) (val_of v)))
     (λ json. (found : Members) → HasDistinctNames ps → SlotsSoFar schema c.args.type_id found values → SlotsSoFar schema c.args.type_id (put name json found) (slice_set values slot v))
     (λ json fits found distinct so_far. slot_set slots found name json ps values slot v distinct c.in-Some.ensures.slot.0
-    (property_fits schema slots (slice_get ps slot) property json v c.in-Some.ensures.slot.1 fits) so_far)
-    (c.take_property.ensures c.if-not-take_property.false)
+    (property_fits schema slots (slice_get ps slot) property json v c.in-Some.ensures.slot.1 fits)
+    (slot_as_read schema slots (slice_get ps slot) property v c.in-Some.ensures.slot.1 (c.take_property.ensures.holds c.if-not-take_property.false)) so_far)
+    (c.take_property.ensures.read c.if-not-take_property.false)
 
 pub take_member-returns-in-None-clause-read : goal.take_member-returns-in-None-clause-read
 take_member-returns-in-None-clause-read t c done =
@@ -165,8 +175,14 @@ take_members-returns-in_default-key-clause-fits t c =
     (λ found so_far. slots_over schema c.args.type_id found v.items is.1 (subst (λ w. SlotsSoFar schema c.args.type_id found w.items) (sym is.0) so_far)) l.invariant.0)
     c.if_filled.ensures
 
-pub take_record-returns-in-Some : goal.take_record-returns-in-Some
-take_record-returns-in-Some t c done =
+pub take_record-returns-in-Some-clause-holds : goal.take_record-returns-in-Some-clause-holds
+take_record-returns-in-Some-clause-holds t c done =
+    holds_as (slots_of c.args.schema.now) (wanted_single c.args.schema.now c.args.wanted.now) (structured (type_name_at c.args.schema.now c.in-Complex.id)) (Record c.in-Some.values)
+    (ap (wanted_single c.args.schema.now) c.in-Complex.is)
+    (slots_held c.args.schema.now c.in-Complex.id (λ name. get name (object c.in-Some.ensures.fits.found)) c.in-Some.values c.in-Some.ensures.fits.holds)
+
+pub take_record-returns-in-Some-clause-read : goal.take_record-returns-in-Some-clause-read
+take_record-returns-in-Some-clause-read t c done =
     let schema = c.args.schema.now in
     let slots = slots_of schema in
     let id = c.in-Complex.id in
@@ -178,8 +194,12 @@ take_record-returns-in-Some t c done =
     (FitsHoweverNullable slots (single type) (Record values)) (omega arith)
     (λ found fits. record_held schema id values found c.in-Some.ensures.distinct fits) c.in-Some.ensures.fits)
 
-pub take_single-returns-in-Null : goal.take_single-returns-in-Null
-take_single-returns-in-Null t c done =
+pub take_single-returns-in-Null-clause-holds : goal.take_single-returns-in-Null-clause-holds
+take_single-returns-in-Null-clause-holds t c done =
+    null_holds (slots_of c.args.schema.now) (single (wanted_single c.args.schema.now c.args.wanted.now)) c.put_null.new.place (c.put_null.ensures done).1
+
+pub take_single-returns-in-Null-clause-read : goal.take_single-returns-in-Null-clause-read
+take_single-returns-in-Null-clause-read t c done =
     let slots = slots_of c.args.schema.now in
     let type = wanted_single c.args.schema.now c.args.wanted.now in
     let first : c.args.reader.now ≡ Token.null ∷ c.next.new.self = c.in-Some.ensures ∙ ap (λ k. token_of k ∷ c.next.new.self) c.in-Null.is in

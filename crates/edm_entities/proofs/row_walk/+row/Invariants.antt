@@ -3,7 +3,7 @@ use Rattle.csdl_schema.specs.SchemaModel.{slots_of}
 use Rattle.edm_entities.specs.private.Lent.{IsLent}
 use Rattle.edm_entities.specs.private.RowTokens.{MembersLead, ItemsLead}
 use Rattle.edm_entities.specs.private.SlotsSoFar.{SlotsSoFar}
-use Rattle.edm_entities.specs.private.Walk.{FitList, wanted_single}
+use Rattle.edm_entities.specs.private.Walk.{FitList, HoldInItems, wanted_single}
 use Rattle.edm_entities.proofs.row_walk.+row.Given as goal
 
 -- how deep values may nest counts first, and at one depth the order of the calls
@@ -37,10 +37,11 @@ invariant-take_members-members l =
 abbrev pub decreases-take_members-members : goal.decreases-take_members-members
 decreases-take_members-members l = length l.reader
 
--- the values fit the items so far
+-- the values fit the items so far, and hold one value for each slot
 abbrev pub invariant-take_items-items : goal.invariant-take_items-items
 invariant-take_items-items l =
     ItemsLead l.depth l.initial.reader l.reader (λ jsons. FitList (slots_of l.schema) l.nullable (wanted_single l.schema l.wanted) jsons l.values.items)
+    × HoldInItems (slots_of l.schema) (wanted_single l.schema l.wanted) l.values.items
 
 abbrev pub decreases-take_items-items : goal.decreases-take_items-items
 decreases-take_items-items l = length l.reader

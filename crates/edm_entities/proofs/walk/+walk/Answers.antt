@@ -1,13 +1,14 @@
-use Rattle.std.proofs.Common.{◌≡◌, ◌<◌, ◌≤◌, ◌+◌, ◌*◌, ◌++◌, [], ◌∷◌, Bool, true, false, is_some, Option, Some, None, option_map, IfErr, sym, ap, ◌∙◌, subst, rules, arith, add-one}
+use Rattle.std.proofs.Common.{◌≡◌, ◌<◌, ◌≤◌, ◌+◌, ◌*◌, ◌++◌, [], ◌∷◌, Bool, true, false, is_some, Option, Some, None, option_map, IfErr, refl, sym, ap, ◌∙◌, subst, rules, arith, add-one}
 use Rattle.std.proofs.lemmas.Grind.{common_steps}
 use Rattle.serde_json.specs.Data.{Data, depth, items_depth}
-use Rattle.serde_json.specs.Find.{as_object}
+use Rattle.serde_json.specs.Find.{get, as_object}
 use Rattle.serde_json.specs.View.{view, items_view}
 use Rattle.csdl_schema.specs.ExprType.{single, primitive, enumeration, structured}
 use Rattle.csdl_schema.specs.PropertyView.{property_type}
 use Rattle.csdl_schema.specs.SchemaModel.{slots_of, type_name_at, declared}
 use Rattle.edm_entities.specs.Fits.{FitsFound, FitsType, FitsProperty}
-use Rattle.edm_entities.specs.FitsPrimitive.{Flaw}
+use Rattle.edm_entities.specs.FitsPrimitive.{Flaw, FitsPrimitive, FitsText, IsMemberText}
+use Rattle.edm_entities.specs.HoldsEachSlot.{HoldsEachSlot}
 use Rattle.edm_entities.specs.Row.{field_of, val_of}
 use Rattle.edm_entities.specs.RowFaults.{Path, IsFoundFault, IsValueFault, IsPropertyFault}
 use Rattle.edm_entities.specs.private.Faults.{IsFaultOf}
@@ -15,6 +16,7 @@ use Rattle.edm_entities.specs.private.Walk.{wanted_single}
 use Rattle.edm_entities.specs.declared.flaw.ReadFlaw.TheVariants as code
 use Rattle.edm_values.specs.declared.value.Value.{Null, Record}
 use Rattle.edm_entities.proofs.SlotLemmas.Depth.{found_measure, found_less, item_within}
+use Rattle.edm_entities.proofs.SlotLemmas.EachSlot.{null_holds, null_in_slot, primitive_holds, member_holds, slots_held, list_held, holds_push, holds_as}
 use Rattle.edm_entities.proofs.SlotLemmas.FaultsBelow.{fault_by}
 use Rattle.edm_entities.proofs.SlotLemmas.FoundWalk.{ok_by, err_by, told_here, other_fits, other_fault, null_fits, null_flaw, type_wanted, wanted_type, unwanted_fits, fault_held}
 use Rattle.edm_entities.proofs.SlotLemmas.ItemWalk.{item_there, list_push, list_fault}
@@ -36,7 +38,8 @@ read_slots-loop-slot-preserved t c =
     let read = slot_pushed c.args.schema.now c.args.type_id l.slot (view c.args.json.now) l.values.items c.at.result.0.now c.at.result.1.now
     c.at.ensures.name c.at.ensures.property l.invariant.0 c.in-Ok-read_property.value
     (subst (λ (o : Option Data). FitsProperty (slots_of c.args.schema.now) c.at.result.1.now.nullable (property_type c.args.schema.now c.at.result.1.now) o
-    (field_of (slots_of c.args.schema.now) (property_type c.args.schema.now c.at.result.1.now) (val_of c.in-Ok-read_property.value))) c.find.ensures.found c.in-Ok-read_property.ensures.fits) in
+    (field_of (slots_of c.args.schema.now) (property_type c.args.schema.now c.at.result.1.now) (val_of c.in-Ok-read_property.value))) c.find.ensures.found c.in-Ok-read_property.ensures.fits)
+    c.in-Ok-read_property.ensures.holds in
     rw (pushed, add-one) (read, c.at.ensures.lent, c.find.ensures.walk)
 
 pub read_slots-returns-in-Err-clause-fault : goal.read_slots-returns-in-Err-clause-fault
@@ -67,6 +70,9 @@ pub read_property-returns-in_default-clause-fits : goal.read_property-returns-in
 read_property-returns-in_default-clause-fits t c =
     unwanted_fits c.args.schema.now (slots_of c.args.schema.now) c.args.property.nullable c.args.property.kind c.args.property.many _ (val_of _) (sym c.wanted_as.ensures ∙ c.in_default.is)
 
+pub read_property-returns-in_default-clause-holds : goal.read_property-returns-in_default-clause-holds
+read_property-returns-in_default-clause-holds t c = null_in_slot (slots_of c.args.schema.now) (property_type c.args.schema.now c.args.property) Null refl
+
 pub read_property-returns-else-property-clause-fault : goal.read_property-returns-else-property-clause-fault
 read_property-returns-else-property-clause-fault t c =
     let schema = c.args.schema.now in
@@ -93,6 +99,12 @@ read_single-returns-then-is_null-clause-fits t c =
     (λ found. FitsType (slots_of c.args.schema.now) c.args.nullable type found (val_of v (slots_of c.args.schema.now) type)))
     (λ v is. null_fits (view c.args.json.now) c.args.nullable (slots_of c.args.schema.now) type v _ (sym c.is_null.ensures ∙ c.if-is_null.true) is.0 is.1)
     c.null_value.ensures.value
+
+pub read_single-returns-then-is_null-clause-holds : goal.read_single-returns-then-is_null-clause-holds
+read_single-returns-then-is_null-clause-holds t c =
+    let type = single (wanted_single c.args.schema.now c.args.wanted.now) in
+    ok_by c.null_value.result (λ v. (c.args.nullable ≡ true) × (v ≡ Null)) (λ v. HoldsEachSlot v (slots_of c.args.schema.now) type)
+    (λ v is. null_holds (slots_of c.args.schema.now) type v is.1) c.null_value.ensures.value
 
 pub read_single-returns-then-is_null-clause-fault : goal.read_single-returns-then-is_null-clause-fault
 read_single-returns-then-is_null-clause-fault t c =
@@ -130,6 +142,16 @@ read_value-returns-in-Prim-clause-fits t c nullable =
     (leaf_fits c.read_primitive.result c.leaf_read.result (λ v. FitsType (slots_of c.args.schema.now) nullable type (view c.args.json.now) (val_of v (slots_of c.args.schema.now) type))
     c.leaf_read.ensures.value (c.read_primitive.ensures.fits (view c.args.json.now) (slots_of c.args.schema.now) type c.scalar_of.ensures))
 
+pub read_value-returns-in-Prim-clause-holds : goal.read_value-returns-in-Prim-clause-holds
+read_value-returns-in-Prim-clause-holds t c =
+    let slots = slots_of c.args.schema.now in
+    let type = primitive c.in-Prim.prim in
+    let wanted = wanted_single c.args.schema.now c.args.wanted.now in
+    leaf_fits c.read_primitive.result c.leaf_read.result (λ v. HoldsEachSlot v slots (single wanted)) c.leaf_read.ensures.value
+    (ok_by c.read_primitive.result (λ v. FitsPrimitive c.in-Prim.prim (view c.args.json.now) (val_of v slots (single type))) (λ v. HoldsEachSlot v slots (single wanted))
+    (λ v fits. holds_as slots wanted type v (ap (wanted_single c.args.schema.now) c.in-Prim.is) (primitive_holds slots c.in-Prim.prim (view c.args.json.now) v fits))
+    (c.read_primitive.ensures.fits (view c.args.json.now) slots (single type) c.scalar_of.ensures))
+
 pub read_value-returns-in-Prim-clause-fault : goal.read_value-returns-in-Prim-clause-fault
 read_value-returns-in-Prim-clause-fault t c nullable =
     rw c.in-Prim.is (leaf_fault c.read_primitive.result c.leaf_read.result
@@ -145,6 +167,16 @@ read_value-returns-in-Enum-clause-fits t c nullable =
     (λ v. FitsType (slots_of c.args.schema.now) nullable type (view c.args.json.now) (val_of v (slots_of c.args.schema.now) type))
     c.leaf_read-in-Enum.ensures.value (c.read_member.ensures.fits (view c.args.json.now) (slots_of c.args.schema.now) type c.scalar_of-in-Enum.ensures))
 
+pub read_value-returns-in-Enum-clause-holds : goal.read_value-returns-in-Enum-clause-holds
+read_value-returns-in-Enum-clause-holds t c =
+    let slots = slots_of c.args.schema.now in
+    let name = type_name_at c.args.schema.now c.in-Enum.id in
+    let wanted = wanted_single c.args.schema.now c.args.wanted.now in
+    leaf_fits c.read_member.result c.leaf_read-in-Enum.result (λ v. HoldsEachSlot v slots (single wanted)) c.leaf_read-in-Enum.ensures.value
+    (ok_by c.read_member.result (λ v. FitsText (IsMemberText (slots.enumerations name)) (view c.args.json.now) (val_of v slots (single (enumeration name)))) (λ v. HoldsEachSlot v slots (single wanted))
+    (λ v fits. holds_as slots wanted (enumeration name) v (ap (wanted_single c.args.schema.now) c.in-Enum.is) (member_holds slots name (view c.args.json.now) v fits))
+    (c.read_member.ensures.fits (view c.args.json.now) slots (single (enumeration name)) c.scalar_of-in-Enum.ensures))
+
 pub read_value-returns-in-Enum-clause-fault : goal.read_value-returns-in-Enum-clause-fault
 read_value-returns-in-Enum-clause-fault t c nullable =
     let type = single (enumeration (type_name_at c.args.schema.now c.in-Enum.id)) in
@@ -158,6 +190,11 @@ read_value-returns-in-Ok-clause-fits t c nullable =
     (Record c.in-Ok.values) (ap (wanted_single c.args.schema.now) c.in-Complex.is)
     (slots_fit c.args.schema.now c.in-Complex.id nullable (view c.args.json.now) c.in-Ok.values c.in-Ok.ensures.distinct c.in-Ok.ensures.object c.in-Ok.ensures.fits)
 
+pub read_value-returns-in-Ok-clause-holds : goal.read_value-returns-in-Ok-clause-holds
+read_value-returns-in-Ok-clause-holds t c =
+    holds_as (slots_of c.args.schema.now) (wanted_single c.args.schema.now c.args.wanted.now) (structured (type_name_at c.args.schema.now c.in-Complex.id)) (Record c.in-Ok.values)
+    (ap (wanted_single c.args.schema.now) c.in-Complex.is) (slots_held c.args.schema.now c.in-Complex.id (λ name. get name (view c.args.json.now)) c.in-Ok.values c.in-Ok.ensures.fits)
+
 pub read_value-returns-in-Err-clause-fault : goal.read_value-returns-in-Err-clause-fault
 read_value-returns-in-Err-clause-fault t c nullable =
     rw c.in-Complex.is (record_fault (slots_of c.args.schema.now) false nullable (type_name_at c.args.schema.now c.in-Complex.id) (view c.args.json.now) c.in-Err.fault c.in-Err.ensures.fault)
@@ -166,6 +203,10 @@ pub read_items-returns-in-Ok-clause-fits : goal.read_items-returns-in-Ok-clause-
 read_items-returns-in-Ok-clause-fits t c =
     array_fits (slots_of c.args.schema.now) c.args.nullable (wanted_single c.args.schema.now c.args.wanted.now) (view c.args.json.now) (items_view c.in-Some.items.now.items) c.in-Ok.values
     (sym c.as_array.ensures ∙ ap (option_map (λ v. items_view v.now.items)) c.in-Some.is) (rw c.as_slice.ensures.value at c.in-Ok.ensures.fits)
+
+pub read_items-returns-in-Ok-clause-holds : goal.read_items-returns-in-Ok-clause-holds
+read_items-returns-in-Ok-clause-holds t c =
+    list_held (slots_of c.args.schema.now) (wanted_single c.args.schema.now c.args.wanted.now) c.in-Ok.values c.in-Ok.ensures.holds
 
 pub read_items-returns-in-Err-clause-fault : goal.read_items-returns-in-Err-clause-fault
 read_items-returns-in-Err-clause-fault t c =
@@ -186,8 +227,11 @@ read_list-loop-index-preserved t c =
     let x = c.index-items-index.result in
     let at = item_there c.args.items.now l.index x (omega arith) c.index-items-index.is in
     let pushed : c.push.new.self.items ≡ l.values.items ++ c.in-Ok-read_single.value ∷ [] = grind (arith, common_steps) in
-    rw (pushed, add-one) (list_push (slots_of c.args.schema.now) c.args.nullable (wanted_single c.args.schema.now c.args.wanted.now) c.args.items.now l.index l.values.items x c.in-Ok-read_single.value
-    at l.invariant c.in-Ok-read_single.ensures.fits)
+    rw (pushed, add-one) (
+      list_push (slots_of c.args.schema.now) c.args.nullable (wanted_single c.args.schema.now c.args.wanted.now) c.args.items.now l.index l.values.items x c.in-Ok-read_single.value
+          at l.invariant.0 c.in-Ok-read_single.ensures.fits,
+      holds_push (slots_of c.args.schema.now) (wanted_single c.args.schema.now c.args.wanted.now) l.values.items c.in-Ok-read_single.value l.invariant.1 c.in-Ok-read_single.ensures.holds,
+    )
 
 pub read_list-returns-in-Err-clause-fault : goal.read_list-returns-in-Err-clause-fault
 read_list-returns-in-Err-clause-fault t c =
@@ -195,4 +239,4 @@ read_list-returns-in-Err-clause-fault t c =
     let x = c.index-items-index.result in
     let at = item_there c.args.items.now l.index x (omega arith) c.index-items-index.is in
     list_fault (slots_of c.args.schema.now) c.args.nullable (wanted_single c.args.schema.now c.args.wanted.now) c.args.items.now l.index l.values.items x c.in-Err.fault c.fault_in_item.result
-    at l.invariant c.fault_in_item.ensures c.in-Err.ensures.fault
+    at l.invariant.0 c.fault_in_item.ensures c.in-Err.ensures.fault

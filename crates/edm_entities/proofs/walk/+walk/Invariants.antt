@@ -4,7 +4,7 @@ use Rattle.serde_json.specs.View.{view, items_view}
 use Rattle.csdl_schema.specs.SchemaModel.{properties_at, slots_of}
 use Rattle.edm_entities.specs.private.Lent.{IsLent}
 use Rattle.edm_entities.specs.private.Members.{IsWalkOf}
-use Rattle.edm_entities.specs.private.Walk.{FitSlots, FitList, wanted_single}
+use Rattle.edm_entities.specs.private.Walk.{FitSlots, FitList, HoldInItems, wanted_single}
 use Rattle.edm_entities.proofs.SlotLemmas.Depth.{found_measure}
 use Rattle.edm_entities.proofs.walk.+walk.Given as goal
 
@@ -34,7 +34,8 @@ invariant-read_slots-loop-slot l =
     × IsLent l.schema l.type_id l.lent
     × IsWalkOf (view l.json) l.members
 
--- the values so far fit the items so far
+-- the values so far fit the items so far, and hold one value for each slot
 abbrev pub invariant-read_list-loop-index : goal.invariant-read_list-loop-index
 invariant-read_list-loop-index l =
     FitList (slots_of l.schema) l.nullable (wanted_single l.schema l.wanted) (items_view (take l.index l.items)) l.values.items
+    × HoldInItems (slots_of l.schema) (wanted_single l.schema l.wanted) l.values.items
