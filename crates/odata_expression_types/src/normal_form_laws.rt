@@ -4,6 +4,7 @@ ghost use Rattle.edm_values.specs.Val.{Val};
 ghost use Rattle.odata_text.specs.LiteralSpelling.{IsLiteralSpelling};
 ghost use Rattle.odata_syntax.specs.CanonicalText.{IsCanonicalText};
 ghost use Rattle.odata_syntax.specs.NormalForm.{IsNormalForm, bare, literal_token};
+ghost use Rattle.odata_syntax.specs.Parse.{IsExpression};
 ghost use Rattle.odata_syntax.specs.Tree.{Tree};
 ghost use Rattle.odata_syntax.specs.declared.node.LiteralKind.{LiteralKind};
 ghost use Rattle.csdl_schema.specs.ExprType.{ExprType};
@@ -36,11 +37,11 @@ pub fn normal_forms_keep_types()
     guids_read_back();
 }
 
-/// A law: what is read of a text's canonical text has the types of the text's tree, node by node, and is a filter
-/// exactly if the text is one.
+/// A law: what is read of an expression's canonical text has the types of the expression, node by node. The canonical
+/// text of a text's tree is a filter exactly if the text is one.
 pub fn canonical_texts_keep_types()
-    ensures nodes { (slots : Slots) (root text printed : List ℕ) (tree again : Tree)
-        → HasTree text tree → IsCanonicalText tree printed → HasTree printed again
+    ensures nodes { (slots : Slots) (root printed : List ℕ) (tree again : Tree)
+        → IsExpression tree → IsCanonicalText tree printed → HasTree printed again
         → HaveSameTypesByNumber slots root (pre_order tree) (pre_order again) }
     ensures filters { (slots : Slots) (root text printed : List ℕ) (tree again : Tree)
         → HasTree text tree → IsCanonicalText tree printed → HasTree printed again

@@ -33,24 +33,24 @@ expression facts text tree has = record {
 }
 
 -- it is the normal form of the tree that was printed, but for places
-read_again : ReadingFacts → (text printed : List ℕ) (tree again : Tree) → HasTree text tree → (is : IsCanonicalText tree printed) → HasTree printed again → bare again ≡ bare is.normal
-read_again facts text printed tree again has is other =
-    let back = facts.back tree printed (expression facts text tree has) is in
+read_again : ReadingFacts → (printed : List ℕ) (tree again : Tree) → IsExpression tree → (is : IsCanonicalText tree printed) → HasTree printed again → bare again ≡ bare is.normal
+read_again facts printed tree again of_tree is other =
+    let back = facts.back tree printed of_tree is in
     let tokens : other.models ≡ back.tokens =
     facts.list printed other.models back.tokens (record { tokens = other.tokens.tokens; ends = other.tokens.ends }) back.list in
     let P : List TokenModel → Type 0 = λ (ts : List TokenModel). Derives or_level ts again in
     let same : again ≡ back.again = facts.tree back.tokens again back.again (subst P tokens other.parse.derived) back.derived in
     subst (λ (t : Tree). bare t ≡ bare is.normal) (sym same) (back.same is.normal is.is_normal)
 
-pub printed_nodes : ReadingFacts → (slots : Slots) (root text printed : List ℕ) (tree again : Tree) → HasTree text tree → IsCanonicalText tree printed → HasTree printed again
+pub printed_nodes : ReadingFacts → (slots : Slots) (root printed : List ℕ) (tree again : Tree) → IsExpression tree → IsCanonicalText tree printed → HasTree printed again
     → HaveSameTypesByNumber slots root (pre_order tree) (pre_order again)
-printed_nodes facts slots root text printed tree again has is other =
-    same_by_number facts.literals slots root tree is.normal again is.is_normal (read_again facts text printed tree again has is other)
+printed_nodes facts slots root printed tree again of_tree is other =
+    same_by_number facts.literals slots root tree is.normal again is.is_normal (read_again facts printed tree again of_tree is other)
 
 pub printed_filters : ReadingFacts → (slots : Slots) (root text printed : List ℕ) (tree again : Tree) → HasTree text tree → IsCanonicalText tree printed → HasTree printed again
     → HasTyping slots root text tree ↔ HasTyping slots root printed again
 printed_filters facts slots root text printed tree again has is other =
-    let same : HaveSameTypes slots root tree again = same_types facts.literals slots root tree is.normal again is.is_normal (read_again facts text printed tree again has is other) in (
+    let same : HaveSameTypes slots root tree again = same_types facts.literals slots root tree is.normal again is.is_normal (read_again facts printed tree again (expression facts text tree has) is other) in (
       λ typing. record { has_tree = other; type_of = typing.type_of; typed = (same [] typing.type_of).0 typing.typed; truth = typing.truth },
       λ typing. record { has_tree = has; type_of = typing.type_of; typed = (same [] typing.type_of).1 typing.typed; truth = typing.truth },
     )
