@@ -1,6 +1,6 @@
 mod BufferLaws
 mod DeviceLaws
-mod ItemLaws
+pub mod ItemLaws
 mod LineLaws
 mod PlaceLaws
 mod ReaderLaws

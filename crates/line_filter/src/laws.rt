@@ -18,7 +18,8 @@ pub fn slices_tell_their_bytes(bytes: &[u8], out: &Vec<u8>)
 {}
 
 /// Where the judge says judgments of one kind of each line, one kind is found of a line, one line of an input is the
-/// first at fault, and none where all pass. One text is kept, of all lines or of those before the first at fault.
+/// first at fault, and none where all pass. One text is kept, of all lines or of those before the first at fault; all
+/// lines have one tally.
 pub fn lines_stop_once<J: Judge>(judge: &J)
     requires { JudgesOnce (J.says judge.now) }
     ensures found { (line : List ℕ) (f g : FindingModel J.Fault)
@@ -30,5 +31,5 @@ pub fn lines_stop_once<J: Judge>(judge: &J)
         → Filters (lines (J.says judge.now) bytes) text tally → IsFaulty f
         → StopsAt (lines (J.says judge.now) bytes) other n f → ⊥ }
     ensures kept { (bytes text other : List ℕ) (m n : TallyModel) → Filters (lines (J.says judge.now) bytes) text m
-        → Filters (lines (J.says judge.now) bytes) other n → text ≡ other }
+        → Filters (lines (J.says judge.now) bytes) other n → (text ≡ other) × (m ≡ n) }
 {}

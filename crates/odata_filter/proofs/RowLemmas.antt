@@ -2,6 +2,7 @@ pub mod Collections
 pub mod DeviceCalls
 pub mod LinesOpen
 pub mod RowLineJudges
+pub mod OneCollection
 pub mod OneFault
 pub mod OneJudgment
 pub mod Renamed

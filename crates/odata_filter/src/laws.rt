@@ -1,5 +1,6 @@
 //! Laws of rows, as contracts of functions that do nothing but cite others.
 ghost use Rattle.std.specs.Prelude.{◌≡◌, ◌<◌, ℕ, List, Option, Some, length};
+ghost use Rattle.serde_json.specs.Data.{Data};
 ghost use Rattle.line_filter.specs.declared.calls.Calls.{Calls};
 ghost use Rattle.line_filter.specs.declared.line_reader.Course.{Course};
 ghost use Rattle.line_filter.specs.declared.line_reader.LineFault.{LineFault};
@@ -10,8 +11,9 @@ ghost use Rattle.line_filter.specs.declared.judge.Judgment.{Judgment};
 ghost use Rattle.line_filter.specs.declared.tally.Tally.{Tally};
 ghost use Rattle.odata_filter.specs.declared.bad_row.BadRow.{BadRow};
 ghost use Rattle.odata_filter.specs.declared.run_fault.RunFault.{RunFault};
-ghost use Rattle.odata_filter.specs.RowJudgment.{JudgesRow, rows_of};
-ghost use Rattle.odata_filter.specs.RowsOnce.{AreSameFault, AreSameJudgment, IsOfRow};
+ghost use Rattle.odata_filter.specs.Collection.{OfCollection, StopsCollection};
+ghost use Rattle.odata_filter.specs.RowJudgment.{JudgesRow, JudgesValue, rows_of};
+ghost use Rattle.odata_filter.specs.RowsOnce.{AreSameFault, AreSameJudgment, IsOfDocument, IsOfRow};
 ghost use Rattle.odata_filter.specs.RunStops.{StopsBy};
 
 use crate::row_line_judge::RowLineJudge;
@@ -23,7 +25,7 @@ use std::alloc::Global;
 
 /// Of a line a filter has one judgment at most. Of `Json`, `Row`, `Arithmetic` and `LineTooLong` at most one holds of
 /// rows, at one line, and none where all of them pass. One text is kept, of all rows or of those before the first at
-/// fault.
+/// fault; all rows have one tally.
 pub fn rows_stop_once(alloc: Global, checked: &Checked<'_>, now: &Moment)
     ensures judged { (line : List ℕ) (j k : Judgment BadRow) → JudgesRow checked.now now.now line j
         → JudgesRow checked.now now.now line k → AreSameJudgment j k }
@@ -34,13 +36,34 @@ pub fn rows_stop_once(alloc: Global, checked: &Checked<'_>, now: &Moment)
         → Filters (rows_of checked.now now.now bytes) text tally → IsOfRow f
         → StopsBy (rows_of checked.now now.now bytes) other f → ⊥ }
     ensures kept { (bytes text other : List ℕ) (m n : Tally) → Filters (rows_of checked.now now.now bytes) text m
-        → Filters (rows_of checked.now now.now bytes) other n → text ≡ other }
+        → Filters (rows_of checked.now now.now bytes) other n → (text ≡ other) × (m ≡ n) }
 {
     one_value_fits();
     what_has_a_fault_fits_nothing();
     one_fault_is_first();
     let judge = RowLineJudge::new(alloc, checked, now);
     lines_stop_once(&judge);
+}
+
+/// Of a JSON value a filter has one judgment at most. Of `NotACollection`, `Row` and `Arithmetic` at most one holds of a
+/// document, at one item, and none where it is a collection all of whose items pass. One text is kept, of all items or
+/// of those before the first at fault; all items have one tally.
+pub fn collections_stop_once(checked: &Checked<'_>, now: &Moment)
+    ensures judged { (json : Data) (j k : Judgment BadRow) → JudgesValue checked.now now.now json j
+        → JudgesValue checked.now now.now json k → AreSameJudgment j k }
+    ensures stopped { (document text other : List ℕ) (f g : RunFault) → IsOfDocument f → IsOfDocument g
+        → StopsCollection checked.now now.now document text f → StopsCollection checked.now now.now document other g
+        → AreSameFault f g × (text ≡ other) }
+    ensures filtered { (document text other : List ℕ) (tally : Tally) (f : RunFault)
+        → OfCollection checked.now now.now document (λ items. Filters items text tally) → IsOfDocument f
+        → StopsCollection checked.now now.now document other f → ⊥ }
+    ensures kept { (document text other : List ℕ) (m n : Tally)
+        → OfCollection checked.now now.now document (λ items. Filters items text m)
+        → OfCollection checked.now now.now document (λ items. Filters items other n) → (text ≡ other) × (m ≡ n) }
+{
+    one_value_fits();
+    what_has_a_fault_fits_nothing();
+    one_fault_is_first();
 }
 
 /// Of a writer that tells that it never fails `Write` is not said. Of such a reader `Read` is said only where it had as

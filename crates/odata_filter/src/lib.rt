@@ -20,7 +20,7 @@ pub use command::runner::run;
 pub use command::whole::{NotWhole, read_whole, read_whole_by};
 pub use filter::{filter_lines, filter_lines_by, filter_slice};
 pub use headline::filters_keep_what_is_true;
-pub use laws::{rows_stop_once, unfailing_devices_never_fail};
+pub use laws::{collections_stop_once, rows_stop_once, unfailing_devices_never_fail};
 pub use line_filter::{
     ByRecord, Calls, LineFault, LineReader, NotRead, NotWritten, Reads, Recorded, Tally, Unfailing,
     Untold, Writes, slices_tell_their_bytes,

@@ -1,12 +1,14 @@
 -- Of items of which one kind is found each, one text is kept, and one is the first at fault.
 use Rattle.std.proofs.Common.{◌≡◌, ℕ, suc, ◌+◌, Bool, cond, List, [], ◌∷◌, ◌++◌, length, refl, sym, ap, ◌∙◌, subst, arith, inl, inr}
-use Rattle.std.specs.Prelude.{map, All}
+use Rattle.std.specs.Prelude.{map, count_by, All}
 use Rattle.std.proofs.lemmas.Bool.{cases_Bool}
-use Rattle.line_filter.specs.Kept.{IsFaultless, is_kept, Sieve, Items, SiftedItem, kept_text, Passes, StopsAt}
+use Rattle.std.proofs.lemmas.List.Sums.{sum_by-cons}
+use Rattle.line_filter.specs.Kept.{IsFaultless, is_kept, is_row, Sieve, Items, SiftedItem, kept_text, Passes, StopsAt}
 use Rattle.line_filter.specs.LineItems.{LineJudge, IsFoundOf}
 use Rattle.line_filter.specs.Once.{kind_found, IsFaulty, JudgesOnce}
 use Rattle.line_filter.specs.declared.judge.Judgment.{Judgment}
 use Rattle.line_filter.specs.declared.finding.Finding.{Finding}
+use Rattle.line_filter.specs.declared.tally.Tally.{Tally}
 
 -- ---- findings of one kind
 
@@ -34,6 +36,22 @@ module _ {F : Type 0} where
 
   kept_alike : (f g : Finding F) → kind_found f ≡ kind_found g → is_kept f ≡ is_kept g
   kept_alike f g same = kept_by_kind f ∙ ap (λ (k : Finding (Unit {0})). is_kept k) same ∙ sym (kept_by_kind g)
+
+  -- and so does whether it is a row
+  row_by_kind : (f : Finding F) → is_row f ≡ is_row (kind_found f)
+  row_by_kind Finding.TooLong = refl
+  row_by_kind Finding.PassedOver = refl
+  row_by_kind (Finding.Judged j) = refl
+
+  row_alike : (f g : Finding F) → kind_found f ≡ kind_found g → is_row f ≡ is_row g
+  row_alike f g same = row_by_kind f ∙ ap (λ (k : Finding (Unit {0})). is_row k) same ∙ sym (row_by_kind g)
+
+-- two tallies of the same counts
+abbrev tally_of : ℕ → ℕ → Tally
+tally_of rows kept = record { rows = rows; kept = kept }
+
+same_tally : (m n : Tally) → m.rows ≡ n.rows → m.kept ≡ n.kept → m ≡ n
+same_tally m n rows kept = ap (λ (r : ℕ). tally_of r m.kept) rows ∙ ap (λ (k : ℕ). tally_of n.rows k) kept
 
 -- of a line one kind is found, where the judge says one
 pub IsFoundOf-once : {F : Type 0} (judge : LineJudge F) → JudgesOnce judge → (line : List ℕ) (f g : Finding F) → IsFoundOf judge line f → IsFoundOf judge line g → kind_found f ≡ kind_found g
@@ -77,6 +95,34 @@ module _ {X F : Type 0} (sieve : Sieve X F) (once : (x : X) (f g : Finding F) �
       let first : cond (is_kept s.finding) (sieve.text_of s.item) [] ≡ cond (is_kept t.finding) (sieve.text_of t.item) [] =
       ap (λ (b : Bool). cond b (sieve.text_of s.item) []) kept ∙ ap (λ (x : X). cond (is_kept t.finding) (sieve.text_of x) []) item in
       kept_first s ss ∙ ap (λ l. l ++ kept_text sieve.text_of ss) first ∙ ap (λ l. cond (is_kept t.finding) (sieve.text_of t.item) [] ++ l) rest ∙ sym (kept_first t ts)
+
+  -- what is counted by the kinds is counted alike
+  count_first : (of : Finding F → Bool) (s : SiftedItem X F) (ss : List (SiftedItem X F))
+      → count_by (λ r. of r.finding) (s ∷ ss) ≡ cond (of s.finding) 1 0 + count_by (λ r. of r.finding) ss
+  count_first of s ss = sum_by-cons (λ (r : SiftedItem X F). cond (of r.finding) 1 0) s ss
+
+  module _ (of : Finding F → Bool) (alike : (f g : Finding F) → kind_found f ≡ kind_found g → of f ≡ of g) where
+    counts_alike : (all other : List (SiftedItem X F)) → map (λ s. s.item) all ≡ map (λ s. s.item) other → All IsFine all → All IsFine other
+        → count_by (λ s. of s.finding) all ≡ count_by (λ s. of s.finding) other
+    counts_alike [] [] same fine fine' = refl
+    counts_alike [] (t ∷ ts) same fine fine' = absurd cc
+    counts_alike (s ∷ ss) [] same fine fine' = absurd cc
+    counts_alike (s ∷ ss) (t ∷ ts) same fine fine' =
+        let item : s.item ≡ t.item = cc in
+        let items : map (λ (r : SiftedItem X F). r.item) ss ≡ map (λ (r : SiftedItem X F). r.item) ts = cc in
+        let rest = counts_alike ss ts items (All-later IsFine s ss fine) (All-later IsFine t ts fine') in
+        let here = All-first IsFine s ss fine in
+        let there = All-first IsFine t ts fine' in
+        let kind = once t.item s.finding t.finding (subst (λ (x : X). sieve.finds x s.finding) item here.0) there.0 in
+        let first : cond (of s.finding) 1 0 ≡ cond (of t.finding) 1 0 = ap (λ (b : Bool). cond b 1 0) (alike s.finding t.finding kind) in
+        count_first of s ss ∙ ap (λ (n : ℕ). n + count_by (λ r. of r.finding) ss) first ∙ ap (λ (n : ℕ). cond (of t.finding) 1 0 + n) rest ∙ sym (count_first of t ts)
+
+  -- items that pass have one tally
+  pub Passes-one_tally : (xs : List X) (text other : List ℕ) (m n : Tally) → Passes sieve xs text m → Passes sieve xs other n → m ≡ n
+  Passes-one_tally xs text other m n p q =
+      let same = p.in_order ∙ sym q.in_order in
+      same_tally m n (p.rows_counted ∙ counts_alike is_row row_alike p.all q.all same p.found q.found ∙ sym q.rows_counted)
+      (p.kept_counted ∙ counts_alike is_kept kept_alike p.all q.all same p.found q.found ∙ sym q.kept_counted)
 
   -- items that pass keep one text
   pub Passes-once : (xs : List X) (text other : List ℕ) (m n : _) → Passes sieve xs text m → Passes sieve xs other n → text ≡ other

@@ -133,7 +133,7 @@ module _ (one_fits : OneFits) (fits_nothing : FaultFitsNothing) (one_fault : One
   value_view json (Judgment.Fault (BadRow.NoEntity f)) is = inr (f, is, refl)
   value_view json (Judgment.Fault (BadRow.NoValue f)) (o, (is, has)) = inl (o, has, is)
 
-  value_once : (json : Data) (j k : Judgment BadRow) → JudgesValue filter now json j → JudgesValue filter now json k → AreSameJudgment j k
+  pub value_once : (json : Data) (j k : Judgment BadRow) → JudgesValue filter now json j → JudgesValue filter now json k → AreSameJudgment j k
   value_once json j k p q = elim (value_view json j p) [
     | inl (o, has, tells) ↦ elim (value_view json k q) [
       | inl (o', has', tells') ↦ tells_once o' j k (subst (λ (r : Outcome). Tells r j) (outcome_once json o o' has has') tells) tells'

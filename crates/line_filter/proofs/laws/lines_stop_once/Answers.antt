@@ -1,6 +1,6 @@
 use Rattle.line_filter.specs.LineItems.{line_sieve}
 use Rattle.line_filter.specs.Lines.{lines_of}
-use Rattle.line_filter.proofs.ItemLaws.Once.{IsFoundOf-once, StopsAt-once, StopsAt-never, Passes-once}
+use Rattle.line_filter.proofs.ItemLaws.Once.{IsFoundOf-once, StopsAt-once, StopsAt-never, Passes-one_tally, Passes-once}
 use Rattle.line_filter.proofs.laws.lines_stop_once.Goals as goal
 
 pub returns-clause-found : goal.returns-clause-found
@@ -19,4 +19,7 @@ returns-clause-filtered g c bytes =
 pub returns-clause-kept : goal.returns-clause-kept
 returns-clause-kept g c bytes text other m n p q =
     let says = g.J.Judge.says c.args.judge.now in
-    Passes-once (line_sieve says) (IsFoundOf-once says c.requires) (lines_of bytes) text other m n p q
+    let once = IsFoundOf-once says c.requires in (
+      Passes-once (line_sieve says) once (lines_of bytes) text other m n p q,
+      Passes-one_tally (line_sieve says) once (lines_of bytes) text other m n p q,
+    )

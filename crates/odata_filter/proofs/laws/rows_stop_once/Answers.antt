@@ -41,5 +41,5 @@ pub returns-clause-kept : goal.returns-clause-kept
 returns-clause-kept c =
     let judge = c.new-judge.result in
     let Once : Filter → MomentParts → Type 0 = λ f m. (bytes text other : List ℕ) (i j : Tally)
-    → Filters (rows_of f m bytes) text i → Filters (rows_of f m bytes) other j → text ≡ other in
+    → Filters (rows_of f m bytes) text i → Filters (rows_of f m bytes) other j → (text ≡ other) × (i ≡ j) in
     of_filter Once judge.filter c.args.checked.now judge.moment c.args.now.now c.new-judge.ensures.filter c.new-judge.ensures.moment c.lines_stop_once.ensures.kept

@@ -1,0 +1,148 @@
+-- Of a collection one fault is the first, and one text is kept.
+use Rattle.std.proofs.Common.{◌≡◌, ◌∙◌, ℕ, List, [], ◌∷◌, Option, None, Some, inl, inr, refl, sym, ap, subst}
+use Rattle.serde_json.specs.Data.{Data, Items as ItemsData}
+use Rattle.serde_json.specs.View.{items_of}
+use Rattle.edm_values.specs.MomentParts.{MomentParts}
+use Rattle.csdl_schema.specs.JsonText.{IsJsonOf}
+use Rattle.line_filter.specs.Kept.{Filters, StopsAt}
+use Rattle.line_filter.specs.Once.{kind_found}
+use Rattle.line_filter.specs.Places.{IsJudged, Placed, place_sieve, placed_from}
+use Rattle.line_filter.specs.declared.finding.Finding.{Finding}
+use Rattle.line_filter.specs.declared.judge.Judgment.{Judgment}
+use Rattle.line_filter.specs.declared.tally.Tally.{Tally}
+use Rattle.line_filter.proofs.ItemLaws.Once.{Passes-once, Passes-one_tally, StopsAt-never, StopsAt-once}
+use Rattle.odata_checked_filter.specs.Filter.{Filter}
+use Rattle.odata_filter.specs.Collection.{IsCollectionOf, IsNoCollection, OfCollection, StopsCollection, array_of, entities_of}
+use Rattle.odata_filter.specs.RowJudgment.{JudgesValue}
+use Rattle.odata_filter.specs.RowsOnce.{AreSameFault, AreSameJudgment, IsOfDocument}
+use Rattle.odata_filter.specs.declared.bad_row.BadRow.{BadRow}
+use Rattle.odata_filter.specs.declared.run_fault.RunFault.{RunFault}
+use Rattle.odata_filter.proofs.RowLemmas.OneFault.{same_kind}
+
+-- ---- a document is a collection of one list of items, or it is none
+
+one_json : (document : List ℕ) (json other : Data) → IsJsonOf document json → IsJsonOf document other → json ≡ other
+one_json document json other is of =
+    let one = is.1 in
+    let two = of.1 in
+    cc
+
+one_list : (items other : List Data) → items_of items ≡ items_of other → items ≡ other
+one_list [] [] same = refl
+one_list [] (e ∷ es) same = absurd cc
+one_list (d ∷ ds) [] same = absurd cc
+one_list (d ∷ ds) (e ∷ es) same =
+    let first : d ≡ e = cc in
+    let rest : items_of ds ≡ items_of es = cc in
+    ap (λ (x : Data). x ∷ ds) first ∙ ap (λ (xs : List Data). e ∷ xs) (one_list ds es rest)
+
+same_some : (a b : ItemsData) → Some a ≡ Some b → a ≡ b
+same_some a b same = cc
+
+one_collection : (document : List ℕ) (items other : List Data) → IsCollectionOf document items → IsCollectionOf document other → items ≡ other
+one_collection document items other a b =
+    let json : a.json ≡ b.json = one_json document a.json b.json a.is_json b.is_json in
+    one_list items other (same_some (items_of items) (items_of other) (sym a.value ∙ ap array_of json ∙ b.value))
+
+none_some : (held : Option ItemsData) (items : ItemsData) → held ≡ None → held ≡ Some items → ⊥
+none_some held items none some = absurd cc
+
+no_collection : (document : List ℕ) (items : List Data) → IsNoCollection document → IsCollectionOf document items → ⊥
+no_collection document items (inl none) a =
+    let nothing = none a.is_json.0 in
+    let some = a.is_json.1 in
+    absurd cc
+no_collection document items (inr (json, is_json, none)) a =
+    none_some (array_of a.json) (items_of items) (ap array_of (one_json document a.json json a.is_json is_json) ∙ none) a.value
+
+module _ (filter : Filter) (now : MomentParts) (once : (json : Data) (j k : Judgment BadRow) → JudgesValue filter now json j → JudgesValue filter now json k → AreSameJudgment j k) where
+  abbrev says : Data → Judgment BadRow → Type 0
+  says = JudgesValue filter now
+
+  found_once : (placed : Placed Data) (f g : Finding BadRow) → IsJudged says placed.item f → IsJudged says placed.item g → kind_found f ≡ kind_found g
+  found_once placed (Finding.Judged j) (Finding.Judged k) p q = ap Finding.Judged (same_kind j k (once placed.item j k p q))
+  found_once placed (Finding.Judged j) Finding.TooLong p q = absurd q
+  found_once placed (Finding.Judged j) Finding.PassedOver p q = absurd q
+  found_once placed Finding.TooLong g p q = absurd p
+  found_once placed Finding.PassedOver g p q = absurd p
+
+  -- two faults that are found of the first item at fault
+  items_meet : (items : List Data) (text other : List ℕ) (m n : ℕ) (d e : BadRow) → StopsAt (entities_of filter now items) text m (Finding.Judged (Judgment.Fault d))
+      → StopsAt (entities_of filter now items) other n (Finding.Judged (Judgment.Fault e)) → ((m ≡ n) × AreSameJudgment (Judgment.Fault d) (Judgment.Fault e)) × (text ≡ other)
+  items_meet items text other m n d e a b =
+      let (number, texts, bad) = StopsAt-once (place_sieve says) found_once (placed_from 0 items) (λ before. Unit {0}) text other m n (Finding.Judged (Judgment.Fault d)) (Finding.Judged (Judgment.Fault e)) (λ fine. fine) (λ fine. fine) a b in
+      let there : says b.bad.item (Judgment.Fault d) = subst (λ (p : Placed Data). says p.item (Judgment.Fault d)) bad a.found in
+      ((number, once b.bad.item (Judgment.Fault d) (Judgment.Fault e) there b.found), texts)
+
+  module _ (document text other : List ℕ) where
+    -- a fault is found of an item
+    abbrev StopsOnItem : List ℕ → ℕ → BadRow → Type 0
+    StopsOnItem written line fault = OfCollection filter now document (λ items. StopsAt items written line (Finding.Judged (Judgment.Fault fault)))
+
+    faults_meet : (m n : ℕ) (d e : BadRow) → StopsOnItem text m d → StopsOnItem other n e → ((m ≡ n) × AreSameJudgment (Judgment.Fault d) (Judgment.Fault e)) × (text ≡ other)
+    faults_meet m n d e (items, is, a) (others, of, b) =
+        let same : others ≡ items = one_collection document others items of is in
+        items_meet items text other m n d e a (subst (λ (l : List Data). StopsAt (entities_of filter now l) other n (Finding.Judged (Judgment.Fault e))) same b)
+
+    apart : (line : ℕ) (fault : BadRow) (written : List ℕ) → IsNoCollection document → StopsOnItem written line fault → ⊥
+    apart line fault written none (items, is, a) = no_collection document items none is
+
+    pub collection_faults_once : (f g : RunFault) → IsOfDocument f → IsOfDocument g → StopsCollection filter now document text f → StopsCollection filter now document other g
+        → AreSameFault f g × (text ≡ other)
+    collection_faults_once RunFault.NotACollection RunFault.NotACollection of of' a b = (tt, a.1 ∙ sym b.1)
+    collection_faults_once RunFault.NotACollection (RunFault.Row n e) of of' a b = absurd (apart n (BadRow.NoEntity e) other a.0 b)
+    collection_faults_once RunFault.NotACollection (RunFault.Arithmetic n e) of of' a b = absurd (apart n (BadRow.NoValue e) other a.0 b)
+    collection_faults_once (RunFault.Row m d) RunFault.NotACollection of of' a b = absurd (apart m (BadRow.NoEntity d) text b.0 a)
+    collection_faults_once (RunFault.Row m d) (RunFault.Row n e) of of' a b = faults_meet m n (BadRow.NoEntity d) (BadRow.NoEntity e) a b
+    collection_faults_once (RunFault.Row m d) (RunFault.Arithmetic n e) of of' a b = let (at, texts) = faults_meet m n (BadRow.NoEntity d) (BadRow.NoValue e) a b in absurd at.1
+    collection_faults_once (RunFault.Arithmetic m d) RunFault.NotACollection of of' a b = absurd (apart m (BadRow.NoValue d) text b.0 a)
+    collection_faults_once (RunFault.Arithmetic m d) (RunFault.Row n e) of of' a b = let (at, texts) = faults_meet m n (BadRow.NoValue d) (BadRow.NoEntity e) a b in absurd at.1
+    collection_faults_once (RunFault.Arithmetic m d) (RunFault.Arithmetic n e) of of' a b = faults_meet m n (BadRow.NoValue d) (BadRow.NoValue e) a b
+    collection_faults_once RunFault.NotACollection (RunFault.Json n) of of' a b = absurd of'
+    collection_faults_once RunFault.NotACollection (RunFault.LineTooLong n) of of' a b = absurd of'
+    collection_faults_once RunFault.NotACollection (RunFault.Read n) of of' a b = absurd of'
+    collection_faults_once RunFault.NotACollection RunFault.Write of of' a b = absurd of'
+    collection_faults_once RunFault.NotACollection (RunFault.Memory n) of of' a b = absurd of'
+    collection_faults_once (RunFault.Row m d) (RunFault.Json n) of of' a b = absurd of'
+    collection_faults_once (RunFault.Row m d) (RunFault.LineTooLong n) of of' a b = absurd of'
+    collection_faults_once (RunFault.Row m d) (RunFault.Read n) of of' a b = absurd of'
+    collection_faults_once (RunFault.Row m d) RunFault.Write of of' a b = absurd of'
+    collection_faults_once (RunFault.Row m d) (RunFault.Memory n) of of' a b = absurd of'
+    collection_faults_once (RunFault.Arithmetic m d) (RunFault.Json n) of of' a b = absurd of'
+    collection_faults_once (RunFault.Arithmetic m d) (RunFault.LineTooLong n) of of' a b = absurd of'
+    collection_faults_once (RunFault.Arithmetic m d) (RunFault.Read n) of of' a b = absurd of'
+    collection_faults_once (RunFault.Arithmetic m d) RunFault.Write of of' a b = absurd of'
+    collection_faults_once (RunFault.Arithmetic m d) (RunFault.Memory n) of of' a b = absurd of'
+    collection_faults_once (RunFault.Json m) g of of' a b = absurd of
+    collection_faults_once (RunFault.LineTooLong m) g of of' a b = absurd of
+    collection_faults_once (RunFault.Read m) g of of' a b = absurd of
+    collection_faults_once RunFault.Write g of of' a b = absurd of
+    collection_faults_once (RunFault.Memory m) g of of' a b = absurd of
+
+    item_never : (tally : Tally) (line : ℕ) (fault : BadRow) → OfCollection filter now document (λ items. Filters items text tally) → StopsOnItem other line fault → ⊥
+    item_never tally line fault (items, is, passes) (others, of, b) =
+        let same : others ≡ items = one_collection document others items of is in
+        StopsAt-never (place_sieve says) found_once (placed_from 0 items) (λ before. Unit {0}) text other tally line (Finding.Judged (Judgment.Fault fault)) passes (λ fine. fine)
+        (subst (λ (l : List Data). StopsAt (entities_of filter now l) other line (Finding.Judged (Judgment.Fault fault))) same b)
+
+    -- no fault where all items pass
+    pub collection_faults_never : (tally : Tally) (f : RunFault) → OfCollection filter now document (λ items. Filters items text tally) → IsOfDocument f
+        → StopsCollection filter now document other f → ⊥
+    collection_faults_never tally RunFault.NotACollection passes of a = no_collection document passes.0 a.0 passes.1
+    collection_faults_never tally (RunFault.Row n d) passes of a = item_never tally n (BadRow.NoEntity d) passes a
+    collection_faults_never tally (RunFault.Arithmetic n d) passes of a = item_never tally n (BadRow.NoValue d) passes a
+    collection_faults_never tally (RunFault.Json n) passes of a = absurd of
+    collection_faults_never tally (RunFault.LineTooLong n) passes of a = absurd of
+    collection_faults_never tally (RunFault.Read n) passes of a = absurd of
+    collection_faults_never tally RunFault.Write passes of a = absurd of
+    collection_faults_never tally (RunFault.Memory n) passes of a = absurd of
+
+    -- one text, and one tally
+    pub collection_kept_once : (m n : Tally) → OfCollection filter now document (λ items. Filters items text m) → OfCollection filter now document (λ items. Filters items other n)
+        → (text ≡ other) × (m ≡ n)
+    collection_kept_once m n (items, is, a) (others, of, b) =
+        let same : others ≡ items = one_collection document others items of is in
+        let there = subst (λ (l : List Data). Filters (entities_of filter now l) other n) same b in (
+          Passes-once (place_sieve says) found_once (placed_from 0 items) text other m n a there,
+          Passes-one_tally (place_sieve says) found_once (placed_from 0 items) text other m n a there,
+        )

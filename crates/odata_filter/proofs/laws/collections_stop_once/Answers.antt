@@ -1,0 +1,21 @@
+use Rattle.odata_filter.proofs.RowLemmas.OneCollection.{collection_faults_never, collection_faults_once, collection_kept_once}
+use Rattle.odata_filter.proofs.RowLemmas.OneJudgment.{value_once}
+use Rattle.odata_filter.proofs.laws.collections_stop_once.Goals as goal
+
+pub returns-clause-judged : goal.returns-clause-judged
+returns-clause-judged c = value_once c.one_value_fits.ensures c.what_has_a_fault_fits_nothing.ensures c.one_fault_is_first.ensures c.args.checked.now c.args.now.now
+
+pub returns-clause-stopped : goal.returns-clause-stopped
+returns-clause-stopped c =
+    let once = value_once c.one_value_fits.ensures c.what_has_a_fault_fits_nothing.ensures c.one_fault_is_first.ensures c.args.checked.now c.args.now.now in
+    collection_faults_once c.args.checked.now c.args.now.now once
+
+pub returns-clause-filtered : goal.returns-clause-filtered
+returns-clause-filtered c document text other tally f passes of stops =
+    let once = value_once c.one_value_fits.ensures c.what_has_a_fault_fits_nothing.ensures c.one_fault_is_first.ensures c.args.checked.now c.args.now.now in
+    collection_faults_never c.args.checked.now c.args.now.now once document text other tally f passes of stops
+
+pub returns-clause-kept : goal.returns-clause-kept
+returns-clause-kept c =
+    let once = value_once c.one_value_fits.ensures c.what_has_a_fault_fits_nothing.ensures c.one_fault_is_first.ensures c.args.checked.now c.args.now.now in
+    collection_kept_once c.args.checked.now c.args.now.now once
