@@ -1,17 +1,22 @@
 //! A condition of SQL, for PostgreSQL, made of the nodes of a checked filter. The filter's text is not read again.
 ghost use Rattle.std.specs.Prelude.{◌<◌, length};
 
-use csdl_schema::{Schema, TypeId};
 use edm_values::Prim;
-use odata_syntax::{BinaryOperator, LiteralKind, Quantifier};
+use odata_syntax::BinaryOperator::{self, And, Eq, Ge, Gt, Le, Lt, Ne, Or};
+use odata_syntax::LiteralKind::{Bool, Int, Null, Str};
+use odata_syntax::Quantifier::{self, All, Any};
 use odata_typing::{Checked, EdmType, NodeKind, ValueType};
 use std::alloc::{AllocError, Global};
 
+/// What nodes are in SQL; `None` where one of them is not written.
+type Sql = Result<Option<String>, AllocError>;
+
 /// What a filter asks of a row that is named `"$it"`. A property is a column, found by its slot and named as in the
-/// schema; a collection is an array; a range variable goes by its name. `None` where the filter has a node that is not
-/// written: arithmetic, a call, `has`, `in`, `$count`, `any()`, `$it`, a literal but null, truth values, whole numbers and
-/// texts, and `ge` or `le` of truth values. Texts are ordered as OData asks where their columns have the collation "C".
-pub fn condition(alloc: Global, filter: &Checked<'_>) -> Result<Option<String>, AllocError> {
+/// schema; a collection is an array; a range variable goes by its name. Texts are ordered as OData asks where their columns
+/// have the collation "C". Not written are arithmetic, calls, `has`, `in`, `$count`, `any()`, `$it`, literals but null,
+/// truth values, whole numbers and texts, and `ge` and `le` of truth values: these stand twice in their SQL, which would
+/// double with each that stands in another.
+pub fn condition(alloc: Global, filter: &Checked<'_>) -> Sql {
     // From the last node to the first: what the children of a node came to lies on top, that of the first one uppermost.
     let mut parts = Vec::new(alloc);
     for place in (0..filter.nodes().len()).rev() {
@@ -23,32 +28,24 @@ pub fn condition(alloc: Global, filter: &Checked<'_>) -> Result<Option<String>, 
     Ok(parts.pop())
 }
 
-/// What a node is in SQL. It takes what its children came to.
-fn part_of(
-    alloc: Global,
-    filter: &Checked<'_>,
-    place: usize,
-    parts: &mut Vec<String>,
-) -> Result<Option<String>, AllocError>
+/// What a node is, made of what its children came to, which it takes.
+fn part_of(alloc: Global, filter: &Checked<'_>, place: usize, parts: &mut Vec<String>) -> Sql
     requires { place < length filter.now.list.nodes }
 {
-    let text = filter.text(place);
-    match filter.nodes()[place].kind {
-        NodeKind::Literal { kind, .. } => literal(alloc, kind, text),
+    let (node, text) = (filter.nodes()[place], filter.text(place));
+    let kind = node.kind;
+    match kind {
+        NodeKind::Literal {
+            kind: Null | Bool | Int | Str,
+            ..
+        } => Ok(Some(text.to_string(alloc)?)),
         NodeKind::Variable { .. } => Ok(Some(format!(in alloc; "\"{text}\"")?)),
         NodeKind::Property { slot } => {
-            column(
-                alloc,
-                filter.schema(),
-                filter.filtered_type(),
-                slot,
-                "\"$it\"",
-            )
+            let owner = EdmType::Single(ValueType::Structured(filter.filtered_type()));
+            column(alloc, filter, &owner, slot, "\"$it\"")
         }
         NodeKind::Member { slot } => match (parts.pop(), filter.type_of(place + 1)) {
-            (Some(base), Some(edm_type)) => {
-                member(alloc, filter.schema(), &edm_type, slot, base.as_str())
-            }
+            (Some(base), Some(owner)) => column(alloc, filter, &owner, slot, base.as_str()),
             _ => Ok(None),
         },
         NodeKind::Not => match parts.pop() {
@@ -57,8 +54,9 @@ fn part_of(
         },
         NodeKind::Binary { operator } => match (parts.pop(), parts.pop()) {
             (Some(left), Some(right)) => {
-                let truths = is_truth_at(filter, place + 1);
-                operation(alloc, operator, truths, left.as_str(), right.as_str())
+                let truth = EdmType::Single(ValueType::Prim(Prim::Bool));
+                let truths = filter.type_of(place + 1) == Some(truth);
+                combined(alloc, operator, truths, left.as_str(), right.as_str())
             }
             _ => Ok(None),
         },
@@ -72,100 +70,43 @@ fn part_of(
     }
 }
 
-/// A literal as it stands in the filter: SQL spells these alike.
-fn literal(alloc: Global, kind: LiteralKind, text: &str) -> Result<Option<String>, AllocError> {
-    Ok(match kind {
-        LiteralKind::Null | LiteralKind::Bool | LiteralKind::Int | LiteralKind::Str => {
-            Some(text.to_string(alloc)?)
+/// The column of a slot, behind a value of that type.
+fn column(alloc: Global, filter: &Checked<'_>, owner: &EdmType, slot: usize, base: &str) -> Sql {
+    match owner {
+        EdmType::Single(ValueType::Structured(owner)) if slot < filter.schema().slots(*owner) => {
+            let name = filter.schema().slot_name(*owner, slot);
+            Ok(Some(format!(in alloc; "({base}).\"{name}\"")?))
         }
-        _ => None,
-    })
-}
-
-/// Whether the node there is a truth value.
-fn is_truth_at(filter: &Checked<'_>, place: usize) -> bool {
-    type_at(filter, place) == Some(ValueType::Prim(Prim::Bool))
-}
-
-/// The type of one value that the node there has.
-fn type_at(filter: &Checked<'_>, place: usize) -> Option<ValueType> {
-    match filter.type_of(place) {
-        Some(EdmType::Single(value_type)) => Some(value_type),
-        _ => None,
-    }
-}
-
-/// The column of a slot of a value of that type, behind the value.
-fn member(
-    alloc: Global,
-    schema: &Schema,
-    edm_type: &EdmType,
-    slot: usize,
-    base: &str,
-) -> Result<Option<String>, AllocError> {
-    match edm_type {
-        EdmType::Single(ValueType::Structured(owner)) => column(alloc, schema, *owner, slot, base),
-        EdmType::Single(ValueType::Prim(_)) => Ok(None),
-        EdmType::Single(ValueType::Enum(_)) => Ok(None),
-        EdmType::Null => Ok(None),
-        EdmType::Collection(_) => Ok(None),
-    }
-}
-
-/// The column of a slot, behind what it is a column of.
-fn column(
-    alloc: Global,
-    schema: &Schema,
-    owner: TypeId,
-    slot: usize,
-    base: &str,
-) -> Result<Option<String>, AllocError> {
-    if slot < schema.slots(owner) {
-        let name = schema.slot_name(owner, slot);
-        Ok(Some(format!(in alloc; "({base}).\"{name}\"")?))
-    } else {
-        Ok(None)
+        _ => Ok(None),
     }
 }
 
 /// `eq` and `ne` take null for a value; the other comparisons are false beside null, `ge` and `le` true of two nulls.
-fn operation(
-    alloc: Global,
-    operator: BinaryOperator,
-    truths: bool,
-    left: &str,
-    right: &str,
-) -> Result<Option<String>, AllocError> {
+fn combined(alloc: Global, operator: BinaryOperator, truths: bool, left: &str, right: &str) -> Sql {
     Ok(Some(match operator {
-        BinaryOperator::And => format!(in alloc; "({left} AND {right})")?,
-        BinaryOperator::Or => format!(in alloc; "({left} OR {right})")?,
-        BinaryOperator::Eq => format!(in alloc; "({left} IS NOT DISTINCT FROM {right})")?,
-        BinaryOperator::Ne => format!(in alloc; "({left} IS DISTINCT FROM {right})")?,
-        BinaryOperator::Gt => format!(in alloc; "COALESCE({left} > {right}, FALSE)")?,
-        BinaryOperator::Lt => format!(in alloc; "COALESCE({left} < {right}, FALSE)")?,
-        BinaryOperator::Ge if !truths => {
-            format!(in alloc; "COALESCE({left} >= {right}, {left} IS NULL AND {right} IS NULL)")?
-        }
-        BinaryOperator::Le if !truths => {
-            format!(in alloc; "COALESCE({left} <= {right}, {left} IS NULL AND {right} IS NULL)")?
-        }
+        And => format!(in alloc; "({left} AND {right})")?,
+        Or => format!(in alloc; "({left} OR {right})")?,
+        Eq => format!(in alloc; "({left} IS NOT DISTINCT FROM {right})")?,
+        Ne => format!(in alloc; "({left} IS DISTINCT FROM {right})")?,
+        Gt => format!(in alloc; "COALESCE({left} > {right}, FALSE)")?,
+        Lt => format!(in alloc; "COALESCE({left} < {right}, FALSE)")?,
+        Ge if !truths => format!(in alloc;
+            "COALESCE({left} >= {right}, {left} IS NULL AND {right} IS NULL)"
+        )?,
+        Le if !truths => format!(in alloc;
+            "COALESCE({left} <= {right}, {left} IS NULL AND {right} IS NULL)"
+        )?,
         _ => return Ok(None),
     }))
 }
 
 /// Null over null; else whether some member makes the body true, or each one does.
-fn over_members(
-    alloc: Global,
-    quantifier: Quantifier,
-    variable: &str,
-    base: &str,
-    body: &str,
-) -> Result<Option<String>, AllocError> {
+fn over_members(alloc: Global, quantifier: Quantifier, name: &str, base: &str, body: &str) -> Sql {
     let (exists, wanted) = match quantifier {
-        Quantifier::Any => ("EXISTS", "IS TRUE"),
-        Quantifier::All => ("NOT EXISTS", "IS NOT TRUE"),
+        Any => ("EXISTS", "IS TRUE"),
+        All => ("NOT EXISTS", "IS NOT TRUE"),
     };
-    let members = format!(in alloc; "unnest({base}) AS \"{variable}\"")?;
+    let members = format!(in alloc; "unnest({base}) AS \"{name}\"")?;
     let found = format!(in alloc; "{exists} (SELECT 1 FROM {members} WHERE {body} {wanted})")?;
     Ok(Some(format!(in alloc; "(CASE WHEN {base} IS NOT NULL THEN {found} END)")?))
 }
