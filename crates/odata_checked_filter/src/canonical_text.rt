@@ -6,12 +6,13 @@ ghost use Rattle.odata_checked_filter.specs.private.CanonicalWalk.{AreFurtherPut
 ghost use Rattle.odata_checked_filter.specs.private.CanonicalWalk.{IsSignAt, IsTextAdded, Piece, StandsThere, WritesNode};
 ghost use Rattle.odata_checked_filter.specs.private.CanonicalWalk.{WritesPart, arguments_of, behind_kind, joining_parts};
 ghost use Rattle.odata_checked_filter.specs.private.CanonicalWalk.{operand_of, stop_at};
-ghost use Rattle.odata_checked_filter.specs.private.KindTexts.{joint_text, quantifier_joint};
+ghost use Rattle.odata_checked_filter.specs.private.KindTexts.{joint_text, quantifier_joint, spaced};
 
 use super::checked_node::NodeKind;
 use super::kind_levels::{BASE, PATH, UNARY, first_level, kind_level};
+use super::kind_words::kind_word;
 use super::node_list::NodeList;
-use odata_syntax::{Quantifier, operator_level, operator_word, write_literal};
+use odata_syntax::{Quantifier, operator_level, write_literal};
 use std::alloc::{AllocError, Global};
 
 /// What is still to be written.
@@ -73,10 +74,10 @@ fn write_joint(kind: NodeKind, beside: &str, text: &mut String) -> Result<(), Al
         NodeKind::Count => text.push_str("/$count"),
         NodeKind::AnyItem => text.push_str("/any()"),
         NodeKind::Lambda { quantifier } => write_binder(quantifier, beside, text),
-        NodeKind::Binary { operator } => write_word(operator_word(operator), text),
-        NodeKind::Has => text.push_str(" has "),
-        NodeKind::InList => text.push_str(" in ("),
-        NodeKind::InPath => text.push_str(" in "),
+        NodeKind::Binary { .. } => write_word(kind_word(kind), text),
+        NodeKind::Has => write_word(kind_word(kind), text),
+        NodeKind::InList => write_opening(kind_word(kind), text),
+        NodeKind::InPath => write_word(kind_word(kind), text),
         _ => Ok(()),
     }
 }
@@ -103,11 +104,19 @@ fn joint_of_quantifier(quantifier: Quantifier) -> &'static str
 
 /// Writes a word between spaces.
 fn write_word(word: &str, text: &mut String) -> Result<(), AllocError>
-    ensures { OnOk result (string_bytes text.new ≡ string_bytes text.old ++ (32 ∷ (word.now ++ 32 ∷ []))) }
+    ensures { OnOk result (string_bytes text.new ≡ string_bytes text.old ++ spaced word.now) }
 {
     text.push(' ')?;
     text.push_str(word)?;
     text.push(' ')
+}
+
+/// Writes a word between spaces, and `(`.
+fn write_opening(word: &str, text: &mut String) -> Result<(), AllocError>
+    ensures { OnOk result (string_bytes text.new ≡ string_bytes text.old ++ (spaced word.now ++ 40 ∷ [])) }
+{
+    write_word(word, text)?;
+    text.push('(')
 }
 
 /// Writes a slash and a name.
@@ -165,8 +174,8 @@ fn write_node(
         NodeKind::Call { function } => {
             write_call(list, place, function.signature().name, text, pending)
         }
-        NodeKind::Neg => write_sign(list, place, "- ", text, pending),
-        NodeKind::Not => write_sign(list, place, "not ", text, pending),
+        NodeKind::Neg => write_sign(list, place, kind_word(node.kind), text, pending),
+        NodeKind::Not => write_sign(list, place, kind_word(node.kind), text, pending),
         _ => put_operands(list, place, node.kind, pending),
     }
 }
@@ -236,7 +245,7 @@ fn put_arguments(
     Ok(())
 }
 
-/// Writes a sign, and puts its operand on the stack.
+/// Writes a sign and a space, and puts its operand on the stack.
 fn write_sign(
     list: &NodeList,
     place: usize,
@@ -252,6 +261,7 @@ fn write_sign(
     let count = list.nodes().len();
     prove!(place < count);
     text.push_str(sign)?;
+    text.push(' ')?;
     put_operand(place + 1, UNARY, pending)
 }
 

@@ -8,11 +8,12 @@ ghost use Rattle.odata_checked_filter.specs.private.ExplanationWalk.{IsLinePut, 
 
 use super::checked::Checked;
 use super::checked_node::{CheckedNode, NodeKind};
+use super::kind_words::kind_word;
 use csdl_schema::Schema;
 use edm_values::Prim;
 use itoa::Buffer;
 use odata_signatures::{EdmType, Function, ValueType};
-use odata_syntax::{Quantifier, operator_word};
+use odata_syntax::Quantifier;
 use odata_text::Span;
 use std::alloc::{AllocError, Global};
 
@@ -135,12 +136,12 @@ fn push_label(text: &mut String, kind: NodeKind, beside: &str) -> Result<(), All
         NodeKind::Count => text.push_str("$count"),
         NodeKind::AnyItem => text.push_str("any"),
         NodeKind::Lambda { quantifier } => push_named(text, quantifier_label(quantifier), beside),
-        NodeKind::Neg => text.push_str("-"),
-        NodeKind::Not => text.push_str("not"),
-        NodeKind::Binary { operator } => text.push_str(operator_word(operator)),
-        NodeKind::Has => text.push_str("has"),
-        NodeKind::InList => text.push_str("in"),
-        NodeKind::InPath => text.push_str("in"),
+        NodeKind::Neg => text.push_str(kind_word(kind)),
+        NodeKind::Not => text.push_str(kind_word(kind)),
+        NodeKind::Binary { .. } => text.push_str(kind_word(kind)),
+        NodeKind::Has => text.push_str(kind_word(kind)),
+        NodeKind::InList => text.push_str(kind_word(kind)),
+        NodeKind::InPath => text.push_str(kind_word(kind)),
         NodeKind::Call { function } => text.push_str(function.name()),
         NodeKind::Now => text.push_str(Function::Now.name()),
     }

@@ -8,6 +8,7 @@ mod checked;
 mod checked_node;
 mod explanation;
 mod kind_levels;
+mod kind_words;
 mod lambda_depth;
 mod laws;
 mod node_list;

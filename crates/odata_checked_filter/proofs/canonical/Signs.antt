@@ -1,5 +1,5 @@
 -- What the walk that writes canonical text writes of `-` and `not`.
-use Rattle.std.proofs.Common.{◌≡◌, ◌∙◌, ℕ, ◌+◌, ◌*◌, ◌-◌, ◌<◌, List, [], ◌∷◌, ◌++◌, refl, sym, subst, ap, arith}
+use Rattle.std.proofs.Common.{◌≡◌, ◌∙◌, ℕ, ◌+◌, ◌*◌, ◌-◌, ◌<◌, List, [], ◌∷◌, ◌++◌, append_assoc, refl, sym, subst, ap, arith}
 use Rattle.std.specs.Prelude.{codes}
 use Rattle.odata_syntax.specs.CanonicalText.{IsCanonicalText, grouped, shape_text, tree_level, tree_text}
 use Rattle.odata_syntax.specs.Grammar.{unary_level}
@@ -68,12 +68,12 @@ record IsSigned (sign : List ℕ) (shape : Shape) : Type 0 where
   operand_tree : Tree
   same : shape ≡ of operand_tree
 
-signed : (kind : NodeKind) (sign : List ℕ) (shape : Shape) → IsSign kind sign → Matches kind shape → IsSigned sign shape
-signed NodeKind.Neg sign shape is m =
-    subst (λ (s : List ℕ). IsSigned s shape) (sym is) (record { of = negation; is = negation_sign; operand_tree = m.0; same = m.1 })
-signed NodeKind.Not sign shape is m =
-    subst (λ (s : List ℕ). IsSigned s shape) (sym is) (record { of = logical_not; is = not_sign; operand_tree = m.0; same = m.1 })
-signed _ sign shape is m = absurd is
+signed : (kind : NodeKind) (word : List ℕ) (shape : Shape) → IsSign kind word → Matches kind shape → IsSigned (word ++ 32 ∷ []) shape
+signed NodeKind.Neg word shape is m =
+    subst (λ (w : List ℕ). IsSigned (w ++ 32 ∷ []) shape) (sym is) (record { of = negation; is = negation_sign; operand_tree = m.0; same = m.1 })
+signed NodeKind.Not word shape is m =
+    subst (λ (w : List ℕ). IsSigned (w ++ 32 ∷ []) shape) (sym is) (record { of = logical_not; is = not_sign; operand_tree = m.0; same = m.1 })
+signed _ word shape is m = absurd is
 
 -- ---- the operand behind the sign
 
@@ -96,38 +96,39 @@ goes list i start stop sign of o is there =
           };
     }
 
-signed_there : (list : FlatTree) (i : ℕ) (sign : List ℕ) (start stop : ℕ) (shape : Shape) → IsSignAt list i sign → StandsThere list i (node start stop shape) → IsSigned sign shape
-signed_there list i sign start stop shape is there =
-    signed is.found.kind sign shape is.is (shape_there list i is.found is.found.kind start stop shape is.at refl there)
+signed_there : (list : FlatTree) (i : ℕ) (word : List ℕ) (start stop : ℕ) (shape : Shape) → IsSignAt list i word → StandsThere list i (node start stop shape) → IsSigned (word ++ 32 ∷ []) shape
+signed_there list i word start stop shape is there =
+    signed is.found.kind word shape is.is (shape_there list i is.found is.found.kind start stop shape is.at refl there)
 
-goes_at : (list : FlatTree) (i : ℕ) (sign : List ℕ) → IsSignAt list i sign → (tree : Tree) → StandsThere list i tree
-    → GoesOn list (operand_of (i + 1) unary_level) sign (IsCanonicalText tree)
-goes_at list i sign is (node start stop shape) there =
-    let s = signed_there list i sign start stop shape is there in
+goes_at : (list : FlatTree) (i : ℕ) (word : List ℕ) → IsSignAt list i word → (tree : Tree) → StandsThere list i tree
+    → GoesOn list (operand_of (i + 1) unary_level) (word ++ 32 ∷ []) (IsCanonicalText tree)
+goes_at list i word is (node start stop shape) there =
+    let sign = word ++ 32 ∷ [] in
+    let s = signed_there list i word start stop shape is there in
     let P : Shape → Type 0 = λ (x : Shape). StandsThere list i (node start stop x)
     → GoesOn list (operand_of (i + 1) unary_level) sign (IsCanonicalText (node start stop x)) in
     subst P (sym s.same) (goes list i start stop sign s.of s.operand_tree s.is) there
 
-light : (list : FlatTree) (i : ℕ) (sign : List ℕ) (tree : Tree) → IsSignAt list i sign → StandsThere list i tree
+light : (list : FlatTree) (i : ℕ) (word : List ℕ) (tree : Tree) → IsSignAt list i word → StandsThere list i tree
     → node_weight list (i + 1) + 3 < node_weight list i
-light list i sign (node start stop shape) is there =
-    let s = signed_there list i sign start stop shape is there in
+light list i word (node start stop shape) is there =
+    let s = signed_there list i word start stop shape is there in
     let P : Shape → Type 0 = λ (x : Shape). StandsThere list i (node start stop x) in
     let child = s.is.child list i start stop s.operand_tree (subst P s.same there) in
     child.lighter
 
 -- ---- it is written
 
-pub sign_written : (list : FlatTree) (i : ℕ) (sign before after : List ℕ) (parts new : List Part)
-    → HasTreeAt list i → IsSignAt list i sign → after ≡ before ++ sign → new ≡ parts ++ operand_of (i + 1) unary_level
+pub sign_written : (list : FlatTree) (i : ℕ) (word before after : List ℕ) (parts new : List Part)
+    → HasTreeAt list i → IsSignAt list i word → after ≡ (before ++ word) ++ 32 ∷ [] → new ≡ parts ++ operand_of (i + 1) unary_level
     → WritesNode list i before after parts new
-sign_written list i sign before after parts new has is written pushed =
-    let lighter : node_weight list (i + 1) + 3 < node_weight list i = light list i sign has.0 is has.1 in
+sign_written list i word before after parts new has is written pushed =
+    let lighter : node_weight list (i + 1) + 3 < node_weight list i = light list i word has.0 is has.1 in
     record {
       parts = operand_of (i + 1) unary_level;
       pushed = pushed;
       lighter = omega (arith, lighter);
-      text = sign;
-      written = written;
-      goes_on = goes_at list i sign is;
+      text = word ++ 32 ∷ [];
+      written = written ∙ append_assoc before word (32 ∷ []);
+      goes_on = goes_at list i word is;
     }

@@ -1,7 +1,6 @@
 -- Children that stand one behind another, one or two of them.
 use Rattle.std.proofs.Common.{◌≡◌, refl, subst, ℕ, List, [], ◌∷◌}
 use Rattle.odata_syntax.specs.Tree.{Tree}
-use Rattle.csdl_schema.specs.ExprType.{ExprType}
 use Rattle.csdl_schema.specs.SchemaModel.{SchemaModel, slots_of, type_name_at}
 use Rattle.odata_checked_filter.specs.FlatTree.{FlatTree}
 use Rattle.odata_checked_filter.specs.Stands.{InBody, InLine, SideBySide, Stands}

@@ -12,7 +12,7 @@ use Rattle.odata_checked_filter.specs.declared.checked_node.NodeKind.{NodeKind}
 use Rattle.odata_signatures.specs.Functions.{row_of}
 use Rattle.odata_checked_filter.specs.FlatTree.{FlatTree}
 use Rattle.odata_checked_filter.specs.Stands.{AllStand, Stands}
-use Rattle.odata_checked_filter.specs.private.KindTexts.{first_level, joint_text}
+use Rattle.odata_checked_filter.specs.private.KindTexts.{first_level, joint_text, kind_word}
 use Rattle.odata_expression_types.specs.Typed.{Scope}
 
 -- the nodes from the i-th on stand for the tree, in some schema and scope
@@ -158,17 +158,17 @@ abbrev pub joining_parts : FlatTree → NodeKind → ℕ → List Part
 joining_parts list kind i =
     behind_kind list kind (stop_at list (i + 1)) (stop_at list i) ++ (Joint i ∷ operand_of (i + 1) (first_level kind))
 
--- the text of a sign with the space behind it
+-- the word of a sign
 abbrev pub IsSign : NodeKind → List ℕ → Type 0
-IsSign NodeKind.Neg text = text ≡ codes "- "
-IsSign NodeKind.Not text = text ≡ codes "not "
-IsSign _ text = ⊥
+IsSign NodeKind.Neg word = word ≡ kind_word NodeKind.Neg
+IsSign NodeKind.Not word = word ≡ kind_word NodeKind.Not
+IsSign _ word = ⊥
 
--- a sign of that text stands there
-pub record IsSignAt (list : FlatTree) (i : ℕ) (text : List ℕ) : Type 0 where
+-- a sign of that word stands there
+pub record IsSignAt (list : FlatTree) (i : ℕ) (word : List ℕ) : Type 0 where
   pub found : CheckedNode
   pub at : slice_get list.nodes i ≡ Some found
-  pub is : IsSign found.kind text
+  pub is : IsSign found.kind word
 
 -- a node of that kind calls the function of that name
 abbrev pub IsCallOf : NodeKind → List ℕ → Type 0

@@ -1,6 +1,6 @@
 -- For private clauses: how the explanation of a list grows by a line.
 use Rattle.std.specs.Prelude.{◌≡◌, ℕ, ◌*◌, List, [], ◌∷◌, ◌++◌, Some, codes, filter, length, nat_lt, replicate, slice_get}
-use Rattle.odata_syntax.specs.Lexeme.{operator_word, quantifier_word}
+use Rattle.odata_syntax.specs.Lexeme.{quantifier_word}
 use Rattle.csdl_schema.specs.SchemaModel.{SchemaModel}
 use Rattle.odata_signatures.specs.Functions.{row_of}
 use Rattle.odata_signatures.specs.declared.function.Function.{Function}
@@ -9,6 +9,7 @@ use Rattle.odata_checked_filter.specs.declared.checked_node.NodeKind.{NodeKind}
 use Rattle.odata_checked_filter.specs.Explanation.{span_text}
 use Rattle.odata_checked_filter.specs.FlatTree.{FlatTree}
 use Rattle.odata_checked_filter.specs.TypeText.{type_text}
+use Rattle.odata_checked_filter.specs.private.KindTexts.{kind_word}
 
 -- what a node of a kind is called, by the text beside it
 abbrev pub kind_label : NodeKind → List ℕ → List ℕ
@@ -20,12 +21,12 @@ kind_label (NodeKind.Member slot) beside = codes "member " ++ beside
 kind_label NodeKind.Count beside = codes "$count"
 kind_label NodeKind.AnyItem beside = codes "any"
 kind_label (NodeKind.Lambda quantifier) beside = (quantifier_word quantifier ++ 32 ∷ []) ++ beside
-kind_label NodeKind.Neg beside = codes "-"
-kind_label NodeKind.Not beside = codes "not"
-kind_label (NodeKind.Binary operator) beside = operator_word operator
-kind_label NodeKind.Has beside = codes "has"
-kind_label NodeKind.InList beside = codes "in"
-kind_label NodeKind.InPath beside = codes "in"
+kind_label NodeKind.Neg beside = kind_word NodeKind.Neg
+kind_label NodeKind.Not beside = kind_word NodeKind.Not
+kind_label (NodeKind.Binary operator) beside = kind_word (NodeKind.Binary operator)
+kind_label NodeKind.Has beside = kind_word NodeKind.Has
+kind_label NodeKind.InList beside = kind_word NodeKind.InList
+kind_label NodeKind.InPath beside = kind_word NodeKind.InPath
 kind_label (NodeKind.Call function) beside = (row_of function).name
 kind_label NodeKind.Now beside = (row_of Function.Now).name
 

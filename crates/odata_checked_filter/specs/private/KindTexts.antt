@@ -32,6 +32,20 @@ first_level NodeKind.InList = kind_level NodeKind.InList
 first_level NodeKind.InPath = kind_level NodeKind.InPath
 first_level _ = 0
 
+-- the word of the operator of a node of the kind; none for one without an operator
+abbrev pub kind_word : NodeKind → List ℕ
+kind_word NodeKind.Neg = codes "-"
+kind_word NodeKind.Not = codes "not"
+kind_word (NodeKind.Binary operator) = operator_word operator
+kind_word NodeKind.Has = codes "has"
+kind_word NodeKind.InList = codes "in"
+kind_word NodeKind.InPath = codes "in"
+kind_word _ = []
+
+-- a word between spaces
+abbrev pub spaced : List ℕ → List ℕ
+spaced word = 32 ∷ (word ++ 32 ∷ [])
+
 -- a slash, a quantifier and `(`
 abbrev pub quantifier_joint : Quantifier → List ℕ
 quantifier_joint Quantifier.Any = codes "/any("
@@ -43,10 +57,10 @@ joint_text (NodeKind.Member slot) beside = 47 ∷ beside
 joint_text NodeKind.Count beside = codes "/$count"
 joint_text NodeKind.AnyItem beside = codes "/any()"
 joint_text (NodeKind.Lambda quantifier) beside = quantifier_joint quantifier ++ (beside ++ 58 ∷ [])
-joint_text (NodeKind.Binary operator) beside = 32 ∷ (operator_word operator ++ 32 ∷ [])
-joint_text NodeKind.Has beside = codes " has "
-joint_text NodeKind.InList beside = codes " in ("
-joint_text NodeKind.InPath beside = codes " in "
+joint_text (NodeKind.Binary operator) beside = spaced (kind_word (NodeKind.Binary operator))
+joint_text NodeKind.Has beside = spaced (kind_word NodeKind.Has)
+joint_text NodeKind.InList beside = spaced (kind_word NodeKind.InList) ++ 40 ∷ []
+joint_text NodeKind.InPath beside = spaced (kind_word NodeKind.InPath)
 joint_text _ beside = []
 
 -- it has a first operand with something behind

@@ -27,10 +27,10 @@ returns-in-Variable c = on_ok c.write_name-in-Variable.result
     c.args.pending.now.items c.node-node.ensures (subst IsNamed (sym c.in-Variable.is) tt)) c.write_name-in-Variable.ensures
 
 pub write_sign-requires-clause-sign : goal.write_sign-requires-clause-sign
-write_sign-requires-clause-sign c = record { found = c.node-node.result; at = c.node-node.ensures; is = rw c.in-Neg.is refl }
+write_sign-requires-clause-sign c = record { found = c.node-node.result; at = c.node-node.ensures; is = rw c.in-Neg.is (rw c.in-Neg.is at c.kind_word.ensures) }
 
 pub write_sign-requires-in-Not-clause-sign : goal.write_sign-requires-in-Not-clause-sign
-write_sign-requires-in-Not-clause-sign c = record { found = c.node-node.result; at = c.node-node.ensures; is = rw c.in-Not.is refl }
+write_sign-requires-in-Not-clause-sign c = record { found = c.node-node.result; at = c.node-node.ensures; is = rw c.in-Not.is (rw c.in-Not.is at c.kind_word-in-Not.ensures) }
 
 pub put_operands-requires-clause-first : goal.put_operands-requires-clause-first
 put_operands-requires-clause-first c =
