@@ -7,25 +7,53 @@ use odata_typing::check;
 use std::alloc::Global;
 use std::test::Fail;
 
-/// The rows that the filter keeps, each on a line of its own.
-fn kept(alloc: Global, document: &[u8], filter: &str, rows: &[u8]) -> Result<Vec<u8>, Fail> {
+/// Appends the rows of a document's items that the filter keeps, each on a line of its own.
+fn keep(
+    alloc: Global,
+    document: &[u8],
+    filter: &str,
+    rows: &[u8],
+    kept: &mut Vec<u8>,
+) -> Result<(), Fail> {
     let schema = Schema::read(alloc, document)?;
-    let item = schema.type_named("Mini.Item").ok_or("no such type")?;
-    let filter = check(alloc, &schema, item, filter)?;
-    let now = Moment::new(civil::date(2026, 11, 23).at(0, 0, 0, 0), 0).ok_or("no moment")?;
-    let mut kept = Vec::new(alloc);
-    filter_slice(alloc, &filter, &now, rows, &mut kept)?;
-    Ok(kept)
+    keep_items(alloc, &schema, filter, rows, kept)
 }
 
+fn keep_items(
+    alloc: Global,
+    schema: &Schema,
+    filter: &str,
+    rows: &[u8],
+    kept: &mut Vec<u8>,
+) -> Result<(), Fail> {
+    let item = schema.type_named("Mini.Item").ok_or("no such type")?;
+    let filter = check(alloc, schema, item, filter)?;
+    let now = Moment::new(civil::date(2026, 11, 23).at(0, 0, 0, 0), 0).ok_or("no moment")?;
+    filter_slice(alloc, &filter, &now, rows, kept)?;
+    Ok(())
+}
+
+const DOCUMENT: &[u8] =
+    b"{\"$Version\":\"4.01\",\"Mini\":{\"Item\":{\"$Kind\":\"EntityType\",\"Name\":{}}}}";
+
+/// A filter, and all that is kept of the rows by it and by those before.
+const KEPT: &[(&str, &str)] = &[
+    ("Name eq 'b'", "{\"Name\":\"b\"}\n"),
+    ("Name eq 'c'", "{\"Name\":\"b\"}\n"),
+    (
+        "Name gt ''",
+        "{\"Name\":\"b\"}\n{\"Name\":\"a\"}\n{\"Name\":\"b\"}\n",
+    ),
+];
+
+/// What is written goes behind what is there.
 #[test]
 fn rows_that_a_filter_keeps(rt: HostRuntime) -> Result<(), Fail> {
-    let document =
-        "{\"$Version\":\"4.01\",\"Mini\":{\"Item\":{\"$Kind\":\"EntityType\",\"Name\":{}}}}";
-    let rows = "{\"Name\":\"a\"}\n{\"Name\":\"b\"}\n";
-    for (filter, wanted) in [("Name eq 'b'", "{\"Name\":\"b\"}\n"), ("Name eq 'c'", "")] {
-        let said = kept(rt.alloc(), document.as_bytes(), filter, rows.as_bytes())?;
-        assert!(rt; said.as_slice() == wanted.as_bytes(), "at {filter}");
+    let rows = b"{\"Name\":\"a\"}\n{\"Name\":\"b\"}\n".as_slice();
+    let mut kept = Vec::new(rt.alloc());
+    for &(filter, wanted) in KEPT {
+        keep(rt.alloc(), DOCUMENT, filter, rows, &mut kept)?;
+        assert!(rt; kept.as_slice() == wanted.as_bytes(), "at {filter}");
     }
     Ok(())
 }

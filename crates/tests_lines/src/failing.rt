@@ -1,236 +1,253 @@
 //! Devices that fail at one of their calls, whichever: what is answered and written, and that no call comes behind it.
-use crate::answers::{A, A_TWICE, Answer, THREE, answer_to, holds};
+use crate::answers::{answers, is_called, keeps};
+use crate::devices::{Giving, NEVER, PIECES, cut, stumbling, taker};
+use crate::items::{A, A_TWICE, ROWS};
 use std::alloc::Global;
 use std::io;
-use std::io::{ErrorKind, Read, Write};
+use std::io::{ErrorKind, Read};
 use std::test::Fail;
-
-/// Gives what another reader gives, at most so many bytes a call, and fails at one call.
-#[derive(Drop)]
-struct FailingReader<R> {
-    reader: R,
-    piece: usize,
-    fails_at: usize,
-    kind: ErrorKind,
-    calls: usize,
-}
-
-impl<R: Read> Read for FailingReader<R> {
-    fn read(&mut self, buffer: &mut [u8]) -> io::Result<usize> {
-        self.calls = self.calls.saturating_add(1);
-        if self.calls == self.fails_at {
-            return Err(io::Error::from(self.kind));
-        }
-        let count = buffer.len().min(self.piece);
-        self.reader.read(&mut buffer[..count])
-    }
-}
-
-/// What a writer does at the call that fails.
-#[derive(Clone, Copy)]
-enum Refuses {
-    Fails(ErrorKind),
-    TakesNone,
-}
-
-/// Takes at most so many bytes a call, and fails at one call. A flush is a call too.
-#[derive(Drop)]
-struct FailingWriter {
-    taken: Vec<u8>,
-    piece: usize,
-    fails_at: usize,
-    refuses: Refuses,
-    calls: usize,
-}
-
-impl Write for FailingWriter {
-    fn write(&mut self, bytes: &[u8]) -> io::Result<usize> {
-        self.calls = self.calls.saturating_add(1);
-        if self.calls == self.fails_at {
-            return match self.refuses {
-                Refuses::Fails(kind) => Err(io::Error::from(kind)),
-                Refuses::TakesNone => Ok(0),
-            };
-        }
-        let count = bytes.len().min(self.piece);
-        self.taken.extend_from_slice(&bytes[..count])?;
-        Ok(count)
-    }
-
-    fn flush(&mut self) -> io::Result<()> {
-        self.calls = self.calls.saturating_add(1);
-        match self.refuses {
-            Refuses::Fails(kind) if self.calls == self.fails_at => Err(io::Error::from(kind)),
-            _ => Ok(()),
-        }
-    }
-}
 
 /// How many of the lines of these bytes have their line feed.
 fn line_feeds(bytes: &[u8]) -> usize {
     bytes.iter().filter(|byte| **byte == b'\n').count()
 }
 
-/// What is kept of the three rows where so many of their lines came whole.
-fn kept_of(lines: usize) -> &'static str {
-    match lines {
-        0 => "",
-        1 | 2 => A,
-        _ => A_TWICE,
-    }
-}
+/// What is told and kept where a read fails once so many of the lines came whole.
+const FAILED: &[(&str, &str)] = &[
+    ("read rows 1", ""),
+    ("read rows 2", A),
+    ("read rows 3", A),
+    ("read rows 4", A),
+    ("read rows 5", A),
+    ("read rows 6", A_TWICE),
+];
 
-/// Fails if a run over the three rows, so many bytes a call, whose read of this number fails, tells another line,
-/// writes another text or reads on.
-fn read_fails(alloc: Global, piece: usize, fails_at: usize) -> Result<(), Fail> {
-    let mut reader = FailingReader {
-        reader: THREE.as_bytes(),
+/// Fails if a run over the rows, so many bytes a call, whose read of this number fails, answers otherwise, writes
+/// another text or reads on.
+fn read_fails(alloc: Global, piece: usize, fails_at: usize, kind: ErrorKind) -> Result<(), Fail> {
+    let mut reader = Giving {
+        reader: ROWS.as_bytes(),
         piece,
-        fails_at,
-        kind: ErrorKind::Interrupted,
+        stumbles_at: fails_at,
+        error: Some(kind),
         calls: 0,
     };
-    let mut out = Vec::new(alloc);
-    let told = answer_to(alloc, &mut reader, &mut out);
     let given = piece
         .saturating_mul(fails_at.saturating_sub(1))
-        .min(THREE.len());
-    let lines = line_feeds(&THREE.as_bytes()[..given]);
-    let is_told = told == Answer::Read((lines as u64).saturating_add(1));
-    let is_so = is_told && out.as_slice() == kept_of(lines).as_bytes() && reader.calls == fails_at;
-    holds(is_so, fails_at, told)
+        .min(ROWS.len());
+    let lines = line_feeds(&ROWS.as_bytes()[..given]);
+    let &(wanted, kept) = FAILED.get(lines).ok_or("fewer lines")?;
+    keeps(alloc, &mut reader, wanted, kept)?;
+    is_called(reader.calls, fails_at)
 }
 
-/// The reads up to the one that tells the end: as many as there are bytes, and one.
-#[test]
-fn each_read_of_one_byte_fails(rt: HostRuntime) -> Result<(), Fail> {
-    for fails_at in 1..THREE.len().saturating_add(2) {
-        read_fails(rt.alloc(), 1, fails_at)?;
+/// The reads up to the one that tells the end fail in turn.
+fn each_read_fails(alloc: Global, piece: usize) -> Result<(), Fail> {
+    let reads = ROWS.len().div_ceil(piece.max(1)).saturating_add(1);
+    for fails_at in 1..reads.saturating_add(1) {
+        read_fails(alloc, piece, fails_at, ErrorKind::Interrupted)?;
     }
     Ok(())
 }
 
+/// From one byte a call on up to all of them: so the second read fails behind each byte, too.
 #[test]
-fn each_read_of_seven_bytes_fails(rt: HostRuntime) -> Result<(), Fail> {
-    for fails_at in 1..17 {
-        read_fails(rt.alloc(), 7, fails_at)?;
+fn each_read_of_each_length_fails(rt: HostRuntime) -> Result<(), Fail> {
+    for piece in 1..ROWS.len().saturating_add(1) {
+        each_read_fails(rt.alloc(), piece)?;
     }
     Ok(())
 }
 
-/// Fails if a run over the three rows, where no read fails, so many bytes a call, answers otherwise.
-fn all_come(alloc: Global, piece: usize) -> Result<(), Fail> {
-    let reader = FailingReader {
-        reader: THREE.as_bytes(),
-        piece,
-        fails_at: usize::MAX,
-        kind: ErrorKind::Other,
-        calls: 0,
-    };
-    let mut out = Vec::new(alloc);
-    let told = answer_to(alloc, reader, &mut out);
-    let is_so = told == Answer::Done { rows: 3, kept: 2 } && out.as_slice() == A_TWICE.as_bytes();
-    holds(is_so, piece, told)
-}
-
-/// How many bytes come at a time.
-const PIECES: &[usize] = &[1, 2, 7, 34, 1000];
-
+/// Rows that are cut at any place.
 #[test]
 fn no_read_fails(rt: HostRuntime) -> Result<(), Fail> {
-    for &piece in PIECES {
-        all_come(rt.alloc(), piece)?;
+    for piece in 1..ROWS.len().saturating_add(1) {
+        let rows = cut(ROWS.as_bytes(), piece);
+        keeps(rt.alloc(), rows, "3 rows, 2 kept", A_TWICE)?;
     }
     Ok(())
 }
 
-/// Fails if a run over the three rows, into a writer of so many bytes a call whose call of this number fails, answers
-/// otherwise: of 68 bytes the first ones are written, and the call behind the last write is the flush.
-fn write_fails(alloc: Global, piece: usize, fails_at: usize, refuses: Refuses) -> Result<(), Fail> {
-    let mut out = FailingWriter {
-        taken: Vec::new(alloc),
-        piece,
-        fails_at,
-        refuses,
-        calls: 0,
-    };
-    let told = answer_to(alloc, THREE.as_bytes(), &mut out);
+/// What comes before a read that fails, what would come behind it, what is told, and what is written.
+const BEFORE: &[(&str, &str, &str, &str)] = &[
+    ("", A, "read rows 1", ""),
+    (A, A, "read rows 2", A),
+    ("{}", "\n", "read rows 1", ""),
+    (
+        "{\"ID\":1,\"Name\":\"a\"",
+        ",\"Active\":true}\n",
+        "read rows 1",
+        "",
+    ),
+    ("\n\n", A, "read rows 3", ""),
+    ("{\n", A, "row 1 Json", ""),
+    (
+        "{\"ID\":1,\"Name\":\"a\",\"Active\":true}\n{\"ID\":1,\"Name\":\"b\"",
+        ",\"Active\":true}\n",
+        "read rows 2",
+        A,
+    ),
+    (
+        "{\"ID\":1,\"Name\":\"a\",\"Active\":true}\n{\"ID\":1,\"Name\":\"b\",\"Active\":true}\n{\"ID\":1,",
+        "\"Name\":\"a\",\"Active\":true}\n",
+        "read rows 3",
+        A,
+    ),
+    (
+        "{\"ID\":1,\"Name\":\"a\",\"Active\":true}\n{\n",
+        A,
+        "row 2 Json",
+        A,
+    ),
+    (
+        "{\"ID\":1,\"Name\":\"a\",\"Active\":true}\n{\n{",
+        A,
+        "row 2 Json",
+        A,
+    ),
+    (
+        "{\"ID\":1,\"Name\":\"a\",\"Active\":true}\n{}\n{",
+        A,
+        "row 2 Missing Active",
+        A,
+    ),
+    (
+        "{\"ID\":1,\"Name\":\"a\",\"Active\":true}\n{}\n",
+        A,
+        "row 2 Missing Active",
+        A,
+    ),
+    (
+        "{\"ID\":1,\"Name\":\"a\",\"Active\":true}\n\n[]\n{}\n",
+        A,
+        "row 3 NotObject",
+        A,
+    ),
+    (
+        "{\"ID\":1,\"Name\":\"a\",\"Active\":true}\n{}",
+        A,
+        "read rows 2",
+        A,
+    ),
+    (
+        "{\"ID\":1,\"Name\":\"a\",\"Active\":true}\n\n",
+        A,
+        "read rows 3",
+        A,
+    ),
+];
+
+/// Fails if rows that come so many bytes at a time, and then fail to come, are told otherwise, or more is read then.
+fn fails_behind(
+    alloc: Global,
+    piece: usize,
+    first: &str,
+    behind: &str,
+    wanted: (&str, &str),
+) -> Result<(), Fail> {
+    let mut failure = stumbling(Some(ErrorKind::Interrupted), behind.as_bytes());
+    let rows = cut(first.as_bytes().chain(&mut failure), piece);
+    let (told, kept) = wanted;
+    keeps(alloc, rows, told, kept)?;
+    is_called(failure.calls.max(1), 1)
+}
+
+/// A fault of a complete line goes before the failed read; a line that is not complete is not judged, and a failed read is
+/// not tried again.
+#[test]
+fn complete_lines_are_judged_before_a_failed_read(rt: HostRuntime) -> Result<(), Fail> {
+    for &(first, behind, told, kept) in BEFORE {
+        for &piece in PIECES {
+            fails_behind(rt.alloc(), piece, first, behind, (told, kept))?;
+        }
+    }
+    Ok(())
+}
+
+/// A faulty line is told before anything behind it is read.
+#[test]
+fn nothing_is_read_behind_a_faulty_line(rt: HostRuntime) -> Result<(), Fail> {
+    let mut rows = cut(
+        b"{}\n{\"ID\":1,\"Name\":\"a\",\"Active\":true}\n\n".as_slice(),
+        1,
+    );
+    keeps(rt.alloc(), &mut rows, "row 1 Missing Active", "")?;
+    is_called(rows.calls, 3)
+}
+
+#[test]
+fn a_line_without_end_is_too_long(rt: HostRuntime) -> Result<(), Fail> {
+    let endless = A.as_bytes().chain(io::repeat(b' '));
+    keeps(rt.alloc(), endless, "row 2 LineTooLong", A)
+}
+
+/// Fails if a run over the rows, into a writer of so many bytes a call whose call of this number fails by this error, or
+/// takes none, answers otherwise, writes another text or calls it again.
+fn write_fails(
+    alloc: Global,
+    piece: usize,
+    fails_at: usize,
+    error: Option<ErrorKind>,
+) -> Result<(), Fail> {
+    let mut out = taker(alloc, piece, fails_at, error);
+    answers(alloc, ROWS.as_bytes(), &mut out, "write")?;
     let written = piece
         .saturating_mul(fails_at.saturating_sub(1))
         .min(A_TWICE.len());
-    let is_told = told == Answer::Write && out.calls == fails_at;
-    holds(
-        is_told && out.taken.as_slice() == &A_TWICE.as_bytes()[..written],
-        fails_at,
-        told,
-    )
+    is_called(out.calls, fails_at)?;
+    if out.taken.as_slice() == &A_TWICE.as_bytes()[..written] {
+        Ok(())
+    } else {
+        Err(Fail::new(format_args!("another text at call {fails_at}")))
+    }
 }
 
-/// All 68 writes of one byte fail in turn, and then the flush.
+/// So many bytes a call, how many calls there are, and what each of them does in turn. The last call is the flush, which
+/// takes nothing in any case.
+const WRITES: &[(usize, usize, Option<ErrorKind>)] = &[
+    (1, 69, Some(ErrorKind::Interrupted)),
+    (1, 68, None),
+    (7, 11, Some(ErrorKind::WouldBlock)),
+    (7, 10, None),
+    (10, 8, Some(ErrorKind::BrokenPipe)),
+    (10, 7, None),
+];
+
 #[test]
-fn each_write_of_one_byte_fails(rt: HostRuntime) -> Result<(), Fail> {
-    for fails_at in 1..70 {
-        write_fails(
-            rt.alloc(),
-            1,
-            fails_at,
-            Refuses::Fails(ErrorKind::Interrupted),
-        )?;
+fn each_write_fails_or_takes_none(rt: HostRuntime) -> Result<(), Fail> {
+    for &(piece, calls, error) in WRITES {
+        for fails_at in 1..calls.saturating_add(1) {
+            write_fails(rt.alloc(), piece, fails_at, error)?;
+        }
     }
     Ok(())
 }
 
-/// A write that takes none of what is left has failed.
-#[test]
-fn each_write_of_one_byte_takes_none(rt: HostRuntime) -> Result<(), Fail> {
-    for fails_at in 1..69 {
-        write_fails(rt.alloc(), 1, fails_at, Refuses::TakesNone)?;
-    }
-    Ok(())
-}
+/// How many bytes are taken at a time.
+const TAKEN: &[usize] = &[1, 2, 7, 33, 34, 100, 1000];
 
-/// Ten writes of seven bytes, and the flush.
-#[test]
-fn each_write_of_seven_bytes_fails(rt: HostRuntime) -> Result<(), Fail> {
-    for fails_at in 1..12 {
-        write_fails(
-            rt.alloc(),
-            7,
-            fails_at,
-            Refuses::Fails(ErrorKind::WouldBlock),
-        )?;
-    }
-    Ok(())
-}
-
-/// Fails if a run over the three rows into a writer of so many bytes a call, none of which fails, answers otherwise, or
-/// calls it more often than it takes and once for the flush.
+/// Fails if a run over the rows into a writer of so many bytes a call, none of which fails, answers otherwise, or calls it
+/// more often than it takes and once for the flush.
 fn all_is_taken(alloc: Global, piece: usize) -> Result<(), Fail> {
-    let mut out = FailingWriter {
-        taken: Vec::new(alloc),
-        piece,
-        fails_at: usize::MAX,
-        refuses: Refuses::TakesNone,
-        calls: 0,
-    };
-    let told = answer_to(alloc, THREE.as_bytes(), &mut out);
+    let mut out = taker(alloc, piece, NEVER, None);
+    answers(alloc, ROWS.as_bytes(), &mut out, "3 rows, 2 kept")?;
     let calls = A_TWICE.len().div_ceil(piece.max(1)).saturating_add(1);
-    let is_done = told == Answer::Done { rows: 3, kept: 2 } && out.calls == calls;
-    holds(
-        is_done && out.taken.as_slice() == A_TWICE.as_bytes(),
-        piece,
-        told,
-    )
+    is_called(out.calls, calls)?;
+    if out.taken.as_slice() == A_TWICE.as_bytes() {
+        Ok(())
+    } else {
+        Err(Fail::new(format_args!("another text, {piece} bytes a call")))
+    }
 }
 
 #[test]
 fn no_write_fails(rt: HostRuntime) -> Result<(), Fail> {
-    for &piece in PIECES {
+    for &piece in TAKEN {
         all_is_taken(rt.alloc(), piece)?;
     }
     Ok(())
 }
-
 /// The kinds of error of `std`.
 const KINDS: &[ErrorKind] = &[
     ErrorKind::NotFound,
@@ -277,43 +294,18 @@ const KINDS: &[ErrorKind] = &[
     ErrorKind::Uncategorized,
 ];
 
-/// Fails if a second read that fails by an error of this kind is not told, once the first row was kept.
-fn read_fails_by(alloc: Global, kind: ErrorKind) -> Result<(), Fail> {
-    let mut reader = FailingReader {
-        reader: THREE.as_bytes(),
-        piece: A.len(),
-        fails_at: 2,
-        kind,
-        calls: 0,
-    };
-    let mut out = Vec::new(alloc);
-    let told = answer_to(alloc, &mut reader, &mut out);
-    let is_so = told == Answer::Read(2) && out.as_slice() == A.as_bytes() && reader.calls == 2;
-    holds(is_so, 2, told)
-}
-
-/// An error of any kind is one, and none is tried again.
-#[test]
-fn reads_fail_by_each_kind_of_error(rt: HostRuntime) -> Result<(), Fail> {
-    for &kind in KINDS {
-        read_fails_by(rt.alloc(), kind)?;
-    }
-    Ok(())
+/// Fails if an error of this kind is not one at a read, a write or the flush, or is tried again: the second read, the
+/// second write of forty bytes, and the flush behind one write of all.
+fn is_error(alloc: Global, kind: ErrorKind) -> Result<(), Fail> {
+    read_fails(alloc, A.len(), 2, kind)?;
+    write_fails(alloc, 40, 2, Some(kind))?;
+    write_fails(alloc, 1000, 2, Some(kind))
 }
 
 #[test]
-fn writes_fail_by_each_kind_of_error(rt: HostRuntime) -> Result<(), Fail> {
+fn each_kind_of_error_is_one(rt: HostRuntime) -> Result<(), Fail> {
     for &kind in KINDS {
-        write_fails(rt.alloc(), 40, 2, Refuses::Fails(kind))?;
-    }
-    Ok(())
-}
-
-/// One write takes all; the second call is the flush.
-#[test]
-fn flushes_fail_by_each_kind_of_error(rt: HostRuntime) -> Result<(), Fail> {
-    for &kind in KINDS {
-        write_fails(rt.alloc(), 1000, 2, Refuses::Fails(kind))?;
+        is_error(rt.alloc(), kind)?;
     }
     Ok(())
 }

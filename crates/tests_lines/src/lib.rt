@@ -1,16 +1,9 @@
-//! Readers and writers that give or take little, or fail: lines, and runs of the program's work over them; the plans of
-//! command lines, and the library's example. What runs answer over texts stands in the suite of cases (`conformance`).
-//! There is nothing here but tests.
+//! Readers and writers that give or take little, or fail: lines, and runs over them; and the library's example. What runs
+//! answer over texts stands in the suite of cases (`conformance`). There is nothing here but tests.
 #![tactic(auto)]
 
 #[cfg(test)]
 mod answers;
-#[cfg(test)]
-mod collections;
-#[cfg(test)]
-mod command_lines;
-#[cfg(test)]
-mod cuts;
 #[cfg(test)]
 mod devices;
 #[cfg(test)]
@@ -18,18 +11,14 @@ mod example;
 #[cfg(test)]
 mod failing;
 #[cfg(test)]
-mod filters;
-#[cfg(test)]
-mod limits;
+mod items;
 #[cfg(test)]
 mod line_readers;
 #[cfg(test)]
-mod pieces;
-#[cfg(test)]
-mod readers;
-#[cfg(test)]
 mod recorded;
 #[cfg(test)]
-mod told;
+mod runs;
 #[cfg(test)]
-mod writers;
+mod shop;
+#[cfg(test)]
+mod watched;

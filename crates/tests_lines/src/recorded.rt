@@ -1,95 +1,95 @@
 //! Devices that keep what became of their calls, through the engine.
 ghost use Rattle.csdl_schema.specs.SchemaModel.{HoldsType};
 
-use crate::answers::{A, Answer, answer_of, first_moment, holds};
-use crate::devices::{Stumble, Stumbling};
-use crate::told::{FIRST, SCHEMA};
+use crate::answers::{first_moment, is_told};
+use crate::devices::{Giving, NEVER, Taking, stumbling, taker};
+use crate::items::{A, FIRST, SCHEMA};
 use csdl_schema::{Schema, TypeId};
-use odata_filter::{ByRecord, Calls, LineReader, Recorded, filter_lines_by};
+use odata_filter::{ByRecord, Calls, LineReader, Recorded, RunFault, Tally, filter_lines_by};
 use odata_typing::check;
 use std::alloc::Global;
-use std::io;
-use std::io::{Chain, Read, Write};
+use std::io::{Chain, ErrorKind, Read};
 use std::test::Fail;
 
-/// Takes all, and its flush may fail.
-#[derive(Drop)]
-struct Flushing {
-    taken: usize,
-    fails: bool,
-}
+/// A row, and then the end or a read that fails.
+type Rows<'b> = Recorded<Chain<&'b [u8], Giving<&'b [u8]>>>;
 
-impl Write for Flushing {
-    fn write(&mut self, bytes: &[u8]) -> io::Result<usize> {
-        self.taken = self.taken.saturating_add(bytes.len());
-        Ok(bytes.len())
-    }
-
-    fn flush(&mut self) -> io::Result<()> {
-        if self.fails {
-            return Err(io::Error::from(io::ErrorKind::Interrupted));
-        }
-        Ok(())
-    }
-}
-
-/// Some rows, and then the end or a read that fails.
-type Rows<'b> = Recorded<Chain<&'b [u8], Stumbling>>;
-
-/// What the first filter answers, and what became of the calls of both devices.
-fn calls_over(
+/// What the first filter of a type answers.
+fn answer_over(
     alloc: Global,
     schema: &Schema,
     id: TypeId,
     lines: &mut LineReader<Rows<'_>>,
-    out: &mut Recorded<Flushing>,
-) -> Answer
+    out: &mut Recorded<Taking>,
+) -> Result<Result<Tally, RunFault>, Fail>
     requires { HoldsType schema.now id }
 {
-    match (check(alloc, schema, id, FIRST), first_moment()) {
-        (Ok(checked), Some(now)) => answer_of(filter_lines_by::<
-            Rows<'_>,
-            ByRecord,
-            Recorded<Flushing>,
-            ByRecord,
-        >(alloc, &checked, &now, lines, out)),
-        _ => Answer::Other,
-    }
+    let checked = check(alloc, schema, id, FIRST)?;
+    let now = first_moment()?;
+    Ok(filter_lines_by::<Rows<'_>, ByRecord, Recorded<Taking>, ByRecord>(
+        alloc, &checked, &now, lines, out,
+    ))
 }
 
-/// The same, of the first type.
-fn first_calls_over(
+/// The same of items.
+fn answer_to(
     alloc: Global,
     lines: &mut LineReader<Rows<'_>>,
-    out: &mut Recorded<Flushing>,
-) -> Result<Answer, Fail> {
+    out: &mut Recorded<Taking>,
+) -> Result<Result<Tally, RunFault>, Fail> {
     let schema = Schema::read(alloc, SCHEMA.as_bytes())?;
     match schema.type_named("Mini.Item") {
-        Some(id) if schema.holds(id) => Ok(calls_over(alloc, &schema, id, lines, out)),
-        _ => Ok(Answer::Other),
+        Some(id) if schema.holds(id) => answer_over(alloc, &schema, id, lines, out),
+        _ => Err(Fail::new("no type")),
     }
 }
 
-/// Behind a row: what the reader does, whether the flush fails, the answer, and what became of the calls.
-const CALLS: &[(Stumble, bool, Answer, Calls, Calls)] = &[
+/// Fails if a run answers otherwise.
+fn answers(
+    alloc: Global,
+    lines: &mut LineReader<Rows<'_>>,
+    out: &mut Recorded<Taking>,
+    wanted: &str,
+) -> Result<(), Fail> {
+    let answer = answer_to(alloc, lines, out)?;
+    is_told(alloc, &answer, wanted)
+}
+
+/// Fails if a run answers otherwise, or its writer, whose flush may fail, keeps something else of its calls.
+fn keeps_writes(
+    alloc: Global,
+    lines: &mut LineReader<Rows<'_>>,
+    error: Option<ErrorKind>,
+    wanted: &str,
+    writes: Calls,
+) -> Result<(), Fail> {
+    let mut out = Recorded {
+        device: taker(alloc, NEVER, 2, error),
+        calls: Calls::Well,
+    };
+    answers(alloc, lines, &mut out, wanted)?;
+    if out.calls == writes && out.device.taken.as_slice() == A.as_bytes() {
+        Ok(())
+    } else {
+        Err(Fail::new(format_args!("another text or other writes: {wanted}")))
+    }
+}
+
+/// What the reader does behind a row (it ends, or fails by this error), by which error the flush fails, the answer, and
+/// what became of the calls of both devices.
+const CALLS: &[(Option<ErrorKind>, Option<ErrorKind>, &str, Calls, Calls)] = &[
+    (None, None, "1 rows, 1 kept", Calls::Well, Calls::Flushed),
     (
-        Stumble::Ends,
-        false,
-        Answer::Done { rows: 1, kept: 1 },
-        Calls::Well,
-        Calls::Flushed,
-    ),
-    (
-        Stumble::Ends,
-        true,
-        Answer::Write,
+        None,
+        Some(ErrorKind::Interrupted),
+        "write",
         Calls::Well,
         Calls::Failed,
     ),
     (
-        Stumble::Fails,
-        false,
-        Answer::Read(2),
+        Some(ErrorKind::Interrupted),
+        None,
+        "read rows 2",
         Calls::Failed,
         Calls::Well,
     ),
@@ -98,32 +98,29 @@ const CALLS: &[(Stumble, bool, Answer, Calls, Calls)] = &[
 /// Fails if these devices keep something else of their calls.
 fn keep_calls(
     alloc: Global,
-    stumble: Stumble,
-    fails: bool,
-    wanted: Answer,
-    calls: (Calls, Calls),
+    errors: (Option<ErrorKind>, Option<ErrorKind>),
+    wanted: &str,
+    reads: Calls,
+    writes: Calls,
 ) -> Result<(), Fail> {
-    let stumbling = Stumbling {
-        stumble: Some(stumble),
-    };
+    let (read, flush) = errors;
     let rows = Recorded {
-        device: A.as_bytes().chain(stumbling),
+        device: A.as_bytes().chain(stumbling(read, b"\n\n".as_slice())),
         calls: Calls::Well,
     };
     let mut lines = LineReader::new(alloc, rows);
-    let mut out = Recorded {
-        device: Flushing { taken: 0, fails },
-        calls: Calls::Well,
-    };
-    let told = first_calls_over(alloc, &mut lines, &mut out)?;
-    let is_kept = (lines.reader().calls, out.calls) == calls && out.device.taken == A.len();
-    holds(told == wanted && is_kept, 0, told)
+    keeps_writes(alloc, &mut lines, flush, wanted, writes)?;
+    if lines.reader().calls == reads {
+        Ok(())
+    } else {
+        Err(Fail::new(format_args!("other reads: {wanted}")))
+    }
 }
 
 #[test]
 fn devices_keep_their_calls(rt: HostRuntime) -> Result<(), Fail> {
-    for &(stumble, fails, wanted, reads, writes) in CALLS {
-        keep_calls(rt.alloc(), stumble, fails, wanted, (reads, writes))?;
+    for &(read, flush, wanted, reads, writes) in CALLS {
+        keep_calls(rt.alloc(), (read, flush), wanted, reads, writes)?;
     }
     Ok(())
 }
