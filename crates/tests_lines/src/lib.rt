@@ -15,6 +15,8 @@ mod items;
 #[cfg(test)]
 mod line_readers;
 #[cfg(test)]
+mod order;
+#[cfg(test)]
 mod recorded;
 #[cfg(test)]
 mod runs;

@@ -9,7 +9,7 @@ use std::io::{ErrorKind, Read};
 use std::test::Fail;
 
 /// The plan of the verb `filter` over rows of this name.
-fn plan_of<'a>(named: &'a str, filter: &'a str, rows: Option<&'a str>) -> Plan<'a> {
+pub(crate) fn plan_of<'a>(named: &'a str, filter: &'a str, rows: Option<&'a str>) -> Plan<'a> {
     Plan {
         verb: Verb::Filter,
         schema: "schema.json",
