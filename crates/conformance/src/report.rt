@@ -62,7 +62,7 @@ impl Report {
         if wanted == got {
             return Ok(());
         }
-        let what = format!(in *self.told.allocator(); "at {at} wanted {wanted}, got {got}")?;
+        let what = format!(in *self.told.allocator(); "wanted {wanted}, got {got}, at {at}")?;
         self.tell(what.as_str())
     }
 

@@ -1,10 +1,11 @@
 //! Runs of the program's work over the files and the input of a case.
 use crate::case::Case;
 use crate::report::Report;
+use crate::rows::{put_all, row_given};
 use odata_filter::command_line::{Plan, PlanFault};
 use odata_filter::{plan, run};
 use serde_json::Value;
-use spelled_answers::pieces::{bytes_of, word_of};
+use spelled_answers::pieces::{bytes_of, items_of, push_piece, word_of};
 use spelled_answers::trouble::Trouble;
 use std::alloc::Global;
 
@@ -16,6 +17,31 @@ struct Said {
     status: u8,
 }
 
+/// Appends a piece of a text: the JSON of a named row, perhaps with members changed, or any other piece.
+fn push_part(case: &Case<'_>, bytes: &mut Vec<u8>, piece: &Value) -> Result<(), Trouble> {
+    let Some(named) = piece.get("row") else {
+        return push_piece(case.alloc, bytes, piece);
+    };
+    let mut row = row_given(case, named)?;
+    if let Some(with) = piece.get("with") {
+        put_all(case.alloc, &mut row, with)?;
+    }
+    let text = row.to_string(case.alloc)?;
+    Ok(bytes.extend_from_slice(text.as_bytes())?)
+}
+
+/// The bytes of a text of a run.
+fn text_of_run(case: &Case<'_>, given: &Value) -> Result<Vec<u8>, Trouble> {
+    if given.is_string() {
+        return bytes_of(case.alloc, given);
+    }
+    let mut bytes = Vec::new(case.alloc);
+    for piece in items_of(given)? {
+        push_part(case, &mut bytes, piece)?;
+    }
+    Ok(bytes)
+}
+
 /// The bytes of a file: a text, or the document of a named schema.
 fn content_of(case: &Case<'_>, content: &Value) -> Result<Vec<u8>, Trouble> {
     match content.get("schema") {
@@ -23,7 +49,7 @@ fn content_of(case: &Case<'_>, content: &Value) -> Result<Vec<u8>, Trouble> {
             let document = case.library.find(case.alloc, "schemas", word_of(name)?)?;
             Ok(Vec::from_slice(case.alloc, document)?)
         }
-        None => bytes_of(case.alloc, content),
+        None => text_of_run(case, content),
     }
 }
 
@@ -49,7 +75,7 @@ fn rows_of(case: &Case<'_>, named: Option<&str>) -> Result<Option<Vec<u8>>, Trou
     match named {
         Some(name) => file_of(case, name),
         None => match case.find("input") {
-            Some(text) => Ok(Some(bytes_of(case.alloc, text)?)),
+            Some(text) => Ok(Some(text_of_run(case, text)?)),
             None => Ok(Some(Vec::new(case.alloc))),
         },
     }
@@ -121,7 +147,7 @@ fn compare_text(
     let Some(wanted) = case.find(name) else {
         return Ok(());
     };
-    let wanted = bytes_of(case.alloc, wanted)?;
+    let wanted = text_of_run(case, wanted)?;
     if wanted.as_slice() == got {
         return Ok(());
     }
@@ -136,9 +162,7 @@ pub(crate) fn compare_run(case: &Case<'_>, report: &mut Report) -> Result<(), Tr
     let said = said_of(case, words.as_slice())?;
     compare_text(case, "output", said.out.as_slice(), report)?;
     compare_text(case, "errors", said.err.as_slice(), report)?;
-    if case.member("status")?.as_u64() == Some(said.status as u64) {
-        return Ok(());
-    }
-    let status = format!(in case.alloc; "another status, {}", said.status)?;
-    report.tell(status.as_str())
+    let wanted = case.member("status")?.to_string(case.alloc)?;
+    let got = format!(in case.alloc; "{}", said.status)?;
+    report.compare("status", wanted.as_str(), got.as_str())
 }

@@ -82,7 +82,8 @@ fn push_byte(bytes: &mut Vec<u8>, number: Option<u64>) -> Result<(), Trouble> {
     }
 }
 
-fn push_piece(alloc: Global, bytes: &mut Vec<u8>, piece: &Value) -> Result<(), Trouble> {
+/// Appends a piece of a text: a text, a number that is one byte, or a text many times.
+pub fn push_piece(alloc: Global, bytes: &mut Vec<u8>, piece: &Value) -> Result<(), Trouble> {
     match piece {
         Value::String(text) => Ok(bytes.extend_from_slice(text.as_bytes())?),
         Value::Number(_) => push_byte(bytes, piece.as_u64()),

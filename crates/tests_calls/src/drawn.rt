@@ -1,5 +1,6 @@
 //! Rows drawn by a fixed generator, read without a tree and with one: the same answer both ways.
-use crate::lines::{ITEMS, Lines, change, drawn, entities};
+use crate::lines::{ITEMS, Lines, entities};
+use crate::shop::{E0, SHOP};
 use std::alloc::{AllocError, Global};
 use std::test::Fail;
 
@@ -39,17 +40,23 @@ const FLAWS: &[&str] = &[
     "",
 ];
 
+/// The next number of a fixed row of them.
+fn next_number(last: u64) -> u64 {
+    last.wrapping_mul(6_364_136_223_846_793_005)
+        .wrapping_add(1_442_695_040_888_963_407)
+}
+
 /// A row of five to twelve members, of which some come twice; about one row in four has one of the flaws.
 fn drawn_row(alloc: Global, from: u64) -> Result<(String, u64), AllocError> {
-    let mut number = drawn(from);
+    let mut number = next_number(from);
     let count = 3 + (number >> 33) % 8;
     let mut row = "{\"ID\":2,\"Name\":\"b\"".to_owned(alloc)?;
     for _ in 0..count {
-        number = drawn(number);
+        number = next_number(number);
         row.push_str(",")?;
         row.push_str(MEMBERS[((number >> 33) % 16) as usize])?;
     }
-    number = drawn(number);
+    number = next_number(number);
     if (number >> 33) % 4 == 0 {
         row.push_str(",")?;
         row.push_str(FLAWS[((number >> 40) % 12) as usize])?;
@@ -58,54 +65,81 @@ fn drawn_row(alloc: Global, from: u64) -> Result<(String, u64), AllocError> {
     Ok((row, number))
 }
 
-/// Appends a row that reads alike both ways; answers the number that the next one is drawn from.
-fn push_drawn(alloc: Global, lines: &mut Lines, number: u64) -> Result<u64, AllocError> {
-    let (row, next) = drawn_row(alloc, number)?;
-    lines.push((row.into_bytes(), "entity or none"))?;
-    Ok(next)
+/// What is drawn.
+#[derive(Clone, Copy)]
+enum Drawn {
+    Row,
+    ChangedRow,
+    ChangedProduct,
 }
 
-/// So many rows, of which each reads alike both ways.
-fn drawn_lines(alloc: Global, count: usize) -> Result<Lines, AllocError> {
+/// A line that is drawn, before a byte of it may change, and the number that the next one is drawn from.
+fn drawn_line(alloc: Global, kind: Drawn, from: u64) -> Result<(String, u64), AllocError> {
+    match kind {
+        Drawn::ChangedProduct => Ok((E0.to_owned(alloc)?, from)),
+        _ => drawn_row(alloc, from),
+    }
+}
+
+/// What a line that is drawn may be. One with a changed byte may be an entity by the tree alone.
+fn wanted(kind: Drawn) -> &'static str {
+    match kind {
+        Drawn::ChangedRow => "entity, none or by the tree alone",
+        _ => "entity or none",
+    }
+}
+
+/// Puts another byte at a place of a line, both by a number.
+fn change(line: &mut Vec<u8>, number: u64) {
+    let place = ((number >> 33) % (line.len() as u64).max(1)) as usize;
+    if let Some(byte) = line.get_mut(place) {
+        *byte = ((number >> 20) % 256) as u8;
+    }
+}
+
+/// Appends a line; answers the number that the next one is drawn from.
+fn push_drawn(alloc: Global, lines: &mut Lines, kind: Drawn, from: u64) -> Result<u64, AllocError> {
+    let (row, next) = drawn_line(alloc, kind, from)?;
+    let mut line = row.into_bytes();
+    let number = match kind {
+        Drawn::Row => next,
+        _ => next_number(next),
+    };
+    if !matches!(kind, Drawn::Row) {
+        change(&mut line, number);
+    }
+    lines.push((line, wanted(kind)))?;
+    Ok(number)
+}
+
+/// So many lines.
+fn drawn_lines(alloc: Global, kind: Drawn, count: usize) -> Result<Lines, AllocError> {
     let mut lines = Vec::new(alloc);
     let mut number = 7_u64;
     for _ in 0..count {
-        number = push_drawn(alloc, &mut lines, number)?;
+        number = push_drawn(alloc, &mut lines, kind, number)?;
     }
     Ok(lines)
 }
 
 #[test]
 fn drawn_rows(rt: HostRuntime) -> Result<(), Fail> {
-    let lines = drawn_lines(rt.alloc(), 10_000)?;
+    let lines = drawn_lines(rt.alloc(), Drawn::Row, 10_000)?;
     let entities = entities(rt.alloc(), ITEMS, "N.A", &lines)?;
     assert!(rt; entities == 7_486);
     Ok(())
 }
 
-/// Appends a row with one byte changed, which may be an entity by the tree alone; answers the next number.
-fn push_changed(alloc: Global, lines: &mut Lines, number: u64) -> Result<u64, AllocError> {
-    let (row, next) = drawn_row(alloc, number)?;
-    let number = drawn(next);
-    let mut line = row.into_bytes();
-    change(&mut line, number);
-    lines.push((line, "entity, none or by the tree alone"))?;
-    Ok(number)
-}
-
-/// So many rows with one byte changed.
-fn changed_lines(alloc: Global, count: usize) -> Result<Lines, AllocError> {
-    let mut lines = Vec::new(alloc);
-    let mut number = 7_u64;
-    for _ in 0..count {
-        number = push_changed(alloc, &mut lines, number)?;
-    }
-    Ok(lines)
+#[test]
+fn drawn_rows_with_one_byte_changed(rt: HostRuntime) -> Result<(), Fail> {
+    let lines = drawn_lines(rt.alloc(), Drawn::ChangedRow, 10_000)?;
+    entities(rt.alloc(), ITEMS, "N.A", &lines)?;
+    Ok(())
 }
 
 #[test]
-fn drawn_rows_with_one_byte_changed(rt: HostRuntime) -> Result<(), Fail> {
-    let lines = changed_lines(rt.alloc(), 10_000)?;
-    entities(rt.alloc(), ITEMS, "N.A", &lines)?;
+fn products_with_one_byte_changed(rt: HostRuntime) -> Result<(), Fail> {
+    let lines = drawn_lines(rt.alloc(), Drawn::ChangedProduct, 10_000)?;
+    entities(rt.alloc(), SHOP, "Shop.Product", &lines)?;
     Ok(())
 }

@@ -12,8 +12,6 @@ mod connectives;
 #[cfg(test)]
 mod drawn;
 #[cfg(test)]
-mod entities;
-#[cfg(test)]
 mod enumerations;
 #[cfg(test)]
 mod filters;

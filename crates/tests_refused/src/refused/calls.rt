@@ -1,11 +1,11 @@
-//! The calls of documents, filters, rows and runs. What a call stands on is asked for a second time where it was refused.
+//! The calls of filters and runs. What a call stands on is asked for a second time where it was refused.
 ghost use Rattle.std.specs.Prelude.{◌≡◌, IfOk};
 ghost use Rattle.csdl_schema.specs.SchemaModel.{HoldsType};
 
 use crate::refused::tell;
 use csdl_schema::{Schema, SchemaFault, TypeId};
 use edm_entities::{Entity, RowFault};
-use edm_values::{Moment, Value};
+use edm_values::Moment;
 use jiff::civil;
 use odata_eval::{Verdict, evaluate};
 use odata_filter::{RunFault, Tally, filter_collection, filter_lines};
@@ -17,9 +17,6 @@ use std::test::Fail;
 
 const SCHEMA: &str =
     "{\"$Version\":\"4.01\",\"N\":{\"T\":{\"$Kind\":\"EntityType\",\"Name\":{},\"On\":{\"$Type\":\"Edm.Boolean\"}}}}";
-
-const FAULTY_SCHEMA: &str =
-    "{\"$Version\":\"4.01\",\"N\":{\"T\":{\"$Kind\":\"EntityType\",\"Name\":{\"$Type\":7}}}}";
 
 /// It has a node of each form that has types.
 const FILTER: &str = "On and not (- 1 gt 2) and $it/Name eq 'a'";
@@ -86,46 +83,6 @@ fn entity_of<'s>(
     }
 }
 
-/// Whether a schema has the type with its two slots.
-fn has_slots(schema: &Schema) -> bool {
-    match schema.type_named("N.T") {
-        Some(id) => schema.slot(id, "Name") == Some(0) && schema.slot(id, "On") == Some(1),
-        None => false,
-    }
-}
-
-/// Whether a document was refused memory; otherwise its schema is read.
-fn schema_is_refused(alloc: Global) -> Result<bool, Fail> {
-    match &Schema::read(alloc, SCHEMA.as_bytes()) {
-        Ok(schema) => answered(false, has_slots(schema), "other slots"),
-        Err(fault) => answered(true, matches!(fault, SchemaFault::Memory), "another fault"),
-    }
-}
-
-#[test]
-fn schemas(rt: HostRuntime) -> Result<(), Fail> {
-    let is_refused = schema_is_refused(rt.alloc())?;
-    tell(&rt, "schema_read", is_refused)
-}
-
-/// Whether a faulty document was refused memory; otherwise its fault is told.
-fn faulty_schema_is_refused(alloc: Global) -> Result<bool, Fail> {
-    match &Schema::read(alloc, FAULTY_SCHEMA.as_bytes()) {
-        Err(SchemaFault::Memory) => Ok(true),
-        Err(SchemaFault::BadProperty { owner, name }) => {
-            let is_so = owner.as_str() == "N.T" && name.as_str() == "Name";
-            answered(false, is_so, "other names")
-        }
-        _ => Err(Fail::new("another answer")),
-    }
-}
-
-#[test]
-fn faulty_schemas(rt: HostRuntime) -> Result<(), Fail> {
-    let is_refused = faulty_schema_is_refused(rt.alloc())?;
-    tell(&rt, "schema_read_of_fault", is_refused)
-}
-
 /// Whether a filter was refused memory; otherwise it has all its nodes.
 fn filter_is_refused(alloc: Global, schema: &Schema, id: TypeId) -> Result<bool, Fail>
     requires { HoldsType schema.now id }
@@ -148,71 +105,6 @@ fn untypable_filter_is_refused(alloc: Global, schema: &Schema, id: TypeId) -> Re
         }
         _ => Err(Fail::new("another answer")),
     }
-}
-
-fn is_kept_row(value: &Value) -> bool {
-    match value {
-        Value::Record(items) => match items.as_slice() {
-            [Value::Text(name), Value::Bool(true)] => name.as_str() == "a",
-            _ => false,
-        },
-        _ => false,
-    }
-}
-
-/// Whether memory was refused for the entity of a JSON value; otherwise its values are there.
-fn entity_said(said: &Result<Entity<'_>, RowFault>) -> Result<bool, Fail> {
-    match said {
-        Ok(entity) => answered(false, is_kept_row(entity.value()), "other values"),
-        Err(fault) => answered(true, matches!(fault, RowFault::Memory), "another fault"),
-    }
-}
-
-/// The same of a faulty one, whose fault is told.
-fn row_fault_said(said: &Result<Entity<'_>, RowFault>) -> Result<bool, Fail> {
-    match said {
-        Err(RowFault::Memory) => Ok(true),
-        Err(RowFault::Missing { path }) => {
-            answered(false, path.as_str() == "On", "another path")
-        }
-        _ => Err(Fail::new("another answer")),
-    }
-}
-
-/// A row that is read as an entity.
-#[derive(Clone, Copy)]
-enum Row {
-    Kept,
-    Faulty,
-}
-
-/// Whether the JSON value of a row was refused memory as an entity.
-fn json_is_refused(
-    alloc: Global,
-    schema: &Schema,
-    id: TypeId,
-    json: &serde_json::Value,
-    row: Row,
-) -> Result<bool, Fail>
-    requires { HoldsType schema.now id }
-{
-    let said = Entity::from_json(alloc, schema, id, json);
-    match row {
-        Row::Kept => entity_said(&said),
-        Row::Faulty => row_fault_said(&said),
-    }
-}
-
-/// Whether a row was refused memory.
-fn row_is_refused(alloc: Global, schema: &Schema, id: TypeId, row: Row) -> Result<bool, Fail>
-    requires { HoldsType schema.now id }
-{
-    let text = match row {
-        Row::Kept => KEPT,
-        Row::Faulty => "{\"Name\":\"a\"}",
-    };
-    let json = json_of(alloc, text)?;
-    json_is_refused(alloc, schema, id, &json, row)
 }
 
 /// The beginning of the year 1 by UTC.
@@ -247,55 +139,47 @@ fn verdict_is_refused(alloc: Global, schema: &Schema, id: TypeId) -> Result<bool
     answered(false, verdict == Verdict::True, "another verdict")
 }
 
-/// What is written of the rows before a line: 1, 3 and 5 are kept, 2 is left out, and 4 is blank.
-fn written_before(line: u64) -> &'static str {
-    match line {
-        0 | 1 => "",
-        2 | 3 => KEPT,
-        4 | 5 => KEPT_TWICE,
+/// What is asked of the filter: rows of which 1, 3 and 5 are kept, 2 is left out and 4 is blank; rows of which 4 is at
+/// fault; a collection of which the first and the third entity are kept.
+#[derive(Clone, Copy)]
+enum Run {
+    Lines,
+    FaultyLines,
+    Collection,
+}
+
+/// What is written before a line, or before the entity of this number.
+fn written_before(run: Run, line: u64) -> &'static str {
+    match (run, line) {
+        (_, 0 | 1) => "",
+        (Run::Collection, 2 | 3) => "0\n",
+        (Run::Collection, _) => "0\n2\n",
+        (_, 2 | 3) => KEPT,
+        (_, 4 | 5) => KEPT_TWICE,
         _ => KEPT_THRICE,
     }
 }
 
-fn room(alloc: Global) -> Result<Vec<u8>, AllocError> {
-    match Vec::with_capacity(alloc, 256) {
-        Ok(room) => Ok(room),
-        Err(_) => Vec::with_capacity(alloc, 256),
+/// The tally of a run without a fault.
+fn tally_of(run: Run) -> Tally {
+    match run {
+        Run::Collection => Tally { rows: 3, kept: 2 },
+        _ => Tally { rows: 4, kept: 3 },
     }
 }
 
-/// Whether the run over three rows and a blank line says that memory was refused, with what was written by then;
-/// otherwise it ended.
-fn lines_said(said: &Result<Tally, RunFault>, out: &[u8]) -> Result<bool, Fail> {
-    match said {
-        Ok(tally) => {
-            let is_so = *tally == (Tally { rows: 4, kept: 3 }) && out == KEPT_THRICE.as_bytes();
-            answered(false, is_so, "other rows")
-        }
-        Err(RunFault::Memory { line }) => {
-            let is_so = out == written_before(*line).as_bytes();
-            answered(true, is_so, "other rows before the refusal")
-        }
-        _ => Err(Fail::new("another answer")),
-    }
-}
-
-fn lines_are_refused(alloc: Global, checked: &Checked<'_>) -> Result<bool, Fail> {
-    let now = moment()?;
-    let mut out = room(alloc)?;
-    let blank = io::repeat(b' ').take(65_536);
-    let rows = THREE.as_bytes().chain(blank).chain(BEHIND.as_bytes());
-    let said = filter_lines(alloc, checked, &now, rows, &mut out);
-    lines_said(&said, out.as_slice())
-}
-
-/// Whether the run over rows with a faulty one says that memory was refused, with what was written by then; otherwise
-/// the fault is told.
-fn faulty_lines_said(said: &Result<Tally, RunFault>, out: &[u8]) -> Result<bool, Fail> {
+/// Whether a run says that memory was refused, with what was written by then; otherwise it ended, or told the fault of its
+/// fourth line before it read on.
+fn is_said(run: Run, said: &Result<Tally, RunFault>, out: &[u8]) -> Result<bool, Fail> {
+    let is_faulty = matches!(run, Run::FaultyLines);
     match said {
         Err(RunFault::Memory { line }) => {
-            let is_so = *line <= 4 && out == written_before(*line).as_bytes();
-            answered(true, is_so, "other rows before the refusal")
+            let is_so = out == written_before(run, *line).as_bytes();
+            answered(
+                true,
+                is_so && (*line <= 4 || !is_faulty),
+                "other rows before the refusal",
+            )
         }
         Err(
             RunFault::Row {
@@ -304,76 +188,73 @@ fn faulty_lines_said(said: &Result<Tally, RunFault>, out: &[u8]) -> Result<bool,
             },
         ) => answered(
             false,
-            out == KEPT_TWICE.as_bytes(),
+            is_faulty && out == KEPT_TWICE.as_bytes(),
             "other rows before the fault",
         ),
+        Ok(tally) => {
+            let is_so = !is_faulty && out == written_before(run, u64::MAX).as_bytes();
+            answered(false, is_so && *tally == tally_of(run), "other rows")
+        }
         _ => Err(Fail::new("another answer")),
     }
 }
 
-fn faulty_lines_are_refused(alloc: Global, checked: &Checked<'_>) -> Result<bool, Fail> {
-    let now = moment()?;
-    let mut out = room(alloc)?;
-    let blank = io::repeat(b' ').take(65_536);
-    let rows = THREE.as_bytes().chain(b"{}\n".as_slice()).chain(blank);
-    let said = filter_lines(alloc, checked, &now, rows, &mut out);
-    faulty_lines_said(&said, out.as_slice())
+/// Memory that is there before the run.
+fn room(alloc: Global) -> Result<Vec<u8>, AllocError> {
+    match Vec::with_capacity(alloc, 256) {
+        Ok(room) => Ok(room),
+        Err(_) => Vec::with_capacity(alloc, 256),
+    }
 }
 
-/// The first and the third entity are kept.
+/// Whether memory was refused of lines.
+fn lines_are_refused(
+    alloc: Global,
+    checked: &Checked<'_>,
+    run: Run,
+    out: &mut Vec<u8>,
+) -> Result<bool, Fail> {
+    let now = moment()?;
+    let blank = io::repeat(b' ').take(65_536);
+    let (fourth, last) = match run {
+        Run::Lines => ("", BEHIND),
+        _ => ("{}\n", ""),
+    };
+    let first = THREE.as_bytes().chain(fourth.as_bytes());
+    let rows = first.chain(blank).chain(last.as_bytes());
+    let said = filter_lines(alloc, checked, &now, rows, out);
+    is_said(run, &said, out.as_slice())
+}
+
 const COLLECTION: &str =
     "{\"value\":[{\"Name\":\"a\",\"On\":true},{\"Name\":\"b\",\"On\":true},{\"Name\":\"a\",\"On\":true}]}";
 
-/// What is written of the entities before the one of this number.
-fn places_before(line: u64) -> &'static str {
-    match line {
-        0 | 1 => "",
-        2 | 3 => "0\n",
-        _ => "0\n2\n",
-    }
-}
-
-/// Whether the run over the collection says that memory was refused, with what was written by then; otherwise the places
-/// are written.
-fn collection_said(said: &Result<Tally, RunFault>, out: &[u8]) -> Result<bool, Fail> {
-    match said {
-        Ok(tally) => {
-            let is_so = *tally == (Tally { rows: 3, kept: 2 }) && out == "0\n2\n".as_bytes();
-            answered(false, is_so, "other places")
-        }
-        Err(RunFault::Memory { line }) => {
-            let is_so = out == places_before(*line).as_bytes();
-            answered(true, is_so, "other places before the refusal")
-        }
-        _ => Err(Fail::new("another answer")),
-    }
-}
-
-fn collection_is_refused(alloc: Global, checked: &Checked<'_>) -> Result<bool, Fail> {
+/// Whether memory was refused of the collection.
+fn collection_is_refused(
+    alloc: Global,
+    checked: &Checked<'_>,
+    out: &mut Vec<u8>,
+) -> Result<bool, Fail> {
     let now = moment()?;
+    let said = filter_collection(alloc, checked, &now, COLLECTION.as_bytes(), out);
+    is_said(Run::Collection, &said, out.as_slice())
+}
+
+/// Whether memory was refused of what is asked of the filter.
+fn asked_is_refused(alloc: Global, checked: &Checked<'_>, run: Run) -> Result<bool, Fail> {
     let mut out = room(alloc)?;
-    let said = filter_collection(alloc, checked, &now, COLLECTION.as_bytes(), &mut out);
-    collection_said(&said, out.as_slice())
+    match run {
+        Run::Collection => collection_is_refused(alloc, checked, &mut out),
+        _ => lines_are_refused(alloc, checked, run, &mut out),
+    }
 }
 
-/// What is asked of the filter.
-#[derive(Clone, Copy)]
-enum Run {
-    Lines,
-    FaultyLines,
-    Collection,
-}
-
-/// Whether this was refused memory.
+/// The same of the type's filter.
 fn run_is_refused(alloc: Global, schema: &Schema, id: TypeId, run: Run) -> Result<bool, Fail>
     requires { HoldsType schema.now id }
 {
     let checked = filter_of(alloc, schema, id)?;
-    match run {
-        Run::Lines => lines_are_refused(alloc, &checked),
-        Run::FaultyLines => faulty_lines_are_refused(alloc, &checked),
-        Run::Collection => collection_is_refused(alloc, &checked),
-    }
+    asked_is_refused(alloc, &checked, run)
 }
 
 /// What is asked of a schema.
@@ -381,7 +262,6 @@ fn run_is_refused(alloc: Global, schema: &Schema, id: TypeId, run: Run) -> Resul
 enum Call {
     Filter,
     UntypableFilter,
-    Row(Row),
     Verdict,
     Run(Run),
 }
@@ -393,7 +273,6 @@ fn call_is_refused(alloc: Global, schema: &Schema, id: TypeId, call: Call) -> Re
     match call {
         Call::Filter => filter_is_refused(alloc, schema, id),
         Call::UntypableFilter => untypable_filter_is_refused(alloc, schema, id),
-        Call::Row(row) => row_is_refused(alloc, schema, id, row),
         Call::Verdict => verdict_is_refused(alloc, schema, id),
         Call::Run(run) => run_is_refused(alloc, schema, id, run),
     }
@@ -418,18 +297,6 @@ fn filters(rt: HostRuntime) -> Result<(), Fail> {
 fn untypable_filters(rt: HostRuntime) -> Result<(), Fail> {
     let is_refused = is_refused(rt.alloc(), Call::UntypableFilter)?;
     tell(&rt, "check_of_fault", is_refused)
-}
-
-#[test]
-fn entities(rt: HostRuntime) -> Result<(), Fail> {
-    let is_refused = is_refused(rt.alloc(), Call::Row(Row::Kept))?;
-    tell(&rt, "from_json", is_refused)
-}
-
-#[test]
-fn faulty_rows(rt: HostRuntime) -> Result<(), Fail> {
-    let is_refused = is_refused(rt.alloc(), Call::Row(Row::Faulty))?;
-    tell(&rt, "from_json_of_fault", is_refused)
 }
 
 #[test]

@@ -7,61 +7,63 @@ use edm_values::{
 use std::alloc::Global;
 use std::test::Fail;
 
-/// Prints whether a call wrote the whole text, or was refused memory and left its empty text as it was.
-fn tell_write(
-    rt: &impl Print,
-    call: &str,
-    is_written: bool,
-    out: &str,
-    whole: &str,
-) -> Result<(), Fail> {
-    let wanted = if is_written { whole } else { "" };
-    if out == wanted {
-        tell(rt, call, !is_written)
+/// A literal that is written.
+#[derive(Clone, Copy)]
+enum Literal {
+    Int,
+    Date,
+    Moment,
+    Guid,
+    Str,
+}
+
+/// What is written, by which call, and the whole text.
+const LITERALS: &[(Literal, &str, &str)] = &[
+    (Literal::Int, "write_int", "-42"),
+    (Literal::Date, "write_date", "2020-02-29"),
+    (
+        Literal::Moment,
+        "write_moment",
+        "2020-02-29T01:02:03.04+05:06",
+    ),
+    (
+        Literal::Guid,
+        "write_guid",
+        "01234567-89ab-cdef-0123-456789abcdef",
+    ),
+    (Literal::Str, "write_string", "'O''Neil'"),
+];
+
+/// Whether a literal of this text was written whole.
+fn is_written(literal: Literal, out: &mut String, whole: &str) -> Result<bool, Fail> {
+    match literal {
+        Literal::Int => Ok(write_int(out, -42).is_ok()),
+        Literal::Date => Ok(write_date(out, read_date(whole).ok_or("no date")?).is_ok()),
+        Literal::Moment => Ok(write_moment(out, &read_moment(whole).ok_or("no moment")?).is_ok()),
+        Literal::Guid => Ok(write_guid(out, read_guid(whole).ok_or("no Guid")?).is_ok()),
+        Literal::Str => Ok(write_string(out, "O'Neil").is_ok()),
+    }
+}
+
+/// Whether a call was refused memory and left its empty text as it was; otherwise it wrote the whole text.
+fn write_is_refused(alloc: Global, literal: Literal, whole: &str) -> Result<bool, Fail> {
+    let mut out = String::new(alloc);
+    let is_whole = is_written(literal, &mut out, whole)?;
+    let wanted = if is_whole { whole } else { "" };
+    if out.as_str() == wanted {
+        Ok(!is_whole)
     } else {
-        Err(Fail::new(format_args!("{call}: {out}")))
+        Err(Fail::new(format_args!("{out}, not {wanted}")))
     }
 }
 
 #[test]
-fn whole_numbers(rt: HostRuntime) -> Result<(), Fail> {
-    let mut out = String::new(rt.alloc());
-    let is_written = write_int(&mut out, -42).is_ok();
-    tell_write(&rt, "write_int", is_written, out.as_str(), "-42")
-}
-
-#[test]
-fn dates(rt: HostRuntime) -> Result<(), Fail> {
-    let mut out = String::new(rt.alloc());
-    let text = "2020-02-29";
-    let date = read_date(text).ok_or("no date")?;
-    let is_written = write_date(&mut out, date).is_ok();
-    tell_write(&rt, "write_date", is_written, out.as_str(), text)
-}
-
-#[test]
-fn moments(rt: HostRuntime) -> Result<(), Fail> {
-    let mut out = String::new(rt.alloc());
-    let text = "2020-02-29T01:02:03.04+05:06";
-    let moment = read_moment(text).ok_or("no moment")?;
-    let is_written = write_moment(&mut out, &moment).is_ok();
-    tell_write(&rt, "write_moment", is_written, out.as_str(), text)
-}
-
-#[test]
-fn guids(rt: HostRuntime) -> Result<(), Fail> {
-    let mut out = String::new(rt.alloc());
-    let text = "01234567-89ab-cdef-0123-456789abcdef";
-    let guid = read_guid(text).ok_or("no Guid")?;
-    let is_written = write_guid(&mut out, guid).is_ok();
-    tell_write(&rt, "write_guid", is_written, out.as_str(), text)
-}
-
-#[test]
-fn strings(rt: HostRuntime) -> Result<(), Fail> {
-    let mut out = String::new(rt.alloc());
-    let is_written = write_string(&mut out, "O'Neil").is_ok();
-    tell_write(&rt, "write_string", is_written, out.as_str(), "'O''Neil'")
+fn literals(rt: HostRuntime) -> Result<(), Fail> {
+    for &(literal, call, whole) in LITERALS {
+        let is_refused = write_is_refused(rt.alloc(), literal, whole)?;
+        tell(&rt, call, is_refused)?;
+    }
+    Ok(())
 }
 
 /// Whether a literal was refused memory; otherwise its value is there.
