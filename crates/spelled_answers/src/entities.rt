@@ -5,7 +5,7 @@ use crate::filters::{TypeOf, schema_of};
 use crate::trouble::Trouble;
 use crate::values::push_slots;
 use csdl_schema::{Schema, TypeId};
-use edm_entities::{Entity, RowReader};
+use edm_entities::{Entity, RowFault, RowReader};
 use serde_json::Value;
 use std::alloc::Global;
 
@@ -16,16 +16,25 @@ fn told(alloc: Global, entity: &Entity<'_>) -> Result<String, Trouble> {
     Ok(text)
 }
 
+/// What a JSON value is: `fits` with its values, or its fault.
+fn by_json(alloc: Global, schema: &Schema, id: TypeId, json: &Value) -> Result<String, Trouble>
+    requires { HoldsType schema.now id }
+{
+    match &Entity::from_json(alloc, schema, id, json) {
+        Ok(entity) => told(alloc, entity),
+        Err(RowFault::Memory) => Err(Trouble::Memory),
+        Err(fault) => Ok(format!(in alloc; "{fault}")?),
+    }
+}
+
 /// What a line is by way of a JSON value: `fits` with its values, or its fault.
 fn by_tree(alloc: Global, schema: &Schema, id: TypeId, line: &[u8]) -> Result<String, Trouble>
     requires { HoldsType schema.now id }
 {
-    let Ok(json) = Value::from_slice(alloc, line) else {
-        return Ok(String::from_str(alloc, "Json")?);
-    };
-    match Entity::from_json(alloc, schema, id, &json) {
-        Ok(entity) => told(alloc, &entity),
-        Err(fault) => Ok(format!(in alloc; "{fault}")?),
+    match &Value::from_slice(alloc, line) {
+        Ok(json) => by_json(alloc, schema, id, json),
+        Err(error) if error.is_memory() => Err(Trouble::Memory),
+        Err(_) => Ok(String::from_str(alloc, "Json")?),
     }
 }
 
@@ -57,6 +66,15 @@ pub fn line_answer(alloc: Global, named: TypeOf<'_>, line: &[u8]) -> Result<Stri
     let schema = schema_of(alloc, named.document)?;
     match schema.type_named(named.named) {
         Some(id) if schema.holds(id) => by_both(alloc, &schema, id, line),
+        _ => Err(Trouble::NoSuchType),
+    }
+}
+
+/// Whether a line is read as a row of a type straight from its bytes.
+pub fn is_read_by_bytes(alloc: Global, named: TypeOf<'_>, line: &[u8]) -> Result<bool, Trouble> {
+    let schema = schema_of(alloc, named.document)?;
+    match schema.type_named(named.named) {
+        Some(id) if schema.holds(id) => Ok(!by_bytes(alloc, &schema, id, line)?.is_empty()),
         _ => Err(Trouble::NoSuchType),
     }
 }

@@ -4,7 +4,7 @@ ghost use Rattle.csdl_schema.specs.SchemaModel.{HoldsType};
 use crate::nodes::{second_type, told_nodes};
 use crate::trouble::Trouble;
 use csdl_schema::{Schema, SchemaFault, TypeId};
-use edm_entities::Entity;
+use edm_entities::{Entity, RowFault};
 use edm_values::{Moment, read_moment};
 use jiff::civil;
 use odata_eval::{EvalFault, Verdict, evaluate};
@@ -69,6 +69,7 @@ fn spelled_run(ended: &Result<Tally, RunFault>) -> &'static str {
         Ok(Tally { rows: 1, kept: 1 }) => "true",
         Ok(Tally { rows: 1, kept: 0 }) => "false",
         Err(RunFault::Arithmetic { line: 1, fault }) => spelled(Err(*fault)),
+        Err(RunFault::Memory { .. }) => "memory",
         _ => "another end",
     }
 }
@@ -100,6 +101,7 @@ fn outcome(
 ) -> Result<&'static str, Trouble> {
     match Entity::from_json(alloc, checked.schema(), checked.filtered_type(), row) {
         Ok(entity) => Ok(spelled(evaluate(alloc, checked, &entity, now))),
+        Err(RowFault::Memory) => Err(Trouble::Memory),
         Err(_) => Err(Trouble::NoEntity),
     }
 }
@@ -114,7 +116,9 @@ fn agreed_outcome(
     let found = outcome(alloc, checked, row, now)?;
     let line = row.to_string(alloc)?;
     let said = kept(alloc, checked, line.as_bytes(), now);
-    if agrees(found, said) {
+    if found == "memory" || said == "memory" {
+        Err(Trouble::Memory)
+    } else if agrees(found, said) {
         Ok(String::from_str(alloc, found)?)
     } else {
         Ok(format!(in alloc; "{found}, but {said} of a run")?)

@@ -1,8 +1,8 @@
 //! The canonical spellings of the values of literals.
 use crate::trouble::Trouble;
 use edm_values::{
-    read_date, read_guid, read_int, read_moment, read_string, write_date, write_guid, write_int,
-    write_moment, write_string,
+    LitFault, read_date, read_guid, read_int, read_moment, read_string, write_date, write_guid,
+    write_int, write_moment, write_string,
 };
 use jiff::civil::Date;
 use std::alloc::Global;
@@ -52,7 +52,8 @@ fn push_guid(out: &mut String, text: &str) -> Result<(), Trouble> {
 fn push_string(alloc: Global, out: &mut String, text: &str) -> Result<(), Trouble> {
     match read_string(alloc, text) {
         Ok(value) => Ok(write_string(out, value.as_str())?),
-        Err(_) => push_none(out),
+        Err(LitFault::Memory) => Err(Trouble::Memory),
+        Err(LitFault::Form) => push_none(out),
     }
 }
 

@@ -67,6 +67,16 @@ fn push_node(text: &mut String, checked: &Checked<'_>, node: usize) -> Result<()
     push_number(text, "level", checked.level_of(node))
 }
 
+/// Whether the look-ups find nothing at a place past the nodes.
+fn has_none_past(checked: &Checked<'_>, place: usize) -> bool {
+    checked.span_of(place).is_none()
+        && checked.type_of(place).is_none()
+        && checked.slot_of(place).is_none()
+        && checked.level_of(place).is_none()
+        && checked.slot_of(usize::MAX).is_none()
+        && checked.level_of(usize::MAX).is_none()
+}
+
 /// The nodes in pre-order, as `0..7 Edm.Boolean, 0..2 Edm.Int32 slot 1, 6..7 Edm.Int32`.
 pub fn told_nodes(alloc: Global, checked: &Checked<'_>) -> Result<String, Trouble> {
     let mut text = String::new(alloc);
@@ -75,6 +85,9 @@ pub fn told_nodes(alloc: Global, checked: &Checked<'_>) -> Result<String, Troubl
             text.push_str(", ")?;
         }
         push_node(&mut text, checked, node)?;
+    }
+    if !has_none_past(checked, checked.node_count()) {
+        text.push_str(", and more past the last one")?;
     }
     Ok(text)
 }

@@ -1,13 +1,14 @@
 //! Documents, and what the look-ups of their schemas find.
 use crate::nodes::{enumeration_name, push_property, structured_name};
 use crate::trouble::Trouble;
-use csdl_schema::{Schema, TypeId};
+use csdl_schema::{Schema, SchemaFault, TypeId};
 use std::alloc::Global;
 
 /// `accepted`, or the fault of a document.
 pub fn fault_of(alloc: Global, document: &[u8]) -> Result<String, Trouble> {
     match Schema::read(alloc, document) {
         Ok(_) => Ok(String::from_str(alloc, "accepted")?),
+        Err(SchemaFault::Memory) => Err(Trouble::Memory),
         Err(fault) => Ok(format!(in alloc; "{fault}")?),
     }
 }

@@ -1,6 +1,7 @@
 //! Rows drawn by a fixed generator, read without a tree and with one: the same answer both ways.
-use crate::lines::{ITEMS, Lines, entities};
-use crate::shop::{E0, SHOP};
+use crate::lines::is_entity;
+use crate::shop::{E0, ITEMS, SHOP};
+use spelled_answers::filters::TypeOf;
 use std::alloc::{AllocError, Global};
 use std::test::Fail;
 
@@ -81,11 +82,17 @@ fn drawn_line(alloc: Global, kind: Drawn, from: u64) -> Result<(String, u64), Al
     }
 }
 
-/// What a line that is drawn may be. One with a changed byte may be an entity by the tree alone.
-fn wanted(kind: Drawn) -> &'static str {
+/// The type of what is drawn.
+fn type_of(kind: Drawn) -> TypeOf<'static> {
     match kind {
-        Drawn::ChangedRow => "entity, none or by the tree alone",
-        _ => "entity or none",
+        Drawn::ChangedProduct => TypeOf {
+            document: SHOP.as_bytes(),
+            named: "Shop.Product",
+        },
+        _ => TypeOf {
+            document: ITEMS.as_bytes(),
+            named: "N.A",
+        },
     }
 }
 
@@ -97,49 +104,46 @@ fn change(line: &mut Vec<u8>, number: u64) {
     }
 }
 
-/// Appends a line; answers the number that the next one is drawn from.
-fn push_drawn(alloc: Global, lines: &mut Lines, kind: Drawn, from: u64) -> Result<u64, AllocError> {
+/// Whether the next line is an entity, and the number that the one behind it is drawn from. One with a changed byte may
+/// be an entity by the tree alone.
+fn judge_drawn(alloc: Global, kind: Drawn, from: u64) -> Result<(bool, u64), Fail> {
     let (row, next) = drawn_line(alloc, kind, from)?;
     let mut line = row.into_bytes();
-    let number = match kind {
-        Drawn::Row => next,
-        _ => next_number(next),
-    };
-    if !matches!(kind, Drawn::Row) {
-        change(&mut line, number);
+    if matches!(kind, Drawn::Row) {
+        let is_entity = is_entity(alloc, type_of(kind), line.as_slice(), "entity or none")?;
+        return Ok((is_entity, next));
     }
-    lines.push((line, wanted(kind)))?;
-    Ok(number)
+    let number = next_number(next);
+    change(&mut line, number);
+    let wanted = "entity, none or by the tree alone";
+    let is_entity = is_entity(alloc, type_of(kind), line.as_slice(), wanted)?;
+    Ok((is_entity, number))
 }
 
-/// So many lines.
-fn drawn_lines(alloc: Global, kind: Drawn, count: usize) -> Result<Lines, AllocError> {
-    let mut lines = Vec::new(alloc);
+/// How many of 10,000 lines are entities.
+fn count_drawn(alloc: Global, kind: Drawn) -> Result<u64, Fail> {
     let mut number = 7_u64;
-    for _ in 0..count {
-        number = push_drawn(alloc, &mut lines, kind, number)?;
+    let mut entities = 0_u64;
+    for _ in 0..10_000 {
+        let (is_entity, next) = judge_drawn(alloc, kind, number)?;
+        entities = entities.wrapping_add(is_entity as u64);
+        number = next;
     }
-    Ok(lines)
+    Ok(entities)
 }
 
-#[test]
-fn drawn_rows(rt: HostRuntime) -> Result<(), Fail> {
-    let lines = drawn_lines(rt.alloc(), Drawn::Row, 10_000)?;
-    let entities = entities(rt.alloc(), ITEMS, "N.A", &lines)?;
-    assert!(rt; entities == 7_486);
-    Ok(())
-}
+/// What is drawn, and between which numbers the count of its entities lies.
+const DRAWN: &[(Drawn, u64, u64)] = &[
+    (Drawn::Row, 7_486, 7_486),
+    (Drawn::ChangedRow, 1_000, 7_000),
+    (Drawn::ChangedProduct, 1_000, 9_000),
+];
 
 #[test]
-fn drawn_rows_with_one_byte_changed(rt: HostRuntime) -> Result<(), Fail> {
-    let lines = drawn_lines(rt.alloc(), Drawn::ChangedRow, 10_000)?;
-    entities(rt.alloc(), ITEMS, "N.A", &lines)?;
-    Ok(())
-}
-
-#[test]
-fn products_with_one_byte_changed(rt: HostRuntime) -> Result<(), Fail> {
-    let lines = drawn_lines(rt.alloc(), Drawn::ChangedProduct, 10_000)?;
-    entities(rt.alloc(), SHOP, "Shop.Product", &lines)?;
+fn drawn_lines(rt: HostRuntime) -> Result<(), Fail> {
+    for &(kind, least, most) in DRAWN {
+        let entities = count_drawn(rt.alloc(), kind)?;
+        assert!(rt; least <= entities && entities <= most, "{entities}");
+    }
     Ok(())
 }

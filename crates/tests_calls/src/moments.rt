@@ -32,17 +32,6 @@ fn are_ordered(left: &str, right: &str, ordering: Ordering) -> Result<bool, Fail
     Ok(first.cmp(&second) == ordering && is_equal && is_less)
 }
 
-/// By instant, and where the instants are equal by offset.
-#[test]
-fn order() -> Result<(), Fail> {
-    for &(left, right, ordering) in ORDERED {
-        if !are_ordered(left, right, ordering)? {
-            return Err(Fail::new(format_args!("not {ordering:?}: {left}, {right}")));
-        }
-    }
-    Ok(())
-}
-
 /// A year and an offset in minutes, and whether there is such a moment.
 const PARTS: &[(i16, i16, bool)] = &[
     (1, 1439, true),
@@ -63,8 +52,14 @@ fn has_parts(year: i16, offset: i16, is_made: bool) -> Result<bool, Fail> {
     }
 }
 
+/// They stand by instant, and where the instants are equal by offset.
 #[test]
-fn moments_of_parts() -> Result<(), Fail> {
+fn moments() -> Result<(), Fail> {
+    for &(left, right, ordering) in ORDERED {
+        if !are_ordered(left, right, ordering)? {
+            return Err(Fail::new(format_args!("not {ordering:?}: {left}, {right}")));
+        }
+    }
     for &(year, offset, is_made) in PARTS {
         if !has_parts(year, offset, is_made)? {
             return Err(Fail::new(format_args!("{year} {offset}")));

@@ -1,6 +1,8 @@
 //! A piece of a text at each place of a short one, and of a name.
-use crate::lines::{ITEMS, Lines, entities};
-use std::alloc::{AllocError, Global};
+use crate::lines::is_entity;
+use crate::shop::ITEMS;
+use spelled_answers::filters::TypeOf;
+use std::alloc::Global;
 use std::test::Fail;
 
 /// What stands in a text or a name, and the answer.
@@ -17,43 +19,36 @@ const PIECES: &[(&str, &str)] = &[
     ("\\", "none"),
 ];
 
-/// Lines with a piece behind these bytes, in a text and in a name.
-fn push_piece(
-    alloc: Global,
-    front: &str,
-    piece: &str,
-    wanted: &'static str,
-    lines: &mut Lines,
-) -> Result<(), AllocError> {
-    let text = format!(in alloc; "{{\"ID\":1,\"Name\":\"{front}{piece}a\",\"Active\":true}}")?;
-    lines.push((text.into_bytes(), wanted))?;
-    let name = format!(in alloc; "{{\"{front}{piece}a\":1,\"ID\":1,\"Name\":\"\"}}")?;
-    lines.push((name.into_bytes(), wanted))?;
-    Ok(())
+/// How many of the lines with a piece behind these bytes, in a text and in a name, are entities.
+fn entities_with(alloc: Global, front: &str, piece: &str, wanted: &str) -> Result<u64, Fail> {
+    let items = TypeOf {
+        document: ITEMS.as_bytes(),
+        named: "N.A",
+    };
+    let mut line = format!(in alloc; "{{\"ID\":1,\"Name\":\"{front}{piece}a\",\"Active\":true}}")?;
+    let in_text = is_entity(alloc, items, line.as_bytes(), wanted)?;
+    line.clear();
+    write!(line, "{{\"{front}{piece}a\":1,\"ID\":1,\"Name\":\"\"}}")?;
+    let in_name = is_entity(alloc, items, line.as_bytes(), wanted)?;
+    Ok(in_text as u64 + in_name as u64)
 }
 
-/// Lines with each of them behind so many bytes.
-fn push_lines(alloc: Global, count: usize, lines: &mut Lines) -> Result<(), AllocError> {
+/// The same of each piece behind so many bytes.
+fn entities_behind(alloc: Global, count: usize) -> Result<u64, Fail> {
     let front = "a".repeat(alloc, count)?;
+    let mut entities = 0_u64;
     for &(piece, wanted) in PIECES {
-        push_piece(alloc, front.as_str(), piece, wanted, lines)?;
+        let with_piece = entities_with(alloc, front.as_str(), piece, wanted)?;
+        entities = entities.wrapping_add(with_piece);
     }
-    Ok(())
+    Ok(entities)
 }
 
-/// The lines of forty places: more than twice as many as are looked at at once.
-fn lines_of_places(alloc: Global) -> Result<Lines, AllocError> {
-    let mut lines = Vec::new(alloc);
-    for count in 0..40 {
-        push_lines(alloc, count, &mut lines)?;
-    }
-    Ok(lines)
-}
-
+/// Forty places: more than twice as many as are looked at at once.
 #[test]
 fn pieces_at_each_place(rt: HostRuntime) -> Result<(), Fail> {
-    let lines = lines_of_places(rt.alloc())?;
-    let read = entities(rt.alloc(), ITEMS, "N.A", &lines)?;
-    assert!(rt; read == 480);
+    for count in 0..40 {
+        assert!(rt; entities_behind(rt.alloc(), count)? == 12, "{count}");
+    }
     Ok(())
 }

@@ -5,3 +5,7 @@ pub const SHOP: &str =
 /// A row of `Shop.Product`.
 pub const E0: &str =
     "{\"ID\":1,\"Name\":\"O'Neil\",\"Rating\":3,\"Stock\":10,\"Active\":true,\"Released\":\"2020-02-29\",\"Changed\":\"2020-01-01T00:00:00Z\",\"Color\":\"Red, Blue\",\"Code\":\"01234567-89ab-cdef-0123-456789abcdef\",\"Tags\":[\"a\"],\"Price\":1.5,\"Home\":{\"City\":\"Oslo\",\"Lines\":[{\"Qty\":2}]},\"Parts\":[{\"Name\":\"x\",\"Qty\":1,\"Sub\":[{\"Name\":\"y\",\"Qty\":2,\"Sub\":[]}]}]}";
+
+/// A type of items that may hold one another, and their schema.
+pub const ITEMS: &str =
+    "{\"$Version\":\"4.01\",\"N\":{\"T\":{\"$Kind\":\"ComplexType\",\"T\":{\"$Type\":\"N.T\",\"$Nullable\":true}},\"A\":{\"$Kind\":\"EntityType\",\"ID\":{\"$Type\":\"Edm.Int32\"},\"Name\":{},\"Active\":{\"$Type\":\"Edm.Boolean\",\"$Nullable\":true},\"T\":{\"$Type\":\"N.T\",\"$Nullable\":true}}}}";

@@ -7,6 +7,8 @@ mod answers;
 #[cfg(test)]
 mod devices;
 #[cfg(test)]
+mod ends_again;
+#[cfg(test)]
 mod example;
 #[cfg(test)]
 mod failing;

@@ -2,7 +2,8 @@
 use std::test::Fail;
 
 mod calls;
-mod values;
+mod runs;
+mod shop;
 
 /// Prints whether a call was refused memory.
 pub(crate) fn tell(rt: &impl Print, call: &str, is_refused: bool) -> Result<(), Fail> {

@@ -1,4 +1,4 @@
-//! Arithmetic by its calls: results, faults and null.
+//! Arithmetic, `and`, `or` and `not` by their calls; None is null.
 ghost use Rattle.std.specs.Prelude.{◌↔◌, IsTrue, IfSome};
 ghost use Rattle.edm_values.specs.NumberTypes.{IsNumberOf};
 ghost use Rattle.odata_functions.specs.Promotion.{IsPromoted};
@@ -6,7 +6,7 @@ ghost use Rattle.odata_functions.specs.Promotion.{IsPromoted};
 use edm_values::Prim::{self, Int16, Int32, Int64};
 use odata_functions::ArithFault::{self, DivideByZero, Overflow};
 use odata_functions::ArithmeticOperator::{self, Add, Div, Mod, Mul, Sub};
-use odata_functions::{arith, negate};
+use odata_functions::{and3, arith, negate, not3, or3};
 use std::test::Fail;
 
 type Answer = Result<Option<i64>, ArithFault>;
@@ -57,16 +57,6 @@ fn gives(
         && arith(operator, kind, left, right) == wanted
 }
 
-#[test]
-fn answers() -> Result<(), Fail> {
-    for &(operator, kind, left, right, wanted) in ANSWERS {
-        if !gives(operator, kind, left, right, wanted) {
-            return Err(Fail::new(format_args!("{left:?} {operator:?} {right:?}")));
-        }
-    }
-    Ok(())
-}
-
 /// A type, an operand, and its negation.
 const NEGATIONS: &[(Prim, Option<i64>, Answer)] = &[
     (Int16, Some(-32_768), Err(Overflow)),
@@ -79,11 +69,51 @@ fn negates(kind: Prim, operand: Option<i64>, wanted: Answer) -> bool {
     is_computed_in(kind) && lies_within(kind, operand) && negate(kind, operand) == wanted
 }
 
+const TRUE: Option<bool> = Some(true);
+
+const FALSE: Option<bool> = Some(false);
+
+/// Two operands, then what `and` and what `or` make of them.
+const TABLE: &[(Option<bool>, Option<bool>, Option<bool>, Option<bool>)] = &[
+    (TRUE, TRUE, TRUE, TRUE),
+    (TRUE, FALSE, FALSE, TRUE),
+    (TRUE, None, None, TRUE),
+    (FALSE, TRUE, FALSE, TRUE),
+    (FALSE, FALSE, FALSE, FALSE),
+    (FALSE, None, FALSE, None),
+    (None, TRUE, None, TRUE),
+    (None, FALSE, FALSE, None),
+    (None, None, None, None),
+];
+
+/// An operand, and what `not` makes of it.
+const OPPOSITES: &[(Option<bool>, Option<bool>)] = &[(TRUE, FALSE), (FALSE, TRUE), (None, None)];
+
 #[test]
-fn negations() -> Result<(), Fail> {
+fn arithmetic() -> Result<(), Fail> {
+    for &(operator, kind, left, right, wanted) in ANSWERS {
+        if !gives(operator, kind, left, right, wanted) {
+            return Err(Fail::new(format_args!("{left:?} {operator:?} {right:?}")));
+        }
+    }
     for &(kind, operand, wanted) in NEGATIONS {
         if !negates(kind, operand, wanted) {
             return Err(Fail::new(format_args!("{operand:?}")));
+        }
+    }
+    Ok(())
+}
+
+#[test]
+fn logic() -> Result<(), Fail> {
+    for &(left, right, both, either) in TABLE {
+        if and3(left, right) != both || or3(left, right) != either {
+            return Err(Fail::new(format_args!("{left:?} and {right:?}")));
+        }
+    }
+    for &(operand, opposite) in OPPOSITES {
+        if not3(operand) != opposite {
+            return Err(Fail::new(format_args!("not {operand:?}")));
         }
     }
     Ok(())
