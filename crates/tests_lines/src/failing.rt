@@ -41,30 +41,21 @@ fn read_fails(alloc: Global, piece: usize, fails_at: usize, kind: ErrorKind) -> 
     is_called(reader.calls, fails_at)
 }
 
-/// The reads up to the one that tells the end fail in turn.
+/// The reads up to the one that tells the end fail in turn, and then none.
 fn each_read_fails(alloc: Global, piece: usize) -> Result<(), Fail> {
     let reads = ROWS.len().div_ceil(piece.max(1)).saturating_add(1);
     for fails_at in 1..reads.saturating_add(1) {
         read_fails(alloc, piece, fails_at, ErrorKind::Interrupted)?;
     }
-    Ok(())
+    let rows = cut(ROWS.as_bytes(), piece);
+    keeps(alloc, rows, "3 rows, 2 kept", A_TWICE)
 }
 
-/// From one byte a call on up to all of them: so the second read fails behind each byte, too.
+/// From one byte a call on up to all of them: so rows are cut at any place, and the second read fails behind each byte.
 #[test]
-fn each_read_of_each_length_fails(rt: HostRuntime) -> Result<(), Fail> {
+fn reads_of_each_length(rt: HostRuntime) -> Result<(), Fail> {
     for piece in 1..ROWS.len().saturating_add(1) {
         each_read_fails(rt.alloc(), piece)?;
-    }
-    Ok(())
-}
-
-/// Rows that are cut at any place.
-#[test]
-fn no_read_fails(rt: HostRuntime) -> Result<(), Fail> {
-    for piece in 1..ROWS.len().saturating_add(1) {
-        let rows = cut(ROWS.as_bytes(), piece);
-        keeps(rt.alloc(), rows, "3 rows, 2 kept", A_TWICE)?;
     }
     Ok(())
 }
@@ -138,19 +129,21 @@ const BEFORE: &[(&str, &str, &str, &str)] = &[
     ),
 ];
 
-/// Fails if rows that come so many bytes at a time, and then fail to come, are told otherwise, or more is read then.
+/// Fails if rows that come in pieces, and then fail to come, are told otherwise, or more is read then.
 fn fails_behind(
     alloc: Global,
-    piece: usize,
     first: &str,
     behind: &str,
-    wanted: (&str, &str),
+    told: &str,
+    kept: &str,
 ) -> Result<(), Fail> {
-    let mut failure = stumbling(Some(ErrorKind::Interrupted), behind.as_bytes());
-    let rows = cut(first.as_bytes().chain(&mut failure), piece);
-    let (told, kept) = wanted;
-    keeps(alloc, rows, told, kept)?;
-    is_called(failure.calls.max(1), 1)
+    for &piece in PIECES {
+        let mut failure = stumbling(Some(ErrorKind::Interrupted), behind.as_bytes());
+        let rows = cut(first.as_bytes().chain(&mut failure), piece);
+        keeps(alloc, rows, told, kept)?;
+        is_called(failure.calls.max(1), 1)?;
+    }
+    Ok(())
 }
 
 /// A fault of a complete line goes before the failed read; a line that is not complete is not judged, and a failed read is
@@ -158,14 +151,12 @@ fn fails_behind(
 #[test]
 fn complete_lines_are_judged_before_a_failed_read(rt: HostRuntime) -> Result<(), Fail> {
     for &(first, behind, told, kept) in BEFORE {
-        for &piece in PIECES {
-            fails_behind(rt.alloc(), piece, first, behind, (told, kept))?;
-        }
+        fails_behind(rt.alloc(), first, behind, told, kept)?;
     }
     Ok(())
 }
 
-/// A faulty line is told before anything behind it is read.
+/// A faulty line is told before anything behind it is read, and so is a line without end.
 #[test]
 fn nothing_is_read_behind_a_faulty_line(rt: HostRuntime) -> Result<(), Fail> {
     let mut rows = cut(
@@ -173,11 +164,7 @@ fn nothing_is_read_behind_a_faulty_line(rt: HostRuntime) -> Result<(), Fail> {
         1,
     );
     keeps(rt.alloc(), &mut rows, "row 1 Missing Active", "")?;
-    is_called(rows.calls, 3)
-}
-
-#[test]
-fn a_line_without_end_is_too_long(rt: HostRuntime) -> Result<(), Fail> {
+    is_called(rows.calls, 3)?;
     let endless = A.as_bytes().chain(io::repeat(b' '));
     keeps(rt.alloc(), endless, "row 2 LineTooLong", A)
 }
@@ -203,30 +190,6 @@ fn write_fails(
     }
 }
 
-/// So many bytes a call, how many calls there are, and what each of them does in turn. The last call is the flush, which
-/// takes nothing in any case.
-const WRITES: &[(usize, usize, Option<ErrorKind>)] = &[
-    (1, 69, Some(ErrorKind::Interrupted)),
-    (1, 68, None),
-    (7, 11, Some(ErrorKind::WouldBlock)),
-    (7, 10, None),
-    (10, 8, Some(ErrorKind::BrokenPipe)),
-    (10, 7, None),
-];
-
-#[test]
-fn each_write_fails_or_takes_none(rt: HostRuntime) -> Result<(), Fail> {
-    for &(piece, calls, error) in WRITES {
-        for fails_at in 1..calls.saturating_add(1) {
-            write_fails(rt.alloc(), piece, fails_at, error)?;
-        }
-    }
-    Ok(())
-}
-
-/// How many bytes are taken at a time.
-const TAKEN: &[usize] = &[1, 2, 7, 33, 34, 100, 1000];
-
 /// Fails if a run over the rows into a writer of so many bytes a call, none of which fails, answers otherwise, or calls it
 /// more often than it takes and once for the flush.
 fn all_is_taken(alloc: Global, piece: usize) -> Result<(), Fail> {
@@ -241,13 +204,43 @@ fn all_is_taken(alloc: Global, piece: usize) -> Result<(), Fail> {
     }
 }
 
+/// So many calls fail in turn, or take none, and then no call.
+fn each_write_fails(
+    alloc: Global,
+    piece: usize,
+    calls: usize,
+    error: Option<ErrorKind>,
+) -> Result<(), Fail> {
+    for fails_at in 1..calls.saturating_add(1) {
+        write_fails(alloc, piece, fails_at, error)?;
+    }
+    all_is_taken(alloc, piece)
+}
+
+/// So many bytes a call, how many calls there are, and what each of them does in turn. The last call is the flush, which
+/// takes nothing in any case.
+const WRITES: &[(usize, usize, Option<ErrorKind>)] = &[
+    (1, 69, Some(ErrorKind::Interrupted)),
+    (1, 68, None),
+    (2, 35, Some(ErrorKind::Other)),
+    (7, 11, Some(ErrorKind::WouldBlock)),
+    (7, 10, None),
+    (10, 8, Some(ErrorKind::BrokenPipe)),
+    (10, 7, None),
+    (33, 4, Some(ErrorKind::Interrupted)),
+    (34, 3, Some(ErrorKind::Interrupted)),
+    (100, 2, Some(ErrorKind::Interrupted)),
+    (1000, 1, None),
+];
+
 #[test]
-fn no_write_fails(rt: HostRuntime) -> Result<(), Fail> {
-    for &piece in TAKEN {
-        all_is_taken(rt.alloc(), piece)?;
+fn writes_of_each_length(rt: HostRuntime) -> Result<(), Fail> {
+    for &(piece, calls, error) in WRITES {
+        each_write_fails(rt.alloc(), piece, calls, error)?;
     }
     Ok(())
 }
+
 /// The kinds of error of `std`.
 const KINDS: &[ErrorKind] = &[
     ErrorKind::NotFound,

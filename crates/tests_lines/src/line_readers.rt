@@ -73,15 +73,13 @@ fn has_lines<R: Read + Drop>(
     lines.held() == 0 && gives(&mut lines, wanted) && ends_by(&mut lines, ending)
 }
 
-/// The reader would go on behind its failure, and behind its end: no line is made of what it would give.
-#[test]
-fn lines_however_they_come(rt: HostRuntime) -> Result<(), Fail> {
+/// Fails if other lines come, so many bytes at a time. The reader would go on behind its failure, and behind its end: no
+/// line is made of what it would give.
+fn come_in_pieces(alloc: Global, piece: usize) -> Result<(), Fail> {
     for &(text, error, wanted, ending) in LINES {
-        for &piece in PIECES {
-            let rows = text.as_bytes().chain(stumbling(error, b"x\n\n".as_slice()));
-            if !has_lines(rt.alloc(), cut(rows, piece), wanted, ending) {
-                return Err(Fail::new(format_args!("{piece} bytes at a time of {text}")));
-            }
+        let rows = text.as_bytes().chain(stumbling(error, b"x\n\n".as_slice()));
+        if !has_lines(alloc, cut(rows, piece), wanted, ending) {
+            return Err(Fail::new(format_args!("{piece} bytes at a time of {text}")));
         }
     }
     Ok(())
@@ -103,9 +101,6 @@ fn first_length(
     }
 }
 
-/// How many bytes come at a time, at the most.
-const LONG_PIECES: &[usize] = &[7, 1000, usize::MAX];
-
 /// How many blanks a line has, what stands behind them, and its length or fault.
 const LONG: &[(usize, &str, Result<Option<usize>, LineFault>)] = &[
     (LONGEST, "", Ok(Some(LONGEST))),
@@ -114,13 +109,11 @@ const LONG: &[(usize, &str, Result<Option<usize>, LineFault>)] = &[
     (LONGEST + 1, "\n", Err(LineFault::TooLong)),
 ];
 
-#[test]
-fn the_longest_line(rt: HostRuntime) -> Result<(), Fail> {
+/// Fails if a longest line does not come, or one byte more, so many bytes at a time.
+fn longest_comes(alloc: Global, piece: usize) -> Result<(), Fail> {
     for &(blanks, behind, wanted) in LONG {
-        for &piece in LONG_PIECES {
-            if first_length(rt.alloc(), blanks, behind, piece) != wanted {
-                return Err(Fail::new(format_args!("{blanks} blanks, {piece} bytes at a time")));
-            }
+        if first_length(alloc, blanks, behind, piece) != wanted {
+            return Err(Fail::new(format_args!("{blanks} blanks, {piece} bytes at a time")));
         }
     }
     Ok(())
@@ -138,11 +131,11 @@ fn is_cut_off(alloc: Global, piece: usize) -> bool {
 
 /// A line without end is over-long once more of it came than a line may have, and no read comes behind that.
 #[test]
-fn a_line_without_end(rt: HostRuntime) -> Result<(), Fail> {
+fn lines_however_they_come(rt: HostRuntime) -> Result<(), Fail> {
     for &piece in PIECES {
-        if !is_cut_off(rt.alloc(), piece) {
-            return Err(Fail::new(format_args!("{piece} bytes at a time")));
-        }
+        come_in_pieces(rt.alloc(), piece)?;
+        longest_comes(rt.alloc(), piece.saturating_mul(7))?;
+        assert!(rt; is_cut_off(rt.alloc(), piece), "{piece} bytes at a time");
     }
     Ok(())
 }

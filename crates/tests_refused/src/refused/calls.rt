@@ -11,13 +11,15 @@ use spelled_answers::trouble::Trouble;
 use std::alloc::Global;
 use std::test::Fail;
 
-/// What is asked: of a document, of a line as a product, of a filter of products, of its outcome on the product, of a
+/// What is asked: of a document, of a line as a product, of a filter of products (last its outcome on the product), of a
 /// text without types, of a literal of a kind.
 #[derive(Clone, Copy)]
 enum Call {
     Document(&'static str),
     Line(&'static str),
-    Filter(&'static str, AskedOfFilter<'static>),
+    Check(&'static str),
+    Canonical(&'static str),
+    Explanation(&'static str),
     Outcome(&'static str),
     Text(&'static str),
     Literal(&'static str, &'static str),
@@ -42,7 +44,11 @@ fn answer(alloc: Global, call: Call) -> Result<String, Trouble> {
     match call {
         Call::Document(text) => fault_of(alloc, text.as_bytes()),
         Call::Line(line) => line_answer(alloc, product(), line.as_bytes()),
-        Call::Filter(filter, asked) => answer_of(alloc, product(), filter, asked),
+        Call::Check(filter) => answer_of(alloc, product(), filter, AskedOfFilter::Acceptance),
+        Call::Canonical(filter) => answer_of(alloc, product(), filter, AskedOfFilter::Canonical),
+        Call::Explanation(filter) => {
+            answer_of(alloc, product(), filter, AskedOfFilter::Explanation)
+        }
         Call::Outcome(filter) => outcome_of(alloc, filter),
         Call::Text(text) => answer_of_text(alloc, text, AskedOfText::Canonical),
         Call::Literal(kind, text) => value_of(alloc, kind, text),
@@ -84,36 +90,27 @@ const CALLS: &[(Call, &str, &str)] = &[
     ),
     (Call::Line("{}"), "from_json_of_fault", "Missing Changed"),
     (
-        Call::Filter(
-            "Parts/any(p:p/Sub/any(q:q/Qty gt p/Qty))",
-            AskedOfFilter::Canonical,
-        ),
+        Call::Canonical("Parts/any(p:p/Sub/any(q:q/Qty gt p/Qty))"),
         "canonical_of_lambdas",
         "Parts/any(p:p/Sub/any(q:q/Qty gt p/Qty))",
     ),
     (
-        Call::Filter(
-            "concat(toupper(Name),'!') eq 'AéB!'",
-            AskedOfFilter::Canonical,
-        ),
+        Call::Canonical("concat(toupper(Name),'!') eq 'AéB!'"),
         "canonical_of_calls",
         "concat(toupper(Name),'!') eq 'AéB!'",
     ),
     (
-        Call::Filter(
-            "NOT(Rating  GT +03)AND Name eq'a'",
-            AskedOfFilter::Canonical,
-        ),
+        Call::Canonical("NOT(Rating  GT +03)AND Name eq'a'"),
         "canonical_of_operators",
         "not (Rating gt 3) and Name eq 'a'",
     ),
     (
-        Call::Filter("Active and Name", AskedOfFilter::Acceptance),
+        Call::Check("Active and Name"),
         "check_of_fault",
         "refused OperandTypes 0..15",
     ),
     (
-        Call::Filter("not Active", AskedOfFilter::Explanation),
+        Call::Explanation("not Active"),
         "explain",
         "0..10 not Edm.Boolean\n  4..10 property Active Edm.Boolean\n",
     ),
