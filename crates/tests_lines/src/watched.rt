@@ -77,9 +77,10 @@ fn is_early_or_often<R>(reader: &Watched<'_, R>, out: &Counting<'_>) -> bool {
     reader.is_early || reader.most_asked > 65_536 || out.writes > reader.reads || out.flushes != 1
 }
 
-/// Fails if a run over rows that are all kept, so many bytes at a time, does not write them all, those that came before the
+/// Fails if a run over so many rows that are all kept, so many bytes at a time, does not write them all, those that came before the
 /// next read and in one call, or is not flushed once.
-fn writes_early(alloc: Global, rows: &str, piece: usize, told: &str) -> Result<(), Fail> {
+fn writes_early(alloc: Global, count: usize, piece: usize, told: &str) -> Result<(), Fail> {
+    let rows = A.repeat(alloc, count)?;
     let written = Cell::new(0);
     let mut reader = Watched::new(cut(rows.as_bytes(), piece), &written);
     let mut out = Counting {
@@ -108,8 +109,7 @@ const KEPT: &[(usize, usize, &str)] = &[
 #[test]
 fn kept_rows_are_written_before_the_next_read(rt: HostRuntime) -> Result<(), Fail> {
     for &(piece, count, told) in KEPT {
-        let rows = A.repeat(rt.alloc(), count)?;
-        writes_early(rt.alloc(), rows.as_str(), piece, told)?;
+        writes_early(rt.alloc(), count, piece, told)?;
     }
     Ok(())
 }
