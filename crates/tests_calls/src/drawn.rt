@@ -1,5 +1,5 @@
 //! Rows drawn by a fixed generator, read without a tree and with one: the same answer both ways.
-use crate::lines::is_entity;
+use crate::both_ways::is_entity;
 use crate::shop::{E0, ITEMS, SHOP};
 use spelled_answers::filters::TypeOf;
 use std::alloc::{AllocError, Global};

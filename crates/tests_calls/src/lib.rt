@@ -1,19 +1,43 @@
-//! The calls of the crates below the runs over lines, where no text says what is asked: constants, the properties of a type
-//! in pieces, rows that are drawn. What calls answer over texts stands in the suite of cases (`conformance`). There is
-//! nothing here but tests.
+//! Calls that no case of the suite (`conformance`) can ask: over readers and writers that give or take little, or fail; of
+//! which an allocation is refused; of constants, of rows that are drawn; and the library's example. There is nothing here
+//! but tests.
 #![tactic(auto)]
 
 #[cfg(test)]
+mod answers;
+#[cfg(test)]
+mod both_ways;
+#[cfg(test)]
 mod constants;
+#[cfg(test)]
+mod devices;
 #[cfg(test)]
 mod drawn;
 #[cfg(test)]
-mod lines;
+mod ends_again;
+#[cfg(test)]
+mod example;
+#[cfg(test)]
+mod failing;
+#[cfg(test)]
+mod items;
+#[cfg(test)]
+mod line_readers;
 #[cfg(test)]
 mod moments;
+#[cfg(test)]
+mod order;
 #[cfg(test)]
 mod places;
 #[cfg(test)]
 mod properties;
 #[cfg(test)]
+mod recorded;
+#[cfg(test)]
+mod refused;
+#[cfg(test)]
+mod runs;
+#[cfg(test)]
 mod shop;
+#[cfg(test)]
+mod watched;

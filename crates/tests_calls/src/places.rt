@@ -1,5 +1,5 @@
 //! A piece of a text at each place of a short one, and of a name.
-use crate::lines::is_entity;
+use crate::both_ways::is_entity;
 use crate::shop::ITEMS;
 use spelled_answers::filters::TypeOf;
 use std::alloc::Global;

@@ -1,6 +1,6 @@
 //! Calls over texts, each with all that it stands on, as the suite of cases spells their answers.
-use crate::refused::shop::{E0, SHOP, TWICE};
 use crate::refused::tell;
+use crate::shop::{E0, SHOP, TWICE};
 use serde_json::Value;
 use spelled_answers::entities::line_answer;
 use spelled_answers::filters::{AskedOfFilter, TypeOf, answer_of, moment_of};

@@ -1,9 +1,8 @@
-//! Each call answers its memory fault, or the same as with ample memory, and prints which of the two.
+//! Calls of which one allocation is refused; `bench/refused` says which. Each answers its memory fault, or the same as with ample memory, and prints which of the two.
 use std::test::Fail;
 
 mod calls;
 mod runs;
-mod shop;
 
 /// Prints whether a call was refused memory.
 pub(crate) fn tell(rt: &impl Print, call: &str, is_refused: bool) -> Result<(), Fail> {
