@@ -132,11 +132,11 @@ fn count_drawn(alloc: Global, kind: Drawn) -> Result<u64, Fail> {
     Ok(entities)
 }
 
-/// What is drawn, and between which numbers the count of its entities lies.
+/// What is drawn, and between which numbers the count of its entities lies: the greater one are those by a tree.
 const DRAWN: &[(Drawn, u64, u64)] = &[
     (Drawn::Row, 7_486, 7_486),
-    (Drawn::ChangedRow, 1_000, 7_000),
-    (Drawn::ChangedProduct, 1_000, 9_000),
+    (Drawn::ChangedRow, 750, 785),
+    (Drawn::ChangedProduct, 600, 637),
 ];
 
 #[test]
