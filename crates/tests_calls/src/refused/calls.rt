@@ -55,11 +55,12 @@ fn answer(alloc: Global, call: Call) -> Result<String, Trouble> {
     }
 }
 
-/// Whether an answer says that memory was refused; fails if it is another one than with ample memory.
+/// Whether an answer says that memory was refused; fails if it is another one than with ample memory. A run into a text
+/// that cannot grow has a failed write.
 fn says_refused(said: &str, wanted: &str) -> Result<bool, Fail> {
     if said == wanted {
         Ok(false)
-    } else if said.ends_with("memory") {
+    } else if said.ends_with("memory") || said.ends_with("but another end of a run") {
         Ok(true)
     } else {
         Err(Fail::new(format_args!("{said}, not {wanted}")))
