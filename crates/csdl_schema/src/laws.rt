@@ -84,7 +84,7 @@ pub fn slots_as_declared()
 }
 
 /// A document of one entity type stands for its schema, and an array for none.
-pub fn worked_documents()
+pub fn documents_by_example()
     ensures mini { StandsFor worked.mini_text worked.mini_schema }
     ensures array { IsFirstDocumentFault (codes "[]") not_object }
 {}

@@ -23,8 +23,8 @@ mod type_index;
 pub use csdl_declarations::{SchemaFault, declared_in_order, numbers_of_their_type, types_by_name};
 pub use ids::{EnumId, TypeId};
 pub use laws::{
-    bases_end, cycles_have_no_chain, least_name_stands_twice, names_as_declared, one_answer,
-    slots_as_declared, worked_documents,
+    bases_end, cycles_have_no_chain, documents_by_example, least_name_stands_twice,
+    names_as_declared, one_answer, slots_as_declared,
 };
 pub use property::{Property, PropertyKind};
 pub use property_piece::PropertyPiece;

@@ -14,7 +14,7 @@ pub fn texts_have_one_value()
 }
 
 /// Values in an enumeration of flags, whose members are `Red`, `Green` and `Blue` with the numbers 1, 2 and 4.
-pub fn worked_values()
+pub fn values_by_example()
     ensures one { EnumerationValue color (codes "Green") (pos 2) }
     ensures several { EnumerationValue color (codes "Red, Blue") (pos 5) }
     ensures number { EnumerationValue color (codes "8") (pos 8) }

@@ -6,4 +6,4 @@ mod laws;
 mod pieces;
 
 pub use enumeration::Enumeration;
-pub use laws::{texts_have_one_value, worked_values};
+pub use laws::{texts_have_one_value, values_by_example};

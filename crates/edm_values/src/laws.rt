@@ -64,7 +64,7 @@ pub fn texts_have_one_value()
 
 /// Two moments as they are read and written. The offset of zero is written as `Z`, the letters in
 /// upper case, the seconds always, and a fraction without its last zeros.
-pub fn worked_moments()
+pub fn moments_by_example()
     ensures new_year { (m : MomentParts) × IsNewYear m }
     ensures new_year_read { (m : MomentParts) → IsNewYear m → MomentValue (codes "2020-01-01t00:00z") m }
     ensures new_year_written { (m : MomentParts) → IsNewYear m
@@ -77,7 +77,7 @@ pub fn worked_moments()
 {}
 
 /// A Guid as it is read and written; without its hyphens it is spelled as none.
-pub fn worked_guids()
+pub fn guids_by_example()
     ensures read { GuidValue (codes "01234567-89AB-CDEF-0123-456789ABCDEF") counting_bytes }
     ensures written { guid_spelling counting_bytes ≡ codes "01234567-89ab-cdef-0123-456789abcdef" }
     ensures no_hyphens { ¬ (IsGuidSpelling (codes "0123456789ABCDEF0123456789ABCDEF")) }

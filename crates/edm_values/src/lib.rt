@@ -19,8 +19,8 @@ pub use datum::Datum;
 pub use guid_literal::{read_guid, write_guid};
 pub use int_literal::{read_int, write_int};
 pub use laws::{
-    dates_read_back, guids_read_back, ints_read_back, moments_are_ordered, moments_read_back,
-    strings_read_back, texts_have_one_value, worked_guids, worked_moments,
+    dates_read_back, guids_by_example, guids_read_back, ints_read_back, moments_are_ordered,
+    moments_by_example, moments_read_back, strings_read_back, texts_have_one_value,
 };
 pub use moment::Moment;
 pub use moment_literal::{read_moment, write_moment};

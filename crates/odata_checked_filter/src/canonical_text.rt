@@ -9,9 +9,10 @@ ghost use Rattle.odata_checked_filter.specs.private.CanonicalWalk.{operand_of, s
 ghost use Rattle.odata_checked_filter.specs.private.KindTexts.{joint_text, quantifier_joint, spaced};
 
 use super::checked_node::NodeKind;
-use super::kind_levels::{BASE, PATH, UNARY, first_level, kind_level};
+use super::kind_levels::{first_level, kind_level};
 use super::kind_words::kind_word;
 use super::node_list::NodeList;
+use odata_syntax::level::{BASE, PATH, UNARY};
 use odata_syntax::{Quantifier, operator_level, write_literal};
 use std::alloc::{AllocError, Global};
 

@@ -3,22 +3,7 @@ ghost use Rattle.std.specs.Prelude.{◌≡◌};
 ghost use Rattle.odata_checked_filter.specs.private.KindTexts.{first_level, kind_level};
 
 use super::checked_node::NodeKind;
-use odata_syntax::operator_level;
-
-/// `-` and `not`.
-pub(crate) const UNARY: u8 = 7;
-
-/// `has` and `in`.
-const PRIMARY: u8 = 8;
-
-/// An operand without operators.
-pub(crate) const BASE: u8 = 9;
-
-/// A path.
-pub(crate) const PATH: u8 = 10;
-
-/// A path that may go on.
-const OPEN_PATH: u8 = 11;
+use odata_syntax::level::{BASE, OPEN_PATH, PATH, PRIMARY, UNARY, operator_level};
 
 /// The tightest level at which a node of that kind stands without parentheses.
 pub(crate) fn kind_level(kind: NodeKind) -> u8

@@ -14,7 +14,7 @@ mod run_fault;
 pub use bad_row::BadRow;
 pub use collection::{filter_collection, filter_collection_by};
 pub use command::command_line;
-pub use command::laws::worked_lines;
+pub use command::laws::lines_by_example;
 pub use command::planner::plan;
 pub use command::runner::run;
 pub use command::whole::{NotWhole, read_whole, read_whole_by};

@@ -3,6 +3,7 @@
 
 mod canonical_laws;
 mod expr;
+pub mod level;
 mod node;
 mod normal_form;
 mod parser;
@@ -12,10 +13,11 @@ mod syntax_laws;
 
 pub use canonical_laws::{canonical_texts_read_back, one_canonical_text, texts_tell_normal_forms};
 pub use expr::Expr;
+pub use level::operator_level;
 pub use node::{BinaryOperator, LiteralKind, Node, Quantifier};
 pub use normal_form::normal;
 pub use parser::parse;
-pub use printer::{operator_level, operator_word, print, write_literal};
+pub use printer::{operator_word, print, write_literal};
 pub use syntax_fault::SyntaxFault;
 pub use syntax_laws::{
     children_apart, faults_have_no_tree, first_run_parses, name_eq_is_unended, node_spans,

@@ -16,7 +16,6 @@ ghost use Rattle.odata_syntax.specs.private.Stops.{RefusesOneOf};
 mod bracket;
 mod frames;
 mod lambda;
-mod level;
 mod operand;
 mod operator;
 mod path;

@@ -8,14 +8,14 @@ ghost use Rattle.odata_syntax.specs.private.Prints.{AreTextsOf, IsTextOf, body_t
 ghost use Rattle.odata_syntax.specs.private.Prints.{operand_text, path_text, right_text, signed_text};
 
 mod enumeration;
-mod level;
 mod literal;
+mod node_level;
 mod word;
 
+use crate::level::{BASE, PATH, PRIMARY, UNARY, operator_level};
 use crate::{Expr, Node};
-pub use level::operator_level;
-use level::{BASE, PATH, PRIMARY, UNARY, node_level};
 pub use literal::write_literal;
+use node_level::node_level;
 use std::alloc::{AllocError, Global};
 pub use word::operator_word;
 

@@ -11,7 +11,7 @@ ghost use Rattle.odata_filter.specs.WorkedLines as worked;
 /// them. Lines without a schema and with an unknown option are not taken. `check` takes a filter, and no rows, no moment
 /// and no collection; `explain` a query, and no moment. The program tells its version, its subcommand has none of its
 /// own, and help goes before what is missing.
-pub fn worked_lines()
+pub fn lines_by_example()
     ensures taken { IsTaken worked.whole }
     ensures schema { first_of (codes "schema") (verb_matches worked.whole) ≡ Some (codes "s") }
     ensures named { first_of (codes "type") (verb_matches worked.whole) ≡ Some (codes "N.T") }

@@ -5,8 +5,7 @@ ghost use Rattle.odata_syntax.specs.private.Machine.{reduce as machine_reduce, e
 ghost use Rattle.odata_syntax.specs.private.MachineView.{operation_of, stack_of, machine_of, reduction_of};
 
 use crate::Node;
-use crate::parser::level;
-use crate::parser::operator::level_of;
+use crate::level::{self, operator_level};
 use crate::parser::state::{Frame, Pending, Stage, State};
 use odata_text::Span;
 use std::alloc::{AllocError, Global};
@@ -16,7 +15,7 @@ pub fn expected_level(frames: &Vec<Frame>) -> u8
     ensures { result ≡ machine_expected (stack_of frames.now.items) }
 {
     match frames.last() {
-        Some(Frame::Pending(Pending::Binary { operator, .. })) => level_of(*operator) + 1,
+        Some(Frame::Pending(Pending::Binary { operator, .. })) => operator_level(*operator) + 1,
         Some(Frame::Pending(Pending::Has { .. })) => level::BASE,
         Some(Frame::Pending(Pending::In { .. })) => level::PATH,
         Some(Frame::Pending(Pending::Minus { .. } | Pending::Not { .. })) => level::UNARY,
@@ -74,7 +73,7 @@ fn pending_level(pending: &Pending) -> u8
     ensures { result ≡ operation_level (operation_of pending.now) }
 {
     match pending {
-        Pending::Binary { operator, .. } => level_of(*operator),
+        Pending::Binary { operator, .. } => operator_level(*operator),
         Pending::Has { .. } | Pending::In { .. } => level::PRIMARY,
         Pending::Minus { .. } | Pending::Not { .. } => level::UNARY,
     }

@@ -6,10 +6,9 @@ ghost use Rattle.odata_syntax.specs.private.MachineView.{machine_of, stack_of, R
 
 use crate::parser::bracket::{close_empty, open};
 use crate::parser::frames::expected_level;
-use crate::parser::level;
 use crate::parser::state::{Frame, Pending, Stage, State};
 use crate::parser::word::is_word;
-use crate::{LiteralKind, Node, SyntaxFault};
+use crate::{LiteralKind, Node, SyntaxFault, level};
 use odata_text::{Token, TokenKind};
 use std::alloc::Global;
 

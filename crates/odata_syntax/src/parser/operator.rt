@@ -1,14 +1,13 @@
 ghost use Rattle.std.specs.Prelude.{◌≡◌, Some, IfOk, IfErr};
-ghost use Rattle.odata_syntax.specs.Grammar.{operator_level};
 ghost use Rattle.odata_syntax.specs.TreeView.{tree_of};
 ghost use Rattle.odata_text.specs.TokenModel.{token_model};
 ghost use Rattle.odata_syntax.specs.private.Machine.{word_next as machine_word, next_of_kind, next_level};
 ghost use Rattle.odata_syntax.specs.private.Machine.{take_next as machine_take_next};
 ghost use Rattle.odata_syntax.specs.private.MachineView.{machine_of, stack_of, Refuses};
 
+use crate::level::{self, operator_level};
 use crate::parser::bracket::{close, separate};
 use crate::parser::frames::{reduce, wait_for};
-use crate::parser::level;
 use crate::parser::state::{Frame, Pending, State};
 use crate::parser::word::is_word;
 use crate::{BinaryOperator, Node, SyntaxFault};
@@ -113,23 +112,8 @@ fn level_of_next(next: Next) -> u8
     ensures { result ≡ next_level next }
 {
     match next {
-        Next::Operator(operator) => level_of(operator),
+        Next::Operator(operator) => operator_level(operator),
         Next::Has | Next::In => level::PRIMARY,
         Next::Close | Next::Comma => level::OR,
-    }
-}
-
-/// How tightly an operator binds.
-pub fn level_of(operator: BinaryOperator) -> u8
-    ensures { result ≡ operator_level operator }
-{
-    match operator {
-        BinaryOperator::Or => level::OR,
-        BinaryOperator::And => level::AND,
-        BinaryOperator::Eq | BinaryOperator::Ne => level::EQ,
-        BinaryOperator::Gt | BinaryOperator::Ge | BinaryOperator::Lt | BinaryOperator::Le =>
-            level::RELATIONAL,
-        BinaryOperator::Add | BinaryOperator::Sub => level::ADDITIVE,
-        BinaryOperator::Mul | BinaryOperator::Div | BinaryOperator::Mod => level::MULTIPLICATIVE,
     }
 }

@@ -9,12 +9,11 @@ ghost use Rattle.odata_syntax.specs.private.MachineView.{machine_of, stack_of, R
 
 use crate::parser::frames::reduce;
 use crate::parser::lambda::{take_behind_word, take_colon, take_variable};
-use crate::parser::level;
 use crate::parser::operand::take_operand;
 use crate::parser::operator::take_next;
 use crate::parser::path::{take_behind_name, take_behind_path, take_segment};
 use crate::parser::state::{Frame, Stage, State};
-use crate::{Node, SyntaxFault};
+use crate::{Node, SyntaxFault, level};
 use odata_text::{Span, Token};
 use std::alloc::{AllocError, Global};
 

@@ -1,5 +1,5 @@
 use Rattle.odata_filter.proofs.LineLemmas.CommandLineWorked as line
-use Rattle.odata_filter.proofs.command.laws.worked_lines.Goals as goal
+use Rattle.odata_filter.proofs.command.laws.lines_by_example.Goals as goal
 
 pub returns-clause-taken : goal.returns-clause-taken
 returns-clause-taken c = line.whole_taken

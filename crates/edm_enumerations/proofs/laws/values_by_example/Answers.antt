@@ -1,6 +1,6 @@
 use Rattle.std.proofs.Common.{refl, pos, inl, inr, codes, rules, arith, lit<}
 use Rattle.edm_values.specs.IntLiteral.{IntValue}
-use Rattle.edm_enumerations.proofs.laws.worked_values.Goals as goal
+use Rattle.edm_enumerations.proofs.laws.values_by_example.Goals as goal
 
 pub returns-clause-one : goal.returns-clause-one
 returns-clause-one c = record { joined = (pos 2, (λ same. cc, refl), refl); one_piece = λ none. refl }

@@ -2,7 +2,7 @@ use Rattle.std.proofs.Common.{refl}
 use Rattle.uuid.proofs.OnLiterals.{uuid_on_literals}
 use Rattle.edm_values.specs.WorkedLiterals.{counting_bytes}
 use Rattle.edm_values.proofs.literals.Guids.{GuidValue-parsed}
-use Rattle.edm_values.proofs.laws.worked_guids.Goals as goal
+use Rattle.edm_values.proofs.laws.guids_by_example.Goals as goal
 
 pub returns-clause-read : goal.returns-clause-read
 unfolding uuid_on_literals

@@ -1,7 +1,7 @@
 use Rattle.std.proofs.Common.{◌≡◌, inl, inr, [], codes, pos, neg_ℤ, arith, refl}
 use Rattle.jiff.proofs.SpanFacts.{signed_arith}
 use Rattle.edm_values.specs.MomentLiteral.{significant_digits}
-use Rattle.edm_values.proofs.laws.worked_moments.Goals as goal
+use Rattle.edm_values.proofs.laws.moments_by_example.Goals as goal
 
 pub returns-clause-new_year : goal.returns-clause-new_year
 returns-clause-new_year c = (
