@@ -1,6 +1,7 @@
 //! Calls over texts, each with all that it stands on, as the suite of cases spells their answers.
 use crate::refused::tell;
 use crate::shop::{E0, SHOP, TWICE};
+use odata_text::{QueryFault, filter_of_query};
 use serde_json::Value;
 use spelled_answers::entities::line_answer;
 use spelled_answers::filters::{AskedOfFilter, TypeOf, answer_of, moment_of};
@@ -12,7 +13,7 @@ use std::alloc::Global;
 use std::test::Fail;
 
 /// What is asked: of a document, of a line as a product, of a filter of products (last its outcome on the product), of a
-/// text without types, of a literal of a kind.
+/// text without types, of a literal of a kind, of a query string.
 #[derive(Clone, Copy)]
 enum Call {
     Document(&'static str),
@@ -23,6 +24,7 @@ enum Call {
     Outcome(&'static str),
     Text(&'static str),
     Literal(&'static str, &'static str),
+    Query(&'static str),
 }
 
 /// The type of products.
@@ -40,6 +42,16 @@ fn outcome_of(alloc: Global, filter: &str) -> Result<String, Trouble> {
     answer_of(alloc, product(), filter, AskedOfFilter::Outcome(&row, &now))
 }
 
+/// The filter of a query string.
+fn filter_of(alloc: Global, query: &str) -> Result<String, Trouble> {
+    match filter_of_query(alloc, query.as_bytes()) {
+        Ok(Some(filter)) => Ok(filter),
+        Ok(None) => Ok(String::from_str(alloc, "no filter")?),
+        Err(QueryFault::Memory) => Err(Trouble::Memory),
+        Err(fault) => Ok(format!(in alloc; "refused {fault}")?),
+    }
+}
+
 fn answer(alloc: Global, call: Call) -> Result<String, Trouble> {
     match call {
         Call::Document(text) => fault_of(alloc, text.as_bytes()),
@@ -52,6 +64,7 @@ fn answer(alloc: Global, call: Call) -> Result<String, Trouble> {
         Call::Outcome(filter) => outcome_of(alloc, filter),
         Call::Text(text) => answer_of_text(alloc, text, AskedOfText::Canonical),
         Call::Literal(kind, text) => value_of(alloc, kind, text),
+        Call::Query(query) => filter_of(alloc, query),
     }
 }
 
@@ -153,6 +166,11 @@ const CALLS: &[(Call, &str, &str)] = &[
         "01234567-89ab-cdef-0123-456789abcdef",
     ),
     (Call::Literal("Str", "'O''Neil'"), "string", "'O''Neil'"),
+    (
+        Call::Query("$filter=Changed%20eq%202020-01-01T01:00:00%2B01:00"),
+        "filter_of_query",
+        "Changed eq 2020-01-01T01:00:00+01:00",
+    ),
 ];
 
 #[test]
