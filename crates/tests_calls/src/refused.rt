@@ -1,4 +1,4 @@
-//! Calls of which one allocation is refused; `bench/refused` says which. Each answers its memory fault, or the same as with ample memory, and prints which of the two.
+//! Calls of which one allocation is refused; `tests/refused` says which. Each answers its memory fault, or the same as with ample memory, and prints which of the two.
 use std::test::Fail;
 
 mod calls;
