@@ -1,4 +1,5 @@
 //! What is said of filters: refusals, outcomes on rows, canonical texts, types.
+ghost use Rattle.std.specs.Prelude.{◌≡◌};
 ghost use Rattle.csdl_schema.specs.SchemaModel.{HoldsType};
 
 use crate::nodes::{second_type, told_nodes};
@@ -25,6 +26,8 @@ pub enum AskedOfFilter<'a> {
     LambdaDepth,
     /// The outcome on this row, at this moment.
     Outcome(&'a Value, &'a Moment),
+    /// The outcome on this row, at this moment, of so many evaluations.
+    Evaluations(&'a Value, &'a Moment, usize),
 }
 
 /// A type of a schema.
@@ -92,15 +95,38 @@ fn agrees(outcome: &str, said: &str) -> bool {
     outcome == said || (outcome == "null" && said == "false")
 }
 
-/// The outcome on an entity.
+/// The one outcome of so many evaluations.
+fn evaluated(
+    alloc: Global,
+    checked: &Checked<'_>,
+    entity: &Entity<'_>,
+    now: &Moment,
+    times: usize,
+) -> &'static str
+    requires one_schema { checked.now.schema ≡ entity.now.schema }
+    requires one_type { checked.now.filtered ≡ entity.now.type_id }
+{
+    let mut said = "not evaluated";
+    for time in 0..times {
+        let found = spelled(evaluate(alloc, checked, entity, now));
+        if time > 0 && found != said {
+            return "another outcome";
+        }
+        said = found;
+    }
+    said
+}
+
+/// The outcome on an entity of so many evaluations.
 fn outcome(
     alloc: Global,
     checked: &Checked<'_>,
     row: &Value,
     now: &Moment,
+    times: usize,
 ) -> Result<&'static str, Trouble> {
     match Entity::from_json(alloc, checked.schema(), checked.filtered_type(), row) {
-        Ok(entity) => Ok(spelled(evaluate(alloc, checked, &entity, now))),
+        Ok(entity) => Ok(evaluated(alloc, checked, &entity, now, times)),
         Err(RowFault::Memory) => Err(Trouble::Memory),
         Err(_) => Err(Trouble::NoEntity),
     }
@@ -113,7 +139,7 @@ fn agreed_outcome(
     row: &Value,
     now: &Moment,
 ) -> Result<String, Trouble> {
-    let found = outcome(alloc, checked, row, now)?;
+    let found = outcome(alloc, checked, row, now, 1)?;
     let line = row.to_string(alloc)?;
     let said = kept(alloc, checked, line.as_bytes(), now);
     if found == "memory" || said == "memory" {
@@ -123,6 +149,19 @@ fn agreed_outcome(
     } else {
         Ok(format!(in alloc; "{found}, but {said} of a run")?)
     }
+}
+
+/// The outcome on a row of so many evaluations, told without an allocation behind the first of them.
+fn repeated_outcome(
+    alloc: Global,
+    checked: &Checked<'_>,
+    row: &Value,
+    now: &Moment,
+    times: usize,
+) -> Result<String, Trouble> {
+    let mut told = String::with_capacity(alloc, 32)?;
+    told.push_str(outcome(alloc, checked, row, now, times)?)?;
+    Ok(told)
 }
 
 fn answer(
@@ -138,6 +177,9 @@ fn answer(
         AskedOfFilter::SecondType => second_type(alloc, checked),
         AskedOfFilter::LambdaDepth => Ok(format!(in alloc; "{}", checked.lambda_depth())?),
         AskedOfFilter::Outcome(row, now) => agreed_outcome(alloc, checked, row, now),
+        AskedOfFilter::Evaluations(row, now, times) => {
+            repeated_outcome(alloc, checked, row, now, times)
+        }
     }
 }
 

@@ -7,6 +7,7 @@ pub mod filters;
 pub mod literals;
 mod nodes;
 pub mod pieces;
+pub mod runs;
 pub mod schemas;
 pub mod texts;
 mod tree;

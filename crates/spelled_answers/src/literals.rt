@@ -57,18 +57,32 @@ fn push_string(alloc: Global, out: &mut String, text: &str) -> Result<(), Troubl
     }
 }
 
+/// Appends the canonical spelling of the literal of that kind which a text is, or `null`.
+fn push_literal(alloc: Global, out: &mut String, kind: &str, text: &str) -> Result<(), Trouble> {
+    match kind {
+        "Int" => push_int(out, text),
+        "Date" => push_read_date(out, text),
+        "Moment" => push_moment(out, text),
+        "Guid" => push_guid(out, text),
+        "Str" => push_string(alloc, out, text),
+        _ => Err(Trouble::NoKind),
+    }
+}
+
 /// The canonical spelling of the literal of that kind which a text is, or `null`.
 pub fn value_of(alloc: Global, kind: &str, text: &str) -> Result<String, Trouble> {
     let mut out = String::new(alloc);
-    match kind {
-        "Int" => push_int(&mut out, text)?,
-        "Date" => push_read_date(&mut out, text)?,
-        "Moment" => push_moment(&mut out, text)?,
-        "Guid" => push_guid(&mut out, text)?,
-        "Str" => push_string(alloc, &mut out, text)?,
-        _ => return Err(Trouble::NoKind),
-    }
+    push_literal(alloc, &mut out, kind, text)?;
     Ok(out)
+}
+
+/// The same behind a text, which a failed write has to leave as it was: otherwise, what it left.
+pub fn value_behind(alloc: Global, front: &str, kind: &str, text: &str) -> Result<String, Trouble> {
+    let mut out = String::from_str(alloc, front)?;
+    match push_literal(alloc, &mut out, kind, text) {
+        Err(trouble) if out.as_str() == front => Err(trouble),
+        _ => Ok(out),
+    }
 }
 
 /// The instant of a moment, in nanoseconds from the beginning of 1970, or `null`.

@@ -1,4 +1,5 @@
 //! Documents, and what the look-ups of their schemas find.
+use crate::filters::schema_of;
 use crate::nodes::{enumeration_name, push_property, structured_name};
 use crate::trouble::Trouble;
 use csdl_schema::{Schema, SchemaFault, TypeId};
@@ -60,6 +61,12 @@ pub fn told_slots(alloc: Global, schema: &Schema, id: TypeId) -> Result<String, 
         push_slot(&mut text, schema, id, slot)?;
     }
     Ok(text)
+}
+
+/// The slots of the type that goes by a name in a document.
+pub fn slots_of(alloc: Global, document: &[u8], name: &str) -> Result<String, Trouble> {
+    let schema = schema_of(alloc, document)?;
+    told_slots(alloc, &schema, type_of(&schema, name)?)
 }
 
 /// The type that goes by a name.

@@ -7,6 +7,10 @@ pub const SHOP: &str =
 pub const E0: &str =
     "{\"ID\":1,\"Name\":\"O'Neil\",\"Rating\":3,\"Stock\":10,\"Active\":true,\"Released\":\"2020-02-29\",\"Changed\":\"2020-01-01T00:00:00Z\",\"Color\":\"Red, Blue\",\"Code\":\"01234567-89ab-cdef-0123-456789abcdef\",\"Tags\":[\"a\"],\"Price\":1.5,\"Home\":{\"City\":\"Oslo\",\"Lines\":[{\"Qty\":2}]},\"Parts\":[{\"Name\":\"x\",\"Qty\":1,\"Sub\":[{\"Name\":\"y\",\"Qty\":2,\"Sub\":[]}]}]}";
 
+/// It by another name.
+pub const NAMED: &str =
+    "{\"ID\":1,\"Name\":\"aéb\",\"Rating\":3,\"Stock\":10,\"Active\":true,\"Released\":\"2020-02-29\",\"Changed\":\"2020-01-01T00:00:00Z\",\"Color\":\"Red, Blue\",\"Code\":\"01234567-89ab-cdef-0123-456789abcdef\",\"Tags\":[\"a\"],\"Price\":1.5,\"Home\":{\"City\":\"Oslo\",\"Lines\":[{\"Qty\":2}]},\"Parts\":[{\"Name\":\"x\",\"Qty\":1,\"Sub\":[{\"Name\":\"y\",\"Qty\":2,\"Sub\":[]}]}]}";
+
 /// It, and its line feed.
 pub const PRODUCT: &str =
     "{\"ID\":1,\"Name\":\"O'Neil\",\"Rating\":3,\"Stock\":10,\"Active\":true,\"Released\":\"2020-02-29\",\"Changed\":\"2020-01-01T00:00:00Z\",\"Color\":\"Red, Blue\",\"Code\":\"01234567-89ab-cdef-0123-456789abcdef\",\"Tags\":[\"a\"],\"Price\":1.5,\"Home\":{\"City\":\"Oslo\",\"Lines\":[{\"Qty\":2}]},\"Parts\":[{\"Name\":\"x\",\"Qty\":1,\"Sub\":[{\"Name\":\"y\",\"Qty\":2,\"Sub\":[]}]}]}\n";

@@ -1,6 +1,7 @@
 //! Runs over lines and over a collection: what was written by then stays.
 ghost use Rattle.csdl_schema.specs.SchemaModel.{HoldsType};
 
+use crate::items::{A, FIRST, SCHEMA as ITEMS};
 use crate::refused::tell;
 use csdl_schema::{Schema, TypeId};
 use edm_entities::RowFault;
@@ -30,10 +31,15 @@ const THREE: &str =
 
 const BEHIND: &str = "\n{\"Name\":\"a\",\"On\":true}\n";
 
-/// What is asked of the filter: rows of which 1, 3 and 5 are kept, 2 is left out and 4 is blank; rows of which 4 is at
-/// fault; a collection of which the first and the third entity are kept.
+/// The first of them is kept by the first filter of items.
+const OF_ITEMS: &str =
+    "{\"ID\":1,\"Name\":\"a\",\"Active\":true}\n{\"ID\":1,\"Name\":\"b\",\"Active\":true}\n{\"ID\":2,\"Name\":\"a\",\"Active\":false}\n";
+
+/// What is asked of the filter: rows of items; rows of which 1, 3 and 5 are kept, 2 is left out and 4 is blank; rows of
+/// which 4 is at fault; a collection of which the first and the third entity are kept.
 #[derive(Clone, Copy)]
 enum Run {
+    Items,
     Lines,
     FaultyLines,
     Collection,
@@ -43,6 +49,7 @@ enum Run {
 fn written_before(run: Run, line: u64) -> &'static str {
     match (run, line) {
         (_, 0 | 1) => "",
+        (Run::Items, _) => A,
         (Run::Collection, 2 | 3) => "0\n",
         (Run::Collection, _) => "0\n2\n",
         (_, 2 | 3) => KEPT,
@@ -54,6 +61,7 @@ fn written_before(run: Run, line: u64) -> &'static str {
 /// The tally of a run without a fault.
 fn tally_of(run: Run) -> Tally {
     match run {
+        Run::Items => Tally { rows: 3, kept: 1 },
         Run::Collection => Tally { rows: 3, kept: 2 },
         _ => Tally { rows: 4, kept: 3 },
     }
@@ -100,11 +108,12 @@ fn lines_are_refused(
 ) -> Result<bool, Fail> {
     let now = moment_of(None)?;
     let blank = io::repeat(b' ').take(65_536);
-    let (fourth, last) = match run {
-        Run::Lines => ("", BEHIND),
-        _ => ("{}\n", ""),
+    let (three, fourth, last) = match run {
+        Run::Items => (OF_ITEMS, "", ""),
+        Run::Lines => (THREE, "", BEHIND),
+        _ => (THREE, "{}\n", ""),
     };
-    let first = THREE.as_bytes().chain(fourth.as_bytes());
+    let first = three.as_bytes().chain(fourth.as_bytes());
     let rows = first.chain(blank).chain(last.as_bytes());
     let said = filter_lines(alloc, checked, &now, rows, out);
     is_said(run, &said, out.as_slice())
@@ -135,11 +144,17 @@ fn run_is_refused(alloc: Global, checked: &Checked<'_>, run: Run) -> Result<bool
     }
 }
 
-/// The same of the filter of a type, or of its check.
-fn filter_is_refused(alloc: Global, schema: &Schema, id: TypeId, run: Run) -> Result<bool, Fail>
+/// The same of a filter of a type, or of its check.
+fn filter_is_refused(
+    alloc: Global,
+    schema: &Schema,
+    id: TypeId,
+    filter: &str,
+    run: Run,
+) -> Result<bool, Fail>
     requires { HoldsType schema.now id }
 {
-    match &check(alloc, schema, id, FILTER) {
+    match &check(alloc, schema, id, filter) {
         Ok(checked) => run_is_refused(alloc, checked, run),
         Err(Refusal::Memory) => Ok(true),
         Err(_) => Err(Fail::new("another refusal")),
@@ -148,15 +163,24 @@ fn filter_is_refused(alloc: Global, schema: &Schema, id: TypeId, run: Run) -> Re
 
 /// The same of a schema.
 fn schema_is_refused(alloc: Global, schema: &Schema, run: Run) -> Result<bool, Fail> {
-    match schema.type_named("N.T") {
-        Some(id) if schema.holds(id) => filter_is_refused(alloc, schema, id, run),
+    let (named, filter) = match run {
+        Run::Items => ("Mini.Item", FIRST),
+        _ => ("N.T", FILTER),
+    };
+    match schema.type_named(named) {
+        Some(id) if schema.holds(id) => filter_is_refused(alloc, schema, id, filter, run),
         _ => Err(Fail::new("no type")),
     }
 }
 
 /// The same of the document, or of its reading.
 fn is_refused(alloc: Global, run: Run) -> Result<bool, Fail> {
-    match &schema_of(alloc, SCHEMA.as_bytes()) {
+    let document = if matches!(run, Run::Items) {
+        ITEMS
+    } else {
+        SCHEMA
+    };
+    match &schema_of(alloc, document.as_bytes()) {
         Ok(schema) => schema_is_refused(alloc, schema, run),
         Err(Trouble::Memory) => Ok(true),
         Err(_) => Err(Fail::new("no schema")),
@@ -166,7 +190,8 @@ fn is_refused(alloc: Global, run: Run) -> Result<bool, Fail> {
 /// What is asked, and by which name it is told. The fourth line of the lines is so long that the buffer of what is read
 /// grows a second time; the faulty line is judged before it does.
 const RUNS: &[(Run, &str)] = &[
-    (Run::Lines, "filter_lines"),
+    (Run::Items, "filter_lines"),
+    (Run::Lines, "filter_lines_of_pieces"),
     (Run::FaultyLines, "filter_lines_of_fault"),
     (Run::Collection, "filter_collection"),
 ];
@@ -174,7 +199,8 @@ const RUNS: &[(Run, &str)] = &[
 #[test]
 fn runs(rt: HostRuntime) -> Result<(), Fail> {
     for &(run, name) in RUNS {
-        tell(&rt, name, is_refused(rt.alloc(), run)?)?;
+        let (first, again) = (is_refused(rt.alloc(), run)?, is_refused(rt.alloc(), run)?);
+        tell(&rt, name, first, again)?;
     }
     Ok(())
 }
