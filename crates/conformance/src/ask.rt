@@ -45,7 +45,7 @@ pub(crate) fn now_of(case: &Case<'_>) -> Result<Moment, Trouble> {
 fn outcome(case: &Case<'_>, filter: &Value, row: &Value) -> Result<String, Trouble> {
     let row = row_of(case, row)?;
     let now = now_of(case)?;
-    filter_answer(case, filter, AskedOfFilter::Outcome(&row, &now))
+    filter_answer(case, filter, AskedOfFilter::Outcome(&row, &now, case.times))
 }
 
 /// The outcome of the case's filter on its row with these members changed.
@@ -55,7 +55,7 @@ fn changed_outcome(case: &Case<'_>, with: &Value) -> Result<String, Trouble> {
     filter_answer(
         case,
         case.member("filter")?,
-        AskedOfFilter::Outcome(&row, &now),
+        AskedOfFilter::Outcome(&row, &now, case.times),
     )
 }
 

@@ -10,6 +10,8 @@ pub struct Case<'c> {
     pub alloc: Global,
     pub library: &'c Library,
     pub members: &'c Map<String, Value>,
+    /// How often a filter that takes no memory is evaluated.
+    pub times: usize,
 }
 
 impl<'c> Case<'c> {

@@ -142,7 +142,7 @@ pub(crate) fn compare_answers(case: &Case<'_>, report: &mut Report) -> Result<()
     let cells = Cells {
         alloc: case.alloc,
         filtered,
-        asked: AskedOfFilter::Outcome(&row, &now),
+        asked: AskedOfFilter::Outcome(&row, &now, case.times),
         before,
         behind,
     };

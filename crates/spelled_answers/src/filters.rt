@@ -24,8 +24,8 @@ pub enum AskedOfFilter<'a> {
     /// The type of the second node, which is the first operand of the first one.
     SecondType,
     LambdaDepth,
-    /// The outcome on this row, at this moment.
-    Outcome(&'a Value, &'a Moment),
+    /// The outcome on this row, at this moment, of so many evaluations if they take no memory, and of a run.
+    Outcome(&'a Value, &'a Moment, usize),
     /// The outcome on this row, at this moment, of so many evaluations.
     Evaluations(&'a Value, &'a Moment, usize),
 }
@@ -138,8 +138,10 @@ fn agreed_outcome(
     checked: &Checked<'_>,
     row: &Value,
     now: &Moment,
+    times: usize,
 ) -> Result<String, Trouble> {
-    let found = outcome(alloc, checked, row, now, 1)?;
+    let times = if checked.takes_memory() { 1 } else { times };
+    let found = outcome(alloc, checked, row, now, times)?;
     let line = row.to_string(alloc)?;
     let said = kept(alloc, checked, line.as_bytes(), now);
     if found == "memory" || said == "memory" {
@@ -176,7 +178,9 @@ fn answer(
         AskedOfFilter::Explanation => Ok(checked.explain(alloc)?),
         AskedOfFilter::SecondType => second_type(alloc, checked),
         AskedOfFilter::LambdaDepth => Ok(format!(in alloc; "{}", checked.lambda_depth())?),
-        AskedOfFilter::Outcome(row, now) => agreed_outcome(alloc, checked, row, now),
+        AskedOfFilter::Outcome(row, now, times) => {
+            agreed_outcome(alloc, checked, row, now, times)
+        }
         AskedOfFilter::Evaluations(row, now, times) => {
             repeated_outcome(alloc, checked, row, now, times)
         }

@@ -56,7 +56,7 @@ fn outcome_of(
     let now = moment_of(None)?;
     let asked = match times {
         Some(times) => AskedOfFilter::Evaluations(&row, &now, times),
-        None => AskedOfFilter::Outcome(&row, &now),
+        None => AskedOfFilter::Outcome(&row, &now, 1),
     };
     answer_of(alloc, product(), filter, asked)
 }
