@@ -78,7 +78,8 @@ fn read_whole(wanted: Prim, number: JsonNumber) -> Result<Value, ReadFlaw>
     }
 }
 
-fn read_text(alloc: Global, wanted: Prim, text: &str) -> Result<Value, ReadFlaw>
+/// Reads a text where a primitive type is wanted.
+pub(crate) fn read_text(alloc: Global, wanted: Prim, text: &str) -> Result<Value, ReadFlaw>
     ensures fits { (slots : Slots) (type : ExprType)
         → IfOk result (λ v. FitsPrimitive wanted (string text.now) (val_of v slots type)) }
     ensures flaw { IfErr result (λ f. OnFlaw f (IsPrimitiveFlaw wanted (string text.now))) }

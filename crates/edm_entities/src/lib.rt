@@ -10,6 +10,7 @@ mod lent_piece;
 mod member_walk;
 mod number_text;
 mod row_cache;
+mod row_leaf;
 mod row_reader;
 mod row_skip;
 mod row_slots;

@@ -11,7 +11,6 @@ use super::row_cache::RowCache;
 use super::row_walk::take_members;
 use csdl_schema::{Schema, TypeId};
 use edm_values::Value;
-use json::{Scratch, Token};
 use json_tokens::TokenReader;
 use std::alloc::Global;
 use std::marker::Model;
@@ -24,7 +23,6 @@ const DEPTH: usize = 127;
 pub struct RowReader<'s> {
     schema: &'s Schema,
     type_id: TypeId,
-    scratch: Scratch,
     cache: RowCache,
 }
 
@@ -48,7 +46,6 @@ impl<'s> RowReader<'s> {
         RowReader {
             schema,
             type_id,
-            scratch: Scratch::new(alloc),
             cache: RowCache::new(alloc),
         }
     }
@@ -63,13 +60,7 @@ impl<'s> RowReader<'s> {
         let Ok(text) = str::from_utf8(line) else {
             return None;
         };
-        match take_row(
-            &mut self.cache,
-            self.schema,
-            self.type_id,
-            text,
-            &mut self.scratch,
-        ) {
+        match take_row(&mut self.cache, self.schema, self.type_id, text) {
             Some(values) => Some(Entity::from_values(self.schema, self.type_id, values)),
             None => None,
         }
@@ -90,16 +81,15 @@ fn take_row(
     schema: &Schema,
     type_id: TypeId,
     text: &str,
-    scratch: &mut Scratch,
 ) -> Option<Vec<Value>>
     ensures distinct { IfSome result (λ _. HasDistinctNames (properties_at schema.now type_id)) }
     ensures fits { IfSome result (λ values. (json : Data) × (read text.now ≡ Some json) × IsSome (as_object json)
         × FitSlots (slots_of schema.now) json (properties_at schema.now type_id) values.items) }
 {
-    let mut reader = TokenReader::new(text, scratch);
-    let Some(Token::BeginObject) = reader.next() else {
+    let mut reader = TokenReader::new(text);
+    if !reader.take_begin_object() {
         return None;
-    };
+    }
     let Some(values) = take_members(cache, schema, type_id, &mut reader, DEPTH - 1) else {
         return None;
     };

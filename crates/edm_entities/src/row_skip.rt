@@ -3,20 +3,20 @@ ghost use Rattle.std.specs.Prelude.{IsTrue};
 ghost use Rattle.edm_entities.specs.private.RowTokens.{Reads, ReadsItems, ReadsMembers};
 
 use super::row_token::scalar_of_token;
-use json::Token;
+use json::{Scratch, Token};
 use json_tokens::TokenReader;
 
 /// Passes over a value.
 #[cycle(skip)]
-pub(crate) fn skip_value(reader: &mut TokenReader<'_>, depth: usize) -> bool
+pub(crate) fn skip_value(scratch: &mut Scratch, reader: &mut TokenReader<'_>, depth: usize) -> bool
     ensures { IsTrue result → Reads depth reader.old reader.new (λ json. Unit {0}) }
 {
-    let Some(token) = reader.next() else {
+    let Some(token) = reader.next(scratch) else {
         return false;
     };
     match token {
-        Token::BeginObject => depth > 0 && skip_members(reader, depth - 1),
-        Token::BeginArray => depth > 0 && skip_items(reader, depth - 1),
+        Token::BeginObject => depth > 0 && skip_members(scratch, reader, depth - 1),
+        Token::BeginArray => depth > 0 && skip_items(scratch, reader, depth - 1),
         Token::Null => true,
         _ => scalar_of_token(token).is_some(),
     }
@@ -24,11 +24,11 @@ pub(crate) fn skip_value(reader: &mut TokenReader<'_>, depth: usize) -> bool
 
 /// Passes over an array's items and its closing bracket.
 #[cycle(skip)]
-fn skip_items(reader: &mut TokenReader<'_>, depth: usize) -> bool
+fn skip_items(scratch: &mut Scratch, reader: &mut TokenReader<'_>, depth: usize) -> bool
     ensures { IsTrue result → ReadsItems depth reader.old reader.new (λ jsons. Unit {0}) }
 {
     'items: while !reader.take_end_array() {
-        if !skip_value(reader, depth) {
+        if !skip_value(scratch, reader, depth) {
             return false;
         }
     }
@@ -37,17 +37,17 @@ fn skip_items(reader: &mut TokenReader<'_>, depth: usize) -> bool
 
 /// Passes over an object's members and its closing brace.
 #[cycle(skip)]
-fn skip_members(reader: &mut TokenReader<'_>, depth: usize) -> bool
+fn skip_members(scratch: &mut Scratch, reader: &mut TokenReader<'_>, depth: usize) -> bool
     ensures { IsTrue result → ReadsMembers depth reader.old reader.new (λ found. Unit {0}) }
 {
     'members: loop {
-        let Ok(key) = reader.next_key() else {
+        let Ok(key) = reader.next_key(scratch) else {
             return false;
         };
         let Some(_name) = key else {
             return true;
         };
-        if !skip_value(reader, depth) {
+        if !skip_value(scratch, reader, depth) {
             return false;
         }
     }

@@ -1,28 +1,26 @@
 //! The walk over a row's tokens, straight into the slots of its type. It ends where the row fits no value, and where
 //! memory is wanting.
-ghost use Rattle.std.specs.Prelude.{◌≡◌, ◌∷◌, length, true, false, Some, IsTrue, IfSome};
-ghost use Rattle.json.specs.Token.{begin_object};
+ghost use Rattle.std.specs.Prelude.{◌≡◌, ◌≢◌, ◌<◌, ℕ, List, length, true, false, Some, IsTrue, IfSome, MatchOption};
+ghost use Rattle.std.specs.List.{AllByRecursion};
 ghost use Rattle.serde_json.specs.Data.{object, put, Members};
-ghost use Rattle.csdl_schema.specs.ExprType.{single, collection};
+ghost use Rattle.csdl_schema.specs.ExprType.{single, collection, structured};
 ghost use Rattle.csdl_schema.specs.PropertyView.{property_type};
-ghost use Rattle.csdl_schema.specs.SchemaModel.{HasDistinctNames, properties_at, slots_of};
+ghost use Rattle.csdl_schema.specs.SchemaModel.{HasDistinctNames, properties_at, slots_of, type_name_at};
 ghost use Rattle.edm_entities.specs.Fits.{FitsProperty};
 ghost use Rattle.edm_entities.specs.HoldsEachSlot.{HoldsEachSlot};
 ghost use Rattle.edm_entities.specs.Row.{field_of, val_of};
-ghost use Rattle.edm_entities.specs.private.Lent.{IsLent};
 ghost use Rattle.edm_entities.specs.private.RowTokens.{Reads, ReadsItems, ReadsMembers, FitsNullable, FitsHoweverNullable};
-ghost use Rattle.edm_entities.specs.private.SlotsSoFar.{SlotsSoFar};
+ghost use Rattle.edm_entities.specs.private.SlotsSoFar.{SlotsSoFar, IsSlotNamed};
 ghost use Rattle.edm_entities.specs.private.Walk.{FitList, FitSlots, HoldsInSlot, HoldInItems, wanted_single};
 
-use super::lent_piece::{LentPiece, first_piece};
+use super::lent_piece::first_piece;
 use super::row_cache::RowCache;
+use super::row_leaf::{take_enumeration, take_primitive};
 use super::row_skip::skip_value;
 use super::row_slots::{if_filled, null_slots, slot_of_name};
-use super::row_token::take_leaf;
 use super::wanted::{Wanted, wanted_as};
 use csdl_schema::{Property, Schema, TypeId};
 use edm_values::Value;
-use json::Token;
 use json_tokens::TokenReader;
 
 /// The values of the properties of a type in slot order, from an object's members and its closing brace.
@@ -44,22 +42,14 @@ pub(crate) fn take_members(
     cache.order.begin(values.len());
     let mut lent = first_piece(schema, type_id);
     'members: loop {
-        let Ok(key) = reader.next_key() else {
+        let Ok(key) = reader.next_key(&mut cache.scratch) else {
             return None;
         };
         let Some(name) = key else {
             return if_filled(&mut lent, schema, type_id, values);
         };
-        if !take_member(
-            cache,
-            &mut lent,
-            schema,
-            type_id,
-            name,
-            reader,
-            depth,
-            &mut values,
-        ) {
+        let found = slot_of_name(&cache.order, &mut lent, schema, type_id, values.len(), name);
+        if !take_member(cache, schema, found, reader, depth, &mut values) {
             return None;
         }
     }
@@ -67,24 +57,22 @@ pub(crate) fn take_members(
 
 /// Reads a member's value into the slot of its name, if there is one.
 #[cycle(row)]
-fn take_member<'s>(
+fn take_member(
     cache: &mut RowCache,
-    lent: &mut LentPiece<'s>,
-    schema: &'s Schema,
-    type_id: TypeId,
-    name: &str,
+    schema: &Schema,
+    found: Option<(usize, &Property)>,
     reader: &mut TokenReader<'_>,
     depth: usize,
     values: &mut Vec<Value>,
 ) -> bool
-    requires lent { IsLent schema.now type_id lent.old }
-    requires count { length values.old.items ≡ length (properties_at schema.now type_id) }
-    ensures lent { IsLent schema.now type_id lent.new }
-    ensures read { IsTrue result → Reads depth reader.old reader.new (λ json. (found : Members)
-        → HasDistinctNames (properties_at schema.now type_id) → SlotsSoFar schema.now type_id found values.old.items
-        → SlotsSoFar schema.now type_id (put name.now json found) values.new.items) }
+    requires { IfSome found (λ at. at.0 < length values.old.items) }
+    ensures { (id : ℕ) (name : List ℕ) → MatchOption found.entry (AllByRecursion (λ p. p.name ≢ name) (properties_at schema.now id))
+        (λ at. IsSlotNamed schema.now id name at.0 at.1.now)
+        → IsTrue result → Reads depth reader.old reader.new (λ json. (found : Members)
+        → HasDistinctNames (properties_at schema.now id) → SlotsSoFar schema.now id found values.old.items
+        → SlotsSoFar schema.now id (put name json found) values.new.items) }
 {
-    match slot_of_name(&cache.order, lent, schema, type_id, values.len(), name) {
+    match found {
         Some((slot, property)) => {
             cache.order.note(slot);
             if !take_property(cache, schema, *property, reader, depth, &mut values[slot]) {
@@ -93,7 +81,7 @@ fn take_member<'s>(
             cache.order.pass(values.len(), slot);
             true
         }
-        None => skip_value(reader, depth),
+        None => skip_value(&mut cache.scratch, reader, depth),
     }
 }
 
@@ -115,7 +103,7 @@ fn take_property(
 {
     let Some(wanted) = wanted_as(property.kind) else {
         *place = Value::Null;
-        return skip_value(reader, depth);
+        return skip_value(&mut cache.scratch, reader, depth);
     };
     if property.many {
         take_array(
@@ -156,13 +144,13 @@ fn take_single(
     ensures holds { IsTrue result
         → HoldsEachSlot place.new (slots_of schema.now) (single (wanted_single schema.now wanted.now)) }
 {
-    let Some(token) = reader.next() else {
-        return false;
-    };
-    match token {
-        Token::Null => put_null(nullable, place),
-        Token::BeginObject => take_record(cache, schema, wanted, reader, depth, place),
-        _ => take_leaf(cache, schema, wanted, token, place),
+    if reader.take_null() {
+        return put_null(nullable, place);
+    }
+    match *wanted {
+        Wanted::Complex(id) => take_record(cache, schema, id, reader, depth, place),
+        Wanted::Prim(prim) => take_primitive(cache, prim, reader, place),
+        Wanted::Enum(id) => take_enumeration(&mut cache.scratch, schema, id, reader, place),
     }
 }
 
@@ -174,27 +162,24 @@ fn put_null(nullable: bool, place: &mut Value) -> bool
     nullable
 }
 
-/// Puts a value of a complex type, behind its opening brace, into its place.
+/// Puts a value of a complex type into its place.
 #[cycle(row)]
 fn take_record(
     cache: &mut RowCache,
     schema: &Schema,
-    wanted: &Wanted,
+    id: TypeId,
     reader: &mut TokenReader<'_>,
     depth: usize,
     place: &mut Value,
 ) -> bool
-    ensures read { IsTrue result → Reads depth (begin_object ∷ reader.old) reader.new
-        (FitsHoweverNullable (slots_of schema.now) (single (wanted_single schema.now wanted.now)) place.new) }
+    ensures read { IsTrue result → Reads depth reader.old reader.new
+        (FitsHoweverNullable (slots_of schema.now) (single (structured (type_name_at schema.now id))) place.new) }
     ensures holds { IsTrue result
-        → HoldsEachSlot place.new (slots_of schema.now) (single (wanted_single schema.now wanted.now)) }
+        → HoldsEachSlot place.new (slots_of schema.now) (single (structured (type_name_at schema.now id))) }
 {
-    if depth == 0 {
+    if depth == 0 || !reader.take_begin_object() {
         return false;
     }
-    let Wanted::Complex(id) = *wanted else {
-        return false;
-    };
     match take_members(cache, schema, id, reader, depth - 1) {
         Some(values) => {
             *place = Value::Record(values);
@@ -220,10 +205,7 @@ fn take_array(
     ensures holds { IsTrue result
         → HoldsEachSlot place.new (slots_of schema.now) (collection (wanted_single schema.now wanted.now)) }
 {
-    let Some(Token::BeginArray) = reader.next() else {
-        return false;
-    };
-    if depth == 0 {
+    if depth == 0 || !reader.take_begin_array() {
         return false;
     }
     match take_items(cache, schema, wanted, nullable, reader, depth - 1) {

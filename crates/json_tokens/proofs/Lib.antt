@@ -1,2 +1,3 @@
-pub mod PlainLemmas
+pub mod EscapeLemmas
+pub mod LexemeLemmas
 mod StopLemmas

@@ -1,158 +1,262 @@
-//! The tokens of a row, however they are read: straight from the bytes up to the first text with an escape, and from
-//! there on by `json`'s reader.
-ghost use Rattle.std.specs.Prelude.{◌≡◌, ◌∷◌, [], false, Some, IsTrue, IfSome, IfOk, option_map};
+//! The tokens of a row, straight from its bytes.
+ghost use Rattle.std.specs.Prelude.{◌≡◌, ◌∷◌, [], false, None, Some, IsTrue, IfSome, IfOk, OnErr, option_map};
 ghost use Rattle.json.specs.Json.{after_end_array, read_key};
 ghost use Rattle.json.specs.Lex.{tokens};
 ghost use Rattle.json.specs.Reads.{token_of};
+ghost use Rattle.json.specs.Token.{begin_array, begin_object, boolean, null, number, string};
 
-use super::plain_reader::PlainReader;
-use json::{Invalid, Reader, Scratch, Token};
+use super::lexeme::{
+    Turn, begins_number, byte_at, key_at, null_at, number_value, past_spaces, text_value, token_at,
+    truth_at, value_end,
+};
+use json::{Invalid, Scratch, Token};
 use std::marker::Model;
 
-#[derive(Drop)]
-pub(crate) enum Source<'a> {
-    Plain(PlainReader<'a>),
-    Escaped(Reader<'a>),
-}
-
 /// Reads the tokens of a JSON text one by one (RFC 8259). A clause sees those that are still to come. Where a call
-/// answers none the text may still be JSON, and may also be none.
+/// answers none the text may still be JSON, and may also be none; nothing was read then, and another call may do.
 #[derive(Drop)]
 pub struct TokenReader<'a> {
-    source: Source<'a>,
-    // For `json`'s reader, until that goes on.
-    scratch: Option<&'a mut Scratch>,
+    text: &'a str,
+    place: usize,
+    turn: Turn,
 }
 
 impl<'a> Model for TokenReader<'a> {
     ghost use Rattle.std.specs.Prelude.{List};
     ghost use Rattle.json.specs.Token.{Token as SpecToken, tokens_code};
-    ghost use Rattle.json_tokens.specs.TokenReading.{tokens_of};
+    ghost use Rattle.json_tokens.specs.TokenReading.{tokens_of, IsWithin};
 
     ghost Value = { List SpecToken };
 
     ghost coded = { tokens_code };
 
-    ghost view = { λ r. tokens_of r.source };
+    ghost view = { tokens_of };
+
+    ghost invariant = { IsWithin };
 }
 
 impl<'a> TokenReader<'a> {
-    /// A reader at the first token of a text. The scratch is for its escapes.
+    /// A reader at the first token of a text.
     #[inline(always)]
-    pub fn new(text: &'a str, scratch: &'a mut Scratch) -> TokenReader<'a>
+    pub fn new(text: &'a str) -> TokenReader<'a>
         ensures { result ≡ tokens text.now }
     {
         TokenReader {
-            source: Source::Plain(PlainReader::new(text)),
-            scratch: Some(scratch),
+            text,
+            place: 0,
+            turn: Turn::Fresh,
         }
     }
 
-    /// The next token, where a value may begin.
+    /// The next token, where a value may begin. The scratch is for a text with escapes, here and below.
     #[inline(always)]
-    pub fn next(&mut self) -> Option<Token<'a>>
-        ensures { IfSome result (λ t. self.old ≡ token_of t ∷ self.new) }
+    pub fn next<'t>(&mut self, scratch: &'t mut Scratch) -> Option<Token<'t>>
+    where
+        'a: 't,
+        ensures first { IfSome result (λ t. self.old ≡ token_of t ∷ self.new) }
+        ensures kept { result ≡ None → self.new ≡ self.old }
     {
-        match &mut self.source {
-            Source::Plain(plain) => {
-                if let Some(token) = plain.next() {
-                    return Some(token);
-                }
-            }
-            Source::Escaped(reader) => return next_escaped(reader),
+        if !self.turn.may_begin() {
+            return None;
         }
-        self.next_passed_on()
+        let place = past_spaces(self.text.as_bytes(), self.place);
+        match token_at(self.text, place, scratch) {
+            Some((token, next, turn)) => {
+                self.place = next;
+                self.turn = turn;
+                Some(token)
+            }
+            None => None,
+        }
     }
 
     /// A key, or none at the brace that closes an object.
     #[inline(always)]
-    pub fn next_key(&mut self) -> Result<Option<&'a str>, Invalid>
-        ensures { IfOk result (λ k. read_key self.old ≡ Some (option_map (λ s. s.now) k, self.new)) }
+    pub fn next_key<'t>(&mut self, scratch: &'t mut Scratch) -> Result<Option<&'t str>, Invalid>
+    where
+        'a: 't,
+        ensures key { IfOk result (λ k. read_key self.old ≡ Some (option_map (λ s. s.now) k, self.new)) }
+        ensures kept { OnErr result (self.new ≡ self.old) }
     {
-        match &mut self.source {
-            Source::Plain(plain) => {
-                if let Ok(key) = plain.next_key() {
-                    return Ok(key);
-                }
-            }
-            Source::Escaped(reader) => return next_escaped_key(reader),
+        let bytes = self.text.as_bytes();
+        let place = past_spaces(bytes, self.place);
+        if byte_at(bytes, place) != b'"' {
+            return if self.take_end_object() {
+                Ok(None)
+            } else {
+                Err(Invalid)
+            };
         }
-        self.next_key_passed_on()
+        if !self.turn.may_begin() {
+            return Err(Invalid);
+        }
+        let Some((key, next)) = key_at(self.text, place, scratch) else {
+            return Err(Invalid);
+        };
+        self.place = next;
+        self.turn = Turn::Fresh;
+        Ok(Some(key))
     }
 
-    /// Takes the bracket that closes an array. False where it is not next, or was not seen to be.
+    /// The text that is next.
+    #[inline(always)]
+    pub fn take_text<'t>(&mut self, scratch: &'t mut Scratch) -> Option<&'t str>
+    where
+        'a: 't,
+        ensures taken { IfSome result (λ s. self.old ≡ string s.now ∷ self.new) }
+        ensures kept { result ≡ None → self.new ≡ self.old }
+    {
+        let bytes = self.text.as_bytes();
+        let place = past_spaces(bytes, self.place);
+        if byte_at(bytes, place) != b'"' || !self.turn.may_begin() {
+            return None;
+        }
+        match text_value(self.text, place, scratch) {
+            Some((told, next, turn)) => {
+                self.place = next;
+                self.turn = turn;
+                Some(told)
+            }
+            None => None,
+        }
+    }
+
+    /// The digits of the number that is next, with its sign, fraction and exponent.
+    #[inline(always)]
+    pub fn take_number(&mut self) -> Option<&'a str>
+        ensures taken { IfSome result (λ s. self.old ≡ number s.now ∷ self.new) }
+        ensures kept { result ≡ None → self.new ≡ self.old }
+    {
+        let bytes = self.text.as_bytes();
+        let place = past_spaces(bytes, self.place);
+        if !begins_number(byte_at(bytes, place)) || !self.turn.may_begin() {
+            return None;
+        }
+        match number_value(self.text, place) {
+            Some((written, next, turn)) => {
+                self.place = next;
+                self.turn = turn;
+                Some(written)
+            }
+            None => None,
+        }
+    }
+
+    /// The truth value that is next.
+    #[inline(always)]
+    pub fn take_truth(&mut self) -> Option<bool>
+        ensures taken { IfSome result (λ b. self.old ≡ boolean b ∷ self.new) }
+        ensures kept { result ≡ None → self.new ≡ self.old }
+    {
+        if !self.turn.may_begin() {
+            return None;
+        }
+        let place = past_spaces(self.text.as_bytes(), self.place);
+        match truth_at(self.text, place) {
+            Some((truth, next, turn)) => {
+                self.place = next;
+                self.turn = turn;
+                Some(truth)
+            }
+            None => None,
+        }
+    }
+
+    /// Takes a null, if it is next.
+    #[inline(always)]
+    pub fn take_null(&mut self) -> bool
+        ensures taken { IsTrue result → self.old ≡ null ∷ self.new }
+        ensures kept { result ≡ false → self.new ≡ self.old }
+    {
+        let bytes = self.text.as_bytes();
+        let place = past_spaces(bytes, self.place);
+        if byte_at(bytes, place) != b'n' || !self.turn.may_begin() {
+            return false;
+        }
+        let Some((next, turn)) = null_at(self.text, place) else {
+            return false;
+        };
+        self.place = next;
+        self.turn = turn;
+        true
+    }
+
+    /// Takes the brace that opens an object, if it is next.
+    #[inline(always)]
+    pub fn take_begin_object(&mut self) -> bool
+        ensures taken { IsTrue result → self.old ≡ begin_object ∷ self.new }
+        ensures kept { result ≡ false → self.new ≡ self.old }
+    {
+        let bytes = self.text.as_bytes();
+        let place = past_spaces(bytes, self.place);
+        if byte_at(bytes, place) != b'{' || !self.turn.may_begin() {
+            return false;
+        }
+        self.place = place + 1;
+        self.turn = Turn::Fresh;
+        true
+    }
+
+    /// Takes the bracket that opens an array, if it is next.
+    #[inline(always)]
+    pub fn take_begin_array(&mut self) -> bool
+        ensures taken { IsTrue result → self.old ≡ begin_array ∷ self.new }
+        ensures kept { result ≡ false → self.new ≡ self.old }
+    {
+        let bytes = self.text.as_bytes();
+        let place = past_spaces(bytes, self.place);
+        if byte_at(bytes, place) != b'[' || !self.turn.may_begin() {
+            return false;
+        }
+        self.place = place + 1;
+        self.turn = Turn::Fresh;
+        true
+    }
+
+    /// Takes the brace that closes an object, if it is next and was seen to be.
+    #[inline(always)]
+    pub fn take_end_object(&mut self) -> bool
+        ensures taken { IsTrue result → read_key self.old ≡ Some (None, self.new) }
+        ensures kept { result ≡ false → self.new ≡ self.old }
+    {
+        let bytes = self.text.as_bytes();
+        let place = past_spaces(bytes, self.place);
+        if byte_at(bytes, place) != b'}' || !self.turn.may_close() {
+            return false;
+        }
+        let Some((next, turn)) = value_end(bytes, place + 1) else {
+            return false;
+        };
+        self.place = next;
+        self.turn = turn;
+        true
+    }
+
+    /// Takes the bracket that closes an array, if it is next and was seen to be.
     #[inline(always)]
     pub fn take_end_array(&mut self) -> bool
         ensures taken { IsTrue result → after_end_array self.old ≡ Some self.new }
         ensures kept { result ≡ false → self.new ≡ self.old }
     {
-        match &mut self.source {
-            Source::Plain(plain) => plain.take_end_array(),
-            Source::Escaped(reader) => reader.take_end_array(),
+        let bytes = self.text.as_bytes();
+        let place = past_spaces(bytes, self.place);
+        if byte_at(bytes, place) != b']' || !self.turn.may_close() {
+            return false;
         }
+        let Some((next, turn)) = value_end(bytes, place + 1) else {
+            return false;
+        };
+        self.place = next;
+        self.turn = turn;
+        true
     }
 
     /// Whether nothing follows.
-    pub fn is_at_end(&mut self) -> bool
-        ensures { IsTrue result → self.old ≡ [] }
+    #[inline(always)]
+    pub fn is_at_end(&self) -> bool
+        ensures { IsTrue result → self.now ≡ [] }
     {
-        match &mut self.source {
-            Source::Plain(plain) => plain.is_at_end(),
-            Source::Escaped(reader) => reader.next().is_none(),
-        }
+        let bytes = self.text.as_bytes();
+        self.turn.may_close() && past_spaces(bytes, self.place) == bytes.len()
     }
-
-    /// Goes on by `json`'s reader, if a text may begin here and memory for what is left is there.
-    fn pass_on(&mut self)
-        ensures { self.new ≡ self.old }
-    {
-        let Source::Plain(plain) = &self.source else {
-            return;
-        };
-        let Some(rest) = plain.rest() else {
-            return;
-        };
-        let Some(scratch) = self.scratch.take() else {
-            return;
-        };
-        if let Ok(reader) = Reader::new(rest, scratch) {
-            self.source = Source::Escaped(reader);
-        }
-    }
-
-    #[inline(never)]
-    fn next_passed_on(&mut self) -> Option<Token<'a>>
-        ensures { IfSome result (λ t. self.old ≡ token_of t ∷ self.new) }
-    {
-        self.pass_on();
-        match &mut self.source {
-            Source::Plain(_) => None,
-            Source::Escaped(reader) => reader.next(),
-        }
-    }
-
-    #[inline(never)]
-    fn next_key_passed_on(&mut self) -> Result<Option<&'a str>, Invalid>
-        ensures { IfOk result (λ k. read_key self.old ≡ Some (option_map (λ s. s.now) k, self.new)) }
-    {
-        self.pass_on();
-        match &mut self.source {
-            Source::Plain(_) => Err(Invalid),
-            Source::Escaped(reader) => reader.next_key(),
-        }
-    }
-}
-
-#[inline(never)]
-fn next_escaped<'a>(reader: &mut Reader<'a>) -> Option<Token<'a>>
-    ensures { IfSome result (λ t. reader.old ≡ token_of t ∷ reader.new) }
-{
-    reader.next()
-}
-
-#[inline(never)]
-fn next_escaped_key<'a>(reader: &mut Reader<'a>) -> Result<Option<&'a str>, Invalid>
-    ensures { IfOk result (λ k. read_key reader.old ≡ Some (option_map (λ s. s.now) k, reader.new)) }
-{
-    reader.next_key()
 }

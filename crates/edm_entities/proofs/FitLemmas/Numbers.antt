@@ -1,13 +1,13 @@
 -- The rows of the primitive types, by classes of types.
-use Rattle.std.proofs.Common.{◌≡◌, ℤ, Some, None, Result, String, Global, string_bytes, refl, rules, IfOk, IfErr}
+use Rattle.std.proofs.Common.{◌≡◌, ℤ, Bool, Some, None, Result, String, Global, string_bytes, refl, rules, IfOk, IfErr}
 use Rattle.serde_json.specs.Data.{Data}
 use Rattle.edm_values.specs.NumberTypes.{IsNumberType}
 use Rattle.edm_values.specs.Civil.{Date as CivilDate}
 use Rattle.edm_values.specs.MomentParts.{MomentParts}
-use Rattle.edm_values.specs.Val.{date, moment, member, text}
+use Rattle.edm_values.specs.Val.{boolean, date, moment, member, text}
 use Rattle.edm_values.specs.declared.primitive.PrimitiveType.{PrimitiveType}
 use Rattle.edm_values.specs.declared.primitive.PrimitiveType.TheVariants.{Bool as EdmBoolean, Byte, SByte, Int16, Int32, Int64, String as EdmString, Date as EdmDate, DateTimeOffset as EdmDateTimeOffset, Guid as EdmGuid}
-use Rattle.edm_values.specs.declared.value.Value.{Value, Text, Date, Moment, Enum, the_lemmas}
+use Rattle.edm_values.specs.declared.value.Value.{Value, Bool as BoolValue, Text, Date, Moment, Enum, the_lemmas}
 use Rattle.csdl_schema.specs.ExprType.{ExprType}
 use Rattle.csdl_schema.specs.SchemaModel.{Slots}
 use Rattle.edm_entities.specs.FitsPrimitive.{FitsNumber, FitsPrimitive, IsNumberFlaw, IsPrimitiveFlaw, wrong_kind}
@@ -48,6 +48,9 @@ other_flaw EdmString json is = is.2
 other_flaw EdmDate json is = is.2
 other_flaw EdmDateTimeOffset json is = is.2
 other_flaw EdmGuid json is = is.2
+
+pub val_of-Bool : (slots : Slots) (type : ExprType) (b : Bool) → val_of (BoolValue b) slots type ≡ boolean b
+val_of-Bool slots type b = search (rules, the_lemmas)
 
 pub val_of-Text : (slots : Slots) (type : ExprType) (s : String Global) → val_of (Text s) slots type ≡ text (string_bytes s)
 val_of-Text slots type s = search (rules, the_lemmas)

@@ -24,6 +24,12 @@ pub record ReadsToken (token : Token) (P : Data → Type 0) : Type 0 where
   pub no_null : is_some (as_null json) ≡ false
   pub holds : P json
 
+-- the tokens begin with a value that is one of them and not null, of which P holds
+pub record ReadsLeaf (tokens rest : List Token) (P : Data → Type 0) : Type 0 where
+  pub json : Data
+  pub is_read : (depth : ℕ) → converted of_json (value depth tokens) ≡ Some (json, rest)
+  pub holds : P json
+
 -- the tokens begin with an array's items and its closing bracket
 pub record ReadsItems (depth : ℕ) (tokens rest : List Token) (P : Items → Type 0) : Type 0 where
   pub jsons : Items

@@ -2,7 +2,6 @@ use Rattle.std.proofs.Common.{◌≡◌, ◌∷◌, [], Some, IsSome, refl, sym,
 use Rattle.json.specs.Token.{Token}
 use Rattle.json.specs.Json.{value}
 use Rattle.json.specs.Lex.{tokens}
-use Rattle.json.specs.Reads.{token_of}
 use Rattle.serde_json.specs.Data.{object}
 use Rattle.serde_json.specs.Find.{as_object}
 use Rattle.serde_json.specs.Read.{of_json, converted}
@@ -17,11 +16,11 @@ returns-then-is_at_end-clause-fits c =
     let slots = slots_of c.args.schema.now in
     let ps = properties_at c.args.schema.now c.args.type_id in
     let values = c.in-Some.values in
-    let started : tokens c.args.text.now ≡ Token.begin_object ∷ c.next.new.self =
-    sym c.new-reader.ensures ∙ c.in-Some-BeginObject.ensures ∙ ap (λ k. token_of k ∷ c.next.new.self) c.in-Some-BeginObject.field-0-is in
+    let started : tokens c.args.text.now ≡ Token.begin_object ∷ c.take_begin_object.new.self =
+    sym c.new-reader.ensures ∙ c.take_begin_object.ensures.taken c.if-not-take_begin_object.false in
     let ended : c.take_members.new.reader ≡ [] = c.is_at_end.ensures c.if-is_at_end.true in
-    let whole : Reads 127 (Token.begin_object ∷ c.next.new.self) c.take_members.new.reader (λ json. IsSome (as_object json) × FitSlots slots json ps values.items) =
-    object_reads 127 c.next.new.self c.take_members.new.reader (λ found. FitSlots slots (object found) ps values.items)
+    let whole : Reads 127 (Token.begin_object ∷ c.take_begin_object.new.self) c.take_members.new.reader (λ json. IsSome (as_object json) × FitSlots slots json ps values.items) =
+    object_reads 127 c.take_begin_object.new.self c.take_members.new.reader (λ found. FitSlots slots (object found) ps values.items)
     (λ json. IsSome (as_object json) × FitSlots slots json ps values.items) (omega arith) (λ found fits. (refl, fits)) c.in-Some.ensures.fits in (
       whole.json,
       whole_read c.args.text.now whole.json

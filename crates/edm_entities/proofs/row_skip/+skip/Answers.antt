@@ -51,13 +51,13 @@ skip_members-members-init t c = members_start c.args.depth c.args.reader.now any
 pub skip_members-returns-in_default-key : goal.skip_members-returns-in_default-key
 skip_members-returns-in_default-key t c done =
     let l = c.members in
-    let closed : read_key l.reader ≡ Some (None, c.next_key.new.self) = rw c.in_default-key.is at c.in-Ok.ensures in
+    let closed : read_key l.reader ≡ Some (None, c.next_key.new.self) = rw c.in_default-key.is at c.in-Ok.ensures.key in
     members_over c.args.depth c.args.reader.now l.reader c.next_key.new.self any_members any_members closed (λ found _. tt) l.invariant
 
 pub skip_members-members-smaller : goal.skip_members-members-smaller
 skip_members-members-smaller t c =
     let l = c.members in
-    let named : read_key l.reader ≡ Some (Some c.in-Some._name.now, c.next_key.new.self) = rw c.in-Some.is at c.in-Ok.ensures in
+    let named : read_key l.reader ≡ Some (Some c.in-Some._name.now, c.next_key.new.self) = rw c.in-Some.is at c.in-Ok.ensures.key in
     let lesser : length c.next_key.new.self < length l.reader = read_key-shorter l.reader (Some c.in-Some._name.now) c.next_key.new.self named in
     let less : length c.skip_value.new.reader < length c.next_key.new.self =
     read_shorter c.args.depth c.next_key.new.self c.skip_value.new.reader any_json (c.skip_value.ensures c.if-not-skip_value.false) in
@@ -66,23 +66,23 @@ skip_members-members-smaller t c =
 pub skip_members-members-preserved : goal.skip_members-members-preserved
 skip_members-members-preserved t c =
     let l = c.members in
-    let named : read_key l.reader ≡ Some (Some c.in-Some._name.now, c.next_key.new.self) = rw c.in-Some.is at c.in-Ok.ensures in
+    let named : read_key l.reader ≡ Some (Some c.in-Some._name.now, c.next_key.new.self) = rw c.in-Some.is at c.in-Ok.ensures.key in
     member_more c.args.depth c.args.reader.now l.reader c.next_key.new.self c.skip_value.new.reader c.in-Some._name.now any_members any_json any_members named
     (λ found json _ _. tt) (c.skip_value.ensures c.if-not-skip_value.false) l.invariant
 
 pub skip_value-returns-then-depth-gt0 : goal.skip_value-returns-then-depth-gt0
 skip_value-returns-then-depth-gt0 t c done =
-    let first : c.args.reader.now ≡ Token.begin_object ∷ c.next.new.self = c.in-Some.ensures ∙ ap (λ k. token_of k ∷ c.next.new.self) c.in-BeginObject.is in
+    let first : c.args.reader.now ≡ Token.begin_object ∷ c.next.new.self = c.in-Some.ensures.first ∙ ap (λ k. token_of k ∷ c.next.new.self) c.in-BeginObject.is in
     subst (λ ts. Reads c.args.depth ts c.skip_members.new.reader any_json) (sym first)
     (object_reads c.args.depth c.next.new.self c.skip_members.new.reader any_members any_json (omega arith) (λ found _. tt) (c.skip_members.ensures done))
 
 pub skip_value-returns-then-depth-gt0-2 : goal.skip_value-returns-then-depth-gt0-2
 skip_value-returns-then-depth-gt0-2 t c done =
-    let first : c.args.reader.now ≡ Token.begin_array ∷ c.next.new.self = c.in-Some.ensures ∙ ap (λ k. token_of k ∷ c.next.new.self) c.in-BeginArray.is in
+    let first : c.args.reader.now ≡ Token.begin_array ∷ c.next.new.self = c.in-Some.ensures.first ∙ ap (λ k. token_of k ∷ c.next.new.self) c.in-BeginArray.is in
     subst (λ ts. Reads c.args.depth ts c.skip_items.new.reader any_json) (sym first)
     (array_reads c.args.depth c.next.new.self c.skip_items.new.reader any_items any_json (omega arith) (λ jsons _. tt) (c.skip_items.ensures done))
 
 pub skip_value-returns-in-Null : goal.skip_value-returns-in-Null
 skip_value-returns-in-Null t c done =
-    let first : c.args.reader.now ≡ Token.null ∷ c.next.new.self = c.in-Some.ensures ∙ ap (λ k. token_of k ∷ c.next.new.self) c.in-Null.is in
+    let first : c.args.reader.now ≡ Token.null ∷ c.next.new.self = c.in-Some.ensures.first ∙ ap (λ k. token_of k ∷ c.next.new.self) c.in-Null.is in
     null_reads c.args.depth c.args.reader.now c.next.new.self any_json first tt

@@ -1,0 +1,158 @@
+//! Values without parts, from a row's bytes, each read as its type wants it.
+ghost use Rattle.std.specs.Prelude.{◌≡◌, Ok, IsTrue};
+ghost use Rattle.serde_json.specs.Data.{Data, boolean, string};
+ghost use Rattle.csdl_schema.specs.ExprType.{ExprType, enumeration, primitive, single};
+ghost use Rattle.csdl_schema.specs.SchemaModel.{Slots, slots_of, type_name_at};
+ghost use Rattle.edm_entities.specs.FitsPrimitive.{FitsPrimitive};
+ghost use Rattle.edm_entities.specs.Row.{val_of};
+ghost use Rattle.edm_entities.specs.private.RowTokens.{ReadsLeaf, FitsHoweverNullable};
+ghost use Rattle.edm_entities.specs.private.Scalars.{IsJsonNumber};
+
+use super::flaw::ReadFlaw;
+use super::leaf::{read_member, read_text};
+use super::row_cache::{RowCache, SpareTexts};
+use super::row_token::number_written;
+use super::scalar::{JsonNumber, Scalar};
+use csdl_schema::{EnumId, Schema};
+use edm_values::{Prim, Value};
+use json::Scratch;
+use json_tokens::TokenReader;
+
+/// Puts a value of a primitive type into its place.
+#[inline(always)]
+pub(crate) fn take_primitive(
+    cache: &mut RowCache,
+    wanted: Prim,
+    reader: &mut TokenReader<'_>,
+    place: &mut Value,
+) -> bool
+    ensures { (slots : Slots) → IsTrue result → ReadsLeaf reader.old reader.new
+        (FitsHoweverNullable slots (single (primitive wanted)) place.new) }
+{
+    if wanted.is_number() {
+        return take_number(wanted, reader, place);
+    }
+    match wanted {
+        Prim::String => take_text(cache, reader, place),
+        Prim::Bool => take_truth(reader, place),
+        _ => take_literal(cache, wanted, reader, place),
+    }
+}
+
+/// The same of a number type.
+fn take_number(wanted: Prim, reader: &mut TokenReader<'_>, place: &mut Value) -> bool
+    ensures { (slots : Slots) → IsTrue result → ReadsLeaf reader.old reader.new
+        (FitsHoweverNullable slots (single (primitive wanted)) place.new) }
+{
+    let Some(text) = reader.take_number() else {
+        return false;
+    };
+    let Some(number) = number_written(text) else {
+        return false;
+    };
+    put_number(wanted, number, place)
+}
+
+/// The same of `Edm.Boolean`.
+fn take_truth(reader: &mut TokenReader<'_>, place: &mut Value) -> bool
+    ensures { (slots : Slots) → IsTrue result → ReadsLeaf reader.old reader.new
+        (FitsHoweverNullable slots (single (primitive Prim.Bool)) place.new) }
+{
+    let Some(truth) = reader.take_truth() else {
+        return false;
+    };
+    put_truth(truth, place);
+    true
+}
+
+/// The same of `Edm.String`. A text fills one of an earlier row.
+fn take_text(cache: &mut RowCache, reader: &mut TokenReader<'_>, place: &mut Value) -> bool
+    ensures { (slots : Slots) → IsTrue result → ReadsLeaf reader.old reader.new
+        (FitsHoweverNullable slots (single (primitive Prim.String)) place.new) }
+{
+    let Some(text) = reader.take_text(&mut cache.scratch) else {
+        return false;
+    };
+    put_text(&mut cache.texts, text, place)
+}
+
+/// The same of the types whose values are written as texts.
+fn take_literal(
+    cache: &mut RowCache,
+    wanted: Prim,
+    reader: &mut TokenReader<'_>,
+    place: &mut Value,
+) -> bool
+    ensures { (slots : Slots) → IsTrue result → ReadsLeaf reader.old reader.new
+        (FitsHoweverNullable slots (single (primitive wanted)) place.new) }
+{
+    let Some(text) = reader.take_text(&mut cache.scratch) else {
+        return false;
+    };
+    put_read(read_text(cache.alloc, wanted, text), place)
+}
+
+/// Puts a value of an enumeration into its place.
+pub(crate) fn take_enumeration(
+    scratch: &mut Scratch,
+    schema: &Schema,
+    id: EnumId,
+    reader: &mut TokenReader<'_>,
+    place: &mut Value,
+) -> bool
+    ensures { IsTrue result → ReadsLeaf reader.old reader.new
+        (FitsHoweverNullable (slots_of schema.now) (single (enumeration (type_name_at schema.now id))) place.new) }
+{
+    let Some(text) = reader.take_text(scratch) else {
+        return false;
+    };
+    put_read(read_member(schema, id, Scalar::Text(text)), place)
+}
+
+#[inline(always)]
+fn put_truth(truth: bool, place: &mut Value)
+    ensures { (slots : Slots) (type : ExprType) → FitsPrimitive Prim.Bool (boolean truth) (val_of place.new slots type) }
+{
+    *place = Value::Bool(truth);
+}
+
+#[inline(always)]
+fn put_number(wanted: Prim, number: JsonNumber, place: &mut Value) -> bool
+    ensures { (json : Data) (slots : Slots) (type : ExprType) → IsJsonNumber number json
+        → IsTrue result → FitsPrimitive wanted json (val_of place.new slots type) }
+{
+    let JsonNumber::Whole(n) = number else {
+        return false;
+    };
+    if !wanted.is_number() || !wanted.holds_number(n) {
+        return false;
+    }
+    *place = Value::Int(n);
+    true
+}
+
+#[inline(always)]
+fn put_text(texts: &mut SpareTexts, text: &str, place: &mut Value) -> bool
+    ensures { (slots : Slots) (type : ExprType)
+        → IsTrue result → FitsPrimitive Prim.String (string text.now) (val_of place.new slots type) }
+{
+    match texts.copy(text) {
+        Some(copy) => {
+            *place = Value::Text(copy);
+            true
+        }
+        None => false,
+    }
+}
+
+fn put_read(read: Result<Value, ReadFlaw>, place: &mut Value) -> bool
+    ensures { IsTrue result → read ≡ Ok place.new }
+{
+    match read {
+        Ok(value) => {
+            *place = value;
+            true
+        }
+        Err(_) => false,
+    }
+}
