@@ -1,5 +1,6 @@
-"""The built program, by both compilers, and the ways to run it: for tests/program, tests/great_texts and
-tests/drawn_lines. A group of checks takes a folder of its own and gives names, whether all is well, and what was said.
+"""The built program, by both compilers, and the ways to run it: for tests/program, tests/great_texts, tests/drawn_lines
+and tests/drawn_rows. A group of checks takes a folder of its own and gives names, whether all is well, and what was
+said.
 """
 import itertools
 import os
@@ -17,6 +18,9 @@ MEMORY_STEP = 1 << 16
 
 
 def programs():
+    """Both programs, with `--first` the first alone, or the one that stands behind `--program`."""
+    if "--program" in sys.argv:
+        return [sys.argv[sys.argv.index("--program") + 1]]
     return [PROGRAM] if "--first" in sys.argv else [PROGRAM, SECOND]
 
 
