@@ -7,7 +7,7 @@ use crate::schemas::{document_of, joined};
 use edm_values::Moment;
 use odata_text::{filter_of_query, is_identifier};
 use serde_json::Value;
-use spelled_answers::entities::line_answer;
+use spelled_answers::entities::line_and_row_answer;
 use spelled_answers::filters::{AskedOfFilter, TypeOf, answer_of, moment_of};
 use spelled_answers::literals::{instant_of, value_of};
 use spelled_answers::pieces::{bytes_of, items_of, pair_of, text_of, word_of};
@@ -110,7 +110,7 @@ fn identifier_answer(alloc: Global, text: &Value) -> Result<String, Trouble> {
 /// What the line of a row is: `fits` with its values, or the fault.
 fn told_row(case: &Case<'_>, row: &Value) -> Result<String, Trouble> {
     let line = row.to_vec(case.alloc)?;
-    line_answer(case.alloc, type_of(case)?, line.as_slice())
+    line_and_row_answer(case.alloc, type_of(case)?, line.as_slice())
 }
 
 fn row_answer(case: &Case<'_>, row: &Value) -> Result<String, Trouble> {
@@ -125,7 +125,7 @@ fn changed_answer(case: &Case<'_>, with: &Value) -> Result<String, Trouble> {
 
 fn told_line(case: &Case<'_>, line: &Value) -> Result<String, Trouble> {
     let line = bytes_of(case.alloc, line)?;
-    line_answer(case.alloc, type_of(case)?, line.as_slice())
+    line_and_row_answer(case.alloc, type_of(case)?, line.as_slice())
 }
 
 /// `true` of what fits, in place of its values.

@@ -2,18 +2,9 @@
 use Rattle.std.specs.Prelude.{ℕ, List}
 use Rattle.serde_json.specs.Data.{Data}
 use Rattle.csdl_schema.specs.JsonText.{IsJsonOf}
-use Rattle.csdl_schema.specs.SchemaModel.{SchemaModel, HoldsType, slots_of, type_name_at}
+use Rattle.csdl_schema.specs.SchemaModel.{slots_of, type_name_at}
 use Rattle.edm_entities.specs.Fits.{Fits}
 use Rattle.edm_entities.specs.Row.{Row, value_of}
-
--- what a reader of rows is for, as contracts see it: a type of a schema
-pub record RowType : Type 0 where
-  pub schema : SchemaModel
-  pub type_id : ℕ
-
--- what is true of every reader of rows: the schema has the type
-abbrev pub IsRowType : RowType → Type 0
-IsRowType rows = HoldsType rows.schema rows.type_id
 
 -- the line is the text of a JSON value, and the row's value fits that
 pub record IsLineOf (line : List ℕ) (row : Row) : Type 0 where

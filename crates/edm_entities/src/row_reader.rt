@@ -18,59 +18,52 @@ use std::marker::Model;
 /// How deep objects and arrays may nest in a row.
 const DEPTH: usize = 127;
 
-/// Reads lines of JSON as entities of one type, without a tree between them. It is kept from line to line.
+/// Reads lines of JSON as entities, without a tree between them. It is kept from line to line, whatever their types and
+/// schemas are.
 #[derive(Drop)]
-pub struct RowReader<'s> {
-    schema: &'s Schema,
-    type_id: TypeId,
+pub struct RowReader {
     cache: RowCache,
 }
 
-impl<'s> Model for RowReader<'s> {
-    ghost use Rattle.edm_entities.specs.RowReading.{RowType, IsRowType};
+// What is kept says nothing of a line, so clauses see nothing of it.
+impl Model for RowReader {
+    ghost Value = { Unit {0} };
 
-    ghost Value = { RowType };
-
-    ghost view = { λ r. record { schema = r.schema.now; type_id = r.type_id } };
-
-    ghost invariant = { λ r. IsRowType (record { schema = r.schema.now; type_id = r.type_id }) };
+    ghost view = { λ _. tt };
 }
 
-impl<'s> RowReader<'s> {
-    /// A reader for an entity type of that schema.
-    pub fn new(alloc: Global, schema: &'s Schema, type_id: TypeId) -> RowReader<'s>
-        requires { HoldsType schema.now type_id }
-        ensures schema { result.schema ≡ schema.now }
-        ensures type_id { result.type_id ≡ type_id }
-    {
+impl RowReader {
+    /// A reader that has read nothing yet.
+    pub fn new(alloc: Global) -> RowReader {
         RowReader {
-            schema,
-            type_id,
             cache: RowCache::new(alloc),
         }
     }
 
-    /// Reads a line as an entity. Where it answers none, the line may still be one: `Entity::from_json` says what
-    /// is wrong with it, if anything is.
-    pub fn read(&mut self, line: &[u8]) -> Option<Entity<'s>>
-        ensures of_type { IfSome result (λ e. (e.schema ≡ self.old.schema) × (e.type_id ≡ self.old.type_id)) }
+    /// Reads a line as an entity of that type. Where it answers none, the line may still be one: `Entity::from_json` says
+    /// what is wrong with it, if anything is.
+    pub fn read<'s>(
+        &mut self,
+        schema: &'s Schema,
+        type_id: TypeId,
+        line: &[u8],
+    ) -> Option<Entity<'s>>
+        requires { HoldsType schema.now type_id }
+        ensures of_type { IfSome result (λ e. (e.schema ≡ schema.now) × (e.type_id ≡ type_id)) }
         ensures row { IfSome result (IsLineOf line.now) }
-        ensures same { self.new ≡ self.old }
     {
         let Ok(text) = str::from_utf8(line) else {
             return None;
         };
-        match take_row(&mut self.cache, self.schema, self.type_id, text) {
-            Some(values) => Some(Entity::from_values(self.schema, self.type_id, values)),
+        match take_row(&mut self.cache, schema, type_id, text) {
+            Some(values) => Some(Entity::from_values(schema, type_id, values)),
             None => None,
         }
     }
 
     /// Takes back an entity whose row is done with: its texts and lists are filled again by the rows to come. It says
     /// nothing of them, and any entity will do.
-    pub fn take_back(&mut self, entity: Entity<'_>)
-        ensures { self.new ≡ self.old }
-    {
+    pub fn take_back(&mut self, entity: Entity<'_>) {
         self.cache.store_list(entity.into_values(), DEPTH);
     }
 }

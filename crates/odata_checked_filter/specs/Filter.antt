@@ -9,6 +9,7 @@ use Rattle.odata_checked_filter.specs.FlatTree.{FlatTree, tree_of_nodes}
 use Rattle.odata_expression_types.specs.PreOrder.{pre_order}
 use Rattle.odata_checked_filter.specs.NodeScopes.{IsNode}
 use Rattle.odata_checked_filter.specs.Stands.{Stands}
+use Rattle.odata_checked_filter.specs.StoredParts.{StoredParts}
 use Rattle.odata_expression_types.specs.Typed.{Scope, Typed}
 
 -- a filter of the n-th type of a schema, by the list of its nodes
@@ -16,6 +17,10 @@ pub record Filter : Type 0 where
   pub schema : SchemaModel
   pub filtered : ℕ
   pub list : FlatTree
+
+-- what is kept of a filter apart from its schema, with that schema
+abbrev pub filter_in : SchemaModel → StoredParts → Filter
+filter_in schema parts = record { schema = schema; filtered = parts.filtered; list = parts.list }
 
 abbrev pub tree_of_filter : Filter → Tree
 tree_of_filter filter = tree_of_nodes filter.list

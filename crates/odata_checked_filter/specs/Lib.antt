@@ -20,6 +20,7 @@ pub mod Stands
 pub mod ListGrowth
 pub mod ScopedNodes
 pub mod NodeScopes
+pub mod StoredParts
 pub mod Filter
 pub mod NameKinds
 pub mod Depths

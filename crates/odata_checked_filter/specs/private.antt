@@ -2,5 +2,6 @@
 pub mod CalledKinds
 pub mod CanonicalWalk
 pub mod ExplanationWalk
+pub mod KeptLists
 pub mod KindTexts
 pub mod LambdaLines

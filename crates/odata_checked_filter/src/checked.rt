@@ -8,6 +8,7 @@ ghost use Rattle.odata_checked_filter.specs.Explanation.{IsExplanation};
 ghost use Rattle.odata_checked_filter.specs.Filter.{IsFilter, IsTypeAt, tree_of_filter};
 ghost use Rattle.odata_checked_filter.specs.LambdaDepth.{lambda_depth};
 ghost use Rattle.odata_checked_filter.specs.NameKinds.{IsSlotAt, level_at};
+ghost use Rattle.odata_checked_filter.specs.private.KeptLists.{list_in};
 ghost use Rattle.odata_expression_types.specs.PreOrder.{pre_order, span_of_tree};
 ghost use Rattle.odata_signatures.specs.TypeView.{expr_type};
 
@@ -15,6 +16,7 @@ use super::called::{any_maker, any_now};
 use super::canonical_text::text_of_list;
 use super::checked_node::{CheckedNode, NodeKind};
 use super::explanation::explanation_of;
+use super::kept_list::KeptList;
 use super::lambda_depth::deepest;
 use super::node_list::NodeList;
 use csdl_schema::{Schema, TypeId};
@@ -30,7 +32,7 @@ use std::marker::Model;
 pub struct Checked<'s> {
     schema: &'s Schema,
     filtered_type: TypeId,
-    list: NodeList,
+    list: KeptList<'s>,
 }
 
 impl<'s> Model for Checked<'s> {
@@ -44,11 +46,12 @@ impl<'s> Model for Checked<'s> {
     ghost coded = { Prim.hlevel (codes, checked_node.the_row.coded, value.the_row.coded) };
 
     ghost use Rattle.odata_checked_filter.specs.Filter.{IsFilter};
+    ghost use Rattle.odata_checked_filter.specs.private.KeptLists.{list_in};
 
-    ghost view = { λ c. record { schema = c.schema.now; filtered = c.filtered_type; list = c.list } };
+    ghost view = { λ c. record { schema = c.schema.now; filtered = c.filtered_type; list = list_in c.list } };
 
     ghost invariant = { λ c. IsFilter
-        (record { schema = c.schema.now; filtered = c.filtered_type; list = c.list }) };
+        (record { schema = c.schema.now; filtered = c.filtered_type; list = list_in c.list }) };
 }
 
 impl<'s> Checked<'s> {
@@ -56,6 +59,14 @@ impl<'s> Checked<'s> {
     pub fn new(schema: &'s Schema, filtered_type: TypeId, list: NodeList) -> Checked<'s>
         requires { IsFilter (record { schema = schema.now; filtered = filtered_type; list = list }) }
         ensures { result ≡ record { schema = schema.entry.now; filtered = filtered_type; list = list } }
+    {
+        Checked::of(schema, filtered_type, KeptList::Own(list))
+    }
+
+    /// The same, wherever the list is kept.
+    pub(crate) fn of(schema: &'s Schema, filtered_type: TypeId, list: KeptList<'s>) -> Checked<'s>
+        requires { IsFilter (record { schema = schema.now; filtered = filtered_type; list = list_in list }) }
+        ensures { result ≡ record { schema = schema.entry.now; filtered = filtered_type; list = list_in list.entry } }
     {
         Checked {
             schema,
@@ -84,7 +95,7 @@ impl<'s> Checked<'s> {
         ensures same { result.now ≡ self.now.list.nodes }
         ensures right { IsFilter self.now }
     {
-        self.list.nodes()
+        self.list().nodes()
     }
 
     /// The text beside a node: a literal's spelling, a name, of a lambda operator the name of its range variable, else
@@ -93,14 +104,14 @@ impl<'s> Checked<'s> {
         requires { node < length self.now.list.nodes }
         ensures { slice_get self.now.list.texts node ≡ Some result.now }
     {
-        self.list.text(node)
+        self.list().text(node)
     }
 
     /// The values, to which the nodes of literals have the places.
     pub fn values(&self) -> &[Value]
         ensures { result.now ≡ self.now.list.values }
     {
-        self.list.values()
+        self.list().values()
     }
 
     /// The whole list.
@@ -108,7 +119,7 @@ impl<'s> Checked<'s> {
         ensures same { result.now ≡ self.now.list }
         ensures right { IsFilter self.now }
     {
-        &self.list
+        self.list.list()
     }
 
     /// The node of a number, counted from 0. `None` past the last node.
@@ -184,7 +195,7 @@ impl<'s> Checked<'s> {
     {
         // What is known of every filter is known once its nodes have been asked for.
         let _nodes = self.nodes();
-        text_of_list(alloc, &self.list)
+        text_of_list(alloc, self.list())
     }
 
     /// A line a node, in pre-order: two spaces for each node around it, its span, what it is called and its type. Each

@@ -7,11 +7,13 @@ mod canonical_text;
 mod checked;
 mod checked_node;
 mod explanation;
+mod kept_list;
 mod kind_levels;
 mod kind_words;
 mod lambda_depth;
 mod laws;
 mod node_list;
+mod stored_filter;
 
 pub use checked::Checked;
 pub use checked_node::{CheckedNode, NodeKind};
@@ -20,3 +22,4 @@ pub use laws::{
     numbers_have_one_type_and_slot,
 };
 pub use node_list::NodeList;
+pub use stored_filter::StoredFilter;

@@ -44,6 +44,8 @@ pub mod RunStops
 pub mod DeviceFaults
 pub mod Collection
 pub mod RowsOnce
+pub mod RowAnswer
+pub mod FaultNumbers
 pub mod Headline
 pub mod Planned
 pub mod CommandLine

@@ -3,4 +3,4 @@ pub mod DocumentFaults
 pub mod FilterNow
 pub mod PlanSteps
 pub mod RunFailures
-pub mod Verdicts
+pub mod ValueAnswer

@@ -10,7 +10,7 @@ ghost use Rattle.odata_filter.specs.private.DocumentFaults.{IsUnjudgedBy};
 ghost use Rattle.csdl_schema.specs.JsonText.{IsJsonOf};
 
 use crate::bad_row::BadRow;
-use crate::row_judge::RowJudge;
+use crate::row_judge::{RowJudge, judgment_of};
 use crate::run_fault::{RunFault, run_fault};
 use edm_values::Moment;
 use line_filter::{JudgeItem, Judgment, Tally, Untold, Writes, filter_places};
@@ -27,7 +27,7 @@ impl JudgeItem for RowJudge<'_, '_> {
     ghost says = { λ judge item. JudgesValue judge.checked.now judge.moment.now (view item) };
 
     fn judge_item(&self, item: &Value) -> Result<Judgment<BadRow>, AllocError> {
-        self.judge_value(item)
+        judgment_of(self.judge_value(item))
     }
 }
 

@@ -1,5 +1,5 @@
 //! Laws of rows, as contracts of functions that do nothing but cite others.
-ghost use Rattle.std.specs.Prelude.{◌≡◌, ◌<◌, ℕ, List, Option, Some, length};
+ghost use Rattle.std.specs.Prelude.{◌≡◌, ◌<◌, ℕ, List, Option, Some, Result, length};
 ghost use Rattle.serde_json.specs.Data.{Data};
 ghost use Rattle.line_filter.specs.declared.calls.Calls.{Calls};
 ghost use Rattle.line_filter.specs.declared.line_reader.Course.{Course};
@@ -9,9 +9,14 @@ ghost use Rattle.odata_filter.specs.DeviceFaults.{ReadsUntilFault, WritesUntilFa
 ghost use Rattle.line_filter.specs.Kept.{Filters};
 ghost use Rattle.line_filter.specs.declared.judge.Judgment.{Judgment};
 ghost use Rattle.line_filter.specs.declared.tally.Tally.{Tally};
+ghost use Rattle.edm_values.specs.MomentParts.{MomentParts};
+ghost use Rattle.odata_checked_filter.specs.Filter.{Filter};
+ghost use Rattle.odata_eval.specs.declared.verdict.Verdict.{Verdict};
 ghost use Rattle.odata_filter.specs.declared.bad_row.BadRow.{BadRow};
+ghost use Rattle.odata_filter.specs.declared.no_verdict.NoVerdict.{NoVerdict};
 ghost use Rattle.odata_filter.specs.declared.run_fault.RunFault.{RunFault};
 ghost use Rattle.odata_filter.specs.Collection.{OfCollection, StopsCollection};
+ghost use Rattle.odata_filter.specs.RowAnswer.{AreSameAnswer, TellsRow, judgment_told};
 ghost use Rattle.odata_filter.specs.RowJudgment.{JudgesRow, JudgesValue, rows_of};
 ghost use Rattle.odata_filter.specs.RowsOnce.{AreSameFault, AreSameJudgment, IsOfDocument, IsOfRow};
 ghost use Rattle.odata_filter.specs.RunStops.{StopsBy};
@@ -43,6 +48,19 @@ pub fn rows_stop_once(alloc: Global, checked: &Checked<'_>, now: &Moment)
     one_fault_is_first();
     let judge = RowLineJudge::new(alloc, checked, now);
     lines_stop_once(&judge);
+}
+
+/// Of a row one verdict or one fault is told, and that is what is said of the row as a line.
+pub fn rows_are_told_once()
+    ensures one { (filter : Filter) (now : MomentParts) (row : List ℕ) (a b : Result Verdict NoVerdict)
+        → TellsRow filter now row a → TellsRow filter now row b → AreSameAnswer a b }
+    ensures line { (filter : Filter) (now : MomentParts) (row : List ℕ) (answer : Result Verdict NoVerdict)
+        (said : Judgment BadRow) → TellsRow filter now row answer → judgment_told answer ≡ Some said
+        → JudgesRow filter now row said }
+{
+    one_value_fits();
+    what_has_a_fault_fits_nothing();
+    one_fault_is_first();
 }
 
 /// Of a JSON value a filter has one judgment at most. Of `NotACollection`, `Row` and `Arithmetic` at most one holds of a

@@ -4,11 +4,14 @@
 mod bad_row;
 mod collection;
 mod command;
+mod fault_number;
 mod filter;
 mod headline;
 mod laws;
+mod no_verdict;
 mod row_judge;
 mod row_line_judge;
+mod row_verdict;
 mod run_fault;
 
 pub use bad_row::BadRow;
@@ -18,11 +21,16 @@ pub use command::laws::lines_by_example;
 pub use command::planner::plan;
 pub use command::runner::run;
 pub use command::whole::{NotWhole, read_whole, read_whole_by};
+pub use fault_number::{FaultKind, Numbered, fault_name, refusal_span, row_fault_path};
 pub use filter::{filter_lines, filter_lines_by, filter_slice};
 pub use headline::filters_keep_what_is_true;
-pub use laws::{collections_stop_once, rows_stop_once, unfailing_devices_never_fail};
+pub use laws::{
+    collections_stop_once, rows_are_told_once, rows_stop_once, unfailing_devices_never_fail,
+};
 pub use line_filter::{
     ByRecord, Calls, LineFault, LineReader, NotRead, NotWritten, Reads, Recorded, Tally, Unfailing,
     Untold, Writes, slices_tell_their_bytes,
 };
+pub use no_verdict::NoVerdict;
+pub use row_verdict::judge_row;
 pub use run_fault::RunFault;

@@ -1,4 +1,4 @@
-ghost use Rattle.std.specs.Prelude.{◌≡◌, ◌≢◌, IfOk, IsOk, OnErr};
+ghost use Rattle.std.specs.Prelude.{◌≡◌, ◌≢◌, Err, Some, None, MatchResult};
 ghost use Rattle.serde_json.specs.Data.{Data};
 ghost use Rattle.serde_json.specs.View.{view};
 ghost use Rattle.csdl_schema.specs.SchemaModel.{slots_of, type_name_at};
@@ -6,11 +6,12 @@ ghost use Rattle.edm_entities.specs.Fits.{Fits};
 ghost use Rattle.edm_entities.specs.Row.{value_of};
 ghost use Rattle.odata_checked_filter.specs.Calls.{TakesMemory};
 ghost use Rattle.odata_checked_filter.specs.Filter.{tree_of_filter};
-ghost use Rattle.odata_filter.specs.RowJudgment.{JudgesValue, JudgesRow};
-ghost use Rattle.odata_filter.specs.private.Verdicts.{judgment_of};
+ghost use Rattle.odata_filter.specs.RowAnswer.{TellsRow, judgment_told};
+ghost use Rattle.odata_filter.specs.private.ValueAnswer.{TellsValue, fault_told};
 
 use crate::bad_row::BadRow;
-use edm_entities::{Entity, RowFault};
+use crate::no_verdict::NoVerdict;
+use edm_entities::{Entity, RowFault, RowReader};
 use edm_values::Moment;
 use line_filter::Judgment;
 use odata_eval::{EvalFault, Verdict, evaluate};
@@ -28,69 +29,89 @@ pub struct RowJudge<'c, 's> {
 
 impl RowJudge<'_, '_> {
     /// Judges a JSON value.
-    pub(crate) fn judge_value(&self, json: &Value) -> Result<Judgment<BadRow>, AllocError>
-        ensures { IfOk result (JudgesValue self.now.checked.now self.now.moment.now (view json.now)) }
+    pub(crate) fn judge_value(&self, json: &Value) -> Result<Verdict, NoVerdict>
+        ensures { TellsValue self.now.checked.now self.now.moment.now (view json.now) result }
     {
         let (schema, type_id) = (self.checked.schema(), self.checked.filtered_type());
         match Entity::from_json(self.alloc, schema, type_id, json) {
             Ok(entity) => self.judge_entity(&entity),
-            Err(RowFault::Memory) => Err(AllocError),
-            Err(fault) => Ok(Judgment::Fault(BadRow::NoEntity(fault))),
+            Err(RowFault::Memory) => Err(NoVerdict::Memory),
+            Err(fault) => Err(NoVerdict::Bad(BadRow::NoEntity(fault))),
         }
     }
 
     /// Judges an entity of the filter's type.
-    pub(crate) fn judge_entity(&self, entity: &Entity<'_>) -> Result<Judgment<BadRow>, AllocError>
+    fn judge_entity(&self, entity: &Entity<'_>) -> Result<Verdict, NoVerdict>
         requires schema { entity.now.schema ≡ self.now.checked.now.schema }
         requires type_id { entity.now.type_id ≡ self.now.checked.now.filtered }
-        ensures judged { (json : Data) → Fits (slots_of entity.now.schema)
+        ensures told { (json : Data) → Fits (slots_of entity.now.schema)
             (type_name_at entity.now.schema entity.now.type_id) json (value_of entity.now)
-            → IfOk result (JudgesValue self.now.checked.now self.now.moment.now json) }
-        ensures no_memory { ¬ TakesMemory (tree_of_filter self.now.checked.now) → IsOk result }
+            → TellsValue self.now.checked.now self.now.moment.now json result }
+        ensures no_memory { ¬ TakesMemory (tree_of_filter self.now.checked.now) → result ≢ Err NoVerdict.Memory }
     {
         match evaluate(self.alloc, self.checked, entity, self.moment) {
-            Ok(verdict) => Ok(judgment_of(verdict)),
-            Err(fault) => judgment_of_fault(fault),
+            Ok(verdict) => Ok(verdict),
+            Err(fault) => Err(told_fault(fault)),
         }
     }
 
-    /// Judges a line by way of a tree.
-    pub(crate) fn judge_line(&self, line: &[u8]) -> Result<Judgment<BadRow>, AllocError>
-        ensures { IfOk result (JudgesRow self.now.checked.now self.now.moment.now line.now) }
+    /// Judges a row by way of a tree.
+    fn judge_by_tree(&self, row: &[u8]) -> Result<Verdict, NoVerdict>
+        ensures { TellsRow self.now.checked.now self.now.moment.now row.now result }
     {
-        match Value::from_slice(self.alloc, line) {
+        match Value::from_slice(self.alloc, row) {
             Ok(json) => self.judge_value(&json),
             Err(error) => {
                 if error.is_memory() {
-                    Err(AllocError)
+                    Err(NoVerdict::Memory)
                 } else {
-                    Ok(Judgment::Fault(BadRow::NotJson))
+                    Err(NoVerdict::Bad(BadRow::NotJson))
                 }
             }
         }
     }
-}
 
-/// What a verdict says of its row.
-fn judgment_of(verdict: Verdict) -> Judgment<BadRow>
-    ensures { result ≡ judgment_of verdict }
-{
-    match verdict {
-        Verdict::True => Judgment::Kept,
-        Verdict::False | Verdict::Null => Judgment::LeftOut,
+    /// Judges a row: without a tree where it is an entity, else by way of one.
+    pub(crate) fn judge_bytes(
+        &self,
+        reader: &mut RowReader,
+        row: &[u8],
+    ) -> Result<Verdict, NoVerdict>
+        ensures { TellsRow self.now.checked.now self.now.moment.now row.now result }
+    {
+        let (schema, type_id) = (self.checked.schema(), self.checked.filtered_type());
+        match reader.read(schema, type_id, row) {
+            Some(entity) => {
+                let answer = self.judge_entity(&entity);
+                reader.take_back(entity);
+                answer
+            }
+            None => self.judge_by_tree(row),
+        }
     }
 }
 
-/// What a fault says of its row. Want of memory says nothing of it.
-fn judgment_of_fault(fault: EvalFault) -> Result<Judgment<BadRow>, AllocError>
-    ensures said { IfOk result (λ said. (fault ≢ EvalFault.Memory)
-        × (said ≡ Judgment.Fault (BadRow.NoValue fault))) }
-    ensures memory { OnErr result (fault ≡ EvalFault.Memory) }
+/// What a fault of the filter says of its row. Want of memory says nothing of it.
+fn told_fault(fault: EvalFault) -> NoVerdict
+    ensures { result ≡ fault_told fault }
 {
     match fault {
-        EvalFault::Memory => Err(AllocError),
-        EvalFault::Overflow | EvalFault::DivideByZero => {
-            Ok(Judgment::Fault(BadRow::NoValue(fault)))
-        }
+        EvalFault::Memory => NoVerdict::Memory,
+        EvalFault::Overflow | EvalFault::DivideByZero => NoVerdict::Bad(BadRow::NoValue(fault)),
+    }
+}
+
+/// What is kept of rows by what is told of each: those on which the filter is true.
+pub(crate) fn judgment_of(
+    answer: Result<Verdict, NoVerdict>,
+) -> Result<Judgment<BadRow>, AllocError>
+    ensures { MatchResult result (λ said. judgment_told answer ≡ Some said)
+        (λ refused. judgment_told answer ≡ None) }
+{
+    match answer {
+        Ok(Verdict::True) => Ok(Judgment::Kept),
+        Ok(Verdict::False | Verdict::Null) => Ok(Judgment::LeftOut),
+        Err(NoVerdict::Bad(bad)) => Ok(Judgment::Fault(bad)),
+        Err(NoVerdict::Memory) => Err(AllocError),
     }
 }

@@ -1,14 +1,10 @@
-ghost use Rattle.std.specs.Prelude.{◌≡◌, ◌<◌, ◌≤◌, ℕ, List, [], length, IfOk, IfErr};
-ghost use Rattle.odata_text.specs.Tokens.{token_limit};
+ghost use Rattle.std.specs.Prelude.{◌≡◌, ℕ, List, IfOk, IfErr};
 ghost use Rattle.odata_syntax.specs.Tree.{Tree};
 ghost use Rattle.odata_syntax.specs.TreeView.{tree_of};
 ghost use Rattle.csdl_schema.specs.SchemaModel.{Slots, HoldsType, slots_of, type_name_at};
-ghost use Rattle.odata_signatures.specs.ExprTypes.{IsBooleanOrNull};
-ghost use Rattle.odata_signatures.specs.TypeView.{expr_type};
-ghost use Rattle.odata_expression_types.specs.PreOrder.{pre_order};
 ghost use Rattle.odata_checked_filter.specs.FlatTree.{tree_of_nodes};
-ghost use Rattle.odata_typing.specs.private.Answer.{HasNoTree, IsSyntaxRefusal, IsTextRefusal, IsWhole};
-ghost use Rattle.odata_checked_filter.specs.Filter.{tree_of_filter};
+ghost use Rattle.odata_typing.specs.private.Answer.{HasNoTree, IsSyntaxRefusal, IsTextRefusal};
+ghost use Rattle.odata_checked_filter.specs.Filter.{IsFilter, filter_in, tree_of_filter};
 ghost use Rattle.odata_expression_types.specs.HasTyping.{HasTree, HasTyping, HasNoTyping, IsRefusal, UnlessMemory};
 
 use super::laws_below::laws_below;
@@ -17,9 +13,8 @@ use super::setting::Setting;
 use super::untyped::Untyped;
 use super::variables::Variables;
 use csdl_schema::{Schema, TypeId};
-use odata_checked_filter::{Checked, NodeList, a_list_stands_for_one_tree};
+use odata_checked_filter::{Checked, NodeList, StoredFilter, a_list_stands_for_one_tree};
 use odata_expression_types::{Refusal, TypeFault, TypeFaultCode, texts_have_few_nodes};
-use odata_signatures::EdmType;
 use odata_syntax::{Expr, SyntaxFault, parse};
 use odata_text::{Span, TextFault, tokens, tokens_are_spelled};
 use std::alloc::Global;
@@ -44,6 +39,52 @@ pub fn check<'s>(
     ensures none { IfErr result (λ r. UnlessMemory r
         (HasNoTyping (slots_of schema.entry.now) (type_name_at schema.entry.now filtered_type) text.now)) }
 {
+    match checked_list(alloc, schema, filtered_type, text) {
+        Ok(list) => Ok(Checked::new(schema, filtered_type, list)),
+        Err(refusal) => Err(refusal),
+    }
+}
+
+/// The same, apart from the schema: for who keeps both, and puts them together again.
+pub fn check_to_store(
+    alloc: Global,
+    schema: &Schema,
+    filtered_type: TypeId,
+    text: &str,
+) -> Result<StoredFilter, Refusal>
+    requires { HoldsType schema.now filtered_type }
+    ensures filter { IfOk result (λ stored. IsFilter (filter_in schema.now stored)) }
+    ensures typing { IfOk result (λ stored. HasTyping (slots_of schema.now) (type_name_at schema.now filtered_type)
+        text.now (tree_of_nodes stored.list)) }
+    ensures filtered_type { IfOk result (λ stored. stored.filtered ≡ filtered_type) }
+    ensures refusal { IfErr result (λ r. UnlessMemory r
+        (IsRefusal (slots_of schema.now) (type_name_at schema.now filtered_type) text.now r)) }
+    ensures none { IfErr result (λ r. UnlessMemory r
+        (HasNoTyping (slots_of schema.now) (type_name_at schema.now filtered_type) text.now)) }
+{
+    match checked_list(alloc, schema, filtered_type, text) {
+        Ok(list) => Ok(StoredFilter::new(filtered_type, list)),
+        Err(refusal) => Err(refusal),
+    }
+}
+
+/// The list of a filter's nodes.
+fn checked_list(
+    alloc: Global,
+    schema: &Schema,
+    filtered_type: TypeId,
+    text: &str,
+) -> Result<NodeList, Refusal>
+    requires { HoldsType schema.now filtered_type }
+    ensures filter { IfOk result (λ list. IsFilter
+        (record { schema = schema.now; filtered = filtered_type; list = list })) }
+    ensures typing { IfOk result (λ list. HasTyping (slots_of schema.now) (type_name_at schema.now filtered_type)
+        text.now (tree_of_nodes list)) }
+    ensures refusal { IfErr result (λ r. UnlessMemory r
+        (IsRefusal (slots_of schema.now) (type_name_at schema.now filtered_type) text.now r)) }
+    ensures none { IfErr result (λ r. UnlessMemory r
+        (HasNoTyping (slots_of schema.now) (type_name_at schema.now filtered_type) text.now)) }
+{
     laws_below();
     a_list_stands_for_one_tree();
     texts_have_few_nodes();
@@ -60,44 +101,26 @@ pub fn check<'s>(
         variables: &variables,
     };
     match checked_tree(&setting, expr.root(), &mut list) {
-        Ok(edm_type) => match filter_of(schema, filtered_type, list, edm_type, text.len()) {
-            Ok(checked) => Ok(checked),
-            Err(fault) => Err(Refusal::Typing(fault)),
+        Ok(edm_type) => if edm_type.is_truth() {
+            Ok(list)
+        } else {
+            Err(Refusal::Typing(not_boolean(text.len())))
         },
         Err(Untyped::Fault(fault)) => Err(Refusal::Typing(fault)),
         Err(Untyped::Memory) => Err(Refusal::Memory),
     }
 }
 
-/// The filter of a list whose tree has that type, or `NotBoolean` with the whole of a text of that length.
-fn filter_of<'s>(
-    schema: &'s Schema,
-    filtered_type: TypeId,
-    list: NodeList,
-    edm_type: EdmType,
-    len: usize,
-) -> Result<Checked<'s>, TypeFault>
-    requires held { HoldsType schema.now filtered_type }
-    requires whole { IsWhole schema.now filtered_type [] list edm_type }
-    requires few { length (pre_order (tree_of_nodes list)) ≤ token_limit }
-    ensures parts { IfOk result (λ c. c ≡
-        record { schema = schema.entry.now; filtered = filtered_type; list = list }) }
-    ensures truth { IfOk result (λ c. IsBooleanOrNull (expr_type schema.entry.now edm_type)) }
-    ensures other { IfErr result (λ f. ¬ IsBooleanOrNull (expr_type schema.entry.now edm_type)) }
-    ensures fault { IfErr result (λ f. f ≡
-        record { code = TypeFaultCode.NotBoolean; span = record { start = 0; stop = len } }) }
+/// The fault of a whole text of that length whose type is not that of a condition.
+fn not_boolean(len: usize) -> TypeFault
+    ensures { result ≡ record { code = TypeFaultCode.NotBoolean; span = record { start = 0; stop = len } } }
 {
-    if edm_type.is_truth() {
-        Ok(Checked::new(schema, filtered_type, list))
-    } else {
-        let span = Span {
+    TypeFault {
+        code: TypeFaultCode::NotBoolean,
+        span: Span {
             start: 0,
             stop: len,
-        };
-        Err(TypeFault {
-            code: TypeFaultCode::NotBoolean,
-            span,
-        })
+        },
     }
 }
 

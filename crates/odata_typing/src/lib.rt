@@ -22,9 +22,10 @@ mod unary_node;
 mod untyped;
 mod variables;
 
-pub use checker::check;
+pub use checker::{check, check_to_store};
 pub use odata_checked_filter::{
-    Checked, CheckedNode, NodeKind, a_list_is_read_as_its_tree, a_list_stands_for_one_tree,
+    Checked, CheckedNode, NodeKind, StoredFilter, a_list_is_read_as_its_tree,
+    a_list_stands_for_one_tree,
 };
 pub use odata_expression_types::{
     Refusal, TypeFault, TypeFaultCode, a_filter_of_items_is_boolean, a_number_is_no_text,

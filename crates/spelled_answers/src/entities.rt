@@ -1,11 +1,15 @@
 //! Lines as rows of a type: what fits, and the first fault of what does not.
 ghost use Rattle.csdl_schema.specs.SchemaModel.{HoldsType};
 
-use crate::filters::{TypeOf, schema_of};
+use crate::filters::{TypeOf, moment_of, schema_of};
+use crate::numbers::shown_row_fault;
 use crate::trouble::Trouble;
 use crate::values::push_slots;
 use csdl_schema::{Schema, TypeId};
 use edm_entities::{Entity, RowFault, RowReader};
+use odata_eval::Verdict;
+use odata_filter::{NoVerdict, judge_row};
+use odata_typing::check_to_store;
 use serde_json::Value;
 use std::alloc::Global;
 
@@ -23,7 +27,7 @@ fn by_json(alloc: Global, schema: &Schema, id: TypeId, json: &Value) -> Result<S
     match &Entity::from_json(alloc, schema, id, json) {
         Ok(entity) => told(alloc, entity),
         Err(RowFault::Memory) => Err(Trouble::Memory),
-        Err(fault) => Ok(format!(in alloc; "{fault}")?),
+        Err(fault) => shown_row_fault(alloc, fault),
     }
 }
 
@@ -42,7 +46,7 @@ fn by_tree(alloc: Global, schema: &Schema, id: TypeId, line: &[u8]) -> Result<St
 fn by_bytes(alloc: Global, schema: &Schema, id: TypeId, line: &[u8]) -> Result<String, Trouble>
     requires { HoldsType schema.now id }
 {
-    match RowReader::new(alloc, schema, id).read(line) {
+    match RowReader::new(alloc).read(schema, id, line) {
         Some(entity) => told(alloc, &entity),
         None => Ok(String::new(alloc)),
     }
@@ -61,11 +65,63 @@ fn by_both(alloc: Global, schema: &Schema, id: TypeId, line: &[u8]) -> Result<St
     }
 }
 
+/// What a line is as a row that is judged by itself, by a filter that is true: `fits`, or its fault.
+fn by_itself(alloc: Global, schema: &Schema, id: TypeId, line: &[u8]) -> Result<String, Trouble>
+    requires { HoldsType schema.now id }
+{
+    let now = moment_of(None)?;
+    let Ok(stored) = check_to_store(alloc, schema, id, "true") else {
+        return Err(Trouble::Memory);
+    };
+    let mut reader = RowReader::new(alloc);
+    match &judge_row(alloc, &stored.with_schema(schema), &now, &mut reader, line) {
+        Ok(Verdict::True) => Ok(String::from_str(alloc, "fits")?),
+        Ok(_) => Ok(String::from_str(alloc, "no true")?),
+        Err(NoVerdict::Memory) => Err(Trouble::Memory),
+        Err(NoVerdict::Bad(fault)) => Ok(format!(in alloc; "{fault}")?),
+    }
+}
+
+/// Whether what a row is by itself is what its line is.
+fn is_alike(line: &str, row: &str) -> bool {
+    if row == "fits" {
+        line.starts_with("fits ")
+    } else {
+        row == line
+    }
+}
+
+/// What a line is, where as a row by itself it is the same.
+fn by_all(alloc: Global, schema: &Schema, id: TypeId, line: &[u8]) -> Result<String, Trouble>
+    requires { HoldsType schema.now id }
+{
+    let both = by_both(alloc, schema, id, line)?;
+    let row = by_itself(alloc, schema, id, line)?;
+    if is_alike(both.as_str(), row.as_str()) {
+        Ok(both)
+    } else {
+        Ok(format!(in alloc; "{both}, but {row} by itself")?)
+    }
+}
+
 /// `fits` with its values in slot order, or the fault, of a line as a row of a type.
 pub fn line_answer(alloc: Global, named: TypeOf<'_>, line: &[u8]) -> Result<String, Trouble> {
     let schema = schema_of(alloc, named.document)?;
     match schema.type_named(named.named) {
         Some(id) if schema.holds(id) => by_both(alloc, &schema, id, line),
+        _ => Err(Trouble::NoSuchType),
+    }
+}
+
+/// The same, where it is so of the line as a row that is judged by itself.
+pub fn line_and_row_answer(
+    alloc: Global,
+    named: TypeOf<'_>,
+    line: &[u8],
+) -> Result<String, Trouble> {
+    let schema = schema_of(alloc, named.document)?;
+    match schema.type_named(named.named) {
+        Some(id) if schema.holds(id) => by_all(alloc, &schema, id, line),
         _ => Err(Trouble::NoSuchType),
     }
 }

@@ -3,14 +3,17 @@ ghost use Rattle.std.specs.Prelude.{◌≡◌};
 ghost use Rattle.csdl_schema.specs.SchemaModel.{HoldsType};
 
 use crate::nodes::{second_type, told_nodes};
+use crate::numbers::shown_refusal;
 use crate::trouble::Trouble;
 use csdl_schema::{Schema, SchemaFault, TypeId};
-use edm_entities::{Entity, RowFault};
+use edm_entities::{Entity, RowFault, RowReader};
 use edm_values::{Moment, read_moment};
 use jiff::civil;
 use odata_eval::{EvalFault, Verdict, evaluate};
-use odata_filter::{RunFault, Tally, filter_slice};
-use odata_typing::{Checked, check};
+use odata_filter::{
+    BadRow, FaultKind, NoVerdict, Numbered, RunFault, Tally, fault_name, filter_slice, judge_row,
+};
+use odata_typing::{Checked, check_to_store};
 use serde_json::Value;
 use std::alloc::Global;
 
@@ -60,9 +63,7 @@ fn spelled(outcome: Result<Verdict, EvalFault>) -> &'static str {
         Ok(Verdict::True) => "true",
         Ok(Verdict::False) => "false",
         Ok(Verdict::Null) => "null",
-        Err(EvalFault::Overflow) => "Overflow",
-        Err(EvalFault::DivideByZero) => "DivideByZero",
-        Err(EvalFault::Memory) => "memory",
+        Err(fault) => fault_name(FaultKind::Evaluation, fault.number()).unwrap_or("memory"),
     }
 }
 
@@ -88,6 +89,34 @@ fn kept(alloc: Global, checked: &Checked<'_>, line: &[u8], now: &Moment) -> &'st
     } else {
         "another text"
     }
+}
+
+/// What is told of a row by itself: its outcome, unless the row is at fault.
+fn spelled_row(told: &Result<Verdict, NoVerdict>) -> &'static str {
+    match told {
+        Ok(verdict) => spelled(Ok(*verdict)),
+        Err(NoVerdict::Bad(BadRow::NoValue(fault))) => spelled(Err(*fault)),
+        Err(NoVerdict::Memory) => "memory",
+        Err(NoVerdict::Bad(_)) => "another fault",
+    }
+}
+
+/// The one answer of a line that is judged by itself, once and so many times more.
+fn judged(
+    alloc: Global,
+    checked: &Checked<'_>,
+    line: &[u8],
+    now: &Moment,
+    times: usize,
+) -> &'static str {
+    let mut reader = RowReader::new(alloc);
+    let said = spelled_row(&judge_row(alloc, checked, now, &mut reader, line));
+    for _ in 0..times {
+        if spelled_row(&judge_row(alloc, checked, now, &mut reader, line)) != said {
+            return "another answer";
+        }
+    }
+    said
 }
 
 /// Whether a row with that outcome is kept so.
@@ -132,7 +161,7 @@ fn outcome(
     }
 }
 
-/// The outcome on a row, where a run over it says the same.
+/// The outcome on a row, where a run over it says the same, and so it is told of the row by itself.
 fn agreed_outcome(
     alloc: Global,
     checked: &Checked<'_>,
@@ -144,16 +173,18 @@ fn agreed_outcome(
     let found = outcome(alloc, checked, row, now, times)?;
     let line = row.to_string(alloc)?;
     let said = kept(alloc, checked, line.as_bytes(), now);
-    if found == "memory" || said == "memory" {
+    let told = judged(alloc, checked, line.as_bytes(), now, times);
+    if found == "memory" || said == "memory" || told == "memory" {
         Err(Trouble::Memory)
-    } else if agrees(found, said) {
+    } else if agrees(found, said) && found == told {
         Ok(String::from_str(alloc, found)?)
     } else {
-        Ok(format!(in alloc; "{found}, but {said} of a run")?)
+        Ok(format!(in alloc; "{found}, but {said} of a run, and {told} of a row")?)
     }
 }
 
-/// The outcome on a row of so many evaluations, told without an allocation behind the first of them.
+/// The outcome on a row of so many evaluations, told without an allocation behind the first of them; the row is judged by
+/// itself once, and as often more.
 fn repeated_outcome(
     alloc: Global,
     checked: &Checked<'_>,
@@ -162,7 +193,17 @@ fn repeated_outcome(
     times: usize,
 ) -> Result<String, Trouble> {
     let mut told = String::with_capacity(alloc, 32)?;
-    told.push_str(outcome(alloc, checked, row, now, times)?)?;
+    let line = row.to_string(alloc)?;
+    let found = outcome(alloc, checked, row, now, times)?;
+    let said = judged(alloc, checked, line.as_bytes(), now, times);
+    if said == "memory" {
+        return Err(Trouble::Memory);
+    }
+    told.push_str(if times == 0 || said == found {
+        found
+    } else {
+        said
+    })?;
     Ok(told)
 }
 
@@ -197,9 +238,12 @@ fn answer_by(
 ) -> Result<String, Trouble>
     requires { HoldsType schema.now id }
 {
-    match check(alloc, schema, id, filter) {
-        Ok(checked) => answer(alloc, &checked, asked),
-        Err(refusal) => Ok(format!(in alloc; "refused {refusal}")?),
+    match check_to_store(alloc, schema, id, filter) {
+        Ok(stored) => answer(alloc, &stored.with_schema(schema), asked),
+        Err(refusal) => {
+            let shown = shown_refusal(alloc, &refusal)?;
+            Ok(format!(in alloc; "refused {shown}")?)
+        }
     }
 }
 

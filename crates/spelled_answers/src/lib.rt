@@ -6,6 +6,7 @@ pub mod entities;
 pub mod filters;
 pub mod literals;
 mod nodes;
+mod numbers;
 pub mod pieces;
 pub mod runs;
 pub mod schemas;

@@ -1,7 +1,8 @@
 //! Command lines and query strings: what is read of them, and what a run says.
+use crate::numbers::shown_by_number;
 use crate::trouble::Trouble;
 use odata_filter::command_line::{Plan, PlanFault};
-use odata_filter::{plan, run};
+use odata_filter::{FaultKind, Numbered, plan, run};
 use odata_text::{QueryFault, filter_of_query};
 use std::alloc::Global;
 
@@ -11,7 +12,11 @@ pub fn query_filter(alloc: Global, query: &str) -> Result<String, Trouble> {
         Ok(Some(filter)) => Ok(filter),
         Ok(None) => Ok(String::from_str(alloc, "no filter")?),
         Err(QueryFault::Memory) => Err(Trouble::Memory),
-        Err(fault) => Ok(format!(in alloc; "refused {fault}")?),
+        Err(fault) => {
+            let shown = format!(in alloc; "{fault}")?;
+            let shown = shown_by_number(alloc, shown, FaultKind::Query, fault.number())?;
+            Ok(format!(in alloc; "refused {shown}")?)
+        }
     }
 }
 

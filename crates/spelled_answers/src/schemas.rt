@@ -1,8 +1,10 @@
 //! Documents, and what the look-ups of their schemas find.
 use crate::filters::schema_of;
 use crate::nodes::{enumeration_name, push_property, structured_name};
+use crate::numbers::shown_by_number;
 use crate::trouble::Trouble;
 use csdl_schema::{Schema, SchemaFault, TypeId};
+use odata_filter::{FaultKind, Numbered};
 use std::alloc::Global;
 
 /// `accepted`, or the fault of a document.
@@ -10,7 +12,10 @@ pub fn fault_of(alloc: Global, document: &[u8]) -> Result<String, Trouble> {
     match Schema::read(alloc, document) {
         Ok(_) => Ok(String::from_str(alloc, "accepted")?),
         Err(SchemaFault::Memory) => Err(Trouble::Memory),
-        Err(fault) => Ok(format!(in alloc; "{fault}")?),
+        Err(fault) => {
+            let shown = format!(in alloc; "{fault}")?;
+            shown_by_number(alloc, shown, FaultKind::Schema, fault.number())
+        }
     }
 }
 

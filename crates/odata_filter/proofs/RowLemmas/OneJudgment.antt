@@ -1,5 +1,5 @@
--- Of a line a filter has one judgment at most.
-use Rattle.std.proofs.Common.{◌≡◌, ◌≢◌, ℕ, List, [], ◌∷◌, Option, Some, None, inl, inr, ◌⊎◌, refl, sym, ap, ◌∙◌, subst}
+-- Of a line a filter has one judgment at most, and of a row one answer.
+use Rattle.std.proofs.Common.{◌≡◌, ◌≢◌, ℕ, List, [], ◌∷◌, Option, Some, None, Result, Ok, Err, inl, inr, ◌⊎◌, refl, sym, ap, ◌∙◌, subst}
 use Rattle.std.specs.Prelude.{true, IsSome}
 use Rattle.std.specs.List.{join_with_byte}
 use Rattle.serde_json.specs.Data.{Data}
@@ -13,13 +13,17 @@ use Rattle.edm_entities.specs.RowFaults.{Path, IsFirstFault, IsRowFault}
 use Rattle.edm_entities.specs.FitsPrimitive.{Flaw, missing, wrong_kind, null_not_allowed, out_of_range, bad_text}
 use Rattle.edm_entities.specs.declared.fault.RowFault.{RowFault}
 use Rattle.odata_eval.specs.Outcome.{Outcome, gives}
-use Rattle.odata_eval.specs.VerdictView.{fault_outcome}
+use Rattle.odata_eval.specs.VerdictView.{fault_outcome, verdict_val}
 use Rattle.odata_eval.specs.declared.fault.EvalFault.{EvalFault}
+use Rattle.odata_eval.specs.declared.verdict.Verdict.{Verdict}
 use Rattle.odata_checked_filter.specs.Filter.{Filter}
 use Rattle.line_filter.specs.declared.judge.Judgment.{Judgment}
 use Rattle.odata_filter.specs.declared.bad_row.BadRow.{BadRow}
+use Rattle.odata_filter.specs.declared.no_verdict.NoVerdict.{NoVerdict}
+use Rattle.odata_filter.specs.RowAnswer.{AreSameAnswer, TellsRow}
 use Rattle.odata_filter.specs.RowJudgment.{FilterMeans, HasOutcome, JudgesValue, JudgesJson, JudgesRow}
 use Rattle.odata_filter.specs.RowsOnce.{flaw_told, AreSameJudgment}
+use Rattle.odata_filter.proofs.RowLemmas.RowJudges.{row_judged}
 
 -- the laws of what fits, as they are cited
 abbrev pub OneFits : Type 0
@@ -83,6 +87,17 @@ fault_gives_none : (f : EvalFault) (v : Val) → fault_outcome f ≡ Some (gives
 fault_gives_none EvalFault.Overflow v is = absurd cc
 fault_gives_none EvalFault.DivideByZero v is = absurd cc
 fault_gives_none EvalFault.Memory v is = absurd cc
+
+verdict_once : (v w : Verdict) → gives (verdict_val v) ≡ gives (verdict_val w) → v ≡ w
+verdict_once Verdict.True Verdict.True is = refl
+verdict_once Verdict.True Verdict.False is = absurd cc
+verdict_once Verdict.True Verdict.Null is = absurd cc
+verdict_once Verdict.False Verdict.True is = absurd cc
+verdict_once Verdict.False Verdict.False is = refl
+verdict_once Verdict.False Verdict.Null is = absurd cc
+verdict_once Verdict.Null Verdict.True is = absurd cc
+verdict_once Verdict.Null Verdict.False is = absurd cc
+verdict_once Verdict.Null Verdict.Null is = refl
 
 module _ (one_fits : OneFits) (fits_nothing : FaultFitsNothing) (one_fault : OneFirstFault) (filter : Filter) (now : MomentParts) where
   outcome_once : (json : Data) (o p : Outcome) → HasOutcome filter now json o → HasOutcome filter now json p → o ≡ p
@@ -174,3 +189,26 @@ module _ (one_fits : OneFits) (fits_nothing : FaultFitsNothing) (one_fault : One
           value_once a.json j k a.judged (subst (λ (d : Data). JudgesValue filter now d k) same b.judged)
     ]
   ]
+
+  -- ---- a row by itself
+
+  json_once : (line : List ℕ) (a b : Data) → IsJsonOf line a → IsJsonOf line b → b ≡ a
+  json_once line a b (utf8, is) (utf8', is') = cc
+
+  -- a row with a verdict has no fault
+  never_bad : (row : List ℕ) (verdict : Verdict) (bad : BadRow) → TellsRow filter now row (Ok verdict) → TellsRow filter now row (Err (NoVerdict.Bad bad)) → ⊥
+  never_bad row Verdict.True bad told fault = judged_once row Judgment.Kept (Judgment.Fault bad) (row_judged filter now row (Ok Verdict.True) Judgment.Kept told refl) fault
+  never_bad row Verdict.False bad told fault = judged_once row Judgment.LeftOut (Judgment.Fault bad) (row_judged filter now row (Ok Verdict.False) Judgment.LeftOut told refl) fault
+  never_bad row Verdict.Null bad told fault = judged_once row Judgment.LeftOut (Judgment.Fault bad) (row_judged filter now row (Ok Verdict.Null) Judgment.LeftOut told refl) fault
+
+  pub told_once : (row : List ℕ) (a b : Result Verdict NoVerdict) → TellsRow filter now row a → TellsRow filter now row b → AreSameAnswer a b
+  told_once row (Ok v) (Ok w) p q =
+      let same : q.json ≡ p.json = json_once row p.json q.json p.is_json q.is_json in
+      let there : HasOutcome filter now p.json (gives (verdict_val w)) = subst (λ (d : Data). HasOutcome filter now d (gives (verdict_val w))) same q.outcome in
+      verdict_once v w (outcome_once p.json (gives (verdict_val v)) (gives (verdict_val w)) p.outcome there)
+  told_once row (Ok v) (Err (NoVerdict.Bad g)) p q = never_bad row v g p q
+  told_once row (Ok v) (Err NoVerdict.Memory) p q = tt
+  told_once row (Err (NoVerdict.Bad f)) (Ok w) p q = never_bad row w f q p
+  told_once row (Err (NoVerdict.Bad f)) (Err (NoVerdict.Bad g)) p q = judged_once row (Judgment.Fault f) (Judgment.Fault g) p q
+  told_once row (Err (NoVerdict.Bad f)) (Err NoVerdict.Memory) p q = tt
+  told_once row (Err NoVerdict.Memory) b p q = tt

@@ -1,9 +1,10 @@
--- From what is known of an entity to what is said of its row.
-use Rattle.std.proofs.Common.{◌≡◌, ◌≢◌, ◌∙◌, ℕ, [], sym, subst, refl, IfSome}
+-- From what is known of an entity to what is told of its row, and said of its line.
+use Rattle.std.proofs.Common.{◌≡◌, ◌≢◌, ◌∙◌, ℕ, List, [], Some, None, Result, Ok, Err, sym, subst, refl, IfSome, IfOk}
 use Rattle.serde_json.specs.Data.{Data}
 use Rattle.edm_values.specs.MomentParts.{MomentParts}
-use Rattle.edm_values.specs.Val.{null, boolean}
-use Rattle.std.specs.Prelude.{true, false}
+use Rattle.edm_values.specs.Val.{Val, null, boolean}
+use Rattle.std.specs.Prelude.{true, false, MatchResult}
+use Rattle.csdl_schema.specs.JsonText.{IsJsonOf}
 use Rattle.csdl_schema.specs.SchemaModel.{SchemaModel, slots_of, type_name_at}
 use Rattle.odata_eval.specs.declared.fault.EvalFault.{EvalFault}
 use Rattle.odata_eval.specs.declared.verdict.Verdict.{Verdict}
@@ -14,10 +15,12 @@ use Rattle.edm_entities.specs.Row.{Row, value_of}
 use Rattle.odata_eval.specs.Means.{Means}
 use Rattle.odata_eval.specs.MeansOn.{IsTheOutcome}
 use Rattle.odata_eval.specs.Outcome.{Outcome, gives, overflow, divides_by_zero}
-use Rattle.odata_eval.specs.VerdictView.{verdict_val, fault_outcome}
+use Rattle.odata_eval.specs.VerdictView.{fault_outcome}
 use Rattle.odata_checked_filter.specs.Filter.{Filter, tree_of_filter}
-use Rattle.odata_filter.specs.RowJudgment.{HasOutcome, JudgesValue}
-use Rattle.odata_filter.specs.private.Verdicts.{judgment_of}
+use Rattle.odata_filter.specs.declared.no_verdict.NoVerdict.{NoVerdict}
+use Rattle.odata_filter.specs.RowAnswer.{TellsRow, judgment_told}
+use Rattle.odata_filter.specs.RowJudgment.{HasOutcome, JudgesRow, JudgesValue}
+use Rattle.odata_filter.specs.private.ValueAnswer.{TellsValue, fault_told}
 
 -- an entity of the filter's schema and type, read from the JSON
 pub record IsRowOf (filter : Filter) (json : Data) (row : Row) : Type 0 where
@@ -59,21 +62,78 @@ outcome_of_row filter now json row outcome is_row told =
       only = λ other means. told.only other (subst (Schema other) (sym is_row.same_schema) (subst (Place other) (sym is_row.same_type) means));
     }
 
--- a verdict on the entity is what is said of the JSON
-pub judged_by_verdict : (filter : Filter) (now : MomentParts) (json : Data) (row : Row) (verdict : Verdict)
-    → IsRowOf filter json row → IsTheOutcome row now (tree_of_filter filter) (gives (verdict_val verdict))
-    → JudgesValue filter now json (judgment_of verdict)
-judged_by_verdict filter now json row Verdict.True is_row told = outcome_of_row filter now json row (gives (boolean true)) is_row told
-judged_by_verdict filter now json row Verdict.False is_row told =
-    (boolean false, ((λ e. cc), outcome_of_row filter now json row (gives (boolean false)) is_row told))
-judged_by_verdict filter now json row Verdict.Null is_row told =
-    (null, ((λ e. cc), outcome_of_row filter now json row (gives null) is_row told))
-
--- a fault on the entity is what is said of the JSON
-pub judged_by_fault : (filter : Filter) (now : MomentParts) (json : Data) (row : Row) (fault : EvalFault)
-    → IsRowOf filter json row → fault ≢ EvalFault.Memory → IfSome (fault_outcome fault) (IsTheOutcome row now (tree_of_filter filter))
-    → JudgesValue filter now json (Judgment.Fault (BadRow.NoValue fault))
-judged_by_fault filter now json row EvalFault.Overflow is_row given told = (overflow, (refl, outcome_of_row filter now json row overflow is_row told))
-judged_by_fault filter now json row EvalFault.DivideByZero is_row given told =
+-- a fault on the entity is what is told of the JSON
+pub told_by_fault : (filter : Filter) (now : MomentParts) (json : Data) (row : Row) (fault : EvalFault)
+    → IsRowOf filter json row → IfSome (fault_outcome fault) (IsTheOutcome row now (tree_of_filter filter))
+    → TellsValue filter now json (Err (fault_told fault))
+told_by_fault filter now json row EvalFault.Overflow is_row told = (overflow, (refl, outcome_of_row filter now json row overflow is_row told))
+told_by_fault filter now json row EvalFault.DivideByZero is_row told =
     (divides_by_zero, (refl, outcome_of_row filter now json row divides_by_zero is_row told))
-judged_by_fault filter now json row EvalFault.Memory is_row given told = absurd (given refl)
+told_by_fault filter now json row EvalFault.Memory is_row told = tt
+
+-- what tells want of memory is want of memory
+pub memory_told : (fault : EvalFault) → fault_told fault ≡ NoVerdict.Memory → fault ≡ EvalFault.Memory
+memory_told EvalFault.Overflow is = absurd cc
+memory_told EvalFault.DivideByZero is = absurd cc
+memory_told EvalFault.Memory is = refl
+
+-- ---- what is told, and what is said of a line
+
+module _ (filter : Filter) (now : MomentParts) where
+  -- an outcome that is not true leaves its row out
+  left_out : (json : Data) (value : Val) → value ≢ boolean true → HasOutcome filter now json (gives value) → JudgesValue filter now json Judgment.LeftOut
+  left_out json value not_so has = (value, (not_so, has))
+
+  pub value_judged : (json : Data) (answer : Result Verdict NoVerdict) (said : Judgment BadRow)
+      → TellsValue filter now json answer → judgment_told answer ≡ Some said → JudgesValue filter now json said
+  value_judged json (Ok Verdict.True) said told is =
+      let same : Judgment.Kept ≡ said = cc in subst (λ (j : Judgment BadRow). JudgesValue filter now json j) same told
+  value_judged json (Ok Verdict.False) said told is =
+      let same : Judgment.LeftOut ≡ said = cc in
+      subst (λ (j : Judgment BadRow). JudgesValue filter now json j) same (left_out json (boolean false) (λ e. cc) told)
+  value_judged json (Ok Verdict.Null) said told is =
+      let same : Judgment.LeftOut ≡ said = cc in
+      subst (λ (j : Judgment BadRow). JudgesValue filter now json j) same (left_out json null (λ e. cc) told)
+  value_judged json (Err (NoVerdict.Bad bad)) said told is =
+      let same : Judgment.Fault bad ≡ said = cc in subst (λ (j : Judgment BadRow). JudgesValue filter now json j) same told
+  value_judged json (Err NoVerdict.Memory) said told is = absurd cc
+
+  pub row_judged : (row : List ℕ) (answer : Result Verdict NoVerdict) (said : Judgment BadRow)
+      → TellsRow filter now row answer → judgment_told answer ≡ Some said → JudgesRow filter now row said
+  row_judged row (Ok Verdict.True) said told is =
+      let same : Judgment.Kept ≡ said = cc in
+      subst (λ (j : Judgment BadRow). JudgesRow filter now row j) same (record { json = told.json; is_json = told.is_json; judged = told.outcome })
+  row_judged row (Ok Verdict.False) said told is =
+      let same : Judgment.LeftOut ≡ said = cc in
+      subst (λ (j : Judgment BadRow). JudgesRow filter now row j) same
+      (record { json = told.json; is_json = told.is_json; judged = left_out told.json (boolean false) (λ e. cc) told.outcome })
+  row_judged row (Ok Verdict.Null) said told is =
+      let same : Judgment.LeftOut ≡ said = cc in
+      subst (λ (j : Judgment BadRow). JudgesRow filter now row j) same
+      (record { json = told.json; is_json = told.is_json; judged = left_out told.json null (λ e. cc) told.outcome })
+  row_judged row (Err (NoVerdict.Bad bad)) said told is =
+      let same : Judgment.Fault bad ≡ said = cc in subst (λ (j : Judgment BadRow). JudgesRow filter now row j) same told
+  row_judged row (Err NoVerdict.Memory) said told is = absurd cc
+
+  -- what is told of the JSON that a row is, is told of the row
+  pub row_told : (row : List ℕ) (json : Data) (answer : Result Verdict NoVerdict)
+      → IsJsonOf row json → TellsValue filter now json answer → TellsRow filter now row answer
+  row_told row json (Ok verdict) is told = record { json = json; is_json = is; outcome = told }
+  row_told row json (Err (NoVerdict.Bad BadRow.NotJson)) is told = absurd told
+  row_told row json (Err (NoVerdict.Bad (BadRow.NoEntity fault))) is told = record { json = json; is_json = is; judged = told }
+  row_told row json (Err (NoVerdict.Bad (BadRow.NoValue fault))) is told = record { json = json; is_json = is; judged = told }
+  row_told row json (Err NoVerdict.Memory) is told = tt
+
+  -- what is kept by what is told is right to keep
+  abbrev Says : {E : Type 0} → Result Verdict NoVerdict → Result (Judgment BadRow) E → Type 0
+  Says answer result = MatchResult result (λ said. judgment_told answer ≡ Some said) (λ refused. judgment_told answer ≡ None)
+
+  pub item_judged : {E : Type 0} (json : Data) (answer : Result Verdict NoVerdict) (result : Result (Judgment BadRow) E)
+      → TellsValue filter now json answer → Says answer result → IfOk result (JudgesValue filter now json)
+  item_judged json answer (Ok said) told is = value_judged json answer said told is
+  item_judged json answer (Err refused) told is = tt
+
+  pub line_judged : {E : Type 0} (line : List ℕ) (answer : Result Verdict NoVerdict) (result : Result (Judgment BadRow) E)
+      → TellsRow filter now line answer → Says answer result → IfOk result (JudgesRow filter now line)
+  line_judged line answer (Ok said) told is = row_judged line answer said told is
+  line_judged line answer (Err refused) told is = tt

@@ -8,7 +8,7 @@ use Rattle.odata_signatures.specs.declared.edm_type.EdmType.{EdmType}
 use Rattle.odata_expression_types.specs.declared.refusal.Refusal.{Refusal}
 use Rattle.odata_expression_types.specs.declared.refusal.TypeFault.{TypeFault}
 use Rattle.odata_expression_types.specs.declared.refusal.TypeFaultCode.{TypeFaultCode}
-use Rattle.odata_typing.specs.private.Answer.{HasNoTree, IsWalked, IsWhole}
+use Rattle.odata_typing.specs.private.Answer.{HasNoTree, IsWalked}
 use Rattle.odata_signatures.specs.ExprTypes.{IsBooleanOrNull}
 use Rattle.odata_expression_types.specs.FirstUntypable.{IsFirstUntypable}
 use Rattle.odata_expression_types.specs.Laws.{FewNodes}
@@ -18,7 +18,7 @@ use Rattle.odata_expression_types.specs.HasTyping.{HasTree, HasTypeFault, HasTyp
 use Rattle.odata_checked_filter.specs.FlatTree.{FlatTree, tree_of_nodes}
 use Rattle.odata_expression_types.specs.PreOrder.{pre_order}
 use Rattle.odata_checked_filter.specs.Stands.{Stands}
-use Rattle.odata_expression_types.specs.Typed.{Typed}
+use Rattle.odata_expression_types.specs.Typed.{Scope, Typed}
 use Rattle.odata_signatures.specs.TypeView.{expr_type}
 
 -- a text whose one tree has an untypable node has no typing
@@ -66,6 +66,11 @@ pub whole_is :
 whole_is one schema n old tree new type empty walked =
     let P : FlatTree → Type 0 = λ (l : FlatTree). Stands schema n [] new (length l.nodes) (length new.nodes) tree in
     one schema n [] new (length new.nodes) tree (subst P empty walked.grown.stands)
+
+-- the whole list stands for its tree, which has the type
+pub record IsWhole (schema : SchemaModel) (n : ℕ) (scope : Scope) (list : FlatTree) (type : EdmType) : Type 0 where
+  pub stands : Stands schema n scope list 0 (length list.nodes) (tree_of_nodes list)
+  pub typed : Typed (slots_of schema) (type_name_at schema n) scope (tree_of_nodes list) (expr_type schema type)
 
 pub is_whole :
     OneTree → (schema : SchemaModel) (n : ℕ) (old : FlatTree) (tree : Tree) (new : FlatTree) (type : EdmType)

@@ -1,5 +1,5 @@
 -- For private clauses: what the walk over a tree answers.
-use Rattle.std.specs.Prelude.{◌≡◌, ◌≢◌, ◌⊎◌, ℕ, List, Result, MatchResult, length}
+use Rattle.std.specs.Prelude.{◌≡◌, ◌≢◌, ◌⊎◌, ℕ, List, Result, MatchResult}
 use Rattle.edm_values.specs.declared.value.Value.{Value}
 use Rattle.odata_syntax.specs.Tree.{Tree}
 use Rattle.odata_syntax.specs.declared.node.LiteralKind.{LiteralKind}
@@ -12,11 +12,11 @@ use Rattle.odata_typing.specs.declared.setting.Setting.{Setting}
 use Rattle.odata_typing.specs.declared.untyped.Untyped.{Untyped}
 use Rattle.odata_typing.specs.private.Variables.{scope_of}
 use Rattle.odata_expression_types.specs.FirstUntypable.{IsFirstUntypable}
-use Rattle.odata_checked_filter.specs.FlatTree.{FlatTree, tree_of_nodes}
+use Rattle.odata_checked_filter.specs.FlatTree.{FlatTree}
 use Rattle.odata_checked_filter.specs.ListGrowth.{IsGrownBy}
 use Rattle.odata_expression_types.specs.HasTyping.{HasTree}
 use Rattle.odata_expression_types.specs.LiteralValue.{LiteralTyped}
-use Rattle.odata_checked_filter.specs.Stands.{IsValueOf, Stands}
+use Rattle.odata_checked_filter.specs.Stands.{IsValueOf}
 use Rattle.odata_expression_types.specs.Typed.{Scope, Typed}
 use Rattle.odata_signatures.specs.TypeView.{expr_type}
 
@@ -32,11 +32,6 @@ pub record IsWalked
     : Type 0 where
   pub grown : IsGrownBy schema n scope old tree new
   pub typed : Typed (slots_of schema) (type_name_at schema n) scope tree (expr_type schema type)
-
--- the whole list stands for its tree, which has the type
-pub record IsWhole (schema : SchemaModel) (n : ℕ) (scope : Scope) (list : FlatTree) (type : EdmType) : Type 0 where
-  pub stands : Stands schema n scope list 0 (length list.nodes) (tree_of_nodes list)
-  pub typed : Typed (slots_of schema) (type_name_at schema n) scope (tree_of_nodes list) (expr_type schema type)
 
 -- the tree's first untypable node; want of memory says nothing
 abbrev pub HasFault : SchemaModel → ℕ → Scope → Tree → Untyped → Type 0

@@ -4,7 +4,7 @@ use crate::refused::tell;
 use crate::shop::{E0, NAMED, SHOP, TWICE};
 use odata_functions::{concat, to_lower, to_upper};
 use serde_json::Value;
-use spelled_answers::entities::line_answer;
+use spelled_answers::entities::line_and_row_answer;
 use spelled_answers::filters::{AskedOfFilter, TypeOf, answer_of, moment_of};
 use spelled_answers::literals::value_behind;
 use spelled_answers::runs::{plan_answer, query_filter, run_answer};
@@ -65,7 +65,7 @@ fn answer(alloc: Global, call: Call) -> Result<String, Trouble> {
     match call {
         Call::Document(text) => fault_of(alloc, text.as_bytes()),
         Call::Slots(named) => slots_of(alloc, SHOP.as_bytes(), named),
-        Call::Line(line) => line_answer(alloc, product(), line.as_bytes()),
+        Call::Line(line) => line_and_row_answer(alloc, product(), line.as_bytes()),
         Call::Check(filter) => answer_of(alloc, product(), filter, AskedOfFilter::Acceptance),
         Call::Canonical(filter) => answer_of(alloc, product(), filter, AskedOfFilter::Canonical),
         Call::Explanation(filter) => {

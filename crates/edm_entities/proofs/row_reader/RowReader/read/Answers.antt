@@ -8,7 +8,7 @@ use Rattle.edm_entities.proofs.row_reader.RowReader.read.Goals.{in-Some, in-None
 pub from_values-requires : goal.from_values-requires
 from_values-requires c =
     let found = c.in-Some.ensures.fits in
-    is_entity c.self.inside.schema.now c.self.inside.type_id found.0 c.in-Some.values c.self.invariant c.in-Some.ensures.distinct found.2 found.3
+    is_entity c.args.schema.now c.args.type_id found.0 c.in-Some.values c.requires c.in-Some.ensures.distinct found.2 found.3
 
 pub returns-clause-row : goal.returns-clause-row
 returns-clause-row c =
@@ -16,12 +16,12 @@ returns-clause-row c =
     elim c.match-take_row.branch [
       | in-Some w ↦
           let found = w.in-Some.ensures.fits in
-          let schema = c.self.inside.schema.now in
+          let schema = c.args.schema.now in
           rw w.result-is (subst (IsLineOf line) (sym w.from_values.ensures)
           (record {
             json = found.0;
             is_json = (c.in-Ok.ensures.cases.1, ap read (sym c.in-Ok.ensures.cases.0) ∙ found.1);
-            fits = entity_fits schema c.self.inside.type_id found.0 w.in-Some.values w.in-Some.ensures.distinct found.2 found.3;
+            fits = entity_fits schema c.args.type_id found.0 w.in-Some.values w.in-Some.ensures.distinct found.2 found.3;
           }))
       | in-None w ↦ rw w.result-is tt
     ]

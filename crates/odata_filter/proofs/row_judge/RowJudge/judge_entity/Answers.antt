@@ -1,30 +1,27 @@
-use Rattle.std.proofs.Common.{◌≡◌, ◌∙◌, refl, sym, ap, subst, Result, Ok, Err, IfOk}
-use Rattle.std.specs.Prelude.{IsOk, OnErr}
-use Rattle.odata_eval.specs.declared.fault.EvalFault.{EvalFault}
-use Rattle.odata_filter.specs.RowJudgment.{JudgesValue}
-use Rattle.line_filter.specs.declared.judge.Judgment.{Judgment}
-use Rattle.odata_filter.specs.declared.bad_row.BadRow.{BadRow}
-use Rattle.odata_filter.proofs.RowLemmas.RowJudges.{row_of_filter, judged_by_verdict}
+use Rattle.std.proofs.Common.{◌≡◌, ◌∙◌, Err, refl, sym, ap, subst}
+use Rattle.odata_eval.specs.VerdictView.{verdict_val}
+use Rattle.odata_eval.specs.Outcome.{gives}
+use Rattle.odata_filter.specs.declared.no_verdict.NoVerdict.{NoVerdict}
+use Rattle.odata_filter.specs.private.ValueAnswer.{TellsValue}
+use Rattle.odata_filter.proofs.RowLemmas.RowJudges.{memory_told, outcome_of_row, row_of_filter, told_by_fault}
 use Rattle.odata_filter.proofs.row_judge.RowJudge.judge_entity.Goals as goal
 
-pub returns-in-Ok-clause-judged : goal.returns-in-Ok-clause-judged
-returns-in-Ok-clause-judged c json fits =
+pub returns-in-Ok-clause-told : goal.returns-in-Ok-clause-told
+returns-in-Ok-clause-told c json fits =
     let filter = c.args.self.now.checked.now in
     let row = c.args.entity.now in
-    let Said : Judgment BadRow → Type 0 = λ said. JudgesValue filter c.args.self.now.moment.now json said in
     let is_row = row_of_filter filter json row row.schema row.type_id refl refl c.requires.schema c.requires.type_id fits in
-    subst Said (sym c.judgment_of.ensures) (judged_by_verdict filter c.args.self.now.moment.now json row c.in-Ok.verdict is_row c.in-Ok.ensures.outcome)
+    outcome_of_row filter c.args.self.now.moment.now json row (gives (verdict_val c.in-Ok.verdict)) is_row c.in-Ok.ensures.outcome
 
-if_ok : {X E : Type 0} (r : Result X E) (P Q : X → Type 0) → ((x : X) → P x → Q x) → IfOk r P → IfOk r Q
-if_ok (Ok x) P Q goes is = goes x is
-if_ok (Err e) P Q goes is = tt
-
--- an error that cannot be is none
-never_err : {X E : Type 0} (r : Result X E) (P : Type 0) → OnErr r P → ¬ P → IsOk r
-never_err (Ok x) P held not = refl
-never_err (Err e) P held not = absurd (not held)
+pub returns-in-Err-clause-told : goal.returns-in-Err-clause-told
+returns-in-Err-clause-told c json fits =
+    let filter = c.args.self.now.checked.now in
+    let row = c.args.entity.now in
+    let Told : NoVerdict → Type 0 = λ none. TellsValue filter c.args.self.now.moment.now json (Err none) in
+    let is_row = row_of_filter filter json row row.schema row.type_id refl refl c.requires.schema c.requires.type_id fits in
+    subst Told (sym c.told_fault.ensures) (told_by_fault filter c.args.self.now.moment.now json row c.in-Err.fault is_row c.in-Err.ensures.outcome)
 
 pub returns-in-Err-clause-no_memory : goal.returns-in-Err-clause-no_memory
-returns-in-Err-clause-no_memory c none =
-    never_err c.judgment_of_fault.result (c.in-Err.fault ≡ EvalFault.Memory) c.judgment_of_fault.ensures.memory
-    (λ is. c.evaluate.ensures.no_memory none (c.in-Err.is ∙ ap Err is))
+returns-in-Err-clause-no_memory c none same =
+    let told : c.told_fault.result ≡ NoVerdict.Memory = cc in
+    c.evaluate.ensures.no_memory none (c.in-Err.is ∙ ap Err (memory_told c.in-Err.fault (sym c.told_fault.ensures ∙ told)))

@@ -11,5 +11,5 @@ judge_entity-requires c = record {
 
 pub returns-in-Ok : goal.returns-in-Ok
 returns-in-Ok c =
-    c.judge_entity.ensures.judged (view c.args.json.now)
+    c.judge_entity.ensures.told (view c.args.json.now)
     (fits_of_row (view c.args.json.now) c.in-Ok.entity c.schema-schema.result.now c.filtered_type-type_id.result c.in-Ok.ensures.of_type.0 c.in-Ok.ensures.of_type.1 c.in-Ok.ensures.fits)

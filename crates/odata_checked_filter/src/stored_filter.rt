@@ -1,0 +1,49 @@
+ghost use Rattle.std.specs.Prelude.{◌≡◌};
+ghost use Rattle.odata_checked_filter.specs.Filter.{IsFilter, filter_in};
+
+use super::checked::Checked;
+use super::kept_list::KeptList;
+use super::node_list::NodeList;
+use csdl_schema::{Schema, TypeId};
+use std::marker::Model;
+
+/// A filter apart from its schema. Who keeps both, each for as long as the other, puts them together to ask something of
+/// the filter; that it is one with this schema is for the keeper to show.
+#[derive(Drop)]
+pub struct StoredFilter {
+    filtered_type: TypeId,
+    list: NodeList,
+}
+
+impl Model for StoredFilter {
+    ghost use Rattle.odata_checked_filter.specs.StoredParts.{StoredParts};
+    ghost use Rattle.odata_checked_filter.specs.contracts.checked_node.CheckedNode as checked_node;
+    ghost use Rattle.edm_values.specs.contracts.value.Value as value;
+    ghost use Rattle.std.specs.Coded.{codes};
+
+    ghost Value = { StoredParts };
+
+    ghost coded = { Prim.hlevel (codes, checked_node.the_row.coded, value.the_row.coded) };
+
+    ghost view = { λ s. record { filtered = s.filtered_type; list = s.list } };
+}
+
+impl StoredFilter {
+    /// What is kept of a filter of that type.
+    pub fn new(filtered_type: TypeId, list: NodeList) -> StoredFilter
+        ensures { result ≡ record { filtered = filtered_type; list = list } }
+    {
+        StoredFilter {
+            filtered_type,
+            list,
+        }
+    }
+
+    /// The filter with its schema. It is lent its list, so that nothing is copied, and several may be there at once.
+    pub fn with_schema<'s>(&'s self, schema: &'s Schema) -> Checked<'s>
+        requires { IsFilter (filter_in schema.now self.now) }
+        ensures { result ≡ filter_in schema.entry.now self.entry.now }
+    {
+        Checked::of(schema, self.filtered_type, KeptList::Lent(&self.list))
+    }
+}

@@ -1,0 +1,15 @@
+use Rattle.std.proofs.Common.{◌∙◌}
+use Rattle.odata_filter.proofs.RowLemmas.RowJudges.{row_told}
+use Rattle.odata_filter.proofs.row_judge.RowJudge.judge_bytes.Goals as goal
+
+pub judge_entity-answer-requires : goal.judge_entity-answer-requires
+judge_entity-answer-requires c = record {
+  schema = c.in-Some.ensures.of_type.0 ∙ c.schema-schema.ensures;
+  type_id = c.in-Some.ensures.of_type.1 ∙ c.filtered_type-type_id.ensures.same;
+}
+
+pub returns-in-Some : goal.returns-in-Some
+returns-in-Some c =
+    let line = c.in-Some.ensures.row in
+    row_told c.args.self.now.checked.now c.args.self.now.moment.now c.args.row.now line.json c.judge_entity-answer.result line.is_json
+    (c.judge_entity-answer.ensures.told line.json line.fits)

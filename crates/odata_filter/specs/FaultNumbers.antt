@@ -1,0 +1,123 @@
+-- The numbers and names of faults, for callers that have no enums. Names are those by which the faults are shown.
+use Rattle.std.specs.Prelude.{ℕ, zero, suc, List, [], ◌∷◌, Option, Some, None, codes, slice_get}
+use Rattle.std.specs.Option.{option_map}
+use Rattle.csdl_declarations.specs.declared.fault.SchemaFault.{SchemaFault}
+use Rattle.odata_text.specs.declared.query_fault.QueryFault.{QueryFault}
+use Rattle.odata_text.specs.declared.fault.TextFault.{TextFault}
+use Rattle.odata_text.specs.declared.span.Span.{Span}
+use Rattle.odata_syntax.specs.declared.syntax_fault.SyntaxFault.{SyntaxFault}
+use Rattle.odata_expression_types.specs.declared.refusal.Refusal.{Refusal}
+use Rattle.odata_expression_types.specs.declared.refusal.TypeFaultCode.{TypeFaultCode}
+use Rattle.edm_entities.specs.declared.fault.RowFault.{RowFault}
+use Rattle.odata_eval.specs.declared.fault.EvalFault.{EvalFault}
+use Rattle.odata_filter.specs.RowsOnce.{flaw_told}
+use Rattle.odata_filter.specs.declared.fault_number.FaultKind.{FaultKind}
+
+-- why a document is no schema
+abbrev pub schema_number : SchemaFault → ℕ
+schema_number SchemaFault.NotJson = 1
+schema_number SchemaFault.NotObject = 2
+schema_number SchemaFault.Version = 3
+schema_number (SchemaFault.BadType name) = 4
+schema_number (SchemaFault.BadProperty owner name) = 5
+schema_number (SchemaFault.UnknownBase owner) = 6
+schema_number (SchemaFault.BaseCycle owner) = 7
+schema_number (SchemaFault.PropertyTwice owner name) = 8
+schema_number (SchemaFault.BadEnumMember owner name) = 9
+schema_number SchemaFault.TooLarge = 10
+schema_number SchemaFault.Memory = 11
+
+-- why a query has no filter to give
+abbrev pub query_number : QueryFault → ℕ
+query_number (QueryFault.BadEscape place) = 1
+query_number (QueryFault.NotUtf8 option) = 2
+query_number (QueryFault.Repeated option) = 3
+query_number (QueryFault.OtherOption option) = 4
+query_number QueryFault.Memory = 5
+
+-- why a text has no tokens
+abbrev pub text_number : TextFault → ℕ
+text_number (TextFault.BadCharacter span) = 1
+text_number (TextFault.UnclosedString span) = 2
+text_number (TextFault.LeftOutLiteral span) = 3
+text_number (TextFault.RunOn span) = 4
+text_number (TextFault.TooLong span) = 5
+text_number TextFault.Memory = 6
+
+-- why tokens are no expression
+abbrev pub syntax_number : SyntaxFault → ℕ
+syntax_number (SyntaxFault.Unexpected span) = 1
+syntax_number (SyntaxFault.TooDeep span) = 2
+syntax_number SyntaxFault.Memory = 3
+
+-- why a node has no type
+abbrev pub type_number : TypeFaultCode → ℕ
+type_number TypeFaultCode.UnknownProperty = 1
+type_number TypeFaultCode.UnknownFunction = 2
+type_number TypeFaultCode.ArgumentCount = 3
+type_number TypeFaultCode.ArgumentType = 4
+type_number TypeFaultCode.OperandTypes = 5
+type_number TypeFaultCode.NotCollection = 6
+type_number TypeFaultCode.VariableTaken = 7
+type_number TypeFaultCode.BodyNotBoolean = 8
+type_number TypeFaultCode.LiteralRange = 9
+type_number TypeFaultCode.UnknownEnum = 10
+type_number TypeFaultCode.TypeLeftOut = 11
+type_number TypeFaultCode.NotBoolean = 12
+type_number TypeFaultCode.Navigation = 13
+
+-- why a row is no entity of its type
+abbrev pub row_number : RowFault → ℕ
+row_number RowFault.NotObject = 1
+row_number (RowFault.Missing path) = 2
+row_number (RowFault.WrongKind path) = 3
+row_number (RowFault.NullNotAllowed path) = 4
+row_number (RowFault.OutOfRange path) = 5
+row_number (RowFault.BadText path) = 6
+row_number RowFault.Memory = 7
+
+-- why a filter has no value
+abbrev pub evaluation_number : EvalFault → ℕ
+evaluation_number EvalFault.Overflow = 1
+evaluation_number EvalFault.DivideByZero = 2
+evaluation_number EvalFault.Memory = 3
+
+-- the names of a kind's faults in the order of their numbers; want of memory has none
+abbrev pub names_of : FaultKind → List (List ℕ)
+names_of FaultKind.Schema =
+    codes "NotJson" ∷ codes "NotObject" ∷ codes "Version" ∷ codes "BadType" ∷ codes "BadProperty"
+    ∷ codes "UnknownBase" ∷ codes "BaseCycle" ∷ codes "PropertyTwice" ∷ codes "BadEnumMember" ∷ codes "TooLarge" ∷ []
+names_of FaultKind.Query =
+    codes "BadEscape" ∷ codes "NotUtf8" ∷ codes "Repeated" ∷ codes "OtherOption" ∷ []
+names_of FaultKind.Text =
+    codes "BadCharacter" ∷ codes "UnclosedString" ∷ codes "LeftOutLiteral" ∷ codes "RunOn" ∷ codes "TooLong" ∷ []
+names_of FaultKind.Syntax = codes "Unexpected" ∷ codes "TooDeep" ∷ []
+names_of FaultKind.Typing =
+    codes "UnknownProperty" ∷ codes "UnknownFunction" ∷ codes "ArgumentCount" ∷ codes "ArgumentType"
+    ∷ codes "OperandTypes" ∷ codes "NotCollection" ∷ codes "VariableTaken" ∷ codes "BodyNotBoolean"
+    ∷ codes "LiteralRange" ∷ codes "UnknownEnum" ∷ codes "TypeLeftOut" ∷ codes "NotBoolean" ∷ codes "Navigation" ∷ []
+names_of FaultKind.Row =
+    codes "NotObject" ∷ codes "Missing" ∷ codes "WrongKind" ∷ codes "NullNotAllowed" ∷ codes "OutOfRange"
+    ∷ codes "BadText" ∷ []
+names_of FaultKind.Evaluation = codes "Overflow" ∷ codes "DivideByZero" ∷ []
+
+-- the name of a number, counted from 1
+abbrev pub name_at : List (List ℕ) → ℕ → Option (List ℕ)
+name_at names zero = None
+name_at names (suc place) = slice_get names place
+
+-- where in its text a filter is refused
+abbrev pub span_told : Refusal → Option Span
+span_told (Refusal.Text (TextFault.BadCharacter span)) = Some span
+span_told (Refusal.Text (TextFault.UnclosedString span)) = Some span
+span_told (Refusal.Text (TextFault.LeftOutLiteral span)) = Some span
+span_told (Refusal.Text (TextFault.RunOn span)) = Some span
+span_told (Refusal.Text (TextFault.TooLong span)) = Some span
+span_told (Refusal.Syntax (SyntaxFault.Unexpected span)) = Some span
+span_told (Refusal.Syntax (SyntaxFault.TooDeep span)) = Some span
+span_told (Refusal.Typing fault) = Some fault.span
+span_told refusal = None
+
+-- the bytes of the path to a row's fault
+abbrev pub path_told : RowFault → Option (List ℕ)
+path_told fault = option_map (λ told. told.0) (flaw_told fault)

@@ -1,0 +1,44 @@
+-- What is told of a row that is judged by itself (OData JSON Format 4.01, sections 4.5 and 7; OData URL Conventions 4.01,
+-- section 5.1.1).
+use Rattle.std.specs.Prelude.{◌≡◌, ℕ, List, Option, Some, None, Result, Ok, Err}
+use Rattle.serde_json.specs.Data.{Data}
+use Rattle.edm_values.specs.MomentParts.{MomentParts}
+use Rattle.csdl_schema.specs.JsonText.{IsJsonOf}
+use Rattle.line_filter.specs.declared.judge.Judgment.{Judgment}
+use Rattle.odata_checked_filter.specs.Filter.{Filter}
+use Rattle.odata_eval.specs.Outcome.{gives}
+use Rattle.odata_eval.specs.VerdictView.{verdict_val}
+use Rattle.odata_eval.specs.declared.verdict.Verdict.{Verdict}
+use Rattle.odata_filter.specs.RowJudgment.{HasOutcome, JudgesRow}
+use Rattle.odata_filter.specs.RowsOnce.{AreSameJudgment}
+use Rattle.odata_filter.specs.declared.bad_row.BadRow.{BadRow}
+use Rattle.odata_filter.specs.declared.no_verdict.NoVerdict.{NoVerdict}
+
+-- the row is a JSON value that fits, and the verdict is the filter's one outcome on it
+pub record HasVerdict (filter : Filter) (now : MomentParts) (row : List ℕ) (verdict : Verdict) : Type 0 where
+  pub json : Data
+  pub is_json : IsJsonOf row json
+  pub outcome : HasOutcome filter now json (gives (verdict_val verdict))
+
+-- what is told of a row: its verdict, or what is wrong with it, which is what is said of a line at fault; want of memory
+-- says nothing
+abbrev pub TellsRow : Filter → MomentParts → List ℕ → Result Verdict NoVerdict → Type 0
+TellsRow filter now row (Ok verdict) = HasVerdict filter now row verdict
+TellsRow filter now row (Err (NoVerdict.Bad bad)) = JudgesRow filter now row (Judgment.Fault bad)
+TellsRow filter now row (Err NoVerdict.Memory) = Unit {0}
+
+-- what is said of the row as a line: it is kept where the verdict is true; nothing for want of memory
+abbrev pub judgment_told : Result Verdict NoVerdict → Option (Judgment BadRow)
+judgment_told (Ok Verdict.True) = Some Judgment.Kept
+judgment_told (Ok Verdict.False) = Some Judgment.LeftOut
+judgment_told (Ok Verdict.Null) = Some Judgment.LeftOut
+judgment_told (Err (NoVerdict.Bad bad)) = Some (Judgment.Fault bad)
+judgment_told (Err NoVerdict.Memory) = None
+
+-- the same verdict, or the same fault; want of memory goes with any
+abbrev pub AreSameAnswer : Result Verdict NoVerdict → Result Verdict NoVerdict → Type 0
+AreSameAnswer (Ok v) (Ok w) = v ≡ w
+AreSameAnswer (Err (NoVerdict.Bad f)) (Err (NoVerdict.Bad g)) = AreSameJudgment (Judgment.Fault f) (Judgment.Fault g)
+AreSameAnswer (Err NoVerdict.Memory) other = Unit {0}
+AreSameAnswer other (Err NoVerdict.Memory) = Unit {0}
+AreSameAnswer _ _ = ⊥

@@ -1,0 +1,13 @@
+use crate::bad_row::BadRow;
+use thiserror::Error;
+
+/// Why a row has no verdict.
+#[derive(Debug, Drop, Error)]
+pub enum NoVerdict {
+    /// The row is no JSON or no entity, or the filter has no value on it.
+    #[error("{0}")]
+    Bad(BadRow),
+    /// Memory was refused, which says nothing of the row.
+    #[error("memory")]
+    Memory,
+}
