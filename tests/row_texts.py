@@ -149,6 +149,8 @@ class Writer:
         draw = self.draw
         if draw.chance(self.broken):
             return draw.one_of(BROKEN)
+        if draw.chance(12):
+            return "null"
         if kind in RANGES and draw.chance(60):
             least, most = RANGES[kind]
             near = [most + 1, least - 1, 2**63, 2**64 - 1, 2**64, -(2**63) - 1]
@@ -207,12 +209,26 @@ class Writer:
         return f"{self.gap()}{self.object(kind, value, flaws)}{self.gap()}".encode()
 
 
-def deep(draw, line, depth):
+def nested_value(one, depth):
+    """A value of a property of type Deep or Deeps, which nests so deep, or of the latter perhaps one less."""
+    depth -= one.many
+    start, stop, times = ('{"D":[', "]}", depth // 2) if one.kind.name == "Deeps" else ('{"D":', "}", depth - 1)
+    inner = start * times + ("" if one.kind.name == "Deeps" else "{}") + stop * times
+    return f"[{inner}]" if one.many else inner
+
+
+def deep(draw, kind, line, depth):
     """The line with one more member first, which nests so deep with the row around it."""
-    return line.replace(b"{", b'{"deep":' + nested(draw, depth - 1).encode() + b"," * (b":" in line), 1)
+    own = [one for one in kind.slots() if isinstance(one.kind, Record) and one.kind.name.startswith("Deep")]
+    if own and draw.chance(50):
+        one = draw.one_of(own)
+        member = f'"{one.name}":{nested_value(one, depth - 1)}'
+    else:
+        member = f'"deep":{nested(draw, depth - 1)}'
+    return line.replace(b"{", b"{" + member.encode() + b"," * (b":" in line), 1)
 
 
-def damaged(draw, line):
+def damaged(draw, kind, line):
     """A line of bytes that are not all what they were."""
     way, at = draw.below(10), draw.below(len(line))
     if way == 0:
@@ -226,7 +242,7 @@ def damaged(draw, line):
     if way == 4:
         return line + draw.one_of(TAILS)
     if way == 5:
-        return deep(draw, line, DEPTH + 1 + draw.below(3))
+        return deep(draw, kind, line, DEPTH + 1 + draw.below(3))
     if way == 6:
         return draw.one_of(INSTEAD)
     if way == 7:
@@ -243,7 +259,7 @@ def faulty(draw, kind, value):
         return Writer(draw).line(kind, value, 1 + draw.below(6) // 5)
     if way < 7:
         return Writer(draw, 100).line(kind, value, 1)
-    return damaged(draw, Writer(draw).line(kind, value)).replace(b"\n", b" ")
+    return damaged(draw, kind, Writer(draw).line(kind, value)).replace(b"\n", b" ")
 
 
 def great(draw, line, more):
