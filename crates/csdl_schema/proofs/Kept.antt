@@ -1,5 +1,5 @@
 -- What holds of a schema whose types have no faults.
-use Rattle.std.proofs.Common.{◌≡◌, ◌≢◌, ℕ, zero, suc, ◌+◌, ◌<◌, ◌≤◌, List, [], ◌∷◌, ◌++◌, length, map, Option, Some, None, option_map, option_and_then, unwrap_or, slice_get, Bool, true, false, IsTrue, if◌then◌else◌, nat_eq, nat_lt, sum_by, refl, sym, ap, subst, ◌∙◌, arith, Ordering, Less, Equal, Greater}
+use Rattle.std.proofs.Common.{◌≡◌, ◌≢◌, ℕ, zero, suc, ◌+◌, ◌<◌, ◌≤◌, List, [], ◌∷◌, ◌++◌, length, map, Option, Some, None, option_map, option_and_then, unwrap_or, slice_get, Bool, true, false, cond, IsTrue, IfSome, if◌then◌else◌, nat_eq, nat_lt, sum_by, refl, sym, ap, subst, ◌∙◌, arith, Ordering, Less, Equal, Greater}
 use Rattle.std.specs.List.{flat_map, AllByRecursion}
 use Rattle.std.specs.List.Sorted.{IsStrictlySortedBy}
 use Rattle.std.specs.Ordering.{nat_cmp, match_ordering}
@@ -12,14 +12,15 @@ use Rattle.csdl_declarations.specs.Fault.{unknown_base, base_cycle, unless}
 use Rattle.csdl_declarations.specs.DeclaredType.{PropertyDeclaration, TypeBody, DeclaredType, structured, enumeration, definition, IsBodyInOrder, AreInOrder}
 use Rattle.csdl_schema.specs.declared.chain.Chain.{Chain}
 use Rattle.csdl_schema.specs.declared.property.Property.{Property}
+use Rattle.csdl_schema.specs.declared.property.PropertyKind.{PropertyKind}
 use Rattle.csdl_schema.specs.declared.property.PropertyKind.TheVariants as kind
-use Rattle.csdl_schema.specs.PropertyView.{PointsWithin}
+use Rattle.csdl_schema.specs.PropertyView.{LeadsWithin, PointsWithin}
 use Rattle.csdl_schema.specs.SchemaModel as model
-use Rattle.csdl_schema.specs.SchemaModel.{PropertyModel, TypeModel, SchemaModel, type_called, type_properties, properties_within, properties_at, enumeration_of_body, name_in, body_passes, is_kind_at, is_structured, is_enumeration, HasDistinctNames, IsEnumerationByName, IsOneByName, IsInNameOrder}
-use Rattle.csdl_schema.specs.Resolution.{primitive_named, property_of, base_of, body_model, type_model, schema_of}
+use Rattle.csdl_schema.specs.SchemaModel.{PropertyModel, TypeModel, SchemaModel, type_called, type_properties, properties_within, properties_at, enumeration_of_body, name_in, body_passes, is_kind_at, is_structured, is_entity_type, is_enumeration, HasDistinctNames, IsEntityAt, IsEnumerationByName, IsOneByName, IsInNameOrder}
+use Rattle.csdl_schema.specs.Resolution.{if_not_primitive, primitive_named, property_of, base_of, body_model, type_model, schema_of}
 use Rattle.csdl_schema.specs.BaseFaults.{onto, bases_within, bases_of, own_properties, names_again, names_twice, lesser_name, first_name, twice_faults, property_count, is_base_known, base_limit, property_limit, chain_faults, inherited_faults, base_faults, all_base_faults}
-use Rattle.csdl_schema.specs.private.Placed.{Finder, IsIndexOf, PlacedType, base_place, body_with, kind_of_definition, place_kind, kinds_from, unless_primitive_kind, property_kind_named, placed_property, all_places, chain_at, chains_from, own_at, own_of}
-use Rattle.csdl_schema.specs.private.SchemaView.{property_model, names_of, model_of, chain_of, chain_in, inherited_properties, IsBaseBelow, IsChained, IsChainedBody, AreChained}
+use Rattle.csdl_schema.specs.private.Placed.{Finder, IsIndexOf, PlacedType, base_place, body_with, if_entity_place, kind_of_definition, kind_of_value, place_kind, target_place, kinds_from, unless_primitive_kind, property_kind_named, placed_property, all_places, chain_at, chains_from, own_at, own_of}
+use Rattle.csdl_schema.specs.private.SchemaView.{property_model, names_of, model_of, chain_of, chain_in, inherited_properties, IsBaseBelow, IsChained, IsChainedBody, IsThere, AreChained}
 use Rattle.csdl_schema.proofs.Placing.{IsBase, is_base, at_indexes, same_schema, same_names, same_properties, length-map, map-map, kinds_at}
 use Rattle.csdl_schema.proofs.Chains.{placed, placed_at, all_at, length_at, sum_at, count_is, own_is, both_empty, unless_holds, below, at_most}
 use Rattle.csdl_schema.proofs.Inheritance.{IsFine, settled, shortened, stepped, one_more, members, members_settled, members_count, members_named, own_models, own_count, if_based, apart_based, distinct_append, own_distinct, AreFree, none_kept, called, one_place}
@@ -234,19 +235,53 @@ module _ (ds : List DeclaredType) (find : Finder) (indexed : IsIndexOf ds find)
   name_points text None None = tt
   name_points text (Some n) None = place_points n
 
-  property_points : (p : PropertyDeclaration) (navigates : Bool) → PointsWithin S (if navigates then kind.Navigation else property_kind_named (kinds_from 0 ds) find p.type_name)
-  property_points p true = tt
-  property_points p false = name_points p.type_name (find p.type_name) (primitive_named p.type_name)
+  value_there : (k : PropertyKind) → PointsWithin S k → PointsWithin S (kind_of_value k) × LeadsWithin S (kind_of_value k) None
+  value_there (kind.Prim p) points = (points, refl)
+  value_there (kind.Enum e) points = (points, refl)
+  value_there (kind.Complex t) points = (points, refl)
+  value_there kind.Opaque points = (points, refl)
+  value_there kind.Navigation points = (points, refl)
 
-  properties_point : (ps : List PropertyDeclaration) → AllByRecursion (λ (e : List ℕ × Property). PointsWithin S e.1.kind) (map (placed_property (kinds_from 0 ds) find) ps)
-  properties_point [] = tt
-  properties_point (p ∷ ps) = (property_points p p.navigates, properties_point ps)
+  entity_there : (n : ℕ) (t : DeclaredType) (body : TypeBody) → slice_get ds n ≡ Some t → t.body ≡ body → IfSome (if_entity_place n (Some (place_kind n body))) (IsEntityAt S)
+  entity_there n t (structured true base properties) at is = passes_there is_entity_type n t at ∙ ap (λ b. is_entity_type (body_model ds b)) is
+  entity_there n t (structured false base properties) at is = tt
+  entity_there n t (enumeration e) at is = tt
+  entity_there n t (definition underlying) at is = by (primitive_named underlying)
+    where
+      by : (o : Option PrimitiveType) → IfSome (if_entity_place n (Some (kind_of_definition o))) (IsEntityAt S)
+      by None = tt
+      by (Some p) = tt
 
-  kinds_point : (n : ℕ) (o : Option DeclaredType) → slice_get ds n ≡ o → AllByRecursion (λ e. PointsWithin S e.1.kind) (own_at (placed ds find indexed) n)
+  place_leads : (n : ℕ) → IfSome (if_entity_place n (slice_get (kinds_from 0 ds) n)) (IsEntityAt S)
+  place_leads n =
+      let none : 0 + n ≡ n = omega arith in
+      let here : slice_get (kinds_from 0 ds) n ≡ option_map (λ t. place_kind n t.body) (slice_get ds n) = kinds_at ds find indexed 0 ds n ∙ ap (λ m. option_map (λ t. place_kind m t.body) (slice_get ds n)) none in
+      subst (λ o. IfSome (if_entity_place n o) (IsEntityAt S)) (sym here) (by (slice_get ds n) refl)
+    where
+      by : (o : Option DeclaredType) → slice_get ds n ≡ o → IfSome (if_entity_place n (option_map (λ t. place_kind n t.body) o)) (IsEntityAt S)
+      by None at = tt
+      by (Some t) at = entity_there n t t.body at refl
+
+  name_leads : (o : Option ℕ) (p : Option PrimitiveType) → IfSome (if_not_primitive (option_and_then (λ n. if_entity_place n (slice_get (kinds_from 0 ds) n)) o) p) (IsEntityAt S)
+  name_leads o (Some p) = tt
+  name_leads None None = tt
+  name_leads (Some n) None = place_leads n
+
+  property_there : (p : PropertyDeclaration) (navigates : Bool)
+      → PointsWithin S (cond navigates kind.Navigation (kind_of_value (property_kind_named (kinds_from 0 ds) find p.type_name)))
+      × LeadsWithin S (cond navigates kind.Navigation (kind_of_value (property_kind_named (kinds_from 0 ds) find p.type_name))) (cond navigates (target_place (kinds_from 0 ds) find p.type_name) None)
+  property_there p true = (tt, name_leads (find p.type_name) (primitive_named p.type_name))
+  property_there p false = value_there (property_kind_named (kinds_from 0 ds) find p.type_name) (name_points p.type_name (find p.type_name) (primitive_named p.type_name))
+
+  properties_there : (ps : List PropertyDeclaration) → AllByRecursion (λ (e : List ℕ × Property). IsThere S e.1) (map (placed_property (kinds_from 0 ds) find) ps)
+  properties_there [] = tt
+  properties_there (p ∷ ps) = (property_there p p.navigates, properties_there ps)
+
+  kinds_point : (n : ℕ) (o : Option DeclaredType) → slice_get ds n ≡ o → AllByRecursion (λ e. IsThere S e.1) (own_at (placed ds find indexed) n)
   kinds_point n None at =
       let none : slice_get (placed ds find indexed) n ≡ None = slice_get-map (at_indexes ds find indexed) ds n ∙ ap (option_map (at_indexes ds find indexed)) at in
-      subst (λ o. AllByRecursion (λ e. PointsWithin S e.1.kind) (own_of o)) (sym none) tt
-  kinds_point n (Some t) at = subst (λ es. AllByRecursion (λ e. PointsWithin S e.1.kind) es) (sym (own_is ds find indexed n t at)) (properties_point (own_properties t.body))
+      subst (λ o. AllByRecursion (λ e. IsThere S e.1) (own_of o)) (sym none) tt
+  kinds_point n (Some t) at = subst (λ es. AllByRecursion (λ e. IsThere S e.1) es) (sym (own_is ds find indexed n t at)) (properties_there (own_properties t.body))
 
   by_place : (P : List PropertyModel → Type 0) → P [] → ((n : ℕ) (t : DeclaredType) → slice_get ds n ≡ Some t → P (members ds N t)) → (n : ℕ) → P (properties_at S n)
   by_place P none some n = by (slice_get ds n) refl
@@ -350,7 +385,7 @@ module _ (ds : List DeclaredType) (find : Finder) (indexed : IsIndexOf ds find)
     enumerations = λ n. subst (λ s. IsEnumerationByName s n) (sym (same_schema ds find indexed)) (enumeration_by_name n (slice_get ds n) refl);
     type_names = λ n. subst (λ s. IsOneByName is_structured s n) (sym (same_schema ds find indexed)) (one_by_name is_structured n);
     enumeration_names = λ n. subst (λ s. IsOneByName is_enumeration s n) (sym (same_schema ds find indexed)) (one_by_name is_enumeration n);
-    kinds = λ n. subst (λ s. AllByRecursion (λ e. PointsWithin s e.1.kind) (own_at (placed ds find indexed) n)) (sym (same_schema ds find indexed)) (kinds_point n (slice_get ds n) refl);
+    kinds = λ n. subst (λ s. AllByRecursion (λ e. IsThere s e.1) (own_at (placed ds find indexed) n)) (sym (same_schema ds find indexed)) (kinds_point n (slice_get ds n) refl);
   }
     where
       of_placed : (n : ℕ) (p : PlacedType) (o : Option DeclaredType) → slice_get ds n ≡ o → slice_get (placed ds find indexed) n ≡ Some p → IsChainedBody (placed ds find indexed) C n p.body

@@ -5,9 +5,9 @@ use Rattle.std.proofs.lemmas.Option.{slice_get-map}
 use Rattle.csdl_schema.specs.declared.chain.Chain.{Chain}
 use Rattle.csdl_schema.specs.declared.property.Property.{Property}
 use Rattle.csdl_schema.specs.SchemaModel.{ModelBody, SchemaModel, is_structured, is_entity_type, is_enumeration, is_kind_at, is_named, index_of_kind, place_if, body_passes, name_if, name_of_kind, enumeration_of_body, enumeration_at, base_properties, slots_of, type_name_at, name_in, IsBodyOrder, IsSlotOrder, AreSlotsInOrder}
-use Rattle.csdl_schema.specs.PropertyView.{type_of_kind, IsReadAs, PointsWithin}
+use Rattle.csdl_schema.specs.PropertyView.{type_of_kind, target_of, IsReadAs}
 use Rattle.csdl_schema.specs.private.Placed.{PlacedType, PlacedBody, placed_structured, placed_enumeration, placed_definition, is_placed_structured, is_placed_entity, is_placed_enumeration, placed_passes, placed_name_if, enumeration_in_body}
-use Rattle.csdl_schema.specs.private.SchemaView.{body_model, type_model, names_of, model_of, property_model, inherited_properties, IsChainedBody, AreChained}
+use Rattle.csdl_schema.specs.private.SchemaView.{body_model, type_model, names_of, model_of, property_model, inherited_properties, IsChainedBody, AreChained, IsThere}
 use Rattle.csdl_schema.proofs.Placing.{map-map}
 
 -- the index of a name, by what stands there
@@ -87,10 +87,11 @@ module _ (types : List PlacedType) where
   pub name_at_is : (n : ℕ) → type_name_at (model_of types) n ≡ name_in (names_of types) n
   name_at_is n = ap (λ names. name_in names n) model_names
 
-  pub read_as : (name : List ℕ) (p : Property) → PointsWithin (model_of types) p.kind → IsReadAs (model_of types) (property_model (name_in (names_of types)) (name, p)) p
+  pub read_as : (name : List ℕ) (p : Property) → IsThere (model_of types) p → IsReadAs (model_of types) (property_model (name_in (names_of types)) (name, p)) p
   read_as name p there = record {
-    type_of = ap (λ names. type_of_kind (name_in names) p.kind p.many) model_names;
-    there = there;
+    type_of = ap (λ names. type_of_kind (name_in names) p.kind (target_of p) p.many) model_names;
+    there = there.0;
+    leads = there.1;
     many = refl;
     nullable = refl;
   }

@@ -4,10 +4,10 @@ use Rattle.std.specs.List.{AllByRecursion}
 use Rattle.std.proofs.lemmas.List.{drop-map}
 use Rattle.csdl_schema.specs.declared.chain.Chain.{Chain}
 use Rattle.csdl_schema.specs.declared.property.Property.{Property}
-use Rattle.csdl_schema.specs.PropertyView.{AreFirstOf, PointsWithin}
+use Rattle.csdl_schema.specs.PropertyView.{AreFirstOf}
 use Rattle.csdl_schema.specs.SchemaModel.{PropertyModel, properties_at, name_in}
 use Rattle.csdl_schema.specs.private.Placed.{PlacedType, base_at, own_at}
-use Rattle.csdl_schema.specs.private.SchemaView.{chain_in, inherited_properties, model_of, names_of, property_model, AreChained}
+use Rattle.csdl_schema.specs.private.SchemaView.{chain_in, inherited_properties, model_of, names_of, property_model, AreChained, IsThere}
 use Rattle.csdl_schema.specs.private.SlotWalk.{BeginsWith}
 use Rattle.csdl_schema.proofs.LookUps.{read_as}
 use Rattle.csdl_schema.proofs.SlotSteps.{in_front, heir_or_bare, joined, own_models, slots_count, IsHeir, IsBare}
@@ -45,7 +45,7 @@ all_dropped P (x ∷ xs) (suc n) each = all_dropped P xs n each.1
 
 module _ (types : List PlacedType) where
   -- entries whose kinds point to what is there are the first of their models
-  first_of : (es : List (List ℕ × Property)) (rest : List PropertyModel) → AllByRecursion (λ e. PointsWithin (model_of types) e.1.kind) es
+  first_of : (es : List (List ℕ × Property)) (rest : List PropertyModel) → AllByRecursion (λ e. IsThere (model_of types) e.1) es
       → AreFirstOf (model_of types) (map (property_model (name_in (names_of types))) es ++ rest) es
   first_of [] rest each = tt
   first_of (e ∷ es) rest each = (refl, read_as types e.0 e.1 each.0, first_of es rest each.1)
@@ -75,7 +75,7 @@ module _ (types : List PlacedType) where
         let same : drop slot (properties_at (model_of types) n) ≡ map (property_model (name_in (names_of types))) (drop own (own_at types owner)) ++ rest =
         ap (drop slot) is ∙ drop_front (properties_at (model_of types) owner) rest slot inside ∙ ap (λ ps. ps ++ rest) (own_from owner slot own within split) in
         subst (λ ps. AreFirstOf (model_of types) ps (drop own (own_at types owner))) (sym same)
-        (first_of (drop own (own_at types owner)) rest (all_dropped (λ e. PointsWithin (model_of types) e.1.kind) (own_at types owner) own (h.kinds owner)))
+        (first_of (drop own (own_at types owner)) rest (all_dropped (λ e. IsThere (model_of types) e.1) (own_at types owner) own (h.kinds owner)))
 
     -- a slot of a type is behind what it inherits, and before the end of its own
     pub own_within : (n slot own : ℕ) → slot < length (properties_at (model_of types) n) → slot ≡ (chain_in chains n).inherited + own → own < length (own_at types n)

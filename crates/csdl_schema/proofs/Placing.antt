@@ -12,8 +12,8 @@ use Rattle.csdl_schema.specs.PropertyView.{type_of_kind}
 use Rattle.csdl_schema.specs.SchemaModel as schema
 use Rattle.csdl_schema.specs.SchemaModel.{PropertyModel, PropertyType, TypeModel, name_in}
 use Rattle.csdl_schema.specs.Resolution as declared
-use Rattle.csdl_schema.specs.Resolution.{goes_by, type_by_name, single_of, unless_primitive, type_of_single, property_type_of, property_of, primitive_named, is_structured_as, if_structured_as, base_named, base_of_body, base_of}
-use Rattle.csdl_schema.specs.private.Placed.{Finder, IsIndexOf, kinds_from, place_kind, kind_of_definition, property_kind_named, kind_of_property, unless_primitive_kind, placed_property, PlacedType, if_structured_at, base_place_named, base_place, found_base, body_with, type_with, types_with}
+use Rattle.csdl_schema.specs.Resolution.{goes_by, type_by_name, single_of, unless_primitive, entity_name, if_not_primitive, target_named, type_of_single, property_type_of, property_of, primitive_named, is_structured_as, if_structured_as, base_named, base_of_body, base_of}
+use Rattle.csdl_schema.specs.private.Placed.{Finder, IsIndexOf, kinds_from, place_kind, kind_of_definition, kind_of_value, if_entity_place, target_place, target_of_property, property_kind_named, kind_of_property, unless_primitive_kind, placed_property, PlacedType, if_structured_at, base_place_named, base_place, found_base, body_with, type_with, types_with}
 use Rattle.csdl_schema.specs.private.SchemaView.{property_model, body_model, type_model, names_of, model_of}
 
 -- ---- lists
@@ -162,47 +162,84 @@ module _ (ds : List DeclaredType) (find : Finder) (indexed : IsIndexOf ds find) 
       moved : (k n : ℕ) → suc k + n ≡ k + suc n
       moved k n = omega arith
 
-  kind_of_body : (n : ℕ) (name : List ℕ) (body : TypeBody) (many : Bool) → name_in names n ≡ name → type_of_kind (name_in names) (place_kind n body) many ≡ type_of_single (single_of name body) many
+  kind_of_body : (n : ℕ) (name : List ℕ) (body : TypeBody) (many : Bool) → name_in names n ≡ name → type_of_kind (name_in names) (kind_of_value (place_kind n body)) None many ≡ type_of_single (single_of name body) many
   kind_of_body n name (structured true base properties) many named = refl
   kind_of_body n name (structured false base properties) many named = ap (λ x. type_of_single (single_of x (structured false base properties)) many) named
   kind_of_body n name (enumeration e) many named = ap (λ x. type_of_single (single_of x (enumeration e)) many) named
   kind_of_body n name (definition underlying) many named = by (primitive_named underlying)
     where
-      by : (o : Option PrimitiveType) → type_of_kind (name_in names) (kind_of_definition o) many ≡ type_of_single (option_map SingleType.primitive o) many
+      by : (o : Option PrimitiveType) → type_of_kind (name_in names) (kind_of_value (kind_of_definition o)) None many ≡ type_of_single (option_map SingleType.primitive o) many
       by None = refl
       by (Some p) = refl
 
+  kind_there : (n : ℕ) → slice_get kinds n ≡ option_map (λ t. place_kind n t.body) (slice_get ds n)
+  kind_there n =
+      let none : 0 + n ≡ n = omega arith in
+      kinds_at 0 ds n ∙ ap (λ m. option_map (λ t. place_kind m t.body) (slice_get ds n)) none
+
   kind_found : (many : Bool) (o : Option ℕ)
-      → type_of_kind (name_in names) (unwrap_or (option_and_then (slice_get kinds) o) kind.Opaque) many
+      → type_of_kind (name_in names) (kind_of_value (unwrap_or (option_and_then (slice_get kinds) o) kind.Opaque)) None many
       ≡ type_of_single (option_and_then (λ t. single_of t.name t.body) (option_and_then (slice_get ds) o)) many
   kind_found many None = refl
-  kind_found many (Some n) =
-      let none : 0 + n ≡ n = omega arith in
-      let here : slice_get kinds n ≡ option_map (λ t. place_kind n t.body) (slice_get ds n) = kinds_at 0 ds n ∙ ap (λ m. option_map (λ t. place_kind m t.body) (slice_get ds n)) none in
-      ap (λ o. type_of_kind (name_in names) (unwrap_or o kind.Opaque) many) here ∙ by (slice_get ds n) refl
+  kind_found many (Some n) = ap (λ o. type_of_kind (name_in names) (kind_of_value (unwrap_or o kind.Opaque)) None many) (kind_there n) ∙ by (slice_get ds n) refl
     where
       by : (o : Option DeclaredType) → slice_get ds n ≡ o
-          → type_of_kind (name_in names) (unwrap_or (option_map (λ t. place_kind n t.body) o) kind.Opaque) many ≡ type_of_single (option_and_then (λ t. single_of t.name t.body) o) many
+          → type_of_kind (name_in names) (kind_of_value (unwrap_or (option_map (λ t. place_kind n t.body) o) kind.Opaque)) None many
+          ≡ type_of_single (option_and_then (λ t. single_of t.name t.body) o) many
       by None at = refl
       by (Some t) at = kind_of_body n t.name t.body many (name_there ds n t at)
 
   kind_by_name : (many : Bool) (text : List ℕ)
-      → type_of_kind (name_in names) (property_kind_named kinds find text) many ≡ type_of_single (declared.single_named ds text) many
+      → type_of_kind (name_in names) (kind_of_value (property_kind_named kinds find text)) None many ≡ type_of_single (declared.single_named ds text) many
   kind_by_name many text =
       by (primitive_named text) ∙ ap (λ o. type_of_single (unless_primitive (option_and_then (λ t. single_of t.name t.body) o) (primitive_named text)) many) (sym (by_index text))
     where
       by : (o : Option PrimitiveType)
-          → type_of_kind (name_in names) (unless_primitive_kind (unwrap_or (option_and_then (slice_get kinds) (find text)) kind.Opaque) o) many
+          → type_of_kind (name_in names) (kind_of_value (unless_primitive_kind (unwrap_or (option_and_then (slice_get kinds) (find text)) kind.Opaque) o)) None many
           ≡ type_of_single (unless_primitive (option_and_then (λ t. single_of t.name t.body) (option_and_then (slice_get ds) (find text))) o) many
       by None = kind_found many (find text)
       by (Some p) = refl
 
-  property_type : (p : PropertyDeclaration) → type_of_kind (name_in names) (kind_of_property kinds find p) p.many ≡ property_type_of ds p
+  -- ---- targets
+
+  target_of_body : (n : ℕ) (t : DeclaredType) (body : TypeBody) → slice_get ds n ≡ Some t
+      → option_map (name_in names) (if_entity_place n (Some (place_kind n body))) ≡ cond (is_structured_as true body) (Some t.name) None
+  target_of_body n t (structured true base properties) at = ap Some (name_there ds n t at)
+  target_of_body n t (structured false base properties) at = refl
+  target_of_body n t (enumeration e) at = refl
+  target_of_body n t (definition underlying) at = by (primitive_named underlying)
+    where
+      by : (o : Option PrimitiveType) → option_map (name_in names) (if_entity_place n (Some (kind_of_definition o))) ≡ None
+      by None = refl
+      by (Some p) = refl
+
+  target_found : (o : Option ℕ)
+      → option_map (name_in names) (option_and_then (λ n. if_entity_place n (slice_get kinds n)) o) ≡ option_and_then entity_name (option_and_then (slice_get ds) o)
+  target_found None = refl
+  target_found (Some n) = ap (λ o. option_map (name_in names) (if_entity_place n o)) (kind_there n) ∙ by (slice_get ds n) refl
+    where
+      by : (o : Option DeclaredType) → slice_get ds n ≡ o
+          → option_map (name_in names) (if_entity_place n (option_map (λ t. place_kind n t.body) o)) ≡ option_and_then entity_name o
+      by None at = refl
+      by (Some t) at = target_of_body n t t.body at
+
+  target_by_name : (text : List ℕ) → option_map (name_in names) (target_place kinds find text) ≡ target_named ds text
+  target_by_name text =
+      by (primitive_named text) ∙ ap (λ o. if_not_primitive (option_and_then entity_name o) (primitive_named text)) (sym (by_index text))
+    where
+      by : (o : Option PrimitiveType)
+          → option_map (name_in names) (if_not_primitive (option_and_then (λ n. if_entity_place n (slice_get kinds n)) (find text)) o)
+          ≡ if_not_primitive (option_and_then entity_name (option_and_then (slice_get ds) (find text))) o
+      by None = target_found (find text)
+      by (Some p) = refl
+
+  property_type : (p : PropertyDeclaration) → type_of_kind (name_in names) (kind_of_property kinds find p) (target_of_property kinds find p) p.many ≡ property_type_of ds p
   property_type p = by p.navigates
     where
-      by : (b : Bool) → type_of_kind (name_in names) (cond b kind.Navigation (property_kind_named kinds find p.type_name)) p.many
-          ≡ cond b schema.navigation (type_of_single (declared.single_named ds p.type_name) p.many)
-      by true = refl
+      by : (b : Bool)
+          → type_of_kind (name_in names) (cond b kind.Navigation (kind_of_value (property_kind_named kinds find p.type_name))) (cond b (target_place kinds find p.type_name) None) p.many
+          ≡ cond b (schema.navigation (schema.target_type (target_named ds p.type_name) p.many)) (type_of_single (declared.single_named ds p.type_name) p.many)
+      by true = ap (λ o. schema.navigation (schema.target_type o p.many)) (target_by_name p.type_name)
       by false = kind_by_name p.many p.type_name
 
   same_property : (p : PropertyDeclaration) → property_model (name_in names) (placed_property kinds find p) ≡ property_of ds p

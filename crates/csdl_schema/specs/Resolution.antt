@@ -6,7 +6,7 @@ use Rattle.edm_values.specs.declared.primitive.PrimitiveType.TheVariants as prim
 use Rattle.csdl_declarations.specs.DeclaredType.{PropertyDeclaration, TypeBody, DeclaredType, structured, enumeration, definition}
 use Rattle.csdl_schema.specs.ExprType as type
 use Rattle.csdl_schema.specs.SchemaModel as model
-use Rattle.csdl_schema.specs.SchemaModel.{PropertyType, declared, opaque, navigation, PropertyModel, TypeModel, SchemaModel, is_text_of}
+use Rattle.csdl_schema.specs.SchemaModel.{PropertyType, declared, opaque, navigation, target_type, PropertyModel, TypeModel, SchemaModel, is_text_of}
 
 -- the primitive types that are read, by their names (section 3.3)
 abbrev pub primitive_named : List ℕ → Option PrimitiveType
@@ -50,6 +50,26 @@ abbrev pub single_named : List DeclaredType → List ℕ → Option type.SingleT
 single_named types text =
     unless_primitive (option_and_then (λ t. single_of t.name t.body) (type_by_name types text)) (primitive_named text)
 
+-- whether it is an entity type, or a complex type
+abbrev pub is_structured_as : Bool → TypeBody → Bool
+is_structured_as true (structured is_entity base properties) = is_entity
+is_structured_as false (structured is_entity base properties) = not is_entity
+is_structured_as as_entity (enumeration e) = false
+is_structured_as as_entity (definition underlying) = false
+
+-- the qualified name of a declared entity type
+abbrev pub entity_name : DeclaredType → Option (List ℕ)
+entity_name t = if is_structured_as true t.body then Some t.name else None
+
+abbrev pub if_not_primitive : {A : Type 0} → Option A → Option PrimitiveType → Option A
+if_not_primitive found None = found
+if_not_primitive found (Some p) = None
+
+-- the entity type of a name, which navigation properties lead to (section 8.1)
+abbrev pub target_named : List DeclaredType → List ℕ → Option (List ℕ)
+target_named types text =
+    if_not_primitive (option_and_then entity_name (type_by_name types text)) (primitive_named text)
+
 -- one value, or a collection; what has no type that is read is opaque
 abbrev pub type_of_single : Option type.SingleType → Bool → PropertyType
 type_of_single None many = opaque
@@ -58,18 +78,13 @@ type_of_single (Some single) true = declared (type.collection single)
 
 abbrev pub property_type_of : List DeclaredType → PropertyDeclaration → PropertyType
 property_type_of types p =
-    if p.navigates then navigation else type_of_single (single_named types p.type_name) p.many
+    if p.navigates then (navigation (target_type (target_named types p.type_name) p.many))
+    else type_of_single (single_named types p.type_name) p.many
 
 abbrev pub property_of : List DeclaredType → PropertyDeclaration → PropertyModel
 property_of types p = record { name = p.name; type_of = property_type_of types p; many = p.many; nullable = p.nullable }
 
 -- ---- bases (sections 6.1 and 9.1)
-
-abbrev pub is_structured_as : Bool → TypeBody → Bool
-is_structured_as true (structured is_entity base properties) = is_entity
-is_structured_as false (structured is_entity base properties) = not is_entity
-is_structured_as as_entity (enumeration e) = false
-is_structured_as as_entity (definition underlying) = false
 
 abbrev pub if_structured_as : Bool → DeclaredType → Option DeclaredType
 if_structured_as is_entity t = if is_structured_as is_entity t.body then Some t else None

@@ -6,13 +6,21 @@ use Rattle.std.specs.List.{AllByRecursion}
 use Rattle.std.specs.List.Sorted.{IsStrictlySortedBy}
 use Rattle.edm_values.specs.declared.primitive.PrimitiveType.{PrimitiveType}
 use Rattle.edm_enumerations.specs.EnumerationModel.{EnumerationModel}
-use Rattle.csdl_schema.specs.ExprType.{ExprType}
+use Rattle.csdl_schema.specs.ExprType.{ExprType, SingleType, single, collection, structured}
+use Rattle.odata_expansion.specs.PathSet.{PathSet, below, no_paths}
 
--- how a property's value is seen: by its type, not at all, or by navigation
+-- how a property's value is seen: by its type, not at all, or by navigation to its target, if it has one: an entity of
+-- that type, or a collection of them
 pub data PropertyType : Type 0 where
   declared : ExprType → PropertyType
   opaque : PropertyType
-  navigation : PropertyType
+  navigation : Option ExprType → PropertyType
+
+-- the type of a navigation property to entities of the type of that name (CSDL JSON 4.01, section 8.1)
+abbrev pub target_type : Option (List ℕ) → Bool → Option ExprType
+target_type None many = None
+target_type (Some name) false = Some (single (structured name))
+target_type (Some name) true = Some (collection (structured name))
 
 -- a property of a type: of a collection, `nullable` speaks of the items
 pub record PropertyModel : Type 0 where
@@ -45,12 +53,14 @@ abbrev pub type_called : List TypeModel → List ℕ → Option TypeModel
 type_called [] asked = None
 type_called (t ∷ ts) asked = if pointwise nat_eq t.name asked then Some t else type_called ts asked
 
--- the properties of each type by its qualified name, none where there is no such type; each enumeration by its own; and
--- the qualified name of the enumeration that goes by a name, which may be that by the alias of its namespace
+-- the properties of each type by its qualified name, none where there is no such type; each enumeration by its own; the
+-- qualified name of the enumeration that goes by a name, which may be that by the alias of its namespace; and the paths
+-- to the navigation properties that are expanded in a value (URL Conventions 4.01, section 5.1.3)
 pub record Slots : Type 0 where
   pub properties : List ℕ → List PropertyModel
   pub enumerations : List ℕ → Option EnumerationModel
   pub enumeration_names : List ℕ → Option (List ℕ)
+  pub needed : PathSet
 
 abbrev pub base_properties : (List ℕ → List PropertyModel) → Option (List ℕ) → List PropertyModel
 base_properties inherited None = []
@@ -161,13 +171,22 @@ index_named schema asked = index_of_kind is_structured schema asked
 abbrev pub enumeration_named : SchemaModel → List ℕ → Option ℕ
 enumeration_named schema asked = index_of_kind is_enumeration schema asked
 
--- what is known of a schema's types by their names alone
+-- what is known of a schema's types by their names alone, where nothing is expanded
 abbrev pub slots_of : SchemaModel → Slots
 slots_of schema = record {
   properties = properties_in schema.types;
   enumerations = enumeration_in schema.types;
   enumeration_names = λ asked. option_map (type_name_at schema) (enumeration_named schema asked);
+  needed = no_paths;
 }
+
+-- the same, where these paths are expanded
+abbrev pub expanded : Slots → PathSet → Slots
+expanded slots paths = record slots { needed = paths }
+
+-- the same in the value of a property
+abbrev pub slots_behind : Slots → List ℕ → Slots
+slots_behind slots step = expanded slots (below slots.needed step)
 
 -- the properties of the type at an index, in slot order; none where there is no entity or complex type
 abbrev pub properties_at : SchemaModel → ℕ → List PropertyModel

@@ -26,6 +26,7 @@ pub use laws::{
     bases_end, cycles_have_no_chain, documents_by_example, least_name_stands_twice,
     names_as_declared, one_answer, slots_as_declared,
 };
+pub use odata_expansion::Expansion;
 pub use property::{Property, PropertyKind};
 pub use property_piece::PropertyPiece;
 pub use schema::Schema;

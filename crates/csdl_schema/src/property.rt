@@ -1,3 +1,6 @@
+ghost use Rattle.std.specs.Prelude.{◌≡◌};
+ghost use Rattle.csdl_schema.specs.PropertyView.{target_of};
+
 use super::ids::{EnumId, TypeId};
 use edm_values::Prim;
 
@@ -17,4 +20,14 @@ pub struct Property {
     pub kind: PropertyKind,
     pub many: bool,
     pub nullable: bool,
+    pub(crate) target: Option<TypeId>,
+}
+
+impl Property {
+    /// The entity type to which a navigation property leads. One whose `$Type` names no entity type has none.
+    pub fn target(&self) -> Option<TypeId>
+        ensures { result ≡ target_of self.now }
+    {
+        self.target
+    }
 }

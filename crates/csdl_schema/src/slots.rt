@@ -1,10 +1,10 @@
 //! The slots of types: those of the base first, then the own ones.
 ghost use Rattle.std.specs.Prelude.{◌≡◌, ◌<◌, ◌≤◌, drop, length, map, option_map, slice_get, Some, string_bytes};
-ghost use Rattle.csdl_schema.specs.PropertyView.{AreFirstOf, PointsWithin};
+ghost use Rattle.csdl_schema.specs.PropertyView.{AreFirstOf};
 ghost use Rattle.csdl_schema.specs.SchemaModel.{name_in, properties_at, slot_named};
 ghost use Rattle.csdl_schema.specs.private.Placed.{entry_view};
 ghost use Rattle.csdl_schema.specs.private.PlacedView.{placed_of, structured_view};
-ghost use Rattle.csdl_schema.specs.private.SchemaView.{chain_in, model_of, names_of, property_model, AreChained};
+ghost use Rattle.csdl_schema.specs.private.SchemaView.{chain_in, model_of, names_of, property_model, AreChained, IsThere};
 ghost use Rattle.csdl_schema.specs.private.SlotWalk.{earlier, own_slot_in, structured_in, BeginsWith};
 
 use super::chain::{Chain, base_at};
@@ -117,7 +117,7 @@ pub(crate) fn entry_at<'t>(
     requires within { slot < length (properties_at (model_of (placed_of types.now)) index) }
     ensures entry { slice_get (properties_at (model_of (placed_of types.now)) index) slot
         ≡ Some (property_model (name_in (names_of (placed_of types.now))) (string_bytes result.0.now, result.1.now)) }
-    ensures points { PointsWithin (model_of (placed_of types.now)) result.1.now.kind }
+    ensures there { IsThere (model_of (placed_of types.now)) result.1.now }
 {
     let owner = owner_of(types, chains, index, slot);
     match structured_at(types, owner) {

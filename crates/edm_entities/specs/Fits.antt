@@ -48,7 +48,7 @@ abbrev mutual
   FitsProperty slots nullable (declared type) found (present value) =
       FitsFound found (takes_null type nullable) value (λ json. FitsType slots nullable type json value)
   FitsProperty slots nullable opaque found absent = Unit {0}
-  FitsProperty slots nullable navigation found absent = Unit {0}
+  FitsProperty slots nullable (navigation target) found absent = Unit {0}
   FitsProperty slots nullable type found held = ⊥
 
   -- each item by the type, in order

@@ -39,7 +39,7 @@ abbrev mutual
   HasPropertyType slots (declared type) (present value) = HasType slots type value
   HasPropertyType slots (declared type) absent = ⊥
   HasPropertyType slots opaque held = Unit {0}
-  HasPropertyType slots navigation held = Unit {0}
+  HasPropertyType slots (navigation target) held = Unit {0}
 
   -- each item is of that type
   pub AllHaveType : Slots → SingleType → Vals → Type 0

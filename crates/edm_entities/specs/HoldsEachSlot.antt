@@ -14,7 +14,7 @@ pub record Holding : Type 0 where
 abbrev pub slot_holds : Slots → PropertyType → Holding → Bool
 slot_holds slots (declared type) held = held.holds slots type
 slot_holds slots opaque held = held.is_null
-slot_holds slots navigation held = held.is_null
+slot_holds slots (navigation target) held = held.is_null
 
 -- there are as many values as slots
 abbrev pub slots_hold : Slots → List PropertyModel → List Holding → Bool

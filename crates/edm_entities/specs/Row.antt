@@ -19,7 +19,7 @@ ValAtType = Slots → ExprType → Val
 abbrev pub field_of : Slots → PropertyType → ValAtType → FieldVal
 field_of slots (declared type) seen = present (seen slots type)
 field_of slots opaque seen = absent
-field_of slots navigation seen = absent
+field_of slots (navigation target) seen = absent
 
 -- what slots hold for properties, by the properties' names
 abbrev pub field_by_name : Slots → List PropertyModel → List ValAtType → List ℕ → FieldVal

@@ -34,7 +34,7 @@ IsFoundFault (Some json) takes path flaw P = P json
 abbrev pub OnDeclared : PropertyType → (ExprType → Type 0) → Type 0
 OnDeclared (declared type) P = P type
 OnDeclared opaque P = ⊥
-OnDeclared navigation P = ⊥
+OnDeclared (navigation target) P = ⊥
 
 -- what an object has under a property's name fits it
 abbrev pub HasFitting : Slots → Data → PropertyModel → Type 0

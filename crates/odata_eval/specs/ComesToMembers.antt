@@ -5,6 +5,7 @@ use Rattle.std.specs.Cmp.Lexicographic.{pointwise}
 use Rattle.edm_values.specs.MomentParts.{MomentParts}
 use Rattle.edm_values.specs.Val.{Val, null, text, items, fields, FieldVal, absent, present, no_items, item}
 use Rattle.edm_values.specs.declared.primitive.PrimitiveType.{PrimitiveType}
+use Rattle.csdl_schema.specs.PathSet.{no_paths}
 use Rattle.csdl_schema.specs.ExprType.{collection, primitive}
 use Rattle.csdl_schema.specs.SchemaModel.{Slots, declared}
 use Rattle.odata_syntax.specs.Tree.{Shape, Tree, node, literal, name, binary, lambda}
@@ -25,6 +26,7 @@ tagged_slots = record {
   } ∷ [];
   enumerations = λ _. None;
   enumeration_names = λ _. None;
+  needed = no_paths;
 }
 
 -- a value of it

@@ -16,7 +16,7 @@ use Rattle.odata_expression_types.specs.Typed.{AreTyped, Scope, Typed, IsUntyped
 abbrev pub PropertyReason : PropertyType → TypeFaultCode → Type 0
 PropertyReason (declared type) code = ⊥
 PropertyReason opaque code = code ≡ TypeFaultCode.TypeLeftOut
-PropertyReason navigation code = code ≡ TypeFaultCode.Navigation
+PropertyReason (navigation target) code = code ≡ TypeFaultCode.Navigation
 
 -- why a name has no type
 abbrev pub NameReason : List PropertyModel → List ℕ → TypeFaultCode → Type 0

@@ -7,6 +7,7 @@ use Rattle.odata_syntax.specs.FirstRun.{first_run_tree}
 use Rattle.odata_syntax.specs.Tree.{Shape, Tree, start_of, node, literal, name, binary}
 use Rattle.odata_syntax.specs.declared.node.BinaryOperator.{BinaryOperator}
 use Rattle.odata_syntax.specs.declared.node.LiteralKind.{LiteralKind}
+use Rattle.csdl_schema.specs.PathSet.{no_paths}
 use Rattle.csdl_schema.specs.ExprType.{ExprType, single, primitive}
 use Rattle.csdl_schema.specs.SchemaModel.{PropertyModel, Slots, declared}
 use Rattle.odata_signatures.specs.ExprTypes.{boolean_type}
@@ -113,7 +114,12 @@ item_properties =
 
 -- every type has them
 abbrev pub item_slots : Slots
-item_slots = record { properties = λ _. item_properties; enumerations = λ _. None; enumeration_names = λ _. None }
+item_slots = record {
+  properties = λ _. item_properties;
+  enumerations = λ _. None;
+  enumeration_names = λ _. None;
+  needed = no_paths;
+}
 
 -- `ID eq 'a'`
 abbrev pub mixed_filter : Tree

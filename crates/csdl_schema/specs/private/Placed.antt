@@ -12,7 +12,7 @@ use Rattle.csdl_schema.specs.declared.property.PropertyKind.{PropertyKind}
 use Rattle.csdl_schema.specs.declared.property.PropertyKind.TheVariants as kind
 use Rattle.csdl_schema.specs.declared.chain.Chain.{Chain}
 use Rattle.csdl_schema.specs.declared.read_bases.FoundBase.{FoundBase}
-use Rattle.csdl_schema.specs.Resolution.{primitive_named, goes_by, is_structured_as}
+use Rattle.csdl_schema.specs.Resolution.{primitive_named, goes_by, if_not_primitive, is_structured_as}
 use Rattle.csdl_schema.specs.BaseFaults.{base_limit, property_limit, base_text, lesser_name, first_name, twice_faults}
 
 -- how a type is found by its name
@@ -29,9 +29,9 @@ abbrev pub kind_of_definition : Option PrimitiveType → PropertyKind
 kind_of_definition None = kind.Opaque
 kind_of_definition (Some p) = kind.Prim p
 
--- the kind of a property of the declared type at an index
+-- the kind of a property whose type is the declared one at an index; to an entity type navigation properties alone lead
 abbrev pub place_kind : ℕ → TypeBody → PropertyKind
-place_kind n (structured true base properties) = kind.Opaque
+place_kind n (structured true base properties) = kind.Navigation
 place_kind n (structured false base properties) = kind.Complex n
 place_kind n (enumeration e) = kind.Enum n
 place_kind n (definition underlying) = kind_of_definition (primitive_named underlying)
@@ -48,12 +48,40 @@ abbrev pub property_kind_named : List PropertyKind → Finder → List ℕ → P
 property_kind_named kinds find text =
     unless_primitive_kind (unwrap_or (option_and_then (slice_get kinds) (find text)) kind.Opaque) (primitive_named text)
 
+-- the kind of a property that does not navigate
+abbrev pub kind_of_value : PropertyKind → PropertyKind
+kind_of_value (kind.Prim p) = kind.Prim p
+kind_of_value (kind.Enum e) = kind.Enum e
+kind_of_value (kind.Complex t) = kind.Complex t
+kind_of_value kind.Opaque = kind.Opaque
+kind_of_value kind.Navigation = kind.Opaque
+
 abbrev pub kind_of_property : List PropertyKind → Finder → PropertyDeclaration → PropertyKind
-kind_of_property kinds find p = if p.navigates then kind.Navigation else property_kind_named kinds find p.type_name
+kind_of_property kinds find p =
+    if p.navigates then kind.Navigation else kind_of_value (property_kind_named kinds find p.type_name)
+
+abbrev pub if_entity_place : ℕ → Option PropertyKind → Option ℕ
+if_entity_place n (Some kind.Navigation) = Some n
+if_entity_place n _ = None
+
+-- the index of the entity type of a name
+abbrev pub target_place : List PropertyKind → Finder → List ℕ → Option ℕ
+target_place kinds find text =
+    if_not_primitive (option_and_then (λ n. if_entity_place n (slice_get kinds n)) (find text)) (primitive_named text)
+
+abbrev pub target_of_property : List PropertyKind → Finder → PropertyDeclaration → Option ℕ
+target_of_property kinds find p = if p.navigates then target_place kinds find p.type_name else None
 
 abbrev pub placed_property : List PropertyKind → Finder → PropertyDeclaration → List ℕ × Property
-placed_property kinds find p =
-    (p.name, record { kind = kind_of_property kinds find p; many = p.many; nullable = p.nullable })
+placed_property kinds find p = (
+  p.name,
+  record {
+    kind = kind_of_property kinds find p;
+    many = p.many;
+    nullable = p.nullable;
+    target = target_of_property kinds find p;
+  },
+)
 
 abbrev pub entry_view : String Global × Property → List ℕ × Property
 entry_view e = (string_bytes e.0, e.1)

@@ -6,7 +6,7 @@ use Rattle.csdl_schema.specs.declared.chain.Chain.{Chain}
 use Rattle.csdl_schema.specs.declared.property.Property.{Property}
 use Rattle.csdl_schema.specs.declared.schema.Schema.TheInside.{Inside}
 use Rattle.csdl_schema.specs.BaseFaults.{property_limit}
-use Rattle.csdl_schema.specs.PropertyView.{type_of_kind, PointsWithin}
+use Rattle.csdl_schema.specs.PropertyView.{type_of_kind, target_of, LeadsWithin, PointsWithin}
 use Rattle.csdl_schema.specs.SchemaModel.{SchemaModel, PropertyModel, TypeModel, ModelBody, structured_type, enumeration_type, type_definition, name_in, is_named, properties_at, is_structured, is_enumeration, IsEnumerationByName, IsOneByName, IsInNameOrder, HasDistinctNames}
 use Rattle.csdl_schema.specs.private.Placed.{PlacedType, PlacedBody, placed_structured, placed_enumeration, placed_definition, own_at}
 use Rattle.csdl_schema.specs.private.PlacedView.{placed_of}
@@ -16,7 +16,7 @@ use Rattle.csdl_schema.specs.private.PlacedView.{placed_of}
 abbrev pub property_model : (ℕ → List ℕ) → List ℕ × Property → PropertyModel
 property_model name_at e = record {
   name = e.0;
-  type_of = type_of_kind name_at e.1.kind e.1.many;
+  type_of = type_of_kind name_at e.1.kind (target_of e.1) e.1.many;
   many = e.1.many;
   nullable = e.1.nullable;
 }
@@ -74,6 +74,10 @@ IsChainedBody types chains n (placed_structured is_entity base own) =
 IsChainedBody types chains n (placed_enumeration e) = properties_at (model_of types) n ≡ []
 IsChainedBody types chains n (placed_definition p) = properties_at (model_of types) n ≡ []
 
+-- what a property points to is there, and what it leads to
+abbrev pub IsThere : SchemaModel → Property → Type 0
+IsThere schema p = PointsWithin schema p.kind × LeadsWithin schema p.kind (target_of p)
+
 -- chains of bases are as they should be; slots have distinct names, and are not too many; types have distinct names,
 -- and what kinds of properties point to is there
 pub record AreChained (types : List PlacedType) (chains : List Chain) : Type 0 where
@@ -84,7 +88,7 @@ pub record AreChained (types : List PlacedType) (chains : List Chain) : Type 0 w
   pub enumerations : (n : ℕ) → IsEnumerationByName (model_of types) n
   pub type_names : (n : ℕ) → IsOneByName is_structured (model_of types) n
   pub enumeration_names : (n : ℕ) → IsOneByName is_enumeration (model_of types) n
-  pub kinds : (n : ℕ) → AllByRecursion (λ e. PointsWithin (model_of types) e.1.kind) (own_at types n)
+  pub kinds : (n : ℕ) → AllByRecursion (λ e. IsThere (model_of types) e.1) (own_at types n)
 
 -- the types are found by name, and their chains are as they should be
 pub record IsKeptSchema (s : Inside) : Type 0 where

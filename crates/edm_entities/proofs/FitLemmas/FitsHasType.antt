@@ -86,7 +86,7 @@ mutual
       found_has_type slots type found _ v _ (λ json here. value_has_type slots nullable type json v here) fits
   held_has_type slots nullable (declared type) found absent fits = absurd fits
   held_has_type slots nullable opaque found held fits = tt
-  held_has_type slots nullable navigation found held fits = tt
+  held_has_type slots nullable (navigation target) found held fits = tt
 
   items_have_type : (slots : Slots) (nullable : Bool) (type : SingleType) (jsons : Items) (values : Vals) → FitItems slots nullable type jsons values → AllHaveType slots type values
   items_have_type slots nullable type jsons no_items fits = tt

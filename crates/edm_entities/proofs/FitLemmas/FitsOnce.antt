@@ -128,9 +128,9 @@ module _ (texts : TextsOnce) where
     same_held slots nullable opaque found absent absent a b = refl
     same_held slots nullable opaque found absent (present w) a b = absurd b
     same_held slots nullable opaque found (present v) k a b = absurd a
-    same_held slots nullable navigation found absent absent a b = refl
-    same_held slots nullable navigation found absent (present w) a b = absurd b
-    same_held slots nullable navigation found (present v) k a b = absurd a
+    same_held slots nullable (navigation target) found absent absent a b = refl
+    same_held slots nullable (navigation target) found absent (present w) a b = absurd b
+    same_held slots nullable (navigation target) found (present v) k a b = absurd a
 
     same_items : (slots : Slots) (nullable : Bool) (type : SingleType) (jsons : Items) (values others : Vals)
         → FitItems slots nullable type jsons values → FitItems slots nullable type jsons others → values ≡ others

@@ -81,7 +81,7 @@ module _ (slots : Slots) (r s : Path) (a b : Flaw) (once : Once slots r a b) whe
   held_once : (nullable : Bool) (type : PropertyType) (found : Option Data) → IsPropertyFault slots nullable type found r a → IsPropertyFault slots nullable type found s b → IsSame r s a b
   held_once nullable (declared type) found is_a is_b = found_once found _ r s a b _ _ (λ json one other. once s nullable type json one other) is_a is_b
   held_once nullable opaque found is_a is_b = absurd is_a
-  held_once nullable navigation found is_a is_b = absurd is_a
+  held_once nullable (navigation target) found is_a is_b = absurd is_a
 
   module _ (json : Data) where
     abbrev At : Path → Flaw → PropertyModel → Type 0

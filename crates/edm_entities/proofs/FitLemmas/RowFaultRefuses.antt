@@ -97,7 +97,7 @@ held_clash slots nullable (declared type) found (present v) path flaw clash fits
     found_clash found _ v path flaw _ _ (λ json here there. clash nullable type json v here there) fits other
 held_clash slots nullable (declared type) found absent path flaw clash fits other = fits
 held_clash slots nullable opaque found held path flaw clash fits other = other
-held_clash slots nullable navigation found held path flaw clash fits other = other
+held_clash slots nullable (navigation target) found held path flaw clash fits other = other
 
 property_clash : (slots : Slots) (properties : List PropertyModel) (json : Data) (f : List ℕ → FieldVal) (step : List ℕ) (path : Path) (flaw : Flaw) → Clash slots path flaw
     → FitsRecord properties json f (λ p. FitsProperty slots p.nullable p.type_of (get p.name json) (f p.name))

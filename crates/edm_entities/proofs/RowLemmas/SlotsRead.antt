@@ -70,7 +70,7 @@ absent_fits slots (declared type) nullable found v none null may =
     subst (λ (o : Option Data). FitsProperty slots nullable (declared type) o (field_of slots (declared type) (val_of v))) (sym none)
     (may, ap (λ (w : Value). val_of w slots type) null ∙ val_of-Null slots type)
 absent_fits slots opaque nullable found v none null may = tt
-absent_fits slots navigation nullable found v none null may = tt
+absent_fits slots (navigation target) nullable found v none null may = tt
 
 slot_fits : (slots : Slots) (found : List ℕ → Option Data) (p : PropertyModel) (v : Value) → HoldsSoFar slots found p v → IsFilled p v → FitsSlot slots found p v
 slot_fits slots found p v (inr fits) filled = fits

@@ -29,7 +29,7 @@ null_is_null = search (rules, the_lemmas)
 pub null_in_slot : (slots : Slots) (type : PropertyType) (v : Value) → v ≡ Null → HoldsInSlot slots type v
 null_in_slot slots (declared type) v same = null_holds slots type v same
 null_in_slot slots opaque v same = ap (λ (w : Value). (holding_of w).is_null) same ∙ null_is_null
-null_in_slot slots navigation v same = ap (λ (w : Value). (holding_of w).is_null) same ∙ null_is_null
+null_in_slot slots (navigation target) v same = ap (λ (w : Value). (holding_of w).is_null) same ∙ null_is_null
 
 -- ---- values without parts
 

@@ -1,5 +1,5 @@
 -- What was found for a value: nothing, null or other JSON, and what is read of it.
-use Rattle.std.proofs.Common.{◌≡◌, ◌⊎◌, inl, inr, [], Bool, true, false, Option, Some, None, is_some, Result, IfOk, IfErr, refl, rules, sym, subst}
+use Rattle.std.proofs.Common.{◌≡◌, ◌⊎◌, ℕ, inl, inr, [], Bool, true, false, Option, Some, None, is_some, Result, IfOk, IfErr, refl, rules, sym, subst}
 use Rattle.serde_json.specs.Data.{Data, null as json_null, boolean, number, string, array, object}
 use Rattle.serde_json.specs.Find.{as_null}
 use Rattle.edm_values.specs.Val.{Val, null}
@@ -80,25 +80,25 @@ abbrev pub type_wanted : SchemaModel → Wanted → Bool → ExprType
 type_wanted schema wanted true = collection (wanted_single schema wanted)
 type_wanted schema wanted false = single (wanted_single schema wanted)
 
-pub wanted_type : (schema : SchemaModel) (of : PropertyKind) (many : Bool) (wanted : Wanted) → wanted_as of ≡ Some wanted
-    → type_of_kind (type_name_at schema) of many ≡ declared (type_wanted schema wanted many)
-wanted_type schema (kind.Prim p) true wanted is = cc
-wanted_type schema (kind.Prim p) false wanted is = cc
-wanted_type schema (kind.Enum e) true wanted is = cc
-wanted_type schema (kind.Enum e) false wanted is = cc
-wanted_type schema (kind.Complex t) true wanted is = cc
-wanted_type schema (kind.Complex t) false wanted is = cc
-wanted_type schema kind.Opaque many wanted is = absurd (cc)
-wanted_type schema kind.Navigation many wanted is = absurd (cc)
+pub wanted_type : (schema : SchemaModel) (of : PropertyKind) (target : Option ℕ) (many : Bool) (wanted : Wanted) → wanted_as of ≡ Some wanted
+    → type_of_kind (type_name_at schema) of target many ≡ declared (type_wanted schema wanted many)
+wanted_type schema (kind.Prim p) target true wanted is = cc
+wanted_type schema (kind.Prim p) target false wanted is = cc
+wanted_type schema (kind.Enum e) target true wanted is = cc
+wanted_type schema (kind.Enum e) target false wanted is = cc
+wanted_type schema (kind.Complex t) target true wanted is = cc
+wanted_type schema (kind.Complex t) target false wanted is = cc
+wanted_type schema kind.Opaque target many wanted is = absurd (cc)
+wanted_type schema kind.Navigation target many wanted is = absurd (cc)
 
 -- what is not looked at fits
-pub unwanted_fits : (schema : SchemaModel) (slots : Slots) (nullable : Bool) (of : PropertyKind) (many : Bool) (found : Option Data) (seen : ValAtType) → wanted_as of ≡ None
-    → FitsProperty slots nullable (type_of_kind (type_name_at schema) of many) found (field_of slots (type_of_kind (type_name_at schema) of many) seen)
-unwanted_fits schema slots nullable (kind.Prim p) many found seen is = absurd (cc)
-unwanted_fits schema slots nullable (kind.Enum e) many found seen is = absurd (cc)
-unwanted_fits schema slots nullable (kind.Complex t) many found seen is = absurd (cc)
-unwanted_fits schema slots nullable kind.Opaque many found seen is = tt
-unwanted_fits schema slots nullable kind.Navigation many found seen is = tt
+pub unwanted_fits : (schema : SchemaModel) (slots : Slots) (nullable : Bool) (of : PropertyKind) (target : Option ℕ) (many : Bool) (found : Option Data) (seen : ValAtType) → wanted_as of ≡ None
+    → FitsProperty slots nullable (type_of_kind (type_name_at schema) of target many) found (field_of slots (type_of_kind (type_name_at schema) of target many) seen)
+unwanted_fits schema slots nullable (kind.Prim p) target many found seen is = absurd (cc)
+unwanted_fits schema slots nullable (kind.Enum e) target many found seen is = absurd (cc)
+unwanted_fits schema slots nullable (kind.Complex t) target many found seen is = absurd (cc)
+unwanted_fits schema slots nullable kind.Opaque target many found seen is = tt
+unwanted_fits schema slots nullable kind.Navigation target many found seen is = tt
 
 module _ (slots : Slots) (nullable : Bool) (type : PropertyType) (wanted : ExprType) (found : Option Data) (is : type ≡ declared wanted) where
   pub held_by : (v : Value) → FitsFound found (takes_null wanted nullable) (val_of v slots wanted) (λ json. FitsType slots nullable wanted json (val_of v slots wanted))

@@ -22,7 +22,7 @@ SlotsSoFar schema id found values =
 abbrev pub may_be_absent : PropertyType → Bool → Bool
 may_be_absent (declared type) nullable = takes_null type nullable
 may_be_absent opaque nullable = true
-may_be_absent navigation nullable = true
+may_be_absent (navigation target) nullable = true
 
 -- a property may be absent, or its slot is not null
 abbrev pub IsFilled : PropertyModel → Value → Type 0

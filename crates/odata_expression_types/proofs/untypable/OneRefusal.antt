@@ -46,7 +46,7 @@ literal_reason _ a b x y = x ∙ sym y
 property_reason : (kind : PropertyType) (a b : TypeFaultCode) → PropertyReason kind a → PropertyReason kind b → a ≡ b
 property_reason (declared type) a b x y = absurd x
 property_reason opaque a b x y = x ∙ sym y
-property_reason navigation a b x y = x ∙ sym y
+property_reason (navigation target) a b x y = x ∙ sym y
 
 found_reason :
     (found : Option PropertyModel) (a b : TypeFaultCode)

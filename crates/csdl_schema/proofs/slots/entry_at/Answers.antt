@@ -1,10 +1,9 @@
 use Rattle.std.proofs.Common.{◌≡◌, ◌+◌, ◌-◌, ◌∙◌, Some, map, option_map, slice_get, sym, ap, arith}
 use Rattle.std.proofs.lemmas.Option.{slice_get-map}
-use Rattle.csdl_schema.specs.PropertyView.{PointsWithin}
 use Rattle.csdl_schema.specs.SchemaModel.{name_in}
 use Rattle.csdl_schema.specs.private.Placed.{entry_view, own_at}
 use Rattle.csdl_schema.specs.private.PlacedView.{placed_of, structured_view}
-use Rattle.csdl_schema.specs.private.SchemaView.{chain_in, model_of, names_of, property_model}
+use Rattle.csdl_schema.specs.private.SchemaView.{chain_in, model_of, names_of, property_model, IsThere}
 use Rattle.csdl_schema.specs.private.SlotWalk.{structured_in}
 use Rattle.csdl_schema.proofs.Kept.{each_at}
 use Rattle.csdl_schema.proofs.Pieces.{same_in_front}
@@ -29,8 +28,8 @@ returns-clause-entry c =
     ∙ ap (option_map model) (slice_get-map entry_view es k)
     ∙ ap (λ o. option_map model (option_map entry_view o)) (sym c.in-Some-get_index.ensures.entry)
 
-pub returns-clause-points : goal.returns-clause-points
-returns-clause-points c =
+pub returns-clause-there : goal.returns-clause-there
+returns-clause-there c =
     let ps = placed_of c.args.types.now in
     let chains = c.args.chains.now in
     let owner = c.owner_of-owner.result in
@@ -38,5 +37,5 @@ returns-clause-points c =
     let k = c.args.slot - c.inherited_at.result in
     let is : structured_in ps owner ≡ Some (structured_view c.in-Some.structured.now) = sym c.structured_at.ensures ∙ ap (option_map (λ s. structured_view s.now)) c.in-Some.is in
     let own : own_at ps owner ≡ map entry_view es = (of_structured ps chains c.requires.chained owner _ is).1 in
-    each_at (λ e. PointsWithin (model_of ps) e.1.kind) (own_at ps owner) k _ (c.requires.chained.kinds owner)
+    each_at (λ e. IsThere (model_of ps) e.1) (own_at ps owner) k _ (c.requires.chained.kinds owner)
     (ap (λ es. slice_get es k) own ∙ slice_get-map entry_view es k ∙ ap (option_map entry_view) (sym c.in-Some-get_index.ensures.entry))

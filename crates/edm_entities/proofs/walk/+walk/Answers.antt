@@ -4,7 +4,7 @@ use Rattle.serde_json.specs.Data.{Data, depth, items_depth}
 use Rattle.serde_json.specs.Find.{get, as_object}
 use Rattle.serde_json.specs.View.{view, items_view}
 use Rattle.csdl_schema.specs.ExprType.{single, primitive, enumeration, structured}
-use Rattle.csdl_schema.specs.PropertyView.{property_type}
+use Rattle.csdl_schema.specs.PropertyView.{property_type, target_of}
 use Rattle.csdl_schema.specs.SchemaModel.{slots_of, type_name_at, declared}
 use Rattle.edm_entities.specs.Fits.{FitsFound, FitsType, FitsProperty}
 use Rattle.edm_entities.specs.FitsPrimitive.{Flaw, FitsPrimitive, FitsText, IsMemberText}
@@ -68,7 +68,7 @@ read_property-read_single-requires t c =
 
 pub read_property-returns-in_default-clause-fits : goal.read_property-returns-in_default-clause-fits
 read_property-returns-in_default-clause-fits t c =
-    unwanted_fits c.args.schema.now (slots_of c.args.schema.now) c.args.property.nullable c.args.property.kind c.args.property.many _ (val_of _) (sym c.wanted_as.ensures ∙ c.in_default.is)
+    unwanted_fits c.args.schema.now (slots_of c.args.schema.now) c.args.property.nullable c.args.property.kind (target_of c.args.property) c.args.property.many _ (val_of _) (sym c.wanted_as.ensures ∙ c.in_default.is)
 
 pub read_property-returns-in_default-clause-holds : goal.read_property-returns-in_default-clause-holds
 read_property-returns-in_default-clause-holds t c = null_in_slot (slots_of c.args.schema.now) (property_type c.args.schema.now c.args.property) Null refl
@@ -81,7 +81,7 @@ read_property-returns-else-property-clause-fault t c =
     let wanted = c.in-Some.wanted in
     let json : Data = view c.in-Some-found.json.now in
     let there : option_map (λ j. view j.now) c.args.found ≡ Some json = ap (option_map (λ j. view j.now)) c.in-Some-found.is in
-    let typed = wanted_type schema c.args.property.kind c.args.property.many wanted (sym c.wanted_as.ensures ∙ c.in-Some.is) in
+    let typed = wanted_type schema c.args.property.kind (target_of c.args.property) c.args.property.many wanted (sym c.wanted_as.ensures ∙ c.in-Some.is) in
     let one : property_type schema c.args.property ≡ declared (single (wanted_single schema wanted)) =
     typed ∙ ap (λ (many : Bool). declared (type_wanted schema wanted many)) c.if-property.false in
     subst (λ (o : Option Data). IfErr c.read_single.result (IsFaultOf (IsPropertyFault slots nullable (property_type schema c.args.property) o))) (sym there)

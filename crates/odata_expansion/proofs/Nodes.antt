@@ -1,0 +1,253 @@
+-- Nodes of an expansion, and the paths that lead to them.
+use Rattle.std.proofs.Common.{◌≡◌, ℕ, zero, suc, ◌+◌, ◌-◌, ◌<◌, ◌≤◌, List, [], ◌∷◌, ◌++◌, Bool, true, false, true≢false, ◌&&◌, cond, Option, Some, None, option_map, map, length, get_or, slice_get, nat_eq, nat_lt, ltb-true, ltb-false, refl, sym, ap, ◌∙◌, subst, arith, eqb-true, append-nil}
+use Rattle.std.proofs.lemmas.Option.{slice_get-map, slice_get_read}
+use Rattle.std.specs.Cmp.Lexicographic.{pointwise, bytes_decides, pointwise_decides}
+use Rattle.odata_expansion.specs.PathSet.{PropertyPath, Covers, is_path}
+use Rattle.odata_expansion.specs.ExpansionView.{StepModel, goes_on, next_from, next_node, is_needed_step, is_needed_at, paths_at, paths_in}
+use Rattle.odata_expansion.specs.declared.steps.Step.{Step}
+use Rattle.odata_expansion.specs.private.StepView.{AreSteps, LeadsTo, LeadsBack, node_at, onto, step_model}
+
+-- ---- truth values
+
+pub both_true : (a b : Bool) → (a && b) ≡ true → (a ≡ true) × (b ≡ true)
+both_true true b is = (refl, is)
+both_true false b is = absurd (cc)
+
+pub same_truth : (a b : Bool) → (a ≡ true → b ≡ true) → (b ≡ true → a ≡ true) → a ≡ b
+same_truth true b to from = sym (to refl)
+same_truth false true to from = from refl
+same_truth false false to from = refl
+
+pub not_both : (a : Bool) → a ≡ false → a ≡ true → ⊥
+not_both a off on = absurd (cc)
+
+-- ---- paths as lists
+
+pub path_decides : (p q : PropertyPath) → (is_path p q ≡ true → p ≡ q) × (p ≡ q → is_path p q ≡ true)
+path_decides = pointwise_decides bytes_decides
+
+pub onto_twice : (names path rest : PropertyPath) → onto (onto names path) rest ≡ onto path (names ++ rest)
+onto_twice [] path rest = refl
+onto_twice (name ∷ names) path rest = onto_twice names (name ∷ path) rest
+
+pub onto_back : (path : PropertyPath) → onto (onto path []) [] ≡ path
+onto_back path = onto_twice path [] [] ∙ append-nil path
+
+pub onto-append : (names path rest : PropertyPath) → onto names (path ++ rest) ≡ onto names path ++ rest
+onto-append [] path rest = refl
+onto-append (name ∷ names) path rest = onto-append names (name ∷ path) rest
+
+-- ---- steps
+
+-- a step that is found stands in its place, starts from the node and has the name
+pub record IsFound (k : ℕ) (steps : List StepModel) (node : ℕ) (name : List ℕ) (next : ℕ) : Type 0 where
+  pub index : ℕ
+  pub step : StepModel
+  pub stands_at : slice_get steps index ≡ Some step
+  pub leads : next ≡ suc (k + index)
+  pub starts : step.before ≡ node
+  pub named : step.name ≡ name
+
+pub found_at : (k : ℕ) (steps : List StepModel) (node : ℕ) (name : List ℕ) (next : ℕ) → next_from k steps node name ≡ Some next → IsFound k steps node name next
+found_at k [] node name next is = absurd (cc)
+found_at k (s ∷ steps) node name next is = by (goes_on s node name) refl is (found_at (suc k) steps node name next)
+  where
+    by : (b : Bool) → goes_on s node name ≡ b → cond b (Some (suc k)) (next_from (suc k) steps node name) ≡ Some next
+        → (next_from (suc k) steps node name ≡ Some next → IsFound (suc k) steps node name next) → IsFound k (s ∷ steps) node name next
+    by true goes here further =
+        let parts = both_true (nat_eq s.before node) (pointwise nat_eq s.name name) goes in
+        let one : suc k ≡ next = cc in
+        record { index = 0; step = s; stands_at = refl; leads = omega arith; starts = eqb-true _ _ parts.0; named = (bytes_decides s.name name).0 parts.1 }
+    by false goes there further =
+        let later = further there in
+        record { index = suc later.index; step = later.step; stands_at = later.stands_at; leads = omega (arith, later.leads); starts = later.starts; named = later.named }
+
+pub within_list : {X : Type 0} (xs : List X) (i : ℕ) (x : X) → slice_get xs i ≡ Some x → i < length xs
+within_list [] i x is = absurd (cc)
+within_list (y ∷ xs) zero x is = omega arith
+within_list (y ∷ xs) (suc i) x is = omega (arith, within_list xs i x is)
+
+pub item_there : {X : Type 0} (xs : List X) (i : ℕ) → i < length xs → (x : X) × (slice_get xs i ≡ Some x)
+item_there [] i within = absurd (omega arith)
+item_there (y ∷ xs) zero within = (y, refl)
+item_there (y ∷ xs) (suc i) within = item_there xs i (omega arith)
+
+-- a step leads to a node that is there
+pub next_within : (steps : List StepModel) (node : ℕ) (name : List ℕ) (next : ℕ) → next_node steps node name ≡ Some next → next ≤ length steps
+next_within steps node name next is =
+    let found = found_at 0 steps node name next is in
+    let there = within_list steps found.index found.step found.stands_at in
+    omega (arith, found.leads, there)
+
+-- ---- nodes
+
+abbrev pub needed_if : List StepModel → Option ℕ → Bool
+needed_if steps None = false
+needed_if steps (Some node) = is_needed_at steps node
+
+-- a path is in the set if it leads to a node that is needed
+pub paths_by_node : (steps : List StepModel) (o : Option ℕ) (path : PropertyPath) → paths_at steps o path ≡ needed_if steps (node_at steps o path)
+paths_by_node steps None path = refl
+paths_by_node steps (Some node) [] = refl
+paths_by_node steps (Some node) (name ∷ path) = paths_by_node steps (next_node steps node name) path
+
+pub node_at-append : (steps : List StepModel) (o : Option ℕ) (path rest : PropertyPath) → node_at steps o (path ++ rest) ≡ node_at steps (node_at steps o path) rest
+node_at-append steps None path rest = refl
+node_at-append steps (Some node) [] rest = refl
+node_at-append steps (Some node) (name ∷ path) rest = node_at-append steps (next_node steps node name) path rest
+
+pub node_at-end : (steps : List StepModel) (o : Option ℕ) → node_at steps o [] ≡ o
+node_at-end steps None = refl
+node_at-end steps (Some node) = refl
+
+-- a path with one step more
+pub node_at-step : (steps : List StepModel) (o : Option ℕ) (path : PropertyPath) (name : List ℕ) (node : ℕ) → node_at steps o path ≡ Some node
+    → node_at steps o (path ++ name ∷ []) ≡ next_node steps node name
+node_at-step steps o path name node is =
+    node_at-append steps o path (name ∷ []) ∙ ap (λ at. node_at steps at (name ∷ [])) is ∙ node_at-end steps (next_node steps node name)
+
+-- ---- the way back
+
+pub leads_back : (steps : List StepModel) (seen : PropertyPath) (node : ℕ) (path : PropertyPath) (last : ℕ) → LeadsBack steps seen node → node_at steps (Some node) path ≡ Some last
+    → LeadsBack steps (onto path seen) last
+leads_back steps seen node [] last back is = let same : node ≡ last = cc in subst (LeadsBack steps seen) same back
+leads_back steps seen node (name ∷ path) last back is = by (next_node steps node name) refl is (λ next. leads_back steps (name ∷ seen) next path last)
+  where
+    by : (o : Option ℕ) → next_node steps node name ≡ o → node_at steps o path ≡ Some last
+        → ((next : ℕ) → LeadsBack steps (name ∷ seen) next → node_at steps (Some next) path ≡ Some last → LeadsBack steps (onto path (name ∷ seen)) last)
+        → LeadsBack steps (onto path (name ∷ seen)) last
+    by None none there further = absurd (cc)
+    by (Some next) found there further =
+        let at = found_at 0 steps node name next found in
+        let leads : next ≡ suc at.index = omega (arith, at.leads) in
+        let back_there : LeadsBack steps seen at.step.before = subst (LeadsBack steps seen) (sym at.starts) back in
+        further next (record { k = at.index; step = at.step; stands_at = at.stands_at; leads = leads; named = at.named; before = back_there }) there
+
+pub path_leads_back : (steps : List StepModel) (path : PropertyPath) (node : ℕ) → LeadsTo steps path node → LeadsBack steps (onto path []) node
+path_leads_back steps path node leads = leads_back steps [] 0 path node refl leads
+
+one_way_back : (steps : List StepModel) (xs ys : PropertyPath) (node : ℕ) → LeadsBack steps xs node → LeadsBack steps ys node → xs ≡ ys
+one_way_back steps [] [] node a b = refl
+one_way_back steps [] (y ∷ ys) node a b = let none : 0 ≡ suc b.k = sym a ∙ b.leads in absurd (cc)
+one_way_back steps (x ∷ xs) [] node a b = let none : 0 ≡ suc a.k = sym b ∙ a.leads in absurd (cc)
+one_way_back steps (x ∷ xs) (y ∷ ys) node a b =
+    let indexes : suc a.k ≡ suc b.k = sym a.leads ∙ b.leads in
+    let index : a.k ≡ b.k = cc in
+    let steps_same : Some a.step ≡ Some b.step = sym a.stands_at ∙ ap (slice_get steps) index ∙ b.stands_at in
+    let same : a.step ≡ b.step = cc in
+    let name : x ≡ y = sym a.named ∙ ap (λ s. s.name) same ∙ b.named in
+    let rest : xs ≡ ys = one_way_back steps xs ys b.step.before (subst (λ (s : StepModel). LeadsBack steps xs s.before) same a.before) b.before in
+    λ j. name j ∷ rest j
+
+-- one path leads to a node
+pub one_path : (steps : List StepModel) (p q : PropertyPath) (node : ℕ) → LeadsTo steps p node → LeadsTo steps q node → p ≡ q
+one_path steps p q node a b =
+    sym (onto_back p)
+    ∙ ap (λ names. onto names []) (one_way_back steps (onto p []) (onto q []) node (path_leads_back steps p node a) (path_leads_back steps q node b))
+    ∙ onto_back q
+
+-- a path leads to each node
+pub path_to : (steps : List StepModel) → AreSteps steps → (fuel node : ℕ) → node ≤ fuel → node ≤ length steps → (path : PropertyPath) × LeadsTo steps path node
+path_to steps kept fuel zero small within = ([], refl)
+path_to steps kept zero (suc k) small within = absurd (omega arith)
+path_to steps kept (suc fuel) (suc k) small within =
+    let at : (step : StepModel) × (slice_get steps k ≡ Some step) = item_there steps k (omega arith) in
+    let below : at.0.before ≤ k = kept.starts k at.0 at.1 in
+    let way = path_to steps kept fuel at.0.before (omega arith) (omega arith) in
+    (way.0 ++ at.0.name ∷ [], node_at-step steps (Some 0) way.0 at.0.name at.0.before way.1 ∙ kept.found k at.0 at.1)
+
+-- what a further name leads to from the node of a path that is found backward
+pub next_on : (steps : List StepModel) (o : Option ℕ) (names : PropertyPath) (name : List ℕ) → o ≡ node_at steps (Some 0) (onto names [])
+    → node_at steps o (name ∷ []) ≡ node_at steps (Some 0) (onto (name ∷ names) [])
+next_on steps o names name is =
+    ap (λ at. node_at steps at (name ∷ [])) is
+    ∙ sym (node_at-append steps (Some 0) (onto names []) (name ∷ []))
+    ∙ ap (node_at steps (Some 0)) (sym (onto-append names [] (name ∷ [])))
+
+-- ---- nodes of other steps
+
+pub step_got : (steps : List Step) (k : ℕ) (step : Step) → k < length steps → step ≡ get_or steps k step → slice_get (map step_model steps) k ≡ Some (step_model step)
+step_got steps k step within is = slice_get-map step_model steps k ∙ ap (option_map step_model) (slice_get_read steps (length steps) k step refl within is)
+
+-- the start has the empty path alone
+pub start_back : (other own : List StepModel) (node : ℕ) → node ≡ 0 → (names : PropertyPath) → LeadsBack other names node → Some 0 ≡ node_at own (Some 0) (onto names [])
+start_back other own node start [] back = refl
+start_back other own node start (name ∷ names) back = let none : 0 ≡ suc back.k = sym start ∙ back.leads in absurd (cc)
+
+-- the path of a node is that of the node that its step starts from, and the step's name
+pub node_back : (other own : List StepModel) (node k : ℕ) (step : StepModel) (before : Option ℕ) → node ≡ suc k → slice_get other k ≡ Some step
+    → ((names : PropertyPath) → LeadsBack other names step.before → before ≡ node_at own (Some 0) (onto names []))
+    → (names : PropertyPath) → LeadsBack other names node → node_at own before (step.name ∷ []) ≡ node_at own (Some 0) (onto names [])
+node_back other own node k step before is at rest [] back = let none : 0 ≡ suc k = sym back ∙ is in absurd (cc)
+node_back other own node k step before is at rest (name ∷ names) back =
+    let indexes : suc back.k ≡ suc k = sym back.leads ∙ is in
+    let index : back.k ≡ k = cc in
+    let both : Some back.step ≡ Some step = sym back.stands_at ∙ ap (slice_get other) index ∙ at in
+    let same : back.step ≡ step = cc in
+    let named : step.name ≡ name = ap (λ s. s.name) (sym same) ∙ back.named in
+    ap (λ n. node_at own before (n ∷ [])) named ∙ next_on own before names name (rest names (subst (λ (s : StepModel). LeadsBack other names s.before) same back.before))
+
+-- a node past the steps has no path
+pub nowhere_back : (other own : List StepModel) (node : ℕ) → (node ≡ 0 → ⊥) → length other ≤ node - 1 → (names : PropertyPath) → LeadsBack other names node
+    → None ≡ node_at own (Some 0) (onto names [])
+nowhere_back other own node some past [] back = absurd (some back)
+nowhere_back other own node some past (name ∷ names) back =
+    let there = within_list other back.k back.step back.stands_at in
+    let leads : node ≡ suc back.k = back.leads in
+    absurd (omega arith)
+
+-- a path is in the set if its node is needed
+pub path_needed : (own : List StepModel) (o : Option ℕ) (path : PropertyPath) → o ≡ node_at own (Some 0) path → needed_if own o ≡ paths_in own path
+path_needed own o path is = ap (needed_if own) is ∙ sym (paths_by_node own (Some 0) path)
+
+-- ---- all paths
+
+pub not_covered : (own other : List StepModel) → AreSteps other → (node : ℕ) → node ≤ length other → is_needed_at other node ≡ true
+    → ((names : PropertyPath) → LeadsBack other names node → false ≡ paths_in own (onto names [])) → Covers (paths_in own) (paths_in other) → ⊥
+not_covered own other kept node within needed outside all =
+    let enough : node ≤ node = omega arith in
+    let way = path_to other kept node node enough within in
+    let inside : paths_in other way.0 ≡ true = paths_by_node other (Some 0) way.0 ∙ ap (needed_if other) way.1 ∙ needed in
+    let out : false ≡ paths_in own way.0 = outside (onto way.0 []) (path_leads_back other way.0 node way.1) ∙ ap (paths_in own) (onto_back way.0) in
+    not_both (paths_in own way.0) (sym out) (all way.0 inside)
+
+pub all_covered : (own other : List StepModel)
+    → ((k : ℕ) → k < length other → is_needed_at other (suc k) ≡ true → (names : PropertyPath) → LeadsBack other names (suc k) → paths_in own (onto names []) ≡ true)
+    → Covers (paths_in own) (paths_in other)
+all_covered own other all path inside = by (node_at other (Some 0) path) refl (sym (paths_by_node other (Some 0) path) ∙ inside)
+  where
+    there : (o : Option StepModel) (k : ℕ) → slice_get other k ≡ o → is_needed_step o ≡ true → k < length other
+    there None k is needed = absurd (true≢false (sym needed))
+    there (Some step) k is needed = within_list other k step is
+
+    by : (o : Option ℕ) → node_at other (Some 0) path ≡ o → needed_if other o ≡ true → paths_in own path ≡ true
+    by None is needed = absurd (true≢false (sym needed))
+    by (Some zero) is needed = absurd (true≢false (sym needed))
+    by (Some (suc k)) is needed =
+        ap (paths_in own) (sym (onto_back path)) ∙ all k (there (slice_get other k) k refl needed) needed (onto path []) (path_leads_back other path (suc k) is)
+
+-- the paths to the first nodes are in the set, if they are in the other
+abbrev pub AreIn : List StepModel → List StepModel → ℕ → Type 0
+AreIn own other count =
+    (k : ℕ) → k < count → is_needed_at other (suc k) ≡ true → (names : PropertyPath) → LeadsBack other names (suc k) → paths_in own (onto names []) ≡ true
+
+-- and that to the next one
+pub one_more_in : (own other : List StepModel) (count next : ℕ) → next ≡ count + 1 → AreIn own other count
+    → (is_needed_at other next ≡ true → (names : PropertyPath) → LeadsBack other names next → true ≡ paths_in own (onto names [])) → AreIn own other next
+one_more_in own other count next is before here k below needed names back = by (nat_lt k count) refl
+  where
+    by : (b : Bool) → nat_lt k count ≡ b → paths_in own (onto names []) ≡ true
+    by true less = before k (ltb-true k count less) needed names back
+    by false more =
+        let least : count ≤ k = ltb-false k count more in
+        let same : suc k ≡ next = omega arith in
+        sym (here (subst (λ n. is_needed_at other n ≡ true) same needed) names (subst (LeadsBack other names) same back))
+
+pub truth_of : (b : Bool) → (b ≡ false → ⊥) → b ≡ true
+truth_of true some = refl
+truth_of false some = absurd (some refl)
+
+-- a path with a further name leads on
+pub leads_on : (steps : List StepModel) (path : PropertyPath) (node : ℕ) (name : List ℕ) (next : ℕ) → LeadsTo steps path node → next_node steps node name ≡ Some next
+    → LeadsTo steps (path ++ name ∷ []) next
+leads_on steps path node name next leads is = node_at-step steps (Some 0) path name node leads ∙ is

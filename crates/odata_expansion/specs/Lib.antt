@@ -1,0 +1,3 @@
+pub mod PathSet
+pub mod ExpansionView
+pub mod private

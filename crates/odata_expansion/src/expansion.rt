@@ -1,0 +1,127 @@
+ghost use Rattle.std.specs.Prelude.{◌≡◌, ◌≤◌, ◌↔◌, false, length, map, IfOk, IsTrue, OnErr, OnOk};
+ghost use Rattle.odata_expansion.specs.PathSet.{PropertyPath, Covers, with_path};
+ghost use Rattle.odata_expansion.specs.ExpansionView.{is_needed_at, next_node, paths_in};
+ghost use Rattle.odata_expansion.specs.private.StepView.{IsStep, KeepsPaths, marked};
+
+use super::steps::{Step, copy_steps, covers, is_marked, next_of};
+use std::alloc::{AllocError, Global};
+use std::marker::Model;
+
+/// A set of property paths, as steps that they share.
+#[derive(Drop)]
+pub struct Expansion {
+    pub(crate) alloc: Global,
+    pub(crate) steps: Vec<Step>,
+}
+
+impl Model for Expansion {
+    ghost use Rattle.std.specs.Prelude.{List};
+    ghost use Rattle.odata_expansion.specs.ExpansionView.{StepModel};
+
+    ghost Value = { List StepModel };
+
+    ghost use Rattle.odata_expansion.specs.private.StepView.{steps_model, AreKeptSteps};
+
+    ghost view = { steps_model };
+
+    ghost invariant = { AreKeptSteps };
+}
+
+impl Expansion {
+    /// The set without paths.
+    pub fn none(alloc: Global) -> Expansion
+        ensures { (path : PropertyPath) → paths_in result path ≡ false }
+    {
+        Expansion {
+            alloc,
+            steps: Vec::new(alloc),
+        }
+    }
+
+    /// Whether the path of these names is in the set. The empty path never is.
+    pub fn needs(&self, path: &[&str]) -> bool
+        ensures { result ≡ paths_in self.now (map (λ name. name.now) path.now) }
+    {
+        let mut node = 0;
+        for name in path {
+            match self.next_node(node, *name) {
+                Some(next) => node = next,
+                None => return false,
+            }
+        }
+        self.is_needed(node)
+    }
+
+    /// Whether each path of the other set is in this one.
+    pub fn covers(&self, other: &Expansion) -> bool
+        ensures { IsTrue result ↔ Covers (paths_in self.now) (paths_in other.now) }
+    {
+        covers(self.steps.as_slice(), other.steps.as_slice())
+    }
+
+    /// Puts the path of these names into the set. The empty path, and one that is in the set, change nothing; nor does a
+    /// refusal, which is want of memory.
+    pub fn add(&mut self, path: &[&str]) -> Result<(), AllocError>
+        ensures added { OnOk result ((asked : PropertyPath) → paths_in self.new asked
+            ≡ with_path (paths_in self.old) (map (λ name. name.now) path.now) asked) }
+        ensures refused { OnErr result ((asked : PropertyPath) → paths_in self.new asked ≡ paths_in self.old asked) }
+    {
+        let mut node = 0;
+        for name in path {
+            node = self.step_on(node, *name)?;
+        }
+        self.mark(node);
+        Ok(())
+    }
+
+    /// The same set again.
+    pub fn copy(&self, alloc: Global) -> Result<Expansion, AllocError>
+        ensures { IfOk result (λ copy. copy ≡ self.now) }
+    {
+        let steps = copy_steps(alloc, self.steps.as_slice())?;
+        Ok(Expansion { alloc, steps })
+    }
+
+    /// The node to which the step of that name leads from a node, the start being node 0. Where it answers none, no path of
+    /// the set goes on there.
+    pub fn next_node(&self, node: usize, name: &str) -> Option<usize>
+        ensures { result ≡ next_node self.now node name.now }
+    {
+        next_of(self.steps.as_slice(), node, name)
+    }
+
+    /// Whether the path to a node is in the set.
+    pub fn is_needed(&self, node: usize) -> bool
+        ensures { result ≡ is_needed_at self.now node }
+    {
+        is_marked(self.steps.as_slice(), node)
+    }
+
+    /// The node to which a step of that name leads, which is put there where there is none. The set stays as it is.
+    fn step_on(&mut self, node: usize, name: &str) -> Result<usize, AllocError>
+        requires { node ≤ length self.old }
+        ensures step { IfOk result (λ next. IsStep self.new node name.now next) }
+        ensures kept { KeepsPaths self.old self.new }
+    {
+        if let Some(next) = self.next_node(node, name) {
+            return Ok(next);
+        }
+        let name = name.to_owned(self.alloc)?;
+        self.steps.push(Step {
+            before: node,
+            name,
+            needed: false,
+        })?;
+        Ok(self.steps.len())
+    }
+
+    /// Puts the path to a node into the set; that to the start is in none.
+    fn mark(&mut self, node: usize)
+        requires { node ≤ length self.old }
+        ensures { self.new ≡ marked node self.old }
+    {
+        if node > 0 {
+            self.steps[node - 1].needed = true;
+        }
+    }
+}
