@@ -3,6 +3,7 @@ pub mod Leads
 pub mod Leaves
 pub mod NumberTexts
 pub mod Parts
+pub mod Plans
 pub mod SlotNames
 pub mod SlotsRead
 pub mod Tokens

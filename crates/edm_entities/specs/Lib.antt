@@ -20,6 +20,7 @@ pub mod Fits
 pub mod FitsPrimitive
 pub mod HasType
 pub mod HoldsEachSlot
+pub mod Plans
 pub mod Row
 pub mod RowFaults
 pub mod RowReading

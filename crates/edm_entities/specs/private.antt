@@ -2,6 +2,7 @@
 pub mod Faults
 pub mod Lent
 pub mod Members
+pub mod NextMember
 pub mod RowTokens
 pub mod Scalars
 pub mod SlotsSoFar

@@ -2,13 +2,16 @@ ghost use Rattle.std.specs.Prelude.{◌≡◌, Some, IsSome, IfSome};
 ghost use Rattle.serde_json.specs.Data.{Data};
 ghost use Rattle.serde_json.specs.Find.{as_object};
 ghost use Rattle.serde_json.specs.Read.{read};
-ghost use Rattle.csdl_schema.specs.SchemaModel.{HasDistinctNames, HoldsType, properties_at, slots_of};
+ghost use Rattle.csdl_schema.specs.SchemaModel.{HasDistinctNames, properties_at, slots_of};
+ghost use Rattle.edm_entities.specs.Plans.{ArePlans, IsPlanOf};
 ghost use Rattle.edm_entities.specs.RowReading.{IsLineOf};
 ghost use Rattle.edm_entities.specs.private.Walk.{FitSlots};
 
 use super::entity::Entity;
 use super::row_cache::RowCache;
-use super::row_walk::take_members;
+use super::row_plan::RowPlan;
+use super::row_walk::{RowScene, take_members};
+use super::type_plan::{TypePlan, plan_at};
 use csdl_schema::{Schema, TypeId};
 use edm_values::Value;
 use json_tokens::TokenReader;
@@ -40,23 +43,29 @@ impl RowReader {
         }
     }
 
-    /// Reads a line as an entity of that type. Where it answers none, the line may still be one: `Entity::from_json` says
-    /// what is wrong with it, if anything is.
+    /// What it takes memory from.
+    pub fn allocator(&self) -> Global {
+        self.cache.alloc
+    }
+
+    /// Reads a line as an entity of the plan's type. Where it answers none, the line may still be one:
+    /// `Entity::from_json` says what is wrong with it, if anything is.
     pub fn read<'s>(
         &mut self,
         schema: &'s Schema,
-        type_id: TypeId,
+        plan: &RowPlan,
         line: &[u8],
     ) -> Option<Entity<'s>>
-        requires { HoldsType schema.now type_id }
-        ensures of_type { IfSome result (λ e. (e.schema ≡ schema.now) × (e.type_id ≡ type_id)) }
+        requires { IsPlanOf schema.now plan.now }
+        ensures of_type { IfSome result (λ e. (e.schema ≡ schema.now) × (e.type_id ≡ plan.now.type_id)) }
         ensures row { IfSome result (IsLineOf line.now) }
     {
         let Ok(text) = str::from_utf8(line) else {
             return None;
         };
-        match take_row(&mut self.cache, schema, type_id, text) {
-            Some(values) => Some(Entity::from_values(schema, type_id, values)),
+        let plans = plan.plans.as_slice();
+        match take_row(&mut self.cache, schema, plans, plan.type_id, text) {
+            Some(values) => Some(Entity::from_values(schema, plan.type_id, values)),
             None => None,
         }
     }
@@ -72,18 +81,28 @@ impl RowReader {
 fn take_row(
     cache: &mut RowCache,
     schema: &Schema,
+    plans: &[TypePlan],
     type_id: TypeId,
     text: &str,
 ) -> Option<Vec<Value>>
+    requires { ArePlans schema.now plans.now }
     ensures distinct { IfSome result (λ _. HasDistinctNames (properties_at schema.now type_id)) }
     ensures fits { IfSome result (λ values. (json : Data) × (read text.now ≡ Some json) × IsSome (as_object json)
         × FitSlots (slots_of schema.now) json (properties_at schema.now type_id) values.items) }
 {
+    let Some(plan) = plan_at(plans, 0, type_id) else {
+        return None;
+    };
     let mut reader = TokenReader::new(text);
     if !reader.take_begin_object() {
         return None;
     }
-    let Some(values) = take_members(cache, schema, type_id, &mut reader, DEPTH - 1) else {
+    let scene = RowScene {
+        schema,
+        plans,
+        depth: DEPTH - 1,
+    };
+    let Some(values) = take_members(cache, &scene, plan, &mut reader) else {
         return None;
     };
     if reader.is_at_end() {

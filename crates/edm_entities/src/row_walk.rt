@@ -1,87 +1,112 @@
 //! The walk over a row's tokens, straight into the slots of its type. It ends where the row fits no value, and where
 //! memory is wanting.
-ghost use Rattle.std.specs.Prelude.{◌≡◌, ◌≢◌, ◌<◌, ℕ, List, length, true, false, Some, IsTrue, IfSome, MatchOption};
-ghost use Rattle.std.specs.List.{AllByRecursion};
+ghost use Rattle.std.specs.Prelude.{◌≡◌, ℕ, List, length, true, false, Some, None, IsTrue, IfSome};
+ghost use Rattle.json.specs.Json.{read_key};
 ghost use Rattle.serde_json.specs.Data.{object, put, Members};
 ghost use Rattle.csdl_schema.specs.ExprType.{single, collection, structured};
 ghost use Rattle.csdl_schema.specs.PropertyView.{property_type};
-ghost use Rattle.csdl_schema.specs.SchemaModel.{HasDistinctNames, properties_at, slots_of, type_name_at};
+ghost use Rattle.csdl_schema.specs.SchemaModel.{properties_at, slots_of, type_name_at};
 ghost use Rattle.edm_entities.specs.Fits.{FitsProperty};
 ghost use Rattle.edm_entities.specs.HoldsEachSlot.{HoldsEachSlot};
 ghost use Rattle.edm_entities.specs.Row.{field_of, val_of};
+ghost use Rattle.edm_entities.specs.private.NextMember.{ReadsMember};
+ghost use Rattle.edm_entities.specs.Plans.{ArePlans, IsPlan};
 ghost use Rattle.edm_entities.specs.private.RowTokens.{Reads, ReadsItems, ReadsMembers, FitsNullable, FitsHoweverNullable};
-ghost use Rattle.edm_entities.specs.private.SlotsSoFar.{SlotsSoFar, IsSlotNamed};
+ghost use Rattle.edm_entities.specs.private.SlotsSoFar.{SlotsSoFar};
 ghost use Rattle.edm_entities.specs.private.Walk.{FitList, FitSlots, HoldsInSlot, HoldInItems, wanted_single};
 
-use super::lent_piece::first_piece;
 use super::row_cache::RowCache;
 use super::row_leaf::{take_enumeration, take_primitive};
+use super::row_member::{Member, next_member};
 use super::row_skip::skip_value;
-use super::row_slots::{if_filled, null_slots, slot_of_name};
+use super::row_slots::{if_filled, null_slots};
+use super::type_plan::{SlotPlan, TypePlan, plan_at};
 use super::wanted::{Wanted, wanted_as};
-use csdl_schema::{Property, Schema, TypeId};
+use csdl_schema::Schema;
 use edm_values::Value;
 use json_tokens::TokenReader;
+
+/// What a walk goes by: the types, and how deep values may nest. It is lent, and made anew one level down.
+#[derive(Drop)]
+pub(crate) struct RowScene<'w> {
+    pub(crate) schema: &'w Schema,
+    pub(crate) plans: &'w [TypePlan],
+    pub(crate) depth: usize,
+}
+
+/// What one value is read as, alone or as an item.
+#[derive(Drop)]
+struct OneValue {
+    wanted: Wanted,
+    nullable: bool,
+    /// Where the plan of its complex type is to be.
+    record: usize,
+}
 
 /// The values of the properties of a type in slot order, from an object's members and its closing brace.
 #[cycle(row)]
 pub(crate) fn take_members(
     cache: &mut RowCache,
-    schema: &Schema,
-    type_id: TypeId,
+    scene: &RowScene<'_>,
+    plan: &TypePlan,
     reader: &mut TokenReader<'_>,
-    depth: usize,
 ) -> Option<Vec<Value>>
-    ensures distinct { IfSome result (λ _. HasDistinctNames (properties_at schema.now type_id)) }
-    ensures fits { IfSome result (λ values. ReadsMembers depth reader.old reader.new
-        (λ found. FitSlots (slots_of schema.now) (object found) (properties_at schema.now type_id) values.items)) }
+    requires plans { ArePlans scene.now.schema.now scene.now.plans.now }
+    requires plan { IsPlan scene.now.schema.now plan.now }
+    ensures { IfSome result (λ values. ReadsMembers scene.now.depth reader.old reader.new (λ found. FitSlots
+        (slots_of scene.now.schema.now) (object found) (properties_at scene.now.schema.now plan.now.type_id)
+        values.items)) }
 {
-    let Some(mut values) = null_slots(cache, schema.slots(type_id)) else {
+    let Some(mut values) = null_slots(cache, plan.slots.len()) else {
         return None;
     };
-    cache.order.begin(values.len());
-    let mut lent = first_piece(schema, type_id);
+    cache.order.begin(plan.slots.len());
     'members: loop {
-        let Ok(key) = reader.next_key(&mut cache.scratch) else {
+        let Some(more) = take_member(cache, scene, plan, reader, &mut values) else {
             return None;
         };
-        let Some(name) = key else {
-            return if_filled(&mut lent, schema, type_id, values);
-        };
-        let found = slot_of_name(&cache.order, &mut lent, schema, type_id, values.len(), name);
-        if !take_member(cache, schema, found, reader, depth, &mut values) {
-            return None;
+        if !more {
+            return if_filled(plan, values);
         }
     }
 }
 
-/// Reads a member's value into the slot of its name, if there is one.
+/// Reads a member's value into the slot of its name, if there is one: true. At the closing brace false, and where the
+/// member is none none.
 #[cycle(row)]
 fn take_member(
     cache: &mut RowCache,
-    schema: &Schema,
-    found: Option<(usize, &Property)>,
+    scene: &RowScene<'_>,
+    plan: &TypePlan,
     reader: &mut TokenReader<'_>,
-    depth: usize,
     values: &mut Vec<Value>,
-) -> bool
-    requires { IfSome found (λ at. at.0 < length values.old.items) }
-    ensures { (id : ℕ) (name : List ℕ) → MatchOption found.entry (AllByRecursion (λ p. p.name ≢ name) (properties_at schema.now id))
-        (λ at. IsSlotNamed schema.now id name at.0 at.1.now)
-        → IsTrue result → Reads depth reader.old reader.new (λ json. (found : Members)
-        → HasDistinctNames (properties_at schema.now id) → SlotsSoFar schema.now id found values.old.items
-        → SlotsSoFar schema.now id (put name json found) values.new.items) }
+) -> Option<bool>
+    requires plans { ArePlans scene.now.schema.now scene.now.plans.now }
+    requires plan { IsPlan scene.now.schema.now plan.now }
+    requires count { length values.old.items ≡ length plan.now.slots.items }
+    ensures member { result ≡ Some true → ReadsMember scene.now.depth reader.old reader.new (λ name json.
+        (found : Members) → SlotsSoFar scene.now.schema.now plan.now.type_id found values.old.items
+        → SlotsSoFar scene.now.schema.now plan.now.type_id (put name json found) values.new.items) }
+    ensures end { result ≡ Some false
+        → (read_key reader.old ≡ Some (None, reader.new)) × (values.new ≡ values.old) }
 {
-    match found {
-        Some((slot, property)) => {
-            cache.order.note(slot);
-            if !take_property(cache, schema, *property, reader, depth, &mut values[slot]) {
-                return false;
+    let Some(member) = next_member(cache, scene.schema, plan, reader) else {
+        return None;
+    };
+    match member {
+        Member::OfSlot(slot) => {
+            if !take_property(cache, scene, &plan.slots[slot], reader, &mut values[slot]) {
+                return None;
             }
-            cache.order.pass(values.len(), slot);
-            true
+            cache.order.pass(plan.slots.len(), slot);
+            Some(true)
         }
-        None => skip_value(&mut cache.scratch, reader, depth),
+        Member::Other => if skip_value(&mut cache.scratch, reader, scene.depth) {
+            Some(true)
+        } else {
+            None
+        },
+        Member::End => Some(false),
     }
 }
 
@@ -89,42 +114,32 @@ fn take_member(
 #[cycle(row)]
 fn take_property(
     cache: &mut RowCache,
-    schema: &Schema,
-    property: Property,
+    scene: &RowScene<'_>,
+    plan: &SlotPlan,
     reader: &mut TokenReader<'_>,
-    depth: usize,
     place: &mut Value,
 ) -> bool
-    ensures read { IsTrue result → Reads depth reader.old reader.new (λ json. FitsProperty (slots_of schema.now)
-        property.nullable (property_type schema.now property) (Some json)
-        (field_of (slots_of schema.now) (property_type schema.now property) (val_of place.new))) }
-    ensures holds { IsTrue result
-        → HoldsInSlot (slots_of schema.now) (property_type schema.now property) place.new }
+    requires { ArePlans scene.now.schema.now scene.now.plans.now }
+    ensures read { IsTrue result → Reads scene.now.depth reader.old reader.new (λ json. FitsProperty
+        (slots_of scene.now.schema.now) plan.now.property.nullable
+        (property_type scene.now.schema.now plan.now.property) (Some json) (field_of (slots_of scene.now.schema.now)
+        (property_type scene.now.schema.now plan.now.property) (val_of place.new))) }
+    ensures holds { IsTrue result → HoldsInSlot (slots_of scene.now.schema.now)
+        (property_type scene.now.schema.now plan.now.property) place.new }
 {
-    let Some(wanted) = wanted_as(property.kind) else {
+    let Some(wanted) = wanted_as(plan.property.kind) else {
         *place = Value::Null;
-        return skip_value(&mut cache.scratch, reader, depth);
+        return skip_value(&mut cache.scratch, reader, scene.depth);
     };
-    if property.many {
-        take_array(
-            cache,
-            schema,
-            &wanted,
-            property.nullable,
-            reader,
-            depth,
-            place,
-        )
+    let one = OneValue {
+        wanted,
+        nullable: plan.property.nullable,
+        record: plan.record,
+    };
+    if plan.property.many {
+        take_array(cache, scene, &one, reader, place)
     } else {
-        take_single(
-            cache,
-            schema,
-            &wanted,
-            property.nullable,
-            reader,
-            depth,
-            place,
-        )
+        take_single(cache, scene, &one, reader, place)
     }
 }
 
@@ -132,25 +147,28 @@ fn take_property(
 #[cycle(row)]
 fn take_single(
     cache: &mut RowCache,
-    schema: &Schema,
-    wanted: &Wanted,
-    nullable: bool,
+    scene: &RowScene<'_>,
+    one: &OneValue,
     reader: &mut TokenReader<'_>,
-    depth: usize,
     place: &mut Value,
 ) -> bool
-    ensures read { IsTrue result → Reads depth reader.old reader.new (FitsNullable (slots_of schema.now) nullable
-        nullable (single (wanted_single schema.now wanted.now)) place.new) }
-    ensures holds { IsTrue result
-        → HoldsEachSlot place.new (slots_of schema.now) (single (wanted_single schema.now wanted.now)) }
+    requires { ArePlans scene.now.schema.now scene.now.plans.now }
+    ensures read { IsTrue result → Reads scene.now.depth reader.old reader.new (FitsNullable
+        (slots_of scene.now.schema.now) one.now.nullable one.now.nullable
+        (single (wanted_single scene.now.schema.now one.now.wanted)) place.new) }
+    ensures holds { IsTrue result → HoldsEachSlot place.new (slots_of scene.now.schema.now)
+        (single (wanted_single scene.now.schema.now one.now.wanted)) }
 {
     if reader.take_null() {
-        return put_null(nullable, place);
+        return put_null(one.nullable, place);
     }
-    match *wanted {
-        Wanted::Complex(id) => take_record(cache, schema, id, reader, depth, place),
+    match one.wanted {
+        Wanted::Complex(id) => match plan_at(scene.plans, one.record, id) {
+            Some(plan) => take_record(cache, scene, plan, reader, place),
+            None => false,
+        },
         Wanted::Prim(prim) => take_primitive(cache, prim, reader, place),
-        Wanted::Enum(id) => take_enumeration(&mut cache.scratch, schema, id, reader, place),
+        Wanted::Enum(id) => take_enumeration(&mut cache.scratch, scene.schema, id, reader, place),
     }
 }
 
@@ -166,21 +184,28 @@ fn put_null(nullable: bool, place: &mut Value) -> bool
 #[cycle(row)]
 fn take_record(
     cache: &mut RowCache,
-    schema: &Schema,
-    id: TypeId,
+    scene: &RowScene<'_>,
+    plan: &TypePlan,
     reader: &mut TokenReader<'_>,
-    depth: usize,
     place: &mut Value,
 ) -> bool
-    ensures read { IsTrue result → Reads depth reader.old reader.new
-        (FitsHoweverNullable (slots_of schema.now) (single (structured (type_name_at schema.now id))) place.new) }
-    ensures holds { IsTrue result
-        → HoldsEachSlot place.new (slots_of schema.now) (single (structured (type_name_at schema.now id))) }
+    requires plans { ArePlans scene.now.schema.now scene.now.plans.now }
+    requires plan { IsPlan scene.now.schema.now plan.now }
+    ensures read { IsTrue result → Reads scene.now.depth reader.old reader.new (FitsHoweverNullable
+        (slots_of scene.now.schema.now) (single (structured (type_name_at scene.now.schema.now plan.now.type_id)))
+        place.new) }
+    ensures holds { IsTrue result → HoldsEachSlot place.new (slots_of scene.now.schema.now)
+        (single (structured (type_name_at scene.now.schema.now plan.now.type_id))) }
 {
-    if depth == 0 || !reader.take_begin_object() {
+    if scene.depth == 0 || !reader.take_begin_object() {
         return false;
     }
-    match take_members(cache, schema, id, reader, depth - 1) {
+    let inner = RowScene {
+        schema: scene.schema,
+        plans: scene.plans,
+        depth: scene.depth - 1,
+    };
+    match take_members(cache, &inner, plan, reader) {
         Some(values) => {
             *place = Value::Record(values);
             true
@@ -193,22 +218,27 @@ fn take_record(
 #[cycle(row)]
 fn take_array(
     cache: &mut RowCache,
-    schema: &Schema,
-    wanted: &Wanted,
-    nullable: bool,
+    scene: &RowScene<'_>,
+    one: &OneValue,
     reader: &mut TokenReader<'_>,
-    depth: usize,
     place: &mut Value,
 ) -> bool
-    ensures read { IsTrue result → Reads depth reader.old reader.new (FitsNullable (slots_of schema.now) false
-        nullable (collection (wanted_single schema.now wanted.now)) place.new) }
-    ensures holds { IsTrue result
-        → HoldsEachSlot place.new (slots_of schema.now) (collection (wanted_single schema.now wanted.now)) }
+    requires { ArePlans scene.now.schema.now scene.now.plans.now }
+    ensures read { IsTrue result → Reads scene.now.depth reader.old reader.new (FitsNullable
+        (slots_of scene.now.schema.now) false one.now.nullable
+        (collection (wanted_single scene.now.schema.now one.now.wanted)) place.new) }
+    ensures holds { IsTrue result → HoldsEachSlot place.new (slots_of scene.now.schema.now)
+        (collection (wanted_single scene.now.schema.now one.now.wanted)) }
 {
-    if depth == 0 || !reader.take_begin_array() {
+    if scene.depth == 0 || !reader.take_begin_array() {
         return false;
     }
-    match take_items(cache, schema, wanted, nullable, reader, depth - 1) {
+    let inner = RowScene {
+        schema: scene.schema,
+        plans: scene.plans,
+        depth: scene.depth - 1,
+    };
+    match take_items(cache, &inner, one, reader) {
         Some(values) => {
             *place = Value::List(values);
             true
@@ -221,21 +251,21 @@ fn take_array(
 #[cycle(row)]
 fn take_items(
     cache: &mut RowCache,
-    schema: &Schema,
-    wanted: &Wanted,
-    nullable: bool,
+    scene: &RowScene<'_>,
+    one: &OneValue,
     reader: &mut TokenReader<'_>,
-    depth: usize,
 ) -> Option<Vec<Value>>
-    ensures read { IfSome result (λ values. ReadsItems depth reader.old reader.new
-        (λ jsons. FitList (slots_of schema.now) nullable (wanted_single schema.now wanted.now) jsons values.items)) }
-    ensures holds { IfSome result
-        (λ values. HoldInItems (slots_of schema.now) (wanted_single schema.now wanted.now) values.items) }
+    requires { ArePlans scene.now.schema.now scene.now.plans.now }
+    ensures read { IfSome result (λ values. ReadsItems scene.now.depth reader.old reader.new (λ jsons. FitList
+        (slots_of scene.now.schema.now) one.now.nullable (wanted_single scene.now.schema.now one.now.wanted) jsons
+        values.items)) }
+    ensures holds { IfSome result (λ values. HoldInItems (slots_of scene.now.schema.now)
+        (wanted_single scene.now.schema.now one.now.wanted) values.items) }
 {
     let mut values = cache.list();
     'items: while !reader.take_end_array() {
         let mut item = Value::Null;
-        if !take_single(cache, schema, wanted, nullable, reader, depth, &mut item) {
+        if !take_single(cache, scene, one, reader, &mut item) {
             return None;
         }
         if values.push(item).is_err() {

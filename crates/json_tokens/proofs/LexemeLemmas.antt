@@ -55,7 +55,7 @@ taken_plain d i n room h k low high =
     let there : get_or (take n (drop i d)) k 0 ≡ get_or d (i + k) 0 = get_or-take n (drop i d) k 0 (omega arith) ∙ get_or-drop i d k 0 in
     ap is_plain there ∙ h (i + k) (omega arith) (omega arith)
 
-quoted_lexed : (s r : List ℕ) → escape s ≡ s → lex between (34 ∷ (s ++ 34 ∷ r)) ≡ token (string s) ∷ lex between r
+pub quoted_lexed : (s r : List ℕ) → escape s ≡ s → lex between (34 ∷ (s ++ 34 ∷ r)) ≡ token (string s) ∷ lex between r
 unfolding lex
 quoted_lexed s r same =
     ap₂ (λ o l. token (string_token o) ∷ l) (ap (λ e. content plain (e ++ 34 ∷ r)) (sym same) ∙ content-escape s r)

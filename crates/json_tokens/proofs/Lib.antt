@@ -1,3 +1,4 @@
 pub mod EscapeLemmas
+pub mod KeyLemmas
 pub mod LexemeLemmas
 mod StopLemmas

@@ -7,9 +7,10 @@ ghost use Rattle.json.specs.Run.{is_stop};
 ghost use Rattle.json.specs.Token.{boolean, null, number, string};
 ghost use Rattle.json.specs.Written.{PlainBetween};
 ghost use Rattle.json_tokens.specs.private.Lexemes.{BeginsKey, BeginsToken, DigitsBetween, EndsValue, IsTextAt, PassesSpaces};
-ghost use Rattle.json_tokens.specs.private.Lexemes.{StandsAt, may_begin_at, may_close_at};
+ghost use Rattle.json_tokens.specs.private.Lexemes.{may_begin_at, may_close_at};
 
 use super::escaped_text::escaped_at;
+use super::same_bytes::stands_at;
 use json::{Scratch, Token, is_number};
 use std::simd::prelude::*;
 
@@ -174,7 +175,7 @@ fn plain_end_of_few(bytes: &[u8], from: usize) -> usize
 
 /// The same, sixteen bytes at a time.
 #[inline(always)]
-fn plain_end(bytes: &[u8], from: usize) -> usize
+pub(crate) fn plain_end(bytes: &[u8], from: usize) -> usize
     requires { from ≤ length bytes.now }
     ensures bounds { (from ≤ result) × (result ≤ length bytes.now) }
     ensures plain { PlainBetween bytes.now from result }
@@ -373,17 +374,6 @@ pub(crate) fn number_value(text: &str, place: usize) -> Option<(&str, usize, Tur
         }
     }
     other_number_value(text, place)
-}
-
-/// Whether these bytes stand at a place.
-#[inline(always)]
-fn stands_at(bytes: &[u8], place: usize, word: &[u8]) -> bool
-    ensures { IsTrue result → StandsAt bytes.now place word.now }
-{
-    if place > bytes.len() || word.len() > bytes.len() - place {
-        return false;
-    }
-    &bytes[place..place + word.len()] == word
 }
 
 #[inline(always)]

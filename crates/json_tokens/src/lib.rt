@@ -2,7 +2,10 @@
 #![tactic(auto)]
 
 mod escaped_text;
+mod key;
 mod lexeme;
+mod same_bytes;
 mod token_reader;
 
+pub use key::Key;
 pub use token_reader::TokenReader;

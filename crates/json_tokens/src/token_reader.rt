@@ -5,10 +5,12 @@ ghost use Rattle.json.specs.Lex.{tokens};
 ghost use Rattle.json.specs.Reads.{token_of};
 ghost use Rattle.json.specs.Token.{begin_array, begin_object, boolean, null, number, string};
 
+use super::key::Key;
 use super::lexeme::{
     Turn, begins_number, byte_at, key_at, null_at, number_value, past_spaces, text_value, token_at,
     truth_at, value_end,
 };
+use super::same_bytes::stands_at;
 use json::{Invalid, Scratch, Token};
 use std::marker::Model;
 
@@ -96,6 +98,23 @@ impl<'a> TokenReader<'a> {
         self.place = next;
         self.turn = Turn::Fresh;
         Ok(Some(key))
+    }
+
+    /// Takes a member's name and its colon, if they are next and stand side by side.
+    #[inline(always)]
+    pub fn take_key(&mut self, key: &Key) -> bool
+        ensures taken { IsTrue result → read_key self.old ≡ Some (Some key.now, self.new) }
+        ensures kept { result ≡ false → self.new ≡ self.old }
+    {
+        let bytes = self.text.as_bytes();
+        let place = past_spaces(bytes, self.place);
+        let quoted = key.quoted();
+        if !self.turn.may_begin() || !stands_at(bytes, place, quoted) {
+            return false;
+        }
+        self.place = place + quoted.len();
+        self.turn = Turn::Fresh;
+        true
     }
 
     /// The text that is next.

@@ -4,6 +4,8 @@ use Rattle.std.specs.Prelude.{◌≡◌, ℕ, List, Option, Some, None, Result, 
 use Rattle.serde_json.specs.Data.{Data}
 use Rattle.edm_values.specs.MomentParts.{MomentParts}
 use Rattle.csdl_schema.specs.JsonText.{IsJsonOf}
+use Rattle.edm_entities.specs.Plans.{IsPlanOf}
+use Rattle.edm_entities.specs.declared.row_plan.RowPlan.{RowPlan}
 use Rattle.line_filter.specs.declared.judge.Judgment.{Judgment}
 use Rattle.odata_checked_filter.specs.Filter.{Filter}
 use Rattle.odata_eval.specs.Outcome.{gives}
@@ -13,6 +15,11 @@ use Rattle.odata_filter.specs.RowJudgment.{HasOutcome, JudgesRow}
 use Rattle.odata_filter.specs.RowsOnce.{AreSameJudgment}
 use Rattle.odata_filter.specs.declared.bad_row.BadRow.{BadRow}
 use Rattle.odata_filter.specs.declared.no_verdict.NoVerdict.{NoVerdict}
+
+-- the plan is of the filter's schema and type
+pub record IsPlanOfFilter (filter : Filter) (plan : RowPlan) : Type 0 where
+  pub schema : IsPlanOf filter.schema plan
+  pub type_id : plan.type_id ≡ filter.filtered
 
 -- the row is a JSON value that fits, and the verdict is the filter's one outcome on it
 pub record HasVerdict (filter : Filter) (now : MomentParts) (row : List ℕ) (verdict : Verdict) : Type 0 where

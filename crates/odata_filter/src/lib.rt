@@ -32,5 +32,5 @@ pub use line_filter::{
     Untold, Writes, slices_tell_their_bytes,
 };
 pub use no_verdict::NoVerdict;
-pub use row_verdict::judge_row;
+pub use row_verdict::{judge_row, row_plan_of};
 pub use run_fault::RunFault;

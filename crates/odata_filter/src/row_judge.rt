@@ -6,12 +6,12 @@ ghost use Rattle.edm_entities.specs.Fits.{Fits};
 ghost use Rattle.edm_entities.specs.Row.{value_of};
 ghost use Rattle.odata_checked_filter.specs.Calls.{TakesMemory};
 ghost use Rattle.odata_checked_filter.specs.Filter.{tree_of_filter};
-ghost use Rattle.odata_filter.specs.RowAnswer.{TellsRow, judgment_told};
+ghost use Rattle.odata_filter.specs.RowAnswer.{IsPlanOfFilter, TellsRow, judgment_told};
 ghost use Rattle.odata_filter.specs.private.ValueAnswer.{TellsValue, fault_told};
 
 use crate::bad_row::BadRow;
 use crate::no_verdict::NoVerdict;
-use edm_entities::{Entity, RowFault, RowReader};
+use edm_entities::{Entity, RowFault, RowPlan, RowReader};
 use edm_values::Moment;
 use line_filter::Judgment;
 use odata_eval::{EvalFault, Verdict, evaluate};
@@ -74,13 +74,14 @@ impl RowJudge<'_, '_> {
     /// Judges a row: without a tree where it is an entity, else by way of one.
     pub(crate) fn judge_bytes(
         &self,
+        plan: &RowPlan,
         reader: &mut RowReader,
         row: &[u8],
     ) -> Result<Verdict, NoVerdict>
+        requires { IsPlanOfFilter self.now.checked.now plan.now }
         ensures { TellsRow self.now.checked.now self.now.moment.now row.now result }
     {
-        let (schema, type_id) = (self.checked.schema(), self.checked.filtered_type());
-        match reader.read(schema, type_id, row) {
+        match reader.read(self.checked.schema(), plan, row) {
             Some(entity) => {
                 let answer = self.judge_entity(&entity);
                 reader.take_back(entity);

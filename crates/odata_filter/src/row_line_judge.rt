@@ -3,7 +3,8 @@ ghost use Rattle.odata_filter.specs.RowJudgment.{JudgesRow};
 
 use crate::bad_row::BadRow;
 use crate::row_judge::{RowJudge, judgment_of};
-use edm_entities::RowReader;
+use crate::row_verdict::row_plan_of;
+use edm_entities::{RowPlan, RowReader};
 use edm_values::Moment;
 use line_filter::{Judge, Judgment};
 use odata_typing::Checked;
@@ -14,6 +15,7 @@ use std::marker::Model;
 #[derive(Drop)]
 pub struct RowLineJudge<'c, 's> {
     rows: RowJudge<'c, 's>,
+    plan: RowPlan,
     reader: RowReader,
 }
 
@@ -28,6 +30,10 @@ impl<'c, 's> Model for RowLineJudge<'c, 's> {
     ghost coded = { Prim.hlevel (codes, checked_node.the_row.coded, value.the_row.coded) };
 
     ghost view = { λ j. record { filter = j.rows.checked.now; moment = j.rows.moment.now } };
+
+    ghost use Rattle.odata_filter.specs.RowAnswer.{IsPlanOfFilter};
+
+    ghost invariant = { λ j. IsPlanOfFilter j.rows.checked.now j.plan };
 }
 
 impl<'c, 's> RowLineJudge<'c, 's> {
@@ -42,6 +48,7 @@ impl<'c, 's> RowLineJudge<'c, 's> {
                 checked,
                 moment,
             },
+            plan: row_plan_of(alloc, checked),
             reader: RowReader::new(alloc),
         }
     }
@@ -53,6 +60,6 @@ impl Judge for RowLineJudge<'_, '_> {
     ghost says = { λ judge. JudgesRow judge.filter judge.moment };
 
     fn judge(&mut self, line: &[u8]) -> Result<Judgment<BadRow>, AllocError> {
-        judgment_of(self.rows.judge_bytes(&mut self.reader, line))
+        judgment_of(self.rows.judge_bytes(&self.plan, &mut self.reader, line))
     }
 }

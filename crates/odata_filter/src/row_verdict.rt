@@ -1,30 +1,39 @@
-ghost use Rattle.odata_filter.specs.RowAnswer.{TellsRow};
+ghost use Rattle.odata_filter.specs.RowAnswer.{IsPlanOfFilter, TellsRow};
 
 use crate::no_verdict::NoVerdict;
 use crate::row_judge::RowJudge;
-use edm_entities::RowReader;
+use edm_entities::{RowPlan, RowReader};
 use edm_values::Moment;
 use odata_eval::Verdict;
 use odata_typing::Checked;
 use std::alloc::Global;
 
+/// What rows are read by, of the filter's schema and type.
+pub fn row_plan_of(alloc: Global, checked: &Checked<'_>) -> RowPlan
+    ensures { IsPlanOfFilter checked.now result }
+{
+    RowPlan::new(alloc, checked.schema(), checked.filtered_type())
+}
+
 /// What the filter says of a row, one JSON object as a line of [`filter_lines`](crate::filter_lines) is one.
 ///
 /// The row may be of any length: it is in memory as it is, and no reader's buffer has to hold it. A blank one is no JSON.
-/// The reader says nothing of the row; it is kept from row to row, so that one of a kind seen before takes no memory.
+/// The plan is made once for the filter ([`row_plan_of`]). The reader says nothing of the row; it is kept from row to row, so that one of
+/// a kind seen before takes no memory.
 pub fn judge_row(
-    alloc: Global,
     checked: &Checked<'_>,
     now: &Moment,
+    plan: &RowPlan,
     reader: &mut RowReader,
     row: &[u8],
 ) -> Result<Verdict, NoVerdict>
+    requires { IsPlanOfFilter checked.now plan.now }
     ensures { TellsRow checked.now now.now row.now result }
 {
     let judge = RowJudge {
-        alloc,
+        alloc: reader.allocator(),
         checked,
         moment: now,
     };
-    judge.judge_bytes(reader, row)
+    judge.judge_bytes(plan, reader, row)
 }

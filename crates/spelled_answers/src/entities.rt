@@ -6,9 +6,9 @@ use crate::numbers::shown_row_fault;
 use crate::trouble::Trouble;
 use crate::values::push_slots;
 use csdl_schema::{Schema, TypeId};
-use edm_entities::{Entity, RowFault, RowReader};
+use edm_entities::{Entity, RowFault, RowPlan, RowReader};
 use odata_eval::Verdict;
-use odata_filter::{NoVerdict, judge_row};
+use odata_filter::{NoVerdict, judge_row, row_plan_of};
 use odata_typing::check_to_store;
 use serde_json::Value;
 use std::alloc::Global;
@@ -46,7 +46,8 @@ fn by_tree(alloc: Global, schema: &Schema, id: TypeId, line: &[u8]) -> Result<St
 fn by_bytes(alloc: Global, schema: &Schema, id: TypeId, line: &[u8]) -> Result<String, Trouble>
     requires { HoldsType schema.now id }
 {
-    match RowReader::new(alloc).read(schema, id, line) {
+    let plan = RowPlan::new(alloc, schema, id);
+    match RowReader::new(alloc).read(schema, &plan, line) {
         Some(entity) => told(alloc, &entity),
         None => Ok(String::new(alloc)),
     }
@@ -73,8 +74,10 @@ fn by_itself(alloc: Global, schema: &Schema, id: TypeId, line: &[u8]) -> Result<
     let Ok(stored) = check_to_store(alloc, schema, id, "true") else {
         return Err(Trouble::Memory);
     };
+    let checked = stored.with_schema(schema);
+    let plan = row_plan_of(alloc, &checked);
     let mut reader = RowReader::new(alloc);
-    match &judge_row(alloc, &stored.with_schema(schema), &now, &mut reader, line) {
+    match &judge_row(&checked, &now, &plan, &mut reader, line) {
         Ok(Verdict::True) => Ok(String::from_str(alloc, "fits")?),
         Ok(_) => Ok(String::from_str(alloc, "no true")?),
         Err(NoVerdict::Memory) => Err(Trouble::Memory),

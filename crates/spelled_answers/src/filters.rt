@@ -12,6 +12,7 @@ use jiff::civil;
 use odata_eval::{EvalFault, Verdict, evaluate};
 use odata_filter::{
     BadRow, FaultKind, NoVerdict, Numbered, RunFault, Tally, fault_name, filter_slice, judge_row,
+    row_plan_of,
 };
 use odata_typing::{Checked, check_to_store};
 use serde_json::Value;
@@ -109,10 +110,11 @@ fn judged(
     now: &Moment,
     times: usize,
 ) -> &'static str {
+    let plan = row_plan_of(alloc, checked);
     let mut reader = RowReader::new(alloc);
-    let said = spelled_row(&judge_row(alloc, checked, now, &mut reader, line));
+    let said = spelled_row(&judge_row(checked, now, &plan, &mut reader, line));
     for _ in 0..times {
-        if spelled_row(&judge_row(alloc, checked, now, &mut reader, line)) != said {
+        if spelled_row(&judge_row(checked, now, &plan, &mut reader, line)) != said {
             return "another answer";
         }
     }

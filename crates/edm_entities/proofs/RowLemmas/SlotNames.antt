@@ -8,7 +8,7 @@ use Rattle.std.proofs.lemmas.List.{length-map}
 use Rattle.std.proofs.lemmas.Option.{slice_get_within}
 use Rattle.csdl_schema.specs.SchemaModel.{SchemaModel, PropertyModel, properties_at, slot_named}
 use Rattle.csdl_schema.specs.declared.property.Property.{Property}
-use Rattle.edm_entities.specs.private.SlotsSoFar.{IsSlotNamed}
+use Rattle.edm_entities.specs.Plans.{IsSlotNamed}
 
 differ : false ≡ true → ⊥
 differ is = cc
@@ -52,12 +52,3 @@ slot_is_named name ps n is =
 
 pub no_slot_is_named : (name : List ℕ) (ps : List PropertyModel) → None ≡ slot_named ps name → AllByRecursion (λ p. p.name ≢ name) ps
 no_slot_is_named name ps is = none_from name 0 ps (sym (position_from-zero (has_name name) ps) ∙ sym is)
-
--- a slot that has a name is one of the type's
-pub named_within : {X : Type 0} (property_of : X → Property) (schema : SchemaModel) (id : ℕ) (name : List ℕ) (found : Option (ℕ × X)) (none : Type 0) (count : ℕ) → count ≡ length (properties_at schema id)
-    → MatchOption found none (λ at. IsSlotNamed schema id name at.0 (property_of at.1)) → IfSome found (λ at. at.0 < count)
-named_within property_of schema id name None none count long named = tt
-named_within property_of schema id name (Some at) none count long named =
-    let ps = properties_at schema id in
-    let within : at.0 < length (map (λ p. p.name) ps) = slice_get_within (map (λ p. p.name) ps) at.0 name named.0 in
-    omega (arith, length-map ps (λ p. p.name))

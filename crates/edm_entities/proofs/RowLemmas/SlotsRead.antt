@@ -103,11 +103,6 @@ slot_within [] n name at = absurd (cc)
 slot_within (p ∷ ps) zero name at = omega arith
 slot_within (p ∷ ps) (suc n) name at = omega (arith, slot_within ps n name at)
 
-pub value_at : (values : List Value) (n : ℕ) (v : Value) → n < length values → v ≡ get_or values n v → slice_get values n ≡ Some v
-value_at [] n v within is = absurd (omega arith)
-value_at (w ∷ values) zero v within is = ap Some (sym is)
-value_at (w ∷ values) (suc n) v within is = value_at values n v (omega arith) is
-
 -- a value of a property that may be absent is filled
 pub absent_filled : (schema : SchemaModel) (o : Option PropertyModel) (property : Property) (v : Value) → IfSome o (λ p. IsReadAs schema p property)
     → may_be_absent (property_type schema property) property.nullable ≡ true → IfSome o (λ p. IsFilled p v)

@@ -1,11 +1,9 @@
 -- For private clauses: the slots of a type while the members of an object are read.
-use Rattle.std.specs.Prelude.{◌≡◌, ◌≢◌, ◌⊎◌, ℕ, List, Bool, true, Option, Some, None, map, slice_get, IfSome}
+use Rattle.std.specs.Prelude.{◌≡◌, ◌≢◌, ◌⊎◌, ℕ, List, Bool, true, Option, None}
 use Rattle.serde_json.specs.Data.{Data, Members}
 use Rattle.serde_json.specs.Find.{get_member}
 use Rattle.edm_values.specs.declared.value.Value.{Value, Null}
-use Rattle.csdl_schema.specs.PropertyView.{IsReadAs}
 use Rattle.csdl_schema.specs.SchemaModel.{SchemaModel, Slots, PropertyModel, PropertyType, declared, opaque, navigation, slots_of, properties_at}
-use Rattle.csdl_schema.specs.declared.property.Property.{Property}
 use Rattle.edm_entities.specs.Fits.{takes_null}
 use Rattle.edm_entities.specs.private.Walk.{HoldEach, FitsSlot}
 
@@ -27,9 +25,3 @@ may_be_absent (navigation target) nullable = true
 -- a property may be absent, or its slot is not null
 abbrev pub IsFilled : PropertyModel → Value → Type 0
 IsFilled p v = (may_be_absent p.type_of p.nullable ≡ true) ⊎ (v ≢ Null)
-
--- the property at a slot of a type has that name, and is read as that
-abbrev pub IsSlotNamed : SchemaModel → ℕ → List ℕ → ℕ → Property → Type 0
-IsSlotNamed schema id name slot property =
-    (slice_get (map (λ p. p.name) (properties_at schema id)) slot ≡ Some name)
-    × IfSome (slice_get (properties_at schema id) slot) (λ p. IsReadAs schema p property)

@@ -1,30 +1,40 @@
-use Rattle.std.proofs.Common.{◌≡◌, ◌∷◌, [], Some, IsSome, refl, sym, ap, ◌∙◌, arith}
+use Rattle.std.proofs.Common.{◌≡◌, ◌∷◌, [], Some, IsSome, refl, sym, ap, ◌∙◌, subst, arith}
 use Rattle.json.specs.Token.{Token}
 use Rattle.json.specs.Json.{value}
 use Rattle.json.specs.Lex.{tokens}
 use Rattle.serde_json.specs.Data.{object}
 use Rattle.serde_json.specs.Find.{as_object}
 use Rattle.serde_json.specs.Read.{of_json, converted}
-use Rattle.csdl_schema.specs.SchemaModel.{slots_of, properties_at}
+use Rattle.csdl_schema.specs.SchemaModel.{HasDistinctNames, slots_of, properties_at}
 use Rattle.edm_entities.specs.private.RowTokens.{Reads}
 use Rattle.edm_entities.specs.private.Walk.{FitSlots}
 use Rattle.edm_entities.proofs.RowLemmas.Tokens.{object_reads, whole_read}
 use Rattle.edm_entities.proofs.row_reader.take_row.Goals as goal
 
+pub take_members-requires-clause-plan : goal.take_members-requires-clause-plan
+take_members-requires-clause-plan c = c.in-Some.ensures.plan c.args.schema.now c.requires
+
+pub returns-then-is_at_end-clause-distinct : goal.returns-then-is_at_end-clause-distinct
+returns-then-is_at_end-clause-distinct c =
+    let schema = c.args.schema.now in
+    subst (λ id. HasDistinctNames (properties_at schema id)) c.in-Some.ensures.of_type (c.in-Some.ensures.plan schema c.requires).distinct
+
 pub returns-then-is_at_end-clause-fits : goal.returns-then-is_at_end-clause-fits
 returns-then-is_at_end-clause-fits c =
-    let slots = slots_of c.args.schema.now in
-    let ps = properties_at c.args.schema.now c.args.type_id in
-    let values = c.in-Some.values in
+    let schema = c.args.schema.now in
+    let slots = slots_of schema in
+    let id = c.in-Some.plan.now.type_id in
+    let ps = properties_at schema id in
+    let values = c.in-Some-take_members.values in
     let started : tokens c.args.text.now ≡ Token.begin_object ∷ c.take_begin_object.new.self =
     sym c.new-reader.ensures ∙ c.take_begin_object.ensures.taken c.if-not-take_begin_object.false in
     let ended : c.take_members.new.reader ≡ [] = c.is_at_end.ensures c.if-is_at_end.true in
     let whole : Reads 127 (Token.begin_object ∷ c.take_begin_object.new.self) c.take_members.new.reader (λ json. IsSome (as_object json) × FitSlots slots json ps values.items) =
     object_reads 127 c.take_begin_object.new.self c.take_members.new.reader (λ found. FitSlots slots (object found) ps values.items)
-    (λ json. IsSome (as_object json) × FitSlots slots json ps values.items) (omega arith) (λ found fits. (refl, fits)) c.in-Some.ensures.fits in (
+    (λ json. IsSome (as_object json) × FitSlots slots json ps values.items) (omega arith) (λ found fits. (refl, fits)) c.in-Some-take_members.ensures in (
       whole.json,
       whole_read c.args.text.now whole.json
           (ap (λ ts. converted of_json (value 127 ts)) started ∙ whole.is_read ∙ ap (λ rest. Some (whole.json, rest)) ended),
       whole.holds.0,
-      whole.holds.1,
+      subst (λ type_id. FitSlots slots whole.json (properties_at schema type_id) values.items) c.in-Some.ensures.of_type whole.holds.1,
     )

@@ -1,6 +1,5 @@
 use Rattle.std.proofs.Common.{◌+◌, ◌*◌, length}
 use Rattle.csdl_schema.specs.SchemaModel.{slots_of}
-use Rattle.edm_entities.specs.private.Lent.{IsLent}
 use Rattle.edm_entities.specs.private.RowTokens.{MembersLead, ItemsLead}
 use Rattle.edm_entities.specs.private.SlotsSoFar.{SlotsSoFar}
 use Rattle.edm_entities.specs.private.Walk.{FitList, HoldInItems, wanted_single}
@@ -8,31 +7,30 @@ use Rattle.edm_entities.proofs.row_walk.+row.Given as goal
 
 -- how deep values may nest counts first, and at one depth the order of the calls
 abbrev pub decreases-take_members : goal.decreases-take_members
-decreases-take_members l = 8 * l.depth + 4
+decreases-take_members l = 8 * l.scene.now.depth + 4
 
 abbrev pub decreases-take_member : goal.decreases-take_member
-decreases-take_member l = 8 * l.depth + 3
+decreases-take_member l = 8 * l.scene.now.depth + 3
 
 abbrev pub decreases-take_property : goal.decreases-take_property
-decreases-take_property l = 8 * l.depth + 2
+decreases-take_property l = 8 * l.scene.now.depth + 2
 
 abbrev pub decreases-take_single : goal.decreases-take_single
-decreases-take_single l = 8 * l.depth + 1
+decreases-take_single l = 8 * l.scene.now.depth + 1
 
 abbrev pub decreases-take_record : goal.decreases-take_record
-decreases-take_record l = 8 * l.depth
+decreases-take_record l = 8 * l.scene.now.depth
 
 abbrev pub decreases-take_array : goal.decreases-take_array
-decreases-take_array l = 8 * l.depth + 1
+decreases-take_array l = 8 * l.scene.now.depth + 1
 
 abbrev pub decreases-take_items : goal.decreases-take_items
-decreases-take_items l = 8 * l.depth + 2
+decreases-take_items l = 8 * l.scene.now.depth + 2
 
--- the slots hold what was found among the members so far, and the piece at hand is one of the type
+-- the slots hold what was found among the members so far
 abbrev pub invariant-take_members-members : goal.invariant-take_members-members
 invariant-take_members-members l =
-    MembersLead l.depth l.initial.reader l.reader (λ found. SlotsSoFar l.schema l.type_id found l.values.items)
-    × IsLent l.schema l.type_id l.lent
+    MembersLead l.scene.depth l.initial.reader l.reader (λ found. SlotsSoFar l.scene.schema.now l.plan.type_id found l.values.items)
 
 abbrev pub decreases-take_members-members : goal.decreases-take_members-members
 decreases-take_members-members l = length l.reader
@@ -40,8 +38,8 @@ decreases-take_members-members l = length l.reader
 -- the values fit the items so far, and hold one value for each slot
 abbrev pub invariant-take_items-items : goal.invariant-take_items-items
 invariant-take_items-items l =
-    ItemsLead l.depth l.initial.reader l.reader (λ jsons. FitList (slots_of l.schema) l.nullable (wanted_single l.schema l.wanted) jsons l.values.items)
-    × HoldInItems (slots_of l.schema) (wanted_single l.schema l.wanted) l.values.items
+    ItemsLead l.scene.depth l.initial.reader l.reader (λ jsons. FitList (slots_of l.scene.schema.now) l.one.nullable (wanted_single l.scene.schema.now l.one.wanted) jsons l.values.items)
+    × HoldInItems (slots_of l.scene.schema.now) (wanted_single l.scene.schema.now l.one.wanted) l.values.items
 
 abbrev pub decreases-take_items-items : goal.decreases-take_items-items
 decreases-take_items-items l = length l.reader

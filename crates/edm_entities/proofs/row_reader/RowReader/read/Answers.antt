@@ -8,7 +8,7 @@ use Rattle.edm_entities.proofs.row_reader.RowReader.read.Goals.{in-Some, in-None
 pub from_values-requires : goal.from_values-requires
 from_values-requires c =
     let found = c.in-Some.ensures.fits in
-    is_entity c.args.schema.now c.args.type_id found.0 c.in-Some.values c.requires c.in-Some.ensures.distinct found.2 found.3
+    is_entity c.args.schema.now c.args.plan.now.type_id found.0 c.in-Some.values c.requires.held c.in-Some.ensures.distinct found.2 found.3
 
 pub returns-clause-row : goal.returns-clause-row
 returns-clause-row c =
@@ -21,7 +21,7 @@ returns-clause-row c =
           (record {
             json = found.0;
             is_json = (c.in-Ok.ensures.cases.1, ap read (sym c.in-Ok.ensures.cases.0) ∙ found.1);
-            fits = entity_fits schema c.args.type_id found.0 w.in-Some.values w.in-Some.ensures.distinct found.2 found.3;
+            fits = entity_fits schema c.args.plan.now.type_id found.0 w.in-Some.values w.in-Some.ensures.distinct found.2 found.3;
           }))
       | in-None w ↦ rw w.result-is tt
     ]

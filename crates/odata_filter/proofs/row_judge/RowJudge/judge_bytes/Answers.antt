@@ -1,11 +1,15 @@
-use Rattle.std.proofs.Common.{◌∙◌}
+use Rattle.std.proofs.Common.{sym, ◌∙◌, subst}
+use Rattle.edm_entities.specs.Plans.{IsPlanOf}
 use Rattle.odata_filter.proofs.RowLemmas.RowJudges.{row_told}
 use Rattle.odata_filter.proofs.row_judge.RowJudge.judge_bytes.Goals as goal
 
+pub read-requires : goal.read-requires
+read-requires c = subst (λ schema. IsPlanOf schema c.args.plan.now) (sym c.schema.ensures) c.requires.schema
+
 pub judge_entity-answer-requires : goal.judge_entity-answer-requires
 judge_entity-answer-requires c = record {
-  schema = c.in-Some.ensures.of_type.0 ∙ c.schema-schema.ensures;
-  type_id = c.in-Some.ensures.of_type.1 ∙ c.filtered_type-type_id.ensures.same;
+  schema = c.in-Some.ensures.of_type.0 ∙ c.schema.ensures;
+  type_id = c.in-Some.ensures.of_type.1 ∙ c.requires.type_id;
 }
 
 pub returns-in-Some : goal.returns-in-Some

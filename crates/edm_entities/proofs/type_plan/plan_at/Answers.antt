@@ -1,0 +1,10 @@
+use Rattle.std.proofs.Common.{length, refl, arith}
+use Rattle.std.proofs.lemmas.Option.{slice_get_read}
+use Rattle.edm_entities.proofs.RowLemmas.Plans.{plan_there}
+use Rattle.edm_entities.proofs.type_plan.plan_at.Goals as goal
+
+pub returns-then-eq-clause-plan : goal.returns-then-eq-clause-plan
+returns-then-eq-clause-plan c schema are =
+    let plans = c.args.plans.now in
+    let plan = c.index-plans-place.result in
+    plan_there schema plans c.args.place plan are (slice_get_read plans (length plans) c.args.place plan refl (omega arith) c.index-plans-place.is)

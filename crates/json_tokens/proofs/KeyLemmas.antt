@@ -1,0 +1,77 @@
+-- Lemmas on words that stand at a place, and on names.
+use Rattle.std.proofs.Common.{◌≡◌, ℕ, zero, suc, ◌+◌, ◌*◌, ◌%◌, ◌^◌, ◌≤◌, Bool, true, false, cond, eqb, List, [], ◌∷◌, ◌++◌, length, take, drop, map, refl, sym, ap, ◌∙◌, arith, append_assoc, length-drop}
+use Rattle.std.proofs.lemmas.Bool.{eqb-true}
+use Rattle.std.proofs.lemmas.List.{drop-drop, take-append-drop, take-take, take_all}
+use Rattle.std.proofs.lemmas.Simd.{length-zip2, mask_l-mod, tops_compared}
+use lib.Lanes.{mask_l, top, zip2}
+use mir.Syntax.{w8}
+use Rattle.json.specs.Token.{key}
+use Rattle.json.specs.Lex.{between, lex, punctuate}
+use Rattle.json.specs.Written.{PlainBetween}
+use Rattle.json.proofs.Printed.Plain.{escape_on_plain}
+use Rattle.json_tokens.specs.Keys.{with_colon}
+use Rattle.json_tokens.specs.private.Lexemes.{PassesSpaces, StandsAt, may_begin_at}
+use Rattle.json_tokens.specs.TokenReading.{place_of, tokens_left}
+use Rattle.json_tokens.specs.declared.lexeme.Turn.{Turn}
+use Rattle.json_tokens.specs.declared.lexeme.Turn.TheVariants.{Fresh}
+use Rattle.json_tokens.proofs.LexemeLemmas.{begins_key, quoted_lexed}
+
+-- ---- words of a few bytes
+
+-- a mask of that many bits, all set
+abbrev ones : ℕ → ℕ
+ones zero = 0
+ones (suc n) = 1 + 2 * ones n
+
+all_equal : (n : ℕ) (xs ys : List ℕ) → length xs ≡ n → length ys ≡ n → mask_l (zip2 eqb xs ys) ≡ ones n → xs ≡ ys
+all_equal zero [] [] long long' is = refl
+all_equal zero [] (y ∷ ys) long long' is = absurd (omega (arith, long'))
+all_equal zero (x ∷ xs) ys long long' is = absurd (omega (arith, long))
+all_equal (suc n) [] ys long long' is = absurd (omega (arith, long))
+all_equal (suc n) (x ∷ xs) [] long long' is = absurd (omega (arith, long'))
+all_equal (suc n) (x ∷ xs) (y ∷ ys) long long' is = by (eqb x y) refl (all_equal n xs ys (omega (arith, long)) (omega (arith, long')))
+  where
+    by : (b : Bool) → eqb x y ≡ b → (mask_l (zip2 eqb xs ys) ≡ ones n → xs ≡ ys) → x ∷ xs ≡ y ∷ ys
+    by true e further =
+        let all : 1 + 2 * mask_l (zip2 eqb xs ys) ≡ 1 + 2 * ones n = sym (ap (λ b. cond b 1 0 + 2 * mask_l (zip2 eqb xs ys)) e) ∙ is in
+        let rest : mask_l (zip2 eqb xs ys) ≡ ones n = omega (arith, all) in
+        ap (λ z. z ∷ xs) (eqb-true x y e) ∙ ap (λ zs. y ∷ zs) (further rest)
+    by false e further =
+        let none : 0 + 2 * mask_l (zip2 eqb xs ys) ≡ 1 + 2 * ones n = sym (ap (λ b. cond b 1 0 + 2 * mask_l (zip2 eqb xs ys)) e) ∙ is in
+        absurd (omega (arith, none))
+
+-- where each lane passes the test of equality, as the code makes it
+pub lanes_equal : (n : ℕ) (xs ys : List ℕ) → length xs ≡ n → length ys ≡ n → n ≤ 64 → mask_l (map (top 7) (zip2 (λ a b. cond (eqb a b) 255 0) xs ys)) % 2 ^ 64 ≡ ones n → xs ≡ ys
+lanes_equal n xs ys long long' few is =
+    let count : length (zip2 eqb xs ys) ≡ n = length-zip2 eqb xs ys (long ∙ sym long') ∙ long in
+    all_equal n xs ys long long'
+    (sym (mask_l-mod (zip2 eqb xs ys) 64 (omega (arith, count))) ∙ sym (ap (λ z. mask_l z % 2 ^ 64) (tops_compared w8 eqb xs ys)) ∙ is)
+
+-- ---- words by their first bytes and their last
+
+pub ends_stand : (d : List ℕ) (i : ℕ) (q : List ℕ) (m last : ℕ) → i + length q ≤ length d → last + m ≡ length q → last ≤ m → take m (drop i d) ≡ take m q
+    → take m (drop (i + last) d) ≡ take m (drop last q) → StandsAt d i q
+ends_stand d i q m last room sum overlap first final =
+    let r = drop i d in
+    let there : i + last + m ≡ i + length q = omega (arith, sum) in
+    let front : take last r ≡ take last q = sym (take-take last m r overlap) ∙ ap (take last) first ∙ take-take last m q overlap in
+    let back : drop last r ≡ drop last q ++ drop (i + length q) d =
+    drop-drop last i d ∙ sym (take-append-drop m (drop (i + last) d))
+    ∙ ap (λ l. l ++ drop m (drop (i + last) d)) (final ∙ take_all m (drop last q) (omega (arith, length-drop last q)))
+    ∙ ap (λ l. drop last q ++ l) (drop-drop m (i + last) d ∙ ap (λ k. drop k d) there) in
+    record {
+      within = room;
+      is = sym (take-append-drop last r) ∙ ap (λ l. l ++ drop last r) front ∙ ap (λ l. take last q ++ l) back
+          ∙ sym (append_assoc (take last q) (drop last q) (drop (i + length q) d)) ∙ ap (λ l. l ++ drop (i + length q) d) (take-append-drop last q);
+    }
+
+-- ---- names
+
+-- a name and its colon, where they stand
+pub key_there : (turn : Turn) (d : List ℕ) (i j : ℕ) (name : List ℕ) → may_begin_at turn ≡ true → PassesSpaces d i j → PlainBetween name 0 (length name) → StandsAt d j (with_colon name)
+    → tokens_left turn (drop i d) ≡ key name ∷ tokens_left Fresh (drop (j + length (with_colon name)) d)
+key_there turn d i j name may passed plain stands =
+    let r = drop (j + length (with_colon name)) d in
+    let parts : drop j d ≡ 34 ∷ (name ++ 34 ∷ 58 ∷ r) = stands.is ∙ ap (λ l. 34 ∷ l) (append_assoc name (34 ∷ 58 ∷ []) r) in
+    ap (punctuate (place_of turn)) (sym passed.same ∙ ap (lex between) parts ∙ quoted_lexed name (58 ∷ r) (escape_on_plain true name plain))
+    ∙ begins_key (place_of turn) name r may

@@ -1,0 +1,13 @@
+-- What a key stands for: a name, which is written as it is (RFC 8259, section 7).
+use Rattle.std.specs.Prelude.{◌≡◌, ℕ, List, [], ◌∷◌, ◌++◌, length, string_bytes}
+use Rattle.json.specs.Written.{PlainBetween}
+use Rattle.json_tokens.specs.declared.key.Key.TheInside.{Inside}
+
+-- a name in its quotes, and a colon
+abbrev pub with_colon : List ℕ → List ℕ
+with_colon name = 34 ∷ (name ++ 34 ∷ 58 ∷ [])
+
+-- a key has a name without quotes, backslashes and control characters, and keeps what stands for it in a text
+pub record IsKey (key : Inside) : Type 0 where
+  pub plain : PlainBetween (string_bytes key.name) 0 (length (string_bytes key.name))
+  pub quoted : string_bytes key.quoted ≡ with_colon (string_bytes key.name)

@@ -1,0 +1,73 @@
+//! A member's name as it stands in a text.
+ghost use Rattle.std.specs.Prelude.{◌≡◌, length, string_bytes, IfSome};
+ghost use Rattle.json.specs.Written.{PlainBetween};
+ghost use Rattle.json_tokens.specs.Keys.{with_colon};
+
+use super::lexeme::plain_end;
+use std::alloc::Global;
+use std::marker::Model;
+
+/// A name with its quotes and its colon, which is compared with a text where it stands. Only a name that is written
+/// as it is makes one.
+#[derive(Drop)]
+pub struct Key {
+    name: String,
+    quoted: String,
+}
+
+impl Model for Key {
+    ghost use Rattle.std.specs.Prelude.{ℕ, List, string_bytes};
+    ghost use Rattle.std.specs.Coded.{coded_list, coded_ℕ};
+    ghost use Rattle.json_tokens.specs.Keys.{IsKey};
+
+    ghost Value = { List ℕ };
+
+    ghost coded = { coded_list coded_ℕ };
+
+    ghost view = { λ k. string_bytes k.name };
+
+    ghost invariant = { IsKey };
+}
+
+impl Key {
+    /// The key of a name; none where the name has quotes, backslashes or control characters, or memory was refused.
+    pub fn new(alloc: Global, name: &str) -> Option<Key>
+        ensures { IfSome result (λ key. key ≡ name.now) }
+    {
+        if plain_end(name.as_bytes(), 0) != name.len() {
+            return None;
+        }
+        let Ok(copy) = String::from_str(alloc, name) else {
+            return None;
+        };
+        match quoted_with_colon(alloc, name) {
+            Some(quoted) => Some(Key { name: copy, quoted }),
+            None => None,
+        }
+    }
+
+    /// The name with its quotes and its colon.
+    #[inline(always)]
+    pub(crate) fn quoted(&self) -> &[u8]
+        ensures quoted { result.now ≡ with_colon self.now }
+        ensures plain { PlainBetween self.now 0 (length self.now) }
+    {
+        self.quoted.as_bytes()
+    }
+}
+
+fn quoted_with_colon(alloc: Global, name: &str) -> Option<String>
+    ensures { IfSome result (λ quoted. string_bytes quoted ≡ with_colon name.now) }
+{
+    let mut quoted = String::new(alloc);
+    if quoted.push_str("\"").is_err() {
+        return None;
+    }
+    if quoted.push_str(name).is_err() {
+        return None;
+    }
+    if quoted.push_str("\":").is_err() {
+        return None;
+    }
+    Some(quoted)
+}
