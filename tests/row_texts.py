@@ -12,14 +12,16 @@ ANY = r"""true false null 0 -0 -1 1 0.0 -0.0 1.5 -1.25e-3 1e0 1E5 1e+2 0e0 1e308
 "\ud83d\ude00" "\"" "\\" "\\\"" "[" "{" "\/\b\f\n\r\t" "é名😀" [] {} [[]] [{}] {"a":[]} [1,2,3] ["a"] [null] [true]
 {"a":1} {"a":{"a":{}}} {"":0} {"a":1,"a":2} {"a":"}"} {"b":"]","\"":["\\"]} [[[[1]]],{"c":[{"d":{}}]}]""".split()
 ANY += ["1" * 300, "1" * 40 + ".5", "0." + "0" * 400 + "1", "1e" + "0" * 30 + "1"]
-# texts in place of a value that are no JSON, or that make the row none
-BROKEN = r"""tru truee true1 True TRUE trueX tru\u0065 fals falsee False nul nulll null1 Null NULL nil undefined NaN
-Infinity -Infinity 01 -01 00 1. .5 1.e5 1e 1e+ 1E- - -- +1 --1 -a 0x10 1_000 1,5 1e400 -1e400 1e309 123e99999 'a' '' a
-"a a" "\x" "\u12" "\u12g4" "\U0041" "\u+123" "\ud800" "\udc00" "\ud800\ud800" "\ud83d\u0041" "\ud83dx" "\" "\\\" [ ] {
-} [1 [1,] [,1] [1,,2] [1;2] [1,2}} {"a"} {"a":} {"a":1,} {,} {"a":1 {a:1} {'a':1} {"a":1,,"b":2} {"a":1;"b":2} {"a"::1}
-{1:2} {"\ud800":1} (1) <1> /**/1 1//""".split()
-BROKEN += ["1 2", "[1 2]", '{"a" 1}', '"\t"', '"\x00"', '"\x1f"', '"\\u 123"', "", "\x0b1", "\x0c1", "\xa01", "\ufeff1"]
-BROKEN += ["1\x00", "tr ue", "1" * 400, "-" + "9" * 310, "17976931348623159" + "0" * 292]
+# texts in place of a value that are no JSON: words, numbers, texts, arrays and objects, and what is none of these
+WORDS = r"""tru truee true1 truex true_ trueX True TRUE tru\u0065 fals falsee false0 falsey False nul nulll null1 nullx
+Null NULL nil undefined NaN Infinity -Infinity truetrue nullnull t n f true"" true'""".split()
+NUMBERS = r"""01 -01 00 1. .5 1.e5 1e 1e+ 1E- - -- +1 --1 -a 0x10 1_000 1,5 1a 1- 1.5.5 1e5e5 1e1.5 1e400 -1e400 1e309
+123e99999 -true""".split() + ["1" * 400, "-" + "9" * 310, "17976931348623159" + "0" * 292, "1 2", "- 1", "\xa01", "１"]
+TEXTS = r"""'a' '' a "a a" "\x" "\u12" "\u12g4" "\U0041" "\u+123" "\ud800" "\udc00" "\ud800\ud800" "\ud83d\u0041"
+"\ud83dx" "\" "\\\" "a"b "a""b" ""a" """.split() + ['"\t"', '"\x00"', '"\x1f"', '"a\x01"', '"\\u 123"', '"\\', '"\\u']
+PARTS = r"""[ ] { } [1 [1,] [,1] [1,,2] [1;2] [1,2}} {"a"} {"a":} {"a":1,} {,} {"a":1 {a:1} {'a':1} {"a":1,,"b":2} {1:2}
+{"a"::1} {"a":1;"b":2} {"\ud800":1} [1]] {}} [}] {]} [[]""".split() + ["[1 2]", '{"a" 1}', '{"a":1 "b":2}']
+OTHERS = ["(1)", "<1>", "/**/1", "1//", "", "\x0b1", "\x0c1", "\ufeff1", "1\x00", "\x7f"]
 # texts that spell no date, moment, Guid or member, or one without a value
 NO_TEXTS = r"""
 2021-02-29|2100-02-29|0000-01-01|2020-13-01|2020-00-01|2020-01-00|2020-01-32|2020-1-01|20-01-01|2020-01-01 |
@@ -148,7 +150,7 @@ class Writer:
         """What fits no such kind, mostly."""
         draw = self.draw
         if draw.chance(self.broken):
-            return draw.one_of(BROKEN)
+            return self.no_json(kind)
         if draw.chance(12):
             return "null"
         if kind in RANGES and draw.chance(60):
@@ -160,6 +162,12 @@ class Writer:
         if kind != "Edm.String" and isinstance(kind, str) and draw.chance(60):
             return quoted(draw, draw.one_of(NO_TEXTS), self.escapes)
         return draw.one_of(ANY)
+
+    def no_json(self, kind=None):
+        """What is no JSON, mostly near to what such a kind has."""
+        near = NUMBERS if kind in RANGES else PARTS if isinstance(kind, Record) else TEXTS
+        kinds = [WORDS, WORDS if kind == "Edm.Boolean" else near, self.draw.one_of([NUMBERS, TEXTS, PARTS, OTHERS])]
+        return self.draw.one_of(self.draw.one_of(kinds))
 
     def further_name(self, kind):
         """A name that no property has, mostly."""
@@ -173,7 +181,8 @@ class Writer:
         """An object, so many of its members at fault."""
         draw, slots, members = self.draw, kind.slots(), []
         looked_at = [one.name for one in slots if one.kind is not None]
-        bad = {draw.one_of(looked_at) for _ in range(flaws)} if looked_at else ()
+        is_further = draw.chance(self.broken // 3) if flaws else False
+        bad = {draw.one_of(looked_at) for _ in range(flaws)} if looked_at and not is_further else ()
         for one in slots:
             text = (self.flawed if one.name in bad else self.property)(one, value[one.name])
             if text is not None:
@@ -183,6 +192,8 @@ class Writer:
             self.double(members, slots)
         for _ in range(1 + draw.below(3) if draw.chance(self.more) else 0):
             members.insert(draw.below(len(members) + 1), (self.further_name(kind), self.any()))
+        if is_further:
+            members.insert(draw.below(len(members) + 1), (self.further_name(kind), self.no_json()))
         return self.braced(members)
 
     def in_order(self, members):

@@ -112,12 +112,16 @@ class Types:
         return record
 
     def chain(self, count):
-        """A type of so many slots, some of them those of its bases."""
+        """A type of so many slots, some of them those of its bases. The last one may be null: so it is seen where it is
+        not filled."""
         places = sorted(self.draw.below(count) for _ in range(self.draw.below(4)))
         base, own = None, names(self.draw, count)
         for n, (start, stop) in enumerate(zip([0, *places], [*places, count])):
             name = "Row" if n == len(places) else f"Base{n}"
             base = self.record(name, base, [self.property(one) for one in own[start:stop]])
+        last = base.own.index(base.slots()[-1])
+        plain = self.of_kind(base.own[last].name, self.draw.one_of(PRIMITIVES))
+        base.own[last] = plain._replace(many=False, nullable=True)
         return base
 
     def property(self, name):
