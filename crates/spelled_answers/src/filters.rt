@@ -114,7 +114,11 @@ fn judged(
     let mut reader = RowReader::new(alloc);
     let said = spelled_row(&judge_row(checked, now, &plan, &mut reader, line));
     for _ in 0..times {
-        if spelled_row(&judge_row(checked, now, &plan, &mut reader, line)) != said {
+        let again = spelled_row(&judge_row(checked, now, &plan, &mut reader, line));
+        if again == "memory" || said == "memory" {
+            return "memory";
+        }
+        if again != said {
             return "another answer";
         }
     }
@@ -181,7 +185,7 @@ fn agreed_outcome(
     } else if agrees(found, said) && found == told {
         Ok(String::from_str(alloc, found)?)
     } else {
-        Ok(format!(in alloc; "{found}, but {said} of a run, and {told} of a row")?)
+        Ok(format!(in alloc; "{found}, but {told} of a row, and {said} of a run")?)
     }
 }
 

@@ -95,7 +95,10 @@ fn says_refused(said: &str, wanted: &str) -> Result<bool, Fail> {
     };
     if said == wanted {
         Ok(false)
-    } else if is_cut_run || said.ends_with("memory") || said.ends_with("but another end of a run") {
+    } else if is_cut_run
+        || said.ends_with("memory")
+        || said.ends_with(", and another end of a run")
+    {
         Ok(true)
     } else {
         Err(Fail::new(format_args!("{said}, not {wanted}")))
