@@ -1,20 +1,20 @@
 -- Lemmas on words that stand at a place, and on names.
-use Rattle.std.proofs.Common.{◌≡◌, ℕ, zero, suc, ◌+◌, ◌*◌, ◌%◌, ◌^◌, ◌≤◌, Bool, true, false, cond, eqb, List, [], ◌∷◌, ◌++◌, length, take, drop, map, refl, sym, ap, ◌∙◌, arith, append_assoc, length-drop}
+use Rattle.std.proofs.Common.{◌≡◌, ℕ, zero, suc, ◌+◌, ◌*◌, ◌%◌, ◌^◌, ◌≤◌, Bool, true, false, cond, eqb, List, [], ◌∷◌, ◌++◌, length, take, drop, get_or, map, refl, sym, ap, ◌∙◌, arith, append_assoc, length-drop}
 use Rattle.std.proofs.lemmas.Bool.{eqb-true}
 use Rattle.std.proofs.lemmas.List.{drop-drop, take-append-drop, take-take, take_all}
 use Rattle.std.proofs.lemmas.Simd.{length-zip2, mask_l-mod, tops_compared}
 use lib.Lanes.{mask_l, top, zip2}
 use mir.Syntax.{w8}
-use Rattle.json.specs.Token.{key}
-use Rattle.json.specs.Lex.{between, lex, punctuate}
+use Rattle.json.specs.Token.{key, string}
+use Rattle.json.specs.Lex.{token, between, lex, punctuate}
 use Rattle.json.specs.Written.{PlainBetween}
 use Rattle.json.proofs.Printed.Plain.{escape_on_plain}
-use Rattle.json_tokens.specs.Keys.{with_colon}
+use Rattle.json_tokens.specs.Keys.{quoted_name}
 use Rattle.json_tokens.specs.private.Lexemes.{PassesSpaces, StandsAt, may_begin_at}
 use Rattle.json_tokens.specs.TokenReading.{place_of, tokens_left}
 use Rattle.json_tokens.specs.declared.lexeme.Turn.{Turn}
 use Rattle.json_tokens.specs.declared.lexeme.Turn.TheVariants.{Fresh}
-use Rattle.json_tokens.proofs.LexemeLemmas.{begins_key, quoted_lexed}
+use Rattle.json_tokens.proofs.LexemeLemmas.{begins_key, from_byte, quoted_lexed, within_byte}
 
 -- ---- words of a few bytes
 
@@ -68,10 +68,11 @@ ends_stand d i q m last room sum overlap first final =
 -- ---- names
 
 -- a name and its colon, where they stand
-pub key_there : (turn : Turn) (d : List ℕ) (i j : ℕ) (name : List ℕ) → may_begin_at turn ≡ true → PassesSpaces d i j → PlainBetween name 0 (length name) → StandsAt d j (with_colon name)
-    → tokens_left turn (drop i d) ≡ key name ∷ tokens_left Fresh (drop (j + length (with_colon name)) d)
-key_there turn d i j name may passed plain stands =
-    let r = drop (j + length (with_colon name)) d in
-    let parts : drop j d ≡ 34 ∷ (name ++ 34 ∷ 58 ∷ r) = stands.is ∙ ap (λ l. 34 ∷ l) (append_assoc name (34 ∷ 58 ∷ []) r) in
-    ap (punctuate (place_of turn)) (sym passed.same ∙ ap (lex between) parts ∙ quoted_lexed name (58 ∷ r) (escape_on_plain true name plain))
-    ∙ begins_key (place_of turn) name r may
+pub key_there : (turn : Turn) (d : List ℕ) (i j k : ℕ) (name : List ℕ) → may_begin_at turn ≡ true → PassesSpaces d i j → PlainBetween name 0 (length name) → StandsAt d j (quoted_name name)
+    → PassesSpaces d (j + length (quoted_name name)) k → get_or d k 32 ≡ 58 → tokens_left turn (drop i d) ≡ key name ∷ tokens_left Fresh (drop (k + 1) d)
+key_there turn d i j k name may passed plain stands behind colon =
+    let r = drop (j + length (quoted_name name)) d in
+    let parts : drop j d ≡ 34 ∷ (name ++ 34 ∷ r) = stands.is ∙ ap (λ l. 34 ∷ l) (append_assoc name (34 ∷ []) r) in
+    let there : lex between (58 ∷ drop (k + 1) d) ≡ lex between r = sym (ap (lex between) (from_byte d k 58 (within_byte d k 58 colon (λ e. omega arith)) colon)) ∙ behind.same in
+    ap (punctuate (place_of turn)) (sym passed.same ∙ ap (lex between) parts ∙ quoted_lexed name r (escape_on_plain true name plain) ∙ ap (λ ls. token (string name) ∷ ls) (sym there))
+    ∙ begins_key (place_of turn) name (drop (k + 1) d) may

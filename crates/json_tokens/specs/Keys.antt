@@ -3,11 +3,11 @@ use Rattle.std.specs.Prelude.{◌≡◌, ℕ, List, [], ◌∷◌, ◌++◌, len
 use Rattle.json.specs.Written.{PlainBetween}
 use Rattle.json_tokens.specs.declared.key.Key.TheInside.{Inside}
 
--- a name in its quotes, and a colon
-abbrev pub with_colon : List ℕ → List ℕ
-with_colon name = 34 ∷ (name ++ 34 ∷ 58 ∷ [])
+-- a name in its quotes
+abbrev pub quoted_name : List ℕ → List ℕ
+quoted_name name = 34 ∷ (name ++ 34 ∷ [])
 
 -- a key has a name without quotes, backslashes and control characters, and keeps what stands for it in a text
 pub record IsKey (key : Inside) : Type 0 where
   pub plain : PlainBetween (string_bytes key.name) 0 (length (string_bytes key.name))
-  pub quoted : string_bytes key.quoted ≡ with_colon (string_bytes key.name)
+  pub quoted : string_bytes key.quoted ≡ quoted_name (string_bytes key.name)

@@ -1,13 +1,13 @@
 //! A member's name as it stands in a text.
 ghost use Rattle.std.specs.Prelude.{◌≡◌, length, string_bytes, IfSome};
 ghost use Rattle.json.specs.Written.{PlainBetween};
-ghost use Rattle.json_tokens.specs.Keys.{with_colon};
+ghost use Rattle.json_tokens.specs.Keys.{quoted_name};
 
 use super::lexeme::plain_end;
 use std::alloc::Global;
 use std::marker::Model;
 
-/// A name with its quotes and its colon, which is compared with a text where it stands. Only a name that is written
+/// A name with its quotes, which is compared with a text where it stands. Only a name that is written
 /// as it is makes one.
 #[derive(Drop)]
 pub struct Key {
@@ -40,24 +40,24 @@ impl Key {
         let Ok(copy) = String::from_str(alloc, name) else {
             return None;
         };
-        match quoted_with_colon(alloc, name) {
+        match quoted_name(alloc, name) {
             Some(quoted) => Some(Key { name: copy, quoted }),
             None => None,
         }
     }
 
-    /// The name with its quotes and its colon.
+    /// The name with its quotes.
     #[inline(always)]
     pub(crate) fn quoted(&self) -> &[u8]
-        ensures quoted { result.now ≡ with_colon self.now }
+        ensures quoted { result.now ≡ quoted_name self.now }
         ensures plain { PlainBetween self.now 0 (length self.now) }
     {
         self.quoted.as_bytes()
     }
 }
 
-fn quoted_with_colon(alloc: Global, name: &str) -> Option<String>
-    ensures { IfSome result (λ quoted. string_bytes quoted ≡ with_colon name.now) }
+fn quoted_name(alloc: Global, name: &str) -> Option<String>
+    ensures { IfSome result (λ quoted. string_bytes quoted ≡ quoted_name name.now) }
 {
     let mut quoted = String::new(alloc);
     if quoted.push_str("\"").is_err() {
@@ -66,7 +66,7 @@ fn quoted_with_colon(alloc: Global, name: &str) -> Option<String>
     if quoted.push_str(name).is_err() {
         return None;
     }
-    if quoted.push_str("\":").is_err() {
+    if quoted.push_str("\"").is_err() {
         return None;
     }
     Some(quoted)

@@ -100,7 +100,7 @@ impl<'a> TokenReader<'a> {
         Ok(Some(key))
     }
 
-    /// Takes a member's name and its colon, if they are next and stand side by side.
+    /// Takes a member's name and its colon, if they are next.
     #[inline(always)]
     pub fn take_key(&mut self, key: &Key) -> bool
         ensures taken { IsTrue result → read_key self.old ≡ Some (Some key.now, self.new) }
@@ -112,7 +112,11 @@ impl<'a> TokenReader<'a> {
         if !self.turn.may_begin() || !stands_at(bytes, place, quoted) {
             return false;
         }
-        self.place = place + quoted.len();
+        let colon = past_spaces(bytes, place + quoted.len());
+        if byte_at(bytes, colon) != b':' {
+            return false;
+        }
+        self.place = colon + 1;
         self.turn = Turn::Fresh;
         true
     }
