@@ -1,10 +1,15 @@
-//! What is kept from row to row: texts and lists to be filled again, and the order in which members came.
-ghost use Rattle.std.specs.Prelude.{◌≡◌, [], string_bytes, IfSome};
+//! What is kept from row to row: values to be filled again, and the order in which members came.
+ghost use Rattle.std.specs.Prelude.{◌≡◌, string_bytes, take, IfSome};
 
+use super::row_slots::RowSlots;
 use super::slot_order::SlotOrder;
 use edm_values::Value;
 use json::Scratch;
 use std::alloc::Global;
+use std::mem;
+
+/// How deep values are gone through for their memory.
+const DEPTH: usize = 127;
 
 /// How many texts are kept, and for how many bytes each may have room.
 const TEXTS: usize = 1024;
@@ -24,15 +29,26 @@ pub(crate) struct SpareTexts {
 }
 
 impl SpareTexts {
-    /// A copy of a text; none where memory was refused.
+    /// A text to be filled: that of a place, else a spare one. One with much room is let go.
     #[inline(always)]
-    pub(crate) fn copy(&mut self, text: &str) -> Option<String>
+    fn text_of(&mut self, old: Value) -> String {
+        if let Value::Text(text) = old {
+            if text.capacity() <= TEXT_ROOM {
+                return text;
+            }
+        }
+        match self.texts.pop() {
+            Some(text) => text,
+            None => String::new(self.alloc),
+        }
+    }
+
+    /// A copy of a text, in the memory of what stood in its place; none where memory was refused.
+    #[inline(always)]
+    pub(crate) fn copy(&mut self, text: &str, old: Value) -> Option<String>
         ensures { IfSome result (λ copy. string_bytes copy ≡ text.now) }
     {
-        let mut copy = match self.texts.pop() {
-            Some(copy) => copy,
-            None => String::new(self.alloc),
-        };
+        let mut copy = self.text_of(old);
         copy.clear();
         match copy.push_str(text) {
             Ok(()) => Some(copy),
@@ -48,14 +64,17 @@ impl SpareTexts {
     }
 }
 
-/// What a reader of rows keeps for the next one: also the memory in which a text's escapes are told.
+/// What a reader of rows keeps for the next one: the values of the last one, to be filled again; also the memory in which
+/// a text's escapes are told.
 #[derive(Drop)]
 pub(crate) struct RowCache {
     pub(crate) alloc: Global,
     pub(crate) order: SlotOrder,
     pub(crate) scratch: Scratch,
     pub(crate) texts: SpareTexts,
+    pub(crate) row: Vec<Value>,
     lists: Vec<Vec<Value>>,
+    marks: Vec<Vec<bool>>,
 }
 
 impl RowCache {
@@ -68,26 +87,86 @@ impl RowCache {
                 alloc,
                 texts: Vec::new(alloc),
             },
+            row: Vec::new(alloc),
             lists: Vec::new(alloc),
+            marks: Vec::new(alloc),
         }
     }
 
-    /// An empty list.
-    #[inline(always)]
-    pub(crate) fn list(&mut self) -> Vec<Value>
-        ensures { result.items ≡ [] }
-    {
-        let Some(mut values) = self.lists.pop() else {
-            return Vec::new(self.alloc);
+    /// The slots of a row, with the values of the last one in them.
+    pub(crate) fn row_slots(&mut self) -> RowSlots {
+        let values = mem::replace(&mut self.row, Vec::new(self.alloc));
+        self.slots_with(values)
+    }
+
+    /// The slots of an object, with the values in them that stood in its place.
+    pub(crate) fn slots_of(&mut self, old: Value) -> RowSlots {
+        if let Value::Record(values) = old {
+            return self.slots_with(values);
+        }
+        self.retire(old);
+        let values = self.list();
+        self.slots_with(values)
+    }
+
+    fn slots_with(&mut self, values: Vec<Value>) -> RowSlots {
+        let filled = match self.marks.pop() {
+            Some(marks) => marks,
+            None => Vec::new(self.alloc),
         };
-        values.clear();
+        RowSlots { values, filled }
+    }
+
+    /// The values of an object whose slots are filled.
+    pub(crate) fn values_of(&mut self, slots: RowSlots) -> Vec<Value>
+        ensures { result ≡ slots.values }
+    {
+        let RowSlots { values, filled } = slots;
+        if self.marks.len() < LISTS {
+            drop(self.marks.push(filled));
+        }
         values
+    }
+
+    /// The values of an array, with those in it that stood in its place. Those with much room are let go.
+    pub(crate) fn items_of(&mut self, old: Value) -> Vec<Value> {
+        if let Value::List(values) = old {
+            if values.capacity() <= LIST_ROOM {
+                return values;
+            }
+            return self.list();
+        }
+        self.retire(old);
+        self.list()
+    }
+
+    fn list(&mut self) -> Vec<Value> {
+        match self.lists.pop() {
+            Some(values) => values,
+            None => Vec::new(self.alloc),
+        }
+    }
+
+    /// Keeps the first of the values alone; the memory of the others is filled again.
+    pub(crate) fn cut(&mut self, values: &mut Vec<Value>, count: usize)
+        ensures { values.new.items ≡ take count values.old.items }
+    {
+        'extra: while values.len() > count {
+            if let Some(value) = values.pop() {
+                self.retire(value);
+            }
+        }
+    }
+
+    /// Keeps the memory of a value that is not looked at any more.
+    pub(crate) fn retire(&mut self, value: Value) {
+        self.store_value(value, DEPTH);
     }
 
     /// Keeps a list, and the texts and lists in it, that many levels down. The last are kept first, so that they are
     /// given out in their order.
     #[cycle(store)]
-    pub(crate) fn store_list(&mut self, list: Vec<Value>, depth: usize) {
+    fn store_list(&mut self, list: Vec<Value>, depth: usize) {
         let mut values = list;
         'values: while let Some(value) = values.pop() {
             self.store_value(value, depth);

@@ -17,6 +17,7 @@ use csdl_schema::{EnumId, Schema};
 use edm_values::{Prim, Value};
 use json::Scratch;
 use json_tokens::TokenReader;
+use std::mem;
 
 /// Puts a value of a primitive type into its place.
 #[inline(always)]
@@ -136,7 +137,7 @@ fn put_text(texts: &mut SpareTexts, text: &str, place: &mut Value) -> bool
     ensures { (slots : Slots) (type : ExprType)
         → IsTrue result → FitsPrimitive Prim.String (string text.now) (val_of place.new slots type) }
 {
-    match texts.copy(text) {
+    match texts.copy(text, mem::replace(place, Value::Null)) {
         Some(copy) => {
             *place = Value::Text(copy);
             true

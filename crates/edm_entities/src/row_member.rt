@@ -79,6 +79,9 @@ pub(crate) fn next_member(
     if take_slot_name(plan, likely, reader) {
         return Some(Member::OfSlot(likely));
     }
+    if likely >= plan.slots.len() && reader.take_end_object() {
+        return Some(Member::End);
+    }
     match member_by_name(&mut cache.scratch, schema, plan.type_id, reader) {
         Some(member) => {
             note(&mut cache.order, member);

@@ -73,7 +73,7 @@ impl RowReader {
     /// Takes back an entity whose row is done with: its texts and lists are filled again by the rows to come. It says
     /// nothing of them, and any entity will do.
     pub fn take_back(&mut self, entity: Entity<'_>) {
-        self.cache.store_list(entity.into_values(), DEPTH);
+        self.cache.row = entity.into_values();
     }
 }
 
@@ -102,11 +102,12 @@ fn take_row(
         plans,
         depth: DEPTH - 1,
     };
-    let Some(values) = take_members(cache, &scene, plan, &mut reader) else {
+    let mut slots = cache.row_slots();
+    if !take_members(cache, &scene, plan, &mut reader, &mut slots) {
         return None;
-    };
+    }
     if reader.is_at_end() {
-        Some(values)
+        Some(cache.values_of(slots))
     } else {
         None
     }

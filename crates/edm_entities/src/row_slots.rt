@@ -1,28 +1,50 @@
 //! The slots of a type, while the members of an object are read into them.
-ghost use Rattle.std.specs.Prelude.{◌≡◌, ◌≢◌, ℕ, length, replicate, slice_get, false, IsTrue, IfSome};
+ghost use Rattle.std.specs.Prelude.{◌≡◌, ◌<◌, ℕ, get_or, length, replicate, true, false, IsTrue};
+ghost use Rattle.serde_json.specs.Data.{Members, object};
 ghost use Rattle.csdl_schema.specs.PropertyView.{property_type};
-ghost use Rattle.csdl_schema.specs.SchemaModel.{SchemaModel, properties_at};
+ghost use Rattle.csdl_schema.specs.SchemaModel.{SchemaModel, properties_at, slots_of};
 ghost use Rattle.edm_entities.specs.Plans.{IsPlan, IsSlotNamed};
-ghost use Rattle.edm_entities.specs.private.SlotsSoFar.{may_be_absent, IsFilled};
-ghost use Rattle.edm_entities.specs.private.Walk.{HoldEach};
+ghost use Rattle.edm_entities.specs.private.SlotsSoFar.{may_be_absent, SlotsSoFar};
+ghost use Rattle.edm_entities.specs.private.Walk.{FitSlots};
 
 use super::row_cache::RowCache;
 use super::type_plan::{SlotPlan, TypePlan};
 use super::wanted::wanted_as;
 use csdl_schema::Property;
 use edm_values::Value;
+use std::mem;
 
-/// That many nulls.
-pub(crate) fn null_slots(cache: &mut RowCache, count: usize) -> Option<Vec<Value>>
-    ensures { IfSome result (λ values. values.items ≡ replicate count Value.Null) }
+/// The values of an object's slots, and which of them its members have filled so far. What stands in another slot is of
+/// an earlier row, and says nothing: its memory is filled again.
+#[derive(Drop)]
+pub(crate) struct RowSlots {
+    pub(crate) values: Vec<Value>,
+    pub(crate) filled: Vec<bool>,
+}
+
+/// As many values as there are slots, whatever they are.
+fn fit_count(cache: &mut RowCache, values: &mut Vec<Value>, count: usize) -> bool
+    ensures { IsTrue result → length values.new.items ≡ count }
 {
-    let mut values = cache.list();
-    for slot in 0..count {
+    cache.cut(values, count);
+    'missing: while values.len() < count {
         if values.push(Value::Null).is_err() {
-            return None;
+            return false;
         }
     }
-    Some(values)
+    values.len() == count
+}
+
+/// Makes that many slots of them, none of which is filled.
+pub(crate) fn begin_slots(cache: &mut RowCache, slots: &mut RowSlots, count: usize) -> bool
+    ensures values { IsTrue result → length slots.new.values.items ≡ count }
+    ensures filled { IsTrue result → slots.new.filled.items ≡ replicate count false }
+{
+    if !fit_count(cache, &mut slots.values, count) {
+        return false;
+    }
+    slots.filled.clear();
+    slots.filled.resize(count, false).is_ok()
 }
 
 fn may_be_absent(property: Property) -> bool
@@ -35,50 +57,44 @@ fn may_be_absent(property: Property) -> bool
     }
 }
 
-fn is_null(value: &Value) -> bool
-    ensures { result ≡ false → value.now ≢ Value.Null }
-{
-    match value {
-        Value::Null => true,
-        _ => false,
-    }
-}
-
-/// Whether the value of a slot is not null, or may be absent.
+/// Fills a slot with null, if it was not filled and may be absent.
 #[inline(always)]
-fn is_filled(plan: &SlotPlan, value: &Value) -> bool
-    ensures { (schema : SchemaModel) (id slot : ℕ) → IsSlotNamed schema id plan.now.key slot plan.now.property
-        → IsTrue result → IfSome (slice_get (properties_at schema id) slot) (λ p. IsFilled p value.now) }
+fn fill_absent(cache: &mut RowCache, plan: &SlotPlan, slots: &mut RowSlots, slot: usize) -> bool
+    requires filled { slot < length slots.old.filled.items }
+    requires values { slot < length slots.old.values.items }
+    ensures so_far { (schema : SchemaModel) (id : ℕ) (found : Members)
+        → IsSlotNamed schema id plan.now.key slot plan.now.property
+        → SlotsSoFar schema id found slots.old.filled.items slots.old.values.items
+        → SlotsSoFar schema id found slots.new.filled.items slots.new.values.items }
+    ensures long { (length slots.new.filled.items ≡ length slots.old.filled.items)
+        × (length slots.new.values.items ≡ length slots.old.values.items) }
+    ensures filled { IsTrue result → get_or slots.new.filled.items slot false ≡ true }
+    ensures others { (k : ℕ) → get_or slots.old.filled.items k false ≡ true
+        → get_or slots.new.filled.items k false ≡ true }
 {
-    if !is_null(value) {
+    if slots.filled[slot] {
         return true;
     }
-    may_be_absent(plan.property)
+    if !may_be_absent(plan.property) {
+        return false;
+    }
+    cache.retire(mem::replace(&mut slots.values[slot], Value::Null));
+    slots.filled[slot] = true;
+    true
 }
 
-/// Whether each slot has a value that may not be absent.
-fn are_filled(plan: &TypePlan, values: &[Value]) -> bool
-    requires { length values.now ≡ length plan.now.slots.items }
-    ensures { (schema : SchemaModel) → IsPlan schema plan.now
-        → IsTrue result → HoldEach IsFilled (properties_at schema plan.now.type_id) values.now }
+/// Fills the slots that are absent and may be: then all are filled.
+pub(crate) fn fill_slots(cache: &mut RowCache, plan: &TypePlan, slots: &mut RowSlots) -> bool
+    requires values { length slots.old.values.items ≡ length plan.now.slots.items }
+    requires filled { length slots.old.filled.items ≡ length plan.now.slots.items }
+    ensures { (schema : SchemaModel) (found : Members) → IsPlan schema plan.now → IsTrue result
+        → SlotsSoFar schema plan.now.type_id found slots.old.filled.items slots.old.values.items
+        → FitSlots (slots_of schema) (object found) (properties_at schema plan.now.type_id) slots.new.values.items }
 {
-    for slot in 0..values.len() {
-        if !is_filled(&plan.slots[slot], &values[slot]) {
+    for slot in 0..plan.slots.len() {
+        if !fill_absent(cache, &plan.slots[slot], slots, slot) {
             return false;
         }
     }
     true
-}
-
-/// The values, if each slot has one that may not be absent.
-pub(crate) fn if_filled(plan: &TypePlan, values: Vec<Value>) -> Option<Vec<Value>>
-    requires { length values.items ≡ length plan.now.slots.items }
-    ensures { (schema : SchemaModel) → IsPlan schema plan.now → IfSome result (λ filled. (filled ≡ values)
-        × HoldEach IsFilled (properties_at schema plan.now.type_id) filled.items) }
-{
-    if are_filled(plan, values.as_slice()) {
-        Some(values)
-    } else {
-        None
-    }
 }

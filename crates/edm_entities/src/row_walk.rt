@@ -1,6 +1,6 @@
 //! The walk over a row's tokens, straight into the slots of its type. It ends where the row fits no value, and where
 //! memory is wanting.
-ghost use Rattle.std.specs.Prelude.{◌≡◌, ℕ, List, length, true, false, Some, None, IsTrue, IfSome};
+ghost use Rattle.std.specs.Prelude.{◌≡◌, ◌<◌, ◌≤◌, length, take, true, false, Some, None, IsTrue};
 ghost use Rattle.json.specs.Json.{read_key};
 ghost use Rattle.serde_json.specs.Data.{object, put, Members};
 ghost use Rattle.csdl_schema.specs.ExprType.{single, collection, structured};
@@ -19,12 +19,13 @@ use super::row_cache::RowCache;
 use super::row_leaf::{take_enumeration, take_primitive};
 use super::row_member::{Member, next_member};
 use super::row_skip::skip_value;
-use super::row_slots::{if_filled, null_slots};
+use super::row_slots::{RowSlots, begin_slots, fill_slots};
 use super::type_plan::{SlotPlan, TypePlan, plan_at};
 use super::wanted::{Wanted, wanted_as};
 use csdl_schema::Schema;
 use edm_values::Value;
 use json_tokens::TokenReader;
+use std::mem;
 
 /// What a walk goes by: the types, and how deep values may nest. It is lent, and made anew one level down.
 #[derive(Drop)]
@@ -43,30 +44,31 @@ struct OneValue {
     record: usize,
 }
 
-/// The values of the properties of a type in slot order, from an object's members and its closing brace.
+/// Fills the slots of a type, whatever stood in them, from an object's members and its closing brace.
 #[cycle(row)]
 pub(crate) fn take_members(
     cache: &mut RowCache,
     scene: &RowScene<'_>,
     plan: &TypePlan,
     reader: &mut TokenReader<'_>,
-) -> Option<Vec<Value>>
+    slots: &mut RowSlots,
+) -> bool
     requires plans { ArePlans scene.now.schema.now scene.now.plans.now }
     requires plan { IsPlan scene.now.schema.now plan.now }
-    ensures { IfSome result (λ values. ReadsMembers scene.now.depth reader.old reader.new (λ found. FitSlots
+    ensures { IsTrue result → ReadsMembers scene.now.depth reader.old reader.new (λ found. FitSlots
         (slots_of scene.now.schema.now) (object found) (properties_at scene.now.schema.now plan.now.type_id)
-        values.items)) }
+        slots.new.values.items) }
 {
-    let Some(mut values) = null_slots(cache, plan.slots.len()) else {
-        return None;
-    };
+    if !begin_slots(cache, slots, plan.slots.len()) {
+        return false;
+    }
     cache.order.begin(plan.slots.len());
     'members: loop {
-        let Some(more) = take_member(cache, scene, plan, reader, &mut values) else {
-            return None;
+        let Some(more) = take_member(cache, scene, plan, reader, slots) else {
+            return false;
         };
         if !more {
-            return if_filled(plan, values);
+            return fill_slots(cache, plan, slots);
         }
     }
 }
@@ -79,25 +81,35 @@ fn take_member(
     scene: &RowScene<'_>,
     plan: &TypePlan,
     reader: &mut TokenReader<'_>,
-    values: &mut Vec<Value>,
+    slots: &mut RowSlots,
 ) -> Option<bool>
     requires plans { ArePlans scene.now.schema.now scene.now.plans.now }
     requires plan { IsPlan scene.now.schema.now plan.now }
-    requires count { length values.old.items ≡ length plan.now.slots.items }
+    requires values { length slots.old.values.items ≡ length plan.now.slots.items }
+    requires filled { length slots.old.filled.items ≡ length plan.now.slots.items }
     ensures member { result ≡ Some true → ReadsMember scene.now.depth reader.old reader.new (λ name json.
-        (found : Members) → SlotsSoFar scene.now.schema.now plan.now.type_id found values.old.items
-        → SlotsSoFar scene.now.schema.now plan.now.type_id (put name json found) values.new.items) }
+        (found : Members)
+        → SlotsSoFar scene.now.schema.now plan.now.type_id found slots.old.filled.items slots.old.values.items
+        → SlotsSoFar scene.now.schema.now plan.now.type_id (put name json found) slots.new.filled.items
+        slots.new.values.items) }
     ensures end { result ≡ Some false
-        → (read_key reader.old ≡ Some (None, reader.new)) × (values.new ≡ values.old) }
+        → (read_key reader.old ≡ Some (None, reader.new)) × (slots.new ≡ slots.old) }
 {
     let Some(member) = next_member(cache, scene.schema, plan, reader) else {
         return None;
     };
     match member {
         Member::OfSlot(slot) => {
-            if !take_property(cache, scene, &plan.slots[slot], reader, &mut values[slot]) {
+            if !take_property(
+                cache,
+                scene,
+                &plan.slots[slot],
+                reader,
+                &mut slots.values[slot],
+            ) {
                 return None;
             }
+            slots.filled[slot] = true;
             cache.order.pass(plan.slots.len(), slot);
             Some(true)
         }
@@ -160,7 +172,7 @@ fn take_single(
         (single (wanted_single scene.now.schema.now one.now.wanted)) }
 {
     if reader.take_null() {
-        return put_null(one.nullable, place);
+        return put_null(cache, one.nullable, place);
     }
     match one.wanted {
         Wanted::Complex(id) => match plan_at(scene.plans, one.record, id) {
@@ -173,10 +185,10 @@ fn take_single(
 }
 
 /// A null that may be.
-fn put_null(nullable: bool, place: &mut Value) -> bool
+fn put_null(cache: &mut RowCache, nullable: bool, place: &mut Value) -> bool
     ensures { IsTrue result → (nullable ≡ true) × (place.new ≡ Value.Null) }
 {
-    *place = Value::Null;
+    cache.retire(mem::replace(place, Value::Null));
     nullable
 }
 
@@ -205,13 +217,12 @@ fn take_record(
         plans: scene.plans,
         depth: scene.depth - 1,
     };
-    match take_members(cache, &inner, plan, reader) {
-        Some(values) => {
-            *place = Value::Record(values);
-            true
-        }
-        None => false,
+    let mut slots = cache.slots_of(mem::replace(place, Value::Null));
+    if !take_members(cache, &inner, plan, reader, &mut slots) {
+        return false;
     }
+    *place = Value::Record(cache.values_of(slots));
+    true
 }
 
 /// Puts the value of an array into its place.
@@ -238,39 +249,50 @@ fn take_array(
         plans: scene.plans,
         depth: scene.depth - 1,
     };
-    match take_items(cache, &inner, one, reader) {
-        Some(values) => {
-            *place = Value::List(values);
-            true
-        }
-        None => false,
+    let mut values = cache.items_of(mem::replace(place, Value::Null));
+    if !take_items(cache, &inner, one, reader, &mut values) {
+        return false;
     }
+    *place = Value::List(values);
+    true
 }
 
-/// The values of an array's items, in order.
+/// Whether there is room for a value behind so many.
+#[inline(always)]
+fn has_place(values: &mut Vec<Value>, count: usize) -> bool
+    requires { count ≤ length values.old.items }
+    ensures room { IsTrue result → count < length values.new.items }
+    ensures kept { take count values.new.items ≡ take count values.old.items }
+{
+    count < values.len() || values.push(Value::Null).is_ok()
+}
+
+/// Puts the values of an array's items, in order, into their places.
 #[cycle(row)]
 fn take_items(
     cache: &mut RowCache,
     scene: &RowScene<'_>,
     one: &OneValue,
     reader: &mut TokenReader<'_>,
-) -> Option<Vec<Value>>
+    values: &mut Vec<Value>,
+) -> bool
     requires { ArePlans scene.now.schema.now scene.now.plans.now }
-    ensures read { IfSome result (λ values. ReadsItems scene.now.depth reader.old reader.new (λ jsons. FitList
+    ensures read { IsTrue result → ReadsItems scene.now.depth reader.old reader.new (λ jsons. FitList
         (slots_of scene.now.schema.now) one.now.nullable (wanted_single scene.now.schema.now one.now.wanted) jsons
-        values.items)) }
-    ensures holds { IfSome result (λ values. HoldInItems (slots_of scene.now.schema.now)
-        (wanted_single scene.now.schema.now one.now.wanted) values.items) }
+        values.new.items) }
+    ensures holds { IsTrue result → HoldInItems (slots_of scene.now.schema.now)
+        (wanted_single scene.now.schema.now one.now.wanted) values.new.items }
 {
-    let mut values = cache.list();
+    let mut count = 0;
     'items: while !reader.take_end_array() {
-        let mut item = Value::Null;
-        if !take_single(cache, scene, one, reader, &mut item) {
-            return None;
+        if !has_place(values, count) {
+            return false;
         }
-        if values.push(item).is_err() {
-            return None;
+        if !take_single(cache, scene, one, reader, &mut values[count]) {
+            return false;
         }
+        count += 1;
     }
-    Some(values)
+    cache.cut(values, count);
+    true
 }

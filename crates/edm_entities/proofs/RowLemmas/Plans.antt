@@ -1,5 +1,6 @@
 -- Types that were looked up once, and the members of an object among their slots.
-use Rattle.std.proofs.Common.{◌≡◌, ℕ, zero, suc, ◌+◌, ◌<◌, List, [], ◌∷◌, ◌++◌, length, map, Option, Some, IfSome, slice_get, refl, sym, ap, ◌∙◌, subst, arith}
+use Rattle.std.proofs.Common.{◌≡◌, ℕ, zero, suc, ◌+◌, ◌<◌, ◌==◌, Bool, true, false, lt_of_not-le, List, [], ◌∷◌, ◌++◌, length, take, slice_set, map, Option, Some, IfSome, slice_get, refl, sym, ap, ◌∙◌, subst, arith}
+use Rattle.std.proofs.lemmas.Bool.{eqb-true, eqb-false}
 use Rattle.json.specs.Token.{Token}
 use Rattle.json.proofs.Grammar.{read_key-shorter}
 use Rattle.serde_json.specs.Data.{Data, Members, put}
@@ -31,6 +32,23 @@ each_push Q (y ∷ items) x each here (suc k) = each_push (λ n. Q (suc n)) item
 pub long_push : {X : Type 0} (items : List X) (x : X) → length (items ++ x ∷ []) ≡ length items + 1
 long_push [] x = refl
 long_push (y ∷ items) x = omega (arith, long_push items x)
+
+pub take_none : {X : Type 0} (xs : List X) → take 0 xs ≡ []
+take_none [] = refl
+take_none (x ∷ xs) = refl
+
+-- one more of the first, where it was set
+pub take_set : {X : Type 0} (xs : List X) (n : ℕ) (x : X) → n < length xs → take (n + 1) (slice_set xs n x) ≡ take n xs ++ x ∷ []
+take_set [] n x within = absurd (omega arith)
+take_set (y ∷ xs) zero x within = ap (λ zs. x ∷ zs) (take_none xs) ∙ ap (λ zs. zs ++ x ∷ []) (sym (take_none (y ∷ xs)))
+take_set (y ∷ xs) (suc n) x within =
+    let same : suc n + 1 ≡ suc (n + 1) = omega arith in
+    ap (λ k. take k (y ∷ slice_set xs n x)) same ∙ ap (λ zs. y ∷ zs) (take_set xs n x (omega (arith, within)))
+
+pub long_set : {X : Type 0} (xs : List X) (n : ℕ) (x : X) → length (slice_set xs n x) ≡ length xs
+long_set [] n x = refl
+long_set (y ∷ xs) zero x = refl
+long_set (y ∷ xs) (suc n) x = ap suc (long_set xs n x)
 
 pub each_at : {X : Type 0} (Q : ℕ → X → Type 0) (items : List X) (k : ℕ) (x : X) → ((n : ℕ) → IfSome (slice_get items n) (Q n)) → slice_get items k ≡ Some x → Q k x
 each_at Q items k x each at = subst (λ o. IfSome o (Q k)) at (each k)
@@ -66,3 +84,12 @@ pub member_taken : (depth : ℕ) (first tokens rest : List Token) (P R : Members
 member_taken depth first tokens rest P R member lead =
     member_more depth first tokens member.behind_name rest member.name P (λ json. (found : Members) → P found → R (put member.name json found)) R member.is_name
     (λ found json holds by. by found holds) member.value lead
+
+-- ---- numbers one after another
+
+pub below_next : (P : ℕ → Type 0) (n : ℕ) → ((k : ℕ) → k < n → P k) → P n → (k : ℕ) → k < n + 1 → P k
+below_next P n below here k less = by (k == n) refl
+  where
+    by : (b : Bool) → (k == n) ≡ b → P k
+    by true e = subst P (sym (eqb-true k n e)) here
+    by false e = let other = eqb-false k n e in below k (lt_of_not-le (λ past. other (omega (arith, less, past))))

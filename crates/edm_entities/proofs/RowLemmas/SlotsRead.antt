@@ -1,5 +1,5 @@
 -- The slots of a type, while the members of an object are read into them.
-use Rattle.std.proofs.Common.{◌≡◌, ◌≢◌, inl, inr, ℕ, zero, suc, List, [], ◌∷◌, length, map, replicate, slice_set, take, ◌<◌, Bool, true, Option, Some, None, slice_get, get_or, IfSome, refl, sym, ap, ◌∙◌, subst, arith}
+use Rattle.std.proofs.Common.{◌≡◌, ◌≢◌, ℕ, zero, suc, List, [], ◌∷◌, length, map, replicate, slice_set, ◌<◌, Bool, true, false, Option, Some, None, slice_get, get_or, IfSome, refl, sym, ap, ◌∙◌, subst, arith}
 use Rattle.std.specs.List.{AllByRecursion}
 use Rattle.serde_json.specs.Data.{Data, Members, no_members, object, put}
 use Rattle.serde_json.specs.Find.{get_member}
@@ -10,38 +10,61 @@ use Rattle.csdl_schema.specs.SchemaModel.{SchemaModel, Slots, PropertyModel, Pro
 use Rattle.csdl_schema.specs.declared.property.Property.{Property}
 use Rattle.edm_entities.specs.Fits.{FitsProperty}
 use Rattle.edm_entities.specs.Row.{field_of, val_of}
-use Rattle.edm_entities.specs.private.SlotsSoFar.{HoldsSoFar, SlotsSoFar, may_be_absent, IsFilled}
+use Rattle.edm_entities.specs.private.SlotsSoFar.{HoldsSoFar, HoldEachSoFar, SlotsSoFar, may_be_absent}
 use Rattle.edm_entities.specs.private.Walk.{HoldEach, FitsSlot, FitSlots, HoldsInSlot}
 use Rattle.edm_entities.proofs.SlotLemmas.EachSlot.{null_in_slot}
 use Rattle.edm_entities.proofs.SlotLemmas.FoundWalk.{val_of-Null}
 
-abbrev found_in : Members → List ℕ → Option Data
+abbrev pub found_in : Members → List ℕ → Option Data
 found_in found name = get_member name found
+
+-- ---- lengths
+
+pub as_many_values : (Q : PropertyModel → Bool → Value → Type 0) (ps : List PropertyModel) (filled : List Bool) (values : List Value) → HoldEachSoFar Q ps filled values → length values ≡ length ps
+as_many_values Q [] [] [] hold = refl
+as_many_values Q [] [] (v ∷ values) hold = absurd hold
+as_many_values Q [] (b ∷ filled) values hold = absurd hold
+as_many_values Q (p ∷ ps) [] values hold = absurd hold
+as_many_values Q (p ∷ ps) (b ∷ filled) [] hold = absurd hold
+as_many_values Q (p ∷ ps) (b ∷ filled) (v ∷ values) hold = ap suc (as_many_values Q ps filled values hold.1)
+
+pub as_many_filled : (Q : PropertyModel → Bool → Value → Type 0) (ps : List PropertyModel) (filled : List Bool) (values : List Value) → HoldEachSoFar Q ps filled values → length filled ≡ length ps
+as_many_filled Q [] [] [] hold = refl
+as_many_filled Q [] [] (v ∷ values) hold = absurd hold
+as_many_filled Q [] (b ∷ filled) values hold = absurd hold
+as_many_filled Q (p ∷ ps) [] values hold = absurd hold
+as_many_filled Q (p ∷ ps) (b ∷ filled) [] hold = absurd hold
+as_many_filled Q (p ∷ ps) (b ∷ filled) (v ∷ values) hold = ap suc (as_many_filled Q ps filled values hold.1)
 
 -- ---- at the start
 
-nulls_hold : (slots : Slots) (ps : List PropertyModel) → HoldEach (HoldsSoFar slots (found_in no_members)) ps (replicate (length ps) Null)
-nulls_hold slots [] = tt
-nulls_hold slots (p ∷ ps) = (inl (refl, refl), nulls_hold slots ps)
+none_filled : (slots : Slots) (ps : List PropertyModel) (values : List Value) → length values ≡ length ps → HoldEachSoFar (HoldsSoFar slots (found_in no_members)) ps (replicate (length ps) false) values
+none_filled slots [] [] long = tt
+none_filled slots [] (v ∷ values) long = absurd (omega (arith, long))
+none_filled slots (p ∷ ps) [] long = absurd (omega (arith, long))
+none_filled slots (p ∷ ps) (v ∷ values) long = (refl, none_filled slots ps values (omega (arith, long)))
 
-pub slots_start : (schema : SchemaModel) (id : ℕ) (values : List Value) → values ≡ replicate (length (properties_at schema id)) Null → SlotsSoFar schema id no_members values
-slots_start schema id values are =
-    subst (λ (vs : List Value). SlotsSoFar schema id no_members vs) (sym are) (nulls_hold (slots_of schema) (properties_at schema id))
+pub slots_start : (schema : SchemaModel) (id : ℕ) (filled : List Bool) (values : List Value) → filled ≡ replicate (length (properties_at schema id)) false → length values ≡ length (properties_at schema id)
+    → SlotsSoFar schema id no_members filled values
+slots_start schema id filled values are long =
+    subst (λ (marks : List Bool). SlotsSoFar schema id no_members marks values) (sym are) (none_filled (slots_of schema) (properties_at schema id) values long)
 
 -- ---- one member more
 
 module _ (slots : Slots) (found : Members) (name : List ℕ) (json : Data) where
-  other_holds : (p : PropertyModel) (v : Value) → p.name ≢ name → HoldsSoFar slots (found_in found) p v → HoldsSoFar slots (found_in (put name json found)) p v
-  other_holds p v other (inl (none, null)) = inl (get_member-put_other p.name name json found other ∙ none, null)
-  other_holds p v other (inr fits) =
-      inr (subst (λ (o : Option Data). FitsProperty slots p.nullable p.type_of o (field_of slots p.type_of (val_of v))) (sym (get_member-put_other p.name name json found other)) fits.0, fits.1)
+  other_holds : (p : PropertyModel) (b : Bool) (v : Value) → p.name ≢ name → HoldsSoFar slots (found_in found) p b v → HoldsSoFar slots (found_in (put name json found)) p b v
+  other_holds p false v other none = get_member-put_other p.name name json found other ∙ none
+  other_holds p true v other fits =
+      (subst (λ (o : Option Data). FitsProperty slots p.nullable p.type_of o (field_of slots p.type_of (val_of v))) (sym (get_member-put_other p.name name json found other)) fits.0, fits.1)
 
-  pub others_hold : (ps : List PropertyModel) (values : List Value) → AllByRecursion (λ p. p.name ≢ name) ps → HoldEach (HoldsSoFar slots (found_in found)) ps values
-      → HoldEach (HoldsSoFar slots (found_in (put name json found))) ps values
-  others_hold [] [] others hold = tt
-  others_hold [] (v ∷ values) others hold = absurd hold
-  others_hold (p ∷ ps) [] others hold = absurd hold
-  others_hold (p ∷ ps) (v ∷ values) others hold = (other_holds p v others.0 hold.0, others_hold ps values others.1 hold.1)
+  pub others_hold : (ps : List PropertyModel) (filled : List Bool) (values : List Value) → AllByRecursion (λ p. p.name ≢ name) ps → HoldEachSoFar (HoldsSoFar slots (found_in found)) ps filled values
+      → HoldEachSoFar (HoldsSoFar slots (found_in (put name json found))) ps filled values
+  others_hold [] [] [] others hold = tt
+  others_hold [] [] (v ∷ values) others hold = absurd hold
+  others_hold [] (b ∷ filled) values others hold = absurd hold
+  others_hold (p ∷ ps) [] values others hold = absurd hold
+  others_hold (p ∷ ps) (b ∷ filled) [] others hold = absurd hold
+  others_hold (p ∷ ps) (b ∷ filled) (v ∷ values) others hold = (other_holds p b v others.0 hold.0, others_hold ps filled values others.1 hold.1)
 
   -- a name behind another is another
   apart : (first : List ℕ) (ps : List PropertyModel) (n : ℕ) → AllByRecursion (λ q. q.name ≢ first) ps → slice_get (map (λ p. p.name) ps) n ≡ Some name → first ≢ name
@@ -49,44 +72,64 @@ module _ (slots : Slots) (found : Members) (name : List ℕ) (json : Data) where
   apart first (p ∷ ps) zero others at = let named : p.name ≡ name = cc in λ same. others.0 (named ∙ sym same)
   apart first (p ∷ ps) (suc n) others at = apart first ps n others.1 at
 
-  pub slot_set : (ps : List PropertyModel) (values : List Value) (n : ℕ) (v : Value) → HasDistinctNames ps → slice_get (map (λ p. p.name) ps) n ≡ Some name
+  -- what fits what was found fills its slot
+  pub slot_set : (ps : List PropertyModel) (filled : List Bool) (values : List Value) (n : ℕ) (v : Value) → HasDistinctNames ps → slice_get (map (λ p. p.name) ps) n ≡ Some name
       → IfSome (slice_get ps n) (λ p. FitsProperty slots p.nullable p.type_of (Some json) (field_of slots p.type_of (val_of v))) → IfSome (slice_get ps n) (λ p. HoldsInSlot slots p.type_of v)
-      → HoldEach (HoldsSoFar slots (found_in found)) ps values → HoldEach (HoldsSoFar slots (found_in (put name json found))) ps (slice_set values n v)
-  slot_set [] values n v distinct at fits holds hold = absurd (cc)
-  slot_set (p ∷ ps) [] n v distinct at fits holds hold = absurd hold
-  slot_set (p ∷ ps) (w ∷ values) zero v distinct at fits holds hold =
+      → HoldEachSoFar (HoldsSoFar slots (found_in found)) ps filled values → HoldEachSoFar (HoldsSoFar slots (found_in (put name json found))) ps (slice_set filled n true) (slice_set values n v)
+  slot_set [] filled values n v distinct at fits holds hold = absurd (cc)
+  slot_set (p ∷ ps) [] values n v distinct at fits holds hold = absurd hold
+  slot_set (p ∷ ps) (b ∷ filled) [] n v distinct at fits holds hold = absurd hold
+  slot_set (p ∷ ps) (b ∷ filled) (w ∷ values) zero v distinct at fits holds hold =
       let named : p.name ≡ name = cc in
       let here : Some json ≡ get_member p.name (put name json found) = sym (ap (λ (s : List ℕ). get_member s (put name json found)) named ∙ get_member-put name json found) in
       let others = subst (λ (s : List ℕ). AllByRecursion (λ q. q.name ≢ s) ps) named distinct.0 in
-      (inr (subst (λ (o : Option Data). FitsProperty slots p.nullable p.type_of o (field_of slots p.type_of (val_of v))) here fits, holds), others_hold ps values others hold.1)
-  slot_set (p ∷ ps) (w ∷ values) (suc n) v distinct at fits holds hold =
-      (other_holds p w (apart p.name ps n distinct.0 at) hold.0, slot_set ps values n v distinct.1 at fits holds hold.1)
+      ((subst (λ (o : Option Data). FitsProperty slots p.nullable p.type_of o (field_of slots p.type_of (val_of v))) here fits, holds), others_hold ps filled values others hold.1)
+  slot_set (p ∷ ps) (b ∷ filled) (w ∷ values) (suc n) v distinct at fits holds hold =
+      (other_holds p b w (apart p.name ps n distinct.0 at) hold.0, slot_set ps filled values n v distinct.1 at fits holds hold.1)
 
 -- ---- at the end
 
-absent_fits : (slots : Slots) (type : PropertyType) (nullable : Bool) (found : Option Data) (v : Value) → found ≡ None → v ≡ Null → may_be_absent type nullable ≡ true
-    → FitsProperty slots nullable type found (field_of slots type (val_of v))
-absent_fits slots (declared type) nullable found v none null may =
-    subst (λ (o : Option Data). FitsProperty slots nullable (declared type) o (field_of slots (declared type) (val_of v))) (sym none)
-    (may, ap (λ (w : Value). val_of w slots type) null ∙ val_of-Null slots type)
-absent_fits slots opaque nullable found v none null may = tt
-absent_fits slots (navigation target) nullable found v none null may = tt
+absent_fits : (slots : Slots) (type : PropertyType) (nullable : Bool) (found : Option Data) → found ≡ None → may_be_absent type nullable ≡ true
+    → FitsProperty slots nullable type found (field_of slots type (val_of Null))
+absent_fits slots (declared type) nullable found none may =
+    subst (λ (o : Option Data). FitsProperty slots nullable (declared type) o (field_of slots (declared type) (val_of Null))) (sym none) (may, val_of-Null slots type)
+absent_fits slots opaque nullable found none may = tt
+absent_fits slots (navigation target) nullable found none may = tt
 
-slot_fits : (slots : Slots) (found : List ℕ → Option Data) (p : PropertyModel) (v : Value) → HoldsSoFar slots found p v → IsFilled p v → FitsSlot slots found p v
-slot_fits slots found p v (inr fits) filled = fits
-slot_fits slots found p v (inl (none, null)) (inl may) = (absent_fits slots p.type_of p.nullable (found p.name) v none null may, null_in_slot slots p.type_of v null)
-slot_fits slots found p v (inl (none, null)) (inr some) = absurd (some null)
+absent_filled : (slots : Slots) (found : List ℕ → Option Data) (p : PropertyModel) (b : Bool) (v : Value) → b ≡ false → may_be_absent p.type_of p.nullable ≡ true → HoldsSoFar slots found p b v
+    → HoldsSoFar slots found p true Null
+absent_filled slots found p true v not may hold = absurd (cc)
+absent_filled slots found p false v not may none = (absent_fits slots p.type_of p.nullable (found p.name) none may, null_in_slot slots p.type_of Null refl)
 
-each_fits : (slots : Slots) (found : List ℕ → Option Data) (ps : List PropertyModel) (values : List Value) → HoldEach (HoldsSoFar slots found) ps values → HoldEach IsFilled ps values
-    → HoldEach (FitsSlot slots found) ps values
-each_fits slots found [] [] hold filled = tt
-each_fits slots found [] (v ∷ values) hold filled = absurd hold
-each_fits slots found (p ∷ ps) [] hold filled = absurd hold
-each_fits slots found (p ∷ ps) (v ∷ values) hold filled = (slot_fits slots found p v hold.0 filled.0, each_fits slots found ps values hold.1 filled.1)
+-- null fills a slot that may be absent and was not filled
+pub slot_filled : (slots : Slots) (found : List ℕ → Option Data) (ps : List PropertyModel) (filled : List Bool) (values : List Value) (n : ℕ)
+    → IfSome (slice_get ps n) (λ p. may_be_absent p.type_of p.nullable ≡ true) → n < length filled → get_or filled n false ≡ false → HoldEachSoFar (HoldsSoFar slots found) ps filled values
+    → HoldEachSoFar (HoldsSoFar slots found) ps (slice_set filled n true) (slice_set values n Null)
+slot_filled slots found [] [] [] n may within not hold = absurd (omega arith)
+slot_filled slots found [] [] (v ∷ values) n may within not hold = absurd hold
+slot_filled slots found [] (b ∷ filled) values n may within not hold = absurd hold
+slot_filled slots found (p ∷ ps) [] values n may within not hold = absurd hold
+slot_filled slots found (p ∷ ps) (b ∷ filled) [] n may within not hold = absurd hold
+slot_filled slots found (p ∷ ps) (b ∷ filled) (v ∷ values) zero may within not hold = (absent_filled slots found p b v not may hold.0, hold.1)
+slot_filled slots found (p ∷ ps) (b ∷ filled) (v ∷ values) (suc n) may within not hold = (hold.0, slot_filled slots found ps filled values n may (omega (arith, within)) not hold.1)
 
-pub slots_over : (schema : SchemaModel) (id : ℕ) (found : Members) (values : List Value) → HoldEach IsFilled (properties_at schema id) values → SlotsSoFar schema id found values
-    → FitSlots (slots_of schema) (object found) (properties_at schema id) values
-slots_over schema id found values filled hold = each_fits (slots_of schema) (found_in found) (properties_at schema id) values hold filled
+filled_fits : (slots : Slots) (found : List ℕ → Option Data) (p : PropertyModel) (b : Bool) (v : Value) → b ≡ true → HoldsSoFar slots found p b v → FitsSlot slots found p v
+filled_fits slots found p true v is fits = fits
+filled_fits slots found p false v is none = absurd (cc)
+
+each_fits : (slots : Slots) (found : List ℕ → Option Data) (ps : List PropertyModel) (filled : List Bool) (values : List Value) → ((k : ℕ) → k < length ps → get_or filled k false ≡ true)
+    → HoldEachSoFar (HoldsSoFar slots found) ps filled values → HoldEach (FitsSlot slots found) ps values
+each_fits slots found [] [] [] all hold = tt
+each_fits slots found [] [] (v ∷ values) all hold = absurd hold
+each_fits slots found [] (b ∷ filled) values all hold = absurd hold
+each_fits slots found (p ∷ ps) [] values all hold = absurd hold
+each_fits slots found (p ∷ ps) (b ∷ filled) [] all hold = absurd hold
+each_fits slots found (p ∷ ps) (b ∷ filled) (v ∷ values) all hold =
+    (filled_fits slots found p b v (all 0 (omega arith)) hold.0, each_fits slots found ps filled values (λ k less. all (suc k) (omega (arith, less))) hold.1)
+
+pub slots_over : (schema : SchemaModel) (id : ℕ) (found : Members) (filled : List Bool) (values : List Value) → ((k : ℕ) → k < length (properties_at schema id) → get_or filled k false ≡ true)
+    → SlotsSoFar schema id found filled values → FitSlots (slots_of schema) (object found) (properties_at schema id) values
+slots_over schema id found filled values all hold = each_fits (slots_of schema) (found_in found) (properties_at schema id) filled values all hold
 
 -- ---- properties as the code reads them
 
@@ -103,17 +146,23 @@ slot_within [] n name at = absurd (cc)
 slot_within (p ∷ ps) zero name at = omega arith
 slot_within (p ∷ ps) (suc n) name at = omega (arith, slot_within ps n name at)
 
--- a value of a property that may be absent is filled
-pub absent_filled : (schema : SchemaModel) (o : Option PropertyModel) (property : Property) (v : Value) → IfSome o (λ p. IsReadAs schema p property)
-    → may_be_absent (property_type schema property) property.nullable ≡ true → IfSome o (λ p. IsFilled p v)
-absent_filled schema None property v is may = tt
-absent_filled schema (Some p) property v is may =
-    inl (subst (λ (b : Bool). may_be_absent p.type_of b ≡ true) is.nullable (subst (λ (type : PropertyType). may_be_absent type property.nullable ≡ true) is.type_of may))
+-- whether a property may be absent, as the code reads it
+pub may_as_read : (schema : SchemaModel) (o : Option PropertyModel) (property : Property) → IfSome o (λ p. IsReadAs schema p property)
+    → may_be_absent (property_type schema property) property.nullable ≡ true → IfSome o (λ p. may_be_absent p.type_of p.nullable ≡ true)
+may_as_read schema None property is may = tt
+may_as_read schema (Some p) property is may =
+    subst (λ (b : Bool). may_be_absent p.type_of b ≡ true) is.nullable (subst (λ (type : PropertyType). may_be_absent type property.nullable ≡ true) is.type_of may)
 
--- a slot that is filled, after those before it
-pub fill_next : (ps : List PropertyModel) (n : ℕ) (values : List Value) (v : Value) → n < length ps → slice_get values n ≡ Some v → IfSome (slice_get ps n) (λ p. IsFilled p v)
-    → HoldEach IsFilled (take n ps) (take n values) → HoldEach IsFilled (take (suc n) ps) (take (suc n) values)
-fill_next [] n values v within at filled hold = absurd (omega arith)
-fill_next (p ∷ ps) n [] v within at filled hold = absurd (cc)
-fill_next (p ∷ ps) zero (w ∷ values) v within at filled hold = let same : w ≡ v = cc in (subst (λ (x : Value). IsFilled p x) (sym same) filled, tt)
-fill_next (p ∷ ps) (suc n) (w ∷ values) v within at filled hold = (hold.0, fill_next ps n values v (omega arith) at filled hold.1)
+-- ---- marks
+
+pub mark_set : (filled : List Bool) (n : ℕ) → n < length filled → get_or (slice_set filled n true) n false ≡ true
+mark_set [] n within = absurd (omega arith)
+mark_set (b ∷ filled) zero within = refl
+mark_set (b ∷ filled) (suc n) within = mark_set filled n (omega (arith, within))
+
+pub mark_kept : (filled : List Bool) (n k : ℕ) → get_or filled k false ≡ true → get_or (slice_set filled n true) k false ≡ true
+mark_kept [] n k is = is
+mark_kept (b ∷ filled) zero zero is = refl
+mark_kept (b ∷ filled) zero (suc k) is = is
+mark_kept (b ∷ filled) (suc n) zero is = is
+mark_kept (b ∷ filled) (suc n) (suc k) is = mark_kept filled n k is

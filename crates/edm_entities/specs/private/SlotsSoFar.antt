@@ -1,27 +1,31 @@
 -- For private clauses: the slots of a type while the members of an object are read.
-use Rattle.std.specs.Prelude.{◌≡◌, ◌≢◌, ◌⊎◌, ℕ, List, Bool, true, Option, None}
+use Rattle.std.specs.Prelude.{◌≡◌, ℕ, List, [], ◌∷◌, Bool, true, false, Option, None}
 use Rattle.serde_json.specs.Data.{Data, Members}
 use Rattle.serde_json.specs.Find.{get_member}
-use Rattle.edm_values.specs.declared.value.Value.{Value, Null}
+use Rattle.edm_values.specs.declared.value.Value.{Value}
 use Rattle.csdl_schema.specs.SchemaModel.{SchemaModel, Slots, PropertyModel, PropertyType, declared, opaque, navigation, slots_of, properties_at}
 use Rattle.edm_entities.specs.Fits.{takes_null}
-use Rattle.edm_entities.specs.private.Walk.{HoldEach, FitsSlot}
+use Rattle.edm_entities.specs.private.Walk.{FitsSlot}
 
--- nothing was found for a slot, which is null so far, or its value fits what was found
-abbrev pub HoldsSoFar : Slots → (List ℕ → Option Data) → PropertyModel → Value → Type 0
-HoldsSoFar slots found p v = ((found p.name ≡ None) × (v ≡ Null)) ⊎ FitsSlot slots found p v
+-- what stands in a slot that was filled fits what was found; for another nothing was found, and what stands there says
+-- nothing: it is of an earlier row
+abbrev pub HoldsSoFar : Slots → (List ℕ → Option Data) → PropertyModel → Bool → Value → Type 0
+HoldsSoFar slots found p true v = FitsSlot slots found p v
+HoldsSoFar slots found p false v = found p.name ≡ None
+
+-- of each slot, by whether it was filled
+abbrev pub HoldEachSoFar : (PropertyModel → Bool → Value → Type 0) → List PropertyModel → List Bool → List Value → Type 0
+HoldEachSoFar Q [] [] [] = Unit {0}
+HoldEachSoFar Q (p ∷ ps) (filled ∷ more) (value ∷ values) = Q p filled value × HoldEachSoFar Q ps more values
+HoldEachSoFar Q _ _ _ = ⊥
 
 -- each slot of a type, with what was found among an object's members
-abbrev pub SlotsSoFar : SchemaModel → ℕ → Members → List Value → Type 0
-SlotsSoFar schema id found values =
-    HoldEach (HoldsSoFar (slots_of schema) (λ name. get_member name found)) (properties_at schema id) values
+abbrev pub SlotsSoFar : SchemaModel → ℕ → Members → List Bool → List Value → Type 0
+SlotsSoFar schema id found filled values =
+    HoldEachSoFar (HoldsSoFar (slots_of schema) (λ name. get_member name found)) (properties_at schema id) filled values
 
 -- whether a property may be absent
 abbrev pub may_be_absent : PropertyType → Bool → Bool
 may_be_absent (declared type) nullable = takes_null type nullable
 may_be_absent opaque nullable = true
 may_be_absent (navigation target) nullable = true
-
--- a property may be absent, or its slot is not null
-abbrev pub IsFilled : PropertyModel → Value → Type 0
-IsFilled p v = (may_be_absent p.type_of p.nullable ≡ true) ⊎ (v ≢ Null)

@@ -25,16 +25,17 @@ returns-then-is_at_end-clause-fits c =
     let slots = slots_of schema in
     let id = c.in-Some.plan.now.type_id in
     let ps = properties_at schema id in
-    let values = c.in-Some-take_members.values in
+    let values = c.take_members.new.slots.values in
     let started : tokens c.args.text.now ≡ Token.begin_object ∷ c.take_begin_object.new.self =
     sym c.new-reader.ensures ∙ c.take_begin_object.ensures.taken c.if-not-take_begin_object.false in
     let ended : c.take_members.new.reader ≡ [] = c.is_at_end.ensures c.if-is_at_end.true in
     let whole : Reads 127 (Token.begin_object ∷ c.take_begin_object.new.self) c.take_members.new.reader (λ json. IsSome (as_object json) × FitSlots slots json ps values.items) =
     object_reads 127 c.take_begin_object.new.self c.take_members.new.reader (λ found. FitSlots slots (object found) ps values.items)
-    (λ json. IsSome (as_object json) × FitSlots slots json ps values.items) (omega arith) (λ found fits. (refl, fits)) c.in-Some-take_members.ensures in (
+    (λ json. IsSome (as_object json) × FitSlots slots json ps values.items) (omega arith) (λ found fits. (refl, fits)) (c.take_members.ensures c.if-not-take_members.false) in (
       whole.json,
       whole_read c.args.text.now whole.json
           (ap (λ ts. converted of_json (value 127 ts)) started ∙ whole.is_read ∙ ap (λ rest. Some (whole.json, rest)) ended),
       whole.holds.0,
-      subst (λ type_id. FitSlots slots whole.json (properties_at schema type_id) values.items) c.in-Some.ensures.of_type whole.holds.1,
+      subst (λ vs. FitSlots slots whole.json (properties_at schema c.args.type_id) vs.items) (sym c.values_of.ensures)
+          (subst (λ type_id. FitSlots slots whole.json (properties_at schema type_id) values.items) c.in-Some.ensures.of_type whole.holds.1),
     )

@@ -1,4 +1,4 @@
-use Rattle.std.proofs.Common.{◌≡◌, ◌<◌, ◌∷◌, ◌++◌, [], false, true, length, Some, replicate, slice_get, slice_set, refl, sym, ap, ◌∙◌, subst, rules, arith}
+use Rattle.std.proofs.Common.{◌≡◌, ◌+◌, ◌<◌, ◌∷◌, ◌++◌, [], false, true, length, take, Some, replicate, slice_get, slice_set, refl, sym, ap, ◌∙◌, subst, rules, arith}
 use Rattle.std.proofs.lemmas.Grind.{common_steps}
 use Rattle.std.proofs.lemmas.Option.{slice_get_read}
 use Rattle.json.specs.Token.{Token}
@@ -10,10 +10,11 @@ use Rattle.csdl_schema.specs.ExprType.{single, collection, primitive, enumeratio
 use Rattle.csdl_schema.specs.PropertyView.{property_type}
 use Rattle.csdl_schema.specs.SchemaModel.{slots_of, type_name_at, properties_at}
 use Rattle.edm_entities.specs.Fits.{FitsProperty}
+use Rattle.edm_entities.specs.HoldsEachSlot.{HoldsEachSlot}
 use Rattle.edm_entities.specs.Row.{field_of, val_of}
 use Rattle.edm_entities.specs.private.NextMember.{IsNextMember}
-use Rattle.edm_entities.specs.private.RowTokens.{Reads, ReadsMembers, append_items, FitsNullable, FitsHoweverNullable}
-use Rattle.edm_entities.specs.private.SlotsSoFar.{HoldsSoFar, SlotsSoFar, IsFilled}
+use Rattle.edm_entities.specs.private.RowTokens.{Reads, ReadsItems, append_items, FitsNullable, FitsHoweverNullable}
+use Rattle.edm_entities.specs.private.SlotsSoFar.{HoldsSoFar, SlotsSoFar}
 use Rattle.edm_entities.specs.Plans.{IsSlotNamed}
 use Rattle.edm_entities.specs.private.Walk.{HoldEach, FitList, FitSlots, HoldInItems, wanted_single}
 use Rattle.edm_entities.specs.declared.row_member.Member.TheVariants.{OfSlot, Other, End}
@@ -21,38 +22,39 @@ use Rattle.edm_entities.proofs.RowLemmas.Leads.{members_start, members_over, ite
 use Rattle.edm_entities.proofs.RowLemmas.Leaves.{leaf_read, primitive_leaf_holds, member_leaf_holds, null_taken, some_by, wanted_read}
 use Rattle.edm_entities.specs.declared.wanted.Wanted.TheVariants.{Prim, Enum, Complex}
 use Rattle.edm_entities.proofs.RowLemmas.Parts.{fit_push, list_held, record_held}
-use Rattle.edm_entities.proofs.RowLemmas.Plans.{member_shorter, member_taken, slot_planned}
-use Rattle.edm_entities.proofs.RowLemmas.SlotsRead.{slots_start, slot_set, slot_within, others_hold, slots_over, property_fits}
+use Rattle.edm_entities.proofs.RowLemmas.Plans.{long_set, member_shorter, member_taken, slot_planned, take_none, take_set}
+use Rattle.edm_entities.proofs.RowLemmas.SlotsRead.{as_many_filled, as_many_values, slots_start, slot_set, slot_within, others_hold, property_fits}
 use Rattle.edm_entities.proofs.RowLemmas.Tokens.{read_shorter, reads_as, unclosed, object_reads, array_reads}
 use Rattle.edm_entities.proofs.SlotLemmas.EachSlot.{null_holds, slots_held, list_held as array_holds, holds_push, slot_as_read, holds_as}
-use Rattle.edm_entities.proofs.SlotLemmas.SlotsByName.{as_many}
 use Rattle.edm_entities.proofs.row_walk.+row.Goals as goal
 
-pub take_array-returns-in-Some-clause-read : goal.take_array-returns-in-Some-clause-read
-take_array-returns-in-Some-clause-read t c done =
+pub take_array-returns-clause-read : goal.take_array-returns-clause-read
+take_array-returns-clause-read t c done =
     let slots = slots_of c.args.scene.now.schema.now in
     let one = c.args.one.now in
     let type = wanted_single c.args.scene.now.schema.now one.wanted in
     let depth = c.args.scene.now.depth in
-    let values = c.in-Some.values in
+    let values = c.take_items.new.values in
     let first : c.args.reader.now ≡ Token.begin_array ∷ c.take_begin_array.new.self = c.take_begin_array.ensures.taken c.if-not-take_begin_array.false in
     subst (λ ts. Reads depth ts c.take_items.new.reader (FitsNullable slots false one.nullable (collection type) (ListOf values))) (sym first)
     (array_reads depth c.take_begin_array.new.self c.take_items.new.reader (λ jsons. FitList slots one.nullable type jsons values.items)
     (FitsNullable slots false one.nullable (collection type) (ListOf values)) (omega arith)
-    (λ jsons fits. list_held slots one.nullable type values jsons fits) c.in-Some.ensures.read)
+    (λ jsons fits. list_held slots one.nullable type values jsons fits) (c.take_items.ensures.read c.if-not-take_items.false))
 
-pub take_array-returns-in-Some-clause-holds : goal.take_array-returns-in-Some-clause-holds
-take_array-returns-in-Some-clause-holds t c done =
-    array_holds (slots_of c.args.scene.now.schema.now) (wanted_single c.args.scene.now.schema.now c.args.one.now.wanted) c.in-Some.values c.in-Some.ensures.holds
+pub take_array-returns-clause-holds : goal.take_array-returns-clause-holds
+take_array-returns-clause-holds t c done =
+    array_holds (slots_of c.args.scene.now.schema.now) (wanted_single c.args.scene.now.schema.now c.args.one.now.wanted) c.take_items.new.values (c.take_items.ensures.holds c.if-not-take_items.false)
 
 pub take_items-items-init : goal.take_items-items-init
 take_items-items-init t c =
     let slots = slots_of c.args.scene.now.schema.now in
     let one = c.args.one.now in
-    let type = wanted_single c.args.scene.now.schema.now one.wanted in (
-      items_start c.args.scene.now.depth c.args.reader.now (λ jsons. FitList slots one.nullable type jsons c.list-values.result.items)
-          (subst (λ vs. FitList slots one.nullable type no_items vs) (sym c.list-values.ensures) tt),
-      subst (HoldInItems slots type) (sym c.list-values.ensures) refl,
+    let type = wanted_single c.args.scene.now.schema.now one.wanted in
+    let none : take 0 c.args.values.now.items ≡ [] = take_none c.args.values.now.items in (
+      items_start c.args.scene.now.depth c.args.reader.now (λ jsons. FitList slots one.nullable type jsons (take 0 c.args.values.now.items))
+          (subst (λ vs. FitList slots one.nullable type no_items vs) (sym none) tt),
+      subst (HoldInItems slots type) (sym none) refl,
+      omega arith,
     )
 
 pub take_items-items-smaller : goal.take_items-items-smaller
@@ -75,24 +77,34 @@ take_items-items-preserved t c =
     let type = wanted_single c.args.scene.now.schema.now one.wanted in
     let nullable = one.nullable in
     let v = c.take_single.new.place in
+    let held = c.has_place.new.values.items in
+    let within : l.count < length held = c.has_place.ensures.room c.if-not-has_place.false in
     let Q : (Data → Type 0) = FitsNullable slots nullable nullable (single type) v in
     let kept : c.take_end_array.new.self ≡ l.reader = grind arith in
     let read : Reads depth l.reader c.take_single.new.reader Q = subst (λ ts. Reads depth ts c.take_single.new.reader Q) kept (c.take_single.ensures.read c.if-not-take_single.false) in
-    let pushed : c.push.new.self.items ≡ l.values.items ++ v ∷ [] = grind (arith, common_steps) in (
-      item_more depth c.args.reader.now l.reader c.take_single.new.reader (λ jsons. FitList slots nullable type jsons l.values.items) Q
-          (λ jsons. FitList slots nullable type jsons c.push.new.self.items) (unclosed depth l.reader c.take_single.new.reader Q read)
+    let pushed : take (l.count + 1) (slice_set held l.count v) ≡ take l.count l.values.items ++ v ∷ [] = take_set held l.count v within ∙ ap (λ vs. vs ++ v ∷ []) c.has_place.ensures.kept in (
+      item_more depth c.args.reader.now l.reader c.take_single.new.reader (λ jsons. FitList slots nullable type jsons (take l.count l.values.items)) Q
+          (λ jsons. FitList slots nullable type jsons (take (l.count + 1) (slice_set held l.count v))) (unclosed depth l.reader c.take_single.new.reader Q read)
           (λ found json fits here. subst (λ vs. FitList slots nullable type (append_items found (item json no_items)) vs) (sym pushed)
-          (fit_push slots nullable type found l.values.items json v fits here)) read l.invariant.0,
-      subst (HoldInItems slots type) (sym pushed) (holds_push slots type l.values.items v l.invariant.1 (c.take_single.ensures.holds c.if-not-take_single.false)),
+          (fit_push slots nullable type found (take l.count l.values.items) json v fits here)) read l.invariant.0,
+      subst (HoldInItems slots type) (sym pushed) (holds_push slots type (take l.count l.values.items) v l.invariant.1 (c.take_single.ensures.holds c.if-not-take_single.false)),
+      omega (arith, long_set held l.count v, within),
     )
 
 pub take_items-returns-clause-read : goal.take_items-returns-clause-read
-take_items-returns-clause-read t c =
+take_items-returns-clause-read t c done =
     let l = c.items in
     let one = c.args.one.now in
+    let schema = c.args.scene.now.schema.now in
     let closed : after_end_array l.reader ≡ Some c.take_end_array.new.self = grind arith in
-    items_over c.args.scene.now.depth c.args.reader.now l.reader c.take_end_array.new.self
-    (λ jsons. FitList (slots_of c.args.scene.now.schema.now) one.nullable (wanted_single c.args.scene.now.schema.now one.wanted) jsons l.values.items) closed l.invariant.0
+    let reads = items_over c.args.scene.now.depth c.args.reader.now l.reader c.take_end_array.new.self
+    (λ jsons. FitList (slots_of schema) one.nullable (wanted_single schema one.wanted) jsons (take l.count l.values.items)) closed l.invariant.0 in
+    subst (λ vs. ReadsItems c.args.scene.now.depth c.args.reader.now c.take_end_array.new.self (λ jsons. FitList (slots_of schema) one.nullable (wanted_single schema one.wanted) jsons vs)) (sym c.cut.ensures) reads
+
+pub take_items-returns-clause-holds : goal.take_items-returns-clause-holds
+take_items-returns-clause-holds t c done =
+    let schema = c.args.scene.now.schema.now in
+    subst (HoldInItems (slots_of schema) (wanted_single schema c.args.one.now.wanted)) (sym c.cut.ensures) c.items.invariant.1
 
 pub take_member-returns-else-not-take_property-clause-member : goal.take_member-returns-else-not-take_property-clause-member
 take_member-returns-else-not-take_property-clause-member t c _ =
@@ -101,21 +113,23 @@ take_member-returns-else-not-take_property-clause-member t c _ =
     let id = plan.type_id in
     let slots = slots_of schema in
     let ps = properties_at schema id in
-    let values = c.args.values.now.items in
+    let values = c.args.slots.now.values.items in
+    let filled = c.args.slots.now.filled.items in
     let slot = c.in-OfSlot.slot in
     let next : IsNextMember schema id c.args.reader.now c.next_member.new.reader (OfSlot slot) = rw c.in-OfSlot.is at c.in-Some.ensures in
     let s = c.index.result.now in
     let property = s.property in
     let v = c.take_property.new.place in
-    let named : IsSlotNamed schema id s.key slot property = slot_planned schema plan slot s c.requires.plan (slice_get_read plan.slots.items (length plan.slots.items) slot s refl (omega (arith, c.requires.plan.planned.count, slot_within ps slot next.0 next.2)) c.index.ensures) in
+    let named : IsSlotNamed schema id s.key slot property =
+    slot_planned schema plan slot s c.requires.plan (slice_get_read plan.slots.items (length plan.slots.items) slot s refl (omega (arith, c.requires.plan.planned.count, slot_within ps slot next.0 next.2)) c.index.ensures) in
     record {
       name = next.0;
       behind_name = c.next_member.new.reader;
       is_name = next.1;
       value = reads_as c.args.scene.now.depth c.next_member.new.reader c.take_property.new.reader
           (λ json. FitsProperty slots property.nullable (property_type schema property) (Some json) (field_of slots (property_type schema property) (val_of v)))
-          (λ json. (found : Members) → SlotsSoFar schema id found values → SlotsSoFar schema id (put next.0 json found) (slice_set values slot v))
-          (λ json fits found so_far. slot_set slots found next.0 json ps values slot v c.requires.plan.distinct next.2
+          (λ json. (found : Members) → SlotsSoFar schema id found filled values → SlotsSoFar schema id (put next.0 json found) (slice_set filled slot true) (slice_set values slot v))
+          (λ json fits found so_far. slot_set slots found next.0 json ps filled values slot v c.requires.plan.distinct next.2
           (property_fits schema slots (slice_get ps slot) property json v named.1 fits)
           (slot_as_read schema slots (slice_get ps slot) property v named.1 (c.take_property.ensures.holds c.if-not-take_property.false)) so_far)
           (c.take_property.ensures.read c.if-not-take_property.false);
@@ -126,15 +140,16 @@ take_member-returns-then-skip_value-clause-member t c _ =
     let schema = c.args.scene.now.schema.now in
     let id = c.args.plan.now.type_id in
     let ps = properties_at schema id in
-    let values = c.args.values.now.items in
+    let values = c.args.slots.now.values.items in
+    let filled = c.args.slots.now.filled.items in
     let next : IsNextMember schema id c.args.reader.now c.next_member.new.reader Other = rw c.in-Other.is at c.in-Some.ensures in
     record {
       name = next.0;
       behind_name = c.next_member.new.reader;
       is_name = next.1;
       value = reads_as c.args.scene.now.depth c.next_member.new.reader c.skip_value.new.reader (λ json. Unit {0})
-          (λ json. (found : Members) → SlotsSoFar schema id found values → SlotsSoFar schema id (put next.0 json found) values)
-          (λ json _ found so_far. others_hold (slots_of schema) found next.0 json ps values next.2 so_far)
+          (λ json. (found : Members) → SlotsSoFar schema id found filled values → SlotsSoFar schema id (put next.0 json found) filled values)
+          (λ json _ found so_far. others_hold (slots_of schema) found next.0 json ps filled values next.2 so_far)
           (c.skip_value.ensures c.if-skip_value.true);
     }
 
@@ -148,18 +163,22 @@ pub take_members-members-init : goal.take_members-members-init
 take_members-members-init t c =
     let schema = c.args.scene.now.schema.now in
     let id = c.args.plan.now.type_id in
-    let values = c.in-Some.values.items in
+    let filled = c.begin_slots.new.slots.filled.items in
+    let values = c.begin_slots.new.slots.values.items in
     let long : c.len.result ≡ length (properties_at schema id) = omega (arith, c.requires.plan.planned.count) in
-    members_start c.args.scene.now.depth c.args.reader.now (λ found. SlotsSoFar schema id found values)
-    (slots_start schema id values (c.in-Some.ensures ∙ ap (λ n. replicate n Null) long))
+    members_start c.args.scene.now.depth c.args.reader.now (λ found. SlotsSoFar schema id found filled values)
+    (slots_start schema id filled values (c.begin_slots.ensures.filled c.if-not-begin_slots.false ∙ ap (λ n. replicate n false) long) (c.begin_slots.ensures.values c.if-not-begin_slots.false ∙ long))
 
 pub take_members-take_member-requires : goal.take_members-take_member-requires
 take_members-take_member-requires t c =
     let l = c.members in
     let schema = c.args.scene.now.schema.now in
     let id = c.args.plan.now.type_id in
-    let long : length l.values.items ≡ length c.args.plan.now.slots.items =
-    as_many (HoldsSoFar (slots_of schema) (λ name. get_member name l.invariant.found)) (properties_at schema id) l.values.items l.invariant.holds ∙ sym c.requires.plan.planned.count in
+    let Q = HoldsSoFar (slots_of schema) (λ name. get_member name l.invariant.found) in
+    let values : length l.slots.values.items ≡ length c.args.plan.now.slots.items =
+    as_many_values Q (properties_at schema id) l.slots.filled.items l.slots.values.items l.invariant.holds ∙ sym c.requires.plan.planned.count in
+    let filled : length l.slots.filled.items ≡ length c.args.plan.now.slots.items =
+    as_many_filled Q (properties_at schema id) l.slots.filled.items l.slots.values.items l.invariant.holds ∙ sym c.requires.plan.planned.count in
     search rules
 
 pub take_members-members-smaller : goal.take_members-members-smaller
@@ -167,61 +186,68 @@ take_members-members-smaller t c =
     let l = c.members in
     let schema = c.args.scene.now.schema.now in
     let id = c.args.plan.now.type_id in
-    let more : c.take_member.result ≡ Some true = c.in-Some-take_member.is ∙ ap Some c.if-not-more.false in
+    let after = c.take_member.new.slots in
+    let more : c.take_member.result ≡ Some true = c.in-Some.is ∙ ap Some c.if-not-more.false in
     member_shorter c.args.scene.now.depth l.reader c.take_member.new.reader
-    (λ name json. (found : Members) → SlotsSoFar schema id found l.values.items → SlotsSoFar schema id (put name json found) c.take_member.new.values.items) (c.take_member.ensures.member more)
+    (λ name json. (found : Members) → SlotsSoFar schema id found l.slots.filled.items l.slots.values.items → SlotsSoFar schema id (put name json found) after.filled.items after.values.items) (c.take_member.ensures.member more)
 
 pub take_members-members-preserved : goal.take_members-members-preserved
 take_members-members-preserved t c =
     let l = c.members in
     let schema = c.args.scene.now.schema.now in
     let id = c.args.plan.now.type_id in
-    let more : c.take_member.result ≡ Some true = c.in-Some-take_member.is ∙ ap Some c.if-not-more.false in
+    let after = c.take_member.new.slots in
+    let more : c.take_member.result ≡ Some true = c.in-Some.is ∙ ap Some c.if-not-more.false in
     member_taken c.args.scene.now.depth c.args.reader.now l.reader c.take_member.new.reader
-    (λ found. SlotsSoFar schema id found l.values.items) (λ found. SlotsSoFar schema id found c.take_member.new.values.items) (c.take_member.ensures.member more) l.invariant
+    (λ found. SlotsSoFar schema id found l.slots.filled.items l.slots.values.items) (λ found. SlotsSoFar schema id found after.filled.items after.values.items) (c.take_member.ensures.member more) l.invariant
 
-pub take_members-if_filled-requires : goal.take_members-if_filled-requires
-take_members-if_filled-requires t c =
+pub take_members-fill_slots-requires : goal.take_members-fill_slots-requires
+take_members-fill_slots-requires t c =
     let l = c.members in
     let schema = c.args.scene.now.schema.now in
     let id = c.args.plan.now.type_id in
-    let over : c.take_member.result ≡ Some false = c.in-Some-take_member.is ∙ ap Some c.if-not-more.true in
+    let over : c.take_member.result ≡ Some false = c.in-Some.is ∙ ap Some c.if-not-more.true in
     let same = (c.take_member.ensures.end over).1 in
-    ap (λ vs. length vs.items) same
-    ∙ as_many (HoldsSoFar (slots_of schema) (λ name. get_member name l.invariant.found)) (properties_at schema id) l.values.items l.invariant.holds ∙ sym c.requires.plan.planned.count
+    let Q = HoldsSoFar (slots_of schema) (λ name. get_member name l.invariant.found) in
+    record {
+      values = ap (λ s. length s.values.items) same
+          ∙ as_many_values Q (properties_at schema id) l.slots.filled.items l.slots.values.items l.invariant.holds ∙ sym c.requires.plan.planned.count;
+      filled = ap (λ s. length s.filled.items) same
+          ∙ as_many_filled Q (properties_at schema id) l.slots.filled.items l.slots.values.items l.invariant.holds ∙ sym c.requires.plan.planned.count;
+    }
 
 pub take_members-returns-then-not-more : goal.take_members-returns-then-not-more
-take_members-returns-then-not-more t c =
+take_members-returns-then-not-more t c done =
     let l = c.members in
     let schema = c.args.scene.now.schema.now in
     let id = c.args.plan.now.type_id in
     let ps = properties_at schema id in
-    let over : c.take_member.result ≡ Some false = c.in-Some-take_member.is ∙ ap Some c.if-not-more.true in
+    let over : c.take_member.result ≡ Some false = c.in-Some.is ∙ ap Some c.if-not-more.true in
     let ends = c.take_member.ensures.end over in
-    some_by c.if_filled.result (λ v. (v ≡ c.take_member.new.values) × HoldEach IsFilled ps v.items)
-    (λ v. ReadsMembers c.args.scene.now.depth c.args.reader.now c.take_member.new.reader (λ found. FitSlots (slots_of schema) (object found) ps v.items))
-    (λ v is. members_over c.args.scene.now.depth c.args.reader.now l.reader c.take_member.new.reader (λ found. SlotsSoFar schema id found l.values.items)
-    (λ found. FitSlots (slots_of schema) (object found) ps v.items) ends.0
-    (λ found so_far. slots_over schema id found v.items is.1 (subst (λ w. SlotsSoFar schema id found w.items) (sym (is.0 ∙ ends.1)) so_far)) l.invariant)
-    (c.if_filled.ensures schema c.requires.plan)
+    members_over c.args.scene.now.depth c.args.reader.now l.reader c.take_member.new.reader (λ found. SlotsSoFar schema id found l.slots.filled.items l.slots.values.items)
+    (λ found. FitSlots (slots_of schema) (object found) ps c.fill_slots.new.slots.values.items) ends.0
+    (λ found so_far. c.fill_slots.ensures schema found c.requires.plan done (subst (λ s. SlotsSoFar schema id found s.filled.items s.values.items) (sym ends.1) so_far)) l.invariant
 
-pub take_record-returns-in-Some-clause-holds : goal.take_record-returns-in-Some-clause-holds
-take_record-returns-in-Some-clause-holds t c done =
-    slots_held c.args.scene.now.schema.now c.args.plan.now.type_id (λ name. get name (object c.in-Some.ensures.found)) c.in-Some.values c.in-Some.ensures.holds
+pub take_record-returns-clause-holds : goal.take_record-returns-clause-holds
+take_record-returns-clause-holds t c done =
+    let read = c.take_members.ensures c.if-not-take_members.false in
+    subst (λ vs. HoldsEachSlot (Record vs) (slots_of c.args.scene.now.schema.now) (single (structured (type_name_at c.args.scene.now.schema.now c.args.plan.now.type_id)))) (sym c.values_of.ensures)
+    (slots_held c.args.scene.now.schema.now c.args.plan.now.type_id (λ name. get name (object read.found)) c.take_members.new.slots.values read.holds)
 
-pub take_record-returns-in-Some-clause-read : goal.take_record-returns-in-Some-clause-read
-take_record-returns-in-Some-clause-read t c done =
+pub take_record-returns-clause-read : goal.take_record-returns-clause-read
+take_record-returns-clause-read t c done =
     let schema = c.args.scene.now.schema.now in
     let slots = slots_of schema in
     let depth = c.args.scene.now.depth in
     let id = c.args.plan.now.type_id in
-    let values = c.in-Some.values in
+    let values = c.take_members.new.slots.values in
     let type : SingleType = structured (type_name_at schema id) in
     let first : c.args.reader.now ≡ Token.begin_object ∷ c.take_begin_object.new.self = c.take_begin_object.ensures.taken c.if-not-take_begin_object.false in
-    subst (λ ts. Reads depth ts c.take_members.new.reader (FitsHoweverNullable slots (single type) (Record values))) (sym first)
+    subst (λ vs. Reads depth c.args.reader.now c.take_members.new.reader (FitsHoweverNullable slots (single type) (Record vs))) (sym c.values_of.ensures)
+    (subst (λ ts. Reads depth ts c.take_members.new.reader (FitsHoweverNullable slots (single type) (Record values))) (sym first)
     (object_reads depth c.take_begin_object.new.self c.take_members.new.reader (λ found. FitSlots slots (object found) (properties_at schema id) values.items)
     (FitsHoweverNullable slots (single type) (Record values)) (omega arith)
-    (λ found fits. record_held schema id values found c.requires.plan.distinct fits) c.in-Some.ensures)
+    (λ found fits. record_held schema id values found c.requires.plan.distinct fits) (c.take_members.ensures c.if-not-take_members.false)))
 
 pub take_single-returns-then-take_null-clause-read : goal.take_single-returns-then-take_null-clause-read
 take_single-returns-then-take_null-clause-read t c done =

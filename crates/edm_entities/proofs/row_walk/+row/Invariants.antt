@@ -1,4 +1,4 @@
-use Rattle.std.proofs.Common.{◌+◌, ◌*◌, length}
+use Rattle.std.proofs.Common.{◌+◌, ◌*◌, ◌≤◌, length, take}
 use Rattle.csdl_schema.specs.SchemaModel.{slots_of}
 use Rattle.edm_entities.specs.private.RowTokens.{MembersLead, ItemsLead}
 use Rattle.edm_entities.specs.private.SlotsSoFar.{SlotsSoFar}
@@ -27,19 +27,20 @@ decreases-take_array l = 8 * l.scene.now.depth + 1
 abbrev pub decreases-take_items : goal.decreases-take_items
 decreases-take_items l = 8 * l.scene.now.depth + 2
 
--- the slots hold what was found among the members so far
+-- the slots that are filled hold what was found among the members so far
 abbrev pub invariant-take_members-members : goal.invariant-take_members-members
 invariant-take_members-members l =
-    MembersLead l.scene.depth l.initial.reader l.reader (λ found. SlotsSoFar l.scene.schema.now l.plan.type_id found l.values.items)
+    MembersLead l.scene.depth l.initial.reader l.reader (λ found. SlotsSoFar l.scene.schema.now l.plan.type_id found l.slots.filled.items l.slots.values.items)
 
 abbrev pub decreases-take_members-members : goal.decreases-take_members-members
 decreases-take_members-members l = length l.reader
 
--- the values fit the items so far, and hold one value for each slot
+-- the first values fit the items so far, and hold one value for each slot
 abbrev pub invariant-take_items-items : goal.invariant-take_items-items
 invariant-take_items-items l =
-    ItemsLead l.scene.depth l.initial.reader l.reader (λ jsons. FitList (slots_of l.scene.schema.now) l.one.nullable (wanted_single l.scene.schema.now l.one.wanted) jsons l.values.items)
-    × HoldInItems (slots_of l.scene.schema.now) (wanted_single l.scene.schema.now l.one.wanted) l.values.items
+    ItemsLead l.scene.depth l.initial.reader l.reader (λ jsons. FitList (slots_of l.scene.schema.now) l.one.nullable (wanted_single l.scene.schema.now l.one.wanted) jsons (take l.count l.values.items))
+    × HoldInItems (slots_of l.scene.schema.now) (wanted_single l.scene.schema.now l.one.wanted) (take l.count l.values.items)
+    × (l.count ≤ length l.values.items)
 
 abbrev pub decreases-take_items-items : goal.decreases-take_items-items
 decreases-take_items-items l = length l.reader

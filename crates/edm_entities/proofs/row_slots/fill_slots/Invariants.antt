@@ -1,0 +1,15 @@
+use Rattle.std.proofs.Common.{◌≡◌, ◌<◌, ℕ, length, get_or, true, false}
+use Rattle.serde_json.specs.Data.{Members}
+use Rattle.csdl_schema.specs.SchemaModel.{SchemaModel}
+use Rattle.edm_entities.specs.Plans.{IsPlan}
+use Rattle.edm_entities.specs.private.SlotsSoFar.{SlotsSoFar}
+use Rattle.edm_entities.proofs.row_slots.fill_slots.Given as goal
+
+-- the slots so far are filled, and what was found is still told
+abbrev pub invariant-loop-slot : goal.invariant-loop-slot
+invariant-loop-slot l =
+    (length l.slots.filled.items ≡ length l.plan.slots.items) × (length l.slots.values.items ≡ length l.plan.slots.items)
+    × ((k : ℕ) → k < l.slot → get_or l.slots.filled.items k false ≡ true)
+    × ((schema : SchemaModel) (found : Members) → IsPlan schema l.plan
+    → SlotsSoFar schema l.plan.type_id found l.initial.slots.filled.items l.initial.slots.values.items
+    → SlotsSoFar schema l.plan.type_id found l.slots.filled.items l.slots.values.items)
