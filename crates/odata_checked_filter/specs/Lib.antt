@@ -5,6 +5,7 @@ pub use Rattle.edm_values.specs.Val
 pub use Rattle.odata_expression_types.specs.Considered
 pub use Rattle.odata_expression_types.specs.LiteralValue
 pub use Rattle.odata_expression_types.specs.PreOrder
+pub use Rattle.odata_expression_types.specs.Reads
 pub use Rattle.odata_expression_types.specs.Typed
 pub use Rattle.odata_signatures.specs.ExprTypes
 pub use Rattle.odata_signatures.specs.Functions

@@ -1,9 +1,10 @@
 -- When a part of a list of nodes stands for a tree, with the right types, values and slots.
-use Rattle.std.specs.Prelude.{◌≡◌, ◌≢◌, ℕ, ◌+◌, List, [], ◌∷◌, Some, None, map, slice_get, IsSomeAnd}
+use Rattle.std.specs.Prelude.{◌≡◌, ◌≢◌, ◌⊎◌, ℕ, ℤ, ◌+◌, List, [], ◌∷◌, Some, None, map, slice_get, IsSomeAnd}
 use Rattle.edm_values.specs.PlainVal.{plain_val}
 use Rattle.edm_values.specs.Val.{Val}
 use Rattle.edm_values.specs.declared.value.Value.{Value}
 use Rattle.odata_syntax.specs.Tree.{Tree, Trees, node, Shape, literal, it, name, member, count, negation, logical_not, binary, has, in_list, in_path, call, any_item, lambda, more_trees, no_trees}
+use Rattle.odata_syntax.specs.declared.node.BinaryOperator.{BinaryOperator}
 use Rattle.odata_syntax.specs.declared.node.LiteralKind.{LiteralKind}
 use Rattle.csdl_schema.specs.ExprType.{ExprType, SingleType, single, structured}
 use Rattle.csdl_schema.specs.SchemaModel.{PropertyModel, SchemaModel, Slots, slots_of, type_name_at, slot_named}
@@ -12,6 +13,7 @@ use Rattle.odata_checked_filter.specs.declared.checked_node.NodeKind.{NodeKind}
 use Rattle.odata_checked_filter.specs.FlatTree.{FlatTree}
 use Rattle.odata_checked_filter.specs.Levels.{level_named}
 use Rattle.odata_expression_types.specs.LiteralValue.{LiteralValue}
+use Rattle.odata_expression_types.specs.Reads.{OfEquality, ReadNone, ReadsNone, ReadsNumber}
 use Rattle.odata_expression_types.specs.Typed.{BindsVariable, Scope, Typed, with_variable}
 use Rattle.odata_signatures.specs.Functions.{IsNamed}
 use Rattle.odata_signatures.specs.TypeView.{expr_type}
@@ -52,6 +54,57 @@ IsCallNode asked NodeKind.Now = IsNamed Function.Now asked
 IsCallNode asked (NodeKind.Call function) = IsNamed function asked × (function ≢ Function.Now)
 IsCallNode asked _ = ⊥
 
+-- a node of that kind, in which no literal is read
+pub record IsUnreadNode (plain : NodeKind) (Unread : Type 0) (k : NodeKind) : Type 0 where
+  pub kind_is : k ≡ plain
+  pub none : Unread
+
+-- a node in which a literal is read as a number, which stands in a place of the values
+pub record IsPairedNode (values : List Value) (paired : ℕ → NodeKind) (Reads : ℤ → Type 0) (k : NodeKind) : Type 0 where
+  pub place : ℕ
+  pub number : ℤ
+  pub kind_is : k ≡ paired place
+  pub number_at : slice_get values place ≡ Some (Value.Enum number)
+  pub reads : Reads number
+
+-- the kind of an operator's node: by itself, or with the place of the number of its right side or of its left one
+abbrev pub IsOperatorNode : List Value → BinaryOperator → (ℤ → Type 0) → (ℤ → Type 0) → NodeKind → Type 0
+IsOperatorNode values operator ReadsRight ReadsLeft k =
+    IsUnreadNode (NodeKind.Binary operator) (((n : ℤ) → ¬ ReadsRight n) × ((n : ℤ) → ¬ ReadsLeft n)) k
+    ⊎ (IsPairedNode values (λ place. NodeKind.PairedRight operator place) ReadsRight k
+    ⊎ IsPairedNode values (λ place. NodeKind.PairedLeft operator place)
+    (λ n. ((m : ℤ) → ¬ ReadsRight m) × ReadsLeft n) k)
+
+-- the kind of the node of `has`, likewise
+abbrev pub IsFlagsNode : List Value → (ℤ → Type 0) → NodeKind → Type 0
+IsFlagsNode values ReadsRight k =
+    IsUnreadNode NodeKind.Has ((n : ℤ) → ¬ ReadsRight n) k
+    ⊎ IsPairedNode values (λ place. NodeKind.PairedHas place) ReadsRight k
+
+-- in a place of the values stands the number of an item that is read; for any other one null
+abbrev pub IsItemNumber : List Value → Slots → (ExprType → Type 0) → Tree → ℕ → Type 0
+IsItemNumber values slots Beside item place =
+    ((n : ℤ) × ReadsNumber slots Beside item n × (slice_get values place ≡ Some (Value.Enum n)))
+    ⊎ (ReadsNone slots Beside item × (slice_get values place ≡ Some Value.Null))
+
+-- likewise for each item, one behind another
+abbrev pub AreItemNumbers : List Value → Slots → (ExprType → Type 0) → Trees → ℕ → Type 0
+AreItemNumbers values slots Beside no_trees place = Unit {0}
+AreItemNumbers values slots Beside (more_trees item items) place =
+    IsItemNumber values slots Beside item place × AreItemNumbers values slots Beside items (place + 1)
+
+-- a node of `in` with the place from which on these stand
+pub record IsNumberedList
+    (values : List Value) (slots : Slots) (Beside : ExprType → Type 0) (items : Trees) (k : NodeKind) : Type 0 where
+  pub place : ℕ
+  pub kind_is : k ≡ NodeKind.PairedList place
+  pub numbers : AreItemNumbers values slots Beside items place
+
+-- the kind of the node of `in` before a list
+abbrev pub IsListNode : List Value → Slots → (ExprType → Type 0) → Trees → NodeKind → Type 0
+IsListNode values slots Beside items k =
+    IsUnreadNode NodeKind.InList (ReadNone slots Beside items) k ⊎ IsNumberedList values slots Beside items k
+
 -- the kind of a node, where these values and types are, the filtered type is root and these variables are in scope
 abbrev pub IsKindOf : List Value → Slots → List ℕ → Scope → Shape → NodeKind → Type 0
 IsKindOf values slots root scope (literal kind spelling) k = IsLiteralNode slots values kind spelling k
@@ -61,9 +114,12 @@ IsKindOf values slots root scope (member base asked) k = IsMemberNode slots (Typ
 IsKindOf values slots root scope (count base) k = k ≡ NodeKind.Count
 IsKindOf values slots root scope (negation operand) k = k ≡ NodeKind.Neg
 IsKindOf values slots root scope (logical_not operand) k = k ≡ NodeKind.Not
-IsKindOf values slots root scope (binary operator left right) k = k ≡ NodeKind.Binary operator
-IsKindOf values slots root scope (has left right) k = k ≡ NodeKind.Has
-IsKindOf values slots root scope (in_list left items) k = k ≡ NodeKind.InList
+IsKindOf values slots root scope (binary operator left right) k =
+    IsOperatorNode values operator (ReadsNumber slots (OfEquality operator (Typed slots root scope left)) right)
+    (ReadsNumber slots (OfEquality operator (Typed slots root scope right)) left) k
+IsKindOf values slots root scope (has left right) k =
+    IsFlagsNode values (ReadsNumber slots (Typed slots root scope left) right) k
+IsKindOf values slots root scope (in_list left items) k = IsListNode values slots (Typed slots root scope left) items k
 IsKindOf values slots root scope (in_path left path) k = k ≡ NodeKind.InPath
 IsKindOf values slots root scope (call asked arguments) k = IsCallNode asked k
 IsKindOf values slots root scope (any_item base) k = k ≡ NodeKind.AnyItem

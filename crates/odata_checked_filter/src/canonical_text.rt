@@ -76,8 +76,12 @@ fn write_joint(kind: NodeKind, beside: &str, text: &mut String) -> Result<(), Al
         NodeKind::AnyItem => text.push_str("/any()"),
         NodeKind::Lambda { quantifier } => write_binder(quantifier, beside, text),
         NodeKind::Binary { .. } => write_word(kind_word(kind), text),
+        NodeKind::PairedRight { .. } => write_word(kind_word(kind), text),
+        NodeKind::PairedLeft { .. } => write_word(kind_word(kind), text),
         NodeKind::Has => write_word(kind_word(kind), text),
+        NodeKind::PairedHas { .. } => write_word(kind_word(kind), text),
         NodeKind::InList => write_opening(kind_word(kind), text),
+        NodeKind::PairedList { .. } => write_opening(kind_word(kind), text),
         NodeKind::InPath => write_word(kind_word(kind), text),
         _ => Ok(()),
     }
@@ -317,9 +321,17 @@ fn put_behind(
 {
     match kind {
         NodeKind::Binary { operator } => put_operand(second, operator_level(operator) + 1, pending),
+        NodeKind::PairedRight { operator, .. } => {
+            put_operand(second, operator_level(operator) + 1, pending)
+        }
+        NodeKind::PairedLeft { operator, .. } => {
+            put_operand(second, operator_level(operator) + 1, pending)
+        }
         NodeKind::Has => put_operand(second, BASE, pending),
+        NodeKind::PairedHas { .. } => put_operand(second, BASE, pending),
         NodeKind::InPath => put_operand(second, PATH, pending),
         NodeKind::InList => put_items(list, second, stop, pending),
+        NodeKind::PairedList { .. } => put_items(list, second, stop, pending),
         NodeKind::Lambda { .. } => put_body(second, pending),
         _ => Ok(()),
     }

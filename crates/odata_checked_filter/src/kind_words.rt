@@ -13,8 +13,12 @@ pub(crate) fn kind_word(kind: NodeKind) -> &'static str
         NodeKind::Neg => "-",
         NodeKind::Not => "not",
         NodeKind::Binary { operator } => operator_word(operator),
+        NodeKind::PairedRight { operator, .. } => operator_word(operator),
+        NodeKind::PairedLeft { operator, .. } => operator_word(operator),
         NodeKind::Has => "has",
+        NodeKind::PairedHas { .. } => "has",
         NodeKind::InList => "in",
+        NodeKind::PairedList { .. } => "in",
         NodeKind::InPath => "in",
         _ => "",
     }

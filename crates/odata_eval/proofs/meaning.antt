@@ -15,6 +15,7 @@ pub mod Kinds
 pub mod LawsBelow
 pub mod MadeTexts
 pub mod MembersLaws
+pub mod NoEnumerations
 pub mod NumberComes
 pub mod Numbers
 pub mod OneByOne
@@ -23,7 +24,8 @@ pub mod OneMeaning
 pub mod OneOutcome
 pub mod OneStep
 pub mod Progress
+pub mod Reads
 pub mod SameForms
-pub mod Sides
 pub mod SameGives
 pub mod TypeValues
+pub mod UnreadAlone

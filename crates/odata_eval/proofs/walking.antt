@@ -14,11 +14,15 @@ pub mod Members
 pub mod MembersAsked
 pub mod OneReading
 pub mod Parts
+pub mod ReadKinds
+pub mod ReadSides
+pub mod ReadPairs
 pub mod Readings
 pub mod Sides
 pub mod SlotValue
 pub mod Spines
 pub mod TopNode
+pub mod Unread
 pub mod Variables
 pub mod WalkSteps
 pub mod WalkValues

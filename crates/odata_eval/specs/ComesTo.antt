@@ -1,5 +1,5 @@
 -- Two filters on values of one type, as a check of what the definitions say.
-use Rattle.std.specs.Prelude.{◌≡◌, ◌↔◌, ℕ, ℤ, List, [], Bool, codes, nat_eq, if◌then◌else◌}
+use Rattle.std.specs.Prelude.{◌≡◌, ◌↔◌, ℕ, ℤ, List, [], None, Bool, codes, nat_eq, if◌then◌else◌}
 use Rattle.std.specs.Cmp.Lexicographic.{pointwise}
 use Rattle.edm_values.specs.MomentParts.{MomentParts}
 use Rattle.edm_values.specs.Val.{Val, boolean, whole, text, fields, FieldVal, absent, present}
@@ -29,7 +29,11 @@ abbrev pub item_value : ℤ → List ℕ → Bool → Val
 item_value id title active = fields (item_members id title active)
 
 -- the tree has this outcome on the value, and no other
+abbrev pub ComesToIn : Slots → Tree → Val → Outcome → Type 0
+ComesToIn slots tree value outcome =
+    (root : List ℕ) (now : MomentParts) (o : Outcome) → Means slots root now value [] tree o ↔ (o ≡ outcome)
+
+-- it has so where there are no enumerations, beside which a text is read
 abbrev pub ComesTo : Tree → Val → Outcome → Type 0
 ComesTo tree value outcome =
-    (slots : Slots) (root : List ℕ) (now : MomentParts) (o : Outcome)
-    → Means slots root now value [] tree o ↔ (o ≡ outcome)
+    (slots : Slots) → ((name : List ℕ) → slots.enumerations name ≡ None) → ComesToIn slots tree value outcome

@@ -3,7 +3,7 @@
 use Rattle.std.specs.Prelude.{◌≡◌, ◌↔◌, ℕ, List, [], ◌∷◌, None, true, codes, nat_eq, if◌then◌else◌}
 use Rattle.std.specs.Cmp.Lexicographic.{pointwise}
 use Rattle.edm_values.specs.MomentParts.{MomentParts}
-use Rattle.edm_values.specs.Val.{Val, null, text, items, fields, FieldVal, absent, present, no_items, item}
+use Rattle.edm_values.specs.Val.{Val, null, text, items, fields, absent, present, no_items, item}
 use Rattle.edm_values.specs.declared.primitive.PrimitiveType.{PrimitiveType}
 use Rattle.csdl_schema.specs.PathSet.{no_paths}
 use Rattle.csdl_schema.specs.ExprType.{collection, primitive}

@@ -23,6 +23,7 @@ pub use Rattle.odata_signatures.specs.Functions
 pub use Rattle.odata_signatures.specs.OperatorClass
 pub use Rattle.odata_signatures.specs.OperatorTyped
 pub use Rattle.odata_checked_filter.specs.Stands
+pub use Rattle.odata_expression_types.specs.Reads
 pub use Rattle.odata_expression_types.specs.Sides
 pub use Rattle.odata_expression_types.specs.Typed
 pub mod ArgumentValues
@@ -46,7 +47,9 @@ pub mod OneByOne
 pub mod OperatorGives
 pub mod Outcome
 pub mod QuantifierGives
+pub mod ReadGives
 pub mod SameMeaning
 pub mod TruthGives
+pub mod UnreadMeans
 pub mod VerdictView
 pub mod private

@@ -1,5 +1,6 @@
 -- What an expression comes to on an entity (OData URL Conventions 4.01, section 5.1.1).
 use Rattle.std.specs.Prelude.{◌≡◌, ℕ, zero, suc, List, [], ◌∷◌, length}
+use Rattle.edm_values.specs.Val as val
 use Rattle.edm_values.specs.Val.{Val}
 use Rattle.edm_values.specs.MomentParts.{MomentParts}
 use Rattle.odata_syntax.specs.Spans.{list_of_trees}
@@ -7,6 +8,9 @@ use Rattle.odata_syntax.specs.Tree.{Shape, Tree, any_item, binary, call, count, 
 use Rattle.odata_syntax.specs.Tree.{Trees, no_trees, more_trees}
 use Rattle.csdl_schema.specs.SchemaModel.{Slots}
 use Rattle.odata_signatures.specs.OperatorTyped.{NegationTyped, OperatorTyped}
+use Rattle.csdl_schema.specs.ExprType.{ExprType}
+use Rattle.odata_syntax.specs.declared.node.BinaryOperator.{BinaryOperator}
+use Rattle.odata_expression_types.specs.Reads.{OfEquality, ReadsNumber}
 use Rattle.odata_expression_types.specs.Sides.{Between}
 use Rattle.odata_expression_types.specs.Typed.{OperandTyped, OperandsTyped, Typed}
 use Rattle.odata_eval.specs.CalculationGives.{NegatedGives}
@@ -18,9 +22,24 @@ use Rattle.odata_eval.specs.LambdaGives.{InGives, ItemsGive, LambdaGives}
 use Rattle.odata_eval.specs.LeftFirst.{After}
 use Rattle.odata_eval.specs.LiteralGives.{LiteralGives}
 use Rattle.odata_eval.specs.NameGives.{NameGives, StepGives}
-use Rattle.odata_eval.specs.OperatorGives.{InType, OperatorGives}
+use Rattle.odata_eval.specs.OperatorGives.{InType, SidesGive}
 use Rattle.odata_eval.specs.Outcome.{NoOutcome, Outcome, gives}
+use Rattle.odata_eval.specs.ReadGives.{GivesMember, UnlessRead}
 use Rattle.odata_eval.specs.TruthGives.{NotGives}
+
+-- an operator between two trees of these types and outcomes; one that is read beside the other comes to its number
+abbrev pub BinaryGives :
+    Slots → BinaryOperator → (ExprType → Type 0) → (ExprType → Type 0) → Tree → Tree → (Outcome → Type 0)
+    → (Outcome → Type 0) → Outcome → Type 0
+BinaryGives slots operator LeftTyped RightTyped left right Left Right =
+    UnlessRead (ReadsNumber slots (OfEquality operator LeftTyped) right)
+    (λ n. SidesGive operator (OperandsTyped LeftTyped RightTyped (Between (OperatorTyped slots operator) left right))
+    Left (GivesMember n))
+    (UnlessRead (ReadsNumber slots (OfEquality operator RightTyped) left)
+    (λ n. SidesGive operator (OperandsTyped LeftTyped RightTyped (Between (OperatorTyped slots operator) left right))
+    (GivesMember n) Right)
+    (SidesGive operator (OperandsTyped LeftTyped RightTyped (Between (OperatorTyped slots operator) left right))
+    Left Right))
 
 -- the outcomes of a tree under the types' properties, the filtered type's name, the moment that `now` stands for, the
 -- entity and the variables around the tree, by whose types operands of arithmetic and members of collections have
@@ -44,17 +63,18 @@ abbrev mutual
   ShapeMeans slots root now entity environment (logical_not operand) =
       After (Means slots root now entity environment operand) NotGives
   ShapeMeans slots root now entity environment (binary operator left right) =
-      After (Means slots root now entity environment left)
-      (λ l. OperatorGives operator
-      (OperandsTyped (Typed slots root (scope_of environment) left) (Typed slots root (scope_of environment) right)
-      (Between (OperatorTyped operator) left right))
-      l (Means slots root now entity environment right))
+      BinaryGives slots operator (Typed slots root (scope_of environment) left)
+      (Typed slots root (scope_of environment) right) left right (Means slots root now entity environment left)
+      (Means slots root now entity environment right)
   ShapeMeans slots root now entity environment (has left right) =
-      After (Means slots root now entity environment left)
-      (λ l. After (Means slots root now entity environment right) (HasGives l))
+      UnlessRead (ReadsNumber slots (Typed slots root (scope_of environment) left) right)
+      (λ n. After (Means slots root now entity environment left) (λ l. HasGives l (val.member n)))
+      (After (Means slots root now entity environment left)
+      (λ l. After (Means slots root now entity environment right) (HasGives l)))
   ShapeMeans slots root now entity environment (in_list left items) =
       After (Means slots root now entity environment left)
-      (λ l. ItemsGive l (length (list_of_trees items)) (ItemMeans slots root now entity environment items))
+      (λ l. ItemsGive l (length (list_of_trees items))
+      (ItemMeans slots root now entity environment (Typed slots root (scope_of environment) left) items))
   ShapeMeans slots root now entity environment (in_path left path) =
       After (Means slots root now entity environment left)
       (λ l. After (Means slots root now entity environment path) (InGives l))
@@ -67,12 +87,14 @@ abbrev mutual
       (LambdaGives quantifier (Typed slots root (scope_of environment) base)
       (λ type v. Means slots root now entity (bound_over environment variable type v) body))
 
-  -- the item of a list in a place
-  pub ItemMeans : Slots → List ℕ → MomentParts → Val → Environment → Trees → ℕ → Outcome → Type 0
-  ItemMeans slots root now entity environment no_trees place = NoOutcome
-  ItemMeans slots root now entity environment (more_trees tree more) zero = Means slots root now entity environment tree
-  ItemMeans slots root now entity environment (more_trees tree more) (suc place) =
-      ItemMeans slots root now entity environment more place
+  -- the item of a list in a place, beside an operand of one of these types
+  pub ItemMeans :
+      Slots → List ℕ → MomentParts → Val → Environment → (ExprType → Type 0) → Trees → ℕ → Outcome → Type 0
+  ItemMeans slots root now entity environment Beside no_trees place = NoOutcome
+  ItemMeans slots root now entity environment Beside (more_trees tree more) zero =
+      UnlessRead (ReadsNumber slots Beside tree) GivesMember (Means slots root now entity environment tree)
+  ItemMeans slots root now entity environment Beside (more_trees tree more) (suc place) =
+      ItemMeans slots root now entity environment Beside more place
 
   -- the arguments of a call one after another, and what follows their values
   pub ArgumentsMean :

@@ -10,12 +10,15 @@ use Rattle.odata_syntax.specs.Tree.{Tree, Trees, no_trees, more_trees}
 use Rattle.odata_syntax.specs.declared.node.Quantifier.{Quantifier}
 use Rattle.odata_syntax.specs.declared.node.Quantifier.TheVariants.{Any, All}
 use Rattle.odata_eval.specs.CompareGives.{CompareGives}
-use Rattle.odata_eval.specs.Environment.{Environment, bound_over}
+use Rattle.odata_eval.specs.Environment.{Environment, bound_over, scope_of}
 use Rattle.odata_eval.specs.LambdaGives.{ItemsGive, MembersGive}
 use Rattle.odata_eval.specs.LeftFirst.{After}
 use Rattle.odata_eval.specs.Means.{ItemMeans, Means}
 use Rattle.odata_eval.specs.Outcome.{Outcome, gives}
 use Rattle.odata_eval.specs.QuantifierGives.{undecided_val}
+use Rattle.odata_eval.specs.ReadGives.{GivesMember, UnlessRead}
+use Rattle.odata_expression_types.specs.Reads.{ReadsNumber}
+use Rattle.odata_expression_types.specs.Typed.{Typed}
 
 -- a value of the body decides, or what follows goes on
 abbrev pub GoesOn : Quantifier → (Outcome → Type 0) → Val → Outcome → Type 0
@@ -52,10 +55,17 @@ ComparedOneByOne =
     (l : Val) (values : Vals) (o : Outcome)
     → MembersGive Any (CompareGives Eq l) values o ↔ MembersGo Any (CompareGives Eq l) values o
 
+-- one item, beside an operand of one of these types
+abbrev pub ItemAlone :
+    Slots → List ℕ → MomentParts → Val → Environment → (ExprType → Type 0) → Tree → Outcome → Type 0
+ItemAlone slots root now entity environment Beside tree =
+    UnlessRead (ReadsNumber slots Beside tree) GivesMember (Means slots root now entity environment tree)
+
 -- of the items of a list
 abbrev pub ItemsOneByOne : Type 0
 ItemsOneByOne =
     (slots : Slots) (root : List ℕ) (now : MomentParts) (entity : Val) (environment : Environment)
-    (l : Val) (items : Trees) (o : Outcome)
-    → ItemsGive l (length (list_of_trees items)) (ItemMeans slots root now entity environment items) o
-    ↔ ItemsGo (Means slots root now entity environment) l items o
+    (left : Tree) (l : Val) (items : Trees) (o : Outcome)
+    → ItemsGive l (length (list_of_trees items))
+    (ItemMeans slots root now entity environment (Typed slots root (scope_of environment) left) items) o
+    ↔ ItemsGo (ItemAlone slots root now entity environment (Typed slots root (scope_of environment) left)) l items o

@@ -25,3 +25,7 @@ ClassGives (Arithmetic arithmetic) NodeTyped l Right o =
 
 abbrev pub OperatorGives : BinaryOperator → (ExprType → Type 0) → Val → (Outcome → Type 0) → Outcome → Type 0
 OperatorGives operator = ClassGives (class_of operator)
+
+-- of the outcomes of both sides
+abbrev pub SidesGive : BinaryOperator → (ExprType → Type 0) → (Outcome → Type 0) → (Outcome → Type 0) → Outcome → Type 0
+SidesGive operator NodeTyped Left Right = After Left (λ l. OperatorGives operator NodeTyped l Right)

@@ -2,6 +2,7 @@
 pub mod Arguments
 pub mod DatumView
 pub mod Frames
+pub mod ItemMarks
 pub mod Lambda
 pub mod Members
 pub mod Operands

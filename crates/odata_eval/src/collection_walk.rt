@@ -10,6 +10,7 @@ use super::part::{right_of, stop_of};
 use super::scene::Scene;
 use super::walk::operand_at;
 use edm_values::Datum;
+use odata_expression_types::trees_have_one_type;
 use odata_functions::{ComparisonOperator, compare, comparisons_are_decided};
 
 /// What `has` comes to.
@@ -63,6 +64,7 @@ pub(crate) fn listed_at<'e>(
     ensures { AnswersDatum scene.now place result }
 {
     scene.ends_once();
+    trees_have_one_type();
     comparisons_are_decided();
     let own_stop = stop_of(scene, place);
     let mut at = right_of(scene, place);

@@ -6,22 +6,26 @@ ghost use Rattle.odata_syntax.specs.Tree.{Tree, any_item, count, in_list, in_pat
 ghost use Rattle.odata_syntax.specs.declared.node.Quantifier.{Quantifier};
 ghost use Rattle.odata_syntax.specs.declared.node.Quantifier.TheVariants.{All, Any};
 ghost use Rattle.odata_eval.specs.EndsOnce.{EndsOnceOnEntities, TypedEndsOnce};
-ghost use Rattle.odata_eval.specs.ComesTo.{ComesTo, false_and_missing, item_value};
+ghost use Rattle.csdl_schema.specs.SchemaModel.{Slots};
+ghost use Rattle.odata_eval.specs.ComesTo.{ComesTo, ComesToIn, false_and_missing, item_value};
 ghost use Rattle.odata_eval.specs.ComesToMembers.{ComesToOn, all_alike, is_null, named, null_literal, one_div_zero};
 ghost use Rattle.odata_eval.specs.ComesToMembers.{over_tags, text_and_null};
 ghost use Rattle.odata_eval.specs.OneByOne.{ComparedOneByOne, ItemsOneByOne, MembersOneByOne};
 ghost use Rattle.odata_eval.specs.Outcome.{gives, divides_by_zero};
+ghost use Rattle.odata_eval.specs.UnreadMeans.{FlagsAlone, ItemsAlone, OperandsAlone};
 ghost use Rattle.odata_eval.specs.SameMeaning.{NormalFormsKeepOutcomes, CanonicalTextsKeepOutcomes};
 
 use edm_entities::{spelled_values_lie_within, what_fits_has_its_type};
 use odata_expression_types::{
-    literals_have_one_value, normal_forms_keep_types, trees_have_one_type,
+    literals_have_one_value, normal_forms_keep_types, quoting_trees_are_texts, trees_have_one_type,
 };
 use odata_functions::{
     arithmetic_has_one_answer, bits_are_decided, comparisons_are_decided,
     day_numbers_have_one_date, operands_lie_within_promotion, texts_have_one_answer,
 };
-use odata_signatures::calls_have_one_type;
+use odata_signatures::{
+    calls_have_one_type, quoted_texts_have_one_number, unread_operands_go_by_types,
+};
 use odata_syntax::{canonical_texts_read_back, one_tree};
 use odata_text::one_list_of_any_length;
 
@@ -40,6 +44,9 @@ pub fn typed_trees_end_once()
     calls_have_one_type();
     texts_have_one_answer();
     day_numbers_have_one_date();
+    quoted_texts_have_one_number();
+    quoting_trees_are_texts();
+    unread_operands_go_by_types();
 }
 
 /// A law: so it has on every entity of that type.
@@ -58,6 +65,14 @@ pub fn one_by_one()
     ensures items { ItemsOneByOne }
 {}
 
+/// A law: an operator, `has` and an item of a list of which no String literal is read beside an enumeration come to what
+/// their operands alone make.
+pub fn unread_operands_stand_alone()
+    ensures operands { OperandsAlone }
+    ensures flags { FlagsAlone }
+    ensures items { ItemsAlone }
+{}
+
 /// A law: a tree and its normal form have the same outcomes, and so has the tree of its canonical text, on every value and
 /// whatever the range variables around hold.
 pub fn canonical_texts_keep_outcomes()
@@ -71,13 +86,14 @@ pub fn canonical_texts_keep_outcomes()
 }
 
 /// What the definitions say of `Active and ID eq 1 and Name eq 'a'` on the items `{"ID":1,"Name":"a","Active":true}`,
-/// `{"ID":1,"Name":"b","Active":true}` and `{"ID":2,"Name":"a","Active":false}`, and of `false and Missing` on any
-/// value.
+/// `{"ID":1,"Name":"b","Active":true}` and `{"ID":2,"Name":"a","Active":false}` where no type is an enumeration, and of
+/// `false and Missing` on any value.
 pub fn first_run_comes_to()
     ensures kept { ComesTo first_run_tree (item_value (pos 1) (codes "a") true) (gives (boolean true)) }
     ensures other_name { ComesTo first_run_tree (item_value (pos 1) (codes "b") true) (gives (boolean false)) }
     ensures inactive { ComesTo first_run_tree (item_value (pos 2) (codes "a") false) (gives (boolean false)) }
-    ensures right_side_left_out { (value : Val) → ComesTo false_and_missing value (gives (boolean false)) }
+    ensures right_side_left_out { (slots : Slots) (value : Val)
+        → ComesToIn slots false_and_missing value (gives (boolean false)) }
 {
     literals_have_one_value();
     trees_have_one_type();
@@ -85,6 +101,7 @@ pub fn first_run_comes_to()
     calls_have_one_type();
     texts_have_one_answer();
     day_numbers_have_one_date();
+    quoted_texts_have_one_number();
 }
 
 /// What the definitions say of `any`, `all`, `in`, `$count` and `any()` on the members `'a'` and null of a property `Tags`,
@@ -114,4 +131,5 @@ pub fn members_come_to()
     calls_have_one_type();
     texts_have_one_answer();
     day_numbers_have_one_date();
+    quoted_texts_have_one_number();
 }

@@ -12,6 +12,7 @@ mod lambda_walk;
 mod laws;
 mod number_walk;
 mod operators;
+mod paired_walk;
 mod part;
 mod scene;
 mod verdict;
@@ -21,6 +22,6 @@ pub use evaluator::evaluate;
 pub use fault::EvalFault;
 pub use laws::{
     canonical_texts_keep_outcomes, first_run_comes_to, members_come_to, one_by_one,
-    typed_trees_end_once, typed_trees_end_once_on_entities,
+    typed_trees_end_once, typed_trees_end_once_on_entities, unread_operands_stand_alone,
 };
 pub use verdict::Verdict;

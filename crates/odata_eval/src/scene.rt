@@ -147,7 +147,7 @@ impl<'e, 'c, 'r> Scene<'e, 'c, 'r> {
     }
 
     /// The values of the filter's literals.
-    fn values(&self) -> &'e [Value]
+    pub(crate) fn values(&self) -> &'e [Value]
         ensures { result.now ≡ self.now.list.values }
     {
         self.values

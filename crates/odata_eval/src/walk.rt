@@ -19,6 +19,10 @@ use super::number_walk::{number_at, number_chain_at};
 use super::operators::{
     compare_kept, compare_numbers, comparison_of, connective_of, decides, join,
 };
+use super::paired_walk::{
+    compared_left_at, compared_right, flags_right, left_read_truth_at, numbered_at,
+    right_read_truth_at,
+};
 use super::part::{Part, WalkClass, class_at, part_at, right_of, spine_bottom, stop_of};
 use super::scene::Scene;
 use edm_values::{Datum, Value};
@@ -62,6 +66,12 @@ fn plain_truth_at(scene: &Scene<'_, '_, '_>, place: usize) -> Result<Option<bool
     }
     if let NodeKind::Call { function } = scene.node(place).kind {
         return called_truth_at(scene, place, function);
+    }
+    if let NodeKind::PairedRight { operator, number } = scene.node(place).kind {
+        return right_read_truth_at(scene, place, operator, number);
+    }
+    if let NodeKind::PairedLeft { operator, number } = scene.node(place).kind {
+        return left_read_truth_at(scene, place, operator, number);
     }
     match part_at(scene, place) {
         Part::Leaf(value) => Ok(kept_truth(value)),
@@ -184,7 +194,10 @@ fn numeric_truth_at(scene: &Scene<'_, '_, '_>, place: usize) -> Result<Option<bo
 
 /// The same, of a node that takes the values of all its operands.
 #[cycle(evaluate)]
-fn made_truth_at(scene: &Scene<'_, '_, '_>, place: usize) -> Result<Option<bool>, EvalFault>
+pub(crate) fn made_truth_at(
+    scene: &Scene<'_, '_, '_>,
+    place: usize,
+) -> Result<Option<bool>, EvalFault>
     requires stands { TruthStands scene.now place }
     requires eager { IsClassAt scene.now.list WalkClass.Eager place }
     ensures { AnswersTruth scene.now place result }
@@ -318,9 +331,17 @@ fn made_at<'e>(
         NodeKind::Call { function } => called_at(scene, place, function, first),
         NodeKind::Count => count_of(first),
         NodeKind::AnyItem => Ok(any_item_of(first)),
+        NodeKind::PairedRight { operator, number } => {
+            Ok(compared_right(scene, place, operator, number, &first))
+        }
+        NodeKind::PairedLeft { operator, number } => {
+            compared_left_at(scene, place, operator, number)
+        }
         NodeKind::Has => flags_at(scene, place, &first),
+        NodeKind::PairedHas { number } => Ok(flags_right(scene, place, number, &first)),
         NodeKind::InPath => among_at(scene, place, &first),
         NodeKind::InList => listed_at(scene, place, &first),
+        NodeKind::PairedList { numbers } => numbered_at(scene, place, numbers, &first),
         NodeKind::Lambda { quantifier } => lambda_at(scene, place, quantifier, first),
         NodeKind::Binary { operator } => match class_of(operator) {
             OperatorClass::Comparison(comparison) => {

@@ -4,3 +4,4 @@ pub mod Sides
 pub mod Examples
 pub mod OneType
 pub mod OneValue
+pub mod Quoting

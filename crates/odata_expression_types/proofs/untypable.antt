@@ -2,3 +2,4 @@
 pub mod OneRefusal
 pub mod OneStart
 pub mod Untypable
+pub mod Unread

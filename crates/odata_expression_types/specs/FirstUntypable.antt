@@ -1,6 +1,6 @@
 -- Where and why a tree is no filter (OData URL Conventions 4.01, section 5.1.1).
 use Rattle.std.specs.Prelude.{◌≡◌, ◌⊎◌, ℕ, ◌≤◌, List, [], MatchOption}
-use Rattle.odata_syntax.specs.Tree.{Tree, node, literal, it, name, member, count, in_path, call, any_item, lambda, start_of, stop_of}
+use Rattle.odata_syntax.specs.Tree.{Tree, node, literal, it, name, member, count, binary, has, in_list, in_path, call, any_item, lambda, start_of, stop_of}
 use Rattle.odata_syntax.specs.declared.node.LiteralKind.{LiteralKind}
 use Rattle.csdl_schema.specs.ExprType.{ExprType, single, collection, structured}
 use Rattle.csdl_schema.specs.SchemaModel.{PropertyModel, PropertyType, declared, opaque, navigation, Slots}
@@ -10,6 +10,10 @@ use Rattle.odata_expression_types.specs.Considered.{IsConsidered, ChildrenTyped}
 use Rattle.odata_signatures.specs.ExprTypes.{IsBooleanOrNull}
 use Rattle.odata_signatures.specs.CallTyped.{CallReason}
 use Rattle.odata_signatures.specs.declared.call.CallFault.{CallFault}
+use Rattle.odata_signatures.specs.OperatorTyped.{OfOneSide}
+use Rattle.odata_signatures.specs.QuotedNumber.{LacksNumber}
+use Rattle.odata_expression_types.specs.Reads.{OneLacksNumber}
+use Rattle.odata_expression_types.specs.Sides.{quoted_text, side_of}
 use Rattle.odata_expression_types.specs.Typed.{AreTyped, Scope, Typed, IsUntyped, property_named, variable_type}
 
 -- why a property has no type
@@ -50,6 +54,22 @@ abbrev pub LiteralReason : LiteralKind → TypeFaultCode → Type 0
 LiteralReason LiteralKind.EnumLit code = code ≡ TypeFaultCode.UnknownEnum
 LiteralReason _ code = code ≡ TypeFaultCode.LiteralRange
 
+-- why operands do not go together: a String literal among them is read and stands for no number of the enumeration beside
+-- it; else their types do not
+abbrev pub OperandReason : Type 0 → TypeFaultCode → Type 0
+OperandReason Lacks code =
+    (Lacks × (code ≡ TypeFaultCode.UnknownEnum)) ⊎ ((¬ Lacks) × (code ≡ TypeFaultCode.OperandTypes))
+
+-- the same, by the type of the left operand
+abbrev pub BesideReason : (ExprType → Type 0) → (ExprType → Type 0) → TypeFaultCode → Type 0
+BesideReason Left Lacks code = (type : ExprType) × Left type × OperandReason (Lacks type) code
+
+-- the same, by the types of both operands
+abbrev pub SidesReason :
+    (ExprType → Type 0) → (ExprType → Type 0) → (ExprType → ExprType → Type 0) → TypeFaultCode → Type 0
+SidesReason Left Right Lacks code =
+    (left : ExprType) × (right : ExprType) × Left left × Right right × OperandReason (Lacks left right) code
+
 -- a fault of a call
 abbrev pub code_of_call : CallFault → TypeFaultCode
 code_of_call CallFault.UnknownFunction = TypeFaultCode.UnknownFunction
@@ -72,6 +92,13 @@ IsReason slots root scope (node start stop (name asked)) code = NameReason (slot
 IsReason slots root scope (node start stop (member base asked)) code =
     (type : ExprType) × Typed slots root scope base type × StepReason slots asked type code
 IsReason slots root scope (node start stop (count base)) code = code ≡ TypeFaultCode.NotCollection
+IsReason slots root scope (node start stop (binary operator left right)) code =
+    SidesReason (Typed slots root scope left) (Typed slots root scope right)
+    (λ l r. OfOneSide (LacksNumber slots) operator (side_of left l) (side_of right r)) code
+IsReason slots root scope (node start stop (has left right)) code =
+    BesideReason (Typed slots root scope left) (λ l. LacksNumber slots l (quoted_text right)) code
+IsReason slots root scope (node start stop (in_list left items)) code =
+    BesideReason (Typed slots root scope left) (λ l. OneLacksNumber slots l items) code
 IsReason slots root scope (node start stop (in_path left path)) code =
     (type : ExprType) × Typed slots root scope path type × PathReason type code
 IsReason slots root scope (node start stop (call asked arguments)) code =

@@ -1,5 +1,5 @@
 -- What follows from the definitions of typing alone, and examples that show that they mean something.
-use Rattle.std.specs.Prelude.{◌≡◌, ◌≤◌, ℕ, List, [], ◌∷◌, None, false, codes, length}
+use Rattle.std.specs.Prelude.{◌≡◌, ◌↔◌, ◌≤◌, ℕ, List, [], ◌∷◌, None, Some, false, codes, length}
 use Rattle.edm_values.specs.declared.primitive.PrimitiveType.{PrimitiveType}
 use Rattle.edm_values.specs.Val.{Val}
 use Rattle.odata_text.specs.Tokens.{token_limit}
@@ -10,16 +10,21 @@ use Rattle.odata_syntax.specs.declared.node.LiteralKind.{LiteralKind}
 use Rattle.csdl_schema.specs.PathSet.{no_paths}
 use Rattle.csdl_schema.specs.ExprType.{ExprType, single, primitive}
 use Rattle.csdl_schema.specs.SchemaModel.{PropertyModel, Slots, declared}
-use Rattle.odata_signatures.specs.ExprTypes.{boolean_type}
+use Rattle.odata_signatures.specs.ExprTypes.{boolean_type, string_type}
 use Rattle.odata_syntax.specs.Parse.{IsExpression}
 use Rattle.odata_expression_types.specs.Considered.{ChildrenTyped}
 use Rattle.odata_expression_types.specs.FirstAmong.{IsFirstBelow}
-use Rattle.odata_expression_types.specs.FirstUntypable.{IsFirstUntypable, IsReason, IsUntypable}
+use Rattle.odata_signatures.specs.OperatorTyped.{OfOneSide}
+use Rattle.odata_signatures.specs.QuotedNumber.{IsReadBeside, LacksNumber}
+use Rattle.odata_signatures.specs.Side.{Side}
+use Rattle.odata_expression_types.specs.FirstUntypable.{IsFirstUntypable, IsReason, IsUntypable, OperandReason}
 use Rattle.odata_expression_types.specs.HasTyping.{HasNoTyping, HasTree, IsRefusal}
 use Rattle.odata_expression_types.specs.declared.refusal.Refusal.{Refusal}
 use Rattle.odata_expression_types.specs.declared.refusal.TypeFault.{TypeFault}
+use Rattle.odata_expression_types.specs.declared.refusal.TypeFaultCode.{TypeFaultCode}
 use Rattle.odata_expression_types.specs.LiteralValue.{IsNameAndText, LiteralValue}
 use Rattle.odata_expression_types.specs.PreOrder.{pre_order}
+use Rattle.odata_expression_types.specs.Sides.{quoted_text}
 use Rattle.odata_expression_types.specs.Typed.{Scope, Typed, IsTyped, IsUntyped}
 
 -- a tree has at most one type
@@ -94,6 +99,21 @@ abbrev pub RefusedIsUntyped : Type 0
 RefusedIsUntyped =
     (slots : Slots) (root text : List ℕ) (refusal : Refusal) → IsRefusal slots root text refusal
     → HasNoTyping slots root text
+
+-- a tree that quotes a text is one
+abbrev pub QuotingIsText : Type 0
+QuotingIsText =
+    (slots : Slots) (root : List ℕ) (scope : Scope) (tree : Tree) (spelling : List ℕ) (type : ExprType)
+    → quoted_text tree ≡ Some spelling
+    → Typed slots root scope tree type
+    → type ≡ string_type
+
+-- where no operand of an operator is read beside a value of an enumeration, its reason is OperandTypes
+abbrev pub UnreadReason : Type 0
+UnreadReason =
+    (slots : Slots) (operator : BinaryOperator) (left right : Side) (code : TypeFaultCode)
+    → ¬ OfOneSide IsReadBeside operator left right
+    → OperandReason (OfOneSide (LacksNumber slots) operator left right) code ↔ (code ≡ TypeFaultCode.OperandTypes)
 
 -- the tree of a text has no more nodes than a text may have tokens
 abbrev pub FewNodes : Type 0

@@ -13,11 +13,15 @@ pub use Rattle.edm_values.specs.Val
 pub use Rattle.odata_functions.specs.Promotion
 pub use Rattle.odata_signatures.specs.ArgumentTypes
 pub use Rattle.odata_signatures.specs.CallTyped
+pub use Rattle.odata_signatures.specs.CollectionTyped
 pub use Rattle.odata_signatures.specs.ComparableTypes
 pub use Rattle.odata_signatures.specs.ExprTypes
 pub use Rattle.odata_signatures.specs.Functions
+pub use Rattle.odata_signatures.specs.HasTyped
 pub use Rattle.odata_signatures.specs.OperatorClass
 pub use Rattle.odata_signatures.specs.OperatorTyped
+pub use Rattle.odata_signatures.specs.QuotedNumber
+pub use Rattle.odata_signatures.specs.Side
 pub use Rattle.odata_syntax.specs.CanonicalText
 pub use Rattle.odata_syntax.specs.FirstRun
 pub use Rattle.odata_syntax.specs.NormalForm
@@ -36,4 +40,5 @@ pub mod HasTyping
 pub mod PreOrder
 pub mod SameTypes
 pub mod Sides
+pub mod Reads
 pub mod Laws

@@ -114,11 +114,13 @@ abbrev mutual
       OperandTyped (Typed slots root scope operand) NotTyped type
   Typed slots root scope (node start stop (binary operator left right)) type =
       OperandsTyped (Typed slots root scope left) (Typed slots root scope right)
-      (Between (OperatorTyped operator) left right) type
+      (Between (OperatorTyped slots operator) left right) type
   Typed slots root scope (node start stop (has left right)) type =
-      OperandsTyped (Typed slots root scope left) (Typed slots root scope right) (Between HasTyped left right) type
+      OperandsTyped (Typed slots root scope left) (Typed slots root scope right) (Between (HasTyped slots) left right)
+      type
   Typed slots root scope (node start stop (in_list left items)) type =
-      ItemsTyped (Typed slots root scope left) (AreTyped slots root scope items) (BeforeList InListTyped left items) type
+      ItemsTyped (Typed slots root scope left) (AreTyped slots root scope items)
+      (BeforeList (InListTyped slots) left items) type
   Typed slots root scope (node start stop (in_path left path)) type =
       OperandsTyped (Typed slots root scope left) (Typed slots root scope path) (Between InPathTyped left path) type
   Typed slots root scope (node start stop (call asked arguments)) type =

@@ -1,6 +1,6 @@
 ghost use Rattle.odata_expression_types.specs.Laws.{FewNodes, FirstBelow, FirstItself, ItemFilterTyped, MixedFilterUntyped};
 ghost use Rattle.odata_expression_types.specs.Laws.{OneLiteralValue, OneNameAndText, OneRefusal, OneType, OneUntypableStart};
-ghost use Rattle.odata_expression_types.specs.Laws.{RefusedIsUntyped, TypedIsClear};
+ghost use Rattle.odata_expression_types.specs.Laws.{QuotingIsText, RefusedIsUntyped, TypedIsClear, UnreadReason};
 
 use odata_signatures::calls_have_one_type;
 use odata_syntax::{
@@ -67,6 +67,17 @@ pub fn texts_have_one_refusal()
     calls_have_one_type();
     untypable_nodes_start_apart();
 }
+
+/// A law: a tree that quotes a text has type `Edm.String`, if it has one.
+pub fn quoting_trees_are_texts()
+    ensures { QuotingIsText }
+{}
+
+/// A law: where no operand of an operator is read beside a value of an enumeration, the reason why it has no type is
+/// `OperandTypes`.
+pub fn unread_operands_have_one_reason()
+    ensures { UnreadReason }
+{}
 
 /// A law: the tree of a text has no more nodes than a text may have tokens.
 pub fn texts_have_few_nodes()

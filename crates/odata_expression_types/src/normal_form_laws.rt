@@ -1,5 +1,5 @@
 //! What the normal form of a tree, and so its canonical text, keeps of it.
-ghost use Rattle.std.specs.Prelude.{◌↔◌, ℕ, List};
+ghost use Rattle.std.specs.Prelude.{◌≡◌, ◌↔◌, ℕ, List};
 ghost use Rattle.edm_values.specs.Val.{Val};
 ghost use Rattle.odata_text.specs.LiteralSpelling.{IsLiteralSpelling};
 ghost use Rattle.odata_syntax.specs.CanonicalText.{IsCanonicalText};
@@ -13,6 +13,7 @@ ghost use Rattle.odata_expression_types.specs.HasTyping.{HasTree, HasTyping};
 ghost use Rattle.odata_expression_types.specs.LiteralValue.{LiteralValue};
 ghost use Rattle.odata_expression_types.specs.PreOrder.{pre_order};
 ghost use Rattle.odata_expression_types.specs.SameTypes.{HaveSameTypesByNumber};
+ghost use Rattle.odata_expression_types.specs.Sides.{quoted_text};
 ghost use Rattle.odata_expression_types.specs.Typed.{Scope, Typed};
 
 use edm_values::{guids_read_back, ints_read_back, moments_read_back, texts_have_one_value};
@@ -20,7 +21,7 @@ use odata_syntax::{canonical_texts_read_back, one_tree};
 use odata_text::{one_list_of_any_length, tokens_are_spelled};
 
 /// A law: a literal's canonical spelling stands for the value of the literal, and a tree's normal form and the tree
-/// without its places have the types of the tree.
+/// without its places have the types of the tree, and quote what it quotes.
 pub fn normal_forms_keep_types()
     ensures values { (slots : Slots) (kind : LiteralKind) (text spelling : List ℕ) (v : Val)
         → IsLiteralSpelling (literal_token kind) text spelling
@@ -30,6 +31,8 @@ pub fn normal_forms_keep_types()
         → Typed slots root scope tree type ↔ Typed slots root scope normal type }
     ensures places { (slots : Slots) (root : List ℕ) (scope : Scope) (tree : Tree) (type : ExprType)
         → Typed slots root scope tree type ↔ Typed slots root scope (bare tree) type }
+    ensures quotes { (tree normal : Tree) → IsNormalForm tree normal → quoted_text tree ≡ quoted_text normal }
+    ensures quotes_bare { (tree : Tree) → quoted_text tree ≡ quoted_text (bare tree) }
 {
     texts_have_one_value();
     ints_read_back();

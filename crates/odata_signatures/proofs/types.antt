@@ -1,3 +1,5 @@
 -- Which types operators make.
 pub mod OneEnumeration
 pub mod Operators
+pub mod Quoted
+pub mod Unread

@@ -1,12 +1,14 @@
 -- Which type an expression has that asks for a collection (OData URL Conventions 4.01, sections 4.8, 5.1.1.1.11 and
 -- 5.1.1.13.1).
-use Rattle.std.specs.Prelude.{◌≡◌, List}
+use Rattle.std.specs.Prelude.{◌≡◌, ◌⊎◌, List}
 use Rattle.std.specs.List.{AllByRecursion}
 use Rattle.edm_values.specs.declared.primitive.PrimitiveType.{PrimitiveType}
 use Rattle.csdl_schema.specs.ExprType.{ExprType, single, collection, primitive}
+use Rattle.csdl_schema.specs.SchemaModel.{Slots}
 use Rattle.odata_signatures.specs.ComparableTypes.{AreComparable}
 use Rattle.odata_signatures.specs.ExprTypes.{boolean_type}
-use Rattle.odata_signatures.specs.Side.{Side, types_of}
+use Rattle.odata_signatures.specs.QuotedNumber.{HasNumber}
+use Rattle.odata_signatures.specs.Side.{Side}
 
 abbrev pub IsCollection : ExprType → Type 0
 IsCollection (collection member) = Unit {0}
@@ -29,8 +31,19 @@ IsComparableWithMembers left _ = ⊥
 abbrev pub InPathTyped : Side → Side → ExprType → Type 0
 InPathTyped left path type = IsComparableWithMembers left.type_of path.type_of × (type ≡ boolean_type)
 
--- `in` before a list: the value on the left is none of a collection, and is compared with each item (section 5.1.1.1.11)
-abbrev pub InListTyped : Side → List Side → ExprType → Type 0
-InListTyped left items type =
-    (¬ IsCollection left.type_of) × AllByRecursion (AreComparable left.type_of) (types_of items)
-    × (type ≡ boolean_type)
+-- `in` before a list of items by the types alone: a value of the type on the left is none of a collection, and is
+-- compared with each item
+abbrev pub AreItemTypes : ExprType → List ExprType → ExprType → Type 0
+AreItemTypes left items type =
+    (¬ IsCollection left) × AllByRecursion (AreComparable left) items × (type ≡ boolean_type)
+
+-- beside a value of the type on the left, an item of a list: it is compared with that, or is a String literal that stands
+-- for a number of its enumeration
+abbrev pub IsItemBeside : Slots → ExprType → Side → Type 0
+IsItemBeside slots left item = AreComparable left item.type_of ⊎ HasNumber slots left item.quoted
+
+-- `in` before a list: the value on the left is none of a collection, and each item may stand beside it (section
+-- 5.1.1.1.11)
+abbrev pub InListTyped : Slots → Side → List Side → ExprType → Type 0
+InListTyped slots left items type =
+    (¬ IsCollection left.type_of) × AllByRecursion (IsItemBeside slots left.type_of) items × (type ≡ boolean_type)

@@ -1,6 +1,8 @@
+pub use Rattle.csdl_schema.specs.EnumerationText
 pub use Rattle.csdl_schema.specs.ExprType
 pub use Rattle.csdl_schema.specs.SchemaModel
 pub use Rattle.edm_values.specs.NumberTypes
+pub use Rattle.edm_values.specs.StringLiteral
 pub use Rattle.odata_functions.specs.Promotion
 pub mod ArgumentTypes
 pub mod CallTyped
@@ -12,6 +14,8 @@ pub mod HasTyped
 pub mod ManyValues
 pub mod OperatorClass
 pub mod OperatorTyped
+pub mod QuotedNumber
 pub mod Side
 pub mod TypeThere
 pub mod TypeView
+pub mod Unread

@@ -1,7 +1,8 @@
 -- Which type an operator makes of those of its operands (OData URL Conventions 4.01, sections 5.1.1.1 and 5.1.1.2).
-use Rattle.std.specs.Prelude.{◌≡◌, Option}
+use Rattle.std.specs.Prelude.{◌≡◌, ◌⊎◌, ℕ, List, Option}
 use Rattle.edm_values.specs.declared.primitive.PrimitiveType.{PrimitiveType}
 use Rattle.csdl_schema.specs.ExprType.{ExprType}
+use Rattle.csdl_schema.specs.SchemaModel.{Slots}
 use Rattle.odata_functions.specs.Promotion.{promotion, negation_type}
 use Rattle.odata_syntax.specs.declared.node.BinaryOperator.{BinaryOperator}
 use Rattle.odata_signatures.specs.declared.operator_class.OperatorClass.{OperatorClass}
@@ -9,6 +10,7 @@ use Rattle.odata_signatures.specs.declared.operator_class.OperatorClass.TheVaria
 use Rattle.odata_signatures.specs.ComparableTypes.{AreComparedBy}
 use Rattle.odata_signatures.specs.ExprTypes.{boolean_type, IsBooleanOrNull, IsNumberOrNull, number_or_null}
 use Rattle.odata_signatures.specs.OperatorClass.{class_of}
+use Rattle.odata_signatures.specs.QuotedNumber.{HasNumber}
 use Rattle.odata_signatures.specs.Side.{Side}
 
 -- arithmetic of two numbers or nulls has the type to which these are promoted, that of two nulls type Null
@@ -26,9 +28,23 @@ ClassTyped (Connective connective) left right type =
 ClassTyped (Comparison comparison) left right type = AreComparedBy comparison left right × (type ≡ boolean_type)
 ClassTyped (Arithmetic arithmetic) left right type = ArithmeticTyped left right type
 
--- the operator takes these sides and gives a value of the type; their types alone count
-abbrev pub OperatorTyped : BinaryOperator → Side → Side → ExprType → Type 0
-OperatorTyped operator left right type = ClassTyped (class_of operator) left.type_of right.type_of type
+-- `eq` and `ne`
+abbrev pub IsEquality : BinaryOperator → Type 0
+IsEquality BinaryOperator.Eq = Unit {0}
+IsEquality BinaryOperator.Ne = Unit {0}
+IsEquality _ = ⊥
+
+-- of `eq` and `ne`: this holds of the type of one side and of what the other one quotes
+abbrev pub OfOneSide : (ExprType → Option (List ℕ) → Type 0) → BinaryOperator → Side → Side → Type 0
+OfOneSide Holds operator left right =
+    IsEquality operator × (Holds left.type_of right.quoted ⊎ Holds right.type_of left.quoted)
+
+-- the operator takes these sides and gives a value of the type: by their types, or a String literal that stands for a
+-- number of the enumeration on the other side
+abbrev pub OperatorTyped : Slots → BinaryOperator → Side → Side → ExprType → Type 0
+OperatorTyped slots operator left right type =
+    ClassTyped (class_of operator) left.type_of right.type_of type
+    ⊎ (OfOneSide (HasNumber slots) operator left right × (type ≡ boolean_type))
 
 -- `-` before an operand of the first type gives the second
 pub record NegationTyped (operand type : ExprType) : Type 0 where

@@ -31,7 +31,8 @@ pub(crate) fn are_compared(
     }
 }
 
-pub(crate) fn are_comparable(schema: &Schema, left: &EdmType, right: &EdmType) -> bool
+/// Whether `eq`, `ne` and `in` take values of these types.
+pub fn are_comparable(schema: &Schema, left: &EdmType, right: &EdmType) -> bool
     requires left { IsTypeThere schema.now left.now }
     requires right { IsTypeThere schema.now right.now }
     ensures { IsTrue result ↔ AreComparable (expr_type schema.now left.now) (expr_type schema.now right.now) }

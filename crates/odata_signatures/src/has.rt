@@ -1,9 +1,9 @@
 //! Which type `has` makes of those of its operands.
-ghost use Rattle.std.specs.Prelude.{◌↔◌, ℕ, List, Option, IsTrue, IfSome, IfNone};
-ghost use Rattle.csdl_schema.specs.ExprType.{ExprType, null_type, single, enumeration};
+ghost use Rattle.std.specs.Prelude.{◌≡◌, ◌↔◌, IsTrue, IfSome, IfNone};
+ghost use Rattle.csdl_schema.specs.ExprType.{null_type, single, enumeration};
 ghost use Rattle.csdl_schema.specs.SchemaModel.{SchemaModel, HoldsEnumeration, type_name_at};
-ghost use Rattle.odata_signatures.specs.HasTyped.{AreFlags, HasTyped};
-ghost use Rattle.odata_signatures.specs.Side.{quoting};
+ghost use Rattle.odata_signatures.specs.ExprTypes.{boolean_type};
+ghost use Rattle.odata_signatures.specs.HasTyped.{AreFlags};
 ghost use Rattle.odata_signatures.specs.TypeView.{expr_type};
 ghost use Rattle.odata_signatures.specs.TypeThere.{IsTypeThere};
 
@@ -11,16 +11,14 @@ use super::comparison::is_same_enumeration;
 use super::edm_type::{BOOLEAN, EdmType, ValueType};
 use csdl_schema::{EnumId, Schema};
 
-/// The type of `has` between operands of these types, whatever they quote. `None` where it takes none of these types.
+/// The type of `has` between operands of these types, by the types alone. `None` where it takes none of these.
 pub fn has_type(schema: &Schema, left: &EdmType, right: &EdmType) -> Option<EdmType>
     requires left { IsTypeThere schema.now left.now }
     requires right { IsTypeThere schema.now right.now }
-    ensures typed { (l r : Option (List ℕ)) → IfSome result (λ t. HasTyped
-        (quoting l (expr_type schema.now left.now)) (quoting r (expr_type schema.now right.now))
-        (expr_type schema.now t)) }
+    ensures flags { IfSome result (λ _. AreFlags (expr_type schema.now left.now) (expr_type schema.now right.now)) }
+    ensures typed { IfSome result (λ t. expr_type schema.now t ≡ boolean_type) }
     ensures there { IfSome result (IsTypeThere schema.now) }
-    ensures none { (l r : Option (List ℕ)) → IfNone result ((type : ExprType) → ¬ HasTyped
-        (quoting l (expr_type schema.now left.now)) (quoting r (expr_type schema.now right.now)) type) }
+    ensures none { IfNone result (¬ AreFlags (expr_type schema.now left.now) (expr_type schema.now right.now)) }
 {
     if are_flags(schema, left, right) {
         Some(BOOLEAN)

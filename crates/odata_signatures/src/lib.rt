@@ -13,14 +13,17 @@ mod laws;
 mod membership;
 mod operator;
 mod operator_class;
+mod quoted_number;
 
 pub use argument_kind::ArgumentKind;
 pub use call::{CallFault, TypedCall, judged_call};
 pub use collection::{any_item_type, count_type};
+pub use comparison::are_comparable;
 pub use edm_type::{BOOLEAN, EdmType, ValueType};
 pub use function::{Function, Signature, function_named};
 pub use has::has_type;
-pub use laws::calls_have_one_type;
+pub use laws::{calls_have_one_type, quoted_texts_have_one_number, unread_operands_go_by_types};
 pub use membership::{in_list_type, in_path_type};
 pub use operator::{made_type, negated_type, opposite_type};
 pub use operator_class::{Connective, OperatorClass, class_of};
+pub use quoted_number::{Beside, number_beside};

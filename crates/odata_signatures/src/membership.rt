@@ -1,10 +1,10 @@
 //! Which type `in` makes of those of its operands.
-ghost use Rattle.std.specs.Prelude.{◌≡◌, ◌↔◌, ℕ, List, Option, IsTrue, IfSome, IfNone, map};
+ghost use Rattle.std.specs.Prelude.{◌↔◌, ℕ, List, Option, IsTrue, IfSome, IfNone, map};
 ghost use Rattle.std.specs.List.{AllByRecursion};
 ghost use Rattle.csdl_schema.specs.ExprType.{ExprType};
-ghost use Rattle.odata_signatures.specs.CollectionTyped.{InListTyped, InPathTyped};
+ghost use Rattle.odata_signatures.specs.CollectionTyped.{AreItemTypes, InPathTyped};
 ghost use Rattle.odata_signatures.specs.ComparableTypes.{AreComparable};
-ghost use Rattle.odata_signatures.specs.Side.{Side, quoting, types_of};
+ghost use Rattle.odata_signatures.specs.Side.{quoting};
 ghost use Rattle.odata_signatures.specs.TypeView.{expr_type};
 ghost use Rattle.odata_signatures.specs.TypeThere.{IsTypeThere};
 
@@ -37,18 +37,16 @@ pub fn in_path_type(schema: &Schema, left: &EdmType, path: &EdmType) -> Option<E
     }
 }
 
-/// The type of `in` before a list of items of these types. `None` where the value on the left is of a collection, or
-/// cannot be compared with an item.
+/// The type of `in` before a list of items of these types, by the types alone. `None` where the value on the left is of a
+/// collection, or cannot be compared with an item.
 pub fn in_list_type(schema: &Schema, left: &EdmType, items: &[EdmType]) -> Option<EdmType>
     requires left { IsTypeThere schema.now left.now }
     requires items { AllByRecursion (IsTypeThere schema.now) items.now }
-    ensures typed { (l : Option (List ℕ)) (sides : List Side)
-        → types_of sides ≡ map (expr_type schema.now) items.now
-        → IfSome result (λ t. InListTyped (quoting l (expr_type schema.now left.now)) sides (expr_type schema.now t)) }
+    ensures typed { IfSome result (λ t. AreItemTypes (expr_type schema.now left.now)
+        (map (expr_type schema.now) items.now) (expr_type schema.now t)) }
     ensures there { IfSome result (IsTypeThere schema.now) }
-    ensures none { (l : Option (List ℕ)) (sides : List Side)
-        → types_of sides ≡ map (expr_type schema.now) items.now
-        → IfNone result ((type : ExprType) → ¬ InListTyped (quoting l (expr_type schema.now left.now)) sides type) }
+    ensures none { IfNone result ((type : ExprType) → ¬ AreItemTypes (expr_type schema.now left.now)
+        (map (expr_type schema.now) items.now) type) }
 {
     if !left.is_collection() && are_comparable_items(schema, left, items) {
         Some(BOOLEAN)

@@ -1,9 +1,9 @@
 //! Which type an operator makes of those of its operands.
-ghost use Rattle.std.specs.Prelude.{ℕ, List, Option, IfSome, IfNone};
+ghost use Rattle.std.specs.Prelude.{IfSome, IfNone};
 ghost use Rattle.csdl_schema.specs.ExprType.{ExprType};
 ghost use Rattle.csdl_schema.specs.SchemaModel.{SchemaModel};
-ghost use Rattle.odata_signatures.specs.OperatorTyped.{ArithmeticTyped, NegationTyped, NotTyped, OperatorTyped};
-ghost use Rattle.odata_signatures.specs.Side.{quoting};
+ghost use Rattle.odata_signatures.specs.OperatorTyped.{ArithmeticTyped, ClassTyped, NegationTyped, NotTyped};
+ghost use Rattle.odata_signatures.specs.OperatorClass.{class_of};
 ghost use Rattle.odata_signatures.specs.TypeView.{expr_type};
 ghost use Rattle.odata_signatures.specs.TypeThere.{IsTypeThere};
 
@@ -14,7 +14,7 @@ use csdl_schema::Schema;
 use odata_functions::{negation_type, promotion};
 use odata_syntax::BinaryOperator;
 
-/// The type that the operator makes, whatever its operands quote. `None` where it takes no operands of these types.
+/// The type that the operator makes of operands of these types, by the types alone. `None` where it takes none of these.
 pub fn made_type(
     schema: &Schema,
     operator: BinaryOperator,
@@ -23,12 +23,11 @@ pub fn made_type(
 ) -> Option<EdmType>
     requires left { IsTypeThere schema.now left.now }
     requires right { IsTypeThere schema.now right.now }
-    ensures typed { (l r : Option (List ℕ)) → IfSome result (λ t. OperatorTyped operator
-        (quoting l (expr_type schema.now left.now)) (quoting r (expr_type schema.now right.now))
-        (expr_type schema.now t)) }
+    ensures typed { IfSome result (λ t. ClassTyped (class_of operator)
+        (expr_type schema.now left.now) (expr_type schema.now right.now) (expr_type schema.now t)) }
     ensures there { IfSome result (IsTypeThere schema.now) }
-    ensures none { (l r : Option (List ℕ)) → IfNone result ((type : ExprType) → ¬ OperatorTyped operator
-        (quoting l (expr_type schema.now left.now)) (quoting r (expr_type schema.now right.now)) type) }
+    ensures none { IfNone result ((type : ExprType) → ¬ ClassTyped (class_of operator)
+        (expr_type schema.now left.now) (expr_type schema.now right.now) type) }
 {
     match class_of(operator) {
         OperatorClass::Connective(_) => if left.is_truth() && right.is_truth() {

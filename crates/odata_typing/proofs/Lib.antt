@@ -5,3 +5,4 @@ pub mod forms
 pub mod scopes
 pub mod types
 pub mod untypable
+pub mod pairs

@@ -1,11 +1,12 @@
 //! Nodes between two operands: operators, `has`, and `in` before a path.
-ghost use Rattle.std.specs.Prelude.{◌≡◌, ◌<◌, ◌≤◌, [], ℕ, List, Option, length, IfOk, IfSome, IfNone};
+ghost use Rattle.std.specs.Prelude.{◌≡◌, ◌<◌, ◌≤◌, [], ℕ, length, IfOk, IfSome, IfNone};
 ghost use Rattle.odata_syntax.specs.Tree.{Tree, node};
 ghost use Rattle.odata_syntax.specs.TreeView.{tree_of};
 ghost use Rattle.csdl_schema.specs.ExprType.{ExprType};
-ghost use Rattle.csdl_schema.specs.SchemaModel.{SchemaModel};
+ghost use Rattle.csdl_schema.specs.SchemaModel.{SchemaModel, slots_of};
 ghost use Rattle.odata_expression_types.specs.Typed.{Scope};
-ghost use Rattle.odata_signatures.specs.Side.{quoting};
+ghost use Rattle.odata_expression_types.specs.Sides.{side_of};
+ghost use Rattle.odata_signatures.specs.QuotedNumber.{IsReadBeside};
 ghost use Rattle.odata_signatures.specs.TypeThere.{IsTypeThere};
 ghost use Rattle.odata_signatures.specs.TypeView.{expr_type};
 ghost use Rattle.odata_checked_filter.specs.FlatTree.{FlatTree};
@@ -17,12 +18,15 @@ use super::laws_below::laws_below;
 use super::left_operand::Begun;
 use super::node::checked_tree;
 use super::opened_node::Opened;
+use super::pairing::{Paired, Pairing, pairing_of};
+use super::quotes::{Quotes, quoted_of};
 use super::setting::Setting;
 use super::untyped::{Untyped, earlier};
 use csdl_schema::Schema;
+use edm_values::Value;
 use odata_checked_filter::{NodeKind, NodeList};
 use odata_expression_types::{TypeFault, TypeFaultCode};
-use odata_signatures::{EdmType, has_type, in_path_type, made_type};
+use odata_signatures::{BOOLEAN, EdmType, has_type, in_path_type, made_type};
 use odata_syntax::{BinaryOperator, Node};
 
 /// What stands between the two operands.
@@ -33,15 +37,25 @@ pub(crate) enum Infix {
     InPath,
 }
 
-/// What was answered of the two operands.
+/// What was answered of the two operands, and what they quote.
 #[derive(Clone, Copy)]
-pub(crate) struct Operands {
+pub(crate) struct Operands<'n> {
     pub(crate) left: Result<EdmType, Untyped>,
     pub(crate) right: Result<EdmType, Untyped>,
+    pub(crate) quotes: Quotes<'n>,
+}
+
+/// The types of the two operands, and what they quote.
+#[derive(Clone, Copy)]
+pub(crate) struct OperandTypes<'n> {
+    pub(crate) left: EdmType,
+    pub(crate) right: EdmType,
+    pub(crate) quotes: Quotes<'n>,
 }
 
 ghost use Rattle.odata_typing.specs.private.Begun.{IsBegun, IsPlaced};
-ghost use Rattle.odata_typing.specs.private.Forms.{InfixReason, InfixTyped, infix_kind, infix_shape};
+ghost use Rattle.odata_typing.specs.private.Forms.{InfixByTypes, InfixReason, infix_kind, infix_shape};
+ghost use Rattle.odata_typing.specs.private.Pairing.{AreQuotes, IsOfRight, IsPairedIn, OneIsRead, left_side, paired_kind, right_side};
 
 /// The nodes of the right operand behind those of the left, and the node of both.
 #[cycle(typing)]
@@ -52,6 +66,7 @@ pub(crate) fn checked_right(
     right: &Node,
     list: &mut NodeList,
 ) -> Result<EdmType, Untyped>
+    requires form { IsOfRight form }
     requires variables { AreThere setting.now.schema.now setting.now.variables.now }
     requires placed { IsPlaced setting.now.schema.now list.old begun }
     ensures answer { (old : FlatTree) (l : Tree)
@@ -61,9 +76,18 @@ pub(crate) fn checked_right(
     ensures there { IfOk result (IsTypeThere setting.now.schema.now) }
     ensures grown { length list.old.nodes ≤ length list.new.nodes }
 {
-    let right = checked_tree(setting, right, list);
     let Begun { opened, left } = begun;
-    close_infix(setting.schema, opened, form, Operands { left, right }, list)
+    let quotes = Quotes {
+        left: None,
+        right: quoted_of(right),
+    };
+    let right = checked_tree(setting, right, list);
+    let operands = Operands {
+        left,
+        right,
+        quotes,
+    };
+    close_infix(setting.schema, opened, form, operands, list)
 }
 
 /// The node between two operands, from what was answered of them.
@@ -71,26 +95,38 @@ pub(crate) fn close_infix(
     schema: &Schema,
     opened: Opened,
     form: Infix,
-    operands: Operands,
+    operands: Operands<'_>,
     list: &mut NodeList,
 ) -> Result<EdmType, Untyped>
     requires place { opened.place < length list.old.nodes }
     requires left { IfOk operands.left (IsTypeThere schema.now) }
     requires right { IfOk operands.right (IsTypeThere schema.now) }
     ensures answer { (n : ℕ) (scope : Scope) (l r : Tree) (start before between : FlatTree)
+        → AreQuotes form l r operands.entry.quotes
         → IsOpened start opened.place [] before
-        → IsAnswer schema.now n scope before l between operands.left
-        → IsAnswer schema.now n scope between r list.old operands.right
+        → IsAnswer schema.now n scope before l between operands.entry.left
+        → IsAnswer schema.now n scope between r list.old operands.entry.right
         → IsAnswer schema.now n scope start (node opened.span.start opened.span.stop (infix_shape form l r))
         list.new result }
     ensures there { IfOk result (IsTypeThere schema.now) }
     ensures grown { length list.old.nodes ≤ length list.new.nodes }
 {
     laws_below();
-    let Operands { left, right } = operands;
+    let Operands {
+        left,
+        right,
+        quotes,
+    } = operands;
     match left {
         Ok(left) => match right {
-            Ok(right) => close_pair(schema, opened, form, (left, right), list),
+            Ok(right) => {
+                let types = OperandTypes {
+                    left,
+                    right,
+                    quotes,
+                };
+                close_pair(schema, opened, form, &types, list)
+            }
             Err(behind) => Err(behind),
         },
         Err(before) => match right {
@@ -105,45 +141,122 @@ fn close_pair(
     schema: &Schema,
     opened: Opened,
     form: Infix,
-    types: (EdmType, EdmType),
+    types: &OperandTypes<'_>,
     list: &mut NodeList,
 ) -> Result<EdmType, Untyped>
     requires place { opened.place < length list.old.nodes }
-    requires left { IsTypeThere schema.now types.0 }
-    requires right { IsTypeThere schema.now types.1 }
+    requires left { IsTypeThere schema.now types.now.left }
+    requires right { IsTypeThere schema.now types.now.right }
     ensures answer { (n : ℕ) (scope : Scope) (l r : Tree) (start before between : FlatTree)
+        → AreQuotes form l r types.now.quotes
         → IsOpened start opened.place [] before
-        → IsWalked schema.now n scope before l between types.0
-        → IsWalked schema.now n scope between r list.old types.1
+        → IsWalked schema.now n scope before l between types.now.left
+        → IsWalked schema.now n scope between r list.old types.now.right
         → IsAnswer schema.now n scope start (node opened.span.start opened.span.stop (infix_shape form l r))
         list.new result }
     ensures there { IfOk result (IsTypeThere schema.now) }
     ensures grown { length list.old.nodes ≤ length list.new.nodes }
 {
     laws_below();
-    let (left, right) = types;
-    match infix_type(schema, form, &left, &right) {
-        Some(edm_type) => {
-            list.close(opened.place, kind_of(form), opened.span, &edm_type);
-            Ok(edm_type)
-        }
-        None => Err(Untyped::Fault(TypeFault {
-            code: reason_of(form, &right),
+    match pairing_of(schema, form, types) {
+        Pairing::Unread => close_unread(schema, opened, form, types, list),
+        Pairing::Number(paired, number) => close_paired(opened, paired, number, list),
+        Pairing::Unknown => Err(Untyped::Fault(TypeFault {
+            code: TypeFaultCode::UnknownEnum,
             span: opened.span,
         })),
     }
 }
 
-/// The type between operands of these types. `None` where they may not stand there.
+/// The node between operands of these types, neither of which is read.
+fn close_unread(
+    schema: &Schema,
+    opened: Opened,
+    form: Infix,
+    types: &OperandTypes<'_>,
+    list: &mut NodeList,
+) -> Result<EdmType, Untyped>
+    requires place { opened.place < length list.old.nodes }
+    requires left { IsTypeThere schema.now types.now.left }
+    requires right { IsTypeThere schema.now types.now.right }
+    ensures answer { (n : ℕ) (scope : Scope) (l r : Tree) (start before between : FlatTree)
+        → AreQuotes form l r types.now.quotes
+        → ¬ OneIsRead IsReadBeside form (left_side schema.now types.now) (right_side schema.now types.now)
+        → IsOpened start opened.place [] before
+        → IsWalked schema.now n scope before l between types.now.left
+        → IsWalked schema.now n scope between r list.old types.now.right
+        → IsAnswer schema.now n scope start (node opened.span.start opened.span.stop (infix_shape form l r))
+        list.new result }
+    ensures there { IfOk result (IsTypeThere schema.now) }
+    ensures grown { length list.old.nodes ≤ length list.new.nodes }
+{
+    laws_below();
+    match infix_type(schema, form, &types.left, &types.right) {
+        Some(edm_type) => {
+            list.close(opened.place, kind_of(form), opened.span, &edm_type);
+            Ok(edm_type)
+        }
+        None => Err(Untyped::Fault(TypeFault {
+            code: reason_of(form, &types.right),
+            span: opened.span,
+        })),
+    }
+}
+
+/// The node between operands of which one is read as that number.
+fn close_paired(
+    opened: Opened,
+    paired: Paired,
+    number: i64,
+    list: &mut NodeList,
+) -> Result<EdmType, Untyped>
+    requires { opened.place < length list.old.nodes }
+    ensures answer { (schema : SchemaModel) (n : ℕ) (scope : Scope) (form : Infix) (l r : Tree)
+        (start before between : FlatTree) (left right : EdmType)
+        → IsPairedIn (slots_of schema) form paired (side_of l (expr_type schema left))
+        (side_of r (expr_type schema right)) number
+        → IsOpened start opened.place [] before
+        → IsWalked schema n scope before l between left
+        → IsWalked schema n scope between r list.old right
+        → IsAnswer schema n scope start (node opened.span.start opened.span.stop (infix_shape form l r))
+        list.new result }
+    ensures there { (schema : SchemaModel) → IfOk result (IsTypeThere schema) }
+    ensures grown { length list.old.nodes ≤ length list.new.nodes }
+{
+    laws_below();
+    let place = list.values().len();
+    match list.push_value(Value::Enum(number)) {
+        Ok(()) => {}
+        Err(_) => return Err(Untyped::Memory),
+    }
+    list.close(
+        opened.place,
+        paired_kind(paired, place),
+        opened.span,
+        &BOOLEAN,
+    );
+    Ok(BOOLEAN)
+}
+
+fn paired_kind(paired: Paired, number: usize) -> NodeKind
+    ensures { result ≡ paired_kind paired number }
+{
+    match paired {
+        Paired::Right(operator) => NodeKind::PairedRight { operator, number },
+        Paired::Left(operator) => NodeKind::PairedLeft { operator, number },
+        Paired::Has => NodeKind::PairedHas { number },
+    }
+}
+
+/// The type between operands of these types, by the types alone. `None` where they may not stand there.
 fn infix_type(schema: &Schema, form: Infix, left: &EdmType, right: &EdmType) -> Option<EdmType>
     requires left { IsTypeThere schema.now left.now }
     requires right { IsTypeThere schema.now right.now }
-    ensures typed { (l r : Option (List ℕ)) → IfSome result (λ t. InfixTyped form
-        (quoting l (expr_type schema.now left.now)) (quoting r (expr_type schema.now right.now))
-        (expr_type schema.now t)) }
+    ensures typed { IfSome result (λ t. InfixByTypes form
+        (expr_type schema.now left.now) (expr_type schema.now right.now) (expr_type schema.now t)) }
     ensures there { IfSome result (IsTypeThere schema.now) }
-    ensures none { (l r : Option (List ℕ)) → IfNone result ((type : ExprType) → ¬ InfixTyped form
-        (quoting l (expr_type schema.now left.now)) (quoting r (expr_type schema.now right.now)) type) }
+    ensures none { IfNone result ((type : ExprType) → ¬ InfixByTypes form
+        (expr_type schema.now left.now) (expr_type schema.now right.now) type) }
 {
     match form {
         Infix::Operator(operator) => made_type(schema, operator, left, right),

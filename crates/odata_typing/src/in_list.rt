@@ -1,9 +1,11 @@
 //! Nodes of `in` before a list.
-ghost use Rattle.std.specs.Prelude.{◌<◌, ◌≤◌, ℕ, List, [], length, IfNone, IfOk};
+ghost use Rattle.std.specs.Prelude.{◌≡◌, ◌<◌, ◌≤◌, ℕ, [], length, map, IfNone, IfOk};
 ghost use Rattle.std.specs.List.{AllByRecursion};
 ghost use Rattle.odata_syntax.specs.Tree.{Tree, node, in_list, trees_of_list};
-ghost use Rattle.odata_syntax.specs.TreeView.{trees_of};
+ghost use Rattle.odata_syntax.specs.TreeView.{tree_of, trees_of};
+ghost use Rattle.odata_signatures.specs.CollectionTyped.{IsCollection};
 ghost use Rattle.odata_signatures.specs.TypeThere.{IsTypeThere};
+ghost use Rattle.odata_signatures.specs.TypeView.{expr_type};
 ghost use Rattle.odata_expression_types.specs.Typed.{Scope};
 ghost use Rattle.odata_checked_filter.specs.FlatTree.{FlatTree};
 ghost use Rattle.odata_checked_filter.specs.ListGrowth.{IsOpened};
@@ -14,6 +16,7 @@ ghost use Rattle.odata_typing.specs.private.Variables.{AreThere};
 
 use super::argument_types::ArgumentTypes;
 use super::call_node::checked_arguments;
+use super::item_numbers::{ItemsFit, put_items};
 use super::laws_below::laws_below;
 use super::left_operand::Begun;
 use super::opened_node::Opened;
@@ -22,8 +25,17 @@ use super::untyped::{Untyped, earlier};
 use csdl_schema::Schema;
 use odata_checked_filter::{NodeKind, NodeList};
 use odata_expression_types::{TypeFault, TypeFaultCode};
-use odata_signatures::{EdmType, in_list_type};
+use odata_signatures::{BOOLEAN, EdmType, ValueType, in_list_type};
 use odata_syntax::Node;
+
+/// The items of a list, with their types.
+#[derive(Clone, Copy)]
+pub(crate) struct Items<'n> {
+    pub(crate) nodes: &'n [Node],
+    pub(crate) types: &'n [EdmType],
+}
+
+ghost use Rattle.odata_typing.specs.private.Items.{IsUnreadLeft};
 
 /// The nodes of the items behind those of the left operand, and the node of `in`.
 #[cycle(typing)]
@@ -44,24 +56,28 @@ pub(crate) fn checked_in_list(
 {
     let mut types = ArgumentTypes::new(setting.alloc);
     let told = checked_arguments(setting, items, &mut types, list);
-    close_items(setting, begun, types.as_slice(), told, list)
+    let items = Items {
+        nodes: items,
+        types: types.as_slice(),
+    };
+    close_items(setting, begun, &items, told, list)
 }
 
 /// The node of `in`, from what was answered of the left operand and of the items.
 fn close_items(
     setting: &Setting<'_>,
     begun: Begun,
-    types: &[EdmType],
+    items: &Items<'_>,
     told: Option<Untyped>,
     list: &mut NodeList,
 ) -> Result<EdmType, Untyped>
     requires placed { IsPlaced setting.now.schema.now list.old begun }
-    requires items { IfNone told (AllByRecursion (IsTypeThere setting.now.schema.now) types.now) }
-    ensures answer { (old : FlatTree) (l : Tree) (between : FlatTree) (trees : List Tree)
+    requires items { IfNone told (AllByRecursion (IsTypeThere setting.now.schema.now) items.now.types.now) }
+    ensures answer { (old : FlatTree) (l : Tree) (between : FlatTree)
         → IsBegun setting.now old l between begun
-        → AreAnswered setting.now between trees list.old types.now told
+        → AreAnswered setting.now between (map tree_of items.now.nodes.now) list.old items.now.types.now told
         → Answers setting.now old (node begun.opened.span.start begun.opened.span.stop
-        (in_list l (trees_of_list trees))) list.new result }
+        (in_list l (trees_of_list (map tree_of items.now.nodes.now)))) list.new result }
     ensures there { IfOk result (IsTypeThere setting.now.schema.now) }
     ensures grown { length list.old.nodes ≤ length list.new.nodes }
 {
@@ -69,7 +85,7 @@ fn close_items(
     let Begun { opened, left } = begun;
     match left {
         Ok(left) => match told {
-            None => close_in_list(setting.schema, opened, &left, types, list),
+            None => close_in_list(setting.schema, opened, &left, items, list),
             Some(behind) => Err(behind),
         },
         Err(before) => match told {
@@ -79,35 +95,109 @@ fn close_items(
     }
 }
 
-/// `in` between an operand of that type and items of these types.
+/// `in` between an operand of that type and these items.
 fn close_in_list(
     schema: &Schema,
     opened: Opened,
     left: &EdmType,
-    types: &[EdmType],
+    items: &Items<'_>,
     list: &mut NodeList,
 ) -> Result<EdmType, Untyped>
     requires place { opened.place < length list.old.nodes }
     requires left { IsTypeThere schema.now left.now }
-    requires items { AllByRecursion (IsTypeThere schema.now) types.now }
-    ensures answer { (n : ℕ) (scope : Scope) (l : Tree) (trees : List Tree) (old before between : FlatTree)
+    requires items { AllByRecursion (IsTypeThere schema.now) items.now.types.now }
+    ensures answer { (n : ℕ) (scope : Scope) (l : Tree) (old before between : FlatTree)
         → IsOpened old opened.place [] before
         → IsWalked schema.now n scope before l between left.now
-        → AreWalked schema.now n scope between trees list.old types.now
-        → IsAnswer schema.now n scope old
-        (node opened.span.start opened.span.stop (in_list l (trees_of_list trees))) list.new result }
+        → AreWalked schema.now n scope between (map tree_of items.now.nodes.now) list.old items.now.types.now
+        → IsAnswer schema.now n scope old (node opened.span.start opened.span.stop
+        (in_list l (trees_of_list (map tree_of items.now.nodes.now)))) list.new result }
+    ensures there { IfOk result (IsTypeThere schema.now) }
+    ensures grown { length list.old.nodes ≤ length list.new.nodes }
+{
+    match left {
+        EdmType::Single(ValueType::Enum(_)) => close_numbered(schema, opened, left, items, list),
+        EdmType::Single(ValueType::Prim(_)) => close_unnumbered(schema, opened, left, items, list),
+        EdmType::Single(ValueType::Structured(_)) => {
+            close_unnumbered(schema, opened, left, items, list)
+        }
+        EdmType::Null => close_unnumbered(schema, opened, left, items, list),
+        EdmType::Collection(_) => close_unnumbered(schema, opened, left, items, list),
+    }
+}
+
+/// The same where the type is that of an enumeration.
+fn close_numbered(
+    schema: &Schema,
+    opened: Opened,
+    left: &EdmType,
+    items: &Items<'_>,
+    list: &mut NodeList,
+) -> Result<EdmType, Untyped>
+    requires place { opened.place < length list.old.nodes }
+    requires left { IsTypeThere schema.now left.now }
+    requires items { AllByRecursion (IsTypeThere schema.now) items.now.types.now }
+    requires single { ¬ IsCollection (expr_type schema.now left.now) }
+    ensures answer { (n : ℕ) (scope : Scope) (l : Tree) (old before between : FlatTree)
+        → IsOpened old opened.place [] before
+        → IsWalked schema.now n scope before l between left.now
+        → AreWalked schema.now n scope between (map tree_of items.now.nodes.now) list.old items.now.types.now
+        → IsAnswer schema.now n scope old (node opened.span.start opened.span.stop
+        (in_list l (trees_of_list (map tree_of items.now.nodes.now)))) list.new result }
     ensures there { IfOk result (IsTypeThere schema.now) }
     ensures grown { length list.old.nodes ≤ length list.new.nodes }
 {
     laws_below();
-    match in_list_type(schema, left, types) {
+    let numbers = list.values().len();
+    match put_items(schema, left, items.types, items.nodes, list) {
+        Ok(ItemsFit::All) => {
+            let kind = NodeKind::PairedList { numbers };
+            list.close(opened.place, kind, opened.span, &BOOLEAN);
+            Ok(BOOLEAN)
+        }
+        Ok(ItemsFit::Refused) => Err(refused(opened, TypeFaultCode::OperandTypes)),
+        Ok(ItemsFit::Unknown) => Err(refused(opened, TypeFaultCode::UnknownEnum)),
+        Err(_) => Err(Untyped::Memory),
+    }
+}
+
+/// The same where it is that of no enumeration, so that no item is read.
+fn close_unnumbered(
+    schema: &Schema,
+    opened: Opened,
+    left: &EdmType,
+    items: &Items<'_>,
+    list: &mut NodeList,
+) -> Result<EdmType, Untyped>
+    requires place { opened.place < length list.old.nodes }
+    requires left { IsTypeThere schema.now left.now }
+    requires items { AllByRecursion (IsTypeThere schema.now) items.now.types.now }
+    requires unread { IsUnreadLeft (expr_type schema.now left.now) }
+    ensures answer { (n : ℕ) (scope : Scope) (l : Tree) (old before between : FlatTree)
+        → IsOpened old opened.place [] before
+        → IsWalked schema.now n scope before l between left.now
+        → AreWalked schema.now n scope between (map tree_of items.now.nodes.now) list.old items.now.types.now
+        → IsAnswer schema.now n scope old (node opened.span.start opened.span.stop
+        (in_list l (trees_of_list (map tree_of items.now.nodes.now)))) list.new result }
+    ensures there { IfOk result (IsTypeThere schema.now) }
+    ensures grown { length list.old.nodes ≤ length list.new.nodes }
+{
+    laws_below();
+    match in_list_type(schema, left, items.types) {
         Some(edm_type) => {
             list.close(opened.place, NodeKind::InList, opened.span, &edm_type);
             Ok(edm_type)
         }
-        None => Err(Untyped::Fault(TypeFault {
-            code: TypeFaultCode::OperandTypes,
-            span: opened.span,
-        })),
+        None => Err(refused(opened, TypeFaultCode::OperandTypes)),
     }
+}
+
+/// That reason, for which the node itself has no type.
+fn refused(opened: Opened, code: TypeFaultCode) -> Untyped
+    ensures { result ≡ Untyped.Fault (record { code = code; span = opened.span }) }
+{
+    Untyped::Fault(TypeFault {
+        code,
+        span: opened.span,
+    })
 }

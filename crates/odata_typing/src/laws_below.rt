@@ -1,7 +1,10 @@
 ghost use Rattle.odata_typing.specs.private.LawsBelow.{LawsBelow};
 
 use odata_checked_filter::nodes_stand_where_they_are_put;
-use odata_expression_types::{children_come_first, trees_have_one_type, typed_trees_are_clear};
+use odata_expression_types::{
+    children_come_first, quoting_trees_are_texts, trees_have_one_type, typed_trees_are_clear,
+};
+use odata_signatures::unread_operands_go_by_types;
 
 /// The laws on which the walk over a tree rests, in one.
 pub(crate) fn laws_below()
@@ -11,4 +14,6 @@ pub(crate) fn laws_below()
     typed_trees_are_clear();
     children_come_first();
     nodes_stand_where_they_are_put();
+    unread_operands_go_by_types();
+    quoting_trees_are_texts();
 }

@@ -8,14 +8,17 @@ mod call_node;
 mod checker;
 mod enumeration_literal;
 mod in_list;
+mod item_numbers;
 mod lambda;
 mod laws_below;
 mod left_operand;
 mod literal;
 mod node;
 mod opened_node;
+mod pairing;
 mod path_node;
 mod property;
+mod quotes;
 mod reading;
 mod setting;
 mod unary_node;
@@ -30,7 +33,7 @@ pub use odata_checked_filter::{
 pub use odata_expression_types::{
     Refusal, TypeFault, TypeFaultCode, a_filter_of_items_is_boolean, a_number_is_no_text,
     canonical_texts_keep_types, literals_have_one_value, normal_forms_keep_types,
-    texts_have_one_refusal, trees_have_one_type, typed_trees_are_clear,
-    untypable_nodes_start_apart,
+    quoting_trees_are_texts, texts_have_one_refusal, trees_have_one_type, typed_trees_are_clear,
+    unread_operands_have_one_reason, untypable_nodes_start_apart,
 };
 pub use odata_signatures::{EdmType, ValueType};

@@ -15,6 +15,7 @@ use super::literal::checked_literal;
 use super::opened_node::open_node;
 use super::path_node::{checked_it, checked_member};
 use super::property::checked_name;
+use super::quotes::{Quotes, quoted_of};
 use super::setting::Setting;
 use super::unary_node::{Unary, checked_unary};
 use super::untyped::Untyped;
@@ -62,10 +63,19 @@ pub(crate) fn checked_tree(
                 Ok(opened) => opened,
                 Err(untyped) => return Err(untyped),
             };
+            let quotes = Quotes {
+                left: quoted_of(left),
+                right: quoted_of(right),
+            };
             let left = checked_tree(setting, left, list);
             let right = checked_tree(setting, right, list);
             let form = Infix::Operator(*operator);
-            close_infix(setting.schema, opened, form, Operands { left, right }, list)
+            let operands = Operands {
+                left,
+                right,
+                quotes,
+            };
+            close_infix(setting.schema, opened, form, operands, list)
         }
         Node::Call {
             span,

@@ -1,5 +1,5 @@
 -- Which shape a node of a kind stands for, and how tightly that binds.
-use Rattle.std.proofs.Common.{◌≡◌, ◌∙◌, ℕ, List, Some, slice_get, refl, sym, subst, ap}
+use Rattle.std.proofs.Common.{◌≡◌, ◌∙◌, ℕ, List, Some, slice_get, refl, sym, subst, ap, inl, inr}
 use Rattle.edm_values.specs.declared.value.Value.{Value}
 use Rattle.odata_syntax.specs.Tree.{Shape, Tree, Trees, any_item, binary, call, count, has, in_list, in_path, it, lambda, literal, logical_not, member, name, negation, node}
 use Rattle.odata_syntax.specs.CanonicalText.{shape_level, tree_level}
@@ -31,8 +31,12 @@ Matches (NodeKind.Call function) shape = (arguments : Trees) × (shape ≡ call 
 Matches NodeKind.Neg shape = (operand : Tree) × (shape ≡ negation operand)
 Matches NodeKind.Not shape = (operand : Tree) × (shape ≡ logical_not operand)
 Matches (NodeKind.Binary operator) shape = (left : Tree) × (right : Tree) × (shape ≡ binary operator left right)
+Matches (NodeKind.PairedRight operator number) shape = (left : Tree) × (right : Tree) × (shape ≡ binary operator left right)
+Matches (NodeKind.PairedLeft operator number) shape = (left : Tree) × (right : Tree) × (shape ≡ binary operator left right)
 Matches NodeKind.Has shape = (left : Tree) × (right : Tree) × (shape ≡ has left right)
+Matches (NodeKind.PairedHas number) shape = (left : Tree) × (right : Tree) × (shape ≡ has left right)
 Matches NodeKind.InList shape = (left : Tree) × (items : Trees) × (shape ≡ in_list left items)
+Matches (NodeKind.PairedList numbers) shape = (left : Tree) × (items : Trees) × (shape ≡ in_list left items)
 Matches NodeKind.InPath shape = (left : Tree) × (path : Tree) × (shape ≡ in_path left path)
 
 matched : (values : List Value) (slots : Slots) (root : List ℕ) (scope : Scope) (shape : Shape) (kind : NodeKind)
@@ -49,10 +53,16 @@ matched values slots root scope (count base) kind is = subst (λ (k : NodeKind).
 matched values slots root scope (any_item base) kind is = subst (λ (k : NodeKind). Matches k (any_item base)) (sym is) (base, refl)
 matched values slots root scope (negation operand) kind is = subst (λ (k : NodeKind). Matches k (negation operand)) (sym is) (operand, refl)
 matched values slots root scope (logical_not operand) kind is = subst (λ (k : NodeKind). Matches k (logical_not operand)) (sym is) (operand, refl)
-matched values slots root scope (binary operator left right) kind is =
-    subst (λ (k : NodeKind). Matches k (binary operator left right)) (sym is) (left, right, refl)
-matched values slots root scope (has left right) kind is = subst (λ (k : NodeKind). Matches k (has left right)) (sym is) (left, right, refl)
-matched values slots root scope (in_list left items) kind is = subst (λ (k : NodeKind). Matches k (in_list left items)) (sym is) (left, items, refl)
+matched values slots root scope (binary operator left right) kind (inl is) =
+    subst (λ (k : NodeKind). Matches k (binary operator left right)) (sym is.kind_is) (left, right, refl)
+matched values slots root scope (binary operator left right) kind (inr (inl is)) =
+    subst (λ (k : NodeKind). Matches k (binary operator left right)) (sym is.kind_is) (left, right, refl)
+matched values slots root scope (binary operator left right) kind (inr (inr is)) =
+    subst (λ (k : NodeKind). Matches k (binary operator left right)) (sym is.kind_is) (left, right, refl)
+matched values slots root scope (has left right) kind (inl is) = subst (λ (k : NodeKind). Matches k (has left right)) (sym is.kind_is) (left, right, refl)
+matched values slots root scope (has left right) kind (inr is) = subst (λ (k : NodeKind). Matches k (has left right)) (sym is.kind_is) (left, right, refl)
+matched values slots root scope (in_list left items) kind (inl is) = subst (λ (k : NodeKind). Matches k (in_list left items)) (sym is.kind_is) (left, items, refl)
+matched values slots root scope (in_list left items) kind (inr is) = subst (λ (k : NodeKind). Matches k (in_list left items)) (sym is.kind_is) (left, items, refl)
 matched values slots root scope (in_path left path) kind is = subst (λ (k : NodeKind). Matches k (in_path left path)) (sym is) (left, path, refl)
 matched values slots root scope (call asked arguments) NodeKind.Now is = (arguments, ap (λ (called : List ℕ). call called arguments) (sym is))
 matched values slots root scope (call asked arguments) (NodeKind.Call function) is = (arguments, ap (λ (called : List ℕ). call called arguments) (sym is.0))
@@ -90,9 +100,13 @@ level_told values slots root scope it kind is = rw is refl
 level_told values slots root scope (count base) kind is = rw is refl
 level_told values slots root scope (negation operand) kind is = rw is refl
 level_told values slots root scope (logical_not operand) kind is = rw is refl
-level_told values slots root scope (binary operator left right) kind is = rw is refl
-level_told values slots root scope (has left right) kind is = rw is refl
-level_told values slots root scope (in_list left items) kind is = rw is refl
+level_told values slots root scope (binary operator left right) kind (inl is) = rw is.kind_is refl
+level_told values slots root scope (binary operator left right) kind (inr (inl is)) = rw is.kind_is refl
+level_told values slots root scope (binary operator left right) kind (inr (inr is)) = rw is.kind_is refl
+level_told values slots root scope (has left right) kind (inl is) = rw is.kind_is refl
+level_told values slots root scope (has left right) kind (inr is) = rw is.kind_is refl
+level_told values slots root scope (in_list left items) kind (inl is) = rw is.kind_is refl
+level_told values slots root scope (in_list left items) kind (inr is) = rw is.kind_is refl
 level_told values slots root scope (in_path left path) kind is = rw is refl
 level_told values slots root scope (any_item base) kind is = rw is refl
 level_told values slots root scope (lambda quantifier base variable body) kind is = rw is refl

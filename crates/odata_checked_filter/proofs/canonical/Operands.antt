@@ -325,6 +325,20 @@ module _ (list : FlatTree) (i : ℕ) (found : CheckedNode) (at : slice_get list.
       subst P (sym m.2)
       (λ here. pair_joins list i start stop (32 ∷ (operator_word operator ++ 32 ∷ [])) (operator_level operator) (operator_level operator + 1) (binary operator) m.0 m.1
       (operator_pair operator) (joint_here list i found (NodeKind.Binary operator) start stop (binary operator m.0 m.1) at is here) here) there
+  joins (NodeKind.PairedRight operator number) (node start stop shape) is joining there =
+      let m = shape_there list i found (NodeKind.PairedRight operator number) start stop shape at is there in
+      let behind = operand_of (stop_at list (i + 1)) (operator_level operator + 1) in
+      let P : Shape → Type 0 = λ (s : Shape). StandsThere list i (node start stop s) → Joins list i (node start stop s) (operator_level operator) behind in
+      subst P (sym m.2)
+      (λ here. pair_joins list i start stop (32 ∷ (operator_word operator ++ 32 ∷ [])) (operator_level operator) (operator_level operator + 1) (binary operator) m.0 m.1
+      (operator_pair operator) (joint_here list i found (NodeKind.PairedRight operator number) start stop (binary operator m.0 m.1) at is here) here) there
+  joins (NodeKind.PairedLeft operator number) (node start stop shape) is joining there =
+      let m = shape_there list i found (NodeKind.PairedLeft operator number) start stop shape at is there in
+      let behind = operand_of (stop_at list (i + 1)) (operator_level operator + 1) in
+      let P : Shape → Type 0 = λ (s : Shape). StandsThere list i (node start stop s) → Joins list i (node start stop s) (operator_level operator) behind in
+      subst P (sym m.2)
+      (λ here. pair_joins list i start stop (32 ∷ (operator_word operator ++ 32 ∷ [])) (operator_level operator) (operator_level operator + 1) (binary operator) m.0 m.1
+      (operator_pair operator) (joint_here list i found (NodeKind.PairedLeft operator number) start stop (binary operator m.0 m.1) at is here) here) there
   joins NodeKind.Has (node start stop shape) is joining there =
       let m = shape_there list i found NodeKind.Has start stop shape at is there in
       let behind = operand_of (stop_at list (i + 1)) base_level in
@@ -332,6 +346,13 @@ module _ (list : FlatTree) (i : ℕ) (found : CheckedNode) (at : slice_get list.
       subst P (sym m.2)
       (λ here. pair_joins list i start stop (codes " has ") primary_level base_level has m.0 m.1 has_pair
       (joint_here list i found NodeKind.Has start stop (has m.0 m.1) at is here) here) there
+  joins (NodeKind.PairedHas number) (node start stop shape) is joining there =
+      let m = shape_there list i found (NodeKind.PairedHas number) start stop shape at is there in
+      let behind = operand_of (stop_at list (i + 1)) base_level in
+      let P : Shape → Type 0 = λ (s : Shape). StandsThere list i (node start stop s) → Joins list i (node start stop s) primary_level behind in
+      subst P (sym m.2)
+      (λ here. pair_joins list i start stop (codes " has ") primary_level base_level has m.0 m.1 has_pair
+      (joint_here list i found (NodeKind.PairedHas number) start stop (has m.0 m.1) at is here) here) there
   joins NodeKind.InPath (node start stop shape) is joining there =
       let m = shape_there list i found NodeKind.InPath start stop shape at is there in
       let behind = operand_of (stop_at list (i + 1)) path_level in
@@ -345,6 +366,12 @@ module _ (list : FlatTree) (i : ℕ) (found : CheckedNode) (at : slice_get list.
       let P : Shape → Type 0 = λ (s : Shape). StandsThere list i (node start stop s) → Joins list i (node start stop s) primary_level behind in
       subst P (sym m.2)
       (λ here. list_joins list i start stop m.0 m.1 (joint_here list i found NodeKind.InList start stop (in_list m.0 m.1) at is here) here) there
+  joins (NodeKind.PairedList numbers) (node start stop shape) is joining there =
+      let m = shape_there list i found (NodeKind.PairedList numbers) start stop shape at is there in
+      let behind = Close ∷ arguments_of list (stop_at list (i + 1)) (stop_at list i) in
+      let P : Shape → Type 0 = λ (s : Shape). StandsThere list i (node start stop s) → Joins list i (node start stop s) primary_level behind in
+      subst P (sym m.2)
+      (λ here. list_joins list i start stop m.0 m.1 (joint_here list i found (NodeKind.PairedList numbers) start stop (in_list m.0 m.1) at is here) here) there
   joins (NodeKind.Lambda quantifier) (node start stop shape) is joining there =
       let m = shape_there list i found (NodeKind.Lambda quantifier) start stop shape at is there in
       let behind = Close ∷ operand_of (stop_at list (i + 1)) 0 in

@@ -1,5 +1,5 @@
 -- What a node of the list is called, as the tree's.
-use Rattle.std.proofs.Common.{◌≡◌, ◌∙◌, append_assoc, [], ◌∷◌, refl, sym, ap, ℕ, List, Option}
+use Rattle.std.proofs.Common.{◌≡◌, ◌∙◌, append_assoc, [], ◌∷◌, refl, sym, ap, ℕ, List, Option, inl, inr}
 use Rattle.odata_syntax.specs.Tree.{Shape, literal, it, name, member, count, negation, logical_not, binary, has, in_list, in_path, call, any_item, lambda}
 use Rattle.odata_syntax.specs.Lexeme.{quantifier_word}
 use Rattle.csdl_schema.specs.SchemaModel.{Slots}
@@ -25,9 +25,13 @@ label_told list slots root scope (member base asked) _ is = absurd is
 label_told list slots root scope (count base) kind is = rw is refl
 label_told list slots root scope (negation operand) kind is = rw is refl
 label_told list slots root scope (logical_not operand) kind is = rw is refl
-label_told list slots root scope (binary operator left right) kind is = rw is refl
-label_told list slots root scope (has left right) kind is = rw is refl
-label_told list slots root scope (in_list left items) kind is = rw is refl
+label_told list slots root scope (binary operator left right) kind (inl is) = rw is.kind_is refl
+label_told list slots root scope (binary operator left right) kind (inr (inl is)) = rw is.kind_is refl
+label_told list slots root scope (binary operator left right) kind (inr (inr is)) = rw is.kind_is refl
+label_told list slots root scope (has left right) kind (inl is) = rw is.kind_is refl
+label_told list slots root scope (has left right) kind (inr is) = rw is.kind_is refl
+label_told list slots root scope (in_list left items) kind (inl is) = rw is.kind_is refl
+label_told list slots root scope (in_list left items) kind (inr is) = rw is.kind_is refl
 label_told list slots root scope (in_path left path) kind is = rw is refl
 label_told list slots root scope (any_item base) kind is = rw is refl
 label_told list slots root scope (call asked arguments) (NodeKind.Call function) is = is.0

@@ -1,5 +1,5 @@
 -- The tree of a list is the tree that the list stands for.
-use Rattle.std.proofs.Common.{◌≡◌, refl, ap, ◌∙◌, ℕ, ◌<◌, ◌≤◌, ◌+◌, List, [], ◌∷◌, Some, true, false, nat_lt, slice_get, drop, arith}
+use Rattle.std.proofs.Common.{◌≡◌, refl, ap, ◌∙◌, ℕ, ◌<◌, ◌≤◌, ◌+◌, List, [], ◌∷◌, Some, true, false, nat_lt, slice_get, drop, arith, inl, inr}
 use Rattle.std.proofs.lemmas.Bool.Decides.{nat_tests}
 use Rattle.odata_syntax.specs.Tree.{Tree, Trees, node, Shape, literal, it, name, member, count, negation, logical_not, binary, has, in_list, in_path, call, any_item, lambda, more_trees, no_trees, trees_of_list}
 use Rattle.odata_syntax.specs.Spans.{children_of, list_of_trees}
@@ -59,9 +59,13 @@ kind_shape values slots root scope (member base asked) _ is = absurd is
 kind_shape values slots root scope (count base) k is = rw is refl
 kind_shape values slots root scope (negation operand) k is = rw is refl
 kind_shape values slots root scope (logical_not operand) k is = rw is refl
-kind_shape values slots root scope (binary operator left right) k is = rw is refl
-kind_shape values slots root scope (has left right) k is = rw is refl
-kind_shape values slots root scope (in_list left items) k is = rw is (ap (λ (ts : Trees). in_list left ts) (trees_again items))
+kind_shape values slots root scope (binary operator left right) k (inl is) = rw is.kind_is refl
+kind_shape values slots root scope (binary operator left right) k (inr (inl is)) = rw is.kind_is refl
+kind_shape values slots root scope (binary operator left right) k (inr (inr is)) = rw is.kind_is refl
+kind_shape values slots root scope (has left right) k (inl is) = rw is.kind_is refl
+kind_shape values slots root scope (has left right) k (inr is) = rw is.kind_is refl
+kind_shape values slots root scope (in_list left items) k (inl is) = rw is.kind_is (ap (λ (ts : Trees). in_list left ts) (trees_again items))
+kind_shape values slots root scope (in_list left items) k (inr is) = rw is.kind_is (ap (λ (ts : Trees). in_list left ts) (trees_again items))
 kind_shape values slots root scope (in_path left path) k is = rw is refl
 kind_shape values slots root scope (call asked arguments) NodeKind.Now is =
     ap (λ (ts : Trees). call (codes "now") ts) (trees_again arguments) ∙ ap (λ (called : List ℕ). call called arguments) is

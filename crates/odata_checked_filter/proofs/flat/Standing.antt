@@ -1,5 +1,5 @@
 -- What stands for a tree: how many nodes, and that it still does where they are kept.
-use Rattle.std.proofs.Common.{◌≡◌, ℕ, ◌<◌, ◌≤◌, ◌+◌, List, ◌++◌, Some, None, slice_get, length, length-append, IsSomeAnd, Option, refl, arith}
+use Rattle.std.proofs.Common.{◌≡◌, ℕ, ◌<◌, ◌≤◌, ◌+◌, List, ◌++◌, Some, None, slice_get, length, length-append, IsSomeAnd, Option, refl, arith, inl, inr, ℤ}
 use Rattle.edm_values.specs.declared.value.Value.{Value}
 use Rattle.odata_syntax.specs.Tree.{Tree, Trees, node, Shape, literal, it, name, member, count, negation, logical_not, binary, has, in_list, in_path, call, any_item, lambda, more_trees, no_trees}
 use Rattle.csdl_schema.specs.SchemaModel.{SchemaModel, Slots}
@@ -7,9 +7,9 @@ use Rattle.odata_checked_filter.specs.declared.checked_node.CheckedNode.{Checked
 use Rattle.odata_checked_filter.specs.declared.checked_node.NodeKind.{NodeKind}
 use Rattle.odata_checked_filter.specs.FlatTree.{FlatTree}
 use Rattle.odata_expression_types.specs.PreOrder.{nodes_among, nodes_below, pre_order}
-use Rattle.odata_checked_filter.specs.Stands.{AllStand, ChildrenStand, Stands, IsTop, IsKindOf}
-use Rattle.odata_expression_types.specs.Typed.{Scope, with_variable}
-use Rattle.csdl_schema.specs.ExprType.{single}
+use Rattle.odata_checked_filter.specs.Stands.{AllStand, AreItemNumbers, ChildrenStand, IsItemNumber, IsKindOf, IsPairedNode, IsTop, Stands}
+use Rattle.odata_expression_types.specs.Typed.{Scope, Typed, with_variable}
+use Rattle.csdl_schema.specs.ExprType.{ExprType, single}
 use Rattle.odata_checked_filter.specs.ListGrowth.{IsKept}
 use Rattle.odata_checked_filter.proofs.flat.Children.{body_stands, body_there, one_stands, one_there, two_stand, two_there}
 
@@ -98,6 +98,42 @@ some_kept : (P : Value → Type 0) (old new : Option Value) → ((value : Value)
 some_kept P (Some value) new kept holds = rw (kept value refl) holds
 some_kept P None new kept holds = absurd holds
 
+-- numbers that stand in the values are kept with these
+abbrev ValuesKept : FlatTree → FlatTree → Type 0
+ValuesKept old new = (k : ℕ) (value : Value) → slice_get old.values k ≡ Some value → slice_get new.values k ≡ Some value
+
+paired_kept :
+    (old new : FlatTree) (paired : ℕ → NodeKind) (Reads : ℤ → Type 0) (kind : NodeKind)
+    → ValuesKept old new
+    → IsPairedNode old.values paired Reads kind
+    → IsPairedNode new.values paired Reads kind
+paired_kept old new paired Reads kind kept is = record {
+  place = is.place;
+  number = is.number;
+  kind_is = is.kind_is;
+  number_at = kept is.place (Value.Enum is.number) is.number_at;
+  reads = is.reads;
+}
+
+item_kept :
+    (old new : FlatTree) (slots : Slots) (Beside : ExprType → Type 0)
+    → ValuesKept old new
+    → (item : Tree) (place : ℕ)
+    → IsItemNumber old.values slots Beside item place
+    → IsItemNumber new.values slots Beside item place
+item_kept old new slots Beside kept item place (inl is) = inl (is.0, is.1, kept place (Value.Enum is.0) is.2)
+item_kept old new slots Beside kept item place (inr is) = inr (is.0, kept place Value.Null is.1)
+
+numbers_kept :
+    (old new : FlatTree) (slots : Slots) (Beside : ExprType → Type 0)
+    → ValuesKept old new
+    → (items : Trees) (place : ℕ)
+    → AreItemNumbers old.values slots Beside items place
+    → AreItemNumbers new.values slots Beside items place
+numbers_kept old new slots Beside kept no_trees place are = tt
+numbers_kept old new slots Beside kept (more_trees item items) place are =
+    (item_kept old new slots Beside kept item place are.0, numbers_kept old new slots Beside kept items (place + 1) are.1)
+
 kind_kept :
     (old new : FlatTree) (slots : Slots) (root : List ℕ) (scope : Scope) (shape : Shape) (kind : NodeKind)
     → ((k : ℕ) (value : Value) → slice_get old.values k ≡ Some value → slice_get new.values k ≡ Some value)
@@ -106,6 +142,14 @@ kind_kept :
 kind_kept old new slots root scope (literal k spelling) (NodeKind.Literal l place) kept is =
     (is.0, some_kept _ (slice_get old.values place) (slice_get new.values place) (kept place) is.1)
 kind_kept old new slots root scope (literal k spelling) _ kept is = absurd is
+kind_kept old new slots root scope (binary operator left right) kind kept (inl is) = inl is
+kind_kept old new slots root scope (binary operator left right) kind kept (inr (inl is)) = inr (inl (paired_kept old new _ _ kind kept is))
+kind_kept old new slots root scope (binary operator left right) kind kept (inr (inr is)) = inr (inr (paired_kept old new _ _ kind kept is))
+kind_kept old new slots root scope (has left right) kind kept (inl is) = inl is
+kind_kept old new slots root scope (has left right) kind kept (inr is) = inr (paired_kept old new _ _ kind kept is)
+kind_kept old new slots root scope (in_list left items) kind kept (inl is) = inl is
+kind_kept old new slots root scope (in_list left items) kind kept (inr is) =
+    inr (record { place = is.place; kind_is = is.kind_is; numbers = numbers_kept old new slots (Typed slots root scope left) kept items is.place is.numbers })
 kind_kept old new slots root scope it kind kept is = is
 kind_kept old new slots root scope _ kind kept is = is
 

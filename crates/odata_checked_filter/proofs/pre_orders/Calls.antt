@@ -1,5 +1,5 @@
 -- A tree calls a function where a node of its list does.
-use Rattle.std.proofs.Common.{◌≡◌, ◌↔◌, ◌∙◌, refl, sym, ap, subst, ℕ, zero, suc, ◌<◌, List, [], ◌∷◌, ◌++◌, Bool, true, false, Some, append-nil, length, slice_get, arith}
+use Rattle.std.proofs.Common.{◌≡◌, ◌↔◌, ◌∙◌, refl, sym, ap, subst, ℕ, zero, suc, ◌<◌, List, [], ◌∷◌, ◌++◌, Bool, true, false, Some, append-nil, length, slice_get, arith, inl, inr}
 use Rattle.std.specs.Prelude.{◌||◌, Contains, codes, slice_index_or}
 use Rattle.std.specs.List.{flat_map, list_any}
 use Rattle.std.proofs.lemmas.Option.{none-some, slice_get_within}
@@ -182,11 +182,15 @@ maker_sound values slots root scope (name asked) (NodeKind.Call function) is pas
 maker_sound values slots root scope (member base asked) (NodeKind.Call function) is passes = absurd is
 maker_sound values slots root scope (negation operand) (NodeKind.Call function) is passes = cc
 maker_sound values slots root scope (logical_not operand) (NodeKind.Call function) is passes = cc
-maker_sound values slots root scope (binary operator left right) (NodeKind.Call function) is passes = cc
+maker_sound values slots root scope (binary operator left right) (NodeKind.Call function) (inl is) passes = let e = is.kind_is in cc
+maker_sound values slots root scope (binary operator left right) (NodeKind.Call function) (inr (inl is)) passes = let e = is.kind_is in cc
+maker_sound values slots root scope (binary operator left right) (NodeKind.Call function) (inr (inr is)) passes = let e = is.kind_is in cc
 maker_sound values slots root scope (count base) (NodeKind.Call function) is passes = cc
 maker_sound values slots root scope (any_item base) (NodeKind.Call function) is passes = cc
-maker_sound values slots root scope (has left right) (NodeKind.Call function) is passes = cc
-maker_sound values slots root scope (in_list left items) (NodeKind.Call function) is passes = cc
+maker_sound values slots root scope (has left right) (NodeKind.Call function) (inl is) passes = let e = is.kind_is in cc
+maker_sound values slots root scope (has left right) (NodeKind.Call function) (inr is) passes = let e = is.kind_is in cc
+maker_sound values slots root scope (in_list left items) (NodeKind.Call function) (inl is) passes = let e = is.kind_is in cc
+maker_sound values slots root scope (in_list left items) (NodeKind.Call function) (inr is) passes = let e = is.kind_is in cc
 maker_sound values slots root scope (in_path left path) (NodeKind.Call function) is passes = cc
 maker_sound values slots root scope (lambda quantifier base variable body) (NodeKind.Call function) is passes = cc
 maker_sound values slots root scope shape _ is passes = cc
@@ -211,11 +215,15 @@ now_sound values slots root scope (name asked) NodeKind.Now is passes = absurd i
 now_sound values slots root scope (member base asked) NodeKind.Now is passes = absurd is
 now_sound values slots root scope (negation operand) NodeKind.Now is passes = cc
 now_sound values slots root scope (logical_not operand) NodeKind.Now is passes = cc
-now_sound values slots root scope (binary operator left right) NodeKind.Now is passes = cc
+now_sound values slots root scope (binary operator left right) NodeKind.Now (inl is) passes = let e = is.kind_is in cc
+now_sound values slots root scope (binary operator left right) NodeKind.Now (inr (inl is)) passes = let e = is.kind_is in cc
+now_sound values slots root scope (binary operator left right) NodeKind.Now (inr (inr is)) passes = let e = is.kind_is in cc
 now_sound values slots root scope (count base) NodeKind.Now is passes = cc
 now_sound values slots root scope (any_item base) NodeKind.Now is passes = cc
-now_sound values slots root scope (has left right) NodeKind.Now is passes = cc
-now_sound values slots root scope (in_list left items) NodeKind.Now is passes = cc
+now_sound values slots root scope (has left right) NodeKind.Now (inl is) passes = let e = is.kind_is in cc
+now_sound values slots root scope (has left right) NodeKind.Now (inr is) passes = let e = is.kind_is in cc
+now_sound values slots root scope (in_list left items) NodeKind.Now (inl is) passes = let e = is.kind_is in cc
+now_sound values slots root scope (in_list left items) NodeKind.Now (inr is) passes = let e = is.kind_is in cc
 now_sound values slots root scope (in_path left path) NodeKind.Now is passes = cc
 now_sound values slots root scope (lambda quantifier base variable body) NodeKind.Now is passes = cc
 now_sound values slots root scope shape _ is passes = cc

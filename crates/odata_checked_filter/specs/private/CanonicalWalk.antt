@@ -147,9 +147,13 @@ comma_before place stop = if nat_lt place stop then 44 ∷ [] else []
 -- stops at another
 abbrev pub behind_kind : FlatTree → NodeKind → ℕ → ℕ → List Part
 behind_kind list (NodeKind.Binary operator) second stop = operand_of second (operator_level operator + 1)
+behind_kind list (NodeKind.PairedRight operator number) second stop = operand_of second (operator_level operator + 1)
+behind_kind list (NodeKind.PairedLeft operator number) second stop = operand_of second (operator_level operator + 1)
 behind_kind list NodeKind.Has second stop = operand_of second base_level
+behind_kind list (NodeKind.PairedHas number) second stop = operand_of second base_level
 behind_kind list NodeKind.InPath second stop = operand_of second path_level
 behind_kind list NodeKind.InList second stop = Close ∷ arguments_of list second stop
+behind_kind list (NodeKind.PairedList numbers) second stop = Close ∷ arguments_of list second stop
 behind_kind list (NodeKind.Lambda quantifier) second stop = Close ∷ operand_of second 0
 behind_kind list _ second stop = []
 

@@ -19,16 +19,24 @@ kind_level NodeKind.Now = base_level
 kind_level NodeKind.Neg = unary_level
 kind_level NodeKind.Not = unary_level
 kind_level (NodeKind.Binary operator) = operator_level operator
+kind_level (NodeKind.PairedRight operator number) = operator_level operator
+kind_level (NodeKind.PairedLeft operator number) = operator_level operator
 kind_level NodeKind.Has = primary_level
+kind_level (NodeKind.PairedHas number) = primary_level
 kind_level NodeKind.InList = primary_level
+kind_level (NodeKind.PairedList numbers) = primary_level
 kind_level NodeKind.InPath = primary_level
 kind_level (NodeKind.Call function) = base_level
 
 -- the level that the place of its first operand needs: its own, where an operator stands behind that
 abbrev pub first_level : NodeKind → Level
 first_level (NodeKind.Binary operator) = kind_level (NodeKind.Binary operator)
+first_level (NodeKind.PairedRight operator number) = kind_level (NodeKind.PairedRight operator number)
+first_level (NodeKind.PairedLeft operator number) = kind_level (NodeKind.PairedLeft operator number)
 first_level NodeKind.Has = kind_level NodeKind.Has
+first_level (NodeKind.PairedHas number) = kind_level (NodeKind.PairedHas number)
 first_level NodeKind.InList = kind_level NodeKind.InList
+first_level (NodeKind.PairedList numbers) = kind_level (NodeKind.PairedList numbers)
 first_level NodeKind.InPath = kind_level NodeKind.InPath
 first_level _ = 0
 
@@ -37,8 +45,12 @@ abbrev pub kind_word : NodeKind → List ℕ
 kind_word NodeKind.Neg = codes "-"
 kind_word NodeKind.Not = codes "not"
 kind_word (NodeKind.Binary operator) = operator_word operator
+kind_word (NodeKind.PairedRight operator number) = operator_word operator
+kind_word (NodeKind.PairedLeft operator number) = operator_word operator
 kind_word NodeKind.Has = codes "has"
+kind_word (NodeKind.PairedHas number) = codes "has"
 kind_word NodeKind.InList = codes "in"
+kind_word (NodeKind.PairedList numbers) = codes "in"
 kind_word NodeKind.InPath = codes "in"
 kind_word _ = []
 
@@ -58,8 +70,12 @@ joint_text NodeKind.Count beside = codes "/$count"
 joint_text NodeKind.AnyItem beside = codes "/any()"
 joint_text (NodeKind.Lambda quantifier) beside = quantifier_joint quantifier ++ (beside ++ 58 ∷ [])
 joint_text (NodeKind.Binary operator) beside = spaced (kind_word (NodeKind.Binary operator))
+joint_text (NodeKind.PairedRight operator number) beside = spaced (kind_word (NodeKind.PairedRight operator number))
+joint_text (NodeKind.PairedLeft operator number) beside = spaced (kind_word (NodeKind.PairedLeft operator number))
 joint_text NodeKind.Has beside = spaced (kind_word NodeKind.Has)
+joint_text (NodeKind.PairedHas number) beside = spaced (kind_word (NodeKind.PairedHas number))
 joint_text NodeKind.InList beside = spaced (kind_word NodeKind.InList) ++ 40 ∷ []
+joint_text (NodeKind.PairedList numbers) beside = spaced (kind_word (NodeKind.PairedList numbers)) ++ 40 ∷ []
 joint_text NodeKind.InPath beside = spaced (kind_word NodeKind.InPath)
 joint_text _ beside = []
 
@@ -70,7 +86,11 @@ IsJoining NodeKind.Count = Unit {0}
 IsJoining NodeKind.AnyItem = Unit {0}
 IsJoining (NodeKind.Lambda quantifier) = Unit {0}
 IsJoining (NodeKind.Binary operator) = Unit {0}
+IsJoining (NodeKind.PairedRight operator number) = Unit {0}
+IsJoining (NodeKind.PairedLeft operator number) = Unit {0}
 IsJoining NodeKind.Has = Unit {0}
+IsJoining (NodeKind.PairedHas number) = Unit {0}
 IsJoining NodeKind.InList = Unit {0}
+IsJoining (NodeKind.PairedList numbers) = Unit {0}
 IsJoining NodeKind.InPath = Unit {0}
 IsJoining _ = ⊥

@@ -1,5 +1,6 @@
-use Rattle.std.proofs.Common.{Err, ◌≡◌, ◌<◌, ◌≤◌, ◌+◌, ◌-◌, ◌*◌, ℕ, ℤ, [], ◌∷◌, refl, Bool, Option, Some, Result, Ok, SFits, w64, ap, sym, subst, slice_get, length, rules, arith}
+use Rattle.std.proofs.Common.{Err, None, ◌≡◌, ◌<◌, ◌≤◌, ◌+◌, ◌-◌, ◌*◌, ℕ, ℤ, [], ◌∷◌, refl, Bool, Option, Some, Result, Ok, SFits, w64, ap, sym, subst, slice_get, length, rules, arith}
 use Rattle.edm_values.specs.declared.datum.Datum.{Datum}
+use Rattle.edm_values.specs.declared.datum.Datum.TheVariants as datum
 use Rattle.std.specs.Prelude.{◌↔◌, IsTrue}
 use Rattle.std.proofs.lemmas.Int.{to_z-of_z}
 use Rattle.std.proofs.lemmas.Option.{slice_get_read}
@@ -23,8 +24,10 @@ use Rattle.odata_eval.specs.HasGives.{HasGives}
 use Rattle.odata_eval.specs.LambdaGives.{InGives}
 use Rattle.odata_eval.specs.Outcome.{gives}
 use Rattle.odata_eval.specs.TruthGives.{truth_val}
+use Rattle.odata_eval.specs.VerdictView.{fault_outcome}
 use Rattle.odata_eval.specs.private.DatumView.{reading_at}
-use Rattle.odata_eval.specs.private.Place.{HasCall, HasKind, IsStopOf, NumberStands, PartStands, TruthStands}
+use Rattle.odata_eval.specs.private.ItemMarks.{AnswersItem}
+use Rattle.odata_eval.specs.private.Place.{HasCall, HasKind, IsClassAt, IsStopOf, NumberStands, PartStands, TruthStands}
 use Rattle.odata_eval.specs.private.WalkClass.{walk_of_kind}
 use Rattle.odata_eval.specs.private.WalkAnswer.{AllAnswered, AnswersDatum, AnswersNumber, AnswersTruth}
 use Rattle.odata_eval.specs.private.Frames.{frame_of}
@@ -34,7 +37,7 @@ use Rattle.odata_eval.proofs.walking.Parts.{found_there, part_inside, there_foun
 use Rattle.odata_eval.proofs.walking.CallSteps.{OneName, argument_behind, argument_faults, argument_stands, call_answers, call_applies, first_argument, third_is_last}
 use Rattle.odata_eval.proofs.meaning.LawsBelow.{Promotes}
 use Rattle.odata_eval.proofs.walking.BaseSteps.{any_item_base, base_answers, base_members, count_base}
-use Rattle.odata_eval.proofs.walking.ItemSteps.{item_differs, item_equals, item_faults, items_there, list_begins, may_compare_item, next_item, no_item, stop_further}
+use Rattle.odata_eval.proofs.walking.ItemSteps.{alone_answers, item_differs, item_equals, item_faults, items_there, list_begins, may_compare_item, next_item, no_item, number_item, number_within, numbered_lists, other_item, plain_lists, stop_further}
 use Rattle.odata_eval.proofs.walking.Lambdas.{body_behind, body_place, body_there, fault_answers, members_suit, null_answers, over_members, truth_answers}
 use Rattle.odata_eval.proofs.walking.MembersAsked.{all_undecided, body_truth, decided_at, each_is, fault_at, none_yet, undecided_at}
 use Rattle.odata_eval.proofs.walking.MemberValues.{flags_are, path_gives, some_compared}
@@ -42,8 +45,9 @@ use Rattle.odata_eval.proofs.walking.Sides.{flags_sides, next_faults, next_furth
 use Rattle.odata_eval.proofs.walking.MemberSteps.{step_answers, step_slot}
 use Rattle.odata_eval.proofs.walking.Compared.{kept_compared, may_compare, may_compare_kept, numbers_compared, truth_compared}
 use Rattle.odata_eval.proofs.walking.KeptValues.{kept_value, value_kept}
+use Rattle.odata_eval.proofs.walking.ReadPairs.{equality_walks, kept_everywhere, left_answers, left_faults, left_further, left_next, left_part, left_within, may_compare_left}
 use Rattle.odata_eval.proofs.walking.Readings.{number_values, truth_values}
-use Rattle.odata_eval.proofs.walking.Spines.{StepUp, at_top, below_bottom, bottom_down, class_of_operator, first_faults, logical_stands, first_part, first_step, only_neg, only_not, operator_of_class, part_down, right_further, right_part, right_there, right_typed, step_up, typed_down, typed_part, walks_by}
+use Rattle.odata_eval.proofs.walking.Spines.{StepUp, at_top, below_bottom, bottom_down, class_of_operator, first_faults, logical_stands, first_part, first_step, kind_walks, only_neg, only_not, operator_of_class, part_down, right_further, right_part, right_there, right_typed, step_up, typed_down, typed_part, walks_by}
 use Rattle.odata_eval.proofs.walking.WalkSteps.{TakesBoth, both_faults, calculation_answers, decided_answers, joined_answers, joined_faults, negated_operand, negation_answers, not_answers, numbers_taken, numbers_there, values_taken}
 use Rattle.odata_eval.proofs.walking.WalkValues.{kept_datum, made_value, read_value, value_there}
 use Rattle.odata_eval.proofs.+evaluate.Goals as goal
@@ -657,44 +661,210 @@ pub collection_walk::listed_at-stop_of-own_stop-requires : goal.collection_walk:
 collection_walk::listed_at-stop_of-own_stop-requires t c = part_inside c.args.scene.now c.args.place c.requires.stands
 
 pub collection_walk::listed_at-right_of-at-requires : goal.collection_walk::listed_at-right_of-at-requires
-collection_walk::listed_at-right_of-at-requires t c = items_there c.args.scene.now c.args.place c.requires.here c.requires.stands
+collection_walk::listed_at-right_of-at-requires t c = items_there c.args.scene.now c.args.place None (plain_lists c.args.scene.now c.args.place c.requires.here) c.requires.stands
 
 pub collection_walk::listed_at-loop-at-init : goal.collection_walk::listed_at-loop-at-init
 collection_walk::listed_at-loop-at-init t c =
-    list_begins c.args.scene.now c.args.place c.requires.here c.stop_of-own_stop.result c.stop_of-own_stop.ensures c.right_of-at.result c.right_of-at.ensures c.args.left.now c.requires.left c.ends_once.ensures c.requires.stands
+    list_begins c.args.scene.now c.args.place None (plain_lists c.args.scene.now c.args.place c.requires.here) c.stop_of-own_stop.result c.stop_of-own_stop.ensures c.right_of-at.result c.right_of-at.ensures c.args.left.now c.requires.left c.ends_once.ensures c.requires.stands
 
 pub collection_walk::listed_at-operand_at-requires : goal.collection_walk::listed_at-operand_at-requires
 collection_walk::listed_at-operand_at-requires t c =
     let inside : c.args.place < length c.args.scene.now.list.nodes = part_inside c.args.scene.now c.args.place c.requires.stands in
     let behind : c.args.place < c.loop-at.at = c.loop-at.invariant.behind in
     let smaller : 16 * (length c.args.scene.now.list.nodes - c.loop-at.at) + 12 < 16 * (length c.args.scene.now.list.nodes - c.args.place) + 3 = omega arith in
-    let stands : PartStands c.args.scene.now c.loop-at.at = next_item c.args.scene.now c.args.place c.stop_of-own_stop.result c.loop-at.at c.args.left.now c.loop-at.invariant c.requires.stands c.loop-at-test.true in
+    let stands : PartStands c.args.scene.now c.loop-at.at = next_item c.args.scene.now c.args.place c.stop_of-own_stop.result c.loop-at.at None c.args.left.now c.loop-at.invariant c.requires.stands c.loop-at-test.true in
     search rules
 
 pub collection_walk::listed_at-compare-requires : goal.collection_walk::listed_at-compare-requires
-collection_walk::listed_at-compare-requires t c = may_compare_item c.args.scene.now c.args.place c.stop_of-own_stop.result c.loop-at.at c.args.left.now c.loop-at.invariant c.in-Ok.item c.in-Ok.ensures c.loop-at-test.true c.ends_once.ensures c.comparisons_are_decided.ensures.any_reading c.requires.stands
+collection_walk::listed_at-compare-requires t c = may_compare_item c.args.scene.now c.args.place c.stop_of-own_stop.result c.loop-at.at None c.args.left.now c.loop-at.invariant c.trees_have_one_type.ensures c.in-Ok.item (alone_answers c.args.scene.now c.loop-at.at (λ type. Some (gives (datum_val (reading_at (slots_of c.args.scene.now.row.schema) type) c.in-Ok.item))) c.in-Ok.ensures) c.loop-at-test.true c.ends_once.ensures c.comparisons_are_decided.ensures.any_reading c.requires.stands
 
 pub collection_walk::listed_at-returns-then-compare : goal.collection_walk::listed_at-returns-then-compare
-collection_walk::listed_at-returns-then-compare t c = item_equals c.args.scene.now c.args.place c.stop_of-own_stop.result c.loop-at.at c.args.left.now c.loop-at.invariant c.in-Ok.item c.in-Ok.ensures c.loop-at-test.true c.ends_once.ensures c.compare.result c.compare.ensures c.if-compare.true
+collection_walk::listed_at-returns-then-compare t c = item_equals c.args.scene.now c.args.place c.stop_of-own_stop.result c.loop-at.at None c.args.left.now c.loop-at.invariant c.trees_have_one_type.ensures c.in-Ok.item (alone_answers c.args.scene.now c.loop-at.at (λ type. Some (gives (datum_val (reading_at (slots_of c.args.scene.now.row.schema) type) c.in-Ok.item))) c.in-Ok.ensures) c.loop-at-test.true c.ends_once.ensures c.compare.result c.compare.ensures c.if-compare.true
 
 pub collection_walk::listed_at-returns-in-Err : goal.collection_walk::listed_at-returns-in-Err
-collection_walk::listed_at-returns-in-Err t c = item_faults c.args.scene.now c.args.place c.stop_of-own_stop.result c.loop-at.at c.args.left.now c.loop-at.invariant c.loop-at-test.true c.in-Err.fault c.in-Err.ensures
+collection_walk::listed_at-returns-in-Err t c = item_faults c.args.scene.now c.args.place c.stop_of-own_stop.result c.loop-at.at None c.args.left.now c.loop-at.invariant c.loop-at-test.true c.in-Err.fault (alone_answers c.args.scene.now c.loop-at.at (λ type. fault_outcome c.in-Err.fault) c.in-Err.ensures)
 
 pub collection_walk::listed_at-stop_of-at-requires : goal.collection_walk::listed_at-stop_of-at-requires
-collection_walk::listed_at-stop_of-at-requires t c = part_inside c.args.scene.now c.loop-at.at (next_item c.args.scene.now c.args.place c.stop_of-own_stop.result c.loop-at.at c.args.left.now c.loop-at.invariant c.requires.stands c.loop-at-test.true)
+collection_walk::listed_at-stop_of-at-requires t c = part_inside c.args.scene.now c.loop-at.at (next_item c.args.scene.now c.args.place c.stop_of-own_stop.result c.loop-at.at None c.args.left.now c.loop-at.invariant c.requires.stands c.loop-at-test.true)
 
 pub collection_walk::listed_at-loop-at-preserved : goal.collection_walk::listed_at-loop-at-preserved
-collection_walk::listed_at-loop-at-preserved t c = item_differs c.args.scene.now c.args.place c.stop_of-own_stop.result c.loop-at.at c.args.left.now c.loop-at.invariant c.in-Ok.item c.in-Ok.ensures c.loop-at-test.true c.ends_once.ensures c.compare.result c.compare.ensures c.if-compare.false c.requires.stands c.stop_of-at.result c.stop_of-at.ensures
+collection_walk::listed_at-loop-at-preserved t c = item_differs c.args.scene.now c.args.place c.stop_of-own_stop.result c.loop-at.at None c.args.left.now c.loop-at.invariant c.trees_have_one_type.ensures c.in-Ok.item (alone_answers c.args.scene.now c.loop-at.at (λ type. Some (gives (datum_val (reading_at (slots_of c.args.scene.now.row.schema) type) c.in-Ok.item))) c.in-Ok.ensures) c.loop-at-test.true c.ends_once.ensures c.compare.result c.compare.ensures c.if-compare.false c.requires.stands c.stop_of-at.result c.stop_of-at.ensures
 
 pub collection_walk::listed_at-loop-at-smaller : goal.collection_walk::listed_at-loop-at-smaller
 collection_walk::listed_at-loop-at-smaller t c =
-    let later : c.loop-at.at < c.stop_of-at.result = stop_further c.args.scene.now c.loop-at.at c.stop_of-at.result (next_item c.args.scene.now c.args.place c.stop_of-own_stop.result c.loop-at.at c.args.left.now c.loop-at.invariant c.requires.stands c.loop-at-test.true) c.stop_of-at.ensures in
+    let later : c.loop-at.at < c.stop_of-at.result = stop_further c.args.scene.now c.loop-at.at c.stop_of-at.result (next_item c.args.scene.now c.args.place c.stop_of-own_stop.result c.loop-at.at None c.args.left.now c.loop-at.invariant c.requires.stands c.loop-at-test.true) c.stop_of-at.ensures in
     let within : c.loop-at.at ≤ c.stop_of-own_stop.result = c.loop-at.invariant.within in
     let remains = c.loop-at-test.true in
     omega (arith, remains)
 
 pub collection_walk::listed_at-returns : goal.collection_walk::listed_at-returns
-collection_walk::listed_at-returns t c = no_item c.args.scene.now c.args.place c.stop_of-own_stop.result c.loop-at.at c.args.left.now c.loop-at.invariant c.loop-at-test.false
+collection_walk::listed_at-returns t c = no_item c.args.scene.now c.args.place c.stop_of-own_stop.result c.loop-at.at None c.args.left.now c.loop-at.invariant c.loop-at-test.false
+
+-- ---- the left operand read as a number
+
+pub paired_walk::compared_left_at-right_of-requires : goal.paired_walk::compared_left_at-right_of-requires
+paired_walk::compared_left_at-right_of-requires t c = left_next c.args.scene.now c.args.place c.args.operator c.args.number c.requires.stands c.requires.here
+
+pub paired_walk::compared_left_at-operand_at-requires : goal.paired_walk::compared_left_at-operand_at-requires
+paired_walk::compared_left_at-operand_at-requires t c =
+    let inside : c.args.place < length c.args.scene.now.list.nodes = part_inside c.args.scene.now c.args.place c.requires.stands in
+    let behind : c.args.place < c.right_of.result = left_further c.args.scene.now c.args.place c.args.operator c.args.number c.requires.stands c.requires.here c.right_of.result c.right_of.ensures in
+    let smaller : 16 * (length c.args.scene.now.list.nodes - c.right_of.result) + 12 < 16 * (length c.args.scene.now.list.nodes - c.args.place) + 3 = omega arith in
+    let stands : PartStands c.args.scene.now c.right_of.result = left_part c.args.scene.now c.args.place c.args.operator c.args.number c.requires.stands c.requires.here c.right_of.result c.right_of.ensures in
+    search rules
+
+pub paired_walk::compared_left_at-literal-requires : goal.paired_walk::compared_left_at-literal-requires
+paired_walk::compared_left_at-literal-requires t c = (left_within c.trees_have_one_type.ensures c.args.scene.now c.args.place c.args.operator c.args.number c.requires.here c.requires.stands).1.1
+
+pub paired_walk::compared_left_at-comparison_of-requires : goal.paired_walk::compared_left_at-comparison_of-requires
+paired_walk::compared_left_at-comparison_of-requires t c = equality_walks c.args.operator (left_within c.trees_have_one_type.ensures c.args.scene.now c.args.place c.args.operator c.args.number c.requires.here c.requires.stands).1.2
+
+pub paired_walk::compared_left_at-compare-requires : goal.paired_walk::compared_left_at-compare-requires
+paired_walk::compared_left_at-compare-requires t c =
+    may_compare_left c.trees_have_one_type.ensures c.args.scene.now c.args.place c.args.operator c.args.number c.comparison_of.result c.comparison_of.ensures c.literal.result.now c.literal.ensures c.datum_of-left.result c.datum_of-left.ensures
+    c.in-Ok.right c.right_of.result c.right_of.ensures c.requires.here c.in-Ok.ensures c.ends_once.ensures c.comparisons_are_decided.ensures.any_reading c.requires.stands
+
+pub paired_walk::compared_left_at-returns-in-Ok : goal.paired_walk::compared_left_at-returns-in-Ok
+paired_walk::compared_left_at-returns-in-Ok t c =
+    left_answers c.trees_have_one_type.ensures c.args.scene.now c.args.place c.args.operator c.args.number c.comparison_of.result c.comparison_of.ensures c.literal.result.now c.literal.ensures c.datum_of-left.result c.datum_of-left.ensures
+    c.in-Ok.right c.right_of.result c.right_of.ensures c.requires.here c.in-Ok.ensures c.ends_once.ensures c.requires.stands c.compare.result c.compare.ensures
+
+pub paired_walk::compared_left_at-returns-in-Err : goal.paired_walk::compared_left_at-returns-in-Err
+paired_walk::compared_left_at-returns-in-Err t c =
+    left_faults c.trees_have_one_type.ensures c.args.scene.now c.args.place c.args.operator c.args.number c.right_of.result c.right_of.ensures c.requires.here c.requires.stands c.in-Err.fault c.in-Err.ensures
+
+-- ---- a pair of kept values, one of them a number that is read
+
+pub paired_walk::right_read_truth_at-overflow_add-place : goal.paired_walk::right_read_truth_at-overflow_add-place
+paired_walk::right_read_truth_at-overflow_add-place t c =
+    let within : c.args.place + 1 < length c.args.scene.now.list.nodes = part_inside c.args.scene.now (c.args.place + 1) (first_part c.args.scene.now c.args.place WalkClass.Eager (λ leaf. cc) (kind_walks c.args.scene.now.list c.args.place (NodeKind.PairedRight c.args.operator c.args.number) WalkClass.Eager refl c.requires.here) (typed_part c.args.scene.now c.args.place IsBooleanOrNull c.requires.stands)) in
+    let same = c.nodes-nodes.ensures in
+    search rules
+
+pub paired_walk::right_read_truth_at-part_at-requires : goal.paired_walk::right_read_truth_at-part_at-requires
+paired_walk::right_read_truth_at-part_at-requires t c = record { stands = first_part c.args.scene.now c.args.place WalkClass.Eager (λ leaf. cc) (kind_walks c.args.scene.now.list c.args.place (NodeKind.PairedRight c.args.operator c.args.number) WalkClass.Eager refl c.requires.here) (typed_part c.args.scene.now c.args.place IsBooleanOrNull c.requires.stands) }
+
+pub paired_walk::right_read_truth_at-compared_kept_right-requires : goal.paired_walk::right_read_truth_at-compared_kept_right-requires
+paired_walk::right_read_truth_at-compared_kept_right-requires t c = record { stands = typed_part c.args.scene.now c.args.place IsBooleanOrNull c.requires.stands; here = c.requires.here; left = c.in-Leaf.ensures }
+
+pub paired_walk::right_read_truth_at-made_truth_at-requires : goal.paired_walk::right_read_truth_at-made_truth_at-requires
+paired_walk::right_read_truth_at-made_truth_at-requires t c =
+    let eager : IsClassAt c.args.scene.now.list WalkClass.Eager c.args.place = kind_walks c.args.scene.now.list c.args.place (NodeKind.PairedRight c.args.operator c.args.number) WalkClass.Eager refl c.requires.here in
+    let smaller : 16 * (length c.args.scene.now.list.nodes - c.args.place) + 7 < 16 * (length c.args.scene.now.list.nodes - c.args.place) + 9 = omega arith in
+    search rules
+
+pub paired_walk::left_read_truth_at-right_of-requires : goal.paired_walk::left_read_truth_at-right_of-requires
+paired_walk::left_read_truth_at-right_of-requires t c = left_next c.args.scene.now c.args.place c.args.operator c.args.number (typed_part c.args.scene.now c.args.place IsBooleanOrNull c.requires.stands) c.requires.here
+
+pub paired_walk::left_read_truth_at-part_at-requires : goal.paired_walk::left_read_truth_at-part_at-requires
+paired_walk::left_read_truth_at-part_at-requires t c = record { stands = left_part c.args.scene.now c.args.place c.args.operator c.args.number (typed_part c.args.scene.now c.args.place IsBooleanOrNull c.requires.stands) c.requires.here c.right_of.result c.right_of.ensures }
+
+pub paired_walk::left_read_truth_at-compared_kept_left-requires : goal.paired_walk::left_read_truth_at-compared_kept_left-requires
+paired_walk::left_read_truth_at-compared_kept_left-requires t c = record {
+  stands = typed_part c.args.scene.now c.args.place IsBooleanOrNull c.requires.stands;
+  here = c.requires.here;
+  right = kept_everywhere c.args.scene.now c.args.place c.right_of.result c.in-Leaf.right.now c.right_of.ensures c.in-Leaf.ensures;
+}
+
+pub paired_walk::left_read_truth_at-made_truth_at-requires : goal.paired_walk::left_read_truth_at-made_truth_at-requires
+paired_walk::left_read_truth_at-made_truth_at-requires t c =
+    let eager : IsClassAt c.args.scene.now.list WalkClass.Eager c.args.place = kind_walks c.args.scene.now.list c.args.place (NodeKind.PairedLeft c.args.operator c.args.number) WalkClass.Eager refl c.requires.here in
+    let smaller : 16 * (length c.args.scene.now.list.nodes - c.args.place) + 7 < 16 * (length c.args.scene.now.list.nodes - c.args.place) + 9 = omega arith in
+    search rules
+
+-- ---- items read as numbers
+
+pub paired_walk::numbered_item_at-returns-in-Enum : goal.paired_walk::numbered_item_at-returns-in-Enum
+paired_walk::numbered_item_at-returns-in-Enum t c =
+    let slots = slots_of c.args.scene.now.row.schema in
+    let fits : SFits w64 c.in-Enum.n = search rules in
+    let told = number_item c.args.scene.now c.args.place c.args.number c.literal.result.now c.literal.ensures c.in-Enum.n c.in-Enum.is in
+    subst (λ (n : ℤ). AnswersItem c.args.scene.now c.args.place (Some c.args.number) (λ type. Some (gives (datum_val (reading_at slots type) (datum.Enum n)))))
+    (sym (to_z-of_z w64 c.in-Enum.n fits)) told
+
+pub paired_walk::numbered_item_at-returns-in_default : goal.paired_walk::numbered_item_at-returns-in_default
+paired_walk::numbered_item_at-returns-in_default t c = other_item c.args.scene.now c.args.place c.args.number c.literal.result.now c.literal.ensures c.in_default.not-Enum c.operand_at.result c.operand_at.ensures
+
+pub paired_walk::numbered_item_at-operand_at-requires : goal.paired_walk::numbered_item_at-operand_at-requires
+paired_walk::numbered_item_at-operand_at-requires t c =
+    let smaller : 16 * (length c.args.scene.now.list.nodes - c.args.place) + 12 < 16 * (length c.args.scene.now.list.nodes - c.args.place) + 13 = omega arith in
+    search rules
+
+pub paired_walk::numbered_at-stop_of-own_stop-requires : goal.paired_walk::numbered_at-stop_of-own_stop-requires
+paired_walk::numbered_at-stop_of-own_stop-requires t c = part_inside c.args.scene.now c.args.place c.requires.stands
+
+pub paired_walk::numbered_at-right_of-at-requires : goal.paired_walk::numbered_at-right_of-at-requires
+paired_walk::numbered_at-right_of-at-requires t c = items_there c.args.scene.now c.args.place (Some c.args.numbers) (numbered_lists c.args.scene.now c.args.place c.args.numbers c.requires.here) c.requires.stands
+
+pub paired_walk::numbered_at-loop-at-init : goal.paired_walk::numbered_at-loop-at-init
+paired_walk::numbered_at-loop-at-init t c =
+    list_begins c.args.scene.now c.args.place (Some c.args.numbers) (numbered_lists c.args.scene.now c.args.place c.args.numbers c.requires.here) c.stop_of-own_stop.result c.stop_of-own_stop.ensures c.right_of-at.result c.right_of-at.ensures c.args.left.now c.requires.left c.ends_once.ensures c.requires.stands
+
+pub paired_walk::numbered_at-numbered_item_at-requires : goal.paired_walk::numbered_at-numbered_item_at-requires
+paired_walk::numbered_at-numbered_item_at-requires t c =
+    let inside : c.args.place < length c.args.scene.now.list.nodes = part_inside c.args.scene.now c.args.place c.requires.stands in
+    let behind : c.args.place < c.loop-at.at = c.loop-at.invariant.behind in
+    let smaller : 16 * (length c.args.scene.now.list.nodes - c.loop-at.at) + 13 < 16 * (length c.args.scene.now.list.nodes - c.args.place) + 3 = omega arith in
+    let stands : PartStands c.args.scene.now c.loop-at.at = next_item c.args.scene.now c.args.place c.stop_of-own_stop.result c.loop-at.at (Some c.loop-at.number) c.args.left.now c.loop-at.invariant c.requires.stands c.loop-at-test.true in
+    let within : c.loop-at.number < length c.args.scene.now.list.values = number_within c.args.scene.now c.args.place c.stop_of-own_stop.result c.loop-at.at c.loop-at.number c.args.left.now c.loop-at.invariant c.requires.stands c.loop-at-test.true in
+    search rules
+
+pub paired_walk::numbered_at-compare-requires : goal.paired_walk::numbered_at-compare-requires
+paired_walk::numbered_at-compare-requires t c = may_compare_item c.args.scene.now c.args.place c.stop_of-own_stop.result c.loop-at.at (Some c.loop-at.number) c.args.left.now c.loop-at.invariant c.trees_have_one_type.ensures c.in-Ok.item c.in-Ok.ensures c.loop-at-test.true c.ends_once.ensures c.comparisons_are_decided.ensures.any_reading c.requires.stands
+
+pub paired_walk::numbered_at-returns-then-compare : goal.paired_walk::numbered_at-returns-then-compare
+paired_walk::numbered_at-returns-then-compare t c = item_equals c.args.scene.now c.args.place c.stop_of-own_stop.result c.loop-at.at (Some c.loop-at.number) c.args.left.now c.loop-at.invariant c.trees_have_one_type.ensures c.in-Ok.item c.in-Ok.ensures c.loop-at-test.true c.ends_once.ensures c.compare.result c.compare.ensures c.if-compare.true
+
+pub paired_walk::numbered_at-returns-in-Err : goal.paired_walk::numbered_at-returns-in-Err
+paired_walk::numbered_at-returns-in-Err t c = item_faults c.args.scene.now c.args.place c.stop_of-own_stop.result c.loop-at.at (Some c.loop-at.number) c.args.left.now c.loop-at.invariant c.loop-at-test.true c.in-Err.fault c.in-Err.ensures
+
+pub paired_walk::numbered_at-stop_of-at-requires : goal.paired_walk::numbered_at-stop_of-at-requires
+paired_walk::numbered_at-stop_of-at-requires t c = part_inside c.args.scene.now c.loop-at.at (next_item c.args.scene.now c.args.place c.stop_of-own_stop.result c.loop-at.at (Some c.loop-at.number) c.args.left.now c.loop-at.invariant c.requires.stands c.loop-at-test.true)
+
+pub paired_walk::numbered_at-loop-at-preserved : goal.paired_walk::numbered_at-loop-at-preserved
+paired_walk::numbered_at-loop-at-preserved t c = item_differs c.args.scene.now c.args.place c.stop_of-own_stop.result c.loop-at.at (Some c.loop-at.number) c.args.left.now c.loop-at.invariant c.trees_have_one_type.ensures c.in-Ok.item c.in-Ok.ensures c.loop-at-test.true c.ends_once.ensures c.compare.result c.compare.ensures c.if-compare.false c.requires.stands c.stop_of-at.result c.stop_of-at.ensures
+
+pub paired_walk::numbered_at-overflow_add-number : goal.paired_walk::numbered_at-overflow_add-number
+paired_walk::numbered_at-overflow_add-number t c =
+    let within : c.loop-at.number < length c.args.scene.now.list.values = number_within c.args.scene.now c.args.place c.stop_of-own_stop.result c.loop-at.at c.loop-at.number c.args.left.now c.loop-at.invariant c.requires.stands c.loop-at-test.true in
+    let same = c.values-values.ensures in
+    search rules
+
+pub paired_walk::numbered_at-loop-at-smaller : goal.paired_walk::numbered_at-loop-at-smaller
+paired_walk::numbered_at-loop-at-smaller t c =
+    let later : c.loop-at.at < c.stop_of-at.result = stop_further c.args.scene.now c.loop-at.at c.stop_of-at.result (next_item c.args.scene.now c.args.place c.stop_of-own_stop.result c.loop-at.at (Some c.loop-at.number) c.args.left.now c.loop-at.invariant c.requires.stands c.loop-at-test.true) c.stop_of-at.ensures in
+    let within : c.loop-at.at ≤ c.stop_of-own_stop.result = c.loop-at.invariant.within in
+    let remains = c.loop-at-test.true in
+    omega (arith, remains)
+
+pub paired_walk::numbered_at-returns : goal.paired_walk::numbered_at-returns
+paired_walk::numbered_at-returns t c = no_item c.args.scene.now c.args.place c.stop_of-own_stop.result c.loop-at.at (Some c.loop-at.number) c.args.left.now c.loop-at.invariant c.loop-at-test.false
+
+pub walk::made_at-compared_right-requires : goal.walk::made_at-compared_right-requires
+walk::made_at-compared_right-requires t c =
+    let first : AnswersDatum c.args.scene.now (c.args.place + 1) (Ok c.in-Ok.first) = subst (λ (r : Result Datum EvalFault). AnswersDatum c.args.scene.now (c.args.place + 1) r) c.in-Ok.is c.requires.first in
+    let here : HasKind c.args.scene.now.list c.args.place (NodeKind.PairedRight c.in-PairedRight.operator c.in-PairedRight.number) = there_found (λ (f : CheckedNode). f.kind ≡ NodeKind.PairedRight c.in-PairedRight.operator c.in-PairedRight.number) (slice_get c.args.scene.now.list.nodes c.args.place) c.node.result.now c.node.ensures c.in-PairedRight.is in
+    search rules
+
+pub walk::made_at-compared_left_at-requires : goal.walk::made_at-compared_left_at-requires
+walk::made_at-compared_left_at-requires t c =
+    let first : AnswersDatum c.args.scene.now (c.args.place + 1) (Ok c.in-Ok.first) = subst (λ (r : Result Datum EvalFault). AnswersDatum c.args.scene.now (c.args.place + 1) r) c.in-Ok.is c.requires.first in
+    let here : HasKind c.args.scene.now.list c.args.place (NodeKind.PairedLeft c.in-PairedLeft.operator c.in-PairedLeft.number) = there_found (λ (f : CheckedNode). f.kind ≡ NodeKind.PairedLeft c.in-PairedLeft.operator c.in-PairedLeft.number) (slice_get c.args.scene.now.list.nodes c.args.place) c.node.result.now c.node.ensures c.in-PairedLeft.is in
+    let smaller : 16 * (length c.args.scene.now.list.nodes - c.args.place) + 3 < 16 * (length c.args.scene.now.list.nodes - c.args.place) + 4 = omega arith in
+    search rules
+
+pub walk::made_at-flags_right-requires : goal.walk::made_at-flags_right-requires
+walk::made_at-flags_right-requires t c =
+    let first : AnswersDatum c.args.scene.now (c.args.place + 1) (Ok c.in-Ok.first) = subst (λ (r : Result Datum EvalFault). AnswersDatum c.args.scene.now (c.args.place + 1) r) c.in-Ok.is c.requires.first in
+    let here : HasKind c.args.scene.now.list c.args.place (NodeKind.PairedHas c.in-PairedHas.number) = there_found (λ (f : CheckedNode). f.kind ≡ NodeKind.PairedHas c.in-PairedHas.number) (slice_get c.args.scene.now.list.nodes c.args.place) c.node.result.now c.node.ensures c.in-PairedHas.is in
+    search rules
+
+pub walk::made_at-numbered_at-requires : goal.walk::made_at-numbered_at-requires
+walk::made_at-numbered_at-requires t c =
+    let first : AnswersDatum c.args.scene.now (c.args.place + 1) (Ok c.in-Ok.first) = subst (λ (r : Result Datum EvalFault). AnswersDatum c.args.scene.now (c.args.place + 1) r) c.in-Ok.is c.requires.first in
+    let here : HasKind c.args.scene.now.list c.args.place (NodeKind.PairedList c.in-PairedList.numbers) = there_found (λ (f : CheckedNode). f.kind ≡ NodeKind.PairedList c.in-PairedList.numbers) (slice_get c.args.scene.now.list.nodes c.args.place) c.node.result.now c.node.ensures c.in-PairedList.is in
+    let smaller : 16 * (length c.args.scene.now.list.nodes - c.args.place) + 3 < 16 * (length c.args.scene.now.list.nodes - c.args.place) + 4 = omega arith in
+    search rules
 
 -- ---- a lambda operator
 

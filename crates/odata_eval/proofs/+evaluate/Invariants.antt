@@ -1,4 +1,4 @@
-use Rattle.std.proofs.Common.{◌≤◌, ◌+◌, ◌-◌, ◌*◌, length}
+use Rattle.std.proofs.Common.{◌≤◌, ◌+◌, ◌-◌, ◌*◌, None, Some, length}
 use Rattle.odata_eval.specs.private.WalkAnswer.{AnswersDatum, AnswersNumber, AnswersTruth}
 use Rattle.odata_eval.proofs.walking.ItemSteps.{ListLeft}
 use Rattle.odata_eval.proofs.walking.MembersAsked.{MembersLeft}
@@ -118,10 +118,31 @@ decreases-walk::eager_at-loop-at l = l.at
 
 -- the items before the place are none that is equal
 abbrev pub invariant-collection_walk::listed_at-loop-at : goal.invariant-collection_walk::listed_at-loop-at
-invariant-collection_walk::listed_at-loop-at l = ListLeft l.scene l.place l.own_stop l.at l.left
+invariant-collection_walk::listed_at-loop-at l = ListLeft l.scene l.place l.own_stop l.at None l.left
 
 abbrev pub decreases-collection_walk::listed_at-loop-at : goal.decreases-collection_walk::listed_at-loop-at
 decreases-collection_walk::listed_at-loop-at l = l.own_stop - l.at
+
+abbrev pub decreases-paired_walk::compared_left_at : goal.decreases-paired_walk::compared_left_at
+decreases-paired_walk::compared_left_at l = 16 * (length l.scene.now.list.nodes - l.place) + 3
+
+abbrev pub decreases-paired_walk::right_read_truth_at : goal.decreases-paired_walk::right_read_truth_at
+decreases-paired_walk::right_read_truth_at l = 16 * (length l.scene.now.list.nodes - l.place) + 9
+
+abbrev pub decreases-paired_walk::left_read_truth_at : goal.decreases-paired_walk::left_read_truth_at
+decreases-paired_walk::left_read_truth_at l = 16 * (length l.scene.now.list.nodes - l.place) + 9
+
+abbrev pub decreases-paired_walk::numbered_at : goal.decreases-paired_walk::numbered_at
+decreases-paired_walk::numbered_at l = 16 * (length l.scene.now.list.nodes - l.place) + 3
+
+abbrev pub decreases-paired_walk::numbered_item_at : goal.decreases-paired_walk::numbered_item_at
+decreases-paired_walk::numbered_item_at l = 16 * (length l.scene.now.list.nodes - l.place) + 13
+
+abbrev pub invariant-paired_walk::numbered_at-loop-at : goal.invariant-paired_walk::numbered_at-loop-at
+invariant-paired_walk::numbered_at-loop-at l = ListLeft l.scene l.place l.own_stop l.at (Some l.number) l.left
+
+abbrev pub decreases-paired_walk::numbered_at-loop-at : goal.decreases-paired_walk::numbered_at-loop-at
+decreases-paired_walk::numbered_at-loop-at l = l.own_stop - l.at
 
 -- the members before the place are all undecided
 abbrev pub invariant-lambda_walk::members_at-loop-at : goal.invariant-lambda_walk::members_at-loop-at

@@ -1,5 +1,5 @@
 -- The filter of the first run on its three items.
-use Rattle.std.proofs.Common.{◌≡◌, ◌↔◌, IsTrue, Bool, Some, ℕ, pos, List, [], true, false, refl, sym, ap, nat_eq, subst, inr, rules, lit<}
+use Rattle.std.proofs.Common.{◌≡◌, ◌↔◌, IsTrue, Bool, Some, None, ℕ, pos, List, [], true, false, refl, sym, ap, nat_eq, subst, inr, rules, lit<}
 use Rattle.std.proofs.lemmas.Int.{fits_signed_from_abs}
 use Rattle.std.specs.Prelude.{codes, FitsSigned}
 use Rattle.std.specs.Int.{w64}
@@ -15,20 +15,25 @@ use Rattle.csdl_schema.specs.SchemaModel.{Slots}
 use Rattle.odata_functions.specs.Comparison.{ComparesTrue}
 use Rattle.odata_functions.specs.Connectives.{and3}
 use Rattle.odata_functions.specs.declared.comparison.ComparisonOperator.{ComparisonOperator}
-use Rattle.odata_eval.specs.ComesTo.{ComesTo, false_and_missing, item_value}
+use Rattle.odata_eval.specs.ComesTo.{ComesTo, ComesToIn, false_and_missing, item_value}
 use Rattle.odata_eval.specs.Means.{Means}
 use Rattle.odata_eval.specs.Outcome.{Outcome, gives}
 use Rattle.odata_eval.specs.TruthGives.{truth_val}
 use Rattle.odata_eval.proofs.meaning.OneMeaning.{Means-one}
 use Rattle.odata_eval.proofs.meaning.LawsBelow.{OneEach}
+use Rattle.odata_eval.proofs.meaning.NoEnumerations.{unread}
 
 -- one outcome of a tree is the only one
-comes_to : OneEach → (tree : Tree) (value : Val) (outcome : Outcome)
-    → ((slots : Slots) (root : List ℕ) (now : MomentParts) → Means slots root now value [] tree outcome) → ComesTo tree value outcome
-comes_to known tree value outcome related = λ slots root now o. (
-  λ of_o. Means-one known slots root now value [] tree o outcome of_o (related slots root now),
-  λ same. subst (Means slots root now value [] tree) (sym same) (related slots root now),
+in_slots : OneEach → (slots : Slots) (tree : Tree) (value : Val) (outcome : Outcome)
+    → ((root : List ℕ) (now : MomentParts) → Means slots root now value [] tree outcome) → ComesToIn slots tree value outcome
+in_slots known slots tree value outcome related = λ root now o. (
+  λ of_o. Means-one known slots root now value [] tree o outcome of_o (related root now),
+  λ same. subst (Means slots root now value [] tree) (sym same) (related root now),
 )
+
+comes_to : OneEach → (tree : Tree) (value : Val) (outcome : Outcome)
+    → ((slots : Slots) (root : List ℕ) (now : MomentParts) → ((name : List ℕ) → slots.enumerations name ≡ None) → Means slots root now value [] tree outcome) → ComesTo tree value outcome
+comes_to known tree value outcome related = λ slots none. in_slots known slots tree value outcome (λ root now. related slots root now none)
 
 numeral : IsNumeral 10 (codes "1")
 numeral = search rules
@@ -51,31 +56,44 @@ joins false = refl
 -- the first item by any name, as this compares
 named_item : OneEach → (title : List ℕ) (answer : Bool) → (IsTrue answer ↔ ComparesTrue ComparisonOperator.Eq (text title) (text (codes "a")))
     → ComesTo first_run_tree (item_value (pos 1) title true) (gives (boolean answer))
-named_item known title answer compared = comes_to known first_run_tree (item_value (pos 1) title true) (gives (boolean answer)) (λ slots root now. (
-  gives (boolean true),
-  (
-    (
-      gives (boolean true),
-      (
-        refl,
+named_item known title answer compared = comes_to known first_run_tree (item_value (pos 1) title true) (gives (boolean answer)) (λ slots root now none.
+    inr (
+      unread slots none _ _,
+      inr (
+        unread slots none _ _,
         (
           gives (boolean true),
           (
-            (gives (whole (pos 1)), (refl, (gives (whole (pos 1)), (one, (tt, (λ _. refl, λ _. refl)))))),
-            refl,
+            inr (
+              unread slots none _ _,
+              inr (
+                unread slots none _ _,
+                (
+                  gives (boolean true),
+                  (
+                    refl,
+                    (
+                      gives (boolean true),
+                      (
+                        inr (unread slots none _ _, inr (unread slots none _ _, (gives (whole (pos 1)), (refl, (gives (whole (pos 1)), (one, (tt, (λ _. refl, λ _. refl)))))))),
+                        refl,
+                      ),
+                    ),
+                  ),
+                ),
+              ),
+            ),
+            (
+              gives (boolean answer),
+              (
+                inr (unread slots none _ _, inr (unread slots none _ _, (gives (text title), (refl, (gives (text (codes "a")), ((refl, letter), (tt, compared))))))),
+                joins answer,
+              ),
+            ),
           ),
         ),
       ),
-    ),
-    (
-      gives (boolean answer),
-      (
-        (gives (text title), (refl, (gives (text (codes "a")), ((refl, letter), (tt, compared))))),
-        joins answer,
-      ),
-    ),
-  ),
-))
+    ))
 
 pub kept_item : OneEach → ComesTo first_run_tree (item_value (pos 1) (codes "a") true) (gives (boolean true))
 kept_item known = named_item known (codes "a") true (λ _. refl, λ _. refl)
@@ -89,8 +107,10 @@ pub other_item : OneEach → ComesTo first_run_tree (item_value (pos 1) (codes "
 other_item known = named_item known (codes "b") false (λ no. cc, λ same. other_text same)
 
 pub inactive_item : OneEach → ComesTo first_run_tree (item_value (pos 2) (codes "a") false) (gives (boolean false))
-inactive_item known = comes_to known first_run_tree (item_value (pos 2) (codes "a") false) (gives (boolean false)) (λ slots root now.
-    (gives (boolean false), ((gives (boolean false), (refl, refl)), refl)))
+inactive_item known = comes_to known first_run_tree (item_value (pos 2) (codes "a") false) (gives (boolean false)) (λ slots root now none.
+    inr (unread slots none _ _, inr (unread slots none _ _, (gives (boolean false), (inr (unread slots none _ _, inr (unread slots none _ _, (gives (boolean false), (refl, refl)))), refl)))))
 
-pub right_side_unread : OneEach → (value : Val) → ComesTo false_and_missing value (gives (boolean false))
-right_side_unread known value = comes_to known false_and_missing value (gives (boolean false)) (λ slots root now. (gives (boolean false), (refl, refl)))
+-- no connective has its operands read
+pub right_side_unread : OneEach → (slots : Slots) (value : Val) → ComesToIn slots false_and_missing value (gives (boolean false))
+right_side_unread known slots value = in_slots known slots false_and_missing value (gives (boolean false)) (λ root now.
+    inr (λ n reads. reads.beside.0, inr (λ n reads. reads.beside.0, (gives (boolean false), (refl, refl)))))

@@ -1,7 +1,6 @@
 -- What asks for a collection or for flags has an outcome of values of its operands' types.
-use Rattle.std.proofs.Common.{◌≡◌, ℕ, List, [], ◌∷◌, length, Bool, true, false, Option, Some, None, refl, sym, subst, inl, inr}
+use Rattle.std.proofs.Common.{◌≡◌, ℕ, List, length, Bool, true, false, Option, Some, None, refl, sym, subst, inl, inr}
 use Rattle.std.specs.Prelude.{pos}
-use Rattle.std.specs.List.{AllByRecursion}
 use Rattle.edm_values.specs.MomentParts.{MomentParts}
 use Rattle.edm_values.specs.Val.{Val, null, boolean, member, fields, items, Vals, no_items, item}
 use Rattle.edm_values.specs.declared.primitive.PrimitiveType.{PrimitiveType}
@@ -23,12 +22,12 @@ use Rattle.odata_eval.specs.Environment.{Environment}
 use Rattle.odata_eval.specs.HasGives.{HasGives}
 use Rattle.odata_eval.specs.LambdaGives.{InGives, ItemsGive, LambdaGives, MembersGive}
 use Rattle.odata_eval.specs.LeftFirst.{After}
-use Rattle.odata_eval.specs.Means.{ItemMeans, Means}
-use Rattle.odata_eval.specs.OneByOne.{GoesOn, ItemsGo, MembersGo}
+use Rattle.odata_eval.specs.Means.{ItemMeans}
+use Rattle.odata_eval.specs.OneByOne.{GoesOn, ItemAlone, ItemsGo, MembersGo}
 use Rattle.odata_eval.specs.Outcome.{Outcome, gives}
 use Rattle.odata_eval.specs.QuantifierGives.{undecided_val}
 use Rattle.odata_eval.specs.TruthGives.{truth_val}
-use Rattle.odata_eval.proofs.meaning.AllTrees.{AllTyped}
+use Rattle.odata_eval.proofs.meaning.AllTrees.{AllTrees}
 use Rattle.odata_eval.proofs.meaning.Ends.{Ends, after_ends}
 use Rattle.odata_eval.proofs.meaning.CompareEnds.{compare_ends}
 use Rattle.odata_eval.proofs.meaning.FunctionEnds.{truth_given}
@@ -37,7 +36,6 @@ use Rattle.odata_eval.proofs.meaning.LawsBelow.{SomeEach}
 use Rattle.odata_eval.proofs.meaning.NumberComes.{number_given}
 use Rattle.odata_eval.proofs.meaning.OneByOne.{items_both, members_both}
 use Rattle.odata_eval.proofs.meaning.SameGives.{Both}
-use Rattle.odata_eval.proofs.meaning.Sides.{AreItemTypes}
 use Rattle.odata_eval.proofs.meaning.TypeValues.{IsOfKind, list_form, member_kind, members, null_has, null_value, truth_has}
 
 of_type : (slots : Slots) (given type : ExprType) (Gives : Outcome → Type 0) → type ≡ given → Ends slots given Gives → Ends slots type Gives
@@ -185,23 +183,27 @@ in_path_ends some slots left (collection m) type l v typed of_l has =
     ]
 in_path_ends some slots left _ type l v typed of_l has = absurd typed.0
 
-items_go_end : SomeEach → (slots : Slots) (Item : Tree → Outcome → Type 0) (left : ExprType) (l : Val) (trees : Trees) (types : List ExprType) → HasType slots left l
-    → AllByRecursion (AreComparable left) types → AllTyped (λ tree t. Ends slots t (Item tree)) trees types → Ends slots boolean_type (ItemsGo Item l trees)
-items_go_end some slots Item left l no_trees [] of_l alike all = (gives (boolean false), (refl, truth_has slots false))
-items_go_end some slots Item left l (more_trees tree more) (t ∷ types) of_l alike all =
-    let Equal : Val → Outcome → Type 0 = CompareGives ComparisonOperator.Eq l in
-    after_ends slots slots boolean_type boolean_type (After (Item tree) Equal) (GoesOn Quantifier.Any (ItemsGo Item l more))
-    (after_ends slots slots t boolean_type (Item tree) Equal all.0
-    (λ w of_w. compare_ends some slots ComparisonOperator.Eq left t boolean_type l w (alike.0, refl) of_l of_w))
-    (λ w has. goes_on_ends slots Quantifier.Any (ItemsGo Item l more) w (truth_of slots boolean_type w (inl refl) has)
-    (items_go_end some slots Item left l more types of_l alike.1 all.1))
-items_go_end some slots Item left l _ _ of_l alike all = absurd all
+-- an item has an outcome of a type that is compared with that on the left
+abbrev pub ItemEnds : Slots → ExprType → (Outcome → Type 0) → Type 0
+ItemEnds slots left Item = (type : ExprType) × AreComparable left type × Ends slots type Item
 
-pub in_list_ends : SomeEach → (slots : Slots) (root : List ℕ) (now : MomentParts) (entity : Val) (environment : Environment) (left : ExprType) (l : Val) (trees : Trees) (types : List ExprType)
-    (type : ExprType) → AreItemTypes left types type → HasType slots left l → AllTyped (λ tree t. Ends slots t (Means slots root now entity environment tree)) trees types
-    → Ends slots type (ItemsGive l (length (list_of_trees trees)) (ItemMeans slots root now entity environment trees))
-in_list_ends some slots root now entity environment left l trees types type typed of_l all =
-    let Given : Outcome → Type 0 = ItemsGive l (length (list_of_trees trees)) (ItemMeans slots root now entity environment trees) in
-    of_type slots boolean_type type Given typed.2
-    (both_ends slots boolean_type Given (ItemsGo (Means slots root now entity environment) l trees) (items_both slots root now entity environment l trees)
-    (items_go_end some slots (Means slots root now entity environment) left l trees types of_l typed.1 all))
+items_go_end : SomeEach → (slots : Slots) (Item : Tree → Outcome → Type 0) (left : ExprType) (l : Val) (trees : Trees) → HasType slots left l
+    → AllTrees (λ tree. ItemEnds slots left (Item tree)) trees → Ends slots boolean_type (ItemsGo Item l trees)
+items_go_end some slots Item left l no_trees of_l all = (gives (boolean false), (refl, truth_has slots false))
+items_go_end some slots Item left l (more_trees tree more) of_l all =
+    let Equal : Val → Outcome → Type 0 = CompareGives ComparisonOperator.Eq l in
+    let first = all.0 in
+    after_ends slots slots boolean_type boolean_type (After (Item tree) Equal) (GoesOn Quantifier.Any (ItemsGo Item l more))
+    (after_ends slots slots first.0 boolean_type (Item tree) Equal first.2
+    (λ w of_w. compare_ends some slots ComparisonOperator.Eq left first.0 boolean_type l w (first.1, refl) of_l of_w))
+    (λ w has. goes_on_ends slots Quantifier.Any (ItemsGo Item l more) w (truth_of slots boolean_type w (inl refl) has)
+    (items_go_end some slots Item left l more of_l all.1))
+
+pub in_list_ends : SomeEach → (slots : Slots) (root : List ℕ) (now : MomentParts) (entity : Val) (environment : Environment) (Beside : ExprType → Type 0) (left : ExprType) (l : Val) (trees : Trees)
+    (type : ExprType) → type ≡ boolean_type → HasType slots left l → AllTrees (λ tree. ItemEnds slots left (ItemAlone slots root now entity environment Beside tree)) trees
+    → Ends slots type (ItemsGive l (length (list_of_trees trees)) (ItemMeans slots root now entity environment Beside trees))
+in_list_ends some slots root now entity environment Beside left l trees type is of_l all =
+    let Given : Outcome → Type 0 = ItemsGive l (length (list_of_trees trees)) (ItemMeans slots root now entity environment Beside trees) in
+    of_type slots boolean_type type Given is
+    (both_ends slots boolean_type Given (ItemsGo (ItemAlone slots root now entity environment Beside) l trees) (items_both slots root now entity environment Beside l trees)
+    (items_go_end some slots (ItemAlone slots root now entity environment Beside) left l trees of_l all))

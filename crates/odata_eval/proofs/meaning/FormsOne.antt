@@ -17,8 +17,8 @@ use Rattle.odata_eval.specs.Environment.{Environment}
 use Rattle.odata_eval.specs.HasGives.{HasGives}
 use Rattle.odata_eval.specs.LambdaGives.{InGives, ItemsGive, LambdaGives, MembersGive}
 use Rattle.odata_eval.specs.LeftFirst.{After}
-use Rattle.odata_eval.specs.Means.{ItemMeans, Means}
-use Rattle.odata_eval.specs.OneByOne.{GoesOn, ItemsGo, MembersGo}
+use Rattle.odata_eval.specs.Means.{ItemMeans}
+use Rattle.odata_eval.specs.OneByOne.{GoesOn, ItemAlone, ItemsGo, MembersGo}
 use Rattle.odata_eval.specs.Outcome.{Outcome, gives}
 use Rattle.odata_eval.specs.QuantifierGives.{undecided_val}
 use Rattle.odata_eval.proofs.meaning.AllTrees.{AllTrees}
@@ -96,10 +96,10 @@ InGives-one l (items values) a b p q =
     MembersGive-one Quantifier.Any (CompareGives ComparisonOperator.Eq l) values (CompareGives-one ComparisonOperator.Eq l) a b p q
 InGives-one l _ a b p q = absurd p
 
-pub ItemsGive-one : (slots : Slots) (root : List ℕ) (now : MomentParts) (entity : Val) (environment : Environment) (l : Val) (trees : Trees)
-    → AllTrees (λ tree. AtMostOne (Means slots root now entity environment tree)) trees
-    → AtMostOne (ItemsGive l (length (list_of_trees trees)) (ItemMeans slots root now entity environment trees))
-ItemsGive-one slots root now entity environment l trees one =
-    both_one (ItemsGive l (length (list_of_trees trees)) (ItemMeans slots root now entity environment trees))
-    (ItemsGo (Means slots root now entity environment) l trees)
-    (items_both slots root now entity environment l trees) (ItemsGo-one (Means slots root now entity environment) l trees one)
+pub ItemsGive-one : (slots : Slots) (root : List ℕ) (now : MomentParts) (entity : Val) (environment : Environment) (Beside : ExprType → Type 0) (l : Val) (trees : Trees)
+    → AllTrees (λ tree. AtMostOne (ItemAlone slots root now entity environment Beside tree)) trees
+    → AtMostOne (ItemsGive l (length (list_of_trees trees)) (ItemMeans slots root now entity environment Beside trees))
+ItemsGive-one slots root now entity environment Beside l trees one =
+    both_one (ItemsGive l (length (list_of_trees trees)) (ItemMeans slots root now entity environment Beside trees))
+    (ItemsGo (ItemAlone slots root now entity environment Beside) l trees)
+    (items_both slots root now entity environment Beside l trees) (ItemsGo-one (ItemAlone slots root now entity environment Beside) l trees one)

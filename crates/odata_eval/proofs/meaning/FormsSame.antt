@@ -12,8 +12,8 @@ use Rattle.odata_eval.specs.CompareGives.{CompareGives}
 use Rattle.odata_eval.specs.Environment.{Environment}
 use Rattle.odata_eval.specs.LambdaGives.{ItemsGive, LambdaGives, MembersGive}
 use Rattle.odata_eval.specs.LeftFirst.{After}
-use Rattle.odata_eval.specs.Means.{ItemMeans, Means}
-use Rattle.odata_eval.specs.OneByOne.{GoesOn, ItemsGo, MembersGo}
+use Rattle.odata_eval.specs.Means.{ItemMeans}
+use Rattle.odata_eval.specs.OneByOne.{GoesOn, ItemAlone, ItemsGo, MembersGo}
 use Rattle.odata_eval.specs.Outcome.{Outcome}
 use Rattle.odata_eval.proofs.meaning.AllTrees.{AllPaired}
 use Rattle.odata_eval.proofs.meaning.OneByOne.{goes_both, items_both, members_both}
@@ -51,26 +51,26 @@ lambda_both quantifier N M B C v typed same =
     (lambda_goes quantifier N M B C v (λ type. (typed type).0) same)
     (lambda_goes quantifier M N C B v (λ type. (typed type).1) (λ type w. turned (B type w) (C type w) (same type w)))
 
-items_go_same : (Item : Tree → Outcome → Type 0) (l : Val) (trees others : Trees) → AllPaired (λ tree other. Both (Item tree) (Item other)) trees others
-    → Both (ItemsGo Item l trees) (ItemsGo Item l others)
-items_go_same Item l no_trees no_trees same = itself (ItemsGo Item l no_trees)
-items_go_same Item l (more_trees tree more) (more_trees other others) same =
+items_go_same : (Item Also : Tree → Outcome → Type 0) (l : Val) (trees others : Trees) → AllPaired (λ tree other. Both (Item tree) (Also other)) trees others
+    → Both (ItemsGo Item l trees) (ItemsGo Also l others)
+items_go_same Item Also l no_trees no_trees same = itself (ItemsGo Item l no_trees)
+items_go_same Item Also l (more_trees tree more) (more_trees other others) same =
     let Equal : Val → Outcome → Type 0 = CompareGives ComparisonOperator.Eq l in
-    after_both (After (Item tree) Equal) (After (Item other) Equal)
-    (GoesOn Quantifier.Any (ItemsGo Item l more)) (GoesOn Quantifier.Any (ItemsGo Item l others))
-    (after_both (Item tree) (Item other) Equal Equal same.0 (λ w. itself (Equal w)))
-    (λ w. goes_both Quantifier.Any (ItemsGo Item l more) (ItemsGo Item l others) w (items_go_same Item l more others same.1))
-items_go_same Item l _ _ same = absurd same
+    after_both (After (Item tree) Equal) (After (Also other) Equal)
+    (GoesOn Quantifier.Any (ItemsGo Item l more)) (GoesOn Quantifier.Any (ItemsGo Also l others))
+    (after_both (Item tree) (Also other) Equal Equal same.0 (λ w. itself (Equal w)))
+    (λ w. goes_both Quantifier.Any (ItemsGo Item l more) (ItemsGo Also l others) w (items_go_same Item Also l more others same.1))
+items_go_same Item Also l _ _ same = absurd same
 
-module _ (slots : Slots) (root : List ℕ) (now : MomentParts) (entity : Val) (environment : Environment) (l : Val) where
-  abbrev Item : Tree → Outcome → Type 0
-  Item = Means slots root now entity environment
+module _ (slots : Slots) (root : List ℕ) (now : MomentParts) (entity : Val) (environment : Environment) (Beside Other : ExprType → Type 0) (l : Val) where
+  abbrev Item : (ExprType → Type 0) → Tree → Outcome → Type 0
+  Item Left = ItemAlone slots root now entity environment Left
 
-  abbrev Given : Trees → Outcome → Type 0
-  Given trees = ItemsGive l (length (list_of_trees trees)) (ItemMeans slots root now entity environment trees)
+  abbrev Given : (ExprType → Type 0) → Trees → Outcome → Type 0
+  Given Left trees = ItemsGive l (length (list_of_trees trees)) (ItemMeans slots root now entity environment Left trees)
 
-  pub items_same : (trees others : Trees) → AllPaired (λ tree other. Both (Item tree) (Item other)) trees others → Both (Given trees) (Given others)
+  pub items_same : (trees others : Trees) → AllPaired (λ tree other. Both (Item Beside tree) (Item Other other)) trees others → Both (Given Beside trees) (Given Other others)
   items_same trees others same =
-      in_turn (Given trees) (ItemsGo Item l trees) (Given others) (items_both slots root now entity environment l trees)
-      (in_turn (ItemsGo Item l trees) (ItemsGo Item l others) (Given others) (items_go_same Item l trees others same)
-      (turned (Given others) (ItemsGo Item l others) (items_both slots root now entity environment l others)))
+      in_turn (Given Beside trees) (ItemsGo (Item Beside) l trees) (Given Other others) (items_both slots root now entity environment Beside l trees)
+      (in_turn (ItemsGo (Item Beside) l trees) (ItemsGo (Item Other) l others) (Given Other others) (items_go_same (Item Beside) (Item Other) l trees others same)
+      (turned (Given Other others) (ItemsGo (Item Other) l others) (items_both slots root now entity environment Other l others)))

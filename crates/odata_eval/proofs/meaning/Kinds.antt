@@ -11,7 +11,7 @@ use Rattle.odata_functions.specs.declared.comparison.ComparisonOperator.{Compari
 use Rattle.odata_signatures.specs.ComparableTypes.{AreAlikePrimitives, AreComparable, AreComparableSingles, AreComparedBy, AreOrdered, IsOrderedPrimitive, IsOrderedSingle}
 use Rattle.odata_signatures.specs.ExprTypes.{IsBooleanOrNull}
 use Rattle.odata_eval.specs.TruthGives.{truth_val}
-use Rattle.odata_eval.proofs.meaning.TypeValues.{IsOfKind, ValueKind, dates, guids, kind_of_primitive, member_kind, members, moments, null_value, primitive_kind, record_form, texts, truths, wholes}
+use Rattle.odata_eval.proofs.meaning.TypeValues.{IsOfKind, ValueKind, guids, kind_of_primitive, member_kind, members, null_value, primitive_kind, record_form, truths, wholes}
 
 pub number_kind : (p : PrimitiveType) → IsNumberType p → kind_of_primitive p ≡ wholes
 number_kind PrimitiveType.Byte is = refl

@@ -19,7 +19,10 @@ use Rattle.odata_functions.specs.declared.arithmetic.ArithmeticOperator.{Arithme
 use Rattle.odata_functions.specs.declared.comparison.ComparisonOperator.{ComparisonOperator}
 use Rattle.odata_signatures.specs.Functions.{IsNamed}
 use Rattle.odata_signatures.specs.declared.function.Function.{Function}
-use Rattle.odata_expression_types.specs.Laws.{OneLiteralValue, OneType}
+use Rattle.csdl_schema.specs.SchemaModel.{Slots}
+use Rattle.odata_signatures.specs.QuotedNumber.{IsQuotedNumber}
+use Rattle.odata_signatures.specs.Unread.{TextsApart}
+use Rattle.odata_expression_types.specs.Laws.{OneLiteralValue, OneType, QuotingIsText}
 
 -- what makes outcomes the only ones
 pub record OneEach : Type 0 where
@@ -33,6 +36,13 @@ pub record OneEach : Type 0 where
   pub trimmed : (text part other : List ℕ) → IsTrimmed text part → IsTrimmed text other → part ≡ other
   pub dates : (number y y' : ℤ) (m m' d d' : ℕ) → IsDateOf number y m d → IsDateOf number y' m' d' → (y ≡ y') × (m ≡ m') × (d ≡ d')
   pub names : (f g : Function) (text : List ℕ) → IsNamed f text → IsNamed g text → f ≡ g
+  pub numbers : (slots : Slots) (name spelling : List ℕ) (m n : ℤ) → IsQuotedNumber slots name spelling m → IsQuotedNumber slots name spelling n → m ≡ n
+
+-- what parts literals that are read from those that are not
+pub record ReadLaws : Type 0 where
+  pub types : OneType
+  pub quotes : QuotingIsText
+  pub apart : TextsApart
 
 -- what gives outcomes
 pub record SomeEach : Type 0 where
@@ -50,6 +60,7 @@ pub record SomeEach : Type 0 where
   pub moments : (text : List ℕ) (m : MomentParts) → MomentValue text m → IsMoment m.civil m.offset_minutes
   pub guids : (text bytes : List ℕ) → GuidValue text bytes → length bytes ≡ 16
   pub bits : (value flags : ℤ) → (answer : Bool) × (IsTrue answer ↔ HasBits value flags)
+  pub reads : ReadLaws
 
 -- where operands lie
 pub record Promotes : Type 0 where

@@ -1,7 +1,7 @@
 -- Filters on a collection with two members, with none, and on null.
-use Rattle.std.proofs.Common.{◌≡◌, ◌↔◌, ℕ, pos, List, [], ◌∷◌, Some, Ok, Err, true, false, refl, sym, subst, inl, inr, rules, lit<}
+use Rattle.std.proofs.Common.{ℕ, ℤ, pos, List, [], ◌∷◌, Some, Ok, Err, true, false, refl, sym, subst, inl, inr, rules, lit<}
 use Rattle.std.proofs.lemmas.Int.{fits_signed_from_abs}
-use Rattle.std.specs.Prelude.{IsTrue, codes, FitsSigned}
+use Rattle.std.specs.Prelude.{codes, FitsSigned}
 use Rattle.std.specs.Int.{w32, w64}
 use Rattle.std.specs.Str.Parse.{IsNumeral}
 use Rattle.edm_values.specs.IntLiteral.{IntValue}
@@ -13,14 +13,17 @@ use Rattle.odata_functions.specs.declared.arithmetic.ArithFault.{ArithFault}
 use Rattle.odata_functions.specs.declared.comparison.ComparisonOperator.{ComparisonOperator}
 use Rattle.odata_syntax.specs.Tree.{Shape, Tree, Trees, any_item, count, in_list, in_path, trees_of_list, node}
 use Rattle.odata_syntax.specs.declared.node.Quantifier.{Quantifier}
+use Rattle.odata_expression_types.specs.Reads.{ReadsNumber}
+use Rattle.odata_expression_types.specs.Typed.{Typed}
 use Rattle.odata_eval.specs.ComesToMembers.{ComesToOn, all_alike, is_alike, is_null, named, null_literal, one_div_zero, over_tags, tagged, tagged_slots, text_and_null}
 use Rattle.odata_eval.specs.CompareGives.{CompareGives}
 use Rattle.odata_eval.specs.Environment.{Environment, bound_over}
 use Rattle.odata_eval.specs.LeftFirst.{After}
 use Rattle.odata_eval.specs.Means.{Means}
-use Rattle.odata_eval.specs.OneByOne.{ItemsGo, MembersGo}
+use Rattle.odata_eval.specs.OneByOne.{ItemAlone, ItemsGo, MembersGo}
 use Rattle.odata_eval.specs.Outcome.{Outcome, gives, divides_by_zero}
 use Rattle.odata_eval.proofs.meaning.LawsBelow.{OneEach}
+use Rattle.odata_eval.proofs.meaning.NoEnumerations.{unread}
 use Rattle.odata_eval.proofs.meaning.OneByOne.{items_both, members_both}
 use Rattle.odata_eval.proofs.meaning.OneMeaning.{Means-one}
 
@@ -30,6 +33,10 @@ comes_to_on known tags shape outcome related = λ root now o. (
   λ of_o. Means-one known tagged_slots root now (tagged tags) [] (node 0 0 shape) o outcome of_o (related root now),
   λ same. subst (Means tagged_slots root now (tagged tags) [] (node 0 0 shape)) (sym same) (related root now),
 )
+
+-- nothing is read there
+free : (Beside : ExprType → Type 0) (tree : Tree) (n : ℤ) → ¬ ReadsNumber tagged_slots Beside tree n
+free = unread tagged_slots (λ name. refl)
 
 -- what a body comes to with a member for its variable
 abbrev Body : List ℕ → MomentParts → Val → Environment → List ℕ → Tree → Val → Outcome → Type 0
@@ -56,10 +63,10 @@ over_list known quantifier body values outcome go =
 -- ---- with `t eq null` for a body
 
 text_is_null : (root : List ℕ) (now : MomentParts) (tags : Val) → Body root now tags [] (codes "t") is_null (text (codes "a")) (gives (boolean false))
-text_is_null root now tags = (gives (text (codes "a")), (refl, (gives null, (tt, (tt, (λ no. cc, λ no. absurd no))))))
+text_is_null root now tags = inr (free _ _, inr (free _ _, (gives (text (codes "a")), (refl, (gives null, (tt, (tt, (λ no. cc, λ no. absurd no))))))))
 
 null_is_null : (root : List ℕ) (now : MomentParts) (tags : Val) → Body root now tags [] (codes "t") is_null null (gives (boolean true))
-null_is_null root now tags = (gives null, (refl, (gives null, (tt, (tt, (λ is. tt, λ is. refl))))))
+null_is_null root now tags = inr (free _ _, inr (free _ _, (gives null, (refl, (gives null, (tt, (tt, (λ is. tt, λ is. refl))))))))
 
 -- the second member decides `any`, the first one `all`
 pub some_null : OneEach → ComesToOn text_and_null (over_tags Quantifier.Any is_null) (gives (boolean true))
@@ -119,46 +126,57 @@ none = (inr (inr (numeral_zero, refl)), fits_zero)
 
 divides : (root : List ℕ) (now : MomentParts) (tags : Val) (environment : Environment) → Means tagged_slots root now (tagged tags) environment one_div_zero divides_by_zero
 divides root now tags environment =
-    let int32 : ExprType = single (primitive PrimitiveType.Int32) in (
-      gives (whole (pos 1)),
-      (
-        one,
+    let int32 : ExprType = single (primitive PrimitiveType.Int32) in
+    inr (
+      free _ _,
+      inr (
+        free _ _,
         (
-          gives (whole (pos 0)),
+          gives (whole (pos 1)),
           (
-            none,
+            one,
             (
-              int32,
-              record {
-                left = int32;
-                right = int32;
-                left_typed = (pos 1, one, (PrimitiveType.Int32, inl (small_one, refl), refl));
-                right_typed = (pos 0, none, (PrimitiveType.Int32, inl (small_zero, refl), refl));
-                makes = record {
-                  left_number = Some PrimitiveType.Int32;
-                  right_number = Some PrimitiveType.Int32;
-                  left_is = (tt, refl);
-                  right_is = (tt, refl);
-                  type_is = refl;
-                };
-              },
-              (Err ArithFault.DivideByZero, (tt, refl), refl),
+              gives (whole (pos 0)),
+              (
+                none,
+                (
+                  int32,
+                  record {
+                    left = int32;
+                    right = int32;
+                    left_typed = (pos 1, one, (PrimitiveType.Int32, inl (small_one, refl), refl));
+                    right_typed = (pos 0, none, (PrimitiveType.Int32, inl (small_zero, refl), refl));
+                    makes = inl (record {
+                      left_number = Some PrimitiveType.Int32;
+                      right_number = Some PrimitiveType.Int32;
+                      left_is = (tt, refl);
+                      right_is = (tt, refl);
+                      type_is = refl;
+                    });
+                  },
+                  (Err ArithFault.DivideByZero, (tt, refl), refl),
+                ),
+              ),
             ),
           ),
         ),
       ),
     )
 
+-- an item beside null
+abbrev Alone : List ℕ → MomentParts → Val → Tree → Outcome → Type 0
+Alone root now tags = ItemAlone tagged_slots root now (tagged tags) [] (Typed tagged_slots root [] null_literal)
+
 -- whether null is among these
 among : OneEach → (tags : Val) (trees : Trees) (outcome : Outcome)
-    → ((root : List ℕ) (now : MomentParts) → ItemsGo (Means tagged_slots root now (tagged tags) []) null trees outcome)
+    → ((root : List ℕ) (now : MomentParts) → ItemsGo (Alone root now tags) null trees outcome)
     → ComesToOn tags (in_list null_literal trees) outcome
 among known tags trees outcome go =
     comes_to_on known tags (in_list null_literal trees) outcome (λ root now.
-    (gives null, (tt, (items_both tagged_slots root now (tagged tags) [] null trees outcome).1 (go root now))))
+    (gives null, (tt, (items_both tagged_slots root now (tagged tags) [] (Typed tagged_slots root [] null_literal) null trees outcome).1 (go root now))))
 
-null_equals : (root : List ℕ) (now : MomentParts) (tags : Val) → After (Means tagged_slots root now (tagged tags) [] null_literal) (CompareGives ComparisonOperator.Eq null) (gives (boolean true))
-null_equals root now tags = (gives null, (tt, (tt, (λ is. tt, λ is. refl))))
+null_equals : (root : List ℕ) (now : MomentParts) (tags : Val) → After (Alone root now tags null_literal) (CompareGives ComparisonOperator.Eq null) (gives (boolean true))
+null_equals root now tags = (gives null, (inr (free (Typed tagged_slots root [] null_literal) null_literal, tt), (tt, (λ is. tt, λ is. refl))))
 
 pub fault_behind : OneEach → (tags : Val) → ComesToOn tags (in_list null_literal (trees_of_list (null_literal ∷ one_div_zero ∷ []))) (gives (boolean true))
 fault_behind known tags =
@@ -167,7 +185,7 @@ fault_behind known tags =
 pub fault_before : OneEach → (tags : Val) → ComesToOn tags (in_list null_literal (trees_of_list (one_div_zero ∷ null_literal ∷ []))) divides_by_zero
 fault_before known tags =
     among known tags (trees_of_list (one_div_zero ∷ null_literal ∷ [])) divides_by_zero (λ root now.
-    (divides_by_zero, ((divides_by_zero, (divides root now tags [], refl)), refl)))
+    (divides_by_zero, ((divides_by_zero, (inr (free (Typed tagged_slots root [] null_literal) one_div_zero, divides root now tags []), refl)), refl)))
 
 -- ---- a variable within another one
 
@@ -194,15 +212,15 @@ within_text root now =
     within root now (text (codes "a")) (
       gives (boolean true),
       (
-        (gives (text (codes "a")), (refl, (gives (text (codes "a")), (refl, (tt, (λ is. refl, λ is. refl)))))),
-        (gives (boolean false), ((gives null, (refl, (gives (text (codes "a")), (refl, (tt, (λ no. cc, λ no. absurd no)))))), refl)),
+        inr (free _ _, inr (free _ _, (gives (text (codes "a")), (refl, (gives (text (codes "a")), (refl, (tt, (λ is. refl, λ is. refl)))))))),
+        (gives (boolean false), (inr (free _ _, inr (free _ _, (gives null, (refl, (gives (text (codes "a")), (refl, (tt, (λ no. cc, λ no. absurd no)))))))), refl)),
       ),
     )
 
 within_null : (root : List ℕ) (now : MomentParts) → Body root now text_and_null [] (codes "t") all_alike null (gives (boolean false))
 within_null root now =
     within root now null
-    (gives (boolean false), ((gives (text (codes "a")), (refl, (gives null, (refl, (tt, (λ no. cc, λ no. absurd no)))))), refl))
+    (gives (boolean false), (inr (free _ _, inr (free _ _, (gives (text (codes "a")), (refl, (gives null, (refl, (tt, (λ no. cc, λ no. absurd no)))))))), refl))
 
 pub outer_variable : OneEach → ComesToOn text_and_null (over_tags Quantifier.Any all_alike) (gives (boolean false))
 outer_variable known = over_list known Quantifier.Any all_alike (item (text (codes "a")) (item null no_items)) (gives (boolean false)) (λ root now.

@@ -1,21 +1,23 @@
 -- Members and items taken one by one come to what their places say.
-use Rattle.std.proofs.Common.{◌≡◌, ◌⊎◌, ◌<◌, ℕ, zero, suc, List, length, true, false, refl, inl, inr, arith}
+use Rattle.std.proofs.Common.{◌≡◌, ◌⊎◌, ◌<◌, ℕ, zero, suc, List, length, true, false, inl, inr, arith}
 use Rattle.edm_values.specs.MomentParts.{MomentParts}
 use Rattle.edm_values.specs.Val.{Val, null, boolean, Vals, no_items, item}
+use Rattle.csdl_schema.specs.ExprType.{ExprType}
 use Rattle.csdl_schema.specs.SchemaModel.{Slots}
 use Rattle.odata_functions.specs.declared.comparison.ComparisonOperator.{ComparisonOperator}
 use Rattle.odata_syntax.specs.Spans.{list_of_trees}
-use Rattle.odata_syntax.specs.Tree.{Tree, Trees, no_trees, more_trees}
+use Rattle.odata_syntax.specs.Tree.{Trees, no_trees, more_trees}
 use Rattle.odata_syntax.specs.declared.node.Quantifier.{Quantifier}
+use Rattle.odata_expression_types.specs.Typed.{Typed}
 use Rattle.odata_eval.specs.CollectionGives.{members_of}
 use Rattle.odata_eval.specs.CompareGives.{CompareGives}
-use Rattle.odata_eval.specs.Environment.{Environment, bound_over}
+use Rattle.odata_eval.specs.Environment.{Environment, bound_over, scope_of}
 use Rattle.odata_eval.specs.LambdaGives.{ItemsGive, MemberGives, MembersGive}
 use Rattle.odata_eval.specs.LeftFirst.{After}
 use Rattle.odata_eval.specs.Means.{ItemMeans, Means}
-use Rattle.odata_eval.specs.OneByOne.{ComparedOneByOne, GoesOn, ItemsGo, ItemsOneByOne, MembersGo, MembersOneByOne}
+use Rattle.odata_eval.specs.OneByOne.{ComparedOneByOne, GoesOn, ItemsGo, ItemsOneByOne, MembersGo, MembersOneByOne, ItemAlone}
 use Rattle.odata_eval.specs.Outcome.{Outcome, gives, overflow, divides_by_zero}
-use Rattle.odata_eval.specs.QuantifierGives.{DecidesAtPlace, DecisionGives, IsUndecided, Passes, PassesAll, QuantifierGives, undecided_val}
+use Rattle.odata_eval.specs.QuantifierGives.{DecisionGives, IsUndecided, Passes, QuantifierGives, undecided_val}
 use Rattle.odata_eval.proofs.meaning.SameGives.{Both, Goes, after_both, after_goes, back, both, in_turn, itself, there}
 
 -- ---- one value of the body
@@ -134,22 +136,22 @@ members_both quantifier Body (item v more) =
     (after_both (Body v) (Body v) (GoesOn quantifier (MembersGive quantifier Body more)) (GoesOn quantifier (MembersGo quantifier Body more)) (itself (Body v))
     (λ w. goes_both quantifier (MembersGive quantifier Body more) (MembersGo quantifier Body more) w (members_both quantifier Body more)))
 
-module _ (slots : Slots) (root : List ℕ) (now : MomentParts) (entity : Val) (environment : Environment) (l : Val) where
+module _ (slots : Slots) (root : List ℕ) (now : MomentParts) (entity : Val) (environment : Environment) (Beside : ExprType → Type 0) (l : Val) where
   abbrev Equal : (Outcome → Type 0) → Outcome → Type 0
   Equal Item = After Item (CompareGives ComparisonOperator.Eq l)
 
   abbrev Given : Trees → Outcome → Type 0
-  Given items = ItemsGive l (length (list_of_trees items)) (ItemMeans slots root now entity environment items)
+  Given items = ItemsGive l (length (list_of_trees items)) (ItemMeans slots root now entity environment Beside items)
 
   abbrev Taken : Trees → Outcome → Type 0
-  Taken items = ItemsGo (Means slots root now entity environment) l items
+  Taken items = ItemsGo (ItemAlone slots root now entity environment Beside) l items
 
   pub items_both : (items : Trees) → Both (Given items) (Taken items)
-  items_both no_trees = none_both Quantifier.Any (λ place. Equal (ItemMeans slots root now entity environment no_trees place)) (λ k o is. is.1.0)
+  items_both no_trees = none_both Quantifier.Any (λ place. Equal (ItemMeans slots root now entity environment Beside no_trees place)) (λ k o is. is.1.0)
   items_both (more_trees tree more) =
-      let Item : Outcome → Type 0 = Equal (Means slots root now entity environment tree) in
+      let Item : Outcome → Type 0 = Equal (ItemAlone slots root now entity environment Beside tree) in
       in_turn (Given (more_trees tree more)) (After Item (GoesOn Quantifier.Any (Given more))) (Taken (more_trees tree more))
-      (first_both Quantifier.Any (length (list_of_trees more)) (λ place. Equal (ItemMeans slots root now entity environment (more_trees tree more) place)))
+      (first_both Quantifier.Any (length (list_of_trees more)) (λ place. Equal (ItemMeans slots root now entity environment Beside (more_trees tree more) place)))
       (after_both Item Item (GoesOn Quantifier.Any (Given more)) (GoesOn Quantifier.Any (Taken more)) (itself Item)
       (λ w. goes_both Quantifier.Any (Given more) (Taken more) w (items_both more)))
 
@@ -161,4 +163,4 @@ pub compared_one_by_one : ComparedOneByOne
 compared_one_by_one l values = members_both Quantifier.Any (CompareGives ComparisonOperator.Eq l) values
 
 pub items_one_by_one : ItemsOneByOne
-items_one_by_one slots root now entity environment l items = items_both slots root now entity environment l items
+items_one_by_one slots root now entity environment left l items = items_both slots root now entity environment (Typed slots root (scope_of environment) left) l items

@@ -1,6 +1,6 @@
 -- A tree that has a type has an outcome: a value of that type, or a fault.
-use Rattle.std.proofs.Common.{◌≡◌, ◌⊎◌, ◌∙◌, refl, sym, ap, subst, inl, inr, ℕ, List, [], ◌∷◌, length, ℤ, Bool, true, false, Option, Some, None, Result, Ok, Err, cond, nat_eq}
-use Rattle.std.specs.Prelude.{find, MatchOption, IsSomeAnd, FitsSigned}
+use Rattle.std.proofs.Common.{◌≡◌, ◌⊎◌, refl, sym, subst, inl, inr, ℕ, List, [], ◌∷◌, length, ℤ, Bool, true, false, Option, Some, None, Result, Ok, Err, cond, nat_eq}
+use Rattle.std.specs.Prelude.{find, MatchOption, FitsSigned}
 use Rattle.std.specs.Int.{w64}
 use Rattle.std.specs.List.{AllByRecursion}
 use Rattle.std.specs.Option.{option_map}
@@ -8,29 +8,32 @@ use Rattle.std.specs.Cmp.Lexicographic.{pointwise}
 use Rattle.edm_values.specs.MomentParts.{IsMoment, MomentParts}
 use Rattle.edm_values.specs.IntLiteral.{IntValue}
 use Rattle.edm_values.specs.NumberTypes.{IsIntLiteralType, IsNumberOf}
-use Rattle.edm_values.specs.Val.{Val, null, boolean, whole, date, moment, guid, member, text, fields, FieldVal, absent, present}
+use Rattle.edm_values.specs.Val.{Val, null, boolean, whole, date, moment, guid, member, text, fields, FieldVal, present}
 use Rattle.edm_values.specs.declared.primitive.PrimitiveType.{PrimitiveType}
 use Rattle.odata_syntax.specs.Spans.{list_of_trees}
 use Rattle.odata_syntax.specs.Tree.{Tree, node, literal, it, name, count, negation, logical_not, binary, in_list, in_path, call, any_item, lambda, Trees, no_trees, more_trees}
 use Rattle.odata_syntax.specs.Tree as tree
+use Rattle.odata_syntax.specs.declared.node.BinaryOperator.{BinaryOperator}
 use Rattle.odata_syntax.specs.declared.node.LiteralKind.{LiteralKind}
 use Rattle.csdl_schema.specs.ExprType.{ExprType, single, collection, primitive, enumeration, structured}
-use Rattle.csdl_schema.specs.SchemaModel.{Slots, PropertyModel, declared}
+use Rattle.csdl_schema.specs.SchemaModel.{Slots}
 use Rattle.edm_entities.specs.HasType.{HasType}
-use Rattle.odata_functions.specs.Arithmetic.{ArithmeticGives, ComesWithin}
+use Rattle.odata_functions.specs.Arithmetic.{ArithmeticGives}
 use Rattle.odata_functions.specs.Connectives.{not3}
 use Rattle.odata_functions.specs.declared.arithmetic.ArithFault.{ArithFault}
 use Rattle.odata_functions.specs.declared.arithmetic.ArithFault.TheVariants.{Overflow, DivideByZero}
 use Rattle.odata_functions.specs.declared.arithmetic.ArithmeticOperator.{ArithmeticOperator}
-use Rattle.odata_functions.specs.declared.comparison.ComparisonOperator.{ComparisonOperator}
 use Rattle.odata_signatures.specs.declared.operator_class.Connective.{Connective}
 use Rattle.odata_signatures.specs.declared.operator_class.OperatorClass.{OperatorClass}
+use Rattle.odata_signatures.specs.CollectionTyped.{IsItemBeside}
 use Rattle.odata_signatures.specs.ExprTypes.{boolean_type, string_type}
 use Rattle.odata_expression_types.specs.LiteralValue.{LiteralTyped, IntTyped}
+use Rattle.odata_signatures.specs.HasTyped.{HasTyped}
 use Rattle.odata_signatures.specs.OperatorClass.{class_of}
 use Rattle.odata_signatures.specs.OperatorTyped.{ClassTyped, NegationTyped, NotTyped, OperatorTyped}
-use Rattle.odata_expression_types.specs.Sides.{Between}
-use Rattle.odata_expression_types.specs.Typed.{AreTyped, OperandTyped, OperandsTyped, Typed, PropertyTyped, StepTyped, variable_type, property_named}
+use Rattle.odata_expression_types.specs.Reads.{ReadsNumber}
+use Rattle.odata_expression_types.specs.Sides.{Between, quoted_text, side_of, sides_of}
+use Rattle.odata_expression_types.specs.Typed.{AreTyped, OperandTyped, OperandsTyped, Scope, Typed, PropertyTyped, StepTyped, variable_type}
 use Rattle.odata_eval.specs.CalculationGives.{CalculationGives, NegatedGives, number_outcome}
 use Rattle.odata_eval.specs.CallGives.{CallGives}
 use Rattle.odata_eval.specs.CollectionGives.{AnyItemGives, CountGives}
@@ -41,23 +44,25 @@ use Rattle.odata_eval.specs.HasGives.{HasGives}
 use Rattle.odata_eval.specs.LambdaGives.{InGives, ItemsGive, LambdaGives}
 use Rattle.odata_eval.specs.LeftFirst.{After}
 use Rattle.odata_eval.specs.LiteralGives.{LiteralGives}
-use Rattle.odata_eval.specs.Means.{ArgumentsMean, ItemMeans, Means}
+use Rattle.odata_eval.specs.Means.{ArgumentsMean, BinaryGives, ItemMeans, Means}
 use Rattle.odata_eval.specs.NameGives.{FoundGives, StepGives, FieldGives}
-use Rattle.odata_eval.specs.OperatorGives.{ClassGives, InType}
+use Rattle.odata_eval.specs.OneByOne.{ItemAlone}
+use Rattle.odata_eval.specs.OperatorGives.{ClassGives, InType, OperatorGives, SidesGive}
 use Rattle.odata_eval.specs.Outcome.{Outcome, gives}
+use Rattle.odata_eval.specs.ReadGives.{GivesMember, UnlessRead}
 use Rattle.odata_eval.specs.TruthGives.{ConnectiveGives, JoinGives, NotGives, joined, truth_val}
 use Rattle.odata_eval.specs.private.Operands.{AreNumbers, IsOneNumber}
 use Rattle.odata_eval.specs.private.WalkClass.{IsDecided}
-use Rattle.odata_eval.proofs.meaning.AllTrees.{AllTyped}
+use Rattle.odata_eval.proofs.meaning.AllTrees.{AllTrees, AllTyped}
 use Rattle.odata_eval.proofs.meaning.CallEnds.{HaveTypes, call_ends}
 use Rattle.odata_eval.proofs.meaning.CompareEnds.{compare_ends}
 use Rattle.odata_eval.proofs.meaning.Ends.{Ends, after_ends, typed_value}
-use Rattle.odata_eval.proofs.meaning.FormsEnd.{any_item_ends, count_ends, has_ends, in_list_ends, in_path_ends, lambda_ends}
+use Rattle.odata_eval.proofs.meaning.FormsEnd.{ItemEnds, any_item_ends, count_ends, has_ends, in_list_ends, in_path_ends, lambda_ends}
 use Rattle.odata_eval.proofs.meaning.Kinds.{IsTruth, truth_of}
 use Rattle.odata_eval.proofs.meaning.LawsBelow.{Promotes, SomeEach}
 use Rattle.odata_eval.proofs.meaning.NumberComes.{number_typed}
 use Rattle.odata_eval.proofs.meaning.Numbers.{calculated_values, negated_value}
-use Rattle.odata_eval.proofs.meaning.Sides.{item_types}
+use Rattle.odata_eval.proofs.meaning.Reads.{equality_typed, flags_apart, left_unread, number_comparable, number_flags, other_unread, read_has, right_apart, right_unread}
 use Rattle.odata_eval.proofs.meaning.TypeValues.{date_has, guid_has, held_present, member_has, moment_has, null_has, number_has, record_form, text_has, truth_has}
 
 int_has : (slots : Slots) (n : ℤ) (p : PrimitiveType) → FitsSigned w64 n → IsIntLiteralType n p → HasType slots (single (primitive p)) (whole n)
@@ -225,6 +230,119 @@ class_ends some promotes slots (OperatorClass.Arithmetic arithmetic) NodeTyped l
     (λ r of_r. in_type slots NodeTyped (λ t. CalculationGives arithmetic t l r) type is
     (calculation_ends some slots arithmetic type l r (calculated_values promotes slots left right type l r typed of_l of_r)))
 
+-- ---- sides that may be read
+
+sides_end : (some : SomeEach) (promotes : Promotes) (slots : Slots) (operator : BinaryOperator) (NodeTyped : ExprType → Type 0) (left right type : ExprType) (Left Right : Outcome → Type 0)
+    → ClassTyped (class_of operator) left right type → NodeTyped type → Ends slots left Left → Ends slots right Right → Ends slots type (SidesGive operator NodeTyped Left Right)
+sides_end some promotes slots operator NodeTyped left right type Left Right makes typed of_left of_right =
+    after_ends slots slots left type Left (λ l. OperatorGives operator NodeTyped l Right) of_left
+    (λ l of_l. class_ends some promotes slots (class_of operator) NodeTyped left right type l Right makes typed of_l of_right)
+
+binary_ends : (some : SomeEach) (promotes : Promotes) (slots : Slots) (root : List ℕ) (scope : Scope) (operator : BinaryOperator) (left right : Tree) (Left Right : Outcome → Type 0) (type : ExprType)
+    → (typed : OperandsTyped (Typed slots root scope left) (Typed slots root scope right) (Between (OperatorTyped slots operator) left right) type)
+    → Ends slots typed.left Left → Ends slots typed.right Right
+    → Ends slots type (BinaryGives slots operator (Typed slots root scope left) (Typed slots root scope right) left right Left Right)
+binary_ends some promotes slots root scope operator left right Left Right type typed of_left of_right = elim typed.makes [
+  | inl plain ↦
+      let N : ExprType → Type 0 = OperandsTyped (Typed slots root scope left) (Typed slots root scope right) (Between (OperatorTyped slots operator) left right) in
+      let ends = sides_end some promotes slots operator N typed.left typed.right type Left Right plain typed of_left of_right in (
+        ends.0,
+        (
+          inr (
+            right_unread some.reads slots root scope operator left right typed.left typed.right type typed.left_typed typed.right_typed plain,
+            inr (left_unread some.reads slots root scope operator left right typed.left typed.right type typed.left_typed typed.right_typed plain, ends.1.0),
+          ),
+          ends.1.1,
+        ),
+      )
+  | inr read ↦ elim read.0.1 [
+    | inl number ↦
+        let N : ExprType → Type 0 = OperandsTyped (Typed slots root scope left) (Typed slots root scope right) (Between (OperatorTyped slots operator) left right) in
+        let quoted = quoted_text right in
+        let makes = equality_typed operator typed.left typed.left type read.0.0 (number_comparable slots typed.left quoted number.0 number.1) read.1 in
+        let ends = sides_end some promotes slots operator N typed.left typed.left type Left (GivesMember number.0) makes typed of_left
+        (gives (member number.0), (refl, read_has slots typed.left quoted number.0 number.1)) in
+        (ends.0, (inl (number.0, record { type_of = typed.left; beside = (read.0.0, typed.left_typed); number = number.1 }, ends.1.0), ends.1.1))
+    | inr number ↦
+        let N : ExprType → Type 0 = OperandsTyped (Typed slots root scope left) (Typed slots root scope right) (Between (OperatorTyped slots operator) left right) in
+        let quoted = quoted_text left in
+        let makes = equality_typed operator typed.right typed.right type read.0.0 (number_comparable slots typed.right quoted number.0 number.1) read.1 in
+        let ends = sides_end some promotes slots operator N typed.right typed.right type (GivesMember number.0) Right makes typed
+        (gives (member number.0), (refl, read_has slots typed.right quoted number.0 number.1)) of_right in (
+          ends.0,
+          (
+            inr (
+              other_unread some.reads slots root scope operator left right typed.left typed.right number.0 typed.left_typed typed.right_typed number.1,
+              inl (number.0, record { type_of = typed.right; beside = (read.0.0, typed.right_typed); number = number.1 }, ends.1.0),
+            ),
+            ends.1.1,
+          ),
+        )
+  ]
+]
+
+flags_ends : (some : SomeEach) (slots : Slots) (root : List ℕ) (scope : Scope) (left right : Tree) (Left Right : Outcome → Type 0) (type : ExprType)
+    → (typed : OperandsTyped (Typed slots root scope left) (Typed slots root scope right) (Between (HasTyped slots) left right) type)
+    → Ends slots typed.left Left → Ends slots typed.right Right
+    → Ends slots type (UnlessRead (ReadsNumber slots (Typed slots root scope left) right) (λ n. After Left (λ l. HasGives l (member n))) (After Left (λ l. After Right (HasGives l))))
+flags_ends some slots root scope left right Left Right type typed of_left of_right = elim typed.makes.0 [
+  | inl flags ↦
+      let ends = after_ends slots slots typed.left type Left (λ l. After Right (HasGives l)) of_left
+      (λ l of_l. after_ends slots slots typed.right type Right (HasGives l) of_right
+      (λ r of_r. has_ends some slots typed.left typed.right type l r (flags, typed.makes.1) of_l of_r)) in (
+        ends.0,
+        (
+          inr ((λ n reads. flags_apart some.reads slots root scope left right typed.left typed.right n typed.left_typed typed.right_typed reads flags), ends.1.0),
+          ends.1.1,
+        ),
+      )
+  | inr number ↦
+      let quoted = quoted_text right in
+      let ends = after_ends slots slots typed.left type Left (λ l. HasGives l (member number.0)) of_left
+      (λ l of_l. has_ends some slots typed.left typed.left type l (member number.0) (number_flags slots typed.left quoted number.0 number.1, typed.makes.1) of_l
+      (read_has slots typed.left quoted number.0 number.1)) in
+      (ends.0, (inl (number.0, record { type_of = typed.left; beside = typed.left_typed; number = number.1 }, ends.1.0), ends.1.1))
+]
+
+-- each item beside the operand on the left
+item_ends : (some : SomeEach) (slots : Slots) (root : List ℕ) (now : MomentParts) (entity : Val) (environment : Environment) (left : Tree) (s : ExprType) (item : Tree) (t : ExprType)
+    → Typed slots root (scope_of environment) left s → Typed slots root (scope_of environment) item t → IsItemBeside slots s (side_of item t)
+    → Ends slots t (Means slots root now entity environment item)
+    → ItemEnds slots s (ItemAlone slots root now entity environment (Typed slots root (scope_of environment) left) item)
+item_ends some slots root now entity environment left s item t of_left of_item (inl comparable) ends = (
+  t,
+  comparable,
+  (
+    ends.0,
+    (
+      inr ((λ n reads. right_apart some.reads slots root (scope_of environment) left item s t n of_left of_item reads comparable), ends.1.0),
+      ends.1.1,
+    ),
+  ),
+)
+item_ends some slots root now entity environment left s item t of_left of_item (inr number) ends = (
+  s,
+  number_comparable slots s (quoted_text item) number.0 number.1,
+  (
+    gives (member number.0),
+    (
+      inl (number.0, record { type_of = s; beside = of_left; number = number.1 }, refl),
+      read_has slots s (quoted_text item) number.0 number.1,
+    ),
+  ),
+)
+
+items_end : (some : SomeEach) (slots : Slots) (root : List ℕ) (now : MomentParts) (entity : Val) (environment : Environment) (left : Tree) (s : ExprType) → Typed slots root (scope_of environment) left s
+    → (items : Trees) (types : List ExprType) → AreTyped slots root (scope_of environment) items types → AllByRecursion (IsItemBeside slots s) (sides_of items types)
+    → AllTyped (λ tree t. Ends slots t (Means slots root now entity environment tree)) items types
+    → AllTrees (λ tree. ItemEnds slots s (ItemAlone slots root now entity environment (Typed slots root (scope_of environment) left) tree)) items
+items_end some slots root now entity environment left s of_left no_trees types typed are all = tt
+items_end some slots root now entity environment left s of_left (more_trees item more) [] typed are all = absurd typed
+items_end some slots root now entity environment left s of_left (more_trees item more) (t ∷ types) typed are all = (
+  item_ends some slots root now entity environment left s item t of_left typed.0 are.0 all.0,
+  items_end some slots root now entity environment left s of_left more types typed.1 are.1 all.1,
+)
+
 -- behind arguments that have outcomes
 behind_arguments : (slots : Slots) (root : List ℕ) (now : MomentParts) (entity : Val) (environment : Environment) (arguments : Trees) (types : List ExprType) (type : ExprType)
     (Goes : List Val → Outcome → Type 0) → AllTyped (λ tree t. Ends slots t (Means slots root now entity environment tree)) arguments types
@@ -262,26 +380,18 @@ module _ (some : SomeEach) (promotes : Promotes) (slots : Slots) (root : List �
         after_ends slots slots typed.operand type (Means slots root now entity environment operand) NotGives
         (tree_ends environment fitting operand typed.operand typed.operand_typed) (λ v has. not_ends slots typed.operand type v typed.makes has)
     tree_ends environment fitting (node start stop (binary operator left right)) type typed =
-        let NodeTyped : ExprType → Type 0 =
-        OperandsTyped (Typed slots root (scope_of environment) left) (Typed slots root (scope_of environment) right) (Between (OperatorTyped operator) left right) in
-        after_ends slots slots typed.left type (Means slots root now entity environment left)
-        (λ l. ClassGives (class_of operator) NodeTyped l (Means slots root now entity environment right))
-        (tree_ends environment fitting left typed.left typed.left_typed)
-        (λ l of_l. class_ends some promotes slots (class_of operator) NodeTyped typed.left typed.right type l (Means slots root now entity environment right)
-        typed.makes typed of_l (tree_ends environment fitting right typed.right typed.right_typed))
+        binary_ends some promotes slots root (scope_of environment) operator left right (Means slots root now entity environment left) (Means slots root now entity environment right)
+        type typed (tree_ends environment fitting left typed.left typed.left_typed) (tree_ends environment fitting right typed.right typed.right_typed)
     tree_ends environment fitting (node start stop (tree.has left right)) type typed =
-        after_ends slots slots typed.left type (Means slots root now entity environment left) (λ l. After (Means slots root now entity environment right) (HasGives l))
-        (tree_ends environment fitting left typed.left typed.left_typed)
-        (λ l of_l. after_ends slots slots typed.right type (Means slots root now entity environment right) (HasGives l)
-        (tree_ends environment fitting right typed.right typed.right_typed)
-        (λ r of_r. has_ends some slots typed.left typed.right type l r typed.makes of_l of_r))
+        flags_ends some slots root (scope_of environment) left right (Means slots root now entity environment left) (Means slots root now entity environment right)
+        type typed (tree_ends environment fitting left typed.left typed.left_typed) (tree_ends environment fitting right typed.right typed.right_typed)
     tree_ends environment fitting (node start stop (in_list left items)) type typed =
         after_ends slots slots typed.left type (Means slots root now entity environment left)
-        (λ l. ItemsGive l (length (list_of_trees items)) (ItemMeans slots root now entity environment items))
+        (λ l. ItemsGive l (length (list_of_trees items)) (ItemMeans slots root now entity environment (Typed slots root (scope_of environment) left) items))
         (tree_ends environment fitting left typed.left typed.left_typed)
-        (λ l of_l. in_list_ends some slots root now entity environment typed.left l items typed.items type
-        (item_types slots root (scope_of environment) left items typed.left typed.items type typed.items_typed typed.makes) of_l
-        (trees_end environment fitting items typed.items typed.items_typed))
+        (λ l of_l. in_list_ends some slots root now entity environment (Typed slots root (scope_of environment) left) typed.left l items type typed.makes.2 of_l
+        (items_end some slots root now entity environment left typed.left typed.left_typed items typed.items typed.items_typed typed.makes.1
+        (trees_end environment fitting items typed.items typed.items_typed)))
     tree_ends environment fitting (node start stop (in_path left path)) type typed =
         after_ends slots slots typed.left type (Means slots root now entity environment left) (λ l. After (Means slots root now entity environment path) (InGives l))
         (tree_ends environment fitting left typed.left typed.left_typed)

@@ -1,6 +1,7 @@
 -- A tree, its normal form and the tree of its printed text have the same outcomes.
-use Rattle.std.proofs.Common.{◌≡◌, ◌↔◌, ℕ, List, ◌∷◌, length, sym, subst}
+use Rattle.std.proofs.Common.{◌≡◌, ◌↔◌, ℕ, List, ◌∷◌, Option, length, sym, subst}
 use Rattle.edm_values.specs.MomentParts.{MomentParts}
+use Rattle.edm_values.specs.Val as val
 use Rattle.edm_values.specs.Val.{Val}
 use Rattle.csdl_schema.specs.ExprType.{ExprType}
 use Rattle.csdl_schema.specs.SchemaModel.{Slots}
@@ -19,9 +20,10 @@ use Rattle.odata_syntax.specs.declared.node.BinaryOperator.{BinaryOperator}
 use Rattle.odata_syntax.specs.declared.node.LiteralKind.{LiteralKind}
 use Rattle.odata_syntax.specs.declared.node.Quantifier.{Quantifier}
 use Rattle.odata_expression_types.specs.LiteralValue.{LiteralValue}
-use Rattle.odata_signatures.specs.OperatorClass.{class_of}
 use Rattle.odata_signatures.specs.OperatorTyped.{NegationTyped, OperatorTyped}
-use Rattle.odata_expression_types.specs.Sides.{Between}
+use Rattle.odata_signatures.specs.Side.{Side, quoting}
+use Rattle.odata_expression_types.specs.Reads.{OfEquality, ReadsNumber}
+use Rattle.odata_expression_types.specs.Sides.{Between, quoted_text}
 use Rattle.odata_expression_types.specs.Typed.{OperandTyped, OperandsTyped, Scope, Typed}
 use Rattle.odata_eval.specs.CalculationGives.{NegatedGives}
 use Rattle.odata_eval.specs.CallGives.{CallGives}
@@ -32,13 +34,15 @@ use Rattle.odata_eval.specs.LambdaGives.{InGives, ItemsGive, LambdaGives}
 use Rattle.odata_eval.specs.LeftFirst.{After}
 use Rattle.odata_eval.specs.Means.{ArgumentsMean, ItemMeans, Means, ShapeMeans}
 use Rattle.odata_eval.specs.NameGives.{StepGives}
-use Rattle.odata_eval.specs.OperatorGives.{InType, OperatorGives}
+use Rattle.odata_eval.specs.OneByOne.{ItemAlone}
+use Rattle.odata_eval.specs.OperatorGives.{InType, SidesGive}
 use Rattle.odata_eval.specs.Outcome.{Outcome}
+use Rattle.odata_eval.specs.ReadGives.{GivesMember, UnlessRead}
 use Rattle.odata_eval.specs.SameMeaning.{HaveOneMeaning, NormalFormsKeepOutcomes, CanonicalTextsKeepOutcomes}
 use Rattle.odata_eval.specs.TruthGives.{NotGives}
 use Rattle.odata_eval.proofs.meaning.AllTrees.{AllPaired}
 use Rattle.odata_eval.proofs.meaning.FormsSame.{items_same, lambda_both}
-use Rattle.odata_eval.proofs.meaning.SameGives.{Both, BothTyped, after_both, class_both, in_turn, in_type_both, itself, operand_both, operands_both, some_both, turned}
+use Rattle.odata_eval.proofs.meaning.SameGives.{Both, BothTyped, after_both, equality_both, in_turn, in_type_both, itself, operand_both, operands_both, reads_both, sides_both, some_both, turned, unless_both}
 
 -- what normal forms and places leave as it is
 pub record KeptForms : Type 0 where
@@ -48,6 +52,19 @@ pub record KeptForms : Type 0 where
       → Typed slots root scope tree type ↔ Typed slots root scope normal type
   pub places : (slots : Slots) (root : List ℕ) (scope : Scope) (tree : Tree) (type : ExprType)
       → Typed slots root scope tree type ↔ Typed slots root scope (bare tree) type
+  pub quotes : (tree normal : Tree) → IsNormalForm tree normal → quoted_text tree ≡ quoted_text normal
+  pub quotes_bare : (tree : Tree) → quoted_text tree ≡ quoted_text (bare tree)
+
+-- trees that quote the same, one by one
+abbrev QuoteAlike : Trees → Trees → Type 0
+QuoteAlike = AllPaired (λ tree other. quoted_text tree ≡ quoted_text other)
+
+-- what is made of two sides is made of sides that quote the same
+made_on : (Makes : Side → Side → ExprType → Type 0) (l r m s : Tree) (a b type : ExprType) → quoted_text l ≡ quoted_text m → quoted_text r ≡ quoted_text s
+    → Between Makes l r a b type → Between Makes m s a b type
+made_on Makes l r m s a b type left right made =
+    subst (λ (quoted : Option (List ℕ)). Makes (quoting (quoted_text m) a) (quoting quoted b) type) right
+    (subst (λ (quoted : Option (List ℕ)). Makes (quoting quoted a) (quoting (quoted_text r) b) type) left made)
 
 module _ (kept : KeptForms) (slots : Slots) (root : List ℕ) (now : MomentParts) (entity : Val) where
   abbrev M : Environment → Tree → Outcome → Type 0
@@ -91,15 +108,26 @@ module _ (kept : KeptForms) (slots : Slots) (root : List ℕ) (now : MomentParts
     not_same operand other same = after_both (M environment operand) (M environment other) NotGives NotGives same (λ v. itself (NotGives v))
 
     binary_same : (operator : BinaryOperator) (l r m s : Tree) → Both (M environment l) (M environment m) → Both (M environment r) (M environment s)
-        → BothTyped (T environment l) (T environment m) → BothTyped (T environment r) (T environment s)
+        → BothTyped (T environment l) (T environment m) → BothTyped (T environment r) (T environment s) → quoted_text l ≡ quoted_text m → quoted_text r ≡ quoted_text s
         → Both (S environment (binary operator l r)) (S environment (binary operator m s))
-    binary_same operator l r m s left right left_typed right_typed =
-        let N : ExprType → Type 0 = OperandsTyped (T environment l) (T environment r) (Between (OperatorTyped operator) l r) in
-        let K : ExprType → Type 0 = OperandsTyped (T environment m) (T environment s) (Between (OperatorTyped operator) m s) in
-        after_both (M environment l) (M environment m) (λ v. OperatorGives operator N v (M environment r)) (λ v. OperatorGives operator K v (M environment s)) left
-        (λ v. class_both (class_of operator) N K v (M environment r) (M environment s)
-        (operands_both (T environment l) (T environment m) (T environment r) (T environment s) (Between (OperatorTyped operator) l r) (Between (OperatorTyped operator) m s)
-        left_typed right_typed (λ s t type. (λ made. made, λ made. made))) right)
+    binary_same operator l r m s left right left_typed right_typed left_quotes right_quotes =
+        let N : ExprType → Type 0 = OperandsTyped (T environment l) (T environment r) (Between (OperatorTyped slots operator) l r) in
+        let K : ExprType → Type 0 = OperandsTyped (T environment m) (T environment s) (Between (OperatorTyped slots operator) m s) in
+        let nodes : BothTyped N K =
+        operands_both (T environment l) (T environment m) (T environment r) (T environment s) (Between (OperatorTyped slots operator) l r) (Between (OperatorTyped slots operator) m s)
+        left_typed right_typed (λ a b type. (made_on (OperatorTyped slots operator) l r m s a b type left_quotes right_quotes, made_on (OperatorTyped slots operator) m s l r a b type (sym left_quotes) (sym right_quotes))) in
+        unless_both (ReadsNumber slots (OfEquality operator (T environment l)) r) (ReadsNumber slots (OfEquality operator (T environment m)) s)
+        (λ n. SidesGive operator N (M environment l) (GivesMember n)) (λ n. SidesGive operator K (M environment m) (GivesMember n))
+        (UnlessRead (ReadsNumber slots (OfEquality operator (T environment r)) l) (λ n. SidesGive operator N (GivesMember n) (M environment r)) (SidesGive operator N (M environment l) (M environment r)))
+        (UnlessRead (ReadsNumber slots (OfEquality operator (T environment s)) m) (λ n. SidesGive operator K (GivesMember n) (M environment s)) (SidesGive operator K (M environment m) (M environment s)))
+        (reads_both slots (OfEquality operator (T environment l)) (OfEquality operator (T environment m)) r s (equality_both operator (T environment l) (T environment m) left_typed) right_quotes)
+        (λ n. sides_both operator N K (M environment l) (M environment m) (GivesMember n) (GivesMember n) nodes left (itself (GivesMember n)))
+        (unless_both (ReadsNumber slots (OfEquality operator (T environment r)) l) (ReadsNumber slots (OfEquality operator (T environment s)) m)
+        (λ n. SidesGive operator N (GivesMember n) (M environment r)) (λ n. SidesGive operator K (GivesMember n) (M environment s))
+        (SidesGive operator N (M environment l) (M environment r)) (SidesGive operator K (M environment m) (M environment s))
+        (reads_both slots (OfEquality operator (T environment r)) (OfEquality operator (T environment s)) l m (equality_both operator (T environment r) (T environment s) right_typed) left_quotes)
+        (λ n. sides_both operator N K (GivesMember n) (GivesMember n) (M environment r) (M environment s) nodes (itself (GivesMember n)) right)
+        (sides_both operator N K (M environment l) (M environment m) (M environment r) (M environment s) nodes left right))
 
     -- of two operands that are both evaluated
     two_same : (Gives : Val → Val → Outcome → Type 0) (l r m s : Tree) → Both (M environment l) (M environment m) → Both (M environment r) (M environment s)
@@ -108,13 +136,36 @@ module _ (kept : KeptForms) (slots : Slots) (root : List ℕ) (now : MomentParts
         after_both (M environment l) (M environment m) (λ v. After (M environment r) (Gives v)) (λ v. After (M environment s) (Gives v)) left
         (λ v. after_both (M environment r) (M environment s) (Gives v) (Gives v) right (λ w. itself (Gives v w)))
 
-    in_list_same : (left other : Tree) (items others : Trees) → Both (M environment left) (M environment other) → Paired environment items others
+    has_same : (l r m s : Tree) → Both (M environment l) (M environment m) → Both (M environment r) (M environment s) → BothTyped (T environment l) (T environment m) → quoted_text r ≡ quoted_text s
+        → Both (S environment (has l r)) (S environment (has m s))
+    has_same l r m s left right left_typed right_quotes =
+        unless_both (ReadsNumber slots (T environment l) r) (ReadsNumber slots (T environment m) s)
+        (λ n. After (M environment l) (λ v. HasGives v (val.member n))) (λ n. After (M environment m) (λ v. HasGives v (val.member n)))
+        (After (M environment l) (λ v. After (M environment r) (HasGives v))) (After (M environment m) (λ v. After (M environment s) (HasGives v)))
+        (reads_both slots (T environment l) (T environment m) r s left_typed right_quotes)
+        (λ n. after_both (M environment l) (M environment m) (λ v. HasGives v (val.member n)) (λ v. HasGives v (val.member n)) left (λ v. itself (HasGives v (val.member n))))
+        (two_same HasGives l r m s left right)
+
+    -- items that come to the same beside operands of the same types
+    items_read : (B C : ExprType → Type 0) (items others : Trees) → BothTyped B C → Paired environment items others → QuoteAlike items others
+        → AllPaired (λ tree other. Both (ItemAlone slots root now entity environment B tree) (ItemAlone slots root now entity environment C other)) items others
+    items_read B C no_trees no_trees typed paired alike = tt
+    items_read B C (more_trees tree more) (more_trees other others) typed paired alike = (
+      unless_both (ReadsNumber slots B tree) (ReadsNumber slots C other) GivesMember GivesMember (M environment tree) (M environment other)
+          (reads_both slots B C tree other typed alike.0) (λ n. itself (GivesMember n)) paired.0,
+      items_read B C more others typed paired.1 alike.1,
+    )
+    items_read B C no_trees (more_trees other others) typed paired alike = absurd paired
+    items_read B C (more_trees tree more) no_trees typed paired alike = absurd paired
+
+    in_list_same : (left other : Tree) (items others : Trees) → Both (M environment left) (M environment other) → BothTyped (T environment left) (T environment other)
+        → Paired environment items others → QuoteAlike items others
         → Both (S environment (in_list left items)) (S environment (in_list other others))
-    in_list_same left other items others same paired =
+    in_list_same left other items others same typed paired alike =
         after_both (M environment left) (M environment other)
-        (λ l. ItemsGive l (length (list_of_trees items)) (ItemMeans slots root now entity environment items))
-        (λ l. ItemsGive l (length (list_of_trees others)) (ItemMeans slots root now entity environment others)) same
-        (λ l. items_same slots root now entity environment l items others paired)
+        (λ l. ItemsGive l (length (list_of_trees items)) (ItemMeans slots root now entity environment (T environment left) items))
+        (λ l. ItemsGive l (length (list_of_trees others)) (ItemMeans slots root now entity environment (T environment other) others)) same
+        (λ l. items_same slots root now entity environment (T environment left) (T environment other) l items others (items_read (T environment left) (T environment other) items others typed paired alike))
 
     -- the body comes to the same with each value of the variable
     lambda_same : (quantifier : Quantifier) (base other : Tree) (variable : List ℕ) (body else_body : Tree)
@@ -139,6 +190,16 @@ module _ (kept : KeptForms) (slots : Slots) (root : List ℕ) (now : MomentParts
       λ means. record { function = means.function; named = means.named; given = (arguments_same items others (CallGives now means.function) same o).0 means.given },
       λ means. record { function = means.function; named = means.named; given = (arguments_same items others (CallGives now means.function) same o).1 means.given },
     )
+
+    -- trees quote what their normal forms do, and what they do without places
+    alike_normal : (items rest : Trees) → AreNormalForms items rest → QuoteAlike items rest
+    alike_normal no_trees rest is = subst (λ (ts : Trees). QuoteAlike no_trees ts) (sym is) tt
+    alike_normal (more_trees tree more) rest (t, ts, tree_is, more_are, is) =
+        subst (λ (us : Trees). QuoteAlike (more_trees tree more) us) (sym is) (kept.quotes tree t tree_is, alike_normal more ts more_are)
+
+    alike_bare : (items : Trees) → QuoteAlike items (bare_trees items)
+    alike_bare no_trees = tt
+    alike_bare (more_trees tree more) = (kept.quotes_bare tree, alike_bare more)
 
     -- the shape is that
     at_shape : (shape known other : Shape) → other ≡ known → Both (S environment shape) (S environment known) → Both (S environment shape) (S environment other)
@@ -174,13 +235,15 @@ module _ (kept : KeptForms) (slots : Slots) (root : List ℕ) (now : MomentParts
     normal_shape_same environment (binary operator left right) other (l, r, left_is, right_is, is) =
         at_shape environment (binary operator left right) (binary operator l r) other is
         (binary_same environment operator left right l r (normal_same environment left l left_is) (normal_same environment right r right_is)
-        (types_kept environment left l left_is) (types_kept environment right r right_is))
+        (types_kept environment left l left_is) (types_kept environment right r right_is) (kept.quotes left l left_is) (kept.quotes right r right_is))
     normal_shape_same environment (has left right) other (l, r, left_is, right_is, is) =
         at_shape environment (has left right) (has l r) other is
-        (two_same environment HasGives left right l r (normal_same environment left l left_is) (normal_same environment right r right_is))
+        (has_same environment left right l r (normal_same environment left l left_is) (normal_same environment right r right_is)
+        (types_kept environment left l left_is) (kept.quotes right r right_is))
     normal_shape_same environment (in_list left items) other (l, rest, left_is, items_are, is) =
         at_shape environment (in_list left items) (in_list l rest) other is
-        (in_list_same environment left l items rest (normal_same environment left l left_is) (normal_trees_same environment items rest items_are))
+        (in_list_same environment left l items rest (normal_same environment left l left_is) (types_kept environment left l left_is)
+        (normal_trees_same environment items rest items_are) (alike_normal environment items rest items_are))
     normal_shape_same environment (in_path left path) other (l, p, left_is, path_is, is) =
         at_shape environment (in_path left path) (in_path l p) other is
         (two_same environment InGives left path l p (normal_same environment left l left_is) (normal_same environment path p path_is))
@@ -209,11 +272,12 @@ module _ (kept : KeptForms) (slots : Slots) (root : List ℕ) (now : MomentParts
     bare_shape_same environment (logical_not operand) = not_same environment operand (bare operand) (bare_same environment operand)
     bare_shape_same environment (binary operator left right) =
         binary_same environment operator left right (bare left) (bare right) (bare_same environment left) (bare_same environment right)
-        (types_bare environment left) (types_bare environment right)
+        (types_bare environment left) (types_bare environment right) (kept.quotes_bare left) (kept.quotes_bare right)
     bare_shape_same environment (has left right) =
-        two_same environment HasGives left right (bare left) (bare right) (bare_same environment left) (bare_same environment right)
+        has_same environment left right (bare left) (bare right) (bare_same environment left) (bare_same environment right) (types_bare environment left) (kept.quotes_bare right)
     bare_shape_same environment (in_list left items) =
-        in_list_same environment left (bare left) items (bare_trees items) (bare_same environment left) (bare_trees_same environment items)
+        in_list_same environment left (bare left) items (bare_trees items) (bare_same environment left) (types_bare environment left) (bare_trees_same environment items)
+        (alike_bare environment items)
     bare_shape_same environment (in_path left path) =
         two_same environment InGives left path (bare left) (bare path) (bare_same environment left) (bare_same environment path)
     bare_shape_same environment (call asked arguments) = call_same environment asked arguments (bare_trees arguments) (bare_trees_same environment arguments)

@@ -1,14 +1,22 @@
 -- The combinators of outcomes give the same of operands with the same outcomes.
-use Rattle.std.proofs.Common.{◌↔◌, true, false, Some, None}
+use Rattle.std.proofs.Common.{◌≡◌, ◌↔◌, sym, subst, inl, inr, ℕ, ℤ, List, Option, true, false, Some, None}
 use Rattle.edm_values.specs.Val.{Val, null, boolean}
 use Rattle.csdl_schema.specs.ExprType.{ExprType}
+use Rattle.csdl_schema.specs.SchemaModel.{Slots}
+use Rattle.odata_syntax.specs.Tree.{Tree}
+use Rattle.odata_syntax.specs.declared.node.BinaryOperator.{BinaryOperator}
+use Rattle.odata_signatures.specs.OperatorClass.{class_of}
+use Rattle.odata_signatures.specs.QuotedNumber.{NumberBeside}
+use Rattle.odata_expression_types.specs.Reads.{OfEquality, ReadsNumber}
+use Rattle.odata_expression_types.specs.Sides.{quoted_text}
 use Rattle.odata_expression_types.specs.Typed.{OperandTyped, OperandsTyped}
 use Rattle.odata_signatures.specs.declared.operator_class.Connective.{Connective}
 use Rattle.odata_signatures.specs.declared.operator_class.OperatorClass.{OperatorClass}
 use Rattle.odata_eval.specs.CalculationGives.{CalculationGives}
 use Rattle.odata_eval.specs.CompareGives.{CompareGives}
 use Rattle.odata_eval.specs.LeftFirst.{After, Then}
-use Rattle.odata_eval.specs.OperatorGives.{ClassGives, InType}
+use Rattle.odata_eval.specs.OperatorGives.{ClassGives, InType, OperatorGives, SidesGive}
+use Rattle.odata_eval.specs.ReadGives.{UnlessRead}
 use Rattle.odata_eval.specs.Outcome.{Outcome, gives, overflow, divides_by_zero, GivesSome}
 use Rattle.odata_eval.specs.TruthGives.{ConnectiveGives, JoinGives}
 
@@ -120,3 +128,41 @@ operands_both L K R S Makes Also left right made type = (
   operands_go L K R S Makes Also type (λ t. (left t).0) (λ t. (right t).0) (λ l r. (made l r type).0),
   operands_go K L S R Also Makes type (λ t. (left t).1) (λ t. (right t).1) (λ l r. (made l r type).1),
 )
+
+-- ---- what is read
+
+unless_goes : (R S : ℤ → Type 0) (F G : ℤ → Outcome → Type 0) (P Q : Outcome → Type 0) → ((n : ℤ) → R n ↔ S n) → ((n : ℤ) → Goes (F n) (G n)) → Goes P Q
+    → Goes (UnlessRead R F P) (UnlessRead S G Q)
+unless_goes R S F G P Q reads given goes o (inl (n, is, gives_it)) = inl (n, (reads n).0 is, given n o gives_it)
+unless_goes R S F G P Q reads given goes o (inr (none, plain)) = inr ((λ n is. none n ((reads n).1 is)), goes o plain)
+
+pub unless_both : (R S : ℤ → Type 0) (F G : ℤ → Outcome → Type 0) (P Q : Outcome → Type 0) → ((n : ℤ) → R n ↔ S n) → ((n : ℤ) → Both (F n) (G n)) → Both P Q
+    → Both (UnlessRead R F P) (UnlessRead S G Q)
+unless_both R S F G P Q reads given same =
+    both (UnlessRead R F P) (UnlessRead S G Q)
+    (unless_goes R S F G P Q reads (λ n. there (F n) (G n) (given n)) (there P Q same))
+    (unless_goes S R G F Q P (λ n. ((reads n).1, (reads n).0)) (λ n. back (F n) (G n) (given n)) (back P Q same))
+
+pub sides_both : (operator : BinaryOperator) (N M : ExprType → Type 0) (L K R S : Outcome → Type 0) → BothTyped N M → Both L K → Both R S
+    → Both (SidesGive operator N L R) (SidesGive operator M K S)
+sides_both operator N M L K R S typed left right =
+    after_both L K (λ v. OperatorGives operator N v R) (λ v. OperatorGives operator M v S) left (λ v. class_both (class_of operator) N M v R S typed right)
+
+-- of trees that quote the same beside operands of the same types
+reads_go : (slots : Slots) (B C : ExprType → Type 0) (tree other : Tree) (n : ℤ) → ((type : ExprType) → B type → C type) → quoted_text tree ≡ quoted_text other
+    → ReadsNumber slots B tree n → ReadsNumber slots C other n
+reads_go slots B C tree other n goes quotes reads = record {
+  type_of = reads.type_of;
+  beside = goes reads.type_of reads.beside;
+  number = subst (λ (quoted : Option (List ℕ)). NumberBeside slots reads.type_of quoted n) quotes reads.number;
+}
+
+pub reads_both : (slots : Slots) (B C : ExprType → Type 0) (tree other : Tree) → BothTyped B C → quoted_text tree ≡ quoted_text other
+    → (n : ℤ) → ReadsNumber slots B tree n ↔ ReadsNumber slots C other n
+reads_both slots B C tree other same quotes n = (
+  reads_go slots B C tree other n (λ type. (same type).0) quotes,
+  reads_go slots C B other tree n (λ type. (same type).1) (sym quotes),
+)
+
+pub equality_both : (operator : BinaryOperator) (B C : ExprType → Type 0) → BothTyped B C → BothTyped (OfEquality operator B) (OfEquality operator C)
+equality_both operator B C same type = ((λ of. (of.0, (same type).0 of.1)), (λ of. (of.0, (same type).1 of.1)))

@@ -1,5 +1,5 @@
 -- Which values a type has, as the few facts by which one outcome goes.
-use Rattle.std.proofs.Common.{◌≡◌, ◌⊎◌, ◌∙◌, refl, sym, ap, subst, inl, inr, ℕ, ℤ, List, [], ◌∷◌, Bool, true, false, Some, IsUtf8, cond, length, nat_eq}
+use Rattle.std.proofs.Common.{◌≡◌, ◌⊎◌, ◌∙◌, refl, ap, subst, inl, inr, ℕ, ℤ, List, [], ◌∷◌, Bool, true, false, Some, IsUtf8, cond, length, nat_eq}
 use Rattle.std.specs.Prelude.{IsSomeAnd}
 use Rattle.std.specs.List.{AllByRecursion}
 use Rattle.std.specs.Cmp.Lexicographic.{pointwise}
@@ -7,7 +7,7 @@ use Rattle.std.proofs.lemmas.Slice.Eq.{bytes_eq-Decides}
 use Rattle.edm_values.specs.Civil.{Date}
 use Rattle.edm_values.specs.MomentParts.{IsFourDigitYear, IsMoment, MomentParts}
 use Rattle.edm_values.specs.NumberTypes.{IsNumberOf}
-use Rattle.edm_values.specs.Val.{Val, null, boolean, whole, text, date, moment, guid, member, fields, items, FieldVal, absent, present, Vals, no_items, item}
+use Rattle.edm_values.specs.Val.{Val, null, boolean, whole, text, date, moment, guid, member, fields, items, FieldVal, absent, present, Vals}
 use Rattle.edm_values.specs.declared.primitive.PrimitiveType.{PrimitiveType}
 use Rattle.csdl_schema.specs.EnumerationText.{IsOfUnderlying}
 use Rattle.csdl_schema.specs.ExprType.{ExprType, null_type, single, collection, SingleType, primitive, enumeration, structured}

@@ -1,10 +1,10 @@
 -- What `$count` and `any()` come to, from what was answered of the collection that they ask.
-use Rattle.std.proofs.Common.{◌≡◌, ℕ, ◌+◌, [], Option, Some, Result, Ok, refl, sym, subst}
+use Rattle.std.proofs.Common.{◌≡◌, ℕ, ◌+◌, Result, Ok, refl, subst}
 use Rattle.std.specs.Prelude.{IsSomeAnd}
 use Rattle.edm_values.specs.Val.{Val}
 use Rattle.edm_values.specs.declared.datum.Datum.{Datum}
 use Rattle.edm_values.specs.declared.datum.Datum.TheVariants as datum
-use Rattle.odata_syntax.specs.Tree.{Tree, any_item, count, node}
+use Rattle.odata_syntax.specs.Tree.{Tree}
 use Rattle.csdl_schema.specs.ExprType.{ExprType, SingleType, collection}
 use Rattle.csdl_schema.specs.SchemaModel.{Slots, slots_of}
 use Rattle.edm_entities.specs.HasType.{HasType}
@@ -21,7 +21,7 @@ use Rattle.odata_eval.specs.private.Members.{HasMembers}
 use Rattle.odata_eval.specs.private.Place.{HasKind, PartStands}
 use Rattle.odata_eval.specs.private.Scene.{EndsOnceHere, MeansHere, StandsHere, TypedHere}
 use Rattle.odata_eval.specs.private.SceneModel.{SceneModel}
-use Rattle.odata_eval.specs.private.WalkAnswer.{AnswersDatum, Tells}
+use Rattle.odata_eval.specs.private.WalkAnswer.{AnswersDatum}
 use Rattle.odata_eval.proofs.walking.Children.{only_child}
 use Rattle.odata_eval.proofs.walking.Parts.{by_kind, goes_there, some_tells}
 use Rattle.odata_eval.proofs.walking.Spines.{has_type}

@@ -1,8 +1,10 @@
 -- What `in` before a list comes to, item after item from the left.
-use Rattle.std.proofs.Common.{◌≡◌, ◌∙◌, ℕ, zero, suc, ◌<◌, ◌≤◌, ◌+◌, List, [], ◌∷◌, Bool, true, false, Option, Some, Ok, length, refl, sym, subst, inl, inr, arith}
+use Rattle.std.proofs.Common.{◌≡◌, ◌∙◌, ℕ, ℤ, zero, suc, ap, Result, slice_get, ◌<◌, ◌≤◌, ◌+◌, List, [], ◌∷◌, Bool, true, false, Option, Some, None, Ok, length, refl, sym, subst, inl, inr, arith}
 use Rattle.std.specs.Prelude.{Contains, IsTrue, ◌↔◌}
 use Rattle.std.specs.List.{AllByRecursion}
-use Rattle.edm_values.specs.Val.{Val, boolean}
+use Rattle.std.proofs.lemmas.Option.{slice_get_within}
+use Rattle.edm_values.specs.declared.value.Value.{Value}
+use Rattle.edm_values.specs.Val.{Val, boolean, member}
 use Rattle.edm_values.specs.declared.datum.Datum.{Datum}
 use Rattle.edm_values.specs.declared.datum.Datum.TheVariants as datum
 use Rattle.odata_syntax.specs.Spans.{list_of_trees}
@@ -16,8 +18,12 @@ use Rattle.odata_functions.specs.Comparable.{HaveEquality}
 use Rattle.odata_functions.specs.Comparison.{AreEqual}
 use Rattle.odata_functions.specs.DatumVal.{Reading, datum_val}
 use Rattle.odata_functions.specs.declared.comparison.ComparisonOperator.{ComparisonOperator}
-use Rattle.odata_signatures.specs.ComparableTypes.{AreComparable}
+use Rattle.odata_signatures.specs.CollectionTyped.{IsItemBeside}
+use Rattle.odata_signatures.specs.QuotedNumber.{NumberBeside}
+use Rattle.odata_expression_types.specs.Laws.{OneType}
+use Rattle.odata_expression_types.specs.Sides.{quoted_text, side_of, sides_of}
 use Rattle.odata_checked_filter.specs.Calls.{TakesMemory}
+use Rattle.odata_checked_filter.specs.Stands.{AreItemNumbers, IsItemNumber, SideBySide}
 use Rattle.odata_checked_filter.specs.declared.checked_node.NodeKind.{NodeKind}
 use Rattle.odata_eval.specs.declared.fault.EvalFault.{EvalFault}
 use Rattle.odata_eval.specs.CompareGives.{CompareGives}
@@ -28,18 +34,21 @@ use Rattle.odata_eval.specs.Means.{ItemMeans}
 use Rattle.odata_eval.specs.Outcome.{Outcome, divides_by_zero, gives, overflow}
 use Rattle.odata_eval.specs.QuantifierGives.{Passes, QuantifierGives}
 use Rattle.odata_eval.specs.VerdictView.{fault_outcome}
-use Rattle.odata_eval.specs.private.DatumView.{reading_at}
+use Rattle.odata_eval.specs.private.DatumView.{answer_outcome, reading_at}
+use Rattle.odata_eval.specs.private.ItemMarks.{AloneHere, AnswersItem, AreMarked, IsMarked, next_mark}
 use Rattle.odata_eval.specs.private.Place.{HasKind, IsRightOf, IsStopOf, PartStands}
 use Rattle.odata_eval.specs.private.Scene.{EndsOnceHere, MeansHere, StandsHere, TypedHere}
 use Rattle.odata_eval.specs.private.SceneModel.{SceneModel, environment_of}
 use Rattle.odata_eval.specs.private.WalkAnswer.{AnswersAtPlace, AnswersDatum, Tells}
 use Rattle.odata_eval.proofs.meaning.Kinds.{comparable_values}
-use Rattle.odata_eval.proofs.meaning.Sides.{item_types}
+use Rattle.odata_eval.proofs.meaning.Reads.{number_comparable, read_has}
 use Rattle.odata_eval.proofs.walking.CallSteps.{behind_first, no_more, rest_stands}
 use Rattle.odata_eval.proofs.walking.Compared.{ComparedAnyhow}
-use Rattle.odata_eval.proofs.walking.Parts.{by_kind}
+use Rattle.odata_eval.proofs.walking.Parts.{by_kind, tells_there}
+use Rattle.odata_eval.proofs.walking.ReadSides.{list_numbers}
+use Rattle.odata_eval.proofs.walking.Unread.{list_plain}
 use Rattle.odata_eval.proofs.walking.Spines.{StandsAll, TypedAll, all_further, child_takes, first_child, further, has_type, stops_here, stops_there}
-use Rattle.odata_eval.proofs.walking.WalkValues.{made_value, value_has}
+use Rattle.odata_eval.proofs.walking.WalkValues.{value_has}
 
 -- the first place passes, and so do the later ones
 earlier_passes : (At : ℕ → Outcome → Type 0) (count : ℕ) → Passes Quantifier.Any (At 0) → ((k : ℕ) → k < count → Passes Quantifier.Any (At (suc k)))
@@ -58,34 +67,81 @@ later_places count At o first (inl decides) = inl (record {
 later_places count At o first (inr passes) = inr (record { each = earlier_passes At count first passes.each; is = passes.is })
 
 module _ (scene : SceneModel) where
-  -- the outcomes of the items, by their places
-  abbrev pub ItemHere : Trees → ℕ → Outcome → Type 0
-  ItemHere items = ItemMeans (slots_of scene.row.schema) (type_name_at scene.row.schema scene.row.type_id) scene.moment (value_of scene.row) (environment_of scene) items
+  -- the outcomes of the items beside an operand, by their places
+  abbrev pub ItemHere : (ExprType → Type 0) → Trees → ℕ → Outcome → Type 0
+  ItemHere Beside items = ItemMeans (slots_of scene.row.schema) (type_name_at scene.row.schema scene.row.type_id) scene.moment (value_of scene.row) (environment_of scene) Beside items
 
-  abbrev pub ItemsHere : Val → Trees → Outcome → Type 0
-  ItemsHere l items = ItemsGive l (length (list_of_trees items)) (ItemHere items)
+  abbrev pub ItemsHere : (ExprType → Type 0) → Val → Trees → Outcome → Type 0
+  ItemsHere Beside l items = ItemsGive l (length (list_of_trees items)) (ItemHere Beside items)
 
   -- the value on the left, at the type of that
   abbrev pub left_at : Datum → ExprType → Val
   left_at left type = datum_val (reading_at (slots_of scene.row.schema) type) left
 
+  abbrev AllBeside : ExprType → Trees → List ExprType → Type 0
+  AllBeside left items types = AllByRecursion (IsItemBeside (slots_of scene.row.schema) left) (sides_of items types)
+
+  abbrev MarkedHere : Tree → Option ℕ → Trees → Type 0
+  MarkedHere left = AreMarked scene.list.values (slots_of scene.row.schema) (TypedHere scene left)
+
+  -- a tree of `in` before a list, for whose items values may stand
+  pub record ListThere (place stop : ℕ) (mark : Option ℕ) (tree : Tree) : Type 0 where
+    pub left : Tree
+    pub items : Trees
+    pub sides : SideBySide (λ middle. StandsHere scene (place + 1) middle left) (λ middle. StandsAll scene middle stop items)
+    pub typed : (type : ExprType) → TypedHere scene tree type → (s : ExprType) × (types : List ExprType) × (TypedHere scene left s × TypedAll scene items types × AllBeside s items types)
+    pub marked : MarkedHere left mark items
+    pub takes : (child : Tree) → Contains (list_of_trees items) child → TakesMemory child → TakesMemory tree
+    pub means : (o : Outcome) → After (MeansHere scene left) (λ l. ItemsHere (TypedHere scene left) l items) o → MeansHere scene tree o
+
+  -- each tree that stands there is one
+  abbrev pub AreLists : ℕ → Option ℕ → Type 0
+  AreLists place mark = (stop : ℕ) (tree : Tree) → StandsHere scene place stop tree → ListThere place stop mark tree
+
+  pub plain_lists : (place : ℕ) → HasKind scene.list place NodeKind.InList → AreLists place None
+  plain_lists place here = by_kind scene place NodeKind.InList here (λ stop tree. ListThere place stop None tree)
+      (λ a items stop from to stands. record {
+        left = a;
+        items = items;
+        sides = record { middle = stands.children.middle; left = stands.children.left; right = stands.children.right };
+        typed = λ type typed. (typed.left, typed.items, (typed.left_typed, typed.items_typed, typed.makes.1));
+        marked = list_plain scene place stop from to a items here stands;
+        takes = λ child among. child_takes (node from to (in_list a items)) child (behind_first a child (list_of_trees items) among);
+        means = λ o given. given;
+      })
+
+  pub numbered_lists : (place numbers : ℕ) → HasKind scene.list place (NodeKind.PairedList numbers) → AreLists place (Some numbers)
+  numbered_lists place numbers here = by_kind scene place (NodeKind.PairedList numbers) here (λ stop tree. ListThere place stop (Some numbers) tree)
+      (λ a items stop from to stands. record {
+        left = a;
+        items = items;
+        sides = record { middle = stands.children.middle; left = stands.children.left; right = stands.children.right };
+        typed = λ type typed. (typed.left, typed.items, (typed.left_typed, typed.items_typed, typed.makes.1));
+        marked = list_numbers scene place numbers here stop from to a items stands;
+        takes = λ child among. child_takes (node from to (in_list a items)) child (behind_first a child (list_of_trees items) among);
+        means = λ o given. given;
+      })
+
   -- of a tree, the items from a place on: the left side has been answered, and no earlier item is equal to it
-  pub record ItemsLeft (own at : ℕ) (left : Datum) (tree : Tree) : Type 0 where
+  pub record ItemsLeft (own at : ℕ) (mark : Option ℕ) (left : Datum) (tree : Tree) : Type 0 where
+    pub left_tree : Tree
     pub left_type : ExprType
+    pub left_typed : TypedHere scene left_tree left_type
     pub left_has : HasType (slots_of scene.row.schema) left_type (left_at left left_type)
     pub items : Trees
     pub types : List ExprType
     pub stand : StandsAll scene at own items
     pub typed : TypedAll scene items types
-    pub alike : AllByRecursion (AreComparable left_type) types
+    pub beside : AllBeside left_type items types
+    pub marked : MarkedHere left_tree mark items
     pub takes : (child : Tree) → Contains (list_of_trees items) child → TakesMemory child → TakesMemory tree
-    pub goes : (o : Outcome) → ItemsHere (left_at left left_type) items o → MeansHere scene tree o
+    pub goes : (o : Outcome) → ItemsHere (TypedHere scene left_tree) (left_at left left_type) items o → MeansHere scene tree o
 
   -- whatever tree stands there
-  pub record ListLeft (place own at : ℕ) (left : Datum) : Type 0 where
+  pub record ListLeft (place own at : ℕ) (mark : Option ℕ) (left : Datum) : Type 0 where
     pub behind : place < at
     pub within : at ≤ own
-    pub of_tree : (stop : ℕ) (tree : Tree) (type : ExprType) → StandsHere scene place stop tree → TypedHere scene tree type → ItemsLeft own at left tree
+    pub of_tree : (stop : ℕ) (tree : Tree) (type : ExprType) → StandsHere scene place stop tree → TypedHere scene tree type → ItemsLeft own at mark left tree
 
   -- what stands in a place stops behind it
   pub stop_further : (at stop : ℕ) → PartStands scene at → IsStopOf scene.list at stop → at < stop
@@ -94,54 +150,114 @@ module _ (scene : SceneModel) where
       let later : at < part.stop = further scene at part.stop part.tree part.stands in
       omega arith
 
-  module _ (place : ℕ) (here : HasKind scene.list place NodeKind.InList) where
+  module _ (place : ℕ) (mark : Option ℕ) (are : AreLists place mark) where
     pub items_there : PartStands scene place → (first : ℕ) × IsRightOf scene.list place first
     items_there part =
-        by_kind scene place NodeKind.InList here (λ stop tree. (first : ℕ) × IsRightOf scene.list place first)
-        (λ left items stop from to stands. (stands.children.middle, stops_here scene (place + 1) stands.children.middle left stands.children.left))
-        part.stop part.tree part.stands
+        let it = are part.stop part.tree part.stands in
+        (it.sides.middle, stops_here scene (place + 1) it.sides.middle it.left it.sides.left)
 
     module _ (own : ℕ) (is_own : IsStopOf scene.list place own) (at : ℕ) (is_at : IsRightOf scene.list place at) (left : Datum)
         (first : AnswersDatum scene (place + 1) (Ok left)) (ends : EndsOnceHere scene) (part : PartStands scene place) where
       -- at the beginning these are all items
-      all_items : (stop : ℕ) (tree : Tree) (type : ExprType) → StandsHere scene place stop tree → TypedHere scene tree type → ItemsLeft own at left tree
+      all_items : (stop : ℕ) (tree : Tree) (type : ExprType) → StandsHere scene place stop tree → TypedHere scene tree type → ItemsLeft own at mark left tree
       all_items stop tree type stands typed =
-          by_kind scene place NodeKind.InList here (λ stop tree. TypedHere scene tree type → ItemsLeft own at left tree)
-          (λ a items stop from to stands typed.
-          let whole = node from to (in_list a items) in
-          let e : stop ≡ own = stops_there scene place stop own whole stands is_own in
-          let f : stands.children.middle ≡ at = stops_there scene (place + 1) stands.children.middle at a stands.children.left is_at in
-          let l = left_at left typed.left in
-          let first_is : MeansHere scene a (gives l) = first.of_tree stands.children.middle a typed.left stands.children.left typed.left_typed in
+          let it = are stop tree stands in
+          let sides = it.typed type typed in
+          let e : stop ≡ own = stops_there scene place stop own tree stands is_own in
+          let f : it.sides.middle ≡ at = stops_there scene (place + 1) it.sides.middle at it.left it.sides.left is_at in
+          let l = left_at left sides.0 in
+          let first_is : MeansHere scene it.left (gives l) = first.of_tree it.sides.middle it.left sides.0 it.sides.left sides.2.0 in
           record {
-            left_type = typed.left;
-            left_has = value_has scene ends a typed.left l typed.left_typed first_is;
-            items = items;
-            types = typed.items;
-            stand = subst (λ (j : ℕ). StandsAll scene at j items) e (subst (λ (i : ℕ). StandsAll scene i stop items) f stands.children.right);
-            typed = typed.items_typed;
-            alike = (item_types (slots_of scene.row.schema) (type_name_at scene.row.schema scene.row.type_id) (scope_of (environment_of scene)) a items typed.left typed.items type typed.items_typed typed.makes).1;
-            takes = λ child among. child_takes whole child (behind_first a child (list_of_trees items) among);
-            goes = λ o given. (gives l, (first_is, given));
-          })
-          stop tree stands typed
+            left_tree = it.left;
+            left_type = sides.0;
+            left_typed = sides.2.0;
+            left_has = value_has scene ends it.left sides.0 l sides.2.0 first_is;
+            items = it.items;
+            types = sides.1;
+            stand = subst (λ (j : ℕ). StandsAll scene at j it.items) e (subst (λ (i : ℕ). StandsAll scene i stop it.items) f it.sides.right);
+            typed = sides.2.1;
+            beside = sides.2.2;
+            marked = it.marked;
+            takes = it.takes;
+            goes = λ o given. it.means o (gives l, (first_is, given));
+          }
 
-      pub list_begins : ListLeft place own at left
+      pub list_begins : ListLeft place own at mark left
       list_begins =
           let typed = has_type scene place part.stop part.tree part.stands in
           let all = all_items part.stop part.tree typed.0 part.stands typed.1 in
+          let it = are part.stop part.tree part.stands in
+          let f : it.sides.middle ≡ at = stops_there scene (place + 1) it.sides.middle at it.left it.sides.left is_at in
+          let g : place + 1 < it.sides.middle = further scene (place + 1) it.sides.middle it.left it.sides.left in
           record {
-            behind = by_kind scene place NodeKind.InList here (λ stop tree. place < at)
-                (λ a items stop from to stands.
-                let f : stands.children.middle ≡ at = stops_there scene (place + 1) stands.children.middle at a stands.children.left is_at in
-                let g : place + 1 < stands.children.middle = further scene (place + 1) stands.children.middle a stands.children.left in
-                omega arith)
-                part.stop part.tree part.stands;
+            behind = omega arith;
             within = all_further scene at own all.items all.stand;
             of_tree = all_items;
           }
 
-  module _ (place own at : ℕ) (left : Datum) (rest : ListLeft place own at left) where
+  -- the mark of the first one, and those of the others
+  first_marked : (left tree : Tree) (more : Trees) (mark : Option ℕ) → MarkedHere left mark (more_trees tree more)
+      → IsMarked scene.list.values (slots_of scene.row.schema) (TypedHere scene left) mark tree × MarkedHere left (next_mark mark) more
+  first_marked left tree more (Some place) are = are
+  first_marked left tree more None are = are
+
+  -- an item that is not read is answered by itself
+  pub alone_answers : (at : ℕ) (told : ExprType → Option Outcome) → AnswersAtPlace scene at told → AnswersItem scene at None told
+  alone_answers at told answers = record {
+    of_item = λ left stop tree type stands typed none.
+        tells_there (told type) (TakesMemory tree) (TakesMemory tree) (MeansHere scene tree) (AloneHere scene (TypedHere scene left) tree) (λ takes. takes) (λ o means. inr (none, means))
+        (answers.of_tree stop tree type stands typed);
+  }
+
+  -- a number stands in the place for an item, or null and the item is answered by itself
+  pub number_item : (at number : ℕ) (value : Value) → slice_get scene.list.values number ≡ Some value → (n : ℤ) → value ≡ Value.Enum n
+      → AnswersItem scene at (Some number) (λ type. Some (gives (datum_val (reading_at (slots_of scene.row.schema) type) (datum.Enum n))))
+  number_item at number value here n is = record {
+    of_item = λ left stop tree type stands typed marked. elim marked [
+      | inl read ↦ (
+          let same : Some value ≡ Some (Value.Enum read.0) = sym here ∙ read.2 in
+          let e : value ≡ Value.Enum read.0 = cc in
+          let one : n ≡ read.0 = cc in
+          inl (read.0, read.1, ap (λ (k : ℤ). gives (member k)) one)
+          )
+      | inr none ↦ (let same : Some value ≡ Some Value.Null = sym here ∙ none.1 in let e : value ≡ Value.Null = cc in absurd (cc))
+    ];
+  }
+
+  pub other_item : (at number : ℕ) (value : Value) → slice_get scene.list.values number ≡ Some value → ((n : ℤ) → ¬ (value ≡ Value.Enum n)) → (answer : Result Datum EvalFault) → AnswersDatum scene at answer
+      → AnswersItem scene at (Some number) (λ type. answer_outcome (datum_val (reading_at (slots_of scene.row.schema) type)) answer)
+  other_item at number value here other answer answers = record {
+    of_item = λ left stop tree type stands typed marked. elim marked [
+      | inl read ↦ (
+          let same : Some value ≡ Some (Value.Enum read.0) = sym here ∙ read.2 in
+          let e : value ≡ Value.Enum read.0 = cc in
+          absurd (other read.0 e)
+          )
+      | inr none ↦ (
+          let told = answer_outcome (datum_val (reading_at (slots_of scene.row.schema) type)) answer in
+          tells_there told (TakesMemory tree) (TakesMemory tree) (MeansHere scene tree) (AloneHere scene (TypedHere scene left) tree) (λ takes. takes) (λ o means. inr (none.0, means))
+          (answers.of_tree stop tree type stands typed)
+          )
+    ];
+  }
+
+  -- such a value stands there for each item
+  item_within : (Beside : ExprType → Type 0) (tree : Tree) (number : ℕ) → IsItemNumber scene.list.values (slots_of scene.row.schema) Beside tree number → number < length scene.list.values
+  item_within Beside tree number (inl read) = slice_get_within scene.list.values number (Value.Enum read.0) read.2
+  item_within Beside tree number (inr none) = slice_get_within scene.list.values number Value.Null none.1
+
+  one_within : (Beside : ExprType → Type 0) (own at number : ℕ) (items : Trees) → StandsAll scene at own items → ¬ (at ≡ own) → AreItemNumbers scene.list.values (slots_of scene.row.schema) Beside items number
+      → number < length scene.list.values
+  one_within Beside own at number no_trees stand remains are = absurd (remains stand)
+  one_within Beside own at number (more_trees item more) stand remains are = item_within Beside item number are.0
+
+  pub number_within : (place own at number : ℕ) (left : Datum) → ListLeft place own at (Some number) left → PartStands scene place → ¬ (at ≡ own) → number < length scene.list.values
+  number_within place own at number left rest part remains =
+      let typed = has_type scene place part.stop part.tree part.stands in
+      let it = rest.of_tree part.stop part.tree typed.0 part.stands typed.1 in
+      one_within (TypedHere scene it.left_tree) own at number it.items it.stand remains it.marked
+
+  module _ (place own at : ℕ) (mark : Option ℕ) (left : Datum) (rest : ListLeft place own at mark left) where
     item_stands : (tree : Tree) (items : Trees) → StandsAll scene at own items → ¬ (at ≡ own) → PartStands scene at
     item_stands tree no_trees stand further = absurd (further stand)
     item_stands tree (more_trees item more) stand further = record { stop = stand.middle; tree = item; stands = stand.left }
@@ -154,66 +270,90 @@ module _ (scene : SceneModel) where
         item_stands part.tree it.items it.stand further
 
     -- no item is left
-    none_left : (l : Val) (items : Trees) → StandsAll scene at own items → at ≡ own → ItemsHere l items (gives (boolean false))
-    none_left l no_trees stand end = inr (record { each = λ k within. absurd (omega (arith, within)); is = refl })
-    none_left l (more_trees item more) stand end = absurd (no_more scene at own item more stand end)
+    none_left : (Beside : ExprType → Type 0) (l : Val) (items : Trees) → StandsAll scene at own items → at ≡ own → ItemsHere Beside l items (gives (boolean false))
+    none_left Beside l no_trees stand end = inr (record { each = λ k within. absurd (omega (arith, within)); is = refl })
+    none_left Beside l (more_trees item more) stand end = absurd (no_more scene at own item more stand end)
 
     pub no_item : at ≡ own → AnswersDatum scene place (Ok (datum.Bool false))
     no_item end = record {
       of_tree = λ stop tree type stands typed.
           let it = rest.of_tree stop tree type stands typed in
-          it.goes (gives (boolean false)) (none_left (left_at left it.left_type) it.items it.stand end);
+          it.goes (gives (boolean false)) (none_left (TypedHere scene it.left_tree) (left_at left it.left_type) it.items it.stand end);
     }
 
     -- a fault of the next item is the outcome
-    item_fault : (fault : EvalFault) (left_type : ExprType) (whole item : Tree) (more : Trees) → (TakesMemory item → TakesMemory whole)
-        → ((o : Outcome) → ItemsHere (left_at left left_type) (more_trees item more) o → MeansHere scene whole o)
-        → Tells (TakesMemory item) (MeansHere scene item) (fault_outcome fault) → Tells (TakesMemory whole) (MeansHere scene whole) (fault_outcome fault)
-    item_fault EvalFault.Overflow left_type whole item more takes goes is =
+    item_fault : (fault : EvalFault) (Beside : ExprType → Type 0) (left_type : ExprType) (whole item : Tree) (more : Trees) → (TakesMemory item → TakesMemory whole)
+        → ((o : Outcome) → ItemsHere Beside (left_at left left_type) (more_trees item more) o → MeansHere scene whole o)
+        → Tells (TakesMemory item) (AloneHere scene Beside item) (fault_outcome fault) → Tells (TakesMemory whole) (MeansHere scene whole) (fault_outcome fault)
+    item_fault EvalFault.Overflow Beside left_type whole item more takes goes is =
         goes overflow (inl (record { place = 0; here = (overflow, ((overflow, (is, refl)), refl)); earlier = λ k before. absurd (omega (arith, before)) }))
-    item_fault EvalFault.DivideByZero left_type whole item more takes goes is =
+    item_fault EvalFault.DivideByZero Beside left_type whole item more takes goes is =
         goes divides_by_zero (inl (record { place = 0; here = (divides_by_zero, ((divides_by_zero, (is, refl)), refl)); earlier = λ k before. absurd (omega (arith, before)) }))
-    item_fault EvalFault.Memory left_type whole item more takes goes is = takes is
+    item_fault EvalFault.Memory Beside left_type whole item more takes goes is = takes is
 
-    faults_of : (fault : EvalFault) (left_type : ExprType) (whole : Tree) (items : Trees) (types : List ExprType) → StandsAll scene at own items → TypedAll scene items types
-        → ¬ (at ≡ own) → ((child : Tree) → Contains (list_of_trees items) child → TakesMemory child → TakesMemory whole)
-        → ((o : Outcome) → ItemsHere (left_at left left_type) items o → MeansHere scene whole o)
-        → AnswersAtPlace scene at (λ type. fault_outcome fault) → Tells (TakesMemory whole) (MeansHere scene whole) (fault_outcome fault)
-    faults_of fault left_type whole no_trees types stand typed further takes goes faults = absurd (further stand)
-    faults_of fault left_type whole (more_trees item more) [] stand typed further takes goes faults = absurd typed
-    faults_of fault left_type whole (more_trees item more) (t ∷ types) stand typed further takes goes faults =
-        item_fault fault left_type whole item more (takes item (first_child item (list_of_trees more))) goes (faults.of_tree stand.middle item t stand.left typed.0)
+    faults_of : (fault : EvalFault) (left_tree : Tree) (left_type : ExprType) (whole : Tree) (items : Trees) (types : List ExprType) → StandsAll scene at own items → TypedAll scene items types
+        → MarkedHere left_tree mark items → ¬ (at ≡ own) → ((child : Tree) → Contains (list_of_trees items) child → TakesMemory child → TakesMemory whole)
+        → ((o : Outcome) → ItemsHere (TypedHere scene left_tree) (left_at left left_type) items o → MeansHere scene whole o)
+        → AnswersItem scene at mark (λ type. fault_outcome fault) → Tells (TakesMemory whole) (MeansHere scene whole) (fault_outcome fault)
+    faults_of fault left_tree left_type whole no_trees types stand typed marked further takes goes faults = absurd (further stand)
+    faults_of fault left_tree left_type whole (more_trees item more) [] stand typed marked further takes goes faults = absurd typed
+    faults_of fault left_tree left_type whole (more_trees item more) (t ∷ types) stand typed marked further takes goes faults =
+        item_fault fault (TypedHere scene left_tree) left_type whole item more (takes item (first_child item (list_of_trees more))) goes
+        (faults.of_item left_tree stand.middle item t stand.left typed.0 (first_marked left_tree item more mark marked).0)
 
-    pub item_faults : ¬ (at ≡ own) → (fault : EvalFault) → AnswersAtPlace scene at (λ type. fault_outcome fault) → AnswersAtPlace scene place (λ type. fault_outcome fault)
+    pub item_faults : ¬ (at ≡ own) → (fault : EvalFault) → AnswersItem scene at mark (λ type. fault_outcome fault) → AnswersAtPlace scene place (λ type. fault_outcome fault)
     item_faults further fault faults = record {
       of_tree = λ stop tree type stands typed.
           let it = rest.of_tree stop tree type stands typed in
-          faults_of fault it.left_type tree it.items it.types it.stand it.typed further it.takes it.goes faults;
+          faults_of fault it.left_tree it.left_type tree it.items it.types it.stand it.typed it.marked further it.takes it.goes faults;
     }
 
-    module _ (item : Datum) (answers : AnswersDatum scene at (Ok item)) (remains : ¬ (at ≡ own)) where
+    module _ (types_one : OneType) (item : Datum) (answers : AnswersItem scene at mark (λ type. Some (gives (left_at item type)))) (remains : ¬ (at ≡ own)) where
       -- the next item, with its type and its value
-      record NextItem (left_type : ExprType) (whole : Tree) : Type 0 where
+      record NextItem (left_tree : Tree) (left_type : ExprType) (whole : Tree) : Type 0 where
         tree : Tree
         more : Trees
         type_of : ExprType
         types : List ExprType
         stand : StandsAll scene at own (more_trees tree more)
-        means : MeansHere scene tree (gives (left_at item type_of))
+        means : AloneHere scene (TypedHere scene left_tree) tree (gives (left_at item type_of))
         equality : HaveEquality (left_at left left_type) (left_at item type_of)
         typed : TypedAll scene more types
-        alike : AllByRecursion (AreComparable left_type) types
+        beside : AllBeside left_type more types
+        marked : MarkedHere left_tree (next_mark mark) more
         takes : (child : Tree) → Contains (list_of_trees more) child → TakesMemory child → TakesMemory whole
-        goes : (o : Outcome) → ItemsHere (left_at left left_type) (more_trees tree more) o → MeansHere scene whole o
+        goes : (o : Outcome) → ItemsHere (TypedHere scene left_tree) (left_at left left_type) (more_trees tree more) o → MeansHere scene whole o
 
-      next_of : EndsOnceHere scene → (left_type : ExprType) (whole : Tree) (items : Trees) (types : List ExprType) → HasType (slots_of scene.row.schema) left_type (left_at left left_type)
-          → StandsAll scene at own items → TypedAll scene items types → AllByRecursion (AreComparable left_type) types
+      -- by its number, or by its type, it is compared with the left value
+      item_equality : EndsOnceHere scene → (left_tree : Tree) (s : ExprType) (l : Val) (tree : Tree) (t : ExprType) (v : Val) → TypedHere scene left_tree s
+          → HasType (slots_of scene.row.schema) s l → TypedHere scene tree t → IsItemBeside (slots_of scene.row.schema) s (side_of tree t)
+          → AloneHere scene (TypedHere scene left_tree) tree (gives v) → HaveEquality l v
+      item_equality ends left_tree s l tree t v left_typed has typed beside (inl read) =
+          let slots = slots_of scene.row.schema in
+          let root = type_name_at scene.row.schema scene.row.type_id in
+          let reads = read.1 in
+          let number = subst (λ (u : ExprType). NumberBeside slots u (quoted_text tree) read.0)
+          (types_one slots root (scope_of (environment_of scene)) left_tree reads.type_of s reads.beside left_typed) reads.number in
+          let given : gives v ≡ gives (member read.0) = read.2 in
+          let is : v ≡ member read.0 = cc in
+          subst (λ (w : Val). HaveEquality l w) (sym is)
+          (comparable_values slots ComparisonOperator.Eq s s l (member read.0) (number_comparable slots s (quoted_text tree) read.0 number) has (read_has slots s (quoted_text tree) read.0 number))
+      item_equality ends left_tree s l tree t v left_typed has typed (inl comparable) (inr alone) =
+          comparable_values (slots_of scene.row.schema) ComparisonOperator.Eq s t l v comparable has (value_has scene ends tree t v typed alone.1)
+      item_equality ends left_tree s l tree t v left_typed has typed (inr number) (inr alone) =
+          absurd (alone.0 number.0 (record { type_of = s; beside = left_typed; number = number.1 }))
+
+      next_of : EndsOnceHere scene → (left_tree : Tree) (left_type : ExprType) (whole : Tree) (items : Trees) (types : List ExprType) → TypedHere scene left_tree left_type
+          → HasType (slots_of scene.row.schema) left_type (left_at left left_type)
+          → StandsAll scene at own items → TypedAll scene items types → AllBeside left_type items types → MarkedHere left_tree mark items
           → ((child : Tree) → Contains (list_of_trees items) child → TakesMemory child → TakesMemory whole)
-          → ((o : Outcome) → ItemsHere (left_at left left_type) items o → MeansHere scene whole o) → NextItem left_type whole
-      next_of ends left_type whole no_trees types has stand typed alike takes goes = absurd (remains stand)
-      next_of ends left_type whole (more_trees tree more) [] has stand typed alike takes goes = absurd typed
-      next_of ends left_type whole (more_trees tree more) (t ∷ types) has stand typed alike takes goes =
-          let is : MeansHere scene tree (gives (left_at item t)) = answers.of_tree stand.middle tree t stand.left typed.0 in
+          → ((o : Outcome) → ItemsHere (TypedHere scene left_tree) (left_at left left_type) items o → MeansHere scene whole o) → NextItem left_tree left_type whole
+      next_of ends left_tree left_type whole no_trees types left_typed has stand typed beside marked takes goes = absurd (remains stand)
+      next_of ends left_tree left_type whole (more_trees tree more) [] left_typed has stand typed beside marked takes goes = absurd typed
+      next_of ends left_tree left_type whole (more_trees tree more) (t ∷ types) left_typed has stand typed beside marked takes goes =
+          let marks = first_marked left_tree tree more mark marked in
+          let is : AloneHere scene (TypedHere scene left_tree) tree (gives (left_at item t)) =
+          answers.of_item left_tree stand.middle tree t stand.left typed.0 marks.0 in
           record {
             tree = tree;
             more = more;
@@ -221,16 +361,16 @@ module _ (scene : SceneModel) where
             types = types;
             stand = stand;
             means = is;
-            equality = comparable_values (slots_of scene.row.schema) ComparisonOperator.Eq left_type t (left_at left left_type) (left_at item t) alike.0 has
-                (value_has scene ends tree t (left_at item t) typed.0 is);
+            equality = item_equality ends left_tree left_type (left_at left left_type) tree t (left_at item t) left_typed has typed.0 beside.0 is;
             typed = typed.1;
-            alike = alike.1;
+            beside = beside.1;
+            marked = marks.1;
             takes = λ child among. takes child (behind_first tree child (list_of_trees more) among);
             goes = goes;
           }
 
-      next_in : EndsOnceHere scene → (whole : Tree) (it : ItemsLeft own at left whole) → NextItem it.left_type whole
-      next_in ends whole it = next_of ends it.left_type whole it.items it.types it.left_has it.stand it.typed it.alike it.takes it.goes
+      next_in : EndsOnceHere scene → (whole : Tree) (it : ItemsLeft own at mark left whole) → NextItem it.left_tree it.left_type whole
+      next_in ends whole it = next_of ends it.left_tree it.left_type whole it.items it.types it.left_typed it.left_has it.stand it.typed it.beside it.marked it.takes it.goes
 
       -- it may be compared with the left value
       pub may_compare_item : EndsOnceHere scene → ComparedAnyhow → PartStands scene place → (l r : Reading) → HaveEquality (datum_val l left) (datum_val r item)
@@ -262,12 +402,12 @@ module _ (scene : SceneModel) where
         }
 
         -- one that differs does not, and the others are left
-        passes_item : (l v : Val) (tree : Tree) (more : Trees) → MeansHere scene tree (gives v) → HaveEquality l v → ¬ (AreEqual l v)
-            → Passes Quantifier.Any (After (ItemHere (more_trees tree more) 0) (CompareGives ComparisonOperator.Eq l))
-        passes_item l v tree more means equality differs =
+        passes_item : (Beside : ExprType → Type 0) (l v : Val) (tree : Tree) (more : Trees) → AloneHere scene Beside tree (gives v) → HaveEquality l v → ¬ (AreEqual l v)
+            → Passes Quantifier.Any (After (ItemHere Beside (more_trees tree more) 0) (CompareGives ComparisonOperator.Eq l))
+        passes_item Beside l v tree more means equality differs =
             (boolean false, (gives v, (means, (equality, ((λ no. absurd (cc)), (λ same. absurd (differs same)))))), tt)
 
-        pub item_differs : answer ≡ false → PartStands scene place → (stop : ℕ) → IsStopOf scene.list at stop → ListLeft place own stop left
+        pub item_differs : answer ≡ false → PartStands scene place → (stop : ℕ) → IsStopOf scene.list at stop → ListLeft place own stop (next_mark mark) left
         item_differs so part stop is_stop =
             let has = has_type scene place part.stop part.tree part.stands in
             let there = rest.of_tree part.stop part.tree has.0 part.stands has.1 in
@@ -285,15 +425,18 @@ module _ (scene : SceneModel) where
                   let v = left_at item next.type_of in
                   let differs : ¬ (AreEqual l v) = λ same. let e : answer ≡ true = (compared_at it.left_type next.type_of).1 same in cc in
                   record {
+                    left_tree = it.left_tree;
                     left_type = it.left_type;
+                    left_typed = it.left_typed;
                     left_has = it.left_has;
                     items = next.more;
                     types = next.types;
                     stand = rest_stands scene at own stop next.tree next.more is_stop next.stand;
                     typed = next.typed;
-                    alike = next.alike;
+                    beside = next.beside;
+                    marked = next.marked;
                     takes = next.takes;
-                    goes = λ o given. next.goes o (later_places (length (list_of_trees next.more)) (λ k. After (ItemHere (more_trees next.tree next.more) k) (CompareGives ComparisonOperator.Eq l)) o
-                        (passes_item l v next.tree next.more next.means next.equality differs) given);
+                    goes = λ o given. next.goes o (later_places (length (list_of_trees next.more)) (λ k. After (ItemHere (TypedHere scene it.left_tree) (more_trees next.tree next.more) k) (CompareGives ComparisonOperator.Eq l)) o
+                        (passes_item (TypedHere scene it.left_tree) l v next.tree next.more next.means next.equality differs) given);
                   };
             }

@@ -1,8 +1,8 @@
 -- What a lambda operator comes to, from what its base and its body come to.
-use Rattle.std.proofs.Common.{◌≡◌, ◌∙◌, ℕ, ◌<◌, ◌+◌, Bor, List, [], ◌∷◌, Bool, Option, Some, Result, Ok, Err, map, length, slice_get, refl, sym, ap, subst, arith}
+use Rattle.std.proofs.Common.{◌≡◌, ◌∙◌, ℕ, ◌<◌, ◌+◌, Bor, List, [], ◌∷◌, Bool, Option, Some, Result, Ok, Err, map, slice_get, refl, sym, ap, subst, arith}
 use Rattle.std.specs.Prelude.{IsSomeAnd}
 use Rattle.std.specs.List.{AllByRecursion}
-use Rattle.edm_values.specs.Val.{Val, Vals, item, items, null}
+use Rattle.edm_values.specs.Val.{Vals, item, null}
 use Rattle.edm_values.specs.declared.datum.Datum.{Datum}
 use Rattle.edm_values.specs.declared.datum.Datum.TheVariants as datum
 use Rattle.edm_values.specs.declared.value.Value.{Value}

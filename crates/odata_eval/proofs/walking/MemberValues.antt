@@ -1,9 +1,9 @@
 -- What is made of collections, and of an enumeration's values, as what these stand for.
-use Rattle.std.proofs.Common.{◌≡◌, ◌∙◌, ℕ, zero, suc, ℤ, List, [], ◌∷◌, Bool, true, false, Option, Some, None, Result, Ok, Err, length, map, slice_get, ap, arith, refl, sym, subst}
+use Rattle.std.proofs.Common.{◌≡◌, ◌∙◌, ℕ, zero, suc, ℤ, List, [], ◌∷◌, Bool, false, Some, Ok, Err, length, map, ap, arith, refl, sym, subst}
 use Rattle.std.specs.Prelude.{not, pos}
 use Rattle.std.specs.Bool.{◌==◌}
 use Rattle.std.proofs.lemmas.Bool.Decides.{nat_tests}
-use Rattle.edm_values.specs.Val.{Val, boolean, null, whole, items, Vals, no_items, item}
+use Rattle.edm_values.specs.Val.{boolean, whole, items}
 use Rattle.edm_values.specs.NumberTypes.{IsNumberOf}
 use Rattle.edm_values.specs.declared.datum.Datum.{Datum}
 use Rattle.edm_values.specs.declared.datum.Datum.TheVariants as datum
@@ -20,7 +20,7 @@ use Rattle.odata_functions.specs.declared.comparison.ComparisonOperator.{Compari
 use Rattle.odata_signatures.specs.CollectionTyped.{IsComparableWithMembers}
 use Rattle.odata_signatures.specs.HasTyped.{AreFlags}
 use Rattle.odata_eval.specs.CalculationGives.{GivesNumber}
-use Rattle.odata_eval.specs.CollectionGives.{AnyItemGives, CountGives, members_of}
+use Rattle.odata_eval.specs.CollectionGives.{AnyItemGives, members_of}
 use Rattle.odata_eval.specs.LambdaGives.{InGives}
 use Rattle.odata_eval.specs.Outcome.{Outcome, gives, overflow}
 use Rattle.odata_eval.specs.private.DatumView.{reading_at}

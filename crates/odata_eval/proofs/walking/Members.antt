@@ -1,6 +1,6 @@
 -- The members of a collection that is lent, and whether a value equals one of them.
-use Rattle.std.proofs.Common.{◌≡◌, ◌∙◌, ℕ, ◌<◌, ◌≤◌, ◌+◌, List, [], ◌∷◌, Bool, true, false, Option, Some, length, map, slice_get, ap, refl, sym, subst, inl, inr, arith}
-use Rattle.std.specs.Prelude.{IsTrue, ◌↔◌, pos}
+use Rattle.std.proofs.Common.{◌≡◌, ◌∙◌, ℕ, ◌<◌, ◌≤◌, ◌+◌, List, [], ◌∷◌, Bool, true, false, Some, length, map, slice_get, ap, refl, sym, subst, inl, inr, arith}
+use Rattle.std.specs.Prelude.{IsTrue, ◌↔◌}
 use Rattle.std.specs.Option.{option_map}
 use Rattle.std.proofs.lemmas.Bool.{cases_lt}
 use Rattle.std.proofs.lemmas.List.{length-map}

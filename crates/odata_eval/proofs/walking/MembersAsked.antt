@@ -1,8 +1,8 @@
 -- What a lambda operator comes to over the members that have been asked so far.
-use Rattle.std.proofs.Common.{◌≡◌, ◌∙◌, ℕ, ◌<◌, ◌≤◌, ◌+◌, List, [], ◌∷◌, Bool, true, false, not, Option, Some, None, Result, Ok, Err, drop, get_or, length, refl, slice_get, suc, sym, ap, subst, zero}
+use Rattle.std.proofs.Common.{◌≡◌, ℕ, ◌<◌, ◌≤◌, ◌+◌, List, [], ◌∷◌, Bool, true, false, not, Option, Some, None, Ok, Err, drop, get_or, length, refl, slice_get, suc, sym, ap, subst, zero}
 use Rattle.std.specs.List.{AllByRecursion}
 use Rattle.std.proofs.lemmas.List.{at_drop_all, at_drop_more}
-use Rattle.edm_values.specs.Val.{Val, boolean, Vals, item}
+use Rattle.edm_values.specs.Val.{boolean}
 use Rattle.edm_values.specs.declared.value.Value.{Value}
 use Rattle.odata_syntax.specs.Tree.{Tree}
 use Rattle.odata_syntax.specs.declared.node.Quantifier.{Quantifier}
@@ -22,7 +22,7 @@ use Rattle.odata_eval.specs.private.Frames.{frame_of}
 use Rattle.odata_eval.specs.private.Lambda.{AnswersMembers, BodyIsThere, BodyMeans, BodyStands, BodyTyped, type_of_variable, vals_of}
 use Rattle.odata_eval.specs.private.Place.{TruthStands}
 use Rattle.odata_eval.specs.private.SceneModel.{SceneModel, with_frame}
-use Rattle.odata_eval.specs.private.WalkAnswer.{AnswersAtPlace, AnswersTruth, Tells}
+use Rattle.odata_eval.specs.private.WalkAnswer.{AnswersAtPlace, AnswersTruth}
 use Rattle.odata_eval.proofs.meaning.OneByOne.{passes_on}
 use Rattle.odata_eval.proofs.walking.Parts.{tells_there}
 use Rattle.odata_eval.proofs.walking.Spines.{fault_stays}

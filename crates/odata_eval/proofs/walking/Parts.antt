@@ -1,5 +1,5 @@
 -- What stands in a place, by the kind of its node.
-use Rattle.std.proofs.Common.{◌≡◌, ℕ, ◌<◌, List, Option, Some, None, length, refl, sym, subst}
+use Rattle.std.proofs.Common.{◌≡◌, ℕ, ◌<◌, List, Option, Some, None, length, refl, sym, subst, inl, inr}
 use Rattle.std.specs.Prelude.{IsSomeAnd, slice_get}
 use Rattle.std.proofs.lemmas.Option.{slice_get_within}
 use Rattle.edm_values.specs.declared.value.Value.{Value}
@@ -59,8 +59,12 @@ CasesOf (NodeKind.Member slot) P = (base : Tree) (asked : List ℕ) → P (membe
 CasesOf NodeKind.Count P = (base : Tree) → P (count base)
 CasesOf NodeKind.Neg P = (operand : Tree) → P (negation operand)
 CasesOf NodeKind.Not P = (operand : Tree) → P (logical_not operand)
+CasesOf (NodeKind.PairedRight operator number) P = (left right : Tree) → P (binary operator left right)
+CasesOf (NodeKind.PairedLeft operator number) P = (left right : Tree) → P (binary operator left right)
 CasesOf NodeKind.Has P = (left right : Tree) → P (has left right)
+CasesOf (NodeKind.PairedHas number) P = (left right : Tree) → P (has left right)
 CasesOf NodeKind.InList P = (left : Tree) (items : Trees) → P (in_list left items)
+CasesOf (NodeKind.PairedList numbers) P = (left : Tree) (items : Trees) → P (in_list left items)
 CasesOf NodeKind.InPath P = (left path : Tree) → P (in_path left path)
 CasesOf (NodeKind.Call function) P = (asked : List ℕ) (arguments : Trees) → IsNamed function asked → ¬ (function ≡ Function.Now) → P (call asked arguments)
 CasesOf NodeKind.Now P = (asked : List ℕ) (arguments : Trees) → IsNamed Function.Now asked → P (call asked arguments)
@@ -78,9 +82,21 @@ by_case values slots root scope P (member base asked) (NodeKind.Member slot) is 
 by_case values slots root scope P (count base) kind is cases = subst (λ (k : NodeKind). CasesOf k P) is cases base
 by_case values slots root scope P (negation operand) kind is cases = subst (λ (k : NodeKind). CasesOf k P) is cases operand
 by_case values slots root scope P (logical_not operand) kind is cases = subst (λ (k : NodeKind). CasesOf k P) is cases operand
-by_case values slots root scope P (binary operator left right) kind is cases = subst (λ (k : NodeKind). CasesOf k P) is cases left right
-by_case values slots root scope P (has left right) kind is cases = subst (λ (k : NodeKind). CasesOf k P) is cases left right
-by_case values slots root scope P (in_list left items) kind is cases = subst (λ (k : NodeKind). CasesOf k P) is cases left items
+by_case values slots root scope P (binary operator left right) kind is cases = elim is [
+  | inl unread ↦ subst (λ (k : NodeKind). CasesOf k P) unread.kind_is cases left right
+  | inr read ↦ elim read [
+    | inl paired ↦ subst (λ (k : NodeKind). CasesOf k P) paired.kind_is cases left right
+    | inr paired ↦ subst (λ (k : NodeKind). CasesOf k P) paired.kind_is cases left right
+  ]
+]
+by_case values slots root scope P (has left right) kind is cases = elim is [
+  | inl unread ↦ subst (λ (k : NodeKind). CasesOf k P) unread.kind_is cases left right
+  | inr paired ↦ subst (λ (k : NodeKind). CasesOf k P) paired.kind_is cases left right
+]
+by_case values slots root scope P (in_list left items) kind is cases = elim is [
+  | inl unread ↦ subst (λ (k : NodeKind). CasesOf k P) unread.kind_is cases left items
+  | inr numbered ↦ subst (λ (k : NodeKind). CasesOf k P) numbered.kind_is cases left items
+]
 by_case values slots root scope P (in_path left path) kind is cases = subst (λ (k : NodeKind). CasesOf k P) is cases left path
 by_case values slots root scope P (any_item base) kind is cases = subst (λ (k : NodeKind). CasesOf k P) is cases base
 by_case values slots root scope P (lambda quantifier base asked body) kind is cases = subst (λ (k : NodeKind). CasesOf k P) is cases base asked body

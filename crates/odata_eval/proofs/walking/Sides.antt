@@ -1,5 +1,5 @@
 -- What `has` and `in` before a path come to, from what was answered of both their sides.
-use Rattle.std.proofs.Common.{◌≡◌, ◌∙◌, ℕ, ◌<◌, ◌+◌, [], ◌∷◌, Option, Some, Ok, refl, sym, subst, arith}
+use Rattle.std.proofs.Common.{◌≡◌, ℕ, ◌<◌, ◌+◌, [], Ok, subst, arith}
 use Rattle.edm_values.specs.Val.{Val}
 use Rattle.edm_values.specs.declared.datum.Datum.{Datum}
 use Rattle.odata_syntax.specs.Tree.{Tree, has, in_path, node}
@@ -22,10 +22,11 @@ use Rattle.odata_eval.specs.private.DatumView.{reading_at}
 use Rattle.odata_eval.specs.private.Place.{HasKind, IsRightOf, PartStands}
 use Rattle.odata_eval.specs.private.Scene.{EndsOnceHere, MeansHere, StandsHere, TypedHere}
 use Rattle.odata_eval.specs.private.SceneModel.{SceneModel}
-use Rattle.odata_eval.specs.private.WalkAnswer.{AnswersAtPlace, AnswersDatum, Tells}
+use Rattle.odata_eval.specs.private.WalkAnswer.{AnswersAtPlace, AnswersDatum}
 use Rattle.odata_eval.proofs.walking.Children.{two_children}
 use Rattle.odata_eval.proofs.walking.Parts.{by_kind, tells_there}
 use Rattle.odata_eval.proofs.walking.Spines.{child_takes, fault_stays, further, has_type, second_child, stops_here, stops_there}
+use Rattle.odata_eval.proofs.walking.Unread.{flags_means, flags_plain}
 use Rattle.odata_eval.proofs.walking.WalkValues.{value_has}
 
 -- a tree of two sides, both of which are evaluated: of which types they are, and what is made of their values
@@ -48,9 +49,9 @@ flags_sides scene place here =
       left = left;
       right = right;
       sides = two_children scene (place + 1) stop left right stands.children;
-      typed = λ type typed. (typed.left, typed.right, (typed.left_typed, typed.right_typed, typed.makes.0));
+      typed = λ type typed. (typed.left, typed.right, (typed.left_typed, typed.right_typed, flags_plain scene place stop from to left right here stands type typed));
       takes = child_takes (node from to (has left right)) right (second_child left right []);
-      means = λ o given. given;
+      means = flags_means scene place stop from to left right here stands;
     })
 
 pub path_sides : (scene : SceneModel) (place : ℕ) → HasKind scene.list place NodeKind.InPath → AreOfSides scene place IsComparableWithMembers InGives

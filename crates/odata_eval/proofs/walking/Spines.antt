@@ -19,6 +19,11 @@ use Rattle.odata_eval.specs.declared.fault.EvalFault.{EvalFault}
 use Rattle.odata_eval.specs.declared.part.WalkClass.{WalkClass}
 use Rattle.odata_eval.specs.Environment.{scope_of}
 use Rattle.odata_eval.specs.LeftFirst.{After}
+use Rattle.odata_eval.specs.HasGives.{HasGives}
+use Rattle.odata_eval.specs.OperatorGives.{OperatorGives, SidesGive}
+use Rattle.odata_eval.specs.ReadGives.{GivesMember}
+use Rattle.odata_expression_types.specs.Reads.{OfEquality}
+use Rattle.edm_values.specs.Val as val
 use Rattle.odata_eval.specs.Outcome.{Outcome, overflow, divides_by_zero}
 use Rattle.odata_eval.specs.VerdictView.{fault_outcome}
 use Rattle.odata_eval.specs.private.Place.{HasKind, HasOperatorOf, IsClassAt, IsNumberOperand, IsOperatorOf, IsRightOf, PartStands, TypedStands}
@@ -36,6 +41,8 @@ use Rattle.odata_eval.specs.CallGives.{CallGives}
 use Rattle.csdl_schema.specs.SchemaModel.{SchemaModel, slots_of, type_name_at}
 use Rattle.edm_entities.specs.Row.{value_of}
 use Rattle.odata_eval.proofs.walking.Children.{body_stands, one_there, only_child}
+use Rattle.odata_eval.proofs.walking.ReadSides.{flags_read, left_read, read_faults, right_read}
+use Rattle.odata_eval.proofs.walking.Unread.{flags_means, operator_means, operator_plain}
 use Rattle.odata_eval.proofs.walking.Parts.{by_kind, found_there, goes_there, some_there, tells_there, there_found}
 
 -- which operator of the class it is
@@ -65,6 +72,11 @@ pub walks_by : (list : FlatTree) (place : ℕ) (operator : BinaryOperator) (clas
     → walk_of_operator (class_of operator) ≡ class → IsClassAt list class place
 walks_by list place operator class here is =
     goes_there (slice_get list.nodes place) (λ (f : CheckedNode). f.kind ≡ NodeKind.Binary operator) (λ (f : CheckedNode). walk_of_kind f.kind ≡ class)
+    (λ found kind_is. ap walk_of_kind kind_is ∙ is) here
+
+pub kind_walks : (list : FlatTree) (place : ℕ) (kind : NodeKind) (class : WalkClass) → walk_of_kind kind ≡ class → HasKind list place kind → IsClassAt list class place
+kind_walks list place kind class is here =
+    goes_there (slice_get list.nodes place) (λ (f : CheckedNode). f.kind ≡ kind) (λ (f : CheckedNode). walk_of_kind f.kind ≡ class)
     (λ found kind_is. ap walk_of_kind kind_is ∙ is) here
 
 -- a node of truth values that is no operator is `not`, and one of numbers `-`
@@ -295,7 +307,11 @@ module _ (scene : SceneModel) where
         operand = left;
         stands = stands.children.left;
         typed = λ type typed. (typed.left, (typed.left_typed, tt));
-        faults = λ fault. fault_stays fault (TakesMemory left) (TakesMemory (node from to (has left right))) (MeansHere scene left) _ (child_takes (node from to (has left right)) left (first_child left (right ∷ [])));
+        faults = λ fault is.
+            let whole = node from to (has left right) in
+            tells_there (fault_outcome fault) (TakesMemory whole) (TakesMemory whole) (After (MeansHere scene left) (λ l. After (MeansHere scene right) (HasGives l))) (MeansHere scene whole) (λ takes. takes)
+            (flags_means scene place stop from to left right here stands)
+            (fault_stays fault (TakesMemory left) (TakesMemory whole) (MeansHere scene left) (λ l. After (MeansHere scene right) (HasGives l)) (child_takes whole left (first_child left (right ∷ []))) is);
       })
   first_of_kind place NodeKind.InPath inner here = by_kind scene place NodeKind.InPath here (λ stop tree. FirstOperand scene place WalkClass.Eager tree)
       (λ left path stop from to stands. record {
@@ -306,6 +322,51 @@ module _ (scene : SceneModel) where
         faults = λ fault. fault_stays fault (TakesMemory left) (TakesMemory (node from to (in_path left path))) (MeansHere scene left) _ (child_takes (node from to (in_path left path)) left (first_child left (path ∷ [])));
       })
   first_of_kind place NodeKind.InList inner here = by_kind scene place NodeKind.InList here (λ stop tree. FirstOperand scene place WalkClass.Eager tree)
+      (λ left items stop from to stands. record {
+        stop = stands.children.middle;
+        operand = left;
+        stands = stands.children.left;
+        typed = λ type typed. (typed.left, (typed.left_typed, tt));
+        faults = λ fault. fault_stays fault (TakesMemory left) (TakesMemory (node from to (in_list left items))) (MeansHere scene left) _ (child_takes (node from to (in_list left items)) left (first_child left (list_of_trees items)));
+      })
+  first_of_kind place (NodeKind.PairedRight operator number) inner here = by_kind scene place (NodeKind.PairedRight operator number) here (λ stop tree. FirstOperand scene place WalkClass.Eager tree)
+      (λ left right stop from to stands. record {
+        stop = stands.children.middle;
+        operand = left;
+        stands = stands.children.left;
+        typed = λ type typed. (typed.left, (typed.left_typed, tt));
+        faults = λ fault is.
+            let whole = node from to (binary operator left right) in
+            let read = right_read scene place operator number here stop from to left right stands in
+            tells_there (fault_outcome fault) (TakesMemory whole) (TakesMemory whole) (SidesGive operator (TypedHere scene whole) (MeansHere scene left) (GivesMember read.number)) (MeansHere scene whole) (λ takes. takes)
+            (λ o given. inl (read.number, read.reads, given))
+            (fault_stays fault (TakesMemory left) (TakesMemory whole) (MeansHere scene left) (λ l. OperatorGives operator (TypedHere scene whole) l (GivesMember read.number)) (child_takes whole left (first_child left (right ∷ []))) is);
+      })
+  first_of_kind place (NodeKind.PairedLeft operator number) inner here = by_kind scene place (NodeKind.PairedLeft operator number) here (λ stop tree. FirstOperand scene place WalkClass.Eager tree)
+      (λ left right stop from to stands. record {
+        stop = stands.children.middle;
+        operand = left;
+        stands = stands.children.left;
+        typed = λ type typed. (typed.left, (typed.left_typed, tt));
+        faults = λ fault is.
+            let whole = node from to (binary operator left right) in
+            let read = left_read scene place operator number here stop from to left right stands in
+            read_faults scene fault left whole (OfEquality operator (TypedHere scene right)) read.number read.reads.1 (child_takes whole left (first_child left (right ∷ []))) is;
+      })
+  first_of_kind place (NodeKind.PairedHas number) inner here = by_kind scene place (NodeKind.PairedHas number) here (λ stop tree. FirstOperand scene place WalkClass.Eager tree)
+      (λ left right stop from to stands. record {
+        stop = stands.children.middle;
+        operand = left;
+        stands = stands.children.left;
+        typed = λ type typed. (typed.left, (typed.left_typed, tt));
+        faults = λ fault is.
+            let whole = node from to (has left right) in
+            let read = flags_read scene place number here stop from to left right stands in
+            tells_there (fault_outcome fault) (TakesMemory whole) (TakesMemory whole) (After (MeansHere scene left) (λ l. HasGives l (val.member read.number))) (MeansHere scene whole) (λ takes. takes)
+            (λ o given. inl (read.number, read.reads, given))
+            (fault_stays fault (TakesMemory left) (TakesMemory whole) (MeansHere scene left) (λ l. HasGives l (val.member read.number)) (child_takes whole left (first_child left (right ∷ []))) is);
+      })
+  first_of_kind place (NodeKind.PairedList numbers) inner here = by_kind scene place (NodeKind.PairedList numbers) here (λ stop tree. FirstOperand scene place WalkClass.Eager tree)
       (λ left items stop from to stands. record {
         stop = stands.children.middle;
         operand = left;
@@ -344,8 +405,12 @@ module _ (scene : SceneModel) where
         stop = stands.children.middle;
         operand = left;
         stands = stands.children.left;
-        typed = λ type typed. (typed.left, (typed.left_typed, (operands_allowed (class_of operator) typed.left typed.right type typed.makes).0));
-        faults = λ fault. fault_stays fault (TakesMemory left) (TakesMemory (node from to (binary operator left right))) (MeansHere scene left) _ (child_takes (node from to (binary operator left right)) left (first_child left (right ∷ [])));
+        typed = λ type typed. (typed.left, (typed.left_typed, (operands_allowed (class_of operator) typed.left typed.right type (operator_plain scene place stop from to left right operator here stands type typed)).0));
+        faults = λ fault is.
+            let whole = node from to (binary operator left right) in
+            tells_there (fault_outcome fault) (TakesMemory whole) (TakesMemory whole) (SidesGive operator (TypedHere scene whole) (MeansHere scene left) (MeansHere scene right)) (MeansHere scene whole) (λ takes. takes)
+            (operator_means scene place stop from to left right operator here stands)
+            (fault_stays fault (TakesMemory left) (TakesMemory whole) (MeansHere scene left) (λ l. OperatorGives operator (TypedHere scene whole) l (MeansHere scene right)) (child_takes whole left (first_child left (right ∷ []))) is);
       })
   first_of_kind place (NodeKind.Call function) inner here = by_kind scene place (NodeKind.Call function) here (λ stop tree. FirstOperand scene place WalkClass.Eager tree)
       (λ asked arguments named later stop from to stands. call_first place asked arguments stop from to (λ of_now. later (only_now function (named ∙ sym of_now))) stands)
@@ -390,7 +455,7 @@ module _ (scene : SceneModel) where
       (λ operand stop from to stands type typed. inl typed.makes.1)
   truth_of_kind place (NodeKind.Binary operator) logical here =
       by_kind scene place (NodeKind.Binary operator) here (λ stop tree. (type : ExprType) → TypedHere scene tree type → IsBooleanOrNull type)
-      (λ left right stop from to stands type typed. connected_type (class_of operator) typed.left typed.right type logical typed.makes)
+      (λ left right stop from to stands type typed. connected_type (class_of operator) typed.left typed.right type logical (operator_plain scene place stop from to left right operator here stands type typed))
   truth_of_kind place _ logical here = absurd (cc)
 
   pub logical_stands : (place : ℕ) → IsClassAt scene.list WalkClass.Logical place → PartStands scene place → TypedStands scene place IsBooleanOrNull
@@ -492,7 +557,7 @@ module _ (scene : SceneModel) where
               type_of = stands.top.typed.right;
               typed = stands.top.typed.right_typed;
               allowed = subst (λ (c : WalkClass). AllowedBy c stands.top.typed.right) class_is
-                  (operands_allowed (class_of operator) stands.top.typed.left stands.top.typed.right _ stands.top.typed.makes).1;
+                  (operands_allowed (class_of operator) stands.top.typed.left stands.top.typed.right _ (operator_plain scene place stop from to left right operator here stands _ stands.top.typed)).1;
             })
             part.stop part.tree part.stands
 

@@ -1,5 +1,5 @@
 -- What a name stands for among range variables: the innermost one of that name, or none of them.
-use Rattle.std.proofs.Common.{◌≡◌, ◌∙◌, ℕ, ◌<◌, ◌≤◌, ◌+◌, Bor, List, [], ◌∷◌, Option, Some, None, MatchOption, cond, true, false, find, length, nat_eq, refl, sym, ap, subst, rules, arith}
+use Rattle.std.proofs.Common.{◌≡◌, ◌∙◌, ℕ, ◌<◌, Bor, List, [], ◌∷◌, Option, Some, None, MatchOption, cond, true, false, find, length, nat_eq, refl, sym, ap, subst, rules, arith}
 use Rattle.std.specs.Prelude.{option_map}
 use Rattle.std.specs.Cmp.Lexicographic.{pointwise}
 use Rattle.edm_values.specs.Val.{Val}

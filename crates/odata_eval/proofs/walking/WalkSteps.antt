@@ -41,6 +41,7 @@ use Rattle.odata_eval.proofs.meaning.Progress.{decided_gives, join_gives, not_gi
 use Rattle.odata_eval.proofs.walking.Children.{only_child}
 use Rattle.odata_eval.proofs.walking.Parts.{by_kind, goes_there, some_tells, tells_there, type_there}
 use Rattle.odata_eval.proofs.walking.Spines.{child_takes, fault_stays, right_stands, second_child}
+use Rattle.odata_eval.proofs.walking.Unread.{operator_means, operator_plain}
 use Rattle.odata_eval.proofs.walking.Readings.{numbers_anywhere, one_number_anywhere}
 use Rattle.odata_eval.proofs.walking.WalkValues.{value_has}
 
@@ -143,7 +144,7 @@ module _ (scene : SceneModel) (place : ℕ) where
           (λ a b stop from to stands typed.
           let whole = node from to (binary operator a b) in
           tells_there (told type) (TakesMemory whole) (TakesMemory whole) (ClassGives class (TypedHere scene whole) (l typed.left) (MeansHere scene b)) (MeansHere scene whole) (λ takes. takes)
-          (λ o gives_it. (
+          (λ o gives_it. operator_means scene place stop from to a b operator here stands o (
             gives (l typed.left),
             (
               first.of_tree stands.children.middle a typed.left stands.children.left typed.left_typed,
@@ -212,7 +213,7 @@ module _ (scene : SceneModel) (place : ℕ) where
             typed.left,
             typed.right,
             (
-              typed.makes,
+              operator_plain scene place stop from to a b operator here stands type typed,
               value_has scene ends a typed.left (l typed.left) typed.left_typed (first.of_tree stands.children.middle a typed.left stands.children.left typed.left_typed),
               value_has scene ends b typed.right (r typed.right) typed.right_typed
                   (second.of_tree stop b typed.right (right_stands scene place right_place stop from to operator a b is_right stands) typed.right_typed),

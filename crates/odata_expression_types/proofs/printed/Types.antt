@@ -6,7 +6,10 @@ use Rattle.csdl_schema.specs.ExprType.{ExprType}
 use Rattle.csdl_schema.specs.SchemaModel.{Slots}
 use Rattle.odata_expression_types.specs.Typed.{AreTyped, Scope, Typed}
 use Rattle.odata_expression_types.proofs.types.Carried.{arguments_carried, items_carried, lambda_carried, operand_carried, operands_carried}
-use Rattle.odata_expression_types.proofs.types.Sides.{in_list_carried}
+use Rattle.odata_signatures.specs.CollectionTyped.{InListTyped}
+use Rattle.odata_signatures.specs.HasTyped.{HasTyped}
+use Rattle.odata_signatures.specs.OperatorTyped.{OperatorTyped}
+use Rattle.odata_expression_types.proofs.types.Sides.{alike_normal, between_carried, list_carried, quoted_normal, turned}
 use Rattle.odata_expression_types.proofs.printed.Literals.{LiteralFacts, alike, typed_from, typed_to}
 
 -- what the normal form is, by its shape
@@ -40,15 +43,15 @@ mutual
   types_to facts slots root scope (node start stop (binary operator left right)) normal type is typed =
       subst (λ (t : Tree). Typed slots root scope t type) (sym (made start stop is.0 (binary operator is.1.0 is.1.1) normal is.2 is.1.4))
       (operands_carried (λ t. types_to facts slots root scope left is.1.0 t is.1.2) (λ t. types_to facts slots root scope right is.1.1 t is.1.3)
-      (λ l r makes. makes) typed)
+      (λ l r makes. between_carried (OperatorTyped slots operator) left right is.1.0 is.1.1 l r type (quoted_normal left is.1.0 is.1.2) (quoted_normal right is.1.1 is.1.3) makes) typed)
   types_to facts slots root scope (node start stop (has left right)) normal type is typed =
       subst (λ (t : Tree). Typed slots root scope t type) (sym (made start stop is.0 (has is.1.0 is.1.1) normal is.2 is.1.4))
       (operands_carried (λ t. types_to facts slots root scope left is.1.0 t is.1.2) (λ t. types_to facts slots root scope right is.1.1 t is.1.3)
-      (λ l r makes. makes) typed)
+      (λ l r makes. between_carried (HasTyped slots) left right is.1.0 is.1.1 l r type (quoted_normal left is.1.0 is.1.2) (quoted_normal right is.1.1 is.1.3) makes) typed)
   types_to facts slots root scope (node start stop (in_list left items)) normal type is typed =
       subst (λ (t : Tree). Typed slots root scope t type) (sym (made start stop is.0 (in_list is.1.0 is.1.1) normal is.2 is.1.4))
       (items_carried (λ t. types_to facts slots root scope left is.1.0 t is.1.2) (λ ts. all_to facts slots root scope items is.1.1 ts is.1.3)
-      (λ l types before after makes. in_list_carried slots root scope left is.1.0 items is.1.1 l types type before after makes) typed)
+      (λ l types before after makes. list_carried (InListTyped slots) left is.1.0 items is.1.1 l types type (quoted_normal left is.1.0 is.1.2) (alike_normal items is.1.1 is.1.3) makes) typed)
   types_to facts slots root scope (node start stop (in_path left path)) normal type is typed =
       subst (λ (t : Tree). Typed slots root scope t type) (sym (made start stop is.0 (in_path is.1.0 is.1.1) normal is.2 is.1.4))
       (operands_carried (λ t. types_to facts slots root scope left is.1.0 t is.1.2) (λ t. types_to facts slots root scope path is.1.1 t is.1.3)
@@ -95,15 +98,15 @@ mutual
       (subst (λ (t : Tree). Typed slots root scope t type) (made start stop is.0 (logical_not is.1.0) normal is.2 is.1.2) typed)
   types_from facts slots root scope (node start stop (binary operator left right)) normal type is typed =
       operands_carried (λ t. types_from facts slots root scope left is.1.0 t is.1.2) (λ t. types_from facts slots root scope right is.1.1 t is.1.3)
-      (λ l r makes. makes)
+      (λ l r makes. between_carried (OperatorTyped slots operator) is.1.0 is.1.1 left right l r type (sym (quoted_normal left is.1.0 is.1.2)) (sym (quoted_normal right is.1.1 is.1.3)) makes)
       (subst (λ (t : Tree). Typed slots root scope t type) (made start stop is.0 (binary operator is.1.0 is.1.1) normal is.2 is.1.4) typed)
   types_from facts slots root scope (node start stop (has left right)) normal type is typed =
       operands_carried (λ t. types_from facts slots root scope left is.1.0 t is.1.2) (λ t. types_from facts slots root scope right is.1.1 t is.1.3)
-      (λ l r makes. makes)
+      (λ l r makes. between_carried (HasTyped slots) is.1.0 is.1.1 left right l r type (sym (quoted_normal left is.1.0 is.1.2)) (sym (quoted_normal right is.1.1 is.1.3)) makes)
       (subst (λ (t : Tree). Typed slots root scope t type) (made start stop is.0 (has is.1.0 is.1.1) normal is.2 is.1.4) typed)
   types_from facts slots root scope (node start stop (in_list left items)) normal type is typed =
       items_carried (λ t. types_from facts slots root scope left is.1.0 t is.1.2) (λ ts. all_from facts slots root scope items is.1.1 ts is.1.3)
-      (λ l types before after makes. in_list_carried slots root scope is.1.0 left is.1.1 items l types type before after makes)
+      (λ l types before after makes. list_carried (InListTyped slots) is.1.0 left is.1.1 items l types type (sym (quoted_normal left is.1.0 is.1.2)) (turned items is.1.1 (alike_normal items is.1.1 is.1.3)) makes)
       (subst (λ (t : Tree). Typed slots root scope t type) (made start stop is.0 (in_list is.1.0 is.1.1) normal is.2 is.1.4) typed)
   types_from facts slots root scope (node start stop (in_path left path)) normal type is typed =
       operands_carried (λ t. types_from facts slots root scope left is.1.0 t is.1.2) (λ t. types_from facts slots root scope path is.1.1 t is.1.3)

@@ -11,11 +11,14 @@ use Rattle.odata_syntax.specs.declared.node.LiteralKind.{LiteralKind}
 use Rattle.csdl_schema.specs.ExprType.{ExprType, null_type, single, collection, primitive, enumeration, structured}
 use Rattle.csdl_schema.specs.SchemaModel.{PropertyModel, Slots, declared}
 use Rattle.odata_signatures.specs.declared.operator_class.OperatorClass.{OperatorClass}
-use Rattle.odata_signatures.specs.ExprTypes.{IsNumberOrNull, number_or_null}
+use Rattle.odata_signatures.specs.ExprTypes.{IsNumberOrNull, boolean_type, number_or_null}
 use Rattle.odata_expression_types.specs.LiteralValue.{EnumerationLiteral, IntTyped, IsNameAndText, LiteralTyped}
 use Rattle.odata_signatures.specs.CallTyped.{CallTyped}
 use Rattle.odata_signatures.specs.OperatorClass.{class_of}
-use Rattle.odata_signatures.specs.OperatorTyped.{ArithmeticTyped, ClassTyped, NegationTyped}
+use Rattle.odata_signatures.specs.OperatorTyped.{ArithmeticTyped, ClassTyped, IsEquality, NegationTyped, OperatorTyped}
+use Rattle.odata_signatures.specs.Side.{Side}
+use Rattle.odata_syntax.specs.declared.node.BinaryOperator.{BinaryOperator}
+use Rattle.odata_expression_types.specs.Sides.{Between, side_of}
 use Rattle.odata_expression_types.specs.Typed.{AreTyped, Scope, StepTyped, Typed, PropertyTyped, variable_type, property_named}
 
 -- an Int literal stands for one number at most
@@ -121,6 +124,18 @@ ClassTyped-one (OperatorClass.Connective connective) l r a b x y = x.2 ∙ sym y
 ClassTyped-one (OperatorClass.Comparison comparison) l r a b x y = x.1 ∙ sym y.1
 ClassTyped-one (OperatorClass.Arithmetic arithmetic) l r a b x y = ArithmeticTyped-one l r a b x y
 
+-- `eq` and `ne` have type Boolean
+equality_boolean : (operator : BinaryOperator) (l r a : ExprType) → IsEquality operator → ClassTyped (class_of operator) l r a → a ≡ boolean_type
+equality_boolean BinaryOperator.Eq l r a equality x = x.1
+equality_boolean BinaryOperator.Ne l r a equality x = x.1
+equality_boolean _ l r a equality x = absurd equality
+
+OperatorTyped-one : (slots : Slots) (operator : BinaryOperator) (l r : Side) (a b : ExprType) → OperatorTyped slots operator l r a → OperatorTyped slots operator l r b → a ≡ b
+OperatorTyped-one slots operator l r a b (inl x) (inl y) = ClassTyped-one (class_of operator) l.type_of r.type_of a b x y
+OperatorTyped-one slots operator l r a b (inl x) (inr y) = equality_boolean operator l.type_of r.type_of a y.0.0 x ∙ sym y.1
+OperatorTyped-one slots operator l r a b (inr x) (inl y) = x.1 ∙ sym (equality_boolean operator l.type_of r.type_of b x.0.0 y)
+OperatorTyped-one slots operator l r a b (inr x) (inr y) = x.1 ∙ sym y.1
+
 -- a call has at most one type
 abbrev pub OneCallType : Type 0
 OneCallType = (name : List ℕ) (types : List ExprType) (a b : ExprType) → CallTyped name types a → CallTyped name types b → a ≡ b
@@ -140,9 +155,9 @@ module _ (one_call : OneCallType) where
         NegationTyped-one x.operand a b x.makes (subst P (Typed-one slots root scope operand y.operand x.operand y.operand_typed x.operand_typed) y.makes)
     Typed-one slots root scope (node start stop (logical_not operand)) a b x y = x.makes.1 ∙ sym y.makes.1
     Typed-one slots root scope (node start stop (binary operator left right)) a b x y =
-        let P : ExprType → Type 0 = λ (t : ExprType). ClassTyped (class_of operator) t y.right b in
-        let Q : ExprType → Type 0 = λ (t : ExprType). ClassTyped (class_of operator) x.left t b in
-        ClassTyped-one (class_of operator) x.left x.right a b x.makes
+        let P : ExprType → Type 0 = λ (t : ExprType). Between (OperatorTyped slots operator) left right t y.right b in
+        let Q : ExprType → Type 0 = λ (t : ExprType). Between (OperatorTyped slots operator) left right x.left t b in
+        OperatorTyped-one slots operator (side_of left x.left) (side_of right x.right) a b x.makes
         (subst Q (Typed-one slots root scope right y.right x.right y.right_typed x.right_typed)
         (subst P (Typed-one slots root scope left y.left x.left y.left_typed x.left_typed) y.makes))
     Typed-one slots root scope (node start stop (has left right)) a b x y = x.makes.1 ∙ sym y.makes.1

@@ -7,7 +7,7 @@ use Rattle.odata_text.specs.declared.fault.TextFault.{TextFault}
 use Rattle.odata_text.specs.declared.span.Span.{Span}
 use Rattle.odata_syntax.specs.Grammar.{Derives, or_level}
 use Rattle.odata_syntax.specs.Parse.{HasNoParse, IsExpression, IsSyntaxFault}
-use Rattle.odata_syntax.specs.Tree.{Tree, node, literal, it, name, member, count, in_path, call, any_item, lambda, start_of, stop_of}
+use Rattle.odata_syntax.specs.Tree.{Tree, node, literal, it, name, member, count, binary, has, in_list, in_path, call, any_item, lambda, start_of, stop_of}
 use Rattle.odata_syntax.specs.declared.node.LiteralKind.{LiteralKind}
 use Rattle.odata_syntax.specs.declared.syntax_fault.SyntaxFault.{SyntaxFault}
 use Rattle.csdl_schema.specs.ExprType.{ExprType, single, collection, structured}
@@ -18,9 +18,13 @@ use Rattle.odata_expression_types.specs.declared.refusal.TypeFaultCode.{TypeFaul
 use Rattle.odata_signatures.specs.CallTyped.{CallReason}
 use Rattle.odata_signatures.specs.declared.call.CallFault.{CallFault}
 use Rattle.odata_signatures.specs.ExprTypes.{IsBooleanOrNull}
-use Rattle.odata_expression_types.specs.FirstUntypable.{code_of_call, IsFirstUntypable, IsNotBoolean, IsReason, IsTypeFault, LambdaReason, LiteralReason, PathReason, PropertyReason, StepReason}
+use Rattle.odata_expression_types.specs.FirstUntypable.{code_of_call, BesideReason, IsFirstUntypable, IsNotBoolean, IsReason, IsTypeFault, LambdaReason, LiteralReason, OperandReason, PathReason, PropertyReason, SidesReason, StepReason}
 use Rattle.odata_expression_types.specs.HasTyping.{HasNoTyping, HasTree, HasTypeFault, IsRefusal}
 use Rattle.odata_expression_types.specs.Laws.{OneUntypableStart}
+use Rattle.odata_signatures.specs.OperatorTyped.{OfOneSide}
+use Rattle.odata_signatures.specs.QuotedNumber.{LacksNumber}
+use Rattle.odata_expression_types.specs.Reads.{OneLacksNumber}
+use Rattle.odata_expression_types.specs.Sides.{quoted_text, side_of}
 use Rattle.odata_expression_types.specs.Typed.{Scope, Typed, property_named, variable_type}
 use Rattle.odata_expression_types.proofs.types.OneType.{AreTyped-one, OneCallType, Typed-one}
 use Rattle.odata_expression_types.proofs.untypable.Untypable.{untypable_blocks}
@@ -76,6 +80,24 @@ lambda_reason : (scope : Scope) (variable : List ℕ) (type : ExprType) (a b : T
 lambda_reason scope variable (collection members) a b x y = fresh_reason (variable_type scope variable) a b x y
 lambda_reason scope variable _ a b x y = x ∙ sym y
 
+operand_reason : (Lacks : Type 0) (a b : TypeFaultCode) → OperandReason Lacks a → OperandReason Lacks b → a ≡ b
+operand_reason Lacks a b (inl x) (inl y) = x.1 ∙ sym y.1
+operand_reason Lacks a b (inl x) (inr y) = absurd (y.0 x.0)
+operand_reason Lacks a b (inr x) (inl y) = absurd (x.0 y.0)
+operand_reason Lacks a b (inr x) (inr y) = x.1 ∙ sym y.1
+
+beside_reason : (Left : ExprType → Type 0) (Lacks : ExprType → Type 0) (a b : TypeFaultCode) → ((s t : ExprType) → Left s → Left t → s ≡ t)
+    → BesideReason Left Lacks a → BesideReason Left Lacks b → a ≡ b
+beside_reason Left Lacks a b one x y =
+    operand_reason (Lacks x.0) a b x.2 (subst (λ (t : ExprType). OperandReason (Lacks t) b) (one y.0 x.0 y.1 x.1) y.2)
+
+sides_reason : (Left Right : ExprType → Type 0) (Lacks : ExprType → ExprType → Type 0) (a b : TypeFaultCode) → ((s t : ExprType) → Left s → Left t → s ≡ t)
+    → ((s t : ExprType) → Right s → Right t → s ≡ t) → SidesReason Left Right Lacks a → SidesReason Left Right Lacks b → a ≡ b
+sides_reason Left Right Lacks a b one_left one_right x y =
+    operand_reason (Lacks x.0 x.1) a b x.4
+    (subst (λ (t : ExprType). OperandReason (Lacks x.0 t) b) (one_right y.1 x.1 y.3 x.3)
+    (subst (λ (t : ExprType). OperandReason (Lacks t y.1) b) (one_left y.0 x.0 y.2 x.2) y.4))
+
 one_reason : Readings → (slots : Slots) (root : List ℕ) (scope : Scope) (tree : Tree) (a b : TypeFaultCode) → IsReason slots root scope tree a → IsReason slots root scope tree b → a ≡ b
 one_reason known slots root scope (node start stop (literal kind spelling)) a b x y = literal_reason kind a b x y
 one_reason known slots root scope (node start stop it) a b x y = absurd x
@@ -84,6 +106,13 @@ one_reason known slots root scope (node start stop (member base asked)) a b x y 
     let same : y.0 ≡ x.0 = Typed-one known.call_type slots root scope base y.0 x.0 y.1 x.1 in
     step_reason slots asked x.0 a b x.2 (subst (λ (t : ExprType). StepReason slots asked t b) same y.2)
 one_reason known slots root scope (node start stop (count base)) a b x y = x ∙ sym y
+one_reason known slots root scope (node start stop (binary operator left right)) a b x y =
+    sides_reason (Typed slots root scope left) (Typed slots root scope right) (λ l r. OfOneSide (LacksNumber slots) operator (side_of left l) (side_of right r)) a b
+    (Typed-one known.call_type slots root scope left) (Typed-one known.call_type slots root scope right) x y
+one_reason known slots root scope (node start stop (has left right)) a b x y =
+    beside_reason (Typed slots root scope left) (λ l. LacksNumber slots l (quoted_text right)) a b (Typed-one known.call_type slots root scope left) x y
+one_reason known slots root scope (node start stop (in_list left items)) a b x y =
+    beside_reason (Typed slots root scope left) (λ l. OneLacksNumber slots l items) a b (Typed-one known.call_type slots root scope left) x y
 one_reason known slots root scope (node start stop (in_path left path)) a b x y =
     let same : y.0 ≡ x.0 = Typed-one known.call_type slots root scope path y.0 x.0 y.1 x.1 in
     path_reason x.0 a b x.2 (subst (λ (t : ExprType). PathReason t b) same y.2)

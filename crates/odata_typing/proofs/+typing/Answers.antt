@@ -1,4 +1,4 @@
-use Rattle.std.proofs.Common.{rules, Some, ◌≡◌, ◌≤◌, ◌+◌, ◌∷◌, ◌++◌, ◌∙◌, [], IfNone, List, ap, arith, length, map, sym, subst, take}
+use Rattle.std.proofs.Common.{rules, None, Some, ◌≡◌, ◌≤◌, ◌+◌, ◌∷◌, ◌++◌, ◌∙◌, [], IfNone, List, ap, arith, length, map, sym, subst, take}
 use Rattle.std.proofs.lemmas.List.{map-append, take_more}
 use Rattle.std.specs.List.{AllByRecursion}
 use Rattle.std.specs.Prelude.{string_bytes}
@@ -13,6 +13,7 @@ use Rattle.odata_typing.specs.private.Variables.{scope_of}
 use Rattle.odata_typing.proofs.bodies.Faults.{base_fault, body_fault, unbound_fault}
 use Rattle.odata_typing.proofs.calls.Walking.{answered_fault, answered_typed, call_fault, there_with, told_something}
 use Rattle.odata_typing.proofs.scopes.Scopes.{scope_in-Bound}
+use Rattle.odata_typing.proofs.pairs.Sides.{quotes_right}
 use Rattle.odata_typing.proofs.untypable.Operands.{fault_before_step, fault_over}
 use Rattle.odata_typing.proofs.+typing.Goals as goal
 
@@ -76,12 +77,12 @@ call_node::checked_arguments-loop-argument-preserved t c =
 
 pub binary_node::checked_right-returns-clause-answer : goal.binary_node::checked_right-returns-clause-answer
 binary_node::checked_right-returns-clause-answer t c = λ old l begun.
-    c.close_infix.ensures.answer c.args.setting.now.filtered_type (scope_of c.args.setting.now) l (tree_of c.args.right.now) old begun.before c.args.list.now begun.opened begun.answer c.checked_tree-right.ensures.answer
+    c.close_infix.ensures.answer c.args.setting.now.filtered_type (scope_of c.args.setting.now) l (tree_of c.args.right.now) old begun.before c.args.list.now (quotes_right c.args.form l (tree_of c.args.right.now) (record { left = None; right = c.quoted_of.result }) c.requires.form c.quoted_of.ensures) begun.opened begun.answer c.checked_tree-right.ensures.answer
 
 pub in_list::checked_in_list-returns-clause-answer : goal.in_list::checked_in_list-returns-clause-answer
 in_list::checked_in_list-returns-clause-answer t c = λ old l begun.
     let P : List EdmType → Type 0 = λ (types : List EdmType). AreAnswered c.args.setting.now c.args.list.now (map tree_of c.args.items.now) c.checked_arguments-told.new.list types c.checked_arguments-told.result in
-    c.close_items.ensures.answer old l c.args.list.now (map tree_of c.args.items.now) begun (subst P (sym c.as_slice.ensures) c.checked_arguments-told.ensures.answer)
+    c.close_items.ensures.answer old l c.args.list.now begun (subst P (sym c.as_slice.ensures) c.checked_arguments-told.ensures.answer)
 
 pub lambda::checked_base-returns-in-Err-member_bound-clause-fault : goal.lambda::checked_base-returns-in-Err-member_bound-clause-fault
 lambda::checked_base-returns-in-Err-member_bound-clause-fault t c = λ body.

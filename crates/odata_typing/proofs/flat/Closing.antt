@@ -16,14 +16,15 @@ use Rattle.odata_checked_filter.specs.declared.checked_node.CheckedNode.{Checked
 use Rattle.odata_checked_filter.specs.declared.checked_node.NodeKind.{NodeKind}
 use Rattle.odata_checked_filter.specs.FlatTree.{FlatTree}
 use Rattle.odata_checked_filter.specs.ListGrowth.{IsGrownBy, IsKept, IsOpened, node_put, with_node, with_value}
-use Rattle.odata_checked_filter.specs.Stands.{IsMemberNode, IsNameNode, Stands, variable_names}
+use Rattle.odata_checked_filter.specs.Stands.{IsKindOf, IsMemberNode, IsNameNode, Stands, variable_names}
 use Rattle.odata_typing.specs.declared.binary_node.Infix.{Infix}
 use Rattle.odata_typing.specs.declared.unary_node.Unary.{Unary}
 use Rattle.odata_typing.specs.private.Answer.{IsReading, IsWalked}
-use Rattle.odata_typing.specs.private.Forms.{InfixTyped, UnaryTyped, infix_kind, infix_shape, unary_kind, unary_shape}
+use Rattle.odata_typing.specs.private.Forms.{InfixTyped, UnaryTyped, infix_shape, unary_kind, unary_shape}
+use Rattle.odata_typing.specs.private.Items.{with_values}
 use Rattle.odata_typing.specs.private.LawsBelow.{LawsBelow}
 use Rattle.odata_typing.specs.private.StepFound.{IsStepSlot}
-use Rattle.odata_typing.proofs.forms.Infix.{infix_of_kind, infix_stands, infix_text, infix_typed}
+use Rattle.odata_typing.proofs.forms.Infix.{infix_stands, infix_text, infix_typed}
 use Rattle.odata_typing.proofs.forms.Unary.{unary_of_kind, unary_stands, unary_text, unary_typed}
 
 -- a node without children
@@ -90,6 +91,18 @@ member_kind :
     → IsMemberNode slots Base asked (NodeKind.Member slot)
 member_kind slots Base (single (structured owner)) asked slot typed is = (owner, typed, is)
 member_kind slots Base _ asked slot typed is = absurd is
+
+-- behind values that are put all that stood in the list stands there still
+pub values_kept : (list : FlatTree) (values : List Value) → IsKept list (with_values list values)
+values_kept list values = record {
+  nodes = λ k found at. at;
+  values = λ k value at. get_front list.values values k value at;
+  texts = λ k text at. at;
+}
+
+-- the value that was put
+pub value_put : (list : FlatTree) (value : Value) → slice_get (with_values list (value ∷ [])).values (length list.values) ≡ Some value
+value_put list value = get_last list.values value
 
 module _ (laws : LawsBelow) where
   -- a literal's node, behind its value
@@ -186,23 +199,24 @@ module _ (laws : LawsBelow) where
 
   -- a node between two operands, put before them
   pub closed_between :
-      (schema : SchemaModel) (n : ℕ) (scope : Scope) (start opened between last : FlatTree) (place : ℕ) (span : Span) (form : Infix) (l r : Tree) (left right type : EdmType)
+      (schema : SchemaModel) (n : ℕ) (scope : Scope) (start opened between last : FlatTree) (place : ℕ) (span : Span) (form : Infix) (kind : NodeKind) (l r : Tree) (left right type : EdmType)
       → IsOpened start place [] opened
       → IsWalked schema n scope opened l between left
       → IsWalked schema n scope between r last right
-      → Between (InfixTyped form) l r (expr_type schema left) (expr_type schema right) (expr_type schema type)
-      → IsWalked schema n scope start (node span.start span.stop (infix_shape form l r)) (node_put last place (put_in last (infix_kind form) span type)) type
-  closed_between schema n scope start opened between last place span form l r left right type is a b makes =
+      → IsKindOf last.values (slots_of schema) (type_name_at schema n) scope (infix_shape form l r) kind
+      → Between (InfixTyped (slots_of schema) form) l r (expr_type schema left) (expr_type schema right) (expr_type schema type)
+      → IsWalked schema n scope start (node span.start span.stop (infix_shape form l r)) (node_put last place (put_in last kind span type)) type
+  closed_between schema n scope start opened between last place span form kind l r left right type is a b of_kind makes =
       let slots = slots_of schema in
       let root = type_name_at schema n in
       let typed : Typed slots root scope (node span.start span.stop (infix_shape form l r)) (expr_type schema type) =
       infix_typed slots root scope span.start span.stop form l r (expr_type schema type)
       (record { left = expr_type schema left; right = expr_type schema right; left_typed = a.typed; right_typed = b.typed; makes = makes }) in
       record {
-        grown = laws.closed schema n scope start opened last place (put_in last (infix_kind form) span type) (infix_shape form l r)
+        grown = laws.closed schema n scope start opened last place (put_in last kind span type) (infix_shape form l r)
             (subst (λ (text : List ℕ). IsOpened start place text opened) (sym (infix_text form l r)) is)
             (kept_on opened between last a.grown.kept b.grown.kept) refl
-            (infix_of_kind last.values slots root scope form l r) typed
+            of_kind typed
             (infix_stands schema n scope last (place + 1) (length last.nodes) form l r (record {
               middle = length between.nodes;
               left = behind_opened schema n scope start opened last place (length between.nodes) [] l is
@@ -211,3 +225,16 @@ module _ (laws : LawsBelow) where
             }));
         typed = typed;
       }
+
+  -- what has been walked stands there still behind further values
+  pub walked_valued :
+      (schema : SchemaModel) (n : ℕ) (scope : Scope) (old list : FlatTree) (values : List Value) (tree : Tree) (type : EdmType)
+      → IsWalked schema n scope old tree list type
+      → IsWalked schema n scope old tree (with_values list values) type
+  walked_valued schema n scope old list values tree type walked = record {
+    grown = record {
+      kept = kept_on old list (with_values list values) walked.grown.kept (values_kept list values);
+      stands = laws.kept schema n scope list (with_values list values) (length old.nodes) (length list.nodes) tree (values_kept list values) walked.grown.stands;
+    };
+    typed = walked.typed;
+  }

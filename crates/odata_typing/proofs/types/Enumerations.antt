@@ -131,7 +131,7 @@ number_fits type.Int32 n is = omega (arith, ints)
 number_fits type.Int64 n is = is
 number_fits _ n is = absurd is
 
-within_fits : (e : Option EnumerationModel) (n : ℤ) → IsOfUnderlying e n → FitsSigned w64 n
+pub within_fits : (e : Option EnumerationModel) (n : ℤ) → IsOfUnderlying e n → FitsSigned w64 n
 within_fits None n is = absurd is
 within_fits (Some e) n is = number_fits e.underlying n is
 

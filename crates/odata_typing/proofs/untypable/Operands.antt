@@ -15,7 +15,7 @@ use Rattle.odata_expression_types.specs.Considered.{children_in_scope}
 use Rattle.odata_typing.specs.private.Answer.{HasFault, IsWalked}
 use Rattle.odata_typing.specs.private.EarlierFault.{IsEarlier, IsEarlierOf}
 use Rattle.odata_typing.specs.private.LawsBelow.{LawsBelow}
-use Rattle.odata_typing.specs.private.Forms.{InfixReason, InfixTyped, UnaryTyped, infix_shape, unary_code, unary_shape}
+use Rattle.odata_typing.specs.private.Forms.{InfixTyped, UnaryTyped, infix_shape, unary_code, unary_shape}
 use Rattle.odata_typing.specs.private.Judged.{HasFaultAmong, IsToldOf}
 use Rattle.odata_expression_types.specs.FirstUntypable.{IsFirstUntypable, IsReason, LiteralReason, StepReason}
 use Rattle.odata_checked_filter.specs.FlatTree.{FlatTree}
@@ -23,7 +23,7 @@ use Rattle.odata_expression_types.specs.LiteralValue.{LiteralTyped}
 use Rattle.odata_expression_types.specs.Sides.{Between}
 use Rattle.odata_expression_types.specs.Typed.{IsTyped, OperandTyped, OperandsTyped, Scope, StepTyped, Typed}
 use Rattle.odata_signatures.specs.TypeView.{expr_type}
-use Rattle.odata_typing.proofs.forms.Infix.{infix_bodiless, infix_children, infix_only, infix_reason}
+use Rattle.odata_typing.proofs.forms.Infix.{infix_bodiless, infix_children, infix_only}
 use Rattle.odata_typing.proofs.forms.Unary.{unary_bodiless, unary_children, unary_only, unary_reason}
 use Rattle.odata_typing.proofs.untypable.Untypable.{IsBodiless, all_typed, below_node, first_in_back, first_in_front, first_itself, first_of_both, one_of, typed_start}
 
@@ -144,8 +144,8 @@ module _ (laws : LawsBelow) where
       (schema : SchemaModel) (n : ℕ) (scope : Scope) (span : Span) (form : Infix) (l r : Tree) (opened between last : FlatTree) (left right : EdmType) (code : TypeFaultCode)
       → IsWalked schema n scope opened l between left
       → IsWalked schema n scope between r last right
-      → ((type : ExprType) → ¬ Between (InfixTyped form) l r (expr_type schema left) (expr_type schema right) type)
-      → InfixReason form (expr_type schema right) code
+      → ((type : ExprType) → ¬ Between (InfixTyped (slots_of schema) form) l r (expr_type schema left) (expr_type schema right) type)
+      → IsReason (slots_of schema) (type_name_at schema n) scope (node span.start span.stop (infix_shape form l r)) code
       → IsFirstUntypable (slots_of schema) (type_name_at schema n) scope (node span.start span.stop (infix_shape form l r)) (record { code = code; span = span })
   refused_between schema n scope span form l r opened between last left right code a b refused reason =
       let slots = slots_of schema in
@@ -155,10 +155,9 @@ module _ (laws : LawsBelow) where
       (subst (λ (ts : List Tree). AllByRecursion (IsTyped slots root scope) ts) (sym (infix_children form l r))
       (walked_typed schema n scope opened l between left a, (walked_typed schema n scope between r last right b, tt)))
       (λ type typed.
-      between_untyped slots root scope l r (expr_type schema left) (expr_type schema right) (Between (InfixTyped form) l r) a.typed b.typed refused type
+      between_untyped slots root scope l r (expr_type schema left) (expr_type schema right) (Between (InfixTyped slots form) l r) a.typed b.typed refused type
       (infix_only slots root scope span.start span.stop form l r type typed))
-      (infix_reason slots root scope span.start span.stop form l r (expr_type schema right) code b.typed reason)
-      refl refl
+      reason refl refl
 
   -- a node over one operand, of whose type it makes none
   over_untyped :

@@ -2,9 +2,12 @@
 use Rattle.std.specs.Prelude.{◌≡◌}
 use Rattle.odata_syntax.specs.Tree.{Shape, Tree, any_item, binary, count, has, in_path, logical_not, negation}
 use Rattle.csdl_schema.specs.ExprType.{ExprType}
-use Rattle.odata_signatures.specs.CollectionTyped.{AnyItemTyped, CountTyped, InPathTyped}
-use Rattle.odata_signatures.specs.HasTyped.{HasTyped}
-use Rattle.odata_signatures.specs.OperatorTyped.{NegationTyped, NotTyped, OperatorTyped}
+use Rattle.csdl_schema.specs.SchemaModel.{Slots}
+use Rattle.odata_signatures.specs.CollectionTyped.{AnyItemTyped, CountTyped, InPathTyped, IsComparableWithMembers}
+use Rattle.odata_signatures.specs.ExprTypes.{boolean_type}
+use Rattle.odata_signatures.specs.HasTyped.{AreFlags, HasTyped}
+use Rattle.odata_signatures.specs.OperatorClass.{class_of}
+use Rattle.odata_signatures.specs.OperatorTyped.{ClassTyped, NegationTyped, NotTyped, OperatorTyped}
 use Rattle.odata_signatures.specs.Side.{Side}
 use Rattle.odata_expression_types.specs.FirstUntypable.{PathReason}
 use Rattle.odata_expression_types.specs.declared.refusal.TypeFaultCode.{TypeFaultCode}
@@ -51,10 +54,16 @@ infix_kind Infix.Has = NodeKind.Has
 infix_kind Infix.InPath = NodeKind.InPath
 
 -- the type that it makes of the sides
-abbrev pub InfixTyped : Infix → Side → Side → ExprType → Type 0
-InfixTyped (Infix.Operator operator) = OperatorTyped operator
-InfixTyped Infix.Has = HasTyped
-InfixTyped Infix.InPath = InPathTyped
+abbrev pub InfixTyped : Slots → Infix → Side → Side → ExprType → Type 0
+InfixTyped slots (Infix.Operator operator) = OperatorTyped slots operator
+InfixTyped slots Infix.Has = HasTyped slots
+InfixTyped slots Infix.InPath = InPathTyped
+
+-- the type that it makes of those of its operands alone
+abbrev pub InfixByTypes : Infix → ExprType → ExprType → ExprType → Type 0
+InfixByTypes (Infix.Operator operator) left right type = ClassTyped (class_of operator) left right type
+InfixByTypes Infix.Has left right type = AreFlags left right × (type ≡ boolean_type)
+InfixByTypes Infix.InPath left right type = IsComparableWithMembers left right × (type ≡ boolean_type)
 
 -- why it makes none of operands of which the right one has the type
 abbrev pub InfixReason : Infix → ExprType → TypeFaultCode → Type 0

@@ -1,6 +1,6 @@
-use Rattle.std.proofs.Common.{◌≡◌, ◌∙◌, ℕ, suc, ◌+◌, ◌≤◌, ◌<◌, List, Fits, w64, arith, inl, inr, length, refl, subst, sym}
+use Rattle.std.proofs.Common.{◌≡◌, ◌∙◌, ℕ, suc, ◌+◌, ◌≤◌, List, arith, inl, inr, length, refl, subst, sym}
 use Rattle.std.proofs.lemmas.Bool.{cases_lt}
-use Rattle.csdl_schema.specs.SchemaModel.{SchemaModel, slots_of}
+use Rattle.csdl_schema.specs.SchemaModel.{slots_of}
 use Rattle.odata_eval.specs.private.Frames.{Frame, StandsAtLevel, bound_of, environment_in, frame_of, frames_in, names_of}
 use Rattle.odata_eval.proofs.walking.OneReading.{one_schema}
 use Rattle.odata_eval.proofs.walking.Variables.{at_innermost, bound_frames}

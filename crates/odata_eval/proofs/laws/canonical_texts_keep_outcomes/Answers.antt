@@ -7,6 +7,8 @@ returns c =
       values = c.normal_forms_keep_types.ensures.values;
       types = c.normal_forms_keep_types.ensures.types;
       places = c.normal_forms_keep_types.ensures.places;
+      quotes = c.normal_forms_keep_types.ensures.quotes;
+      quotes_bare = c.normal_forms_keep_types.ensures.quotes_bare;
     } in
     record {
       normal = normal_forms_same kept;

@@ -13,5 +13,6 @@ returns c =
       trimmed = c.texts_have_one_answer.ensures.trimmed;
       dates = c.day_numbers_have_one_date.ensures.one;
       names = c.calls_have_one_type.ensures.named;
+      numbers = c.quoted_texts_have_one_number.ensures;
     } in
     record { kept = kept_item known; other_name = other_item known; inactive = inactive_item known; right_side_left_out = right_side_unread known }

@@ -13,6 +13,7 @@ returns c =
       trimmed = c.texts_have_one_answer.ensures.trimmed;
       dates = c.day_numbers_have_one_date.ensures.one;
       names = c.calls_have_one_type.ensures.named;
+      numbers = c.quoted_texts_have_one_number.ensures;
     } in
     record {
       some = laws.some_null known;

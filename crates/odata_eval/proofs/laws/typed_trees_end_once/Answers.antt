@@ -12,6 +12,7 @@ returns c = ends_once
       trimmed = c.texts_have_one_answer.ensures.trimmed;
       dates = c.day_numbers_have_one_date.ensures.one;
       names = c.calls_have_one_type.ensures.named;
+      numbers = c.quoted_texts_have_one_number.ensures;
     })
     (record {
       decided = c.comparisons_are_decided.ensures.decided;
@@ -26,6 +27,11 @@ returns c = ends_once
       bits = c.bits_are_decided.ensures;
       moments = c.spelled_values_lie_within.ensures.moments;
       guids = c.spelled_values_lie_within.ensures.guids;
+      reads = record {
+        types = c.trees_have_one_type.ensures;
+        quotes = c.quoting_trees_are_texts.ensures;
+        apart = c.unread_operands_go_by_types.ensures.apart;
+      };
     })
     (record {
       left = c.operands_lie_within_promotion.ensures.left;

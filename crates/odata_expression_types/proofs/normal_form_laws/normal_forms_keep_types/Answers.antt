@@ -1,6 +1,7 @@
 use Rattle.odata_expression_types.proofs.printed.Literals.{LiteralFacts, alike, value_from, value_to}
 use Rattle.odata_expression_types.proofs.printed.Places.{bare_from, bare_to}
 use Rattle.odata_expression_types.proofs.printed.Types.{types_from, types_to}
+use Rattle.odata_expression_types.proofs.types.Sides.{quoted_bare, quoted_normal}
 use Rattle.odata_expression_types.proofs.printed.Values.{guid_values, int_values, moment_values}
 use Rattle.odata_expression_types.proofs.normal_form_laws.normal_forms_keep_types.Goals as goal
 
@@ -26,3 +27,9 @@ returns-clause-types c = λ slots root scope tree normal type is.
 pub returns-clause-places : goal.returns-clause-places
 returns-clause-places c = λ slots root scope tree type.
     (λ typed. bare_to slots root scope tree type typed, λ typed. bare_from slots root scope tree type typed)
+
+pub returns-clause-quotes : goal.returns-clause-quotes
+returns-clause-quotes c = quoted_normal
+
+pub returns-clause-quotes_bare : goal.returns-clause-quotes_bare
+returns-clause-quotes_bare c = quoted_bare

@@ -9,4 +9,9 @@ returns c = record {
   kept = c.nodes_stand_where_they_are_put.ensures.kept;
   pushed = c.nodes_stand_where_they_are_put.ensures.pushed;
   closed = c.nodes_stand_where_they_are_put.ensures.closed;
+  operands = c.unread_operands_go_by_types.ensures.operands;
+  flags = c.unread_operands_go_by_types.ensures.flags;
+  items = c.unread_operands_go_by_types.ensures.items;
+  apart = c.unread_operands_go_by_types.ensures.apart;
+  quotes = c.quoting_trees_are_texts.ensures;
 }

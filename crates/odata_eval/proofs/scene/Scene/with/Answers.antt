@@ -1,4 +1,4 @@
-use Rattle.std.proofs.Common.{◌≡◌, ◌∙◌, List, ap, subst, sym}
+use Rattle.std.proofs.Common.{◌∙◌, List, ap, subst, sym}
 use Rattle.csdl_schema.specs.SchemaModel.{slots_of}
 use Rattle.odata_eval.specs.Environment.{IsFitting}
 use Rattle.odata_eval.specs.private.Frames.{Frame, environment_in, frame_of}

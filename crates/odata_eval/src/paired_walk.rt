@@ -1,0 +1,218 @@
+//! The walk where String literals are read beside an enumeration. The checker has read their numbers, which stand among the
+//! values of the filter's literals.
+ghost use Rattle.std.specs.Prelude.{◌<◌, ◌+◌, ℕ, Ok, Some, length};
+ghost use Rattle.csdl_schema.specs.SchemaModel.{slots_of};
+ghost use Rattle.odata_checked_filter.specs.declared.checked_node.NodeKind.{NodeKind as Kind};
+ghost use Rattle.odata_functions.specs.DatumVal.{datum_val};
+ghost use Rattle.odata_eval.specs.private.DatumView.{answer_outcome, reading_at};
+ghost use Rattle.odata_eval.specs.private.ItemMarks.{AnswersItem};
+ghost use Rattle.odata_eval.specs.private.Place.{HasKind, IsRightOf, PartStands, TruthStands};
+ghost use Rattle.odata_eval.specs.private.WalkAnswer.{AnswersDatum, AnswersKept, AnswersTruth};
+
+use super::collections::flags_of;
+use super::datum::datum_of;
+use super::fault::EvalFault;
+use super::operators::{compare_kept, comparison_of};
+use super::part::{Part, part_at, right_of, stop_of};
+use super::scene::Scene;
+use super::walk::{made_truth_at, operand_at};
+use edm_values::{Datum, Value};
+use odata_expression_types::trees_have_one_type;
+use odata_functions::{ComparisonOperator, compare, comparisons_are_decided};
+use odata_syntax::BinaryOperator;
+
+/// What `eq` or `ne` comes to, whose right operand stands for the number in a place of the values.
+pub(crate) fn compared_right<'e>(
+    scene: &Scene<'e, '_, '_>,
+    place: usize,
+    operator: BinaryOperator,
+    number: usize,
+    left: &Datum<'_>,
+) -> Datum<'e>
+    requires stands { PartStands scene.now place }
+    requires here { HasKind scene.now.list place (Kind.PairedRight operator number) }
+    requires left { AnswersDatum scene.now (place + 1) (Ok left.now) }
+    ensures { AnswersDatum scene.now place (Ok result) }
+{
+    scene.ends_once();
+    trees_have_one_type();
+    comparisons_are_decided();
+    let right = datum_of(scene.literal(number));
+    Datum::Bool(compare(comparison_of(operator), left, &right))
+}
+
+/// The same, where the left operand does.
+#[cycle(evaluate)]
+pub(crate) fn compared_left_at<'e>(
+    scene: &Scene<'e, '_, '_>,
+    place: usize,
+    operator: BinaryOperator,
+    number: usize,
+) -> Result<Datum<'e>, EvalFault>
+    requires stands { PartStands scene.now place }
+    requires here { HasKind scene.now.list place (Kind.PairedLeft operator number) }
+    ensures { AnswersDatum scene.now place result }
+{
+    scene.ends_once();
+    trees_have_one_type();
+    comparisons_are_decided();
+    match operand_at(scene, right_of(scene, place)) {
+        Ok(right) => {
+            let left = datum_of(scene.literal(number));
+            Ok(Datum::Bool(compare(comparison_of(operator), &left, &right)))
+        }
+        Err(fault) => Err(fault),
+    }
+}
+
+/// What `eq` or `ne` comes to as a truth value, whose right operand stands for the number in a place of the values. A left
+/// one that is kept is compared where it is.
+#[cycle(evaluate)]
+#[inline(always)]
+pub(crate) fn right_read_truth_at(
+    scene: &Scene<'_, '_, '_>,
+    place: usize,
+    operator: BinaryOperator,
+    number: usize,
+) -> Result<Option<bool>, EvalFault>
+    requires stands { TruthStands scene.now place }
+    requires here { HasKind scene.now.list place (Kind.PairedRight operator number) }
+    ensures { AnswersTruth scene.now place result }
+{
+    let _nodes = scene.nodes();
+    match part_at(scene, place + 1) {
+        Part::Leaf(left) => Ok(Some(compared_kept_right(scene, place, operator, number, left))),
+        _ => made_truth_at(scene, place),
+    }
+}
+
+/// The same, where the left operand does.
+#[cycle(evaluate)]
+#[inline(always)]
+pub(crate) fn left_read_truth_at(
+    scene: &Scene<'_, '_, '_>,
+    place: usize,
+    operator: BinaryOperator,
+    number: usize,
+) -> Result<Option<bool>, EvalFault>
+    requires stands { TruthStands scene.now place }
+    requires here { HasKind scene.now.list place (Kind.PairedLeft operator number) }
+    ensures { AnswersTruth scene.now place result }
+{
+    match part_at(scene, right_of(scene, place)) {
+        Part::Leaf(right) => Ok(Some(compared_kept_left(scene, place, operator, number, right))),
+        _ => made_truth_at(scene, place),
+    }
+}
+
+/// Whether the comparison with that number on the right is true of a left operand that is kept.
+#[inline(always)]
+fn compared_kept_right(
+    scene: &Scene<'_, '_, '_>,
+    place: usize,
+    operator: BinaryOperator,
+    number: usize,
+    left: &Value,
+) -> bool
+    requires stands { PartStands scene.now place }
+    requires here { HasKind scene.now.list place (Kind.PairedRight operator number) }
+    requires left { AnswersKept scene.now (place + 1) left.now }
+    ensures { AnswersTruth scene.now place (Ok (Some result)) }
+{
+    scene.ends_once();
+    trees_have_one_type();
+    comparisons_are_decided();
+    compare_kept(comparison_of(operator), left, scene.literal(number))
+}
+
+/// Whether the comparison with that number on the left is true of a right operand that is kept.
+#[inline(always)]
+fn compared_kept_left(
+    scene: &Scene<'_, '_, '_>,
+    place: usize,
+    operator: BinaryOperator,
+    number: usize,
+    right: &Value,
+) -> bool
+    requires stands { PartStands scene.now place }
+    requires here { HasKind scene.now.list place (Kind.PairedLeft operator number) }
+    requires right { (at : ℕ) → IsRightOf scene.now.list place at → AnswersKept scene.now at right.now }
+    ensures { AnswersTruth scene.now place (Ok (Some result)) }
+{
+    scene.ends_once();
+    trees_have_one_type();
+    comparisons_are_decided();
+    compare_kept(comparison_of(operator), scene.literal(number), right)
+}
+
+/// What `has` comes to, whose right operand stands for the number in a place of the values.
+pub(crate) fn flags_right<'e>(
+    scene: &Scene<'e, '_, '_>,
+    place: usize,
+    number: usize,
+    left: &Datum<'_>,
+) -> Datum<'e>
+    requires stands { PartStands scene.now place }
+    requires here { HasKind scene.now.list place (Kind.PairedHas number) }
+    requires left { AnswersDatum scene.now (place + 1) (Ok left.now) }
+    ensures { AnswersDatum scene.now place (Ok result) }
+{
+    scene.ends_once();
+    trees_have_one_type();
+    let right = datum_of(scene.literal(number));
+    flags_of(left, &right)
+}
+
+/// What `in` comes to before a list, for whose items values stand from a place on. The items are evaluated from the left
+/// until one is equal.
+#[cycle(evaluate)]
+pub(crate) fn numbered_at<'e>(
+    scene: &Scene<'e, '_, '_>,
+    place: usize,
+    numbers: usize,
+    left: &Datum<'_>,
+) -> Result<Datum<'e>, EvalFault>
+    requires stands { PartStands scene.now place }
+    requires here { HasKind scene.now.list place (Kind.PairedList numbers) }
+    requires left { AnswersDatum scene.now (place + 1) (Ok left.now) }
+    ensures { AnswersDatum scene.now place result }
+{
+    scene.ends_once();
+    trees_have_one_type();
+    comparisons_are_decided();
+    let _values = scene.values();
+    let own_stop = stop_of(scene, place);
+    let mut at = right_of(scene, place);
+    let mut number = numbers;
+    while at != own_stop {
+        match numbered_item_at(scene, at, number) {
+            Ok(item) => {
+                if compare(ComparisonOperator::Eq, left, &item) {
+                    return Ok(Datum::Bool(true));
+                }
+            }
+            Err(fault) => return Err(fault),
+        }
+        at = stop_of(scene, at);
+        number += 1;
+    }
+    Ok(Datum::Bool(false))
+}
+
+/// What an item comes to, for which a value stands in a place: the number there, or what the item is by itself.
+#[cycle(evaluate)]
+fn numbered_item_at<'e>(
+    scene: &Scene<'e, '_, '_>,
+    place: usize,
+    number: usize,
+) -> Result<Datum<'e>, EvalFault>
+    requires stands { PartStands scene.now place }
+    requires number { number < length scene.now.list.values }
+    ensures { AnswersItem scene.now place (Some number)
+        (λ type. answer_outcome (datum_val (reading_at (slots_of scene.now.row.schema) type)) result) }
+{
+    match scene.literal(number) {
+        Value::Enum(n) => Ok(Datum::Enum(*n)),
+        _ => operand_at(scene, place),
+    }
+}

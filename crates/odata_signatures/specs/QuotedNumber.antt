@@ -1,0 +1,40 @@
+-- String literals that are read as texts of an enumeration (OData URL Conventions 4.01, sections 5.1.1.1 and 5.1.1.14; ABNF,
+-- section 7, `enumValue`).
+use Rattle.std.specs.Prelude.{◌≡◌, ℕ, ℤ, List, [], ◌∷◌, ◌++◌, Option, Some}
+use Rattle.edm_values.specs.StringLiteral.{quote}
+use Rattle.csdl_schema.specs.EnumerationText.{IsOfUnderlying, IsValueIn}
+use Rattle.csdl_schema.specs.ExprType.{ExprType, single, enumeration}
+use Rattle.csdl_schema.specs.SchemaModel.{Slots}
+use Rattle.odata_signatures.specs.declared.quoted_number.Beside.{Beside}
+
+-- the text between the quotes stands for the number in the enumeration of that name, as that of an enumeration literal does
+pub record IsQuotedNumber (slots : Slots) (name spelling : List ℕ) (n : ℤ) : Type 0 where
+  pub inner : List ℕ
+  pub spelled : spelling ≡ quote ∷ inner ++ quote ∷ []
+  pub value : IsValueIn (slots.enumerations name) inner n
+  pub within : IsOfUnderlying (slots.enumerations name) n
+
+-- what an operand quotes is read beside a value of an enumeration, and beside no other
+abbrev pub IsReadBeside : ExprType → Option (List ℕ) → Type 0
+IsReadBeside (single (enumeration name)) (Some spelling) = Unit {0}
+IsReadBeside _ _ = ⊥
+
+-- the number for which it stands there
+abbrev pub NumberBeside : Slots → ExprType → Option (List ℕ) → ℤ → Type 0
+NumberBeside slots (single (enumeration name)) (Some spelling) n = IsQuotedNumber slots name spelling n
+NumberBeside slots _ _ n = ⊥
+
+-- it stands for one
+abbrev pub HasNumber : Slots → ExprType → Option (List ℕ) → Type 0
+HasNumber slots beside quoted = (n : ℤ) × NumberBeside slots beside quoted n
+
+-- it is read, and stands for none
+pub record LacksNumber (slots : Slots) (beside : ExprType) (quoted : Option (List ℕ)) : Type 0 where
+  pub read : IsReadBeside beside quoted
+  pub none : ¬ HasNumber slots beside quoted
+
+-- what is told of an operand beside a value of the type: that it is not read, its number, or that it has none
+abbrev pub IsToldBeside : Slots → ExprType → Option (List ℕ) → Beside → Type 0
+IsToldBeside slots beside quoted Beside.Unread = ¬ IsReadBeside beside quoted
+IsToldBeside slots beside quoted (Beside.Number n) = NumberBeside slots beside quoted n
+IsToldBeside slots beside quoted Beside.Unknown = LacksNumber slots beside quoted

@@ -1,0 +1,79 @@
+//! String literals that are read as texts of an enumeration.
+ghost use Rattle.std.specs.Prelude.{◌≡◌, ◌∷◌, [], ◌++◌, ℕ, ℤ, List, IfSome, IfNone};
+ghost use Rattle.std.specs.Option.{option_map};
+ghost use Rattle.edm_values.specs.StringLiteral.{quote};
+ghost use Rattle.csdl_schema.specs.ExprType.{single};
+ghost use Rattle.csdl_schema.specs.SchemaModel.{slots_of, type_name_at};
+ghost use Rattle.odata_signatures.specs.TypeView.{expr_type, single_type};
+
+use super::edm_type::{EdmType, ValueType};
+use csdl_schema::{EnumId, Schema};
+
+/// What an operand is beside a value of a type, by what it quotes.
+#[derive(Clone, Copy, Debug, PartialEq, Eq)]
+pub enum Beside {
+    /// It is not read: it quotes nothing, or the type is that of no enumeration.
+    Unread,
+    /// It stands for that number of the enumeration.
+    Number(i64),
+    /// It is read, and stands for no number.
+    Unknown,
+}
+
+ghost use Rattle.odata_signatures.specs.QuotedNumber.{IsQuotedNumber, IsToldBeside};
+
+/// What an operand is beside a value of this type, where it is a String literal of that spelling, or none.
+pub fn number_beside(schema: &Schema, beside: &EdmType, quoted: Option<&str>) -> Beside
+    ensures { IsToldBeside (slots_of schema.now) (expr_type schema.now beside.now)
+        (option_map (λ spelling. spelling.now) quoted.entry) result }
+{
+    match beside {
+        EdmType::Single(member) => beside_value(schema, member, quoted),
+        EdmType::Null => Beside::Unread,
+        EdmType::Collection(_) => Beside::Unread,
+    }
+}
+
+/// The same, beside a value of that type which is no collection.
+fn beside_value(schema: &Schema, member: &ValueType, quoted: Option<&str>) -> Beside
+    ensures { IsToldBeside (slots_of schema.now) (single (single_type schema.now member.now))
+        (option_map (λ spelling. spelling.now) quoted.entry) result }
+{
+    match member {
+        ValueType::Enum(id) => match quoted {
+            Some(spelling) => match quoted_number(schema, *id, spelling) {
+                Some(number) => Beside::Number(number),
+                None => Beside::Unknown,
+            },
+            None => Beside::Unread,
+        },
+        ValueType::Prim(_) => Beside::Unread,
+        ValueType::Structured(_) => Beside::Unread,
+    }
+}
+
+/// The number of the enumeration for which a String literal of that spelling stands.
+fn quoted_number(schema: &Schema, id: EnumId, spelling: &str) -> Option<i64>
+    ensures some { IfSome result (IsQuotedNumber (slots_of schema.now) (type_name_at schema.now id) spelling.now) }
+    ensures none { IfNone result ((n : ℤ)
+        → ¬ IsQuotedNumber (slots_of schema.now) (type_name_at schema.now id) spelling.now n) }
+{
+    match between_quotes(spelling) {
+        Some(inner) => schema.enum_value(id, inner),
+        None => None,
+    }
+}
+
+/// The text between the first byte and the last one, where both are quotes.
+fn between_quotes(spelling: &str) -> Option<&str>
+    ensures some { IfSome result (λ inner. spelling.now ≡ quote ∷ inner.now ++ quote ∷ []) }
+    ensures none { IfNone result ((inner : List ℕ) → ¬ (spelling.now ≡ quote ∷ inner ++ quote ∷ [])) }
+{
+    match spelling.strip_prefix('\'') {
+        Some(rest) => match rest.strip_suffix('\'') {
+            Some(inner) => Some(inner),
+            None => None,
+        },
+        None => None,
+    }
+}

@@ -1,0 +1,37 @@
+-- What is read of a tree beside an operand.
+use Rattle.std.proofs.Common.{◌≡◌, refl, subst, ℕ, ℤ, List, Option, Some, None}
+use Rattle.odata_syntax.specs.Tree.{Tree}
+use Rattle.csdl_schema.specs.ExprType.{ExprType, single, enumeration}
+use Rattle.csdl_schema.specs.SchemaModel.{Slots}
+use Rattle.odata_signatures.specs.ExprTypes.{string_type}
+use Rattle.odata_signatures.specs.QuotedNumber.{IsReadBeside, NumberBeside}
+use Rattle.odata_expression_types.specs.Reads.{ReadsNone}
+use Rattle.odata_expression_types.specs.Sides.{quoted_text}
+
+-- what stands for a number is read
+pub is_read : (slots : Slots) (type : ExprType) (quoted : Option (List ℕ)) (n : ℤ) → NumberBeside slots type quoted n → IsReadBeside type quoted
+is_read slots (single (enumeration name)) (Some spelling) n number = tt
+is_read slots (single (enumeration name)) None n number = absurd number
+is_read slots _ quoted n number = absurd number
+
+-- what is not read stands for none
+pub reads_none : (slots : Slots) (Beside : ExprType → Type 0) (type : ExprType) (tree : Tree) → ((t : ExprType) → Beside t → t ≡ type)
+    → ¬ IsReadBeside type (quoted_text tree) → ReadsNone slots Beside tree
+reads_none slots Beside type tree one unread n reads =
+    unread (subst (λ (t : ExprType). IsReadBeside t (quoted_text tree)) (one reads.type_of reads.beside) (is_read slots reads.type_of (quoted_text tree) n reads.number))
+
+-- an enumeration, and a text that is read beside it
+pub record IsReading (type : ExprType) (quoted : Option (List ℕ)) : Type 0 where
+  pub name : List ℕ
+  pub spelling : List ℕ
+  pub type_is : type ≡ single (enumeration name)
+  pub quotes : quoted ≡ Some spelling
+
+pub reading : (type : ExprType) (quoted : Option (List ℕ)) → IsReadBeside type quoted → IsReading type quoted
+reading (single (enumeration name)) (Some spelling) read = record { name = name; spelling = spelling; type_is = refl; quotes = refl }
+reading (single (enumeration name)) None read = absurd read
+reading _ quoted read = absurd read
+
+-- beside a String no text is read
+pub string_unread : (quoted : Option (List ℕ)) → ¬ IsReadBeside string_type quoted
+string_unread quoted read = read
