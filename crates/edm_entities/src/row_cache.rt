@@ -14,7 +14,7 @@ const DEPTH: usize = 127;
 /// How many texts are kept, and for how many bytes each may have room.
 const TEXTS: usize = 1024;
 
-const TEXT_ROOM: usize = 4096;
+pub(crate) const TEXT_ROOM: usize = 4096;
 
 /// How many lists are kept, and for how many values each may have room.
 const LISTS: usize = 64;
@@ -29,26 +29,15 @@ pub(crate) struct SpareTexts {
 }
 
 impl SpareTexts {
-    /// A text to be filled: that of a place, else a spare one. One with much room is let go.
-    #[inline(always)]
-    fn text_of(&mut self, old: Value) -> String {
-        if let Value::Text(text) = old {
-            if text.capacity() <= TEXT_ROOM {
-                return text;
-            }
-        }
-        match self.texts.pop() {
-            Some(text) => text,
-            None => String::new(self.alloc),
-        }
-    }
-
-    /// A copy of a text, in the memory of what stood in its place; none where memory was refused.
-    #[inline(always)]
-    pub(crate) fn copy(&mut self, text: &str, old: Value) -> Option<String>
+    /// A copy of a text, in a spare one; none where memory was refused.
+    #[inline(never)]
+    pub(crate) fn copy(&mut self, text: &str) -> Option<String>
         ensures { IfSome result (λ copy. string_bytes copy ≡ text.now) }
     {
-        let mut copy = self.text_of(old);
+        let mut copy = match self.texts.pop() {
+            Some(spare) => spare,
+            None => String::new(self.alloc),
+        };
         copy.clear();
         match copy.push_str(text) {
             Ok(()) => Some(copy),
@@ -72,7 +61,7 @@ pub(crate) struct RowCache {
     pub(crate) order: SlotOrder,
     pub(crate) scratch: Scratch,
     pub(crate) texts: SpareTexts,
-    pub(crate) row: Vec<Value>,
+    pub(crate) row: RowSlots,
     lists: Vec<Vec<Value>>,
     marks: Vec<Vec<bool>>,
 }
@@ -87,7 +76,10 @@ impl RowCache {
                 alloc,
                 texts: Vec::new(alloc),
             },
-            row: Vec::new(alloc),
+            row: RowSlots {
+                values: Vec::new(alloc),
+                filled: Vec::new(alloc),
+            },
             lists: Vec::new(alloc),
             marks: Vec::new(alloc),
         }
@@ -95,8 +87,11 @@ impl RowCache {
 
     /// The slots of a row, with the values of the last one in them.
     pub(crate) fn row_slots(&mut self) -> RowSlots {
-        let values = mem::replace(&mut self.row, Vec::new(self.alloc));
-        self.slots_with(values)
+        let none = RowSlots {
+            values: Vec::new(self.alloc),
+            filled: Vec::new(self.alloc),
+        };
+        mem::replace(&mut self.row, none)
     }
 
     /// The slots of an object, with the values in them that stood in its place.
@@ -118,6 +113,7 @@ impl RowCache {
     }
 
     /// The values of an object whose slots are filled.
+    #[inline(always)]
     pub(crate) fn values_of(&mut self, slots: RowSlots) -> Vec<Value>
         ensures { result ≡ slots.values }
     {

@@ -1,6 +1,7 @@
-//! Values without parts, from a row's bytes, each read as its type wants it.
+//! Values without parts, from a row's bytes, each read as its type wants it. Where a text or a truth value stood, one
+//! is written over it, so that nothing is let go.
 ghost use Rattle.std.specs.Prelude.{◌≡◌, Ok, IsTrue};
-ghost use Rattle.serde_json.specs.Data.{Data, boolean, string};
+ghost use Rattle.serde_json.specs.Data.{Data, string};
 ghost use Rattle.csdl_schema.specs.ExprType.{ExprType, enumeration, primitive, single};
 ghost use Rattle.csdl_schema.specs.SchemaModel.{Slots, slots_of, type_name_at};
 ghost use Rattle.edm_entities.specs.FitsPrimitive.{FitsPrimitive};
@@ -10,14 +11,13 @@ ghost use Rattle.edm_entities.specs.private.Scalars.{IsJsonNumber};
 
 use super::flaw::ReadFlaw;
 use super::leaf::{read_member, read_text};
-use super::row_cache::{RowCache, SpareTexts};
+use super::row_cache::{RowCache, SpareTexts, TEXT_ROOM};
 use super::row_token::number_written;
 use super::scalar::{JsonNumber, Scalar};
 use csdl_schema::{EnumId, Schema};
 use edm_values::{Prim, Value};
 use json::Scratch;
 use json_tokens::TokenReader;
-use std::mem;
 
 /// Puts a value of a primitive type into its place.
 #[inline(always)]
@@ -40,8 +40,21 @@ pub(crate) fn take_primitive(
     }
 }
 
-/// The same of a number type.
+/// The same of a number type. Most numbers are digits alone, whose value the reader tells.
+#[inline(always)]
 fn take_number(wanted: Prim, reader: &mut TokenReader<'_>, place: &mut Value) -> bool
+    ensures { (slots : Slots) → IsTrue result → ReadsLeaf reader.old reader.new
+        (FitsHoweverNullable slots (single (primitive wanted)) place.new) }
+{
+    if let Some(n) = reader.take_whole() {
+        return put_number(wanted, JsonNumber::Whole(n as i64), place);
+    }
+    take_other_number(wanted, reader, place)
+}
+
+/// The same of any number.
+#[inline(never)]
+fn take_other_number(wanted: Prim, reader: &mut TokenReader<'_>, place: &mut Value) -> bool
     ensures { (slots : Slots) → IsTrue result → ReadsLeaf reader.old reader.new
         (FitsHoweverNullable slots (single (primitive wanted)) place.new) }
 {
@@ -55,6 +68,7 @@ fn take_number(wanted: Prim, reader: &mut TokenReader<'_>, place: &mut Value) ->
 }
 
 /// The same of `Edm.Boolean`.
+#[inline(always)]
 fn take_truth(reader: &mut TokenReader<'_>, place: &mut Value) -> bool
     ensures { (slots : Slots) → IsTrue result → ReadsLeaf reader.old reader.new
         (FitsHoweverNullable slots (single (primitive Prim.Bool)) place.new) }
@@ -67,6 +81,7 @@ fn take_truth(reader: &mut TokenReader<'_>, place: &mut Value) -> bool
 }
 
 /// The same of `Edm.String`. A text fills one of an earlier row.
+#[inline(always)]
 fn take_text(cache: &mut RowCache, reader: &mut TokenReader<'_>, place: &mut Value) -> bool
     ensures { (slots : Slots) → IsTrue result → ReadsLeaf reader.old reader.new
         (FitsHoweverNullable slots (single (primitive Prim.String)) place.new) }
@@ -78,6 +93,7 @@ fn take_text(cache: &mut RowCache, reader: &mut TokenReader<'_>, place: &mut Val
 }
 
 /// The same of the types whose values are written as texts.
+#[inline(never)]
 fn take_literal(
     cache: &mut RowCache,
     wanted: Prim,
@@ -112,9 +128,12 @@ pub(crate) fn take_enumeration(
 
 #[inline(always)]
 fn put_truth(truth: bool, place: &mut Value)
-    ensures { (slots : Slots) (type : ExprType) → FitsPrimitive Prim.Bool (boolean truth) (val_of place.new slots type) }
+    ensures { place.new ≡ Value.Bool truth }
 {
-    *place = Value::Bool(truth);
+    match place {
+        Value::Bool(old) => *old = truth,
+        _ => *place = Value::Bool(truth),
+    }
 }
 
 #[inline(always)]
@@ -137,7 +156,13 @@ fn put_text(texts: &mut SpareTexts, text: &str, place: &mut Value) -> bool
     ensures { (slots : Slots) (type : ExprType)
         → IsTrue result → FitsPrimitive Prim.String (string text.now) (val_of place.new slots type) }
 {
-    match texts.copy(text, mem::replace(place, Value::Null)) {
+    if let Value::Text(old) = place {
+        if old.capacity() <= TEXT_ROOM {
+            old.clear();
+            return old.push_str(text).is_ok();
+        }
+    }
+    match texts.copy(text) {
         Some(copy) => {
             *place = Value::Text(copy);
             true

@@ -10,11 +10,12 @@ ghost use Rattle.edm_entities.specs.private.Walk.{FitSlots};
 use super::entity::Entity;
 use super::row_cache::RowCache;
 use super::row_plan::RowPlan;
+use super::row_slots::RowSlots;
 use super::row_walk::{RowScene, take_members};
 use super::type_plan::{TypePlan, plan_at};
 use csdl_schema::{Schema, TypeId};
 use edm_values::Value;
-use json_tokens::TokenReader;
+use json_tokens::{TokenReader, text_of_line};
 use std::alloc::Global;
 use std::marker::Model;
 
@@ -60,7 +61,7 @@ impl RowReader {
         ensures of_type { IfSome result (λ e. (e.schema ≡ schema.now) × (e.type_id ≡ plan.now.type_id)) }
         ensures row { IfSome result (IsLineOf line.now) }
     {
-        let Ok(text) = str::from_utf8(line) else {
+        let Some(text) = text_of_line(line) else {
             return None;
         };
         let plans = plan.plans.as_slice();
@@ -73,7 +74,7 @@ impl RowReader {
     /// Takes back an entity whose row is done with: its texts and lists are filled again by the rows to come. It says
     /// nothing of them, and any entity will do.
     pub fn take_back(&mut self, entity: Entity<'_>) {
-        self.cache.row = entity.into_values();
+        self.cache.row.values = entity.into_values();
     }
 }
 
@@ -106,9 +107,10 @@ fn take_row(
     if !take_members(cache, &scene, plan, &mut reader, &mut slots) {
         return None;
     }
-    if reader.is_at_end() {
-        Some(cache.values_of(slots))
-    } else {
-        None
+    if !reader.is_at_end() {
+        return None;
     }
+    let RowSlots { values, filled } = slots;
+    cache.row.filled = filled;
+    Some(values)
 }

@@ -1,5 +1,6 @@
 //! The walk over a row's tokens, straight into the slots of its type. It ends where the row fits no value, and where
-//! memory is wanting.
+//! memory is wanting. What most rows are, an object of values without parts, is one piece of code (`inline(always)`);
+//! arrays and objects within it are called apart: that saves a call for each value.
 ghost use Rattle.std.specs.Prelude.{◌≡◌, ◌<◌, ◌≤◌, length, take, true, false, Some, None, IsTrue};
 ghost use Rattle.json.specs.Json.{read_key};
 ghost use Rattle.serde_json.specs.Data.{object, put, Members};
@@ -75,6 +76,7 @@ pub(crate) fn take_members(
 
 /// Reads a member's value into the slot of its name, if there is one: true. At the closing brace false, and where the
 /// member is none none.
+#[inline(always)]
 #[cycle(row)]
 fn take_member(
     cache: &mut RowCache,
@@ -123,6 +125,7 @@ fn take_member(
 }
 
 /// Puts the value of a property into its place. One that is not looked at is held as null.
+#[inline(always)]
 #[cycle(row)]
 fn take_property(
     cache: &mut RowCache,
@@ -143,19 +146,25 @@ fn take_property(
         *place = Value::Null;
         return skip_value(&mut cache.scratch, reader, scene.depth);
     };
+    let (nullable, record) = (plan.property.nullable, plan.record);
+    if plan.property.many {
+        let one = OneValue {
+            wanted,
+            nullable,
+            record,
+        };
+        return take_array(cache, scene, &one, reader, place);
+    }
     let one = OneValue {
         wanted,
-        nullable: plan.property.nullable,
-        record: plan.record,
+        nullable,
+        record,
     };
-    if plan.property.many {
-        take_array(cache, scene, &one, reader, place)
-    } else {
-        take_single(cache, scene, &one, reader, place)
-    }
+    take_single(cache, scene, &one, reader, place)
 }
 
 /// Puts a single value, or an item, into its place; null, if it may be.
+#[inline(always)]
 #[cycle(row)]
 fn take_single(
     cache: &mut RowCache,
@@ -193,6 +202,7 @@ fn put_null(cache: &mut RowCache, nullable: bool, place: &mut Value) -> bool
 }
 
 /// Puts a value of a complex type into its place.
+#[inline(never)]
 #[cycle(row)]
 fn take_record(
     cache: &mut RowCache,
@@ -226,6 +236,7 @@ fn take_record(
 }
 
 /// Puts the value of an array into its place.
+#[inline(never)]
 #[cycle(row)]
 fn take_array(
     cache: &mut RowCache,

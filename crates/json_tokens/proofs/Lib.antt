@@ -1,4 +1,6 @@
+mod AsciiLemmas
 pub mod EscapeLemmas
 pub mod KeyLemmas
 pub mod LexemeLemmas
 mod StopLemmas
+mod WholeLemmas

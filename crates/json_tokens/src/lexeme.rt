@@ -69,7 +69,7 @@ pub(crate) fn past_spaces(bytes: &[u8], from: usize) -> usize
     requires { from ≤ length bytes.now }
     ensures { PassesSpaces bytes.now from result }
 {
-    if from < bytes.len() && bytes[from] > b' ' {
+    if from == bytes.len() || bytes[from] > b' ' {
         return from;
     }
     if from + 1 < bytes.len() && bytes[from + 1] > b' ' && bytes[from] == b' ' {
@@ -228,7 +228,10 @@ pub(crate) fn value_end(bytes: &[u8], from: usize) -> Option<(usize, Turn)>
     requires { from ≤ length bytes.now }
     ensures { IfSome result (λ found. EndsValue bytes.now from found.0 found.1) }
 {
-    match byte_at(bytes, from) {
+    if from == bytes.len() {
+        return Some((from, Turn::AfterValue));
+    }
+    match bytes[from] {
         b',' => Some((from + 1, Turn::AfterComma)),
         b'}' | b']' => Some((from, Turn::AfterValue)),
         _ => value_end_past_spaces(bytes, from),

@@ -4,8 +4,11 @@
 mod escaped_text;
 mod key;
 mod lexeme;
+mod line_text;
 mod same_bytes;
 mod token_reader;
+mod whole;
 
 pub use key::Key;
+pub use line_text::text_of_line;
 pub use token_reader::TokenReader;

@@ -1,8 +1,9 @@
 //! The tokens of a row, straight from its bytes.
-ghost use Rattle.std.specs.Prelude.{◌≡◌, ◌∷◌, [], false, None, Some, IsTrue, IfSome, IfOk, OnErr, option_map};
+ghost use Rattle.std.specs.Prelude.{◌≡◌, ◌∷◌, ℕ, List, [], false, None, Some, IsTrue, IfSome, IfOk, OnErr, option_map};
 ghost use Rattle.json.specs.Json.{after_end_array, read_key};
 ghost use Rattle.json.specs.Lex.{tokens};
 ghost use Rattle.json.specs.Reads.{token_of};
+ghost use Rattle.json_tokens.specs.WholeNumbers.{IsWhole};
 ghost use Rattle.json.specs.Token.{begin_array, begin_object, boolean, null, number, string};
 
 use super::key::Key;
@@ -11,6 +12,7 @@ use super::lexeme::{
     truth_at, value_end,
 };
 use super::same_bytes::stands_at;
+use super::whole::whole_value;
 use json::{Invalid, Scratch, Token};
 use std::marker::Model;
 
@@ -160,6 +162,27 @@ impl<'a> TokenReader<'a> {
                 self.place = next;
                 self.turn = turn;
                 Some(written)
+            }
+            None => None,
+        }
+    }
+
+    /// The number that is next, where digits alone write it, of which the first is not 0.
+    #[inline(always)]
+    pub fn take_whole(&mut self) -> Option<u64>
+        ensures taken { IfSome result (λ n. (s : List ℕ) × (self.old ≡ number s ∷ self.new) × IsWhole s n) }
+        ensures kept { result ≡ None → self.new ≡ self.old }
+    {
+        let bytes = self.text.as_bytes();
+        let place = past_spaces(bytes, self.place);
+        if place == bytes.len() || !self.turn.may_begin() {
+            return None;
+        }
+        match whole_value(self.text, place) {
+            Some((number, next, turn)) => {
+                self.place = next;
+                self.turn = turn;
+                Some(number)
             }
             None => None,
         }

@@ -1,14 +1,10 @@
 -- Slots by the names of their properties.
-use Rattle.std.proofs.Common.{◌≡◌, ◌≢◌, ℕ, suc, ◌+◌, ◌<◌, List, [], ◌∷◌, length, map, Option, Some, None, IfSome, MatchOption, slice_get, Bool, true, false, nat_eq, refl, sym, ap, ◌∙◌, arith}
+use Rattle.std.proofs.Common.{◌≡◌, ◌≢◌, ℕ, suc, ◌+◌, List, [], ◌∷◌, map, Some, None, slice_get, Bool, true, false, nat_eq, refl, sym, ap, ◌∙◌, arith}
 use Rattle.std.specs.Cmp.Lexicographic.{pointwise, same_text}
 use Rattle.std.specs.List.{AllByRecursion, position_from}
 use Rattle.std.proofs.lemmas.Cmp.{nat_list_eq_equiv}
 use Rattle.std.proofs.lemmas.Iterator.Adapters.{position_from-zero}
-use Rattle.std.proofs.lemmas.List.{length-map}
-use Rattle.std.proofs.lemmas.Option.{slice_get_within}
-use Rattle.csdl_schema.specs.SchemaModel.{SchemaModel, PropertyModel, properties_at, slot_named}
-use Rattle.csdl_schema.specs.declared.property.Property.{Property}
-use Rattle.edm_entities.specs.Plans.{IsSlotNamed}
+use Rattle.csdl_schema.specs.SchemaModel.{PropertyModel, slot_named}
 
 differ : false ≡ true → ⊥
 differ is = cc

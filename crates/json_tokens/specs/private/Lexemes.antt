@@ -1,6 +1,7 @@
 -- For private clauses: lexemes of a text, from one place to the next.
-use Rattle.std.specs.Prelude.{◌≡◌, ◌⊎◌, ℕ, ◌+◌, ◌<◌, ◌≤◌, List, ◌∷◌, ◌++◌, length, drop, get_or, Bool, true, false}
+use Rattle.std.specs.Prelude.{◌≡◌, ◌⊎◌, ℕ, ◌+◌, ◌<◌, ◌≤◌, List, ◌∷◌, ◌++◌, length, take, drop, get_or, Bool, true, false}
 use Rattle.std.specs.Char.{is_ascii_digit}
+use Rattle.std.specs.Str.Parse.{AllDigits, digits_value}
 use Rattle.json.specs.Token.{Token, key, string}
 use Rattle.json.specs.Word.{is_space, ends_word}
 use Rattle.json.specs.Lex.{token, Place, after_value, may_begin, may_close, begins_colon, between, in_string, lex, punctuate}
@@ -52,6 +53,18 @@ pub record StandsAt (text : List ℕ) (from : ℕ) (word : List ℕ) : Type 0 wh
   pub within : from + length word ≤ length text
   pub is : drop from text ≡ word ++ drop (from + length word) text
 
+-- each byte from one place up to the other is of ASCII
+abbrev pub AsciiBetween : List ℕ → ℕ → ℕ → Type 0
+AsciiBetween text from to = (k : ℕ) → from ≤ k → k < to → get_or text k 0 < 128
+
 -- each byte from one place up to the other is a digit
 abbrev pub DigitsBetween : List ℕ → ℕ → ℕ → Type 0
 DigitsBetween text from to = (k : ℕ) → from ≤ k → k < to → is_ascii_digit (get_or text k 0) ≡ true
+
+-- the digits at the front, so many, write this number of at most 18 places
+pub record WritesWhole (text : List ℕ) (count number : ℕ) : Type 0 where
+  pub within : count ≤ length text
+  pub digits : DigitsBetween text 0 count
+  pub all : AllDigits 10 (take count text)
+  pub value : number ≡ digits_value 10 (take count text)
+  pub bound : number < 1000000000000000000

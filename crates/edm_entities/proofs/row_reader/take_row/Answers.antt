@@ -14,13 +14,13 @@ use Rattle.edm_entities.proofs.row_reader.take_row.Goals as goal
 pub take_members-requires-clause-plan : goal.take_members-requires-clause-plan
 take_members-requires-clause-plan c = c.in-Some.ensures.plan c.args.schema.now c.requires
 
-pub returns-then-is_at_end-clause-distinct : goal.returns-then-is_at_end-clause-distinct
-returns-then-is_at_end-clause-distinct c =
+pub returns-clause-distinct : goal.returns-clause-distinct
+returns-clause-distinct c =
     let schema = c.args.schema.now in
     subst (λ id. HasDistinctNames (properties_at schema id)) c.in-Some.ensures.of_type (c.in-Some.ensures.plan schema c.requires).distinct
 
-pub returns-then-is_at_end-clause-fits : goal.returns-then-is_at_end-clause-fits
-returns-then-is_at_end-clause-fits c =
+pub returns-clause-fits : goal.returns-clause-fits
+returns-clause-fits c =
     let schema = c.args.schema.now in
     let slots = slots_of schema in
     let id = c.in-Some.plan.now.type_id in
@@ -28,7 +28,7 @@ returns-then-is_at_end-clause-fits c =
     let values = c.take_members.new.slots.values in
     let started : tokens c.args.text.now ≡ Token.begin_object ∷ c.take_begin_object.new.self =
     sym c.new-reader.ensures ∙ c.take_begin_object.ensures.taken c.if-not-take_begin_object.false in
-    let ended : c.take_members.new.reader ≡ [] = c.is_at_end.ensures c.if-is_at_end.true in
+    let ended : c.take_members.new.reader ≡ [] = c.is_at_end.ensures c.if-not-is_at_end.false in
     let whole : Reads 127 (Token.begin_object ∷ c.take_begin_object.new.self) c.take_members.new.reader (λ json. IsSome (as_object json) × FitSlots slots json ps values.items) =
     object_reads 127 c.take_begin_object.new.self c.take_members.new.reader (λ found. FitSlots slots (object found) ps values.items)
     (λ json. IsSome (as_object json) × FitSlots slots json ps values.items) (omega arith) (λ found fits. (refl, fits)) (c.take_members.ensures c.if-not-take_members.false) in (
@@ -36,6 +36,5 @@ returns-then-is_at_end-clause-fits c =
       whole_read c.args.text.now whole.json
           (ap (λ ts. converted of_json (value 127 ts)) started ∙ whole.is_read ∙ ap (λ rest. Some (whole.json, rest)) ended),
       whole.holds.0,
-      subst (λ vs. FitSlots slots whole.json (properties_at schema c.args.type_id) vs.items) (sym c.values_of.ensures)
-          (subst (λ type_id. FitSlots slots whole.json (properties_at schema type_id) values.items) c.in-Some.ensures.of_type whole.holds.1),
+      subst (λ type_id. FitSlots slots whole.json (properties_at schema type_id) values.items) c.in-Some.ensures.of_type whole.holds.1,
     )

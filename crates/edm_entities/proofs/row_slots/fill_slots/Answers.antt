@@ -1,4 +1,4 @@
-use Rattle.std.proofs.Common.{◌≡◌, ◌<◌, ℕ, length, slice_get, get_or, true, false, Some, sym, ap, ◌∙◌, refl, subst, arith, lt_of_not-le}
+use Rattle.std.proofs.Common.{◌≡◌, length, slice_get, get_or, true, false, Some, ◌∙◌, refl, arith}
 use Rattle.std.proofs.lemmas.Option.{slice_get_read}
 use Rattle.edm_entities.proofs.RowLemmas.Plans.{slot_planned, below_next}
 use Rattle.edm_entities.proofs.RowLemmas.SlotsRead.{slots_over}

@@ -1,11 +1,10 @@
 use Rattle.std.proofs.Common.{◌≡◌, ◌+◌, ◌<◌, ◌∷◌, ◌++◌, [], false, true, length, take, Some, replicate, slice_get, slice_set, refl, sym, ap, ◌∙◌, subst, rules, arith}
-use Rattle.std.proofs.lemmas.Grind.{common_steps}
 use Rattle.std.proofs.lemmas.Option.{slice_get_read}
 use Rattle.json.specs.Token.{Token}
 use Rattle.json.specs.Json.{after_end_array}
 use Rattle.serde_json.specs.Data.{Data, no_items, item, Members, object, put}
 use Rattle.serde_json.specs.Find.{get, get_member}
-use Rattle.edm_values.specs.declared.value.Value.{Null, Record, List as ListOf}
+use Rattle.edm_values.specs.declared.value.Value.{Record, List as ListOf}
 use Rattle.csdl_schema.specs.ExprType.{single, collection, primitive, enumeration, structured, SingleType}
 use Rattle.csdl_schema.specs.PropertyView.{property_type}
 use Rattle.csdl_schema.specs.SchemaModel.{slots_of, type_name_at, properties_at}
@@ -16,10 +15,10 @@ use Rattle.edm_entities.specs.private.NextMember.{IsNextMember}
 use Rattle.edm_entities.specs.private.RowTokens.{Reads, ReadsItems, append_items, FitsNullable, FitsHoweverNullable}
 use Rattle.edm_entities.specs.private.SlotsSoFar.{HoldsSoFar, SlotsSoFar}
 use Rattle.edm_entities.specs.Plans.{IsSlotNamed}
-use Rattle.edm_entities.specs.private.Walk.{HoldEach, FitList, FitSlots, HoldInItems, wanted_single}
+use Rattle.edm_entities.specs.private.Walk.{FitList, FitSlots, HoldInItems, wanted_single}
 use Rattle.edm_entities.specs.declared.row_member.Member.TheVariants.{OfSlot, Other, End}
 use Rattle.edm_entities.proofs.RowLemmas.Leads.{members_start, members_over, items_start, item_more, items_over}
-use Rattle.edm_entities.proofs.RowLemmas.Leaves.{leaf_read, primitive_leaf_holds, member_leaf_holds, null_taken, some_by, wanted_read}
+use Rattle.edm_entities.proofs.RowLemmas.Leaves.{leaf_read, primitive_leaf_holds, member_leaf_holds, null_taken, wanted_read}
 use Rattle.edm_entities.specs.declared.wanted.Wanted.TheVariants.{Prim, Enum, Complex}
 use Rattle.edm_entities.proofs.RowLemmas.Parts.{fit_push, list_held, record_held}
 use Rattle.edm_entities.proofs.RowLemmas.Plans.{long_set, member_shorter, member_taken, slot_planned, take_none, take_set}

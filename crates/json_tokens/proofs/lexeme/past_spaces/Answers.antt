@@ -4,8 +4,8 @@ use Rattle.json.specs.Word.{is_space}
 use Rattle.json_tokens.proofs.LexemeLemmas.{one_more_space, stay}
 use Rattle.json_tokens.proofs.lexeme.past_spaces.Goals as goal
 
-pub returns-then-bytes-from-gt32 : goal.returns-then-bytes-from-gt32
-returns-then-bytes-from-gt32 c = stay c.args.bytes.now c.args.from c.requires
+pub returns-then-from-bytes : goal.returns-then-from-bytes
+returns-then-from-bytes c = stay c.args.bytes.now c.args.from c.requires
 
 pub returns-then-bytes-from-eq32 : goal.returns-then-bytes-from-eq32
 returns-then-bytes-from-eq32 c =

@@ -1,17 +1,21 @@
-use Rattle.std.proofs.Common.{◌≡◌, get_or, refl, sym, ◌∙◌, ⊎_elim, inl, inr, arith}
-use Rattle.json_tokens.proofs.LexemeLemmas.{ends_at_close, ends_at_comma, stay, within_byte, within_close}
+use Rattle.std.proofs.Common.{◌<◌, length, get_or, sym, ◌∙◌, ⊎_elim, inl, inr, arith}
+use Rattle.std.proofs.lemmas.List.{get_or_default}
+use Rattle.json_tokens.proofs.LexemeLemmas.{ends_at_close, ends_at_comma, ends_at_end, stay}
 use Rattle.json_tokens.proofs.lexeme.value_end.Goals as goal
+
+pub returns-then-from-bytes : goal.returns-then-from-bytes
+returns-then-from-bytes c = ends_at_end c.args.bytes.now c.args.from c.args.from (stay c.args.bytes.now c.args.from c.requires) c.if-from-bytes.true
 
 pub returns-in-44 : goal.returns-in-44
 returns-in-44 c =
     let d = c.args.bytes.now in
     let i = c.args.from in
-    let there : get_or d i 32 ≡ 44 = sym c.byte_at.ensures ∙ c.in-44.is in
-    ends_at_comma d i i (stay d i c.requires) (within_byte d i 44 there (λ e. omega arith)) there
+    let within : i < length d = omega (arith, c.requires) in
+    ends_at_comma d i i (stay d i c.requires) within (sym (get_or_default d i 0 32 within) ∙ c.in-44.is)
 
 pub returns-in-125 : goal.returns-in-125
 returns-in-125 c =
     let d = c.args.bytes.now in
     let i = c.args.from in
-    let which = ⊎_elim (λ e. inr (sym c.byte_at.ensures ∙ e)) (λ e. inl (sym c.byte_at.ensures ∙ e)) c.in-125.is in
-    ends_at_close d i i (get_or d i 32) (stay d i c.requires) (within_close d i which) refl which
+    let within : i < length d = omega (arith, c.requires) in
+    ends_at_close d i i (get_or d i 0) (stay d i c.requires) within (sym (get_or_default d i 0 32 within)) (⊎_elim (λ e. inr e) (λ e. inl e) c.in-125.is)

@@ -2,12 +2,21 @@ use Rattle.std.proofs.Common.{◌≡◌}
 use Rattle.edm_values.specs.MomentParts.{MomentParts}
 use Rattle.odata_checked_filter.specs.Filter.{Filter}
 use Rattle.line_filter.specs.Growth.{Grows}
-use Rattle.line_filter.specs.Kept.{StopsOn}
+use Rattle.line_filter.specs.Kept.{Filters, StopsOn}
 use Rattle.odata_filter.specs.RowJudgment.{rows_of}
 use Rattle.odata_filter.specs.RunStops.{StopsBy}
 use Rattle.odata_filter.specs.declared.run_fault.RunFault.{RunFault}
 use Rattle.odata_filter.proofs.RowLemmas.RowLineJudges.{of_filter, held_memory, held_stops, held_unread}
 use Rattle.odata_filter.proofs.filter.filter_slice.Goals as goal
+
+pub returns-in-Ok-clause-filters : goal.returns-in-Ok-clause-filters
+returns-in-Ok-clause-filters c =
+    let judge = c.new-judge.result in
+    let rows = c.args.rows.now in
+    let old = c.args.out.now.items in
+    let new = c.filter_bytes.new.out.items in
+    let Passed : Filter → MomentParts → Type 0 = λ f m. Grows old new (λ text. Filters (rows_of f m rows) text c.in-Ok.tally) in
+    of_filter Passed judge.filter c.args.checked.now judge.moment c.args.now.now c.new-judge.ensures.filter c.new-judge.ensures.moment c.in-Ok.ensures.filters
 
 pub returns-clause-stops : goal.returns-clause-stops
 returns-clause-stops c =

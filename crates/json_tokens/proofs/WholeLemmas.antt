@@ -1,0 +1,52 @@
+-- Lemmas on numbers of digits alone.
+use Rattle.std.proofs.Common.{◌≡◌, ℕ, ◌+◌, ◌-◌, ◌*◌, ◌<◌, ◌≤◌, List, length, take, drop, get_or, true, refl, sym, ap, ◌∙◌, subst, ⊎_elim, arith, length-take-le, length-drop}
+use Rattle.std.proofs.lemmas.Bool.{cases_lt, and_parts, leb-true, ne_eqb}
+use Rattle.std.proofs.lemmas.List.{get_or-drop}
+use Rattle.std.proofs.lemmas.Int.Digits.{digits_more, digits_value_more}
+use Rattle.std.proofs.lemmas.Str.{digit_value_digit}
+use Rattle.std.specs.Char.{digit_value, is_ascii_digit}
+use Rattle.json.specs.Token.{number}
+use Rattle.json_tokens.specs.WholeNumbers.{IsWhole}
+use Rattle.json_tokens.specs.private.Lexemes.{BeginsToken, EndsValue, WritesWhole}
+use Rattle.json_tokens.specs.declared.lexeme.Turn.{Turn}
+use Rattle.json_tokens.proofs.LexemeLemmas.{digits_begin}
+
+pub no_digits : (d : List ℕ) → WritesWhole d 0 0
+no_digits d = record { within = omega arith; digits = λ k from to. absurd (omega (arith, to)); all = tt; value = refl; bound = omega arith }
+
+in_range : (x : ℕ) → is_ascii_digit x ≡ true → (48 ≤ x) × (x ≤ 57)
+in_range x is = let parts = and_parts _ _ is in (leb-true 48 x parts.0, leb-true x 57 parts.1)
+
+digit_as_told : (x : ℕ) → is_ascii_digit x ≡ true → digit_value x + 48 ≡ x
+digit_as_told x is = digit_value_digit x (in_range x is)
+
+pub one_digit_more : (d : List ℕ) (i n m : ℕ) → WritesWhole d i n → i < length d → is_ascii_digit (get_or d i 0) ≡ true → n < 100000000000000000 → m ≡ n * 10 + (get_or d i 0 - 48)
+    → WritesWhole d (i + 1) m
+one_digit_more d i n m so_far within is small next =
+    let x = get_or d i 0 in
+    let told : digit_value x + 48 ≡ x = digit_as_told x is in
+    let high : x ≤ 57 = (in_range x is).1 in
+    record {
+      within = omega (arith, within);
+      digits = λ k from to. ⊎_elim (λ before. so_far.digits k from before) (λ behind. let same : k ≡ i = omega (arith, to, behind) in subst (λ j. is_ascii_digit (get_or d j 0) ≡ true) (sym same) is) (cases_lt k i);
+      all = digits_more 10 d i within so_far.all (omega (arith, told, high));
+      value = omega (arith, next, told, so_far.value, digits_value_more 10 d i within);
+      bound = omega (arith, next, high, small);
+    }
+
+-- the number that digits at a place write, where a value ends behind them
+pub whole_there : (d : List ℕ) (i count n next : ℕ) (turn : Turn) → i < length d → (get_or d i 0 ≡ 48 → ⊥) → WritesWhole (drop i d) count n → 0 < count → EndsValue d (i + count) next turn
+    → (s : List ℕ) × BeginsToken d i (number s) next turn × IsWhole s n
+whole_there d i count n next turn within first writes some ended =
+    let r = drop i d in
+    let s = take count r in
+    let room : count ≤ length d - i = omega (arith, writes.within, length-drop i d) in
+    let so_many : i + count - i ≡ count = omega arith in
+    let long : length s ≡ count = length-take-le count r writes.within in (
+      s,
+      digits_begin d i (i + count) s next turn (omega (arith, some)) (omega (arith, room, within)) (ap (λ k. take k r) (sym so_many))
+          (λ k from to. let there : i + (k - i) ≡ k = omega (arith, from) in
+          ap is_ascii_digit (ap (λ j. get_or d j 0) (sym there) ∙ sym (get_or-drop i d (k - i) 0)) ∙ writes.digits (k - i) (omega arith) (omega (arith, from, to)))
+          (ne_eqb _ 48 first) ended,
+      record { written = (omega (arith, long, some), writes.all); value = writes.value; bound = writes.bound },
+    )
