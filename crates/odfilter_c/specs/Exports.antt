@@ -1,0 +1,175 @@
+-- What each call is lent, and what it leaves.
+use Rattle.std.specs.Prelude.{◌≡◌, ℕ, List, [], ◌∷◌}
+use base.Fml.{Fml, fsep, feq, fex}
+use denote.RawPtr.{Ptr}
+use Rattle.odfilter_c.specs.Loans.{Loan, lent_handle, lent_judge, lent_bytes, lent_room, lent_made, lent_answer, left_judge, left_room, left_made, left_answer, unless_null, holds}
+use Rattle.odfilter_c.specs.declared.c_types.Answer.{Answer}
+use Rattle.odfilter_c.specs.declared.c_types.Bytes.{Bytes}
+use Rattle.odfilter_c.specs.declared.c_types.Room.{Room}
+use Rattle.odfilter_c.specs.declared.handle.Handle.{Handle}
+use Rattle.odfilter_c.specs.declared.owned.Owned.{Owned}
+use Rattle.odfilter_c.specs.Tells.{ReadsSchema, FindsType, ChecksText, ChecksQuery, TellsCanonical, TellsNodes, Frees, TellsVersion, TellsStatus, TellsFault}
+use Rattle.odfilter_c.specs.RowTells.{TellsNeed, MakesJudge, SetsMoment, JudgesOne, FiltersLines, TellsPath}
+
+abbrev pub lent_to_read_schema : Loan → Bytes → Room → Ptr → Ptr → Fml
+lent_to_read_schema l document names schema answer =
+    fsep (lent_bytes l document) (fsep (lent_room l names) (fsep (lent_made l schema) (lent_answer l answer)))
+
+abbrev pub left_by_read_schema : Loan → Bytes → Room → Ptr → Ptr → ℕ → Fml
+left_by_read_schema l document names schema answer result =
+    unless_null (document.at ∷ names.at ∷ schema ∷ answer ∷ [])
+    (fsep (feq ℕ result 1) (lent_to_read_schema l document names schema answer))
+    (fex (List ℕ) (λ names'. fex Owned (λ schema'. fex Answer (λ answer'.
+    fsep (left_room l names names') (fsep (left_made l schema schema') (fsep (left_answer l answer answer')
+    (holds (ReadsSchema l.bytes l.room names' schema' answer' result))))))))
+
+abbrev pub lent_to_find_type : Loan → Ptr → Bytes → Ptr → Fml
+lent_to_find_type l schema name made = fsep (lent_handle l schema) (fsep (lent_bytes l name) (lent_made l made))
+
+abbrev pub left_by_find_type : Loan → Ptr → Bytes → Ptr → ℕ → Fml
+left_by_find_type l schema name made result = unless_null (schema ∷ name.at ∷ made ∷ [])
+    (fsep (feq ℕ result 1) (lent_to_find_type l schema name made))
+    (fex Owned (λ made'.
+    fsep (left_made l made made') (holds (FindsType l.handle l.bytes made' result))))
+
+abbrev pub lent_to_check : Loan → Ptr → Bytes → Ptr → Ptr → Fml
+lent_to_check l given text made answer =
+    fsep (lent_handle l given) (fsep (lent_bytes l text) (fsep (lent_made l made) (lent_answer l answer)))
+
+abbrev pub left_by_check : Loan → Ptr → Bytes → Ptr → Ptr → ℕ → Fml
+left_by_check l given text made answer result = unless_null (given ∷ text.at ∷ made ∷ answer ∷ [])
+    (fsep (feq ℕ result 1) (lent_to_check l given text made answer))
+    (fex Owned (λ made'. fex Answer (λ answer'.
+    fsep (left_made l made made') (fsep (left_answer l answer answer')
+    (holds (ChecksText l.handle l.bytes made' answer' result))))))
+
+abbrev pub lent_to_check_query : Loan → Ptr → Bytes → Ptr → Ptr → Fml
+lent_to_check_query l given query made answer =
+    fsep (lent_handle l given) (fsep (lent_bytes l query) (fsep (lent_made l made) (lent_answer l answer)))
+
+abbrev pub left_by_check_query : Loan → Ptr → Bytes → Ptr → Ptr → ℕ → Fml
+left_by_check_query l given query made answer result = unless_null (given ∷ query.at ∷ made ∷ answer ∷ [])
+    (fsep (feq ℕ result 1) (lent_to_check_query l given query made answer))
+    (fex Owned (λ made'. fex Answer (λ answer'.
+    fsep (left_made l made made') (fsep (left_answer l answer answer')
+    (holds (ChecksQuery l.handle l.bytes made' answer' result))))))
+
+abbrev pub lent_to_canonical : Loan → Ptr → Room → Ptr → Fml
+lent_to_canonical l filter text answer = fsep (lent_handle l filter) (fsep (lent_room l text) (lent_answer l answer))
+
+abbrev pub left_by_canonical : Loan → Ptr → Room → Ptr → ℕ → Fml
+left_by_canonical l filter text answer result = unless_null (filter ∷ text.at ∷ answer ∷ [])
+    (fsep (feq ℕ result 1) (lent_to_canonical l filter text answer))
+    (fex (List ℕ) (λ text'. fex Answer (λ answer'.
+    fsep (left_room l text text') (fsep (left_answer l answer answer')
+    (holds (TellsCanonical l.handle l.room text' answer' result))))))
+
+abbrev pub lent_to_explain : Loan → Ptr → Room → Ptr → Fml
+lent_to_explain l filter text answer = fsep (lent_handle l filter) (fsep (lent_room l text) (lent_answer l answer))
+
+abbrev pub left_by_explain : Loan → Ptr → Room → Ptr → ℕ → Fml
+left_by_explain l filter text answer result = unless_null (filter ∷ text.at ∷ answer ∷ [])
+    (fsep (feq ℕ result 1) (lent_to_explain l filter text answer))
+    (fex (List ℕ) (λ text'. fex Answer (λ answer'.
+    fsep (left_room l text text') (fsep (left_answer l answer answer')
+    (holds (TellsNodes l.handle l.room text' answer' result))))))
+
+abbrev pub lent_to_needs_moment : Loan → Ptr → Ptr → Fml
+lent_to_needs_moment l filter answer = fsep (lent_handle l filter) (lent_answer l answer)
+
+abbrev pub left_by_needs_moment : Loan → Ptr → Ptr → ℕ → Fml
+left_by_needs_moment l filter answer result = unless_null (filter ∷ answer ∷ [])
+    (fsep (feq ℕ result 1) (lent_to_needs_moment l filter answer))
+    (fex Answer (λ answer'.
+    fsep (left_answer l answer answer') (holds (TellsNeed l.handle answer' result))))
+
+abbrev pub lent_to_new_judge : Loan → Ptr → Fml
+lent_to_new_judge l judge = lent_made l judge
+
+abbrev pub left_by_new_judge : Loan → Ptr → ℕ → Fml
+left_by_new_judge l judge result = unless_null (judge ∷ [])
+    (fsep (feq ℕ result 1) (lent_to_new_judge l judge))
+    (fex Owned (λ judge'.
+    fsep (left_made l judge judge') (holds (MakesJudge judge' result))))
+
+abbrev pub lent_to_set_moment : Loan → Ptr → Bytes → Fml
+lent_to_set_moment l judge moment = fsep (lent_judge l judge) (lent_bytes l moment)
+
+abbrev pub left_by_set_moment : Loan → Ptr → Bytes → ℕ → Fml
+left_by_set_moment l judge moment result = unless_null (judge ∷ moment.at ∷ [])
+    (fsep (feq ℕ result 1) (lent_to_set_moment l judge moment))
+    (fex Handle (λ judge'.
+    fsep (left_judge l judge judge') (holds (SetsMoment l.judge judge' l.bytes result))))
+
+abbrev pub lent_to_judge : Loan → Ptr → Ptr → Bytes → Ptr → Fml
+lent_to_judge l filter judge row answer =
+    fsep (lent_handle l filter) (fsep (lent_judge l judge) (fsep (lent_bytes l row) (lent_answer l answer)))
+
+abbrev pub left_by_judge : Loan → Ptr → Ptr → Bytes → Ptr → ℕ → Fml
+left_by_judge l filter judge row answer result = unless_null (filter ∷ judge ∷ row.at ∷ answer ∷ [])
+    (fsep (feq ℕ result 1) (lent_to_judge l filter judge row answer))
+    (fex Handle (λ judge'. fex Answer (λ answer'.
+    fsep (left_judge l judge judge') (fsep (left_answer l answer answer')
+    (holds (JudgesOne l.handle l.judge judge' l.bytes answer' result))))))
+
+abbrev pub lent_to_filter_lines : Loan → Ptr → Ptr → Bytes → Room → Ptr → Fml
+lent_to_filter_lines l filter judge rows kept answer =
+    fsep (lent_handle l filter) (fsep (lent_judge l judge) (fsep (lent_bytes l rows)
+    (fsep (lent_room l kept) (lent_answer l answer))))
+
+abbrev pub left_by_filter_lines : Loan → Ptr → Ptr → Bytes → Room → Ptr → ℕ → Fml
+left_by_filter_lines l filter judge rows kept answer result =
+    unless_null (filter ∷ judge ∷ rows.at ∷ kept.at ∷ answer ∷ [])
+    (fsep (feq ℕ result 1) (lent_to_filter_lines l filter judge rows kept answer))
+    (fex Handle (λ judge'. fex (List ℕ) (λ kept'. fex Answer (λ answer'.
+    fsep (left_judge l judge judge') (fsep (left_room l kept kept') (fsep (left_answer l answer answer')
+    (holds (FiltersLines l.handle l.judge judge' l.bytes l.room kept' answer' result))))))))
+
+abbrev pub lent_to_path : Loan → Ptr → Room → Ptr → Fml
+lent_to_path l judge path answer = fsep (lent_handle l judge) (fsep (lent_room l path) (lent_answer l answer))
+
+abbrev pub left_by_path : Loan → Ptr → Room → Ptr → ℕ → Fml
+left_by_path l judge path answer result = unless_null (judge ∷ path.at ∷ answer ∷ [])
+    (fsep (feq ℕ result 1) (lent_to_path l judge path answer))
+    (fex (List ℕ) (λ path'. fex Answer (λ answer'.
+    fsep (left_room l path path') (fsep (left_answer l answer answer')
+    (holds (TellsPath l.handle l.room path' answer' result))))))
+
+abbrev pub lent_to_free : Loan → Ptr → Fml
+lent_to_free l handle = lent_made l handle
+
+abbrev pub left_by_free : Loan → Ptr → ℕ → Fml
+left_by_free l handle result = unless_null (handle ∷ [])
+    (fsep (feq ℕ result 1) (lent_to_free l handle))
+    (fex Owned (λ handle'.
+    fsep (left_made l handle handle') (holds (Frees l.made handle' result))))
+
+abbrev pub lent_to_version : Loan → Room → Ptr → Fml
+lent_to_version l text answer = fsep (lent_room l text) (lent_answer l answer)
+
+abbrev pub left_by_version : Loan → Room → Ptr → ℕ → Fml
+left_by_version l text answer result = unless_null (text.at ∷ answer ∷ [])
+    (fsep (feq ℕ result 1) (lent_to_version l text answer))
+    (fex (List ℕ) (λ text'. fex Answer (λ answer'.
+    fsep (left_room l text text') (fsep (left_answer l answer answer')
+    (holds (TellsVersion l.room text' answer' result))))))
+
+abbrev pub lent_to_status_name : Loan → Room → Ptr → Fml
+lent_to_status_name l text answer = fsep (lent_room l text) (lent_answer l answer)
+
+abbrev pub left_by_status_name : Loan → ℕ → Room → Ptr → ℕ → Fml
+left_by_status_name l status text answer result = unless_null (text.at ∷ answer ∷ [])
+    (fsep (feq ℕ result 1) (lent_to_status_name l text answer))
+    (fex (List ℕ) (λ text'. fex Answer (λ answer'.
+    fsep (left_room l text text') (fsep (left_answer l answer answer')
+    (holds (TellsStatus status l.room text' answer' result))))))
+
+abbrev pub lent_to_fault_name : Loan → Room → Ptr → Fml
+lent_to_fault_name l text answer = fsep (lent_room l text) (lent_answer l answer)
+
+abbrev pub left_by_fault_name : Loan → ℕ → ℕ → Room → Ptr → ℕ → Fml
+left_by_fault_name l status fault text answer result = unless_null (text.at ∷ answer ∷ [])
+    (fsep (feq ℕ result 1) (lent_to_fault_name l text answer))
+    (fex (List ℕ) (λ text'. fex Answer (λ answer'.
+    fsep (left_room l text text') (fsep (left_answer l answer answer')
+    (holds (TellsFault status fault l.room text' answer' result))))))

@@ -1,0 +1,99 @@
+-- What a call of C is lent. Each address is null, or that of a value as a reference has it, lent for the call.
+use Rattle.std.specs.Prelude.{◌≡◌, ℕ, List, [], ◌∷◌, length}
+use base.Fml.{Fml, Lft, GName, Share, ftrue, fsep, feq, fex, fres, fbor}
+use denote.RattleType.{RattleType}
+use denote.RawPtr.{Ptr, block_ptr, null_ptr, ptr_val, block_of, count_of}
+use denote.Ref.{ShrRef, MutRef}
+use denote.Slice.{ShrSlice, MutSlice, slice_val, finally, Holeys}
+use denote.Builtin.{u8}
+use denote.Memory.{mem}
+use denote.Lend.{Held}
+use types.SemTy.{Body}
+use mir.Syntax.{static}
+use Rattle.std.specs.Ptr.{if_non_null}
+use Rattle.odfilter_c.specs.declared.c_types.Answer.{Answer}
+use Rattle.odfilter_c.specs.declared.c_types.Bytes.{Bytes}
+use Rattle.odfilter_c.specs.declared.c_types.Room.{Room}
+use Rattle.odfilter_c.specs.declared.handle.Handle.{Handle}
+use Rattle.odfilter_c.specs.declared.owned.Owned.{Owned}
+use Rattle.odfilter_c.specs.contracts.c_types.Answer.{the_row as AnswerRow}
+use Rattle.odfilter_c.specs.contracts.handle.Handle.{the_row as HandleRow}
+use Rattle.odfilter_c.specs.contracts.owned.Owned.{the_row as OwnedRow}
+
+-- what stands in the memory that C lends, with the names under which it may change, and for how long: of a call that is
+-- not lent one of these it says nothing
+pub record Loan : Type 0 where
+  pub lifetime : Lft
+  pub share : Share
+  pub handle : Handle
+  pub bytes : List ℕ
+  pub judge : Handle
+  pub judge_name : GName
+  pub room : List ℕ
+  pub room_name : GName
+  pub made : Owned
+  pub made_name : GName
+  pub answer : Answer
+  pub answer_name : GName
+
+-- a value that may change
+abbrev pub lent_place : (R : RattleType) → Lft → GName → Ptr → R.Denot → Fml
+lent_place R κ γ p x = if_non_null p ((MutRef static κ R).own_val
+    (record { ref_ptr = (block_of p, count_of p); ghost_name = γ; now = x }) (ptr_val p ∷ []))
+
+-- and what is left of it: the last value is x
+abbrev pub left_place : (R : RattleType) → Lft → GName → Ptr → R.Denot → Fml
+left_place R κ γ p x = fsep (fres γ (R.coded.code x)) (fbor κ (Body (mem R) (block_of p) (count_of p) γ))
+
+-- a handle that is read
+abbrev pub lent_handle : Loan → Ptr → Fml
+lent_handle l p = if_non_null p ((ShrRef static l.lifetime HandleRow).own_val
+    (record { ref_ptr = (block_of p, count_of p); now = l.handle }) (ptr_val p ∷ []))
+
+-- bytes that are read
+abbrev pub lent_bytes : Loan → Bytes → Fml
+lent_bytes l s = if_non_null s.at ((ShrSlice static l.lifetime u8).own_val
+    (record { ref_ptr = (block_of s.at, count_of s.at); now = l.bytes })
+    (slice_val (block_of s.at, count_of s.at) s.length ∷ []))
+
+-- a handle that may change
+abbrev pub lent_judge : Loan → Ptr → Fml
+lent_judge l p = lent_place HandleRow l.lifetime l.judge_name p l.judge
+
+abbrev pub left_judge : Loan → Ptr → Handle → Fml
+left_judge l p x = left_place HandleRow l.lifetime l.judge_name p x
+
+-- room
+abbrev pub lent_room : Loan → Room → Fml
+lent_room l s = if_non_null s.at ((MutSlice static l.lifetime u8).own_val
+    (record { ref_ptr = (block_of s.at, count_of s.at); ghost_name = l.room_name; now = l.room })
+    (slice_val (block_of s.at, count_of s.at) s.length ∷ []))
+
+abbrev pub left_room : Loan → Room → List ℕ → Fml
+left_room l s xs = fsep
+    (fsep (finally u8 l.room_name xs) (feq ℕ (length xs) (length l.room)))
+    (fbor l.lifetime (Held u8 (length l.room) (block_of s.at) (count_of s.at) l.room_name))
+
+-- the place of a handle that is made
+abbrev pub lent_made : Loan → Ptr → Fml
+lent_made l p = lent_place OwnedRow l.lifetime l.made_name p l.made
+
+abbrev pub left_made : Loan → Ptr → Owned → Fml
+left_made l p x = left_place OwnedRow l.lifetime l.made_name p x
+
+-- an answer
+abbrev pub lent_answer : Loan → Ptr → Fml
+lent_answer l p = lent_place AnswerRow l.lifetime l.answer_name p l.answer
+
+abbrev pub left_answer : Loan → Ptr → Answer → Fml
+left_answer l p x = left_place AnswerRow l.lifetime l.answer_name p x
+
+-- F, or N where one of the addresses is null
+abbrev pub unless_null : List Ptr → Fml → Fml → Fml
+unless_null [] N F = F
+unless_null (block_ptr b o ∷ ps) N F = unless_null ps N F
+unless_null (null_ptr ∷ ps) N F = N
+
+-- a fact
+abbrev pub holds : Type 0 → Fml
+holds φ = fex φ (λ _. ftrue)

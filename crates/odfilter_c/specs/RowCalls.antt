@@ -1,0 +1,100 @@
+-- What a judge comes to: the verdict of a filter on a row, and the rows that the filter keeps.
+use Rattle.std.specs.Prelude.{◌≡◌, ℕ, IsUtf8, IsSomeAnd, List, [], Option, None, Some, Result, Ok, Err}
+use Rattle.edm_entities.specs.declared.fault.RowFault.{RowFault}
+use Rattle.edm_values.specs.MomentLiteral.{MomentValue}
+use Rattle.edm_values.specs.MomentParts.{MomentParts}
+use Rattle.line_filter.specs.Kept.{Filters, Stops}
+use Rattle.line_filter.specs.declared.judge.Judgment.{Judgment}
+use Rattle.line_filter.specs.declared.stop.Stop.{Stop}
+use Rattle.line_filter.specs.declared.tally.Tally.{Tally}
+use Rattle.odata_checked_filter.specs.Calls.{UsesNow}
+use Rattle.odata_checked_filter.specs.Filter.{Filter, tree_of_filter}
+use Rattle.odata_eval.specs.declared.verdict.Verdict.{Verdict}
+use Rattle.odata_filter.specs.RowAnswer.{HasVerdict}
+use Rattle.odata_filter.specs.RowJudgment.{JudgesRow, rows_of}
+use Rattle.odata_filter.specs.declared.bad_row.BadRow.{BadRow}
+use Rattle.odfilter_c.specs.Answers.{path_bytes}
+use Rattle.odfilter_c.specs.declared.fault.Fault.{Fault}
+use Rattle.odfilter_c.specs.declared.handle.Handle.{Handle}
+use Rattle.odfilter_c.specs.declared.handle.JudgeHandle.{JudgeHandle}
+
+-- a judge that has no moment, and was in no fault
+abbrev pub IsNewJudge : Handle → Type 0
+IsNewJudge (Handle.Judge judge) = judge.value ≡ record { reader = tt; moment = None; last = None }
+IsNewJudge handle = ⊥
+
+abbrev pub IsNoMemory : Fault → Type 0
+IsNoMemory Fault.Memory = Unit {0}
+IsNoMemory fault = ⊥
+
+-- the moment that a text spells, or why it spells none
+abbrev pub IsMomentOf : List ℕ → Result MomentParts Fault → Type 0
+IsMomentOf text (Ok now) = MomentValue text now
+IsMomentOf text (Err Fault.NotUtf8) = ¬ IsUtf8 text
+IsMomentOf text (Err Fault.NotAMoment) = (now : MomentParts) → ¬ MomentValue text now
+IsMomentOf text (Err fault) = ⊥
+
+-- the filter is judged at the judge's moment, or at any where there is none and the filter does not ask for it
+abbrev pub IsMomentFor : Filter → Option MomentParts → MomentParts → Type 0
+IsMomentFor filter (Some given) now = now ≡ given
+IsMomentFor filter None now = ¬ UsesNow (tree_of_filter filter)
+
+-- the filter asks for a moment, and there is none
+abbrev pub LacksMoment : Filter → Option MomentParts → Type 0
+LacksMoment filter given = (given ≡ None) × UsesNow (tree_of_filter filter)
+
+-- the verdict of the filter on the row
+abbrev pub IsVerdictOn : Filter → Option MomentParts → List ℕ → Verdict → Type 0
+IsVerdictOn filter given row verdict =
+    (now : MomentParts) × (IsMomentFor filter given now × HasVerdict filter now row verdict)
+
+-- what is wrong with the row by itself
+abbrev pub IsBadRow : Filter → Option MomentParts → List ℕ → BadRow → Type 0
+IsBadRow filter given row bad =
+    (now : MomentParts) × (IsMomentFor filter given now × JudgesRow filter now row (Judgment.Fault bad))
+
+-- why there is no verdict; a row by itself has no line, which is told as 0
+abbrev pub IsNoVerdict : Filter → Option MomentParts → List ℕ → Fault → Type 0
+IsNoVerdict filter given row Fault.MomentNeeded = LacksMoment filter given
+IsNoVerdict filter given row (Fault.Json line) = (line ≡ 0) × IsBadRow filter given row BadRow.NotJson
+IsNoVerdict filter given row (Fault.Row line fault) = (line ≡ 0) × IsBadRow filter given row (BadRow.NoEntity fault)
+IsNoVerdict filter given row (Fault.Evaluation line fault) =
+    (line ≡ 0) × IsBadRow filter given row (BadRow.NoValue fault)
+IsNoVerdict filter given row Fault.Memory = Unit {0}
+IsNoVerdict filter given row fault = ⊥
+
+-- the stop of a run over lines that a fault tells
+abbrev pub stop_of : Fault → Option (Stop BadRow)
+stop_of (Fault.Json line) = Some (Stop.Fault line BadRow.NotJson)
+stop_of (Fault.Row line fault) = Some (Stop.Fault line (BadRow.NoEntity fault))
+stop_of (Fault.Evaluation line fault) = Some (Stop.Fault line (BadRow.NoValue fault))
+stop_of (Fault.LineTooLong line) = Some (Stop.TooLong line)
+stop_of fault = None
+
+-- the text of the rows that the filter keeps at a moment, and how many; or of those before the first line at fault; no
+-- text for want of memory
+abbrev pub IsRunAt : Filter → MomentParts → List ℕ → Result Tally Fault → List ℕ → Type 0
+IsRunAt filter now rows (Ok tally) text = Filters (rows_of filter now rows) text tally
+IsRunAt filter now rows (Err Fault.Memory) text = text ≡ []
+IsRunAt filter now rows (Err fault) text = IsSomeAnd (stop_of fault) (Stops (rows_of filter now rows) text)
+
+-- that at the judge's moment; none where it lacks one
+abbrev pub IsRunOver : Filter → Option MomentParts → List ℕ → Result Tally Fault → List ℕ → Type 0
+IsRunOver filter given rows (Err Fault.MomentNeeded) text = (text ≡ []) × LacksMoment filter given
+IsRunOver filter given rows outcome text =
+    (now : MomentParts) × (IsMomentFor filter given now × IsRunAt filter now rows outcome text)
+
+-- what the judge keeps for its path: a row's fault; where no row was judged, what it kept
+abbrev pub last_after : Option RowFault → Fault → Option RowFault
+last_after last (Fault.Row line fault) = Some fault
+last_after last Fault.MomentNeeded = last
+last_after last fault = None
+
+-- the judge keeps that, and has the moment that it had
+abbrev pub Keeps : JudgeHandle → JudgeHandle → Option RowFault → Type 0
+Keeps old new last = new ≡ record old { last = last }
+
+-- the path that it keeps
+abbrev pub path_kept : Option RowFault → List ℕ
+path_kept (Some fault) = path_bytes fault
+path_kept None = []

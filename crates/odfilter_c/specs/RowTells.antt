@@ -1,0 +1,118 @@
+-- What each call about rows tells of what it is lent.
+use Rattle.std.specs.Prelude.{◌≡◌, ◌⊎◌, ℕ, List, length, Option, None, Some, Result, Ok, Err, MatchResult}
+use Rattle.edm_entities.specs.declared.fault.RowFault.{RowFault}
+use Rattle.edm_values.specs.MomentParts.{MomentParts}
+use Rattle.line_filter.specs.declared.tally.Tally.{Tally}
+use Rattle.odata_checked_filter.specs.Calls.{UsesNow}
+use Rattle.odata_checked_filter.specs.Filter.{Filter, tree_of_filter}
+use Rattle.odata_eval.specs.declared.verdict.Verdict.{Verdict}
+use Rattle.odfilter_c.specs.Answers.{empty_answer, fault_answer, fault_status}
+use Rattle.odfilter_c.specs.Outcomes.{IsTold, Makes}
+use Rattle.odfilter_c.specs.RowCalls.{IsMomentOf, IsNewJudge, IsNoMemory, IsNoVerdict, IsRunOver, IsVerdictOn, Keeps, last_after, path_kept}
+use Rattle.odfilter_c.specs.Texts.{IsTooSmall, IsWritten, Writes}
+use Rattle.odfilter_c.specs.declared.c_types.Answer.{Answer}
+use Rattle.odfilter_c.specs.declared.fault.Fault.{Fault}
+use Rattle.odfilter_c.specs.declared.handle.Handle.{Handle}
+use Rattle.odfilter_c.specs.declared.handle.JudgeHandle.{JudgeHandle}
+use Rattle.odfilter_c.specs.declared.owned.Owned.{Owned}
+
+-- whether the filter asks for a moment
+abbrev pub TellsNeedOf : Filter → Answer → ℕ → Type 0
+TellsNeedOf filter answer status = (status ≡ 0)
+    × ((UsesNow (tree_of_filter filter) × (answer ≡ record empty_answer { number = 1 }))
+    ⊎ ((¬ UsesNow (tree_of_filter filter)) × (answer ≡ empty_answer)))
+
+abbrev pub TellsNeed : Handle → Answer → ℕ → Type 0
+TellsNeed (Handle.Filter filter) answer status = TellsNeedOf filter answer status
+TellsNeed handle answer status = IsTold Fault.OtherKind answer status
+
+-- making a judge, which has no answer of its own
+pub record MakesJudge (made : Owned) (status : ℕ) : Type 0 where
+  pub answer : Answer
+  pub makes : Makes IsNewJudge IsNoMemory made.value answer status
+
+-- the judge takes the moment, or is as it was
+abbrev pub TakesMoment : Result MomentParts Fault → JudgeHandle → JudgeHandle → ℕ → Type 0
+TakesMoment (Ok now) old new status = (new ≡ record old { moment = Some now }) × (status ≡ 0)
+TakesMoment (Err fault) old new status = (new ≡ old) × (status ≡ fault_status fault)
+
+-- setting a judge's moment
+pub record SetsMomentOf (old new : JudgeHandle) (text : List ℕ) (status : ℕ) : Type 0 where
+  pub outcome : Result MomentParts Fault
+  pub right : IsMomentOf text outcome
+  pub takes : TakesMoment outcome old new status
+
+abbrev pub SetsMoment : Handle → Handle → List ℕ → ℕ → Type 0
+SetsMoment (Handle.Judge old) (Handle.Judge new) text status = SetsMomentOf old.value new.value text status
+SetsMoment old new text status = (new ≡ old) × (status ≡ fault_status Fault.OtherKind)
+
+-- the number of a verdict
+abbrev pub verdict_number : Verdict → ℕ
+verdict_number Verdict.False = 0
+verdict_number Verdict.True = 1
+verdict_number Verdict.Null = 2
+
+-- how a verdict, or a fault, is told, and what the judge is then
+abbrev pub TellsVerdict : Result Verdict Fault → JudgeHandle → JudgeHandle → Answer → ℕ → Type 0
+TellsVerdict (Ok verdict) old new answer status =
+    Keeps old new None × ((answer ≡ record empty_answer { verdict = verdict_number verdict }) × (status ≡ 0))
+TellsVerdict (Err fault) old new answer status = Keeps old new (last_after old.last fault) × IsTold fault answer status
+
+-- judging a row
+pub record JudgesOneBy
+    (filter : Filter) (old new : JudgeHandle) (row : List ℕ) (answer : Answer) (status : ℕ)
+    : Type 0 where
+  pub outcome : Result Verdict Fault
+  pub right : MatchResult outcome (IsVerdictOn filter old.moment row) (IsNoVerdict filter old.moment row)
+  pub tells : TellsVerdict outcome old new answer status
+
+abbrev pub JudgesOne : Handle → Handle → Handle → List ℕ → Answer → ℕ → Type 0
+JudgesOne (Handle.Filter filter) (Handle.Judge old) (Handle.Judge new) row answer status =
+    JudgesOneBy filter old.value new.value row answer status
+JudgesOne filter old new row answer status = (new ≡ old) × IsTold Fault.OtherKind answer status
+
+-- the text is told, and how many rows there were; where the room is too small, how long it is
+abbrev pub TellsTally : Tally → List ℕ → List ℕ → List ℕ → Answer → ℕ → Type 0
+TellsTally tally text old new answer status =
+    (IsWritten text old new × ((status ≡ 0)
+    × (answer ≡ record empty_answer { length = length text; rows = tally.rows; kept = tally.kept })))
+    ⊎ (IsTooSmall text old new × IsTold (Fault.TooSmall (length text)) answer status)
+
+-- the fault is told, and the text before it, where the room takes that; its length is told in either case
+pub record TellsStop (fault : Fault) (text old new : List ℕ) (answer : Answer) (status : ℕ) : Type 0 where
+  pub written : IsWritten text old new ⊎ IsTooSmall text old new
+  pub told : answer ≡ record (fault_answer fault) { length = length text }
+  pub by : status ≡ fault_status fault
+
+abbrev pub TellsRun : Result Tally Fault → List ℕ → List ℕ → List ℕ → Answer → ℕ → Type 0
+TellsRun (Ok tally) text old new answer status = TellsTally tally text old new answer status
+TellsRun (Err fault) text old new answer status = TellsStop fault text old new answer status
+
+-- what the judge keeps behind a run
+abbrev pub last_of_run : Option RowFault → Result Tally Fault → Option RowFault
+last_of_run last (Ok tally) = None
+last_of_run last (Err fault) = last_after last fault
+
+-- judging lines
+pub record FiltersBy
+    (filter : Filter) (old new : JudgeHandle) (rows kept kept' : List ℕ) (answer : Answer) (status : ℕ)
+    : Type 0 where
+  pub outcome : Result Tally Fault
+  pub text : List ℕ
+  pub right : IsRunOver filter old.moment rows outcome text
+  pub keeps : Keeps old new (last_of_run old.last outcome)
+  pub tells : TellsRun outcome text kept kept' answer status
+
+abbrev pub FiltersLines : Handle → Handle → Handle → List ℕ → List ℕ → List ℕ → Answer → ℕ → Type 0
+FiltersLines (Handle.Filter filter) (Handle.Judge old) (Handle.Judge new) rows kept kept' answer status =
+    FiltersBy filter old.value new.value rows kept kept' answer status
+FiltersLines filter old new rows kept kept' answer status =
+    (new ≡ old) × ((kept' ≡ kept) × IsTold Fault.OtherKind answer status)
+
+-- the path of the last fault
+abbrev pub path_of_judge : Handle → Result (List ℕ) Fault
+path_of_judge (Handle.Judge judge) = Ok (path_kept judge.value.last)
+path_of_judge handle = Err Fault.OtherKind
+
+abbrev pub TellsPath : Handle → List ℕ → List ℕ → Answer → ℕ → Type 0
+TellsPath judge = Writes (path_of_judge judge)

@@ -1,0 +1,53 @@
+//! What crosses to C and back, as the header declares it.
+ghost use Rattle.std.specs.Prelude.{◌≡◌};
+ghost use Rattle.odfilter_c.specs.Answers.{empty_answer};
+
+/// Bytes that are lent for a call.
+#[repr(C)]
+#[derive(Drop)]
+pub struct Bytes {
+    pub at: *const u8,
+    pub length: usize,
+}
+
+/// Room for a text.
+#[repr(C)]
+#[derive(Drop)]
+pub struct Room {
+    pub at: *mut u8,
+    pub length: usize,
+}
+
+/// What a call tells beside its status. What it does not speak of is 0.
+#[repr(C)]
+#[derive(Drop)]
+pub struct Answer {
+    pub fault: u32,
+    pub verdict: u32,
+    pub start: usize,
+    pub stop: usize,
+    pub number: u64,
+    pub length: usize,
+    pub first: usize,
+    pub rows: u64,
+    pub kept: u64,
+}
+
+impl Answer {
+    /// An answer that tells nothing.
+    pub(crate) fn empty() -> Answer
+        ensures { result ≡ empty_answer }
+    {
+        Answer {
+            fault: 0,
+            verdict: 0,
+            start: 0,
+            stop: 0,
+            number: 0,
+            length: 0,
+            first: 0,
+            rows: 0,
+            kept: 0,
+        }
+    }
+}

@@ -1,0 +1,477 @@
+//! What C calls: each call tests its addresses, and asks the one of its name over references.
+ghost use types.Logic.{sem};
+ghost use base.Fml.{flft};
+ghost use denote.RawPtr.{Testable};
+ghost use Rattle.odfilter_c.specs.Loans.{Loan};
+ghost use Rattle.odfilter_c.specs.Exports.{lent_to_read_schema, left_by_read_schema};
+ghost use Rattle.odfilter_c.specs.Exports.{lent_to_find_type, left_by_find_type};
+ghost use Rattle.odfilter_c.specs.Exports.{lent_to_check, left_by_check};
+ghost use Rattle.odfilter_c.specs.Exports.{lent_to_check_query, left_by_check_query};
+ghost use Rattle.odfilter_c.specs.Exports.{lent_to_canonical, left_by_canonical};
+ghost use Rattle.odfilter_c.specs.Exports.{lent_to_explain, left_by_explain};
+ghost use Rattle.odfilter_c.specs.Exports.{lent_to_needs_moment, left_by_needs_moment};
+ghost use Rattle.odfilter_c.specs.Exports.{lent_to_new_judge, left_by_new_judge};
+ghost use Rattle.odfilter_c.specs.Exports.{lent_to_set_moment, left_by_set_moment};
+ghost use Rattle.odfilter_c.specs.Exports.{lent_to_judge, left_by_judge};
+ghost use Rattle.odfilter_c.specs.Exports.{lent_to_filter_lines, left_by_filter_lines};
+ghost use Rattle.odfilter_c.specs.Exports.{lent_to_path, left_by_path};
+ghost use Rattle.odfilter_c.specs.Exports.{lent_to_free, left_by_free};
+ghost use Rattle.odfilter_c.specs.Exports.{lent_to_version, left_by_version};
+ghost use Rattle.odfilter_c.specs.Exports.{lent_to_status_name, left_by_status_name};
+ghost use Rattle.odfilter_c.specs.Exports.{lent_to_fault_name, left_by_fault_name};
+
+use crate::c_types::{Answer, Bytes, Room};
+use crate::calls;
+use crate::handle::Handle;
+use crate::owned::Owned;
+use std::alloc::Global;
+use std::slice::{from_raw_parts, from_raw_parts_mut};
+
+/// Reads a schema.
+#[unsafe(no_mangle)]
+pub unsafe extern "C" fn odfilter_read_schema(
+    alloc: Global,
+    document: Bytes,
+    names: Room,
+    schema: *mut Owned,
+    answer: *mut Answer,
+) -> u32
+    ghost loan: { Loan }
+    requires testable { (Testable document.at) × (Testable names.at) × (Testable schema) × (Testable answer) }
+    requires* lent { sem 𝓛 (flft loan.lifetime loan.share)
+        ∗ sem 𝓛 (lent_to_read_schema loan document names schema answer) }
+    ensures* { sem 𝓛 (flft loan.lifetime loan.share)
+        ∗ sem 𝓛 (left_by_read_schema loan document names schema answer result) }
+{
+    if document.at.is_null() {
+        return 1;
+    }
+    if names.at.is_null() {
+        return 1;
+    }
+    if schema.is_null() {
+        return 1;
+    }
+    if answer.is_null() {
+        return 1;
+    }
+    unsafe {
+        calls::read_schema(
+            alloc,
+            from_raw_parts(document.at, document.length),
+            from_raw_parts_mut(names.at, names.length),
+            &mut *schema,
+            &mut *answer,
+        )
+    }
+}
+
+/// Finds an entity type.
+#[unsafe(no_mangle)]
+pub unsafe extern "C" fn odfilter_find_type(
+    alloc: Global,
+    schema: *const u8,
+    name: Bytes,
+    made: *mut Owned,
+) -> u32
+    ghost loan: { Loan }
+    requires testable { (Testable schema) × (Testable name.at) × (Testable made) }
+    requires* lent { sem 𝓛 (flft loan.lifetime loan.share) ∗ sem 𝓛 (lent_to_find_type loan schema name made) }
+    ensures* { sem 𝓛 (flft loan.lifetime loan.share) ∗ sem 𝓛 (left_by_find_type loan schema name made result) }
+{
+    if schema.is_null() {
+        return 1;
+    }
+    if name.at.is_null() {
+        return 1;
+    }
+    if made.is_null() {
+        return 1;
+    }
+    unsafe {
+        calls::find_type(
+            alloc,
+            &*(schema as *const Handle),
+            from_raw_parts(name.at, name.length),
+            &mut *made,
+        )
+    }
+}
+
+/// Checks a filter.
+#[unsafe(no_mangle)]
+pub unsafe extern "C" fn odfilter_check(
+    alloc: Global,
+    given: *const u8,
+    text: Bytes,
+    made: *mut Owned,
+    answer: *mut Answer,
+) -> u32
+    ghost loan: { Loan }
+    requires testable { (Testable given) × (Testable text.at) × (Testable made) × (Testable answer) }
+    requires* lent { sem 𝓛 (flft loan.lifetime loan.share) ∗ sem 𝓛 (lent_to_check loan given text made answer) }
+    ensures* { sem 𝓛 (flft loan.lifetime loan.share) ∗ sem 𝓛 (left_by_check loan given text made answer result) }
+{
+    if given.is_null() {
+        return 1;
+    }
+    if text.at.is_null() {
+        return 1;
+    }
+    if made.is_null() {
+        return 1;
+    }
+    if answer.is_null() {
+        return 1;
+    }
+    unsafe {
+        calls::check(
+            alloc,
+            &*(given as *const Handle),
+            from_raw_parts(text.at, text.length),
+            &mut *made,
+            &mut *answer,
+        )
+    }
+}
+
+/// Checks the filter of a query string.
+#[unsafe(no_mangle)]
+pub unsafe extern "C" fn odfilter_check_query(
+    alloc: Global,
+    given: *const u8,
+    query: Bytes,
+    made: *mut Owned,
+    answer: *mut Answer,
+) -> u32
+    ghost loan: { Loan }
+    requires testable { (Testable given) × (Testable query.at) × (Testable made) × (Testable answer) }
+    requires* lent { sem 𝓛 (flft loan.lifetime loan.share) ∗ sem 𝓛 (lent_to_check_query loan given query made answer) }
+    ensures* { sem 𝓛 (flft loan.lifetime loan.share) ∗ sem 𝓛 (left_by_check_query loan given query made answer result) }
+{
+    if given.is_null() {
+        return 1;
+    }
+    if query.at.is_null() {
+        return 1;
+    }
+    if made.is_null() {
+        return 1;
+    }
+    if answer.is_null() {
+        return 1;
+    }
+    unsafe {
+        calls::check_query(
+            alloc,
+            &*(given as *const Handle),
+            from_raw_parts(query.at, query.length),
+            &mut *made,
+            &mut *answer,
+        )
+    }
+}
+
+/// Writes a filter's canonical text.
+#[unsafe(no_mangle)]
+pub unsafe extern "C" fn odfilter_canonical(
+    alloc: Global,
+    filter: *const u8,
+    text: Room,
+    answer: *mut Answer,
+) -> u32
+    ghost loan: { Loan }
+    requires testable { (Testable filter) × (Testable text.at) × (Testable answer) }
+    requires* lent { sem 𝓛 (flft loan.lifetime loan.share) ∗ sem 𝓛 (lent_to_canonical loan filter text answer) }
+    ensures* { sem 𝓛 (flft loan.lifetime loan.share) ∗ sem 𝓛 (left_by_canonical loan filter text answer result) }
+{
+    if filter.is_null() {
+        return 1;
+    }
+    if text.at.is_null() {
+        return 1;
+    }
+    if answer.is_null() {
+        return 1;
+    }
+    unsafe {
+        calls::canonical(
+            alloc,
+            &*(filter as *const Handle),
+            from_raw_parts_mut(text.at, text.length),
+            &mut *answer,
+        )
+    }
+}
+
+/// Writes what each node of a filter is.
+#[unsafe(no_mangle)]
+pub unsafe extern "C" fn odfilter_explain(
+    alloc: Global,
+    filter: *const u8,
+    text: Room,
+    answer: *mut Answer,
+) -> u32
+    ghost loan: { Loan }
+    requires testable { (Testable filter) × (Testable text.at) × (Testable answer) }
+    requires* lent { sem 𝓛 (flft loan.lifetime loan.share) ∗ sem 𝓛 (lent_to_explain loan filter text answer) }
+    ensures* { sem 𝓛 (flft loan.lifetime loan.share) ∗ sem 𝓛 (left_by_explain loan filter text answer result) }
+{
+    if filter.is_null() {
+        return 1;
+    }
+    if text.at.is_null() {
+        return 1;
+    }
+    if answer.is_null() {
+        return 1;
+    }
+    unsafe {
+        calls::explain(
+            alloc,
+            &*(filter as *const Handle),
+            from_raw_parts_mut(text.at, text.length),
+            &mut *answer,
+        )
+    }
+}
+
+/// Tells whether a filter asks for a moment.
+#[unsafe(no_mangle)]
+pub unsafe extern "C" fn odfilter_needs_moment(filter: *const u8, answer: *mut Answer) -> u32
+    ghost loan: { Loan }
+    requires testable { (Testable filter) × (Testable answer) }
+    requires* lent { sem 𝓛 (flft loan.lifetime loan.share) ∗ sem 𝓛 (lent_to_needs_moment loan filter answer) }
+    ensures* { sem 𝓛 (flft loan.lifetime loan.share) ∗ sem 𝓛 (left_by_needs_moment loan filter answer result) }
+{
+    if filter.is_null() {
+        return 1;
+    }
+    if answer.is_null() {
+        return 1;
+    }
+    unsafe { calls::needs_moment(&*(filter as *const Handle), &mut *answer) }
+}
+
+/// Makes a judge.
+#[unsafe(no_mangle)]
+pub unsafe extern "C" fn odfilter_new_judge(alloc: Global, judge: *mut Owned) -> u32
+    ghost loan: { Loan }
+    requires testable { (Testable judge) }
+    requires* lent { sem 𝓛 (flft loan.lifetime loan.share) ∗ sem 𝓛 (lent_to_new_judge loan judge) }
+    ensures* { sem 𝓛 (flft loan.lifetime loan.share) ∗ sem 𝓛 (left_by_new_judge loan judge result) }
+{
+    if judge.is_null() {
+        return 1;
+    }
+    unsafe { calls::new_judge(alloc, &mut *judge) }
+}
+
+/// Sets a judge's moment.
+#[unsafe(no_mangle)]
+pub unsafe extern "C" fn odfilter_set_moment(judge: *mut u8, moment: Bytes) -> u32
+    ghost loan: { Loan }
+    requires testable { (Testable judge) × (Testable moment.at) }
+    requires* lent { sem 𝓛 (flft loan.lifetime loan.share) ∗ sem 𝓛 (lent_to_set_moment loan judge moment) }
+    ensures* { sem 𝓛 (flft loan.lifetime loan.share) ∗ sem 𝓛 (left_by_set_moment loan judge moment result) }
+{
+    if judge.is_null() {
+        return 1;
+    }
+    if moment.at.is_null() {
+        return 1;
+    }
+    unsafe {
+        calls::set_moment(
+            &mut *(judge as *mut Handle),
+            from_raw_parts(moment.at, moment.length),
+        )
+    }
+}
+
+/// Judges a row.
+#[unsafe(no_mangle)]
+pub unsafe extern "C" fn odfilter_judge(
+    filter: *const u8,
+    judge: *mut u8,
+    row: Bytes,
+    answer: *mut Answer,
+) -> u32
+    ghost loan: { Loan }
+    requires testable { (Testable filter) × (Testable judge) × (Testable row.at) × (Testable answer) }
+    requires* lent { sem 𝓛 (flft loan.lifetime loan.share) ∗ sem 𝓛 (lent_to_judge loan filter judge row answer) }
+    ensures* { sem 𝓛 (flft loan.lifetime loan.share) ∗ sem 𝓛 (left_by_judge loan filter judge row answer result) }
+{
+    if filter.is_null() {
+        return 1;
+    }
+    if judge.is_null() {
+        return 1;
+    }
+    if row.at.is_null() {
+        return 1;
+    }
+    if answer.is_null() {
+        return 1;
+    }
+    unsafe {
+        calls::judge(
+            &*(filter as *const Handle),
+            &mut *(judge as *mut Handle),
+            from_raw_parts(row.at, row.length),
+            &mut *answer,
+        )
+    }
+}
+
+/// Judges rows, a line each, and writes those that are kept.
+#[unsafe(no_mangle)]
+pub unsafe extern "C" fn odfilter_filter_lines(
+    filter: *const u8,
+    judge: *mut u8,
+    rows: Bytes,
+    kept: Room,
+    answer: *mut Answer,
+) -> u32
+    ghost loan: { Loan }
+    requires testable { (Testable filter) × (Testable judge) × (Testable rows.at) × (Testable kept.at)
+        × (Testable answer) }
+    requires* lent { sem 𝓛 (flft loan.lifetime loan.share)
+        ∗ sem 𝓛 (lent_to_filter_lines loan filter judge rows kept answer) }
+    ensures* { sem 𝓛 (flft loan.lifetime loan.share)
+        ∗ sem 𝓛 (left_by_filter_lines loan filter judge rows kept answer result) }
+{
+    if filter.is_null() {
+        return 1;
+    }
+    if judge.is_null() {
+        return 1;
+    }
+    if rows.at.is_null() {
+        return 1;
+    }
+    if kept.at.is_null() {
+        return 1;
+    }
+    if answer.is_null() {
+        return 1;
+    }
+    unsafe {
+        calls::filter_lines(
+            &*(filter as *const Handle),
+            &mut *(judge as *mut Handle),
+            from_raw_parts(rows.at, rows.length),
+            from_raw_parts_mut(kept.at, kept.length),
+            &mut *answer,
+        )
+    }
+}
+
+/// Writes the path of the fault that a judge keeps.
+#[unsafe(no_mangle)]
+pub unsafe extern "C" fn odfilter_path(judge: *const u8, path: Room, answer: *mut Answer) -> u32
+    ghost loan: { Loan }
+    requires testable { (Testable judge) × (Testable path.at) × (Testable answer) }
+    requires* lent { sem 𝓛 (flft loan.lifetime loan.share) ∗ sem 𝓛 (lent_to_path loan judge path answer) }
+    ensures* { sem 𝓛 (flft loan.lifetime loan.share) ∗ sem 𝓛 (left_by_path loan judge path answer result) }
+{
+    if judge.is_null() {
+        return 1;
+    }
+    if path.at.is_null() {
+        return 1;
+    }
+    if answer.is_null() {
+        return 1;
+    }
+    unsafe {
+        calls::path(
+            &*(judge as *const Handle),
+            from_raw_parts_mut(path.at, path.length),
+            &mut *answer,
+        )
+    }
+}
+
+/// Frees a handle.
+#[unsafe(no_mangle)]
+pub unsafe extern "C" fn odfilter_free(alloc: Global, handle: *mut Owned) -> u32
+    ghost loan: { Loan }
+    requires testable { (Testable handle) }
+    requires* lent { sem 𝓛 (flft loan.lifetime loan.share) ∗ sem 𝓛 (lent_to_free loan handle) }
+    ensures* { sem 𝓛 (flft loan.lifetime loan.share) ∗ sem 𝓛 (left_by_free loan handle result) }
+{
+    if handle.is_null() {
+        return 1;
+    }
+    unsafe { calls::free(alloc, &mut *handle) }
+}
+
+/// Writes the version.
+#[unsafe(no_mangle)]
+pub unsafe extern "C" fn odfilter_version(text: Room, answer: *mut Answer) -> u32
+    ghost loan: { Loan }
+    requires testable { (Testable text.at) × (Testable answer) }
+    requires* lent { sem 𝓛 (flft loan.lifetime loan.share) ∗ sem 𝓛 (lent_to_version loan text answer) }
+    ensures* { sem 𝓛 (flft loan.lifetime loan.share) ∗ sem 𝓛 (left_by_version loan text answer result) }
+{
+    if text.at.is_null() {
+        return 1;
+    }
+    if answer.is_null() {
+        return 1;
+    }
+    unsafe { calls::version(from_raw_parts_mut(text.at, text.length), &mut *answer) }
+}
+
+/// Writes the name of a status.
+#[unsafe(no_mangle)]
+pub unsafe extern "C" fn odfilter_status_name(status: u32, text: Room, answer: *mut Answer) -> u32
+    ghost loan: { Loan }
+    requires testable { (Testable text.at) × (Testable answer) }
+    requires* lent { sem 𝓛 (flft loan.lifetime loan.share) ∗ sem 𝓛 (lent_to_status_name loan text answer) }
+    ensures* { sem 𝓛 (flft loan.lifetime loan.share) ∗ sem 𝓛 (left_by_status_name loan status text answer result) }
+{
+    if text.at.is_null() {
+        return 1;
+    }
+    if answer.is_null() {
+        return 1;
+    }
+    unsafe {
+        calls::status_name(
+            status,
+            from_raw_parts_mut(text.at, text.length),
+            &mut *answer,
+        )
+    }
+}
+
+/// Writes the name of a fault.
+#[unsafe(no_mangle)]
+pub unsafe extern "C" fn odfilter_fault_name(
+    status: u32,
+    fault: u32,
+    text: Room,
+    answer: *mut Answer,
+) -> u32
+    ghost loan: { Loan }
+    requires testable { (Testable text.at) × (Testable answer) }
+    requires* lent { sem 𝓛 (flft loan.lifetime loan.share) ∗ sem 𝓛 (lent_to_fault_name loan text answer) }
+    ensures* { sem 𝓛 (flft loan.lifetime loan.share) ∗ sem 𝓛 (left_by_fault_name loan status fault text answer result) }
+{
+    if text.at.is_null() {
+        return 1;
+    }
+    if answer.is_null() {
+        return 1;
+    }
+    unsafe {
+        calls::fault_name(
+            status,
+            fault,
+            from_raw_parts_mut(text.at, text.length),
+            &mut *answer,
+        )
+    }
+}

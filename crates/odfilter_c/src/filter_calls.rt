@@ -1,0 +1,95 @@
+//! Filters, and what is asked of them.
+ghost use Rattle.std.specs.Prelude.{◌≡◌, MatchResult, string_bytes};
+ghost use Rattle.odata_checked_filter.specs.Filter.{IsFilter, filter_in};
+ghost use Rattle.odfilter_c.specs.FilterCalls.{IsCanonicalOf, IsExplanationOf, IsFilterIn, IsFilterMade, IsFilterOfQuery};
+ghost use Rattle.odfilter_c.specs.FilterCalls.{IsNoFilter, IsNoQueryFilter, IsNoText, IsNotMade};
+
+use crate::fault::Fault;
+use crate::handle::{FilterHandle, Handle, TypeHandle};
+use csdl_schema::Schema;
+use odata_filter::row_plan_of;
+use odata_text::{QueryFault, filter_of_query};
+use odata_typing::{StoredFilter, check_to_store};
+use std::alloc::Global;
+use std::sync::Arc;
+
+/// A filter with its schema, and what its rows are read by.
+fn held_filter(alloc: Global, schema: &Arc<Schema>, filter: StoredFilter) -> Result<Handle, Fault>
+    requires { IsFilter (filter_in schema.now.value filter) }
+    ensures { MatchResult result (λ made. made ≡ Handle.Filter (filter_in schema.now.value filter))
+        (λ fault. fault ≡ Fault.Memory) }
+{
+    let plan = row_plan_of(alloc, &filter.with_schema(schema));
+    match Arc::try_clone(schema) {
+        Ok(schema) => Ok(Handle::Filter(FilterHandle {
+            schema,
+            filter,
+            plan,
+        })),
+        Err(_) => Err(Fault::Memory),
+    }
+}
+
+/// The filter of a text, for entities of a type.
+fn filter_of_text(alloc: Global, held: &TypeHandle, text: &str) -> Result<Handle, Fault>
+    ensures { MatchResult result (IsFilterMade held.now text.now) (IsNotMade held.now text.now) }
+{
+    match check_to_store(alloc, &held.schema, held.id, text) {
+        Ok(filter) => held_filter(alloc, &held.schema, filter),
+        Err(refusal) => Err(Fault::Refused(refusal)),
+    }
+}
+
+/// The filter that the bytes of a text spell.
+pub(crate) fn filter_of(alloc: Global, handle: &Handle, text: &[u8]) -> Result<Handle, Fault>
+    ensures { MatchResult result (IsFilterIn handle.now text.now) (IsNoFilter handle.now text.now) }
+{
+    match handle {
+        Handle::Type(held) => match str::from_utf8(text) {
+            Ok(text) => filter_of_text(alloc, held, text),
+            Err(_) => Err(Fault::NotUtf8),
+        },
+        _ => Err(Fault::OtherKind),
+    }
+}
+
+/// The filter of a query string.
+pub(crate) fn filter_in_query(alloc: Global, handle: &Handle, query: &[u8]) -> Result<Handle, Fault>
+    ensures { MatchResult result (IsFilterOfQuery handle.now query.now) (IsNoQueryFilter handle.now query.now) }
+{
+    match handle {
+        Handle::Type(held) => match filter_of_query(alloc, query) {
+            Ok(Some(text)) => filter_of_text(alloc, held, &text),
+            Ok(None) => Err(Fault::NoFilter),
+            Err(QueryFault::Memory) => Err(Fault::Memory),
+            Err(fault) => Err(Fault::Query(fault)),
+        },
+        _ => Err(Fault::OtherKind),
+    }
+}
+
+/// The filter's canonical text.
+pub(crate) fn canonical_of(alloc: Global, handle: &Handle) -> Result<String, Fault>
+    ensures { MatchResult result (λ text. IsCanonicalOf handle.now (string_bytes text)) (IsNoText handle.now) }
+{
+    match handle {
+        Handle::Filter(held) => match held.filter.with_schema(&held.schema).canonical(alloc) {
+            Ok(text) => Ok(text),
+            Err(_) => Err(Fault::Memory),
+        },
+        _ => Err(Fault::OtherKind),
+    }
+}
+
+/// What each node of the filter is.
+pub(crate) fn explanation_of(alloc: Global, handle: &Handle) -> Result<String, Fault>
+    ensures { MatchResult result (λ text. IsExplanationOf handle.now (string_bytes text)) (IsNoText handle.now) }
+{
+    match handle {
+        Handle::Filter(held) => match held.filter.with_schema(&held.schema).explain(alloc) {
+            Ok(text) => Ok(text),
+            Err(_) => Err(Fault::Memory),
+        },
+        _ => Err(Fault::OtherKind),
+    }
+}

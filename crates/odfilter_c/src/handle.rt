@@ -1,0 +1,70 @@
+//! What a handle stands for.
+ghost use Rattle.csdl_schema.specs.SchemaModel.{HoldsType, IsEntityAt};
+
+use csdl_schema::{Schema, TypeId};
+use edm_entities::{RowFault, RowPlan, RowReader};
+use edm_values::Moment;
+use odata_typing::StoredFilter;
+use std::marker::Model;
+use std::sync::Arc;
+
+/// What a handle of the library stands for: its kind tells whether a call can use it.
+#[derive(Drop)]
+pub enum Handle {
+    Schema(SchemaHandle),
+    Type(TypeHandle),
+    Filter(FilterHandle),
+    /// In a box of its own, so that the other kinds stay small.
+    Judge(Box<JudgeHandle>),
+}
+
+#[derive(Drop)]
+pub struct SchemaHandle {
+    pub(crate) schema: Arc<Schema>,
+}
+
+/// An entity type, with its schema.
+#[derive(Drop)]
+pub struct TypeHandle {
+    pub(crate) schema: Arc<Schema>,
+    pub(crate) id: TypeId,
+    ghost held: { HoldsType schema.value id },
+    ghost entity: { IsEntityAt schema.value id },
+}
+
+/// A filter, with the schema that it was checked by, and what rows of its type are read by.
+#[derive(Drop)]
+pub struct FilterHandle {
+    pub(crate) schema: Arc<Schema>,
+    pub(crate) filter: StoredFilter,
+    pub(crate) plan: RowPlan,
+}
+
+impl Model for FilterHandle {
+    ghost use Rattle.odata_checked_filter.specs.Filter.{Filter};
+    ghost use Rattle.odata_checked_filter.specs.contracts.checked_node.CheckedNode as checked_node;
+    ghost use Rattle.edm_values.specs.contracts.value.Value as value;
+    ghost use Rattle.std.specs.Coded.{codes};
+
+    ghost Value = { Filter };
+
+    ghost coded = { Prim.hlevel (codes, checked_node.the_row.coded, value.the_row.coded) };
+
+    ghost use Rattle.odata_checked_filter.specs.Filter.{filter_in};
+
+    ghost view = { λ held. filter_in held.schema.value held.filter };
+
+    ghost use Rattle.odfilter_c.specs.HeldFilter.{IsHeldFilter};
+
+    ghost invariant = { λ held. IsHeldFilter (filter_in held.schema.value held.filter) held.plan };
+}
+
+/// What lasts from row to row, of any filter.
+#[derive(Drop)]
+pub struct JudgeHandle {
+    pub(crate) reader: RowReader,
+    /// What `now()` stands for, if that is known.
+    pub(crate) moment: Option<Moment>,
+    /// What the last row was refused for, if it was.
+    pub(crate) last: Option<RowFault>,
+}

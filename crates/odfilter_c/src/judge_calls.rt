@@ -1,0 +1,201 @@
+//! Judges, and what a filter says of a row.
+ghost use Rattle.std.specs.Prelude.{◌≡◌, IfOk, IfErr, MatchResult, None};
+ghost use Rattle.odata_checked_filter.specs.Calls.{UsesNow};
+ghost use Rattle.odata_checked_filter.specs.Filter.{tree_of_filter};
+ghost use Rattle.odfilter_c.specs.Answers.{empty_answer};
+ghost use Rattle.odfilter_c.specs.Outcomes.{IsTold};
+ghost use Rattle.odfilter_c.specs.RowCalls.{IsMomentFor, IsMomentOf, IsNewJudge, IsNoMemory, IsNoVerdict, IsVerdictOn};
+ghost use Rattle.odfilter_c.specs.RowCalls.{Keeps, last_after, path_kept};
+ghost use Rattle.odfilter_c.specs.RowTells.{JudgesOne, JudgesOneBy, SetsMoment, SetsMomentOf, TellsNeedOf, verdict_number};
+
+use crate::c_types::Answer;
+use crate::fault::{Fault, path_of};
+use crate::handle::{FilterHandle, Handle, JudgeHandle};
+use crate::telling::tell_fault;
+use edm_entities::RowReader;
+use edm_values::{Moment, read_moment};
+use jiff::civil;
+use odata_eval::Verdict;
+use odata_filter::{BadRow, NoVerdict, judge_row};
+use odata_typing::Checked;
+use std::alloc::Global;
+
+/// Tells whether a filter asks for a moment.
+pub(crate) fn tell_need(held: &FilterHandle, answer: &mut Answer) -> u32
+    ensures { TellsNeedOf held.now answer.new result }
+{
+    *answer = Answer::empty();
+    if held.filter.with_schema(&held.schema).uses_now() {
+        answer.number = 1;
+    }
+    0
+}
+
+/// A judge that has seen nothing.
+pub(crate) fn empty_judge(alloc: Global) -> Result<Handle, Fault>
+    ensures { MatchResult result IsNewJudge IsNoMemory }
+{
+    let judge = JudgeHandle {
+        reader: RowReader::new(alloc),
+        moment: None,
+        last: None,
+    };
+    match Box::new(alloc, judge) {
+        Ok(judge) => Ok(Handle::Judge(judge)),
+        Err(_) => Err(Fault::Memory),
+    }
+}
+
+/// The moment that the bytes spell.
+fn moment_of(text: &[u8]) -> Result<Moment, Fault>
+    ensures { IsMomentOf text.now result }
+{
+    match str::from_utf8(text) {
+        Ok(text) => match read_moment(text) {
+            Some(moment) => Ok(moment),
+            None => Err(Fault::NotAMoment),
+        },
+        Err(_) => Err(Fault::NotUtf8),
+    }
+}
+
+/// Has the judge take a text for the moment.
+fn take_moment(judge: &mut JudgeHandle, text: &[u8]) -> u32
+    ensures { SetsMomentOf judge.old judge.new text.now result }
+{
+    match moment_of(text) {
+        Ok(moment) => {
+            judge.moment = Some(moment);
+            0
+        }
+        Err(fault) => fault.status(),
+    }
+}
+
+/// Has a handle that is a judge take a text for the moment.
+pub(crate) fn put_moment(handle: &mut Handle, text: &[u8]) -> u32
+    ensures { SetsMoment handle.old handle.new text.now result }
+{
+    match handle {
+        Handle::Judge(judge) => take_moment(judge, text),
+        _ => Fault::OtherKind.status(),
+    }
+}
+
+/// The moment that is handed in where none is asked for.
+fn first_moment() -> Moment {
+    match Moment::new(civil::date(1, 1, 1).at(0, 0, 0, 0), 0) {
+        Some(moment) => moment,
+        None => unreachable!(),
+    }
+}
+
+/// The moment for a filter: the judge's, or any where the filter does not ask for it.
+pub(crate) fn moment_for(checked: &Checked<'_>, given: Option<Moment>) -> Result<Moment, Fault>
+    ensures moment { IfOk result (IsMomentFor checked.now given) }
+    ensures needed { IfErr result (λ fault. fault ≡ Fault.MomentNeeded) }
+    ensures asks { IfErr result (λ _. UsesNow (tree_of_filter checked.now)) }
+    ensures none { IfErr result (λ _. given ≡ None) }
+{
+    match given {
+        Some(moment) => Ok(moment),
+        None => if checked.uses_now() {
+            Err(Fault::MomentNeeded)
+        } else {
+            Ok(first_moment())
+        },
+    }
+}
+
+/// The verdict on a row, or why there is none.
+fn verdict_on(held: &FilterHandle, judge: &mut JudgeHandle, row: &[u8]) -> Result<Verdict, Fault>
+    ensures outcome { MatchResult result (IsVerdictOn held.now judge.old.moment row.now)
+        (IsNoVerdict held.now judge.old.moment row.now) }
+    ensures same { judge.new ≡ judge.old }
+{
+    let checked = held.filter.with_schema(&held.schema);
+    let now = match moment_for(&checked, judge.moment) {
+        Ok(now) => now,
+        Err(fault) => return Err(fault),
+    };
+    match judge_row(&checked, &now, &held.plan, &mut judge.reader, row) {
+        Ok(verdict) => Ok(verdict),
+        Err(NoVerdict::Bad(BadRow::NotJson)) => Err(Fault::Json { line: 0 }),
+        Err(NoVerdict::Bad(BadRow::NoEntity(fault))) => Err(Fault::Row { line: 0, fault }),
+        Err(NoVerdict::Bad(BadRow::NoValue(fault))) => Err(Fault::Evaluation { line: 0, fault }),
+        Err(NoVerdict::Memory) => Err(Fault::Memory),
+    }
+}
+
+fn verdict_number(verdict: Verdict) -> u32
+    ensures { result ≡ verdict_number verdict }
+{
+    match verdict {
+        Verdict::False => 0,
+        Verdict::True => 1,
+        Verdict::Null => 2,
+    }
+}
+
+/// An answer of a verdict.
+fn judged(verdict: Verdict) -> Answer
+    ensures { result ≡ record empty_answer { verdict = verdict_number verdict } }
+{
+    let mut answer = Answer::empty();
+    answer.verdict = verdict_number(verdict);
+    answer
+}
+
+/// Has the judge keep a fault for its path.
+pub(crate) fn keep_fault(fault: Fault, judge: &mut JudgeHandle)
+    ensures { Keeps judge.old judge.new (last_after judge.old.last fault) }
+{
+    match fault {
+        Fault::Row { fault, .. } => judge.last = Some(fault),
+        Fault::MomentNeeded => {}
+        _ => judge.last = None,
+    }
+}
+
+/// Judges a row, and tells the verdict, or why there is none.
+fn tell_verdict(
+    held: &FilterHandle,
+    judge: &mut JudgeHandle,
+    row: &[u8],
+    answer: &mut Answer,
+) -> u32
+    ensures { JudgesOneBy held.now judge.old judge.new row.now answer.new result }
+{
+    match verdict_on(held, judge, row) {
+        Ok(verdict) => {
+            judge.last = None;
+            *answer = judged(verdict);
+            0
+        }
+        Err(fault) => {
+            let status = tell_fault(&fault, answer);
+            keep_fault(fault, judge);
+            status
+        }
+    }
+}
+
+/// Judges a row by handles, where they are a filter and a judge.
+pub(crate) fn tell_row(filter: &Handle, handle: &mut Handle, row: &[u8], answer: &mut Answer) -> u32
+    ensures { JudgesOne filter.now handle.old handle.new row.now answer.new result }
+{
+    match (filter, handle) {
+        (Handle::Filter(held), Handle::Judge(judge)) => tell_verdict(held, judge, row, answer),
+        _ => tell_fault(&Fault::OtherKind, answer),
+    }
+}
+
+/// The path of the fault that the judge keeps, or no text.
+pub(crate) fn last_path(judge: &JudgeHandle) -> &str
+    ensures { result.now ≡ path_kept judge.now.last }
+{
+    match &judge.last {
+        Some(fault) => path_of(fault),
+        None => "",
+    }
+}

@@ -1,0 +1,44 @@
+//! Texts in the caller's room.
+ghost use Rattle.std.specs.Prelude.{◌++◌, Ok, MatchBool};
+ghost use Rattle.odfilter_c.specs.Texts.{IsTooSmall, IsWritten, Writes};
+
+use crate::c_types::Answer;
+use crate::fault::{Fault, measured};
+use crate::telling::tell_fault;
+
+/// Writes a text at the front of the room, whole or not at all, and answers whether it did.
+pub(crate) fn write_text(room: &mut [u8], text: &[u8]) -> bool
+    ensures { MatchBool result (IsWritten text.now room.old room.new) (IsTooSmall text.now room.old room.new) }
+{
+    if room.len() < text.len() {
+        return false;
+    }
+    let (front, _) = room.split_at_mut(text.len());
+    front.copy_from_slice(text);
+    true
+}
+
+/// Writes two texts, one behind the other, both or none.
+pub(crate) fn write_both(room: &mut [u8], first: &[u8], second: &[u8]) -> bool
+    ensures { MatchBool result (IsWritten (first.now ++ second.now) room.old room.new)
+        (IsTooSmall (first.now ++ second.now) room.old room.new) }
+{
+    if room.len() < first.len() + second.len() {
+        return false;
+    }
+    let (front, rest) = room.split_at_mut(first.len());
+    front.copy_from_slice(first);
+    write_text(rest, second)
+}
+
+/// Writes a text, and tells how long it is, or would be.
+pub(crate) fn tell_bytes(text: &[u8], room: &mut [u8], answer: &mut Answer) -> u32
+    ensures { Writes (Ok text.now) room.old room.new answer.new result }
+{
+    if write_text(room, text) {
+        *answer = measured(text.len());
+        0
+    } else {
+        tell_fault(&Fault::TooSmall { wanted: text.len() }, answer)
+    }
+}

@@ -1,0 +1,98 @@
+//! A schema and its types.
+ghost use Rattle.std.specs.Prelude.{◌≡◌, MatchResult};
+ghost use Rattle.odfilter_c.specs.SchemaCalls.{IsNoSchema, IsNoType, IsSchemaOf, IsTypeOf, first_name, second_name};
+ghost use Rattle.odfilter_c.specs.Tells.{TellsNames};
+
+use crate::c_types::Answer;
+use crate::fault::Fault;
+use crate::handle::{Handle, SchemaHandle, TypeHandle};
+use crate::room::write_both;
+use csdl_schema::{Schema, SchemaFault};
+use odata_filter::Numbered;
+use std::alloc::Global;
+use std::sync::Arc;
+
+/// The schema of a document.
+pub(crate) fn schema_of(alloc: Global, document: &[u8]) -> Result<Handle, Fault>
+    ensures { MatchResult result (IsSchemaOf document.now) (IsNoSchema document.now) }
+{
+    let schema = match Schema::read(alloc, document) {
+        Ok(schema) => schema,
+        Err(SchemaFault::Memory) => return Err(Fault::Memory),
+        Err(fault) => return Err(Fault::Schema(fault)),
+    };
+    match Arc::new(alloc, schema) {
+        Ok(schema) => Ok(Handle::Schema(SchemaHandle { schema })),
+        Err(_) => Err(Fault::Memory),
+    }
+}
+
+/// The entity type of that name in a schema.
+fn type_in(held: &SchemaHandle, name: &str) -> Result<Handle, Fault>
+    ensures { MatchResult result (IsTypeOf (Handle.Schema held.now) name.now)
+        (IsNoType (Handle.Schema held.now) name.now) }
+{
+    let Some(id) = held.schema.type_named(name) else {
+        return Err(Fault::UnknownType);
+    };
+    if !held.schema.is_entity(id) {
+        return Err(Fault::UnknownType);
+    }
+    match Arc::try_clone(&held.schema) {
+        Ok(schema) => Ok(Handle::Type(TypeHandle { schema, id })),
+        Err(_) => Err(Fault::Memory),
+    }
+}
+
+/// The entity type whose name the bytes spell.
+pub(crate) fn type_of(handle: &Handle, name: &[u8]) -> Result<Handle, Fault>
+    ensures { MatchResult result (IsTypeOf handle.now name.now) (IsNoType handle.now name.now) }
+{
+    match handle {
+        Handle::Schema(held) => match str::from_utf8(name) {
+            Ok(name) => type_in(held, name),
+            Err(_) => Err(Fault::NotUtf8),
+        },
+        _ => Err(Fault::OtherKind),
+    }
+}
+
+/// The first of the names that a schema's fault carries, or no text.
+fn first_name(fault: &SchemaFault) -> &str
+    ensures { result.now ≡ first_name fault.now }
+{
+    match fault {
+        SchemaFault::BadType { name } => name.as_str(),
+        SchemaFault::BadProperty { owner, .. } => owner.as_str(),
+        SchemaFault::UnknownBase { owner } => owner.as_str(),
+        SchemaFault::BaseCycle { owner } => owner.as_str(),
+        SchemaFault::PropertyTwice { owner, .. } => owner.as_str(),
+        SchemaFault::BadEnumMember { owner, .. } => owner.as_str(),
+        _ => "",
+    }
+}
+
+/// The second, or no text.
+fn second_name(fault: &SchemaFault) -> &str
+    ensures { result.now ≡ second_name fault.now }
+{
+    match fault {
+        SchemaFault::BadProperty { name, .. } => name.as_str(),
+        SchemaFault::PropertyTwice { name, .. } => name.as_str(),
+        SchemaFault::BadEnumMember { name, .. } => name.as_str(),
+        _ => "",
+    }
+}
+
+/// Tells a schema's fault, and its names where the room takes both.
+pub(crate) fn tell_names(fault: &SchemaFault, room: &mut [u8], answer: &mut Answer)
+    ensures { TellsNames fault.now room.old room.new answer.new }
+{
+    let first = first_name(fault).as_bytes();
+    let second = second_name(fault).as_bytes();
+    *answer = Answer::empty();
+    answer.fault = u32::from(fault.number());
+    answer.first = first.len();
+    answer.length = first.len() + second.len();
+    write_both(room, first, second);
+}

@@ -1,0 +1,288 @@
+/* odfilter: OData 4.01 filters, checked against a schema and judged on rows.
+ *
+ * In short:
+ *
+ *     odfilter_handle *schema = NULL, *type = NULL, *filter = NULL;
+ *     odfilter_answer answer;
+ *     char names[256];
+ *     odfilter_bytes name = {"Shop.Product", 12};
+ *     odfilter_room room = {names, sizeof names};
+ *     odfilter_read_schema(document, room, &schema, &answer);
+ *     odfilter_find_type(schema, name, &type);
+ *     if (odfilter_check(type, text, &filter, &answer) == ODFILTER_OK) ...
+ *     odfilter_free(&filter);
+ *
+ * EVERY CALL answers a status: ODFILTER_OK, or why it did nothing (ODFILTER_ names below). No call ends the
+ * program, waits, prints, or keeps anything of its own: there is no global state.
+ *
+ * BYTES that are handed in are lent for the call and no longer. They are not changed, need no NUL at their end,
+ * and may have any values; where a call takes a text, bytes that are no UTF-8 are ODFILTER_NOT_UTF8. A length of 0
+ * is an empty text. An address that is NULL is ODFILTER_NULL, whatever the length: then nothing is looked at and
+ * nothing written. A length is less than 2^63.
+ *
+ * ROOM is memory of the caller's into which a call writes a text, without a NUL behind it. A text is written whole
+ * or not at all: where it has more bytes than the room, the answer is ODFILTER_TOO_SMALL, `length` of the answer
+ * is how many are wanted, and the room is as it was. Room of length 0 at any address that is not NULL asks for the
+ * length.
+ *
+ * HANDLES are made by calls that take an `odfilter_handle **`: where they answer ODFILTER_OK it points to the new
+ * handle, and else, but for ODFILTER_NULL, to NULL. What stood there before is written over, and not freed: let it
+ * be NULL or a handle. All that a call allocates belongs to a handle and goes with it, by odfilter_free and in no
+ * other way. A handle that was made out of another keeps what it needs of it, so handles may be freed in any
+ * order. A handle of another kind than a call asks for is ODFILTER_OTHER_KIND, and NULL is ODFILTER_NULL. A call
+ * that answers another status than ODFILTER_OK leaves the handles that it was given as they were, but for the path
+ * that a judge keeps.
+ *
+ * THREADS. Schemas, types and filters are only read: several threads may use one at once. A judge is used by one
+ * call at a time, so each thread has its own. A handle is freed when no call uses it. What one thread made may be
+ * used and freed by another that came to know of it by a lock, a start or a join of a thread, or a sequentially
+ * consistent atomic. No call is for a signal handler, or for the child of a fork of a process with threads.
+ *
+ * WHAT THE CALLER OWES: an address that is not NULL is that of as many bytes as its length says, or of what its
+ * type says; a handle comes from this library and was not freed; room, bytes, handle places and answers of one
+ * call do not overlap. A thread that checks, explains or frees filters, or judges rows by them, has 6 MiB of stack
+ * for texts of any length, or 1 MiB where it takes no filter's text of over 512 bytes: the depth of a text is
+ * bounded only by its length.
+ */
+#ifndef ODFILTER_H
+#define ODFILTER_H
+
+#include <stddef.h>
+#include <stdint.h>
+
+#ifdef __cplusplus
+extern "C" {
+#endif
+
+/* ---- Statuses. The names are those that odfilter_status_name writes, without ODFILTER_. */
+
+#define ODFILTER_OK 0u
+#define ODFILTER_NULL 1u           /* an address that may not be NULL is */
+#define ODFILTER_OTHER_KIND 2u     /* a handle of another kind than the call asks for */
+#define ODFILTER_NOT_UTF8 3u       /* a text that is no UTF-8 */
+#define ODFILTER_TOO_SMALL 4u      /* more bytes than the room has: `length` is how many */
+#define ODFILTER_MEMORY 5u         /* an allocation was refused */
+#define ODFILTER_UNKNOWN_TYPE 6u   /* the schema has no entity type of that name */
+#define ODFILTER_NO_FILTER 7u      /* no option of the query is the filter */
+#define ODFILTER_MOMENT_NEEDED 8u  /* the filter calls now(), and the judge has no moment */
+#define ODFILTER_NOT_A_MOMENT 9u   /* the text spells no moment */
+#define ODFILTER_UNKNOWN_NUMBER 10u /* no status or fault has that number */
+
+/* Why a document, a filter or a query is refused: `fault` of the answer is the number of the fault, below. */
+#define ODFILTER_SCHEMA_FAULT 16u
+#define ODFILTER_TEXT_FAULT 17u    /* no tokens; `start` and `stop` */
+#define ODFILTER_SYNTAX_FAULT 18u  /* no tree; `start` and `stop` */
+#define ODFILTER_TYPE_FAULT 19u    /* no types; `start` and `stop` */
+#define ODFILTER_QUERY_FAULT 20u   /* `number` */
+
+/* Why a row has no verdict. */
+#define ODFILTER_JSON_FAULT 21u    /* the row is no JSON in UTF-8; `fault` is 0 */
+#define ODFILTER_ROW_FAULT 22u     /* it is no entity of the filter's type; odfilter_path says where */
+#define ODFILTER_EVAL_FAULT 23u    /* the filter has no value on it */
+#define ODFILTER_LINE_TOO_LONG 24u /* a line of over 1,048,576 bytes; `fault` is 0 */
+
+/* ---- Faults, by their status. The names are those that odfilter_fault_name writes. */
+
+/* ODFILTER_SCHEMA_FAULT. Behind each: the names that it carries. */
+#define ODFILTER_SCHEMA_NOT_JSON 1u
+#define ODFILTER_SCHEMA_NOT_OBJECT 2u
+#define ODFILTER_SCHEMA_VERSION 3u
+#define ODFILTER_SCHEMA_BAD_TYPE 4u        /* the type or namespace */
+#define ODFILTER_SCHEMA_BAD_PROPERTY 5u    /* the type, the property */
+#define ODFILTER_SCHEMA_UNKNOWN_BASE 6u    /* the type */
+#define ODFILTER_SCHEMA_BASE_CYCLE 7u      /* the type */
+#define ODFILTER_SCHEMA_PROPERTY_TWICE 8u  /* the type, the property */
+#define ODFILTER_SCHEMA_BAD_ENUM_MEMBER 9u /* the enumeration, the member */
+#define ODFILTER_SCHEMA_TOO_LARGE 10u
+
+/* ODFILTER_TEXT_FAULT */
+#define ODFILTER_TEXT_BAD_CHARACTER 1u
+#define ODFILTER_TEXT_UNCLOSED_STRING 2u
+#define ODFILTER_TEXT_LEFT_OUT_LITERAL 3u
+#define ODFILTER_TEXT_RUN_ON 4u
+#define ODFILTER_TEXT_TOO_LONG 5u
+
+/* ODFILTER_SYNTAX_FAULT */
+#define ODFILTER_SYNTAX_UNEXPECTED 1u
+#define ODFILTER_SYNTAX_TOO_DEEP 2u
+
+/* ODFILTER_TYPE_FAULT */
+#define ODFILTER_TYPE_UNKNOWN_PROPERTY 1u
+#define ODFILTER_TYPE_UNKNOWN_FUNCTION 2u
+#define ODFILTER_TYPE_ARGUMENT_COUNT 3u
+#define ODFILTER_TYPE_ARGUMENT_TYPE 4u
+#define ODFILTER_TYPE_OPERAND_TYPES 5u
+#define ODFILTER_TYPE_NOT_COLLECTION 6u
+#define ODFILTER_TYPE_VARIABLE_TAKEN 7u
+#define ODFILTER_TYPE_BODY_NOT_BOOLEAN 8u
+#define ODFILTER_TYPE_LITERAL_RANGE 9u
+#define ODFILTER_TYPE_UNKNOWN_ENUM 10u
+#define ODFILTER_TYPE_TYPE_LEFT_OUT 11u
+#define ODFILTER_TYPE_NOT_BOOLEAN 12u
+#define ODFILTER_TYPE_NAVIGATION 13u
+
+/* ODFILTER_QUERY_FAULT. Behind each: what `number` is. Options are counted from 0, empty ones too. */
+#define ODFILTER_QUERY_BAD_ESCAPE 1u   /* the byte of the '%' */
+#define ODFILTER_QUERY_NOT_UTF8 2u     /* the option */
+#define ODFILTER_QUERY_REPEATED 3u     /* the option */
+#define ODFILTER_QUERY_OTHER_OPTION 4u /* the option */
+
+/* ODFILTER_ROW_FAULT. All but the first have a path. */
+#define ODFILTER_ROW_NOT_OBJECT 1u
+#define ODFILTER_ROW_MISSING 2u
+#define ODFILTER_ROW_WRONG_KIND 3u
+#define ODFILTER_ROW_NULL_NOT_ALLOWED 4u
+#define ODFILTER_ROW_OUT_OF_RANGE 5u
+#define ODFILTER_ROW_BAD_TEXT 6u
+
+/* ODFILTER_EVAL_FAULT */
+#define ODFILTER_EVAL_OVERFLOW 1u
+#define ODFILTER_EVAL_DIVIDE_BY_ZERO 2u
+
+/* ---- Verdicts. A row is kept where its verdict is ODFILTER_TRUE. */
+
+#define ODFILTER_FALSE 0u
+#define ODFILTER_TRUE 1u
+#define ODFILTER_NO_TRUTH_VALUE 2u /* null */
+
+/* ---- Types */
+
+/* A schema, a type, a filter or a judge. */
+typedef struct odfilter_handle odfilter_handle;
+
+/* Bytes that are lent for a call. */
+typedef struct odfilter_bytes {
+    const char *at;
+    size_t length;
+} odfilter_bytes;
+
+/* Room for a text. */
+typedef struct odfilter_room {
+    char *at;
+    size_t length;
+} odfilter_room;
+
+/* What a call tells beside its status. A call writes all of it, whatever the status (but for ODFILTER_NULL): what
+ * the call does not speak of is 0. */
+typedef struct odfilter_answer {
+    uint32_t fault;   /* the number of the fault, where the status is one of the _FAULT ones; else 0 */
+    uint32_t verdict; /* of a judged row */
+    size_t start;     /* where the fault is in the filter's text (of a query, decoded): its first byte, from 0 */
+    size_t stop;      /* and the byte behind the last */
+    uint64_t number;  /* a query's fault's number; the line, from 1, of a run's; odfilter_needs_moment's 0 or 1 */
+    size_t length;    /* how many bytes were written, or are wanted */
+    size_t first;     /* of the two names of a schema's fault, how many bytes the first has */
+    uint64_t rows;    /* how many rows a run judged */
+    uint64_t kept;    /* how many of them it kept */
+} odfilter_answer;
+
+/* ---- A schema and its types */
+
+/* Reads a CSDL JSON 4.01 document.
+ *
+ * ODFILTER_OK: `schema` is a schema. ODFILTER_SCHEMA_FAULT: `fault` says which, and the names that it carries have
+ * been written into `names`, one directly behind the other: `length` bytes, of which `first` are the first name.
+ * Where the room is smaller than `length`, none was written (the status stays ODFILTER_SCHEMA_FAULT).
+ * ODFILTER_NULL: any of the four is. ODFILTER_MEMORY. */
+uint32_t odfilter_read_schema(odfilter_bytes document, odfilter_room names, odfilter_handle **schema,
+                              odfilter_answer *answer);
+
+/* The entity type of that name, with its namespace or the alias of that.
+ *
+ * ODFILTER_OK: `type` is the type, with its schema. ODFILTER_UNKNOWN_TYPE. ODFILTER_NULL: any of the three is.
+ * ODFILTER_OTHER_KIND: `schema` is no schema. ODFILTER_NOT_UTF8. ODFILTER_MEMORY. */
+uint32_t odfilter_find_type(const odfilter_handle *schema, odfilter_bytes name, odfilter_handle **type);
+
+/* ---- Filters */
+
+/* Checks a filter of the entities of a type.
+ *
+ * ODFILTER_OK: `filter` is the filter. ODFILTER_TEXT_FAULT, ODFILTER_SYNTAX_FAULT, ODFILTER_TYPE_FAULT: the filter
+ * is refused, `fault`, `start` and `stop` say why and where. ODFILTER_NULL: any of the four is.
+ * ODFILTER_OTHER_KIND: `type` is no type. ODFILTER_NOT_UTF8. ODFILTER_MEMORY. */
+uint32_t odfilter_check(const odfilter_handle *type, odfilter_bytes text, odfilter_handle **filter,
+                        odfilter_answer *answer);
+
+/* The same of the one option filter or $filter of a query string, as it stands in a URL behind the '?'.
+ *
+ * Also ODFILTER_QUERY_FAULT: `fault` and `number`. ODFILTER_NO_FILTER. Never ODFILTER_NOT_UTF8. */
+uint32_t odfilter_check_query(const odfilter_handle *type, odfilter_bytes query, odfilter_handle **filter,
+                              odfilter_answer *answer);
+
+/* Writes the filter's canonical text; the same for what each of its nodes is, a line a node (docs/CLI.md,
+ * "explain").
+ *
+ * ODFILTER_OK: `length` bytes have been written. ODFILTER_TOO_SMALL: `length` are wanted. ODFILTER_NULL: any of
+ * the three is. ODFILTER_OTHER_KIND: `filter` is no filter. ODFILTER_MEMORY. */
+uint32_t odfilter_canonical(const odfilter_handle *filter, odfilter_room text, odfilter_answer *answer);
+uint32_t odfilter_explain(const odfilter_handle *filter, odfilter_room text, odfilter_answer *answer);
+
+/* Whether the filter calls now(), so that a judge needs a moment for it.
+ *
+ * ODFILTER_OK: `number` is 1 or 0. ODFILTER_NULL: any of the two is. ODFILTER_OTHER_KIND: `filter` is no filter. */
+uint32_t odfilter_needs_moment(const odfilter_handle *filter, odfilter_answer *answer);
+
+/* ---- Rows */
+
+/* Makes a judge: what lasts from row to row, of any filter. It has no moment yet. One call at a time uses it.
+ *
+ * ODFILTER_OK: `judge` is a judge. ODFILTER_NULL: it is. ODFILTER_MEMORY. */
+uint32_t odfilter_new_judge(odfilter_handle **judge);
+
+/* Sets the moment that now() stands for, spelled as a moment in a filter: 2026-11-25T09:00:00Z.
+ *
+ * ODFILTER_OK. ODFILTER_NOT_A_MOMENT: the judge has the moment that it had, if any. ODFILTER_NULL: any of the two
+ * is. ODFILTER_OTHER_KIND: `judge` is no judge. ODFILTER_NOT_UTF8. */
+uint32_t odfilter_set_moment(odfilter_handle *judge, odfilter_bytes moment);
+
+/* Judges a row: one JSON object, of any length. It may have white space around it, line feeds too.
+ *
+ * ODFILTER_OK: `verdict` is ODFILTER_TRUE, ODFILTER_FALSE or ODFILTER_NO_TRUTH_VALUE. ODFILTER_JSON_FAULT; a row
+ * of white space alone is one. ODFILTER_ROW_FAULT: `fault`, and the judge keeps the path, of `length` bytes.
+ * ODFILTER_EVAL_FAULT: `fault`. ODFILTER_MOMENT_NEEDED. ODFILTER_NULL: any of the four is. ODFILTER_OTHER_KIND:
+ * `filter` is no filter, or `judge` no judge. ODFILTER_MEMORY. */
+uint32_t odfilter_judge(const odfilter_handle *filter, odfilter_handle *judge, odfilter_bytes row,
+                        odfilter_answer *answer);
+
+/* Judges rows, a line each, and writes those whose verdict is true, unchanged and each followed by a line feed.
+ * Lines of spaces, tabs and carriage returns alone are passed over. A room with one byte more than the rows is
+ * never too small.
+ *
+ * ODFILTER_OK: `rows` and `kept`, and `length` bytes have been written. ODFILTER_TOO_SMALL: `length` are wanted.
+ * ODFILTER_JSON_FAULT, ODFILTER_ROW_FAULT, ODFILTER_EVAL_FAULT, ODFILTER_LINE_TOO_LONG: the line `number` is at
+ * fault, as by odfilter_judge, and the kept lines before it have been written, `length` bytes, or none where the
+ * room is smaller than that. ODFILTER_MEMORY, ODFILTER_MOMENT_NEEDED: none was. ODFILTER_NULL: any of the five is.
+ * ODFILTER_OTHER_KIND. */
+uint32_t odfilter_filter_lines(const odfilter_handle *filter, odfilter_handle *judge, odfilter_bytes rows,
+                               odfilter_room kept, odfilter_answer *answer);
+
+/* Writes the path of the value at fault, from the row, as Parts/0/Qty, of the last ODFILTER_ROW_FAULT that this
+ * judge was in; no bytes where the last row was at no such fault or at one without a path.
+ *
+ * ODFILTER_OK: `length` bytes have been written. ODFILTER_TOO_SMALL. ODFILTER_NULL: any of the three is.
+ * ODFILTER_OTHER_KIND: `judge` is no judge. */
+uint32_t odfilter_path(const odfilter_handle *judge, odfilter_room path, odfilter_answer *answer);
+
+/* ---- All handles */
+
+/* Frees a handle, with all that belongs to it, and writes NULL in its place: so a second call for the same place
+ * is told.
+ *
+ * ODFILTER_OK. ODFILTER_NULL: `handle` is, or what it points to. */
+uint32_t odfilter_free(odfilter_handle **handle);
+
+/* ---- Names */
+
+/* Write the library's version; the name of a status; the name of a fault of a status.
+ *
+ * ODFILTER_OK: `length` bytes have been written. ODFILTER_TOO_SMALL. ODFILTER_UNKNOWN_NUMBER: there is no such
+ * status, or it has no such fault. ODFILTER_NULL: any of the two is. */
+uint32_t odfilter_version(odfilter_room text, odfilter_answer *answer);
+uint32_t odfilter_status_name(uint32_t status, odfilter_room text, odfilter_answer *answer);
+uint32_t odfilter_fault_name(uint32_t status, uint32_t fault, odfilter_room text, odfilter_answer *answer);
+
+#ifdef __cplusplus
+}
+#endif
+
+#endif
