@@ -1,0 +1,235 @@
+/* What each call answers to arguments that it cannot take: no address, no bytes, no UTF-8, another kind of handle, a
+ * number of nothing. The handles that it was given are as they were. */
+#include "checks.h"
+
+static const odfilter_answer nothing;
+static const odfilter_bytes no_bytes = {NULL, 0}, no_bytes_of_length = {NULL, 5};
+static const odfilter_room no_room = {NULL, 0}, no_room_of_length = {NULL, 64};
+
+/* a handle of each kind, in this order */
+enum kind { SCHEMA, TYPE, FILTER_KIND, JUDGE, KINDS };
+static odfilter_handle *handles[KINDS];
+static char names[64];
+static const odfilter_room room = {names, sizeof names};
+static odfilter_answer answer;
+
+/* a place where another handle stood: it is written over, and not freed */
+static odfilter_handle **place(void)
+{
+    static odfilter_handle *at;
+    at = handles[TYPE];
+    answer = unwritten();
+    return &at;
+}
+
+static odfilter_answer *told(void)
+{
+    answer = unwritten();
+    return &answer;
+}
+
+/* then nothing is written: neither the answer nor the place of a handle */
+static void is_null(const char *name, uint32_t status, int has_answer, odfilter_handle *const *at)
+{
+    check(name, status == ODFILTER_NULL);
+    check(name, !has_answer || is_answer(answer, unwritten()));
+    check(name, !at || *at == handles[TYPE]);
+}
+
+static void nulls_that_make_handles(void)
+{
+    odfilter_bytes document = bytes_of(DOCUMENT), name = bytes_of("Mini.Item"), text = bytes_of(FILTER);
+    odfilter_handle **at = place();
+    is_null("read_schema: no document", odfilter_read_schema(no_bytes, room, at, told()), 1, at);
+    at = place();
+    is_null("read_schema: no document of a length", odfilter_read_schema(no_bytes_of_length, room, at, told()), 1, at);
+    at = place();
+    is_null("read_schema: no room", odfilter_read_schema(document, no_room, at, told()), 1, at);
+    is_null("read_schema: no place", odfilter_read_schema(document, room, NULL, told()), 1, NULL);
+    at = place();
+    is_null("read_schema: no answer", odfilter_read_schema(document, room, at, NULL), 0, at);
+    at = place();
+    is_null("find_type: no schema", odfilter_find_type(NULL, name, at), 0, at);
+    at = place();
+    is_null("find_type: no name", odfilter_find_type(handles[SCHEMA], no_bytes, at), 0, at);
+    is_null("find_type: no place", odfilter_find_type(handles[SCHEMA], name, NULL), 0, NULL);
+    is_null("new_judge: no place", odfilter_new_judge(NULL), 0, NULL);
+    drop(document);
+    drop(name);
+    drop(text);
+}
+
+static void nulls_of_checks(void)
+{
+    odfilter_bytes text = bytes_of("filter=true");
+    uint32_t (*const calls[])(const odfilter_handle *, odfilter_bytes, odfilter_handle **,
+                              odfilter_answer *) = {odfilter_check, odfilter_check_query};
+    odfilter_handle **at;
+    size_t number;
+    for (number = 0; number < 2; number++) {
+        at = place();
+        is_null("check: no type", calls[number](NULL, text, at, told()), 1, at);
+        at = place();
+        is_null("check: no text", calls[number](handles[TYPE], no_bytes, at, told()), 1, at);
+        at = place();
+        is_null("check: no text of a length", calls[number](handles[TYPE], no_bytes_of_length, at, told()), 1, at);
+        is_null("check: no place", calls[number](handles[TYPE], text, NULL, told()), 1, NULL);
+        at = place();
+        is_null("check: no answer", calls[number](handles[TYPE], text, at, NULL), 0, at);
+    }
+    drop(text);
+}
+
+static void nulls_of_texts(void)
+{
+    uint32_t (*const calls[])(const odfilter_handle *, odfilter_room,
+                              odfilter_answer *) = {odfilter_canonical, odfilter_explain, odfilter_path};
+    size_t number;
+    for (number = 0; number < 3; number++) {
+        odfilter_handle *handle = handles[number == 2 ? JUDGE : FILTER_KIND];
+        is_null("text: no handle", calls[number](NULL, room, told()), 1, NULL);
+        is_null("text: no room", calls[number](handle, no_room, told()), 1, NULL);
+        is_null("text: no room of a length", calls[number](handle, no_room_of_length, told()), 1, NULL);
+        is_null("text: no answer", calls[number](handle, room, NULL), 0, NULL);
+    }
+    is_null("version: no room", odfilter_version(no_room, told()), 1, NULL);
+    is_null("version: no answer", odfilter_version(room, NULL), 0, NULL);
+    is_null("status_name: no room", odfilter_status_name(1, no_room, told()), 1, NULL);
+    is_null("status_name: no answer", odfilter_status_name(1, room, NULL), 0, NULL);
+    is_null("fault_name: no room", odfilter_fault_name(ODFILTER_EVAL_FAULT, 1, no_room, told()), 1, NULL);
+    is_null("fault_name: no answer", odfilter_fault_name(ODFILTER_EVAL_FAULT, 1, room, NULL), 0, NULL);
+    is_null("needs_moment: no filter", odfilter_needs_moment(NULL, told()), 1, NULL);
+    is_null("needs_moment: no answer", odfilter_needs_moment(handles[FILTER_KIND], NULL), 0, NULL);
+}
+
+static void nulls_of_rows(void)
+{
+    odfilter_bytes row = bytes_of(ROW);
+    odfilter_handle *filter = handles[FILTER_KIND], *judge = handles[JUDGE];
+    odfilter_room kept = {block(row.length + 1), row.length + 1};
+    is_null("judge: no filter", odfilter_judge(NULL, judge, row, told()), 1, NULL);
+    is_null("judge: no judge", odfilter_judge(filter, NULL, row, told()), 1, NULL);
+    is_null("judge: no row", odfilter_judge(filter, judge, no_bytes, told()), 1, NULL);
+    is_null("judge: no row of a length", odfilter_judge(filter, judge, no_bytes_of_length, told()), 1, NULL);
+    is_null("judge: no answer", odfilter_judge(filter, judge, row, NULL), 0, NULL);
+    is_null("filter_lines: no filter", odfilter_filter_lines(NULL, judge, row, kept, told()), 1, NULL);
+    is_null("filter_lines: no judge", odfilter_filter_lines(filter, NULL, row, kept, told()), 1, NULL);
+    is_null("filter_lines: no rows", odfilter_filter_lines(filter, judge, no_bytes, kept, told()), 1, NULL);
+    is_null("filter_lines: no room", odfilter_filter_lines(filter, judge, row, no_room_of_length, told()), 1, NULL);
+    is_null("filter_lines: no answer", odfilter_filter_lines(filter, judge, row, kept, NULL), 0, NULL);
+    is_null("set_moment: no judge", odfilter_set_moment(NULL, row), 0, NULL);
+    is_null("set_moment: no moment", odfilter_set_moment(judge, no_bytes), 0, NULL);
+    is_null("free: no place", odfilter_free(NULL), 0, NULL);
+    drop(row);
+    free(kept.at);
+}
+
+/* each call with a handle of each other kind */
+static void other_kinds(void)
+{
+    odfilter_bytes text = bytes_of("true"), row = bytes_of(ROW);
+    odfilter_room kept = {block(row.length + 1), row.length + 1};
+    odfilter_handle **at, *filter = handles[FILTER_KIND], *judge = handles[JUDGE];
+    int kind;
+    for (kind = 0; kind < KINDS; kind++) {
+        odfilter_handle *other = handles[kind];
+        uint32_t status = ODFILTER_OTHER_KIND;
+        at = place();
+        check("find_type: no schema", kind == SCHEMA || (odfilter_find_type(other, text, at) == status && !*at));
+        at = place();
+        check("check: no type", kind == TYPE || (odfilter_check(other, text, at, told()) == status && !*at));
+        at = place();
+        check("check_query: no type",
+              kind == TYPE || (odfilter_check_query(other, text, at, told()) == status && !*at));
+        check("canonical: no filter", kind == FILTER_KIND || odfilter_canonical(other, room, told()) == status);
+        check("explain: no filter", kind == FILTER_KIND || odfilter_explain(other, room, told()) == status);
+        check("needs_moment: no filter", kind == FILTER_KIND || odfilter_needs_moment(other, told()) == status);
+        check("judge: no filter", kind == FILTER_KIND || odfilter_judge(other, judge, row, told()) == status);
+        check("judge: its answer is written", kind == FILTER_KIND || is_answer(answer, nothing));
+        check("judge: no judge", kind == JUDGE || odfilter_judge(filter, other, row, told()) == status);
+        check("lines: no filter",
+              kind == FILTER_KIND || odfilter_filter_lines(other, judge, row, kept, told()) == status);
+        check("lines: no judge", kind == JUDGE || odfilter_filter_lines(filter, other, row, kept, told()) == status);
+        check("lines: its answer is written", kind == JUDGE || is_answer(answer, nothing));
+        check("path: no judge", kind == JUDGE || odfilter_path(other, room, told()) == status);
+        check("set_moment: no judge", kind == JUDGE || odfilter_set_moment(other, text) == status);
+    }
+    drop(text);
+    drop(row);
+    free(kept.at);
+}
+
+static void empty_texts(void)
+{
+    odfilter_bytes empty = {block(0), 0};
+    odfilter_room kept = {block(1), 1};
+    odfilter_handle **at = place();
+    odfilter_answer wanted = nothing;
+    check("an empty document", odfilter_read_schema(empty, room, at, told()) == ODFILTER_SCHEMA_FAULT && !*at);
+    wanted.fault = ODFILTER_SCHEMA_NOT_JSON;
+    check("an empty document is no JSON", is_answer(answer, wanted));
+    at = place();
+    check("an empty name", odfilter_find_type(handles[SCHEMA], empty, at) == ODFILTER_UNKNOWN_TYPE && !*at);
+    at = place();
+    check("an empty filter", odfilter_check(handles[TYPE], empty, at, told()) == ODFILTER_SYNTAX_FAULT && !*at);
+    wanted.fault = ODFILTER_SYNTAX_UNEXPECTED;
+    check("an empty filter ends too early, at 0", is_answer(answer, wanted));
+    at = place();
+    check("an empty query", odfilter_check_query(handles[TYPE], empty, at, told()) == ODFILTER_NO_FILTER && !*at);
+    check("of an empty query nothing is told", is_answer(answer, nothing));
+    check("an empty row", odfilter_judge(handles[FILTER_KIND], handles[JUDGE], empty, told()) == ODFILTER_JSON_FAULT);
+    check("of an empty row nothing is told", is_answer(answer, nothing));
+    check("no lines", odfilter_filter_lines(handles[FILTER_KIND], handles[JUDGE], empty, kept, told()) == ODFILTER_OK);
+    check("of no lines nothing is told", is_answer(answer, nothing));
+    check("an empty moment", odfilter_set_moment(handles[JUDGE], empty) == ODFILTER_NOT_A_MOMENT);
+    free((char *)empty.at);
+    free(kept.at);
+}
+
+static void bytes_that_are_no_utf8(void)
+{
+    odfilter_bytes text = bytes_of("ID eq 1 or Name eq '\xc3'"), query = bytes_of("x=1&filter=\xff");
+    odfilter_handle **at = place();
+    odfilter_answer wanted = nothing;
+    check("a document that is no UTF-8", odfilter_read_schema(text, room, at, told()) == ODFILTER_SCHEMA_FAULT && !*at);
+    check("it is no JSON", answer.fault == ODFILTER_SCHEMA_NOT_JSON);
+    at = place();
+    check("a name that is no UTF-8", odfilter_find_type(handles[SCHEMA], text, at) == ODFILTER_NOT_UTF8 && !*at);
+    at = place();
+    check("a filter that is no UTF-8", odfilter_check(handles[TYPE], text, at, told()) == ODFILTER_NOT_UTF8 && !*at);
+    check("of it nothing is told", is_answer(answer, nothing));
+    at = place();
+    check("a query that is no UTF-8",
+          odfilter_check_query(handles[TYPE], query, at, told()) == ODFILTER_QUERY_FAULT && !*at);
+    wanted.fault = ODFILTER_QUERY_NOT_UTF8;
+    wanted.number = 1;
+    check("its option is told", is_answer(answer, wanted));
+    check("a row that is no UTF-8",
+          odfilter_judge(handles[FILTER_KIND], handles[JUDGE], text, told()) == ODFILTER_JSON_FAULT);
+    check("a moment that is no UTF-8", odfilter_set_moment(handles[JUDGE], text) == ODFILTER_NOT_UTF8);
+    drop(text);
+    drop(query);
+}
+
+int main(void)
+{
+    int kind;
+    handles[SCHEMA] = schema_of(DOCUMENT);
+    handles[TYPE] = type_of(handles[SCHEMA], "Mini.Item");
+    handles[FILTER_KIND] = filter_of(handles[TYPE], FILTER);
+    handles[JUDGE] = new_judge();
+    nulls_that_make_handles();
+    nulls_of_checks();
+    nulls_of_texts();
+    nulls_of_rows();
+    other_kinds();
+    empty_texts();
+    bytes_that_are_no_utf8();
+    check("the filter and the judge are as they were", is_kept(handles[FILTER_KIND], handles[JUDGE], ROW));
+    check("and keep no other row", !is_kept(handles[FILTER_KIND], handles[JUDGE], OTHER_ROW));
+    for (kind = 0; kind < KINDS; kind++) {
+        check("a handle is freed", odfilter_free(&handles[kind]) == ODFILTER_OK && !handles[kind]);
+        check("a second time it is told", odfilter_free(&handles[kind]) == ODFILTER_NULL);
+    }
+    return end();
+}

@@ -1,0 +1,98 @@
+/* Handles are freed in every order, and after each one that is freed all that is left is used. */
+#include "checks.h"
+
+enum kind { SCHEMA, TYPE, FILTER_KIND, JUDGE, KINDS };
+
+static void use_type(const odfilter_handle *type)
+{
+    odfilter_handle *filter = filter_of(type, "contains(Name,'a') and Part/Size lt 6"), *judge = new_judge();
+    check("a filter of a type whose schema may be gone", is_kept(filter, judge, ROW));
+    check("the filter is freed", odfilter_free(&filter) == ODFILTER_OK && !filter);
+    check("the judge is freed", odfilter_free(&judge) == ODFILTER_OK && !judge);
+}
+
+static void use_filter(const odfilter_handle *filter)
+{
+    char text[32];
+    odfilter_room room = {text, sizeof text};
+    odfilter_answer answer;
+    check("the canonical text of a filter whose type may be gone",
+          odfilter_canonical(filter, room, &answer) == ODFILTER_OK);
+    check("it is the same", answer.length == strlen(FILTER) && !memcmp(text, FILTER, answer.length));
+}
+
+static void use(odfilter_handle *const *handles)
+{
+    odfilter_handle *type;
+    if (handles[SCHEMA]) {
+        type = type_of(handles[SCHEMA], "Mini.Item");
+        check("a type is freed", odfilter_free(&type) == ODFILTER_OK);
+    }
+    if (handles[TYPE])
+        use_type(handles[TYPE]);
+    if (handles[FILTER_KIND])
+        use_filter(handles[FILTER_KIND]);
+    if (handles[FILTER_KIND] && handles[JUDGE]) {
+        check("a row is kept", is_kept(handles[FILTER_KIND], handles[JUDGE], ROW));
+        check("a row is not kept", !is_kept(handles[FILTER_KIND], handles[JUDGE], OTHER_ROW));
+    }
+}
+
+static void free_in_order(const int *order)
+{
+    odfilter_handle *handles[KINDS];
+    int number;
+    handles[SCHEMA] = schema_of(DOCUMENT);
+    handles[TYPE] = type_of(handles[SCHEMA], "Mini.Item");
+    handles[FILTER_KIND] = filter_of(handles[TYPE], FILTER);
+    handles[JUDGE] = new_judge();
+    use(handles);
+    for (number = 0; number < KINDS; number++) {
+        odfilter_handle **handle = &handles[order[number]];
+        check("a handle is freed", odfilter_free(handle) == ODFILTER_OK && !*handle);
+        check("it was freed is told", odfilter_free(handle) == ODFILTER_NULL && !*handle);
+        use(handles);
+    }
+}
+
+/* one judge for filters of two schemas, in turn */
+static void one_judge(void)
+{
+    odfilter_handle *first = schema_of(DOCUMENT),
+                    *second = schema_of("{\"$Version\":\"4.0\",\"Mini\":{\"Item\":{\"$Kind\":"
+                                        "\"EntityType\",\"Name\":{\"$Nullable\":true}}}}");
+    odfilter_handle *types[2] = {type_of(first, "Mini.Item"), type_of(second, "Mini.Item")}, *judge = new_judge();
+    odfilter_handle *filters[2] = {filter_of(types[0], FILTER), filter_of(types[1], "Name eq null")};
+    int times;
+    for (times = 0; times < 3; times++) {
+        check("a row of the first", is_kept(filters[0], judge, ROW));
+        check("a row of the second", is_kept(filters[1], judge, "{}"));
+        check("the same row is no row of the first", !is_kept(filters[0], judge, "{}"));
+    }
+    odfilter_free(&first);
+    odfilter_free(&types[0]);
+    odfilter_free(&filters[0]);
+    check("a row of the second, without the first", is_kept(filters[1], judge, "{\"Name\":null}"));
+    odfilter_free(&judge);
+    odfilter_free(&filters[1]);
+    odfilter_free(&types[1]);
+    odfilter_free(&second);
+}
+
+int main(void)
+{
+    int order[KINDS], places[KINDS], number, is_order;
+    for (number = 0; number < 256; number++) {
+        order[0] = number & 3;
+        order[1] = number >> 2 & 3;
+        order[2] = number >> 4 & 3;
+        order[3] = number >> 6 & 3;
+        memset(places, 0, sizeof places);
+        places[order[0]] = places[order[1]] = places[order[2]] = places[order[3]] = 1;
+        is_order = places[0] && places[1] && places[2] && places[3];
+        if (is_order)
+            free_in_order(order);
+    }
+    one_judge();
+    return end();
+}

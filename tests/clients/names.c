@@ -1,0 +1,144 @@
+/* The names of all statuses and faults, and that no other number has one. */
+#include "checks.h"
+
+static const char *const status_names[] = {
+    [ODFILTER_OK] = "OK",
+    [ODFILTER_NULL] = "NULL",
+    [ODFILTER_OTHER_KIND] = "OTHER_KIND",
+    [ODFILTER_NOT_UTF8] = "NOT_UTF8",
+    [ODFILTER_TOO_SMALL] = "TOO_SMALL",
+    [ODFILTER_MEMORY] = "MEMORY",
+    [ODFILTER_UNKNOWN_TYPE] = "UNKNOWN_TYPE",
+    [ODFILTER_NO_FILTER] = "NO_FILTER",
+    [ODFILTER_MOMENT_NEEDED] = "MOMENT_NEEDED",
+    [ODFILTER_NOT_A_MOMENT] = "NOT_A_MOMENT",
+    [ODFILTER_UNKNOWN_NUMBER] = "UNKNOWN_NUMBER",
+    [ODFILTER_SCHEMA_FAULT] = "SCHEMA_FAULT",
+    [ODFILTER_TEXT_FAULT] = "TEXT_FAULT",
+    [ODFILTER_SYNTAX_FAULT] = "SYNTAX_FAULT",
+    [ODFILTER_TYPE_FAULT] = "TYPE_FAULT",
+    [ODFILTER_QUERY_FAULT] = "QUERY_FAULT",
+    [ODFILTER_JSON_FAULT] = "JSON_FAULT",
+    [ODFILTER_ROW_FAULT] = "ROW_FAULT",
+    [ODFILTER_EVAL_FAULT] = "EVAL_FAULT",
+    [ODFILTER_LINE_TOO_LONG] = "LINE_TOO_LONG",
+};
+
+/* the faults of each status, by their numbers; 0 is none */
+static const char *const fault_names[][14] = {
+    [ODFILTER_SCHEMA_FAULT] =
+        {
+            [ODFILTER_SCHEMA_NOT_JSON] = "NotJson",
+            [ODFILTER_SCHEMA_NOT_OBJECT] = "NotObject",
+            [ODFILTER_SCHEMA_VERSION] = "Version",
+            [ODFILTER_SCHEMA_BAD_TYPE] = "BadType",
+            [ODFILTER_SCHEMA_BAD_PROPERTY] = "BadProperty",
+            [ODFILTER_SCHEMA_UNKNOWN_BASE] = "UnknownBase",
+            [ODFILTER_SCHEMA_BASE_CYCLE] = "BaseCycle",
+            [ODFILTER_SCHEMA_PROPERTY_TWICE] = "PropertyTwice",
+            [ODFILTER_SCHEMA_BAD_ENUM_MEMBER] = "BadEnumMember",
+            [ODFILTER_SCHEMA_TOO_LARGE] = "TooLarge",
+        },
+    [ODFILTER_TEXT_FAULT] =
+        {
+            [ODFILTER_TEXT_BAD_CHARACTER] = "BadCharacter",
+            [ODFILTER_TEXT_UNCLOSED_STRING] = "UnclosedString",
+            [ODFILTER_TEXT_LEFT_OUT_LITERAL] = "LeftOutLiteral",
+            [ODFILTER_TEXT_RUN_ON] = "RunOn",
+            [ODFILTER_TEXT_TOO_LONG] = "TooLong",
+        },
+    [ODFILTER_SYNTAX_FAULT] =
+        {
+            [ODFILTER_SYNTAX_UNEXPECTED] = "Unexpected",
+            [ODFILTER_SYNTAX_TOO_DEEP] = "TooDeep",
+        },
+    [ODFILTER_TYPE_FAULT] =
+        {
+            [ODFILTER_TYPE_UNKNOWN_PROPERTY] = "UnknownProperty",
+            [ODFILTER_TYPE_UNKNOWN_FUNCTION] = "UnknownFunction",
+            [ODFILTER_TYPE_ARGUMENT_COUNT] = "ArgumentCount",
+            [ODFILTER_TYPE_ARGUMENT_TYPE] = "ArgumentType",
+            [ODFILTER_TYPE_OPERAND_TYPES] = "OperandTypes",
+            [ODFILTER_TYPE_NOT_COLLECTION] = "NotCollection",
+            [ODFILTER_TYPE_VARIABLE_TAKEN] = "VariableTaken",
+            [ODFILTER_TYPE_BODY_NOT_BOOLEAN] = "BodyNotBoolean",
+            [ODFILTER_TYPE_LITERAL_RANGE] = "LiteralRange",
+            [ODFILTER_TYPE_UNKNOWN_ENUM] = "UnknownEnum",
+            [ODFILTER_TYPE_TYPE_LEFT_OUT] = "TypeLeftOut",
+            [ODFILTER_TYPE_NOT_BOOLEAN] = "NotBoolean",
+            [ODFILTER_TYPE_NAVIGATION] = "Navigation",
+        },
+    [ODFILTER_QUERY_FAULT] =
+        {
+            [ODFILTER_QUERY_BAD_ESCAPE] = "BadEscape",
+            [ODFILTER_QUERY_NOT_UTF8] = "NotUtf8",
+            [ODFILTER_QUERY_REPEATED] = "Repeated",
+            [ODFILTER_QUERY_OTHER_OPTION] = "OtherOption",
+        },
+    [ODFILTER_ROW_FAULT] =
+        {
+            [ODFILTER_ROW_NOT_OBJECT] = "NotObject",
+            [ODFILTER_ROW_MISSING] = "Missing",
+            [ODFILTER_ROW_WRONG_KIND] = "WrongKind",
+            [ODFILTER_ROW_NULL_NOT_ALLOWED] = "NullNotAllowed",
+            [ODFILTER_ROW_OUT_OF_RANGE] = "OutOfRange",
+            [ODFILTER_ROW_BAD_TEXT] = "BadText",
+        },
+    [ODFILTER_EVAL_FAULT] =
+        {
+            [ODFILTER_EVAL_OVERFLOW] = "Overflow",
+            [ODFILTER_EVAL_DIVIDE_BY_ZERO] = "DivideByZero",
+        },
+};
+
+#define STATUSES (sizeof status_names / sizeof *status_names)
+#define FAULTS (sizeof *fault_names / sizeof **fault_names)
+
+/* whether a call wrote that name, or none where there is none */
+static int is_named(uint32_t told, const char *room, odfilter_answer answer, const char *name)
+{
+    odfilter_answer wanted = {0};
+    wanted.length = name ? strlen(name) : 0;
+    if (!is_answer(answer, wanted))
+        return 0;
+    return name ? told == ODFILTER_OK && !memcmp(room, name, strlen(name)) : told == ODFILTER_UNKNOWN_NUMBER;
+}
+
+static void status_at(uint32_t status)
+{
+    char at[32];
+    odfilter_room room = {at, sizeof at};
+    odfilter_answer answer = unwritten();
+    uint32_t told = odfilter_status_name(status, room, &answer);
+    check("the name of a status", is_named(told, at, answer, status < STATUSES ? status_names[status] : NULL));
+}
+
+static void fault_at(uint32_t status, uint32_t fault)
+{
+    char at[32];
+    odfilter_room room = {at, sizeof at};
+    odfilter_answer answer = unwritten();
+    uint32_t told = odfilter_fault_name(status, fault, room, &answer);
+    int is_known = status < sizeof fault_names / sizeof *fault_names && fault < FAULTS;
+    check("the name of a fault", is_named(told, at, answer, is_known ? fault_names[status][fault] : NULL));
+}
+
+int main(void)
+{
+    static const uint32_t far[] = {UINT32_C(0x100), UINT32_C(0x10000), UINT32_C(0x7fffffff), UINT32_MAX};
+    uint32_t status, fault;
+    size_t number;
+    for (status = 0; status < 40; status++) {
+        status_at(status);
+        for (fault = 0; fault < 40; fault++)
+            fault_at(status, fault);
+        for (number = 0; number < 4; number++)
+            fault_at(status, far[number] + 1);
+    }
+    for (number = 0; number < 4; number++) {
+        status_at(far[number]);
+        status_at(far[number] + 1);
+        fault_at(far[number] + ODFILTER_EVAL_FAULT, ODFILTER_EVAL_OVERFLOW);
+    }
+    return end();
+}

@@ -1,0 +1,213 @@
+/* What is told of rows: verdicts, faults with their paths, lines, moments; and the places of refused filters. */
+#include "checks.h"
+
+static odfilter_handle *schema, *type, *judge;
+
+/* the answer to a row, by a filter */
+static void row_is(const char *text, const char *row, uint32_t status, odfilter_answer wanted, const char *path)
+{
+    char at[64];
+    odfilter_room room = {at, sizeof at};
+    odfilter_answer answer = unwritten();
+    odfilter_handle *filter = filter_of(type, text);
+    odfilter_bytes bytes = bytes_of(row);
+    check(row, odfilter_judge(filter, judge, bytes, &answer) == status);
+    check(row, is_answer(answer, wanted));
+    check("its path", odfilter_path(judge, room, &answer) == ODFILTER_OK);
+    check("its path is the last row's", answer.length == strlen(path) && !memcmp(at, path, answer.length));
+    drop(bytes);
+    odfilter_free(&filter);
+}
+
+static odfilter_answer verdict(uint32_t verdict)
+{
+    odfilter_answer answer = {0};
+    answer.verdict = verdict;
+    return answer;
+}
+
+static odfilter_answer fault(uint32_t fault, const char *path)
+{
+    odfilter_answer answer = {0};
+    answer.fault = fault;
+    answer.length = strlen(path);
+    return answer;
+}
+
+static void verdicts_and_faults(void)
+{
+    row_is(FILTER, ROW, ODFILTER_OK, verdict(ODFILTER_TRUE), "");
+    row_is(FILTER, OTHER_ROW, ODFILTER_OK, verdict(ODFILTER_FALSE), "");
+    row_is("null", ROW, ODFILTER_OK, verdict(ODFILTER_NO_TRUTH_VALUE), "");
+    row_is(FILTER, BAD_ROW, ODFILTER_ROW_FAULT, fault(ODFILTER_ROW_OUT_OF_RANGE, "Part/Size"), "Part/Size");
+    row_is(FILTER, "[]", ODFILTER_ROW_FAULT, fault(ODFILTER_ROW_NOT_OBJECT, ""), "");
+    row_is(FILTER, "{}", ODFILTER_ROW_FAULT, fault(ODFILTER_ROW_MISSING, "Active"), "Active");
+    row_is(FILTER, "{\"Active\":1}", ODFILTER_ROW_FAULT, fault(ODFILTER_ROW_WRONG_KIND, "Active"), "Active");
+    row_is(FILTER, "{\"Active\":null}", ODFILTER_ROW_FAULT, fault(ODFILTER_ROW_NULL_NOT_ALLOWED, "Active"), "Active");
+    row_is(FILTER, "{", ODFILTER_JSON_FAULT, fault(0, ""), "");
+    row_is(FILTER, " \n\t", ODFILTER_JSON_FAULT, fault(0, ""), "");
+    row_is("1 div (ID sub 1) eq 1", ROW, ODFILTER_EVAL_FAULT, fault(ODFILTER_EVAL_DIVIDE_BY_ZERO, ""), "");
+    row_is("2147483647 add ID eq 1", ROW, ODFILTER_EVAL_FAULT, fault(ODFILTER_EVAL_OVERFLOW, ""), "");
+    row_is(FILTER, "\n " ROW "\r\n\n", ODFILTER_OK, verdict(ODFILTER_TRUE), "");
+}
+
+/* each beginning of a row is no row */
+static void beginnings(void)
+{
+    odfilter_handle *filter = filter_of(type, FILTER);
+    size_t length;
+    for (length = 0; length < strlen(ROW); length++) {
+        odfilter_bytes row = {memcpy(block(length), ROW, length), length};
+        odfilter_answer answer;
+        check("a beginning of a row", odfilter_judge(filter, judge, row, &answer) == ODFILTER_JSON_FAULT);
+        drop(row);
+    }
+    odfilter_free(&filter);
+}
+
+/* lines, of which one may be at fault */
+static void lines_are(const char *rows, uint32_t status, odfilter_answer wanted, const char *kept, const char *path)
+{
+    char at[64];
+    odfilter_room of_path = {at, sizeof at};
+    odfilter_handle *filter = filter_of(type, "Active or 1 div ID eq 1");
+    odfilter_bytes bytes = bytes_of(rows);
+    odfilter_room room = {block(bytes.length + 1), bytes.length + 1};
+    odfilter_answer answer = unwritten();
+    wanted.length = strlen(kept);
+    check(rows, odfilter_filter_lines(filter, judge, bytes, room, &answer) == status);
+    check(rows, is_answer(answer, wanted) && !memcmp(room.at, kept, strlen(kept)));
+    check("the path of a line", odfilter_path(judge, of_path, &answer) == ODFILTER_OK);
+    check("the path of a line is its own", answer.length == strlen(path) && !memcmp(at, path, answer.length));
+    drop(bytes);
+    free(room.at);
+    odfilter_free(&filter);
+}
+
+static odfilter_answer at_line(uint32_t fault, uint64_t number)
+{
+    odfilter_answer answer = {0};
+    answer.fault = fault;
+    answer.number = number;
+    return answer;
+}
+
+#define ZERO_ROW "{\"ID\":0,\"Name\":\"a\",\"Active\":false,\"Part\":{\"Size\":5}}"
+
+static void lines(void)
+{
+    odfilter_answer all = {0};
+    all.rows = 3;
+    all.kept = 2;
+    lines_are(ROW "\n \t\r\n" OTHER_ROW "\r\n" ROW, ODFILTER_OK, all, ROW "\n" ROW "\n", "");
+    lines_are(ROW "\n\n{}\n" ROW "\n", ODFILTER_ROW_FAULT, at_line(ODFILTER_ROW_MISSING, 3), ROW "\n", "Active");
+    lines_are(ROW "\n" ROW "\n[\n", ODFILTER_JSON_FAULT, at_line(0, 3), ROW "\n" ROW "\n", "");
+    lines_are(ZERO_ROW "\n" ROW, ODFILTER_EVAL_FAULT, at_line(ODFILTER_EVAL_DIVIDE_BY_ZERO, 1), "", "");
+}
+
+static void long_lines(void)
+{
+    size_t limit = 1048576, length;
+    odfilter_handle *filter = filter_of(type, FILTER);
+    for (length = limit; length <= limit + 1; length++) {
+        odfilter_bytes row = {memset(block(length), ' ', length), length};
+        odfilter_room room = {block(length + 1), length + 1};
+        odfilter_answer answer = unwritten(), wanted = at_line(0, 1);
+        uint32_t status, of_row;
+        memcpy((char *)row.at, ROW, strlen(ROW));
+        status = odfilter_filter_lines(filter, judge, row, room, &answer);
+        of_row = odfilter_judge(filter, judge, row, &answer);
+        check("a line of any length is a row", of_row == ODFILTER_OK && answer.verdict == ODFILTER_TRUE);
+        check("a line of the greatest length", length > limit || status == ODFILTER_OK);
+        check("a line that is longer", length == limit || status == ODFILTER_LINE_TOO_LONG);
+        odfilter_filter_lines(filter, judge, row, room, &answer);
+        check("its number", length == limit || is_answer(answer, wanted));
+        drop(row);
+        free(room.at);
+    }
+    odfilter_free(&filter);
+}
+
+static int sets(const char *moment, uint32_t status)
+{
+    odfilter_bytes bytes = bytes_of(moment);
+    int is_so = odfilter_set_moment(judge, bytes) == status;
+    drop(bytes);
+    return is_so;
+}
+
+static void moments(void)
+{
+    odfilter_handle *filter = filter_of(type, "now() lt 2027-01-01T00:00:00Z"), *plain = filter_of(type, "true");
+    odfilter_answer answer = unwritten(), wanted = {0};
+    uint32_t told;
+    check("a filter that calls no now",
+          odfilter_needs_moment(plain, &answer) == ODFILTER_OK && is_answer(answer, wanted));
+    wanted.number = 1;
+    answer = unwritten();
+    check("a filter that calls now",
+          odfilter_needs_moment(filter, &answer) == ODFILTER_OK && is_answer(answer, wanted));
+    check("no moment", judged(filter, judge, ROW, &told) == ODFILTER_MOMENT_NEEDED);
+    check("no moment, and a row at fault", judged(filter, judge, "{", &told) == ODFILTER_MOMENT_NEEDED);
+    check("none is needed", is_kept(plain, judge, ROW));
+    check("a text that is none", sets("2027-02-29T00:00:00Z", ODFILTER_NOT_A_MOMENT));
+    check("it has set none", judged(filter, judge, ROW, &told) == ODFILTER_MOMENT_NEEDED);
+    check("a moment", sets("2026-11-25T09:00:00+01:00", ODFILTER_OK));
+    check("before", is_kept(filter, judge, ROW));
+    check("a text that is none, again", sets("tomorrow", ODFILTER_NOT_A_MOMENT));
+    check("the moment is as it was", is_kept(filter, judge, ROW));
+    check("a later moment", sets("2027-01-01T00:00:00Z", ODFILTER_OK));
+    check("no more", judged(filter, judge, ROW, &told) == ODFILTER_OK && told == ODFILTER_FALSE);
+    odfilter_free(&filter);
+    odfilter_free(&plain);
+}
+
+/* a filter or a query that is refused: START and STOP, or the number */
+static void refused(const char *text, int is_query, uint32_t status, odfilter_answer wanted)
+{
+    odfilter_handle *filter = type;
+    odfilter_answer answer = unwritten();
+    odfilter_bytes bytes = bytes_of(text);
+    uint32_t told = (is_query ? odfilter_check_query : odfilter_check)(type, bytes, &filter, &answer);
+    check(text, told == status && !filter);
+    check(text, is_answer(answer, wanted));
+    drop(bytes);
+}
+
+static odfilter_answer span(uint32_t fault, size_t start, size_t stop)
+{
+    odfilter_answer answer = {0};
+    answer.fault = fault;
+    answer.start = start;
+    answer.stop = stop;
+    return answer;
+}
+
+static void refusals(void)
+{
+    refused("Active and Foo eq 1", 0, ODFILTER_TYPE_FAULT, span(ODFILTER_TYPE_UNKNOWN_PROPERTY, 11, 14));
+    refused("Active and #", 0, ODFILTER_TEXT_FAULT, span(ODFILTER_TEXT_BAD_CHARACTER, 11, 12));
+    refused("Active and", 0, ODFILTER_SYNTAX_FAULT, span(ODFILTER_SYNTAX_UNEXPECTED, 10, 10));
+    refused("$filter=Active%20and%20Foo%20eq%201", 1, ODFILTER_TYPE_FAULT,
+            span(ODFILTER_TYPE_UNKNOWN_PROPERTY, 11, 14));
+    refused("a=1&b=%4", 1, ODFILTER_QUERY_FAULT, at_line(ODFILTER_QUERY_BAD_ESCAPE, 6));
+    refused("filter=a&&filter=b", 1, ODFILTER_QUERY_FAULT, at_line(ODFILTER_QUERY_REPEATED, 2));
+    refused("a=1&b=2", 1, ODFILTER_NO_FILTER, span(0, 0, 0));
+}
+
+int main(void)
+{
+    schema = schema_of(DOCUMENT);
+    type = type_of(schema, "Mini.Item");
+    judge = new_judge();
+    verdicts_and_faults();
+    beginnings();
+    lines();
+    long_lines();
+    moments();
+    refusals();
+    odfilter_free(&judge);
+    odfilter_free(&type);
+    odfilter_free(&schema);
+    return end();
+}
