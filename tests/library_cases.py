@@ -21,6 +21,9 @@ QUESTIONS = {
     "lines": "the bytes of lines and a moment or nothing: `row 3 Json` or nothing, a line feed, the kept lines",
 }
 OUTCOMES = {"true": True, "false": False, "null": None}
+# what a case is of that a library can be asked; and what is asked of some of these for which it has no call
+OF_LIBRARY = {"schema", "document", "documents", "query", "queries", "query_refusals"}
+NO_CALL = {"nodes", "types", "lambda_depths", "values"}
 OPTIONS = {"--schema", "--type", "--filter", "--query", "--rows", "--now"}
 
 
@@ -174,7 +177,7 @@ class Suite:
 
     def __init__(self):
         self.questions, self.wanted = Questions(), []
-        self.names, self.left_out = [], 0
+        self.left_out = []
         for place, case in cases():
             self.take_down(place, case)
 
@@ -188,7 +191,11 @@ class Suite:
         except LeftOut:
             pass
         if len(self.wanted) == count:
-            self.left_out += 1
+            self.left_out.append(case)
+
+    def passed_over(self):
+        """The cases that are left out though the library could be asked them."""
+        return [case for case in self.left_out if OF_LIBRARY & case.keys() and not NO_CALL & case.keys()]
 
     def wire(self):
         return b"".join(self.questions.wire)

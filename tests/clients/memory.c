@@ -67,14 +67,19 @@ static uint32_t call_new_judge(void)
     return odfilter_new_judge(&made);
 }
 
-/* with a judge that has seen no row, so that it has no room of its own yet */
-static uint32_t call_judge(void)
+/* a judge that has seen no row, so that it has no room of its own yet */
+static void renew_judge(void)
 {
-    uint32_t status;
     is_watched = 0;
     odfilter_free(&judge);
     judge = new_judge();
     is_watched = 1;
+}
+
+static uint32_t call_judge(void)
+{
+    uint32_t status;
+    renew_judge();
     status = odfilter_judge(filter, judge, row, &answer);
     check("a verdict is the right one", status != ODFILTER_OK || answer.verdict == ODFILTER_TRUE);
     return status;
@@ -83,10 +88,7 @@ static uint32_t call_judge(void)
 static uint32_t call_filter_lines(void)
 {
     uint32_t status;
-    is_watched = 0;
-    odfilter_free(&judge);
-    judge = new_judge();
-    is_watched = 1;
+    renew_judge();
     status = odfilter_filter_lines(filter, judge, rows, room, &answer);
     check("kept lines are the right ones", status != ODFILTER_OK || (answer.rows == 2 && answer.kept == 1));
     return status;

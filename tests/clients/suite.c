@@ -255,6 +255,37 @@ static void add_row_fault(struct text *to, uint32_t status, const odfilter_answe
     }
 }
 
+/* whether a row can stand on a line, where it is neither passed over nor too long */
+static int is_line(odfilter_bytes row)
+{
+    size_t at = 0;
+    while (at < row.length && strchr(" \t\r", row.at[at]) && row.at[at])
+        at++;
+    return at < row.length && row.length <= 1048576 && !memchr(row.at, '\n', row.length);
+}
+
+/* whether a run over the row twice, a blank line between, tells what was told of the row by itself */
+static int is_same_in_lines(struct held *held, odfilter_bytes row, uint32_t status, odfilter_answer told)
+{
+    size_t length = 2 * row.length + 2, kept = status == ODFILTER_OK && told.verdict == ODFILTER_TRUE ? 2 : 0;
+    char *lines = block(length);
+    odfilter_bytes rows = {lines, length};
+    odfilter_room room = {block(length + 1), length + 1};
+    odfilter_answer answer;
+    int is_same;
+    memcpy(lines, row.at, row.length);
+    memcpy(lines + row.length, "\n\n", 2);
+    memcpy(lines + row.length + 2, row.at, row.length);
+    is_same = odfilter_filter_lines(held->filter, held->judge, rows, room, &answer) == status &&
+              answer.fault == told.fault && answer.number == (status != ODFILTER_OK) && answer.kept == kept &&
+              answer.rows == (status == ODFILTER_OK ? 2 : 0) && answer.length == kept * (row.length + 1);
+    is_same = is_same && (!kept || (!memcmp(room.at, row.at, row.length) && room.at[row.length] == '\n' &&
+                                    !memcmp(room.at + row.length + 1, row.at, row.length)));
+    free(room.at);
+    free(lines);
+    return is_same;
+}
+
 static void answer_row(struct held *held, const odfilter_bytes *given, struct text *to)
 {
     static const char *const verdicts[] = {"false", "true", "null"};
@@ -263,6 +294,8 @@ static void answer_row(struct held *held, const odfilter_bytes *given, struct te
     uint32_t status = odfilter_judge(held->filter, judge, given[0], &answer);
     if (status == ODFILTER_NULL)
         add_word(to, "nothing");
+    else if (is_line(given[0]) && !is_same_in_lines(held, given[0], status, answer))
+        add_word(to, "another answer in lines");
     else if (status == ODFILTER_OK)
         add_word(to, verdicts[answer.verdict]);
     else
