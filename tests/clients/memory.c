@@ -1,5 +1,5 @@
-/* Memory: of each call the first allocation is refused, then the second, and so on until none was. And how many there
- * are: none to judge a row of a kind seen before.
+/* Memory: of each call the first allocation is refused, then the second, and so on until none was; by itself, and with
+ * all behind it. And none is made to judge a row of a kind seen before.
  *
  * It is linked with -Wl,--wrap=malloc,--wrap=realloc, so that the library's calls come here first. */
 #include "checks.h"
@@ -10,11 +10,14 @@ void *__wrap_malloc(size_t size);
 void *__wrap_realloc(void *at, size_t size);
 
 static unsigned long asked, refused_one;
-static int is_watched;
+static int is_watched, and_on;
 
 static int is_refused(void)
 {
-    return is_watched && ++asked == refused_one;
+    if (!is_watched)
+        return 0;
+    asked++;
+    return and_on ? asked >= refused_one : asked == refused_one;
 }
 
 void *__wrap_malloc(size_t size)
@@ -94,30 +97,70 @@ static uint32_t call_filter_lines(void)
     return status;
 }
 
-/* refuses one allocation after another; tells how many the call asks for when none is refused */
-static unsigned long refuse_each(const char *call_name, uint32_t (*call)(void), int makes)
+/* whether what a call made does what it should */
+static int is_schema(void)
 {
-    unsigned long number = 0;
+    odfilter_handle *found = NULL;
+    return odfilter_find_type(made, name, &found) == ODFILTER_OK && odfilter_free(&found) == ODFILTER_OK;
+}
+
+static int is_type(void)
+{
+    odfilter_handle *checked = NULL;
+    return odfilter_check(made, text, &checked, &answer) == ODFILTER_OK && odfilter_free(&checked) == ODFILTER_OK;
+}
+
+static int is_filter(void)
+{
+    return is_kept(made, judge, ROW) && !is_kept(made, judge, OTHER_ROW);
+}
+
+static int is_judge(void)
+{
+    return is_kept(filter, made, ROW) && !is_kept(filter, made, OTHER_ROW);
+}
+
+/* a call of which one allocation is refused, if it asks for so many: what it makes is whole or not there */
+static uint32_t refuse_one(const char *call_name, uint32_t (*call)(void), int (*is_whole)(void))
+{
+    static const odfilter_answer nothing;
     uint32_t status;
+    made = schema;
+    answer = unwritten();
+    asked = 0;
+    is_watched = 1;
+    status = call();
+    is_watched = 0;
+    check(call_name, status == ODFILTER_OK || is_answer(answer, nothing) || is_answer(answer, unwritten()));
+    check(call_name, status == ODFILTER_OK || (status == ODFILTER_MEMORY && asked >= refused_one));
+    check(call_name, !is_whole || (status == ODFILTER_OK ? is_whole() : !made));
+    check(call_name, !is_whole || odfilter_free(&made) == (status == ODFILTER_OK ? ODFILTER_OK : ODFILTER_NULL));
+    check("the filter is as it was", is_kept(filter, judge, ROW));
+    made = schema;
+    check("the schema is as it was", is_schema());
+    return status;
+}
+
+/* refuses one allocation after another until none was, and tells how often that was told */
+static unsigned long refuse_in_turn(const char *call_name, uint32_t (*call)(void), int (*is_whole)(void))
+{
+    unsigned long told = 0;
+    refused_one = 0;
     do {
-        made = schema;
-        refused_one = ++number;
-        asked = 0;
-        is_watched = 1;
-        status = call();
-        is_watched = 0;
-        if (asked < number)
-            break;
-        check(call_name, status == ODFILTER_MEMORY || (status == ODFILTER_OK && !makes));
-        check(call_name, !makes || !made);
-        check("the filter is as it was", is_kept(filter, judge, ROW));
-        check("its type is as it was",
-              odfilter_find_type(schema, name, &made) == ODFILTER_OK && odfilter_free(&made) == 0);
-    } while (number < 100000);
-    check(call_name, status == ODFILTER_OK && number < 100000);
-    if (makes)
-        check(call_name, odfilter_free(&made) == ODFILTER_OK);
-    return number - 1;
+        refused_one++;
+        told += refuse_one(call_name, call, is_whole) == ODFILTER_MEMORY;
+    } while (asked >= refused_one && refused_one < 100000);
+    check(call_name, refused_one < 100000);
+    return told;
+}
+
+/* without one allocation a call may do its work by another way, but not without all */
+static void refuse_each(const char *call_name, uint32_t (*call)(void), int (*is_whole)(void))
+{
+    and_on = 0;
+    refuse_in_turn(call_name, call, is_whole);
+    and_on = 1;
+    check(call_name, refuse_in_turn(call_name, call, is_whole) > 0);
 }
 
 /* how many allocations it takes to judge a row */
@@ -165,15 +208,15 @@ int main(void)
 {
     take_handles();
     rows_seen_before();
-    check("read_schema takes memory", refuse_each("read_schema", call_read_schema, 1) > 0);
-    check("find_type takes memory", refuse_each("find_type", call_find_type, 1) > 0);
-    check("check takes memory", refuse_each("check", call_check, 1) > 0);
-    check("check_query takes memory", refuse_each("check_query", call_check_query, 1) > 0);
-    check("canonical takes memory", refuse_each("canonical", call_canonical, 0) > 0);
-    check("explain takes memory", refuse_each("explain", call_explain, 0) > 0);
-    check("new_judge takes memory", refuse_each("new_judge", call_new_judge, 1) > 0);
-    check("judge takes memory", refuse_each("judge", call_judge, 0) > 0);
-    check("filter_lines takes memory", refuse_each("filter_lines", call_filter_lines, 0) > 0);
+    refuse_each("read_schema", call_read_schema, is_schema);
+    refuse_each("find_type", call_find_type, is_type);
+    refuse_each("check", call_check, is_filter);
+    refuse_each("check_query", call_check_query, is_filter);
+    refuse_each("canonical", call_canonical, NULL);
+    refuse_each("explain", call_explain, NULL);
+    refuse_each("new_judge", call_new_judge, is_judge);
+    refuse_each("judge", call_judge, NULL);
+    refuse_each("filter_lines", call_filter_lines, NULL);
     odfilter_free(&schema);
     odfilter_free(&type);
     odfilter_free(&filter);

@@ -136,6 +136,18 @@ static int sets(const char *moment, uint32_t status)
     return is_so;
 }
 
+/* lines by a judge that lacks the moment: nothing is written, though a row may be at fault */
+static void lines_without_moment(const odfilter_handle *filter)
+{
+    char at[256];
+    odfilter_room room = {memset(at, 0x5a, sizeof at), sizeof at};
+    odfilter_bytes rows = bytes_of(ROW "\n{\n");
+    odfilter_answer answer = unwritten(), wanted = {0};
+    check("lines, and no moment", odfilter_filter_lines(filter, judge, rows, room, &answer) == ODFILTER_MOMENT_NEEDED);
+    check("of them nothing is told", is_answer(answer, wanted) && at[0] == 0x5a);
+    drop(rows);
+}
+
 static void moments(void)
 {
     odfilter_handle *filter = filter_of(type, "now() lt 2027-01-01T00:00:00Z"), *plain = filter_of(type, "true");
@@ -149,6 +161,7 @@ static void moments(void)
           odfilter_needs_moment(filter, &answer) == ODFILTER_OK && is_answer(answer, wanted));
     check("no moment", judged(filter, judge, ROW, &told) == ODFILTER_MOMENT_NEEDED);
     check("no moment, and a row at fault", judged(filter, judge, "{", &told) == ODFILTER_MOMENT_NEEDED);
+    lines_without_moment(filter);
     check("none is needed", is_kept(plain, judge, ROW));
     check("a text that is none", sets("2027-02-29T00:00:00Z", ODFILTER_NOT_A_MOMENT));
     check("it has set none", judged(filter, judge, ROW, &told) == ODFILTER_MOMENT_NEEDED);
