@@ -118,13 +118,14 @@ static void *work_of(void *given)
 {
     struct work *work = given;
     double end = seconds_of(CLOCK_MONOTONIC) + work->seconds;
-    int times;
+    int times, batch;
     allocations = 0;
     work->done = work->round(work);
     work->at_first = allocations;
     allocations = 0;
+    batch = work->done == 1 ? 64 : 1;
     do
-        for (times = 0; times < (work->done == 1 ? 64 : 1); times++)
+        for (times = 0; times < batch; times++)
             work->done += work->round(work);
     while (seconds_of(CLOCK_MONOTONIC) < end);
     work->later = allocations;
