@@ -209,8 +209,7 @@ STATUSES.update({3: (odfilter.SchemaFault, odfilter.UnknownType), 6: MemoryError
 
 def main():
     words = words_of(sys.argv[1:])
-    for name in ("distributed", "asyncio"):
-        logging.getLogger(name).setLevel(logging.CRITICAL)
+    logging.disable()  # what dask says by itself, as of a worker that dies
     try:
         run(words, os.fdopen(1, "wb", closefd=False))
         return 0

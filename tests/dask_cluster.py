@@ -7,7 +7,7 @@ import time
 from built_library import MODULE, TOP
 
 PYTHON = "/usr/bin/python3"  # Debian's, which has dask
-LIMIT = 60  # seconds that only a hang takes
+LIMIT = 300  # seconds that only a hang takes
 
 
 class Cluster:
