@@ -12,7 +12,7 @@ pub returns-in-Ok-judge_row-clause-outcome : goal.returns-in-Ok-judge_row-clause
 returns-in-Ok-judge_row-clause-outcome c =
     let checked = c.with_schema-checked.result in let row = c.args.row.now in
     let same : checked ≡ c.args.held.now =
-      c.with_schema-checked.ensures ∙ ap (λ (schema : SchemaModel). filter_in schema c.held.inside.filter) c.deref.ensures ∙ c.held.view_is in
+    c.with_schema-checked.ensures ∙ ap (λ (schema : SchemaModel). filter_in schema c.held.inside.filter) c.deref.ensures ∙ c.held.view_is in
     at_moment (λ filter now. HasVerdict filter now row c.in-Ok-judge_row.verdict)
     checked c.args.held.now c.args.judge.now.moment c.in-Ok.now same c.in-Ok.ensures.moment c.in-Ok-judge_row.ensures
 
@@ -20,28 +20,34 @@ pub returns-in-Err-Bad-NotJson-clause-outcome : goal.returns-in-Err-Bad-NotJson-
 returns-in-Err-Bad-NotJson-clause-outcome c =
     let checked = c.with_schema-checked.result in let row = c.args.row.now in
     let same : checked ≡ c.args.held.now =
-      c.with_schema-checked.ensures ∙ ap (λ (schema : SchemaModel). filter_in schema c.held.inside.filter) c.deref.ensures ∙ c.held.view_is in
+    c.with_schema-checked.ensures ∙ ap (λ (schema : SchemaModel). filter_in schema c.held.inside.filter) c.deref.ensures ∙ c.held.view_is in
     let bad : BadRow = BadRow.NotJson in
-    let told : JudgesRow checked c.in-Ok.now row (Judgment.Fault bad) = rw (c.in-Err-Bad-NotJson.field-0-is, c.in-Err-Bad-NotJson.field-0-0-is) at c.in-Err-Bad-NotJson.ensures in
-    (refl, at_moment (λ filter now. JudgesRow filter now row (Judgment.Fault bad))
-    checked c.args.held.now c.args.judge.now.moment c.in-Ok.now same c.in-Ok.ensures.moment told)
+    let told : JudgesRow checked c.in-Ok.now row (Judgment.Fault bad) = rw (c.in-Err-Bad-NotJson.field-0-is, c.in-Err-Bad-NotJson.field-0-0-is) at c.in-Err-Bad-NotJson.ensures in (
+      refl,
+      at_moment (λ filter now. JudgesRow filter now row (Judgment.Fault bad))
+          checked c.args.held.now c.args.judge.now.moment c.in-Ok.now same c.in-Ok.ensures.moment told,
+    )
 
 pub returns-in-Err-Bad-NoEntity-clause-outcome : goal.returns-in-Err-Bad-NoEntity-clause-outcome
 returns-in-Err-Bad-NoEntity-clause-outcome c =
     let checked = c.with_schema-checked.result in let row = c.args.row.now in
     let same : checked ≡ c.args.held.now =
-      c.with_schema-checked.ensures ∙ ap (λ (schema : SchemaModel). filter_in schema c.held.inside.filter) c.deref.ensures ∙ c.held.view_is in
+    c.with_schema-checked.ensures ∙ ap (λ (schema : SchemaModel). filter_in schema c.held.inside.filter) c.deref.ensures ∙ c.held.view_is in
     let bad : BadRow = (BadRow.NoEntity c.in-Err-Bad-NoEntity.fault) in
-    let told : JudgesRow checked c.in-Ok.now row (Judgment.Fault bad) = rw (c.in-Err-Bad-NoEntity.field-0-is, c.in-Err-Bad-NoEntity.field-0-0-is) at c.in-Err-Bad-NoEntity.ensures in
-    (refl, at_moment (λ filter now. JudgesRow filter now row (Judgment.Fault bad))
-    checked c.args.held.now c.args.judge.now.moment c.in-Ok.now same c.in-Ok.ensures.moment told)
+    let told : JudgesRow checked c.in-Ok.now row (Judgment.Fault bad) = rw (c.in-Err-Bad-NoEntity.field-0-is, c.in-Err-Bad-NoEntity.field-0-0-is) at c.in-Err-Bad-NoEntity.ensures in (
+      refl,
+      at_moment (λ filter now. JudgesRow filter now row (Judgment.Fault bad))
+          checked c.args.held.now c.args.judge.now.moment c.in-Ok.now same c.in-Ok.ensures.moment told,
+    )
 
 pub returns-in-Err-Bad-NoValue-clause-outcome : goal.returns-in-Err-Bad-NoValue-clause-outcome
 returns-in-Err-Bad-NoValue-clause-outcome c =
     let checked = c.with_schema-checked.result in let row = c.args.row.now in
     let same : checked ≡ c.args.held.now =
-      c.with_schema-checked.ensures ∙ ap (λ (schema : SchemaModel). filter_in schema c.held.inside.filter) c.deref.ensures ∙ c.held.view_is in
+    c.with_schema-checked.ensures ∙ ap (λ (schema : SchemaModel). filter_in schema c.held.inside.filter) c.deref.ensures ∙ c.held.view_is in
     let bad : BadRow = (BadRow.NoValue c.in-Err-Bad-NoValue.fault) in
-    let told : JudgesRow checked c.in-Ok.now row (Judgment.Fault bad) = rw (c.in-Err-Bad-NoValue.field-0-is, c.in-Err-Bad-NoValue.field-0-0-is) at c.in-Err-Bad-NoValue.ensures in
-    (refl, at_moment (λ filter now. JudgesRow filter now row (Judgment.Fault bad))
-    checked c.args.held.now c.args.judge.now.moment c.in-Ok.now same c.in-Ok.ensures.moment told)
+    let told : JudgesRow checked c.in-Ok.now row (Judgment.Fault bad) = rw (c.in-Err-Bad-NoValue.field-0-is, c.in-Err-Bad-NoValue.field-0-0-is) at c.in-Err-Bad-NoValue.ensures in (
+      refl,
+      at_moment (λ filter now. JudgesRow filter now row (Judgment.Fault bad))
+          checked c.args.held.now c.args.judge.now.moment c.in-Ok.now same c.in-Ok.ensures.moment told,
+    )

@@ -9,6 +9,6 @@ pub returns-in-Ok : goal.returns-in-Ok
 returns-in-Ok c =
     let filter = c.args.held.now in let given = c.args.judge.now.moment in let rows = c.args.rows.now in let run = c.run_at.result in
     let same : c.with_schema-checked.result ≡ filter =
-      c.with_schema-checked.ensures ∙ ap (λ (schema : SchemaModel). filter_in schema c.held.inside.filter) c.deref.ensures ∙ c.held.view_is in
+    c.with_schema-checked.ensures ∙ ap (λ (schema : SchemaModel). filter_in schema c.held.inside.filter) c.deref.ensures ∙ c.held.view_is in
     run_there filter given rows run.outcome run.kept.items
     (at_moment (λ f now. IsRunAt f now rows run.outcome run.kept.items) c.with_schema-checked.result filter given c.in-Ok.now same c.in-Ok.ensures.moment c.run_at.ensures)
