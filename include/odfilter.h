@@ -119,7 +119,6 @@ extern "C" {
 #define ODFILTER_TYPE_UNKNOWN_ENUM 10u
 #define ODFILTER_TYPE_TYPE_LEFT_OUT 11u
 #define ODFILTER_TYPE_NOT_BOOLEAN 12u
-#define ODFILTER_TYPE_NAVIGATION 13u
 
 /* ODFILTER_QUERY_FAULT. Behind each: what `number` is. Options are counted from 0, empty ones too. */
 #define ODFILTER_QUERY_BAD_ESCAPE 1u   /* the byte of the '%' */
@@ -134,6 +133,7 @@ extern "C" {
 #define ODFILTER_ROW_NULL_NOT_ALLOWED 4u
 #define ODFILTER_ROW_OUT_OF_RANGE 5u
 #define ODFILTER_ROW_BAD_TEXT 6u
+#define ODFILTER_ROW_NOT_EXPANDED 8u /* a navigation property over which the filter leads is absent */
 
 /* ODFILTER_EVAL_FAULT */
 #define ODFILTER_EVAL_OVERFLOW 1u

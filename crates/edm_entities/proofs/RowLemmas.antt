@@ -1,9 +1,9 @@
 -- Lemmas on rows that are read without a tree.
 pub mod Leads
 pub mod Leaves
-pub mod NumberTexts
 pub mod Parts
 pub mod Plans
+pub mod Properties
 pub mod SlotNames
 pub mod SlotsRead
 pub mod Tokens

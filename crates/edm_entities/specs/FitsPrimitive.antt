@@ -70,6 +70,7 @@ pub data Flaw : Type 0 where
   null_not_allowed : Flaw
   out_of_range : Flaw
   bad_text : Flaw
+  not_expanded : Flaw
 
 -- P, at the flaw that JSON of another kind than wanted has
 abbrev pub OnWrongKind : Flaw → Type 0 → Type 0

@@ -1,5 +1,5 @@
 -- Which values a type has (CSDL JSON 4.01, sections 3.3, 6, 7, 9 and 10).
-use Rattle.std.specs.Prelude.{◌≡◌, length}
+use Rattle.std.specs.Prelude.{◌≡◌, Some, None, length}
 use Rattle.std.specs.List.{AllByRecursion}
 use Rattle.std.specs.Str.{IsUtf8}
 use Rattle.edm_values.specs.MomentParts.{IsFourDigitYear, IsMoment}
@@ -23,8 +23,8 @@ IsPrimitiveValue (guid g) EdmGuid = length g ≡ 16
 IsPrimitiveValue _ type = ⊥
 
 abbrev mutual
-  -- null has every type; a record gives each property that is looked at a value of that property's type; a list's items
-  -- have the member type. Null alone has the type of null
+  -- null has every type; a record gives each property that expressions see a value of that property's type; a list's
+  -- items have the member type. Null alone has the type of null
   pub HasType : Slots → ExprType → Val → Type 0
   HasType slots type null = Unit {0}
   HasType slots (single (structured name)) (fields f) =
@@ -34,12 +34,15 @@ abbrev mutual
   HasType slots (single (primitive type)) value = IsPrimitiveValue value type
   HasType slots type value = ⊥
 
-  -- what a record has under the name of a property of that type
+  -- what a record has under the name of a property of that type: that of a navigation property which is not expanded is
+  -- null, which has the target's type as any other
   pub HasPropertyType : Slots → PropertyType → FieldVal → Type 0
   HasPropertyType slots (declared type) (present value) = HasType slots type value
   HasPropertyType slots (declared type) absent = ⊥
   HasPropertyType slots opaque held = Unit {0}
-  HasPropertyType slots (navigation target) held = Unit {0}
+  HasPropertyType slots (navigation None) held = Unit {0}
+  HasPropertyType slots (navigation (Some type)) (present value) = HasType slots type value
+  HasPropertyType slots (navigation (Some type)) absent = ⊥
 
   -- each item is of that type
   pub AllHaveType : Slots → SingleType → Vals → Type 0

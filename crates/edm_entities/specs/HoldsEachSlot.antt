@@ -1,9 +1,9 @@
 -- One value for each slot, at every depth, and null in the slots that are not looked at (CSDL JSON 4.01, section 7).
-use Rattle.std.specs.Prelude.{◌≡◌, ◌&&◌, List, [], ◌∷◌, Bool, true, false}
+use Rattle.std.specs.Prelude.{◌≡◌, ◌&&◌, List, [], ◌∷◌, Bool, true, false, Some, None, if◌then◌else◌}
 use Rattle.edm_values.specs.declared.value.Value.{Value, fold-Value}
 use Rattle.edm_values.specs.declared.value.Value.TheOpen.{Value-F}
 use Rattle.csdl_schema.specs.ExprType.{ExprType, single, collection, SingleType, structured}
-use Rattle.csdl_schema.specs.SchemaModel.{Slots, PropertyModel, PropertyType, declared, opaque, navigation}
+use Rattle.csdl_schema.specs.SchemaModel.{Slots, PropertyModel, PropertyType, declared, opaque, navigation, slots_behind}
 
 -- a value, by whether it is null, and whether it holds one value for each slot where a type is wanted
 pub record Holding : Type 0 where
@@ -14,12 +14,14 @@ pub record Holding : Type 0 where
 abbrev pub slot_holds : Slots → PropertyType → Holding → Bool
 slot_holds slots (declared type) held = held.holds slots type
 slot_holds slots opaque held = held.is_null
-slot_holds slots (navigation target) held = held.is_null
+slot_holds slots (navigation None) held = held.is_null
+slot_holds slots (navigation (Some type)) held = if slots.needed [] then held.holds slots type else held.is_null
 
 -- there are as many values as slots
 abbrev pub slots_hold : Slots → List PropertyModel → List Holding → Bool
 slots_hold slots [] [] = true
-slots_hold slots (p ∷ ps) (held ∷ more) = slot_holds slots p.type_of held && slots_hold slots ps more
+slots_hold slots (p ∷ ps) (held ∷ more) =
+    slot_holds (slots_behind slots p.name) p.type_of held && slots_hold slots ps more
 slots_hold slots _ _ = false
 
 -- only a type with properties has a record

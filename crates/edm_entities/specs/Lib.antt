@@ -1,6 +1,8 @@
 pub use Rattle.csdl_schema.specs.EnumerationText
+pub use Rattle.csdl_schema.specs.ExpansionView
 pub use Rattle.csdl_schema.specs.ExprType
 pub use Rattle.csdl_schema.specs.JsonText
+pub use Rattle.csdl_schema.specs.PathSet
 pub use Rattle.csdl_schema.specs.PropertyView
 pub use Rattle.csdl_schema.specs.SchemaModel
 pub use Rattle.edm_enumerations.specs.EnumerationModel
@@ -16,6 +18,7 @@ pub use Rattle.serde_json.specs.Data as JsonData
 pub use Rattle.serde_json.specs.Find as JsonFind
 pub use Rattle.serde_json.specs.View as JsonView
 pub mod Example
+pub mod ExpandedNodes
 pub mod Fits
 pub mod FitsPrimitive
 pub mod HasType

@@ -1,15 +1,15 @@
 -- What is wrong with a JSON tree that stands for no entity of a type (OData JSON Format 4.01, sections 4.5 and 7).
-use Rattle.std.specs.Prelude.{◌≡◌, ℕ, ◌<◌, List, [], ◌∷◌, ◌++◌, Bool, false, Option, Some, None, IsSome, string_bytes, decimal}
+use Rattle.std.specs.Prelude.{◌≡◌, ℕ, ◌<◌, List, [], ◌∷◌, ◌++◌, Bool, true, false, Option, Some, None, IsSome, string_bytes, decimal}
 use Rattle.std.specs.List.{AllByRecursion, join_with_byte}
 use Rattle.serde_json.specs.Data.{Data, null as json_null, Items}
 use Rattle.serde_json.specs.Find.{get, get_item, as_object, as_array}
 use Rattle.edm_values.specs.Val.{Val, FieldVal}
 use Rattle.csdl_schema.specs.ExprType.{ExprType, null_type, single, collection, SingleType, primitive, enumeration, structured}
-use Rattle.csdl_schema.specs.SchemaModel.{Slots, PropertyModel, PropertyType, declared, opaque, navigation}
+use Rattle.csdl_schema.specs.SchemaModel.{Slots, PropertyModel, PropertyType, declared, opaque, navigation, slots_behind}
 use Rattle.edm_entities.specs.Fits.{takes_null, FitsFound, FitsType, FitsProperty}
-use Rattle.edm_entities.specs.FitsPrimitive.{Flaw, missing, wrong_kind, null_not_allowed, out_of_range, bad_text, OnWrongKind, IsTextFlaw, IsPrimitiveFlaw, IsMemberText}
+use Rattle.edm_entities.specs.FitsPrimitive.{Flaw, missing, wrong_kind, null_not_allowed, out_of_range, bad_text, not_expanded, OnWrongKind, IsTextFlaw, IsPrimitiveFlaw, IsMemberText}
 use Rattle.edm_entities.specs.declared.fault.RowFault.{RowFault}
-use Rattle.edm_entities.specs.declared.fault.RowFault.TheVariants.{NotObject, Missing, WrongKind, NullNotAllowed, OutOfRange, BadText, Memory}
+use Rattle.edm_entities.specs.declared.fault.RowFault.TheVariants.{NotObject, Missing, WrongKind, NullNotAllowed, OutOfRange, BadText, NotExpanded, Memory}
 
 -- the way from a value to one within it: names of properties, and zero-based indices of items in decimal
 abbrev pub Path : Type 0
@@ -30,15 +30,26 @@ IsFoundFault None takes path flaw P = (takes ≡ false) × (path ≡ []) × (fla
 IsFoundFault (Some json_null) takes path flaw P = (takes ≡ false) × (path ≡ []) × (flaw ≡ null_not_allowed)
 IsFoundFault (Some json) takes path flaw P = P json
 
--- P of the type of a property that is looked at; no other has a fault
-abbrev pub OnDeclared : PropertyType → (ExprType → Type 0) → Type 0
-OnDeclared (declared type) P = P type
-OnDeclared opaque P = ⊥
-OnDeclared (navigation target) P = ⊥
+-- the same of the value of a navigation property that is expanded, where nothing is its own fault
+abbrev pub IsExpandedFault : Option Data → Bool → Path → Flaw → (Data → Type 0) → Type 0
+IsExpandedFault None takes path flaw P = (path ≡ []) × (flaw ≡ not_expanded)
+IsExpandedFault (Some json) takes path flaw P = IsFoundFault (Some json) takes path flaw P
+
+-- the fault of what was found under the name of a property, if that is looked at; of JSON, where a type is wanted whose
+-- items are as nullable, what P says
+abbrev pub IsFaultUnder :
+    Slots → Bool → PropertyType → Option Data → Path → Flaw → (Bool → ExprType → Data → Type 0) → Type 0
+IsFaultUnder slots nullable (declared type) found path flaw P =
+    IsFoundFault found (takes_null type nullable) path flaw (P nullable type)
+IsFaultUnder slots nullable opaque found path flaw P = ⊥
+IsFaultUnder slots nullable (navigation None) found path flaw P = ⊥
+IsFaultUnder slots nullable (navigation (Some type)) found path flaw P =
+    (slots.needed [] ≡ true) × IsExpandedFault found (takes_null type nullable) path flaw (P false type)
 
 -- what an object has under a property's name fits it
 abbrev pub HasFitting : Slots → Data → PropertyModel → Type 0
-HasFitting slots json p = (held : FieldVal) × FitsProperty slots p.nullable p.type_of (get p.name json) held
+HasFitting slots json p =
+    (held : FieldVal) × FitsProperty (slots_behind slots p.name) p.nullable p.type_of (get p.name json) held
 
 -- the first faulty property of an object, by the order of the properties: those before it have what fits
 pub record IsFirstProperty
@@ -76,9 +87,9 @@ pub record IsFirstItem
 abbrev pub IsValueFault : Slots → Bool → Path → ExprType → Data → Flaw → Type 0
 IsValueFault slots nullable [] type json flaw = IsFlawHere slots type json flaw
 IsValueFault slots nullable (step ∷ path) (single (structured name)) json flaw =
-    IsFirstProperty slots (slots.properties name) json step (λ p. OnDeclared p.type_of (λ type.
-    IsFoundFault (get p.name json) (takes_null type p.nullable) path flaw
-    (λ found. IsValueFault slots p.nullable path type found flaw)))
+    IsFirstProperty slots (slots.properties name) json step (λ p.
+    IsFaultUnder (slots_behind slots p.name) p.nullable p.type_of (get p.name json) path flaw
+    (λ nullable type found. IsValueFault (slots_behind slots p.name) nullable path type found flaw))
 IsValueFault slots nullable (step ∷ path) (collection type) json flaw =
     IsFirstItem slots nullable type json step (λ faulty. IsFoundFault (Some faulty) nullable path flaw
     (λ found. IsValueFault slots nullable path (single type) found flaw))
@@ -87,8 +98,8 @@ IsValueFault slots nullable (step ∷ path) type json flaw = ⊥
 -- the first fault in what an object has under a property's name
 abbrev pub IsPropertyFault : Slots → Bool → PropertyType → Option Data → Path → Flaw → Type 0
 IsPropertyFault slots nullable type found path flaw =
-    OnDeclared type (λ wanted. IsFoundFault found (takes_null wanted nullable) path flaw
-    (λ json. IsValueFault slots nullable path wanted json flaw))
+    IsFaultUnder slots nullable type found path flaw
+    (λ nullable type json. IsValueFault slots nullable path type json flaw)
 
 -- the first fault within a row of the type of that name; the row itself is an object
 abbrev pub IsFirstFault : Slots → List ℕ → Data → Path → Flaw → Type 0
@@ -110,6 +121,8 @@ IsRowFault slots type_name json (NullNotAllowed path) =
     IsFirstFaultAt slots type_name json (string_bytes path) null_not_allowed
 IsRowFault slots type_name json (OutOfRange path) = IsFirstFaultAt slots type_name json (string_bytes path) out_of_range
 IsRowFault slots type_name json (BadText path) = IsFirstFaultAt slots type_name json (string_bytes path) bad_text
+IsRowFault slots type_name json (NotExpanded path) =
+    IsFirstFaultAt slots type_name json (string_bytes path) not_expanded
 IsRowFault slots type_name json Memory = ⊥
 
 -- want of memory, which says nothing of the row

@@ -1,5 +1,7 @@
 -- Definitions that private clauses alone cite.
+pub mod Expanded
 pub mod Faults
+pub mod KeptExpansions
 pub mod Lent
 pub mod Members
 pub mod NextMember

@@ -1,10 +1,11 @@
-ghost use Rattle.std.specs.Prelude.{◌≡◌, IfOk, IfErr};
+ghost use Rattle.std.specs.Prelude.{◌≡◌, false, IfOk, IfErr};
 ghost use Rattle.serde_json.specs.View.{view};
 
 use super::fault::RowFault;
 use super::flaw::row_fault;
-use super::walk::read_slots;
-use csdl_schema::{Schema, TypeId};
+use super::kept_expansion::KeptExpansion;
+use super::walk::{WalkScene, read_slots};
+use csdl_schema::{Expansion, Schema, TypeId};
 use edm_values::Value;
 use std::alloc::Global;
 use std::marker::Model;
@@ -14,6 +15,7 @@ use std::marker::Model;
 pub struct Entity<'s> {
     schema: &'s Schema,
     type_id: TypeId,
+    expansion: KeptExpansion<'s>,
     value: Value,
 }
 
@@ -26,17 +28,32 @@ impl<'s> Model for Entity<'s> {
 
     ghost coded = { Prim.hlevel (codes, value_contract.the_row.coded) };
 
-    ghost view = { λ e. record { schema = e.schema.now; type_id = e.type_id; value = e.value } };
+    ghost use Rattle.edm_entities.specs.private.KeptExpansions.{expansion_in};
 
-    ghost invariant = { λ e. IsEntity (record { schema = e.schema.now; type_id = e.type_id; value = e.value }) };
+    ghost view = { λ e. record {
+      schema = e.schema.now;
+      type_id = e.type_id;
+      expansion = expansion_in e.expansion;
+      value = e.value;
+    } };
+
+    ghost invariant = { λ e. IsEntity (record {
+      schema = e.schema.now;
+      type_id = e.type_id;
+      expansion = expansion_in e.expansion;
+      value = e.value;
+    }) };
 }
 
 impl<'s> Entity<'s> {
+    ghost use Rattle.csdl_schema.specs.ExpansionView.{paths_in};
+    ghost use Rattle.csdl_schema.specs.PathSet.{PropertyPath};
     ghost use Rattle.csdl_schema.specs.SchemaModel.{HoldsType, slots_of, type_name_at};
     ghost use Rattle.edm_values.specs.Val.{Val};
     ghost use Rattle.edm_entities.specs.Fits.{Fits};
-    ghost use Rattle.edm_entities.specs.Row.{row_of, value_of, IsEntity};
+    ghost use Rattle.edm_entities.specs.Row.{expanded_by, row_of, value_of, IsEntity};
     ghost use Rattle.edm_entities.specs.RowFaults.{IsRowFault, IsMemory};
+    ghost use Rattle.edm_entities.specs.private.KeptExpansions.{expansion_in};
 
     /// Reads a JSON object as an entity of that type. Members that the type does not declare say nothing, nor do those
     /// of opaque and navigation properties; the first fault in the order of the slots is answered, depth first.
@@ -54,28 +71,69 @@ impl<'s> Entity<'s> {
             → ¬ (Fits (slots_of schema.now) (type_name_at schema.now type_id) (view row.now) value)) }
         ensures first_fault { IfErr result (λ fault. ¬ (IsMemory fault)
             → IsRowFault (slots_of schema.now) (type_name_at schema.now type_id) (view row.now) fault) }
+        ensures expansion { IfOk result (λ e. (path : PropertyPath) → paths_in e.expansion path ≡ false) }
     {
-        match read_slots(alloc, schema, type_id, row) {
-            Ok(values) => Ok(Entity::from_values(schema, type_id, values)),
+        let nothing = Expansion::none(alloc);
+        Entity::expanded_from_json(alloc, schema, type_id, &nothing, row)
+    }
+
+    /// The same, of an object in which navigation properties are expanded: those of the paths of that set, which lead
+    /// to a target, are looked at. One that is absent is `NotExpanded`.
+    pub fn expanded_from_json(
+        alloc: Global,
+        schema: &'s Schema,
+        type_id: TypeId,
+        expansion: &Expansion,
+        row: &serde_json::Value,
+    ) -> Result<Entity<'s>, RowFault>
+        requires { HoldsType schema.now type_id }
+        ensures of_type { IfOk result (λ e. (e.schema ≡ schema.now) × (e.type_id ≡ type_id)) }
+        ensures expansion { IfOk result (λ e. e.expansion ≡ expansion.now) }
+        ensures fits { IfOk result (λ e. Fits (expanded_by schema.now expansion.now)
+            (type_name_at schema.now type_id) (view row.now) (value_of e)) }
+        ensures none_fits { IfErr result (λ fault. ¬ (IsMemory fault) → (value : Val)
+            → ¬ (Fits (expanded_by schema.now expansion.now) (type_name_at schema.now type_id) (view row.now) value)) }
+        ensures first_fault { IfErr result (λ fault. ¬ (IsMemory fault) → IsRowFault
+            (expanded_by schema.now expansion.now) (type_name_at schema.now type_id) (view row.now) fault) }
+    {
+        let scene = WalkScene {
+            alloc,
+            schema,
+            expansion,
+        };
+        match read_slots(&scene, type_id, Some(0), row) {
+            Ok(values) => match expansion.copy(alloc) {
+                Ok(copy) => {
+                    let kept = KeptExpansion::Own(copy);
+                    Ok(Entity::from_values(schema, type_id, kept, values))
+                }
+                Err(_) => Err(RowFault::Memory),
+            },
             Err(fault) => Err(row_fault(fault)),
         }
     }
 
-    /// The entity of that type with these values by slot.
-    pub(crate) fn from_values(schema: &'s Schema, type_id: TypeId, values: Vec<Value>) -> Entity<'s>
-        requires { IsEntity (row_of schema.now type_id values) }
-        ensures { result ≡ row_of schema.now type_id values }
+    /// The entity of that type with these values by slot, where that is expanded.
+    pub(crate) fn from_values(
+        schema: &'s Schema,
+        type_id: TypeId,
+        expansion: KeptExpansion<'s>,
+        values: Vec<Value>,
+    ) -> Entity<'s>
+        requires { IsEntity (row_of schema.now type_id (expansion_in expansion) values) }
+        ensures { result ≡ row_of schema.now type_id (expansion_in expansion.entry) values }
     {
         Entity {
             schema,
             type_id,
+            expansion,
             value: Value::Record(values),
         }
     }
 
     /// Its values by slot, given back.
     pub(crate) fn into_values(self) -> Vec<Value>
-        ensures values { self.entry ≡ row_of self.entry.schema self.entry.type_id result }
+        ensures values { self.entry ≡ row_of self.entry.schema self.entry.type_id self.entry.expansion result }
         ensures entity { IsEntity self.entry }
     {
         let value = self.value;
@@ -97,6 +155,13 @@ impl<'s> Entity<'s> {
         ensures { result ≡ self.now.type_id }
     {
         self.type_id
+    }
+
+    /// What is expanded in it.
+    pub fn expansion(&self) -> &Expansion
+        ensures { result.now ≡ self.now.expansion }
+    {
+        self.expansion.expansion()
     }
 
     /// Its value: a record, with the properties' values by slot.

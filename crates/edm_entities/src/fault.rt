@@ -27,4 +27,7 @@ pub enum RowFault {
     /// An allocation was refused.
     #[error("memory")]
     Memory,
+    /// A navigation property that is expanded is absent.
+    #[error("NotExpanded {path}")]
+    NotExpanded { path: String },
 }

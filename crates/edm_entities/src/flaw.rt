@@ -19,6 +19,8 @@ pub(crate) enum ReadFlaw {
     OutOfRange,
     #[error("BadText")]
     BadText,
+    #[error("NotExpanded")]
+    NotExpanded,
     #[error("memory")]
     Memory,
 }
@@ -87,6 +89,7 @@ pub(crate) fn row_fault(fault: ReadFault) -> RowFault
             ReadFlaw::NullNotAllowed => RowFault::NullNotAllowed { path },
             ReadFlaw::OutOfRange => RowFault::OutOfRange { path },
             ReadFlaw::BadText => RowFault::BadText { path },
+            ReadFlaw::NotExpanded => RowFault::NotExpanded { path },
             ReadFlaw::Memory => RowFault::Memory,
         },
         None => match flaw {

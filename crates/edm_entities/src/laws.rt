@@ -6,13 +6,14 @@ ghost use Rattle.edm_values.specs.MomentLiteral.{MomentValue};
 ghost use Rattle.edm_values.specs.MomentParts.{IsMoment, MomentParts};
 ghost use Rattle.edm_values.specs.Val.{Val, fields};
 ghost use Rattle.csdl_schema.specs.ExprType.{ExprType, single, structured};
-ghost use Rattle.csdl_schema.specs.SchemaModel.{Slots, PropertyModel, properties_at, declared};
+ghost use Rattle.csdl_schema.specs.PathSet.{PathSet};
+ghost use Rattle.csdl_schema.specs.SchemaModel.{Slots, PropertyModel, expanded, properties_at};
 ghost use Rattle.edm_entities.specs.Example.{item_properties, item_row, inactive_row, item_field};
 ghost use Rattle.edm_entities.specs.Fits.{Fits};
 ghost use Rattle.edm_entities.specs.FitsPrimitive.{Flaw};
 ghost use Rattle.edm_entities.specs.HasType.{HasType};
 ghost use Rattle.edm_entities.specs.Row.{Row, IsEntity};
-ghost use Rattle.edm_entities.specs.SlotValue.{IsSlotValue};
+ghost use Rattle.edm_entities.specs.SlotValue.{IsSeenAs, IsSlotValue};
 ghost use Rattle.edm_entities.specs.RowFaults.{Path, IsFirstFault, IsRowFault};
 ghost use Rattle.edm_entities.specs.declared.fault.RowFault.{RowFault};
 
@@ -25,10 +26,10 @@ pub fn one_value_fits()
     edm_enumerations::texts_have_one_value();
 }
 
-/// A value that fits has its type.
+/// A value that fits has its type, whatever is expanded in it.
 pub fn what_fits_has_its_type()
-    ensures { (slots : Slots) (type_name : List ℕ) (json : Data) (v : Val)
-        → Fits slots type_name json v → HasType slots (single (structured type_name)) v }
+    ensures { (slots : Slots) (expansion : PathSet) (type_name : List ℕ) (json : Data) (v : Val)
+        → Fits (expanded slots expansion) type_name json v → HasType slots (single (structured type_name)) v }
 {}
 
 /// What a literal spells lies within its type: a moment has a year 1 to 9999 and an offset of less than a day, a Guid
@@ -44,11 +45,12 @@ pub fn what_has_a_fault_fits_nothing()
         → IsRowFault slots type_name json fault → (v : Val) → ¬ (Fits slots type_name json v) }
 {}
 
-/// At the slot of a property that is looked at an entity holds a value of the property's type, which
+/// At the slot of a property that expressions see an entity holds a value of the property's type, which
 /// its record has under the property's name.
 pub fn a_slot_holds_its_property()
     ensures { (row : Row) (entity : IsEntity row) (slot : ℕ) (p : PropertyModel) (type : ExprType)
-        → slice_get (properties_at row.schema row.type_id) slot ≡ Some p → p.type_of ≡ declared type
+        → slice_get (properties_at row.schema row.type_id) slot ≡ Some p
+        → IsSeenAs p.type_of type
         → IsSlotValue row entity.holds_slots.slots.items slot p.name type }
 {}
 

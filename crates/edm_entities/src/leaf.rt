@@ -21,7 +21,7 @@ pub(crate) fn read_primitive(
     scalar: Scalar<'_>,
 ) -> Result<Value, ReadFlaw>
     ensures fits { (json : Data) (slots : Slots) (type : ExprType) → IsScalar scalar.entry json
-        → IfOk result (λ v. FitsPrimitive wanted json (val_of v slots type)) }
+        → IfOk result (λ v. FitsPrimitive wanted json (val_of v slots.properties type)) }
     ensures flaw { (json : Data) → IsScalar scalar.entry json
         → IfErr result (λ f. OnFlaw f (IsPrimitiveFlaw wanted json)) }
     ensures memory { IfErr result (λ f. f ≡ ReadFlaw.Memory → wanted ≡ Prim.String) }
@@ -36,7 +36,7 @@ pub(crate) fn read_primitive(
 
 fn read_truth(wanted: Prim, truth: bool) -> Result<Value, ReadFlaw>
     ensures fits { (slots : Slots) (type : ExprType)
-        → IfOk result (λ v. FitsPrimitive wanted (boolean truth) (val_of v slots type)) }
+        → IfOk result (λ v. FitsPrimitive wanted (boolean truth) (val_of v slots.properties type)) }
     ensures flaw { IfErr result (λ f. OnFlaw f (IsPrimitiveFlaw wanted (boolean truth))) }
     ensures no_memory { IfErr result (λ f. f ≢ ReadFlaw.Memory) }
 {
@@ -48,7 +48,7 @@ fn read_truth(wanted: Prim, truth: bool) -> Result<Value, ReadFlaw>
 
 fn read_number(wanted: Prim, number: JsonNumber) -> Result<Value, ReadFlaw>
     ensures fits { (json : Data) (slots : Slots) (type : ExprType) → IsJsonNumber number json
-        → IfOk result (λ v. FitsPrimitive wanted json (val_of v slots type)) }
+        → IfOk result (λ v. FitsPrimitive wanted json (val_of v slots.properties type)) }
     ensures flaw { (json : Data) → IsJsonNumber number json
         → IfErr result (λ f. OnFlaw f (IsPrimitiveFlaw wanted json)) }
     ensures no_memory { IfErr result (λ f. f ≢ ReadFlaw.Memory) }
@@ -62,7 +62,7 @@ fn read_number(wanted: Prim, number: JsonNumber) -> Result<Value, ReadFlaw>
 
 fn read_whole(wanted: Prim, number: JsonNumber) -> Result<Value, ReadFlaw>
     ensures fits { (json : Data) (slots : Slots) (type : ExprType) → IsJsonNumber number json
-        → IfOk result (λ v. FitsNumber wanted json (val_of v slots type)) }
+        → IfOk result (λ v. FitsNumber wanted json (val_of v slots.properties type)) }
     ensures flaw { (json : Data) → IsJsonNumber number json
         → IfErr result (λ f. OnFlaw f (IsNumberFlaw wanted json)) }
     ensures no_memory { IfErr result (λ f. f ≢ ReadFlaw.Memory) }
@@ -81,7 +81,7 @@ fn read_whole(wanted: Prim, number: JsonNumber) -> Result<Value, ReadFlaw>
 /// Reads a text where a primitive type is wanted.
 pub(crate) fn read_text(alloc: Global, wanted: Prim, text: &str) -> Result<Value, ReadFlaw>
     ensures fits { (slots : Slots) (type : ExprType)
-        → IfOk result (λ v. FitsPrimitive wanted (string text.now) (val_of v slots type)) }
+        → IfOk result (λ v. FitsPrimitive wanted (string text.now) (val_of v slots.properties type)) }
     ensures flaw { IfErr result (λ f. OnFlaw f (IsPrimitiveFlaw wanted (string text.now))) }
     ensures memory { IfErr result (λ f. f ≡ ReadFlaw.Memory → wanted ≡ Prim.String) }
 {
@@ -114,7 +114,7 @@ pub(crate) fn read_member(
 ) -> Result<Value, ReadFlaw>
     ensures fits { (json : Data) (slots : Slots) (type : ExprType) → IsScalar scalar.entry json → IfOk result
         (λ v. FitsText (IsMemberText ((slots_of schema.now).enumerations (type_name_at schema.now id))) json
-        (val_of v slots type)) }
+        (val_of v slots.properties type)) }
     ensures flaw { (json : Data) → IsScalar scalar.entry json → IfErr result (λ f. OnFlaw f
         (IsTextFlaw (IsMemberText ((slots_of schema.now).enumerations (type_name_at schema.now id))) json)) }
     ensures no_memory { IfErr result (λ f. f ≢ ReadFlaw.Memory) }

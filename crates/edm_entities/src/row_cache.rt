@@ -2,9 +2,8 @@
 ghost use Rattle.std.specs.Prelude.{◌≡◌, string_bytes, take, IfSome};
 
 use super::row_slots::RowSlots;
-use super::slot_order::SlotOrder;
 use edm_values::Value;
-use json::Scratch;
+use json_tokens::{KeyOrder, Scratch};
 use std::alloc::Global;
 use std::mem;
 
@@ -58,7 +57,7 @@ impl SpareTexts {
 #[derive(Drop)]
 pub(crate) struct RowCache {
     pub(crate) alloc: Global,
-    pub(crate) order: SlotOrder,
+    pub(crate) order: KeyOrder,
     pub(crate) scratch: Scratch,
     pub(crate) texts: SpareTexts,
     pub(crate) row: RowSlots,
@@ -70,7 +69,7 @@ impl RowCache {
     pub(crate) fn new(alloc: Global) -> RowCache {
         RowCache {
             alloc,
-            order: SlotOrder::new(),
+            order: KeyOrder::new(),
             scratch: Scratch::new(alloc),
             texts: SpareTexts {
                 alloc,

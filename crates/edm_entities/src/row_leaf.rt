@@ -1,6 +1,6 @@
 //! Values without parts, from a row's bytes, each read as its type wants it. Where a text or a truth value stood, one
 //! is written over it, so that nothing is let go.
-ghost use Rattle.std.specs.Prelude.{◌≡◌, Ok, IsTrue};
+ghost use Rattle.std.specs.Prelude.{◌≡◌, ◌≢◌, Ok, IsTrue};
 ghost use Rattle.serde_json.specs.Data.{Data, string};
 ghost use Rattle.csdl_schema.specs.ExprType.{ExprType, enumeration, primitive, single};
 ghost use Rattle.csdl_schema.specs.SchemaModel.{Slots, slots_of, type_name_at};
@@ -16,8 +16,27 @@ use super::row_token::number_written;
 use super::scalar::{JsonNumber, Scalar};
 use csdl_schema::{EnumId, Schema};
 use edm_values::{Prim, Value};
-use json::Scratch;
-use json_tokens::TokenReader;
+use json_tokens::{Scratch, TokenReader};
+
+/// What became of a value without parts. What most are is looked for first, and a null where something else came.
+#[derive(Clone, Copy, Drop)]
+pub(crate) enum Leaf {
+    /// It was read, and stands in its place.
+    Read,
+    /// What came is of another kind, and was not read.
+    Other,
+    /// It does not fit, or memory is wanting.
+    Refused,
+}
+
+/// What became of a value that was read, and that was put into its place or not.
+#[inline(always)]
+fn leaf_put(put: bool) -> Leaf
+    ensures read { result ≡ Leaf.Read → IsTrue put }
+    ensures other { result ≢ Leaf.Other }
+{
+    if put { Leaf::Read } else { Leaf::Refused }
+}
 
 /// Puts a value of a primitive type into its place.
 #[inline(always)]
@@ -26,9 +45,10 @@ pub(crate) fn take_primitive(
     wanted: Prim,
     reader: &mut TokenReader<'_>,
     place: &mut Value,
-) -> bool
-    ensures { (slots : Slots) → IsTrue result → ReadsLeaf reader.old reader.new
+) -> Leaf
+    ensures read { (slots : Slots) → result ≡ Leaf.Read → ReadsLeaf reader.old reader.new
         (FitsHoweverNullable slots (single (primitive wanted)) place.new) }
+    ensures kept { result ≡ Leaf.Other → reader.new ≡ reader.old }
 {
     if wanted.is_number() {
         return take_number(wanted, reader, place);
@@ -42,54 +62,58 @@ pub(crate) fn take_primitive(
 
 /// The same of a number type. Most numbers are digits alone, whose value the reader tells.
 #[inline(always)]
-fn take_number(wanted: Prim, reader: &mut TokenReader<'_>, place: &mut Value) -> bool
-    ensures { (slots : Slots) → IsTrue result → ReadsLeaf reader.old reader.new
+fn take_number(wanted: Prim, reader: &mut TokenReader<'_>, place: &mut Value) -> Leaf
+    ensures read { (slots : Slots) → result ≡ Leaf.Read → ReadsLeaf reader.old reader.new
         (FitsHoweverNullable slots (single (primitive wanted)) place.new) }
+    ensures kept { result ≡ Leaf.Other → reader.new ≡ reader.old }
 {
     if let Some(n) = reader.take_whole() {
-        return put_number(wanted, JsonNumber::Whole(n as i64), place);
+        return leaf_put(put_number(wanted, JsonNumber::Whole(n as i64), place));
     }
     take_other_number(wanted, reader, place)
 }
 
 /// The same of any number.
 #[inline(never)]
-fn take_other_number(wanted: Prim, reader: &mut TokenReader<'_>, place: &mut Value) -> bool
-    ensures { (slots : Slots) → IsTrue result → ReadsLeaf reader.old reader.new
+fn take_other_number(wanted: Prim, reader: &mut TokenReader<'_>, place: &mut Value) -> Leaf
+    ensures read { (slots : Slots) → result ≡ Leaf.Read → ReadsLeaf reader.old reader.new
         (FitsHoweverNullable slots (single (primitive wanted)) place.new) }
+    ensures kept { result ≡ Leaf.Other → reader.new ≡ reader.old }
 {
     let Some(text) = reader.take_number() else {
-        return false;
+        return Leaf::Other;
     };
     let Some(number) = number_written(text) else {
-        return false;
+        return Leaf::Refused;
     };
-    put_number(wanted, number, place)
+    leaf_put(put_number(wanted, number, place))
 }
 
 /// The same of `Edm.Boolean`.
 #[inline(always)]
-fn take_truth(reader: &mut TokenReader<'_>, place: &mut Value) -> bool
-    ensures { (slots : Slots) → IsTrue result → ReadsLeaf reader.old reader.new
+fn take_truth(reader: &mut TokenReader<'_>, place: &mut Value) -> Leaf
+    ensures read { (slots : Slots) → result ≡ Leaf.Read → ReadsLeaf reader.old reader.new
         (FitsHoweverNullable slots (single (primitive Prim.Bool)) place.new) }
+    ensures kept { result ≡ Leaf.Other → reader.new ≡ reader.old }
 {
     let Some(truth) = reader.take_truth() else {
-        return false;
+        return Leaf::Other;
     };
     put_truth(truth, place);
-    true
+    Leaf::Read
 }
 
 /// The same of `Edm.String`. A text fills one of an earlier row.
 #[inline(always)]
-fn take_text(cache: &mut RowCache, reader: &mut TokenReader<'_>, place: &mut Value) -> bool
-    ensures { (slots : Slots) → IsTrue result → ReadsLeaf reader.old reader.new
+fn take_text(cache: &mut RowCache, reader: &mut TokenReader<'_>, place: &mut Value) -> Leaf
+    ensures read { (slots : Slots) → result ≡ Leaf.Read → ReadsLeaf reader.old reader.new
         (FitsHoweverNullable slots (single (primitive Prim.String)) place.new) }
+    ensures kept { result ≡ Leaf.Other → reader.new ≡ reader.old }
 {
     let Some(text) = reader.take_text(&mut cache.scratch) else {
-        return false;
+        return Leaf::Other;
     };
-    put_text(&mut cache.texts, text, place)
+    leaf_put(put_text(&mut cache.texts, text, place))
 }
 
 /// The same of the types whose values are written as texts.
@@ -99,14 +123,15 @@ fn take_literal(
     wanted: Prim,
     reader: &mut TokenReader<'_>,
     place: &mut Value,
-) -> bool
-    ensures { (slots : Slots) → IsTrue result → ReadsLeaf reader.old reader.new
+) -> Leaf
+    ensures read { (slots : Slots) → result ≡ Leaf.Read → ReadsLeaf reader.old reader.new
         (FitsHoweverNullable slots (single (primitive wanted)) place.new) }
+    ensures kept { result ≡ Leaf.Other → reader.new ≡ reader.old }
 {
     let Some(text) = reader.take_text(&mut cache.scratch) else {
-        return false;
+        return Leaf::Other;
     };
-    put_read(read_text(cache.alloc, wanted, text), place)
+    leaf_put(put_read(read_text(cache.alloc, wanted, text), place))
 }
 
 /// Puts a value of an enumeration into its place.
@@ -139,7 +164,7 @@ fn put_truth(truth: bool, place: &mut Value)
 #[inline(always)]
 fn put_number(wanted: Prim, number: JsonNumber, place: &mut Value) -> bool
     ensures { (json : Data) (slots : Slots) (type : ExprType) → IsJsonNumber number json
-        → IsTrue result → FitsPrimitive wanted json (val_of place.new slots type) }
+        → IsTrue result → FitsPrimitive wanted json (val_of place.new slots.properties type) }
 {
     let JsonNumber::Whole(n) = number else {
         return false;
@@ -154,7 +179,7 @@ fn put_number(wanted: Prim, number: JsonNumber, place: &mut Value) -> bool
 #[inline(always)]
 fn put_text(texts: &mut SpareTexts, text: &str, place: &mut Value) -> bool
     ensures { (slots : Slots) (type : ExprType)
-        → IsTrue result → FitsPrimitive Prim.String (string text.now) (val_of place.new slots type) }
+        → IsTrue result → FitsPrimitive Prim.String (string text.now) (val_of place.new slots.properties type) }
 {
     if let Value::Text(old) = place {
         if old.capacity() <= TEXT_ROOM {

@@ -1,16 +1,16 @@
 //! Which slot the next member of an object has. The slot that came next the last time is tried first, by its name
 //! where that stands, so that most names are not read.
-ghost use Rattle.std.specs.Prelude.{◌≡◌, false, IfSome, IsTrue};
+ghost use Rattle.std.specs.Prelude.{◌≡◌, List, false, IfSome, IsTrue};
+ghost use Rattle.csdl_schema.specs.ExpansionView.{StepModel};
 ghost use Rattle.csdl_schema.specs.SchemaModel.{SchemaModel};
 ghost use Rattle.edm_entities.specs.private.NextMember.{IsNextMember};
 ghost use Rattle.edm_entities.specs.Plans.{IsPlan};
 
 use super::row_cache::RowCache;
-use super::slot_order::SlotOrder;
+use super::row_walk::RowScene;
 use super::type_plan::TypePlan;
 use csdl_schema::{Schema, TypeId};
-use json::Scratch;
-use json_tokens::TokenReader;
+use json_tokens::{KeyOrder, Scratch, TokenReader};
 
 /// What comes next in an object: the value of a slot, the value of another member, or nothing.
 #[derive(Clone, Copy, Drop)]
@@ -23,7 +23,7 @@ pub(crate) enum Member {
 /// Takes the name of the property at a slot, if it is next.
 #[inline(always)]
 fn take_slot_name(plan: &TypePlan, slot: usize, reader: &mut TokenReader<'_>) -> bool
-    ensures taken { (schema : SchemaModel) → IsPlan schema plan.now → IsTrue result
+    ensures taken { (schema : SchemaModel) (steps : List StepModel) → IsPlan schema steps plan.now → IsTrue result
         → IsNextMember schema plan.now.type_id reader.old reader.new (Member.OfSlot slot) }
     ensures kept { result ≡ false → reader.new ≡ reader.old }
 {
@@ -56,7 +56,7 @@ fn member_by_name(
 }
 
 /// Notes what came, to be tried first the next time; behind the last member no slot is tried.
-fn note(order: &mut SlotOrder, member: Member) {
+fn note(order: &mut KeyOrder, member: Member) {
     match member {
         Member::OfSlot(slot) => order.note(slot),
         Member::Other => {}
@@ -68,12 +68,12 @@ fn note(order: &mut SlotOrder, member: Member) {
 #[inline(always)]
 pub(crate) fn next_member(
     cache: &mut RowCache,
-    schema: &Schema,
+    scene: &RowScene<'_>,
     plan: &TypePlan,
     reader: &mut TokenReader<'_>,
 ) -> Option<Member>
-    requires { IsPlan schema.now plan.now }
-    ensures { IfSome result (IsNextMember schema.now plan.now.type_id reader.old reader.new) }
+    requires { IsPlan scene.now.schema.now scene.now.expansion.now plan.now }
+    ensures { IfSome result (IsNextMember scene.now.schema.now plan.now.type_id reader.old reader.new) }
 {
     let likely = cache.order.likely();
     if take_slot_name(plan, likely, reader) {
@@ -82,7 +82,7 @@ pub(crate) fn next_member(
     if likely >= plan.slots.len() && reader.take_end_object() {
         return Some(Member::End);
     }
-    match member_by_name(&mut cache.scratch, schema, plan.type_id, reader) {
+    match member_by_name(&mut cache.scratch, scene.schema, plan.type_id, reader) {
         Some(member) => {
             note(&mut cache.order, member);
             Some(member)

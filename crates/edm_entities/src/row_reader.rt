@@ -2,17 +2,19 @@ ghost use Rattle.std.specs.Prelude.{◌≡◌, Some, IsSome, IfSome};
 ghost use Rattle.serde_json.specs.Data.{Data};
 ghost use Rattle.serde_json.specs.Find.{as_object};
 ghost use Rattle.serde_json.specs.Read.{read};
-ghost use Rattle.csdl_schema.specs.SchemaModel.{HasDistinctNames, properties_at, slots_of};
+ghost use Rattle.csdl_schema.specs.SchemaModel.{HasDistinctNames, properties_at};
 ghost use Rattle.edm_entities.specs.Plans.{ArePlans, IsPlanOf};
 ghost use Rattle.edm_entities.specs.RowReading.{IsLineOf};
+ghost use Rattle.edm_entities.specs.private.SlotsSoFar.{slots_below};
 ghost use Rattle.edm_entities.specs.private.Walk.{FitSlots};
 
 use super::entity::Entity;
+use super::kept_expansion::KeptExpansion;
 use super::row_cache::RowCache;
 use super::row_plan::RowPlan;
 use super::row_slots::RowSlots;
 use super::row_walk::{RowScene, take_members};
-use super::type_plan::{TypePlan, plan_at};
+use super::type_plan::plan_at;
 use csdl_schema::{Schema, TypeId};
 use edm_values::Value;
 use json_tokens::{TokenReader, text_of_line};
@@ -49,24 +51,33 @@ impl RowReader {
         self.cache.alloc
     }
 
-    /// Reads a line as an entity of the plan's type. Where it answers none, the line may still be one:
-    /// `Entity::from_json` says what is wrong with it, if anything is.
+    /// Reads a line as an entity of the plan's type, in which that is expanded which the plan expands. Where it answers
+    /// none, the line may still be one: `Entity::expanded_from_json` says what is wrong with it, if anything is.
     pub fn read<'s>(
         &mut self,
         schema: &'s Schema,
-        plan: &RowPlan,
+        plan: &'s RowPlan,
         line: &[u8],
     ) -> Option<Entity<'s>>
         requires { IsPlanOf schema.now plan.now }
         ensures of_type { IfSome result (λ e. (e.schema ≡ schema.now) × (e.type_id ≡ plan.now.type_id)) }
         ensures row { IfSome result (IsLineOf line.now) }
+        ensures expansion { IfSome result (λ e. e.expansion ≡ plan.now.expansion) }
     {
         let Some(text) = text_of_line(line) else {
             return None;
         };
-        let plans = plan.plans.as_slice();
-        match take_row(&mut self.cache, schema, plans, plan.type_id, text) {
-            Some(values) => Some(Entity::from_values(schema, plan.type_id, values)),
+        let scene = RowScene {
+            schema,
+            expansion: &plan.expansion,
+            plans: plan.plans.as_slice(),
+            depth: DEPTH - 1,
+        };
+        match take_row(&mut self.cache, &scene, plan.type_id, text) {
+            Some(values) => {
+                let kept = KeptExpansion::Lent(&plan.expansion);
+                Some(Entity::from_values(schema, plan.type_id, kept, values))
+            }
             None => None,
         }
     }
@@ -81,30 +92,25 @@ impl RowReader {
 /// The values by slot of a whole text.
 fn take_row(
     cache: &mut RowCache,
-    schema: &Schema,
-    plans: &[TypePlan],
+    scene: &RowScene<'_>,
     type_id: TypeId,
     text: &str,
 ) -> Option<Vec<Value>>
-    requires { ArePlans schema.now plans.now }
-    ensures distinct { IfSome result (λ _. HasDistinctNames (properties_at schema.now type_id)) }
+    requires plans { ArePlans scene.now.schema.now scene.now.expansion.now scene.now.plans.now }
+    requires depth { scene.now.depth ≡ 126 }
+    ensures distinct { IfSome result (λ _. HasDistinctNames (properties_at scene.now.schema.now type_id)) }
     ensures fits { IfSome result (λ values. (json : Data) × (read text.now ≡ Some json) × IsSome (as_object json)
-        × FitSlots (slots_of schema.now) json (properties_at schema.now type_id) values.items) }
+        × FitSlots (slots_below scene.now (Some 0)) json (properties_at scene.now.schema.now type_id) values.items) }
 {
-    let Some(plan) = plan_at(plans, 0, type_id) else {
+    let Some(plan) = plan_at(scene.plans, 0, type_id, Some(0)) else {
         return None;
     };
     let mut reader = TokenReader::new(text);
     if !reader.take_begin_object() {
         return None;
     }
-    let scene = RowScene {
-        schema,
-        plans,
-        depth: DEPTH - 1,
-    };
     let mut slots = cache.row_slots();
-    if !take_members(cache, &scene, plan, &mut reader, &mut slots) {
+    if !take_members(cache, scene, plan, &mut reader, &mut slots) {
         return None;
     }
     if !reader.is_at_end() {

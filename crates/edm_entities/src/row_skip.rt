@@ -3,8 +3,8 @@ ghost use Rattle.std.specs.Prelude.{IsTrue};
 ghost use Rattle.edm_entities.specs.private.RowTokens.{Reads, ReadsItems, ReadsMembers};
 
 use super::row_token::scalar_of_token;
-use json::{Scratch, Token};
-use json_tokens::TokenReader;
+use json::Token;
+use json_tokens::{Scratch, TokenReader};
 
 /// Passes over a value.
 #[cycle(skip)]

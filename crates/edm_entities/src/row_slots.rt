@@ -1,16 +1,19 @@
 //! The slots of a type, while the members of an object are read into them.
-ghost use Rattle.std.specs.Prelude.{◌≡◌, ◌<◌, ℕ, get_or, length, replicate, true, false, IsTrue};
+ghost use Rattle.std.specs.Prelude.{◌≡◌, ◌<◌, [], ℕ, List, Option, None, get_or, length, replicate, true, false, IsTrue};
 ghost use Rattle.serde_json.specs.Data.{Members, object};
-ghost use Rattle.csdl_schema.specs.PropertyView.{property_type};
-ghost use Rattle.csdl_schema.specs.SchemaModel.{SchemaModel, properties_at, slots_of};
-ghost use Rattle.edm_entities.specs.Plans.{IsPlan, IsSlotNamed};
-ghost use Rattle.edm_entities.specs.private.SlotsSoFar.{may_be_absent, SlotsSoFar};
+ghost use Rattle.csdl_schema.specs.ExpansionView.{StepModel};
+ghost use Rattle.csdl_schema.specs.PropertyView.{property_type, target_of};
+ghost use Rattle.csdl_schema.specs.SchemaModel.{SchemaModel, Slots, properties_at};
+ghost use Rattle.edm_entities.specs.Fits.{FitsProperty};
+ghost use Rattle.edm_entities.specs.Plans.{IsPlan, IsSlotPlan};
+ghost use Rattle.edm_entities.specs.Row.{field_of, val_of};
+ghost use Rattle.edm_entities.specs.private.Expanded.{slots_at, target_if};
+ghost use Rattle.edm_entities.specs.private.SlotsSoFar.{SlotsSoFar};
 ghost use Rattle.edm_entities.specs.private.Walk.{FitSlots};
 
 use super::row_cache::RowCache;
 use super::type_plan::{SlotPlan, TypePlan};
-use super::wanted::wanted_as;
-use csdl_schema::Property;
+use super::wanted::{navigates, wanted_with};
 use edm_values::Value;
 use std::mem;
 
@@ -47,14 +50,23 @@ pub(crate) fn begin_slots(cache: &mut RowCache, slots: &mut RowSlots, count: usi
     slots.filled.resize(count, false).is_ok()
 }
 
-fn may_be_absent(property: Property) -> bool
-    ensures { (schema : SchemaModel)
-        → result ≡ may_be_absent (property_type schema property) property.nullable }
+/// Whether a property may be absent. A navigation property that is expanded may not.
+fn may_be_absent(plan: &SlotPlan) -> bool
+    ensures { (schema : SchemaModel) (slots : Slots)
+        → plan.now.target ≡ target_if (slots.needed []) (target_of plan.now.property) → IsTrue result
+        → FitsProperty slots plan.now.property.nullable (property_type schema plan.now.property) None
+        (field_of slots.properties (property_type schema plan.now.property) (val_of Value.Null)) }
 {
-    match wanted_as(property.kind) {
-        Some(_) => !property.many && property.nullable,
-        None => true,
+    let Some(_wanted) = wanted_with(&plan.property, plan.target) else {
+        return true;
+    };
+    if plan.property.many {
+        return false;
     }
+    if !plan.property.nullable {
+        return false;
+    }
+    !navigates(&plan.property)
 }
 
 /// Fills a slot with null, if it was not filled and may be absent.
@@ -62,10 +74,12 @@ fn may_be_absent(property: Property) -> bool
 fn fill_absent(cache: &mut RowCache, plan: &SlotPlan, slots: &mut RowSlots, slot: usize) -> bool
     requires filled { slot < length slots.old.filled.items }
     requires values { slot < length slots.old.values.items }
-    ensures so_far { (schema : SchemaModel) (id : ℕ) (found : Members)
-        → IsSlotNamed schema id plan.now.key slot plan.now.property
-        → SlotsSoFar schema id found slots.old.filled.items slots.old.values.items
-        → SlotsSoFar schema id found slots.new.filled.items slots.new.values.items }
+    ensures so_far { (schema : SchemaModel) (steps : List StepModel) (id : ℕ) (node : Option ℕ) (found : Members)
+        → IsSlotPlan schema steps id node slot plan.now
+        → SlotsSoFar (slots_at schema steps node) (properties_at schema id) found slots.old.filled.items
+        slots.old.values.items
+        → SlotsSoFar (slots_at schema steps node) (properties_at schema id) found slots.new.filled.items
+        slots.new.values.items }
     ensures long { (length slots.new.filled.items ≡ length slots.old.filled.items)
         × (length slots.new.values.items ≡ length slots.old.values.items) }
     ensures filled { IsTrue result → get_or slots.new.filled.items slot false ≡ true }
@@ -75,7 +89,7 @@ fn fill_absent(cache: &mut RowCache, plan: &SlotPlan, slots: &mut RowSlots, slot
     if slots.filled[slot] {
         return true;
     }
-    if !may_be_absent(plan.property) {
+    if !may_be_absent(plan) {
         return false;
     }
     cache.retire(mem::replace(&mut slots.values[slot], Value::Null));
@@ -87,9 +101,12 @@ fn fill_absent(cache: &mut RowCache, plan: &SlotPlan, slots: &mut RowSlots, slot
 pub(crate) fn fill_slots(cache: &mut RowCache, plan: &TypePlan, slots: &mut RowSlots) -> bool
     requires values { length slots.old.values.items ≡ length plan.now.slots.items }
     requires filled { length slots.old.filled.items ≡ length plan.now.slots.items }
-    ensures { (schema : SchemaModel) (found : Members) → IsPlan schema plan.now → IsTrue result
-        → SlotsSoFar schema plan.now.type_id found slots.old.filled.items slots.old.values.items
-        → FitSlots (slots_of schema) (object found) (properties_at schema plan.now.type_id) slots.new.values.items }
+    ensures { (schema : SchemaModel) (steps : List StepModel) (found : Members) → IsPlan schema steps plan.now
+        → IsTrue result
+        → SlotsSoFar (slots_at schema steps plan.now.node) (properties_at schema plan.now.type_id) found
+        slots.old.filled.items slots.old.values.items
+        → FitSlots (slots_at schema steps plan.now.node) (object found) (properties_at schema plan.now.type_id)
+        slots.new.values.items }
 {
     for slot in 0..plan.slots.len() {
         if !fill_absent(cache, &plan.slots[slot], slots, slot) {

@@ -5,9 +5,9 @@ ghost use Rattle.json.specs.Token.{number};
 ghost use Rattle.edm_entities.specs.private.RowTokens.{ReadsToken};
 ghost use Rattle.edm_entities.specs.private.Scalars.{IsJsonNumber, IsScalar};
 
-use super::number_text::{number_of_text, whole_of_digits};
 use super::scalar::{JsonNumber, Scalar, json_number};
 use json::Token;
+use json_tokens::{number_of_text, whole_of_digits};
 
 /// The number that a text writes; none where it is too large for a float. Most are digits alone.
 #[inline(always)]

@@ -1,29 +1,30 @@
 //! The walk over a row's tokens, straight into the slots of its type. It ends where the row fits no value, and where
 //! memory is wanting. What most rows are, an object of values without parts, is one piece of code (`inline(always)`);
 //! arrays and objects within it are called apart: that saves a call for each value.
-ghost use Rattle.std.specs.Prelude.{◌≡◌, ◌<◌, ◌≤◌, length, take, true, false, Some, None, IsTrue};
+ghost use Rattle.std.specs.Prelude.{◌≡◌, ◌∷◌, ◌<◌, ◌≤◌, length, take, true, false, Some, None, IsTrue};
 ghost use Rattle.json.specs.Json.{read_key};
+ghost use Rattle.json.specs.Token.{null};
 ghost use Rattle.serde_json.specs.Data.{object, put, Members};
 ghost use Rattle.csdl_schema.specs.ExprType.{single, collection, structured};
 ghost use Rattle.csdl_schema.specs.PropertyView.{property_type};
-ghost use Rattle.csdl_schema.specs.SchemaModel.{properties_at, slots_of, type_name_at};
+ghost use Rattle.csdl_schema.specs.SchemaModel.{properties_at, type_name_at};
 ghost use Rattle.edm_entities.specs.Fits.{FitsProperty};
 ghost use Rattle.edm_entities.specs.HoldsEachSlot.{HoldsEachSlot};
 ghost use Rattle.edm_entities.specs.Row.{field_of, val_of};
 ghost use Rattle.edm_entities.specs.private.NextMember.{ReadsMember};
-ghost use Rattle.edm_entities.specs.Plans.{ArePlans, IsPlan};
+ghost use Rattle.edm_entities.specs.Plans.{ArePlans, IsPlan, target_at};
 ghost use Rattle.edm_entities.specs.private.RowTokens.{Reads, ReadsItems, ReadsMembers, FitsNullable, FitsHoweverNullable};
-ghost use Rattle.edm_entities.specs.private.SlotsSoFar.{SlotsSoFar};
+ghost use Rattle.edm_entities.specs.private.SlotsSoFar.{SlotsSoFar, slots_below};
 ghost use Rattle.edm_entities.specs.private.Walk.{FitList, FitSlots, HoldsInSlot, HoldInItems, wanted_single};
 
 use super::row_cache::RowCache;
-use super::row_leaf::{take_enumeration, take_primitive};
+use super::row_leaf::{Leaf, take_enumeration, take_primitive};
 use super::row_member::{Member, next_member};
 use super::row_skip::skip_value;
 use super::row_slots::{RowSlots, begin_slots, fill_slots};
 use super::type_plan::{SlotPlan, TypePlan, plan_at};
-use super::wanted::{Wanted, wanted_as};
-use csdl_schema::Schema;
+use super::wanted::{Wanted, may_hold_null, wanted_with};
+use csdl_schema::{Expansion, Schema};
 use edm_values::Value;
 use json_tokens::TokenReader;
 use std::mem;
@@ -32,6 +33,7 @@ use std::mem;
 #[derive(Drop)]
 pub(crate) struct RowScene<'w> {
     pub(crate) schema: &'w Schema,
+    pub(crate) expansion: &'w Expansion,
     pub(crate) plans: &'w [TypePlan],
     pub(crate) depth: usize,
 }
@@ -41,7 +43,8 @@ pub(crate) struct RowScene<'w> {
 struct OneValue {
     wanted: Wanted,
     nullable: bool,
-    /// Where the plan of its complex type is to be.
+    /// The node of the expansion behind it, and where the plan of its type is to be.
+    node: Option<usize>,
     record: usize,
 }
 
@@ -54,10 +57,10 @@ pub(crate) fn take_members(
     reader: &mut TokenReader<'_>,
     slots: &mut RowSlots,
 ) -> bool
-    requires plans { ArePlans scene.now.schema.now scene.now.plans.now }
-    requires plan { IsPlan scene.now.schema.now plan.now }
+    requires plans { ArePlans scene.now.schema.now scene.now.expansion.now scene.now.plans.now }
+    requires plan { IsPlan scene.now.schema.now scene.now.expansion.now plan.now }
     ensures { IsTrue result → ReadsMembers scene.now.depth reader.old reader.new (λ found. FitSlots
-        (slots_of scene.now.schema.now) (object found) (properties_at scene.now.schema.now plan.now.type_id)
+        (slots_below scene.now plan.now.node) (object found) (properties_at scene.now.schema.now plan.now.type_id)
         slots.new.values.items) }
 {
     if !begin_slots(cache, slots, plan.slots.len()) {
@@ -85,19 +88,20 @@ fn take_member(
     reader: &mut TokenReader<'_>,
     slots: &mut RowSlots,
 ) -> Option<bool>
-    requires plans { ArePlans scene.now.schema.now scene.now.plans.now }
-    requires plan { IsPlan scene.now.schema.now plan.now }
+    requires plans { ArePlans scene.now.schema.now scene.now.expansion.now scene.now.plans.now }
+    requires plan { IsPlan scene.now.schema.now scene.now.expansion.now plan.now }
     requires values { length slots.old.values.items ≡ length plan.now.slots.items }
     requires filled { length slots.old.filled.items ≡ length plan.now.slots.items }
     ensures member { result ≡ Some true → ReadsMember scene.now.depth reader.old reader.new (λ name json.
         (found : Members)
-        → SlotsSoFar scene.now.schema.now plan.now.type_id found slots.old.filled.items slots.old.values.items
-        → SlotsSoFar scene.now.schema.now plan.now.type_id (put name json found) slots.new.filled.items
-        slots.new.values.items) }
+        → SlotsSoFar (slots_below scene.now plan.now.node) (properties_at scene.now.schema.now plan.now.type_id) found
+        slots.old.filled.items slots.old.values.items
+        → SlotsSoFar (slots_below scene.now plan.now.node) (properties_at scene.now.schema.now plan.now.type_id)
+        (put name json found) slots.new.filled.items slots.new.values.items) }
     ensures end { result ≡ Some false
         → (read_key reader.old ≡ Some (None, reader.new)) × (slots.new ≡ slots.old) }
 {
-    let Some(member) = next_member(cache, scene.schema, plan, reader) else {
+    let Some(member) = next_member(cache, scene, plan, reader) else {
         return None;
     };
     match member {
@@ -134,30 +138,34 @@ fn take_property(
     reader: &mut TokenReader<'_>,
     place: &mut Value,
 ) -> bool
-    requires { ArePlans scene.now.schema.now scene.now.plans.now }
+    requires plans { ArePlans scene.now.schema.now scene.now.expansion.now scene.now.plans.now }
+    requires leads { plan.now.target ≡ target_at scene.now.expansion.now plan.now.node plan.now.property }
     ensures read { IsTrue result → Reads scene.now.depth reader.old reader.new (λ json. FitsProperty
-        (slots_of scene.now.schema.now) plan.now.property.nullable
-        (property_type scene.now.schema.now plan.now.property) (Some json) (field_of (slots_of scene.now.schema.now)
+        (slots_below scene.now plan.now.node) plan.now.property.nullable
+        (property_type scene.now.schema.now plan.now.property) (Some json)
+        (field_of (slots_below scene.now plan.now.node).properties
         (property_type scene.now.schema.now plan.now.property) (val_of place.new))) }
-    ensures holds { IsTrue result → HoldsInSlot (slots_of scene.now.schema.now)
+    ensures holds { IsTrue result → HoldsInSlot (slots_below scene.now plan.now.node)
         (property_type scene.now.schema.now plan.now.property) place.new }
 {
-    let Some(wanted) = wanted_as(plan.property.kind) else {
+    let Some(wanted) = wanted_with(&plan.property, plan.target) else {
         *place = Value::Null;
         return skip_value(&mut cache.scratch, reader, scene.depth);
     };
-    let (nullable, record) = (plan.property.nullable, plan.record);
+    let (node, record) = (plan.node, plan.record);
     if plan.property.many {
         let one = OneValue {
             wanted,
-            nullable,
+            nullable: may_hold_null(&plan.property),
+            node,
             record,
         };
         return take_array(cache, scene, &one, reader, place);
     }
     let one = OneValue {
         wanted,
-        nullable,
+        nullable: plan.property.nullable,
+        node,
         record,
     };
     take_single(cache, scene, &one, reader, place)
@@ -173,24 +181,45 @@ fn take_single(
     reader: &mut TokenReader<'_>,
     place: &mut Value,
 ) -> bool
-    requires { ArePlans scene.now.schema.now scene.now.plans.now }
+    requires { ArePlans scene.now.schema.now scene.now.expansion.now scene.now.plans.now }
     ensures read { IsTrue result → Reads scene.now.depth reader.old reader.new (FitsNullable
-        (slots_of scene.now.schema.now) one.now.nullable one.now.nullable
+        (slots_below scene.now one.now.node) one.now.nullable one.now.nullable
         (single (wanted_single scene.now.schema.now one.now.wanted)) place.new) }
-    ensures holds { IsTrue result → HoldsEachSlot place.new (slots_of scene.now.schema.now)
+    ensures holds { IsTrue result → HoldsEachSlot place.new (slots_below scene.now one.now.node)
         (single (wanted_single scene.now.schema.now one.now.wanted)) }
 {
+    if let Wanted::Prim(prim) = one.wanted {
+        return match take_primitive(cache, prim, reader, place) {
+            Leaf::Read => true,
+            Leaf::Other => take_null_instead(cache, one.nullable, reader, place),
+            Leaf::Refused => false,
+        };
+    }
     if reader.take_null() {
         return put_null(cache, one.nullable, place);
     }
     match one.wanted {
-        Wanted::Complex(id) => match plan_at(scene.plans, one.record, id) {
+        Wanted::Complex(id) => match plan_at(scene.plans, one.record, id, one.node) {
             Some(plan) => take_record(cache, scene, plan, reader, place),
             None => false,
         },
-        Wanted::Prim(prim) => take_primitive(cache, prim, reader, place),
         Wanted::Enum(id) => take_enumeration(&mut cache.scratch, scene.schema, id, reader, place),
+        Wanted::Prim(_) => false,
     }
+}
+
+/// Takes a null, if it is next and may be.
+#[inline(never)]
+fn take_null_instead(
+    cache: &mut RowCache,
+    nullable: bool,
+    reader: &mut TokenReader<'_>,
+    place: &mut Value,
+) -> bool
+    ensures taken { IsTrue result → reader.old ≡ null ∷ reader.new }
+    ensures may_be { IsTrue result → (nullable ≡ true) × (place.new ≡ Value.Null) }
+{
+    reader.take_null() && put_null(cache, nullable, place)
 }
 
 /// A null that may be.
@@ -211,12 +240,12 @@ fn take_record(
     reader: &mut TokenReader<'_>,
     place: &mut Value,
 ) -> bool
-    requires plans { ArePlans scene.now.schema.now scene.now.plans.now }
-    requires plan { IsPlan scene.now.schema.now plan.now }
+    requires plans { ArePlans scene.now.schema.now scene.now.expansion.now scene.now.plans.now }
+    requires plan { IsPlan scene.now.schema.now scene.now.expansion.now plan.now }
     ensures read { IsTrue result → Reads scene.now.depth reader.old reader.new (FitsHoweverNullable
-        (slots_of scene.now.schema.now) (single (structured (type_name_at scene.now.schema.now plan.now.type_id)))
-        place.new) }
-    ensures holds { IsTrue result → HoldsEachSlot place.new (slots_of scene.now.schema.now)
+        (slots_below scene.now plan.now.node)
+        (single (structured (type_name_at scene.now.schema.now plan.now.type_id))) place.new) }
+    ensures holds { IsTrue result → HoldsEachSlot place.new (slots_below scene.now plan.now.node)
         (single (structured (type_name_at scene.now.schema.now plan.now.type_id))) }
 {
     if scene.depth == 0 || !reader.take_begin_object() {
@@ -224,6 +253,7 @@ fn take_record(
     }
     let inner = RowScene {
         schema: scene.schema,
+        expansion: scene.expansion,
         plans: scene.plans,
         depth: scene.depth - 1,
     };
@@ -245,11 +275,11 @@ fn take_array(
     reader: &mut TokenReader<'_>,
     place: &mut Value,
 ) -> bool
-    requires { ArePlans scene.now.schema.now scene.now.plans.now }
+    requires { ArePlans scene.now.schema.now scene.now.expansion.now scene.now.plans.now }
     ensures read { IsTrue result → Reads scene.now.depth reader.old reader.new (FitsNullable
-        (slots_of scene.now.schema.now) false one.now.nullable
+        (slots_below scene.now one.now.node) false one.now.nullable
         (collection (wanted_single scene.now.schema.now one.now.wanted)) place.new) }
-    ensures holds { IsTrue result → HoldsEachSlot place.new (slots_of scene.now.schema.now)
+    ensures holds { IsTrue result → HoldsEachSlot place.new (slots_below scene.now one.now.node)
         (collection (wanted_single scene.now.schema.now one.now.wanted)) }
 {
     if scene.depth == 0 || !reader.take_begin_array() {
@@ -257,6 +287,7 @@ fn take_array(
     }
     let inner = RowScene {
         schema: scene.schema,
+        expansion: scene.expansion,
         plans: scene.plans,
         depth: scene.depth - 1,
     };
@@ -287,11 +318,11 @@ fn take_items(
     reader: &mut TokenReader<'_>,
     values: &mut Vec<Value>,
 ) -> bool
-    requires { ArePlans scene.now.schema.now scene.now.plans.now }
+    requires { ArePlans scene.now.schema.now scene.now.expansion.now scene.now.plans.now }
     ensures read { IsTrue result → ReadsItems scene.now.depth reader.old reader.new (λ jsons. FitList
-        (slots_of scene.now.schema.now) one.now.nullable (wanted_single scene.now.schema.now one.now.wanted) jsons
+        (slots_below scene.now one.now.node) one.now.nullable (wanted_single scene.now.schema.now one.now.wanted) jsons
         values.new.items) }
-    ensures holds { IsTrue result → HoldInItems (slots_of scene.now.schema.now)
+    ensures holds { IsTrue result → HoldInItems (slots_below scene.now one.now.node)
         (wanted_single scene.now.schema.now one.now.wanted) values.new.items }
 {
     let mut count = 0;

@@ -1,6 +1,7 @@
 //! A condition of SQL, for PostgreSQL, made of the nodes of a checked filter. The filter's text is not read again.
 ghost use Rattle.std.specs.Prelude.{◌<◌, length};
 
+use csdl_schema::Expansion;
 use odata_syntax::BinaryOperator::{And, Eq, Gt, Lt, Ne, Or};
 use odata_syntax::LiteralKind::{Bool, Int, Null, Str};
 use odata_syntax::Quantifier::Any;
@@ -9,9 +10,13 @@ use std::alloc::{AllocError, Global};
 
 /// What a filter asks of the row `r`, where the column of a property is `c` with the number of its slot, a collection is an
 /// array, and a range variable goes by its name. Other forms than these are left out: null, truth values, whole numbers,
-/// texts, properties, members, variables, `not`, `and`, `or`, `eq`, `ne`, `gt`, `lt` and `any`. Texts are in OData's order
-/// where columns have the collation "C".
+/// texts, properties, members, variables, `not`, `and`, `or`, `eq`, `ne`, `gt`, `lt` and `any`; and none that leads over
+/// navigation properties, whose entities are rows of other tables. Texts are in OData's order where columns have the
+/// collation "C".
 pub fn condition(alloc: Global, filter: &Checked<'_>) -> Result<Option<String>, AllocError> {
+    if !Expansion::none(alloc).covers(filter.expansion()) {
+        return Ok(None);
+    }
     // From the last node to the first: what the children of a node came to lies on top, that of the first one uppermost.
     let mut parts = Vec::new(alloc);
     for place in (0..filter.nodes().len()).rev() {

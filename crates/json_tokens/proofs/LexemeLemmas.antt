@@ -49,7 +49,7 @@ space_passed d i within h =
 
 -- ---- texts
 
-taken_plain : (d : List ℕ) (i n : ℕ) → i + n ≤ length d → PlainBetween d i (i + n) → PlainBetween (take n (drop i d)) 0 (length (take n (drop i d)))
+pub taken_plain : (d : List ℕ) (i n : ℕ) → i + n ≤ length d → PlainBetween d i (i + n) → PlainBetween (take n (drop i d)) 0 (length (take n (drop i d)))
 taken_plain d i n room h k low high =
     let short : length (take n (drop i d)) ≡ n = length-take-le n (drop i d) (omega (arith, length-drop i d)) in
     let there : get_or (take n (drop i d)) k 0 ≡ get_or d (i + k) 0 = get_or-take n (drop i d) k 0 (omega arith) ∙ get_or-drop i d k 0 in

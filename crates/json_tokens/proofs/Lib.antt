@@ -2,5 +2,7 @@ mod AsciiLemmas
 pub mod EscapeLemmas
 pub mod KeyLemmas
 pub mod LexemeLemmas
+mod NumberLemmas
 mod StopLemmas
+mod ToldLemmas
 mod WholeLemmas

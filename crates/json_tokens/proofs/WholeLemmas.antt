@@ -1,15 +1,17 @@
 -- Lemmas on numbers of digits alone.
-use Rattle.std.proofs.Common.{◌≡◌, ℕ, ◌+◌, ◌-◌, ◌*◌, ◌<◌, ◌≤◌, List, length, take, drop, get_or, true, refl, sym, ap, ◌∙◌, subst, ⊎_elim, arith, length-take-le, length-drop}
+use Rattle.std.proofs.Common.{◌≡◌, ℕ, ◌+◌, ◌-◌, ◌*◌, ◌<◌, ◌≤◌, List, length, take, drop, get_or, true, refl, sym, ap, ◌∙◌, subst, ⊎_elim, arith, take_all, length-take-le, length-drop}
 use Rattle.std.proofs.lemmas.Bool.{cases_lt, and_parts, leb-true, ne_eqb}
 use Rattle.std.proofs.lemmas.List.{get_or-drop}
 use Rattle.std.proofs.lemmas.Int.Digits.{digits_more, digits_value_more}
 use Rattle.std.proofs.lemmas.Str.{digit_value_digit}
 use Rattle.std.specs.Char.{digit_value, is_ascii_digit}
+use Rattle.std.specs.Str.Parse.{AllDigits, digits_value, IsNumeral}
 use Rattle.json.specs.Token.{number}
 use Rattle.json_tokens.specs.WholeNumbers.{IsWhole}
 use Rattle.json_tokens.specs.private.Lexemes.{BeginsToken, EndsValue, WritesWhole}
 use Rattle.json_tokens.specs.declared.lexeme.Turn.{Turn}
 use Rattle.json_tokens.proofs.LexemeLemmas.{digits_begin}
+use Rattle.json_tokens.proofs.NumberLemmas.{number_of_numeral}
 
 pub no_digits : (d : List ℕ) → WritesWhole d 0 0
 no_digits d = record { within = omega arith; digits = λ k from to. absurd (omega (arith, to)); all = tt; value = refl; bound = omega arith }
@@ -34,6 +36,17 @@ one_digit_more d i n m so_far within is small next =
       bound = omega (arith, next, high, small);
     }
 
+-- digits and their number, as `serde_json` reads them
+digits_whole : (s : List ℕ) (n : ℕ) → IsNumeral 10 s → n ≡ digits_value 10 s → n < 1000000000000000000 → IsWhole s n
+digits_whole s n written value bound =
+    record { written = written; value = value; bound = bound; read = sym (number_of_numeral s n written value bound) }
+
+-- the number that a text of digits alone writes
+pub whole_text : (s : List ℕ) (count n : ℕ) → count ≡ length s → 0 < count → WritesWhole s count n → IsWhole s n
+whole_text s count n all some writes =
+    let same : take count s ≡ s = take_all count s (omega (arith, all)) in
+    digits_whole s n (omega (arith, all, some), subst (AllDigits 10) same writes.all) (writes.value ∙ ap (digits_value 10) same) writes.bound
+
 -- the number that digits at a place write, where a value ends behind them
 pub whole_there : (d : List ℕ) (i count n next : ℕ) (turn : Turn) → i < length d → (get_or d i 0 ≡ 48 → ⊥) → WritesWhole (drop i d) count n → 0 < count → EndsValue d (i + count) next turn
     → (s : List ℕ) × BeginsToken d i (number s) next turn × IsWhole s n
@@ -48,5 +61,5 @@ whole_there d i count n next turn within first writes some ended =
           (λ k from to. let there : i + (k - i) ≡ k = omega (arith, from) in
           ap is_ascii_digit (ap (λ j. get_or d j 0) (sym there) ∙ sym (get_or-drop i d (k - i) 0)) ∙ writes.digits (k - i) (omega arith) (omega (arith, from, to)))
           (ne_eqb _ 48 first) ended,
-      record { written = (omega (arith, long, some), writes.all); value = writes.value; bound = writes.bound },
+      digits_whole s n (omega (arith, long, some), writes.all) writes.value writes.bound,
     )

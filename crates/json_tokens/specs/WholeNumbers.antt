@@ -1,9 +1,12 @@
 -- Numbers that digits alone write (RFC 8259, section 6).
-use Rattle.std.specs.Prelude.{◌≡◌, ℕ, ◌<◌, List}
+use Rattle.std.specs.Prelude.{◌≡◌, ℕ, ◌<◌, List, Some}
 use Rattle.std.specs.Str.Parse.{digits_value, IsNumeral}
+use Rattle.serde_json.specs.Data.{unsigned}
+use Rattle.serde_json.specs.Read.{number_of}
 
--- digits alone, of at most 18 places, write this number
+-- digits alone, of at most 18 places, write this number, and `serde_json` reads them as that
 pub record IsWhole (s : List ℕ) (number : ℕ) : Type 0 where
   pub written : IsNumeral 10 s
   pub value : number ≡ digits_value 10 s
   pub bound : number < 1000000000000000000
+  pub read : number_of s ≡ Some (unsigned number)

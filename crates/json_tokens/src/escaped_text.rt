@@ -1,10 +1,16 @@
-//! Texts with escapes, one by one: their closing quote is looked for, and `json`'s reader reads what stands between.
-ghost use Rattle.std.specs.Prelude.{◌≡◌, ◌≢◌, ℕ, suc, ◌<◌, ◌≤◌, length, get_or, drop, false, Some, IfSome};
+//! Texts with escapes, one by one: their closing quote is looked for, and what stands between is told into a text kept
+//! for it. A text with surrogates is read by `json`'s reader.
+ghost use Rattle.std.specs.Prelude.{◌≡◌, ◌≢◌, ◌⊎◌, ℕ, suc, ◌<◌, ◌≤◌, length, get_or, drop, false, Some, string_bytes, IfSome, IsTrue};
+ghost use Rattle.std.specs.Str.{IsCharBoundary};
 ghost use Rattle.json.specs.Lex.{in_string, lex};
 ghost use Rattle.json.specs.Text.{content, plain};
+ghost use Rattle.json_tokens.specs.private.Escapes.{TellsTo};
 ghost use Rattle.json_tokens.specs.private.Lexemes.{ClosesText, IsTextAt};
 
-use json::{Reader, Scratch, Token};
+use super::escape::escape_at;
+use super::lexeme::{byte_at, plain_end};
+use super::scratch::Scratch;
+use json::{Reader, Token};
 use memchr::memchr;
 
 /// The place behind a byte of a text, or behind a backslash and what it escapes.
@@ -75,8 +81,85 @@ fn quote_by_bytes(bytes: &[u8], from: usize) -> Option<usize>
     None
 }
 
-/// What a text in its quotes stands for; none where its escapes are none, or memory is wanting.
-fn unescaped<'t>(quoted: &'t str, scratch: &'t mut Scratch) -> Option<&'t str>
+/// Tells the escape at a place behind what was told; the place behind it.
+#[inline(always)]
+fn tell_escape(quoted: &str, place: usize, told: &mut String) -> Option<usize>
+    requires within { place < length quoted.now }
+    requires backslash { get_or quoted.now place 0 ≡ 92 }
+    ensures { IfSome result (TellsTo quoted.now (string_bytes told.old) place (string_bytes told.new)) }
+{
+    let Some((character, next)) = escape_at(quoted.as_bytes(), place + 1) else {
+        return None;
+    };
+    match told.push(character) {
+        Ok(()) => Some(next),
+        Err(_) => None,
+    }
+}
+
+/// Whether a byte ends what stands for itself, and is no control character.
+#[inline(always)]
+fn ends_plain(byte: u8) -> bool
+    ensures { IsTrue result → (byte ≡ 34) ⊎ (byte ≡ 92) }
+{
+    byte == b'"' || byte == b'\\'
+}
+
+/// Tells what stands at a place up to the next escape, or to the closing quote.
+#[inline(always)]
+fn tell_plain(quoted: &str, place: usize, told: &mut String) -> Option<usize>
+    requires { IsCharBoundary quoted.now place }
+    ensures { IfSome result (TellsTo quoted.now (string_bytes told.old) place (string_bytes told.new)) }
+{
+    let bytes = quoted.as_bytes();
+    let end = plain_end(bytes, place);
+    if end == place || !ends_plain(byte_at(bytes, end)) {
+        return None;
+    }
+    match told.push_str(&quoted[place..end]) {
+        Ok(()) => Some(end),
+        Err(_) => None,
+    }
+}
+
+/// Tells what stands at a place, which is no quote.
+#[inline(always)]
+fn tell_piece(quoted: &str, place: usize, told: &mut String) -> Option<usize>
+    requires within { place < length quoted.now }
+    requires boundary { IsCharBoundary quoted.now place }
+    ensures { IfSome result (TellsTo quoted.now (string_bytes told.old) place (string_bytes told.new)) }
+{
+    if quoted.as_bytes()[place] == b'\\' {
+        tell_escape(quoted, place, told)
+    } else {
+        tell_plain(quoted, place, told)
+    }
+}
+
+/// Tells what a text in its quotes stands for; false where it has surrogates or wrong escapes, or memory is wanting.
+#[inline(always)]
+fn tell(quoted: &str, told: &mut String) -> bool
+    requires { get_or quoted.now 0 32 ≡ 34 }
+    ensures { IsTrue result → content plain (drop 1 quoted.now) ≡ Some (string_bytes told.new) }
+{
+    told.clear();
+    let bytes = quoted.as_bytes();
+    let mut place = 1;
+    while place < bytes.len() {
+        if bytes[place] == b'"' {
+            return true;
+        }
+        let Some(next) = tell_piece(quoted, place, told) else {
+            return false;
+        };
+        place = next;
+    }
+    false
+}
+
+/// The same by `json`'s reader.
+#[inline(never)]
+fn told_by_json<'t>(quoted: &'t str, scratch: &'t mut json::Scratch) -> Option<&'t str>
     requires { get_or quoted.now 0 32 ≡ 34 }
     ensures { IfSome result (λ told. content plain (drop 1 quoted.now) ≡ Some told.now) }
 {
@@ -87,6 +170,17 @@ fn unescaped<'t>(quoted: &'t str, scratch: &'t mut Scratch) -> Option<&'t str>
         Some(Token::String(told)) => Some(told),
         _ => None,
     }
+}
+
+/// What a text in its quotes stands for; none where its escapes are none, or memory is wanting.
+fn unescaped<'t>(quoted: &'t str, scratch: &'t mut Scratch) -> Option<&'t str>
+    requires { get_or quoted.now 0 32 ≡ 34 }
+    ensures { IfSome result (λ told. content plain (drop 1 quoted.now) ≡ Some told.now) }
+{
+    if tell(quoted, &mut scratch.told) {
+        return Some(scratch.told.as_str());
+    }
+    told_by_json(quoted, &mut scratch.of_json)
 }
 
 /// The text that begins with the quote at a place, and the place behind its closing quote.

@@ -11,7 +11,8 @@ ghost use Rattle.json_tokens.specs.private.Lexemes.{may_begin_at, may_close_at};
 
 use super::escaped_text::escaped_at;
 use super::same_bytes::stands_at;
-use json::{Scratch, Token, is_number};
+use super::scratch::Scratch;
+use json::{Token, is_number};
 use std::simd::prelude::*;
 
 /// What may come next.

@@ -1,14 +1,22 @@
-//! The tokens of a JSON text (RFC 8259), read straight from its bytes; a text with escapes by `json`'s reader.
+//! The tokens of a JSON text (RFC 8259), read straight from its bytes; a text with surrogates by `json`'s reader. Also
+//! what number the text of one writes, and in which order keys came.
 #![tactic(auto)]
 
+mod escape;
 mod escaped_text;
 mod key;
+mod key_order;
 mod lexeme;
 mod line_text;
+mod number_text;
 mod same_bytes;
+mod scratch;
 mod token_reader;
 mod whole;
 
 pub use key::Key;
+pub use key_order::KeyOrder;
 pub use line_text::text_of_line;
+pub use number_text::{number_of_text, whole_of_digits};
+pub use scratch::Scratch;
 pub use token_reader::TokenReader;

@@ -12,8 +12,9 @@ use super::lexeme::{
     truth_at, value_end,
 };
 use super::same_bytes::stands_at;
+use super::scratch::Scratch;
 use super::whole::whole_value;
-use json::{Invalid, Scratch, Token};
+use json::{Invalid, Token};
 use std::marker::Model;
 
 /// Reads the tokens of a JSON text one by one (RFC 8259). A clause sees those that are still to come. Where a call

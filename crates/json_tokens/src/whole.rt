@@ -8,7 +8,7 @@ use super::lexeme::{Turn, value_end};
 
 /// What the digits at the front write, and how many they are; none where there are none, or more than 18.
 #[inline(always)]
-fn digits_of(bytes: &[u8]) -> Option<(u64, usize)>
+pub(crate) fn digits_of(bytes: &[u8]) -> Option<(u64, usize)>
     ensures writes { IfSome result (λ found. WritesWhole bytes.now found.1 found.0) }
     ensures some { IfSome result (λ found. 0 < found.1) }
 {

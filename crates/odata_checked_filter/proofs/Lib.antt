@@ -3,3 +3,4 @@ pub mod nesting
 pub mod canonical
 pub mod pre_orders
 pub mod explained
+pub mod needed

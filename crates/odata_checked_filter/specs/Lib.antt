@@ -1,9 +1,12 @@
+pub use Rattle.csdl_schema.specs.ExpansionView
 pub use Rattle.csdl_schema.specs.ExprType
+pub use Rattle.csdl_schema.specs.PathSet
 pub use Rattle.csdl_schema.specs.SchemaModel
 pub use Rattle.edm_values.specs.PlainVal
 pub use Rattle.edm_values.specs.Val
 pub use Rattle.odata_expression_types.specs.Considered
 pub use Rattle.odata_expression_types.specs.LiteralValue
+pub use Rattle.odata_expression_types.specs.NeededPaths
 pub use Rattle.odata_expression_types.specs.PreOrder
 pub use Rattle.odata_expression_types.specs.Reads
 pub use Rattle.odata_expression_types.specs.Typed

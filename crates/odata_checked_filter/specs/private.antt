@@ -5,3 +5,4 @@ pub mod ExplanationWalk
 pub mod KeptLists
 pub mod KindTexts
 pub mod LambdaLines
+pub mod NeededWalk

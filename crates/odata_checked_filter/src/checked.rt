@@ -5,10 +5,10 @@ ghost use Rattle.odata_syntax.specs.CanonicalText.{IsCanonicalText};
 ghost use Rattle.csdl_schema.specs.SchemaModel.{HoldsType};
 ghost use Rattle.odata_checked_filter.specs.Calls.{TakesMemory, UsesNow};
 ghost use Rattle.odata_checked_filter.specs.Explanation.{IsExplanation};
-ghost use Rattle.odata_checked_filter.specs.Filter.{IsFilter, IsTypeAt, tree_of_filter};
+ghost use Rattle.odata_checked_filter.specs.Filter.{IsFilter, IsTypeAt, filter_of, tree_of_filter};
 ghost use Rattle.odata_checked_filter.specs.LambdaDepth.{lambda_depth};
 ghost use Rattle.odata_checked_filter.specs.NameKinds.{IsSlotAt, level_at};
-ghost use Rattle.odata_checked_filter.specs.private.KeptLists.{list_in};
+ghost use Rattle.odata_checked_filter.specs.private.KeptLists.{expansion_in, list_in};
 ghost use Rattle.odata_expression_types.specs.PreOrder.{pre_order, span_of_tree};
 ghost use Rattle.odata_signatures.specs.TypeView.{expr_type};
 
@@ -19,7 +19,7 @@ use super::explanation::explanation_of;
 use super::kept_list::KeptList;
 use super::lambda_depth::deepest;
 use super::node_list::NodeList;
-use csdl_schema::{Schema, TypeId};
+use csdl_schema::{Expansion, Schema, TypeId};
 use edm_values::Value;
 use odata_expression_types::trees_have_one_type;
 use odata_signatures::{EdmType, calls_have_one_type};
@@ -45,28 +45,33 @@ impl<'s> Model for Checked<'s> {
 
     ghost coded = { Prim.hlevel (codes, checked_node.the_row.coded, value.the_row.coded) };
 
-    ghost use Rattle.odata_checked_filter.specs.Filter.{IsFilter};
-    ghost use Rattle.odata_checked_filter.specs.private.KeptLists.{list_in};
+    ghost use Rattle.odata_checked_filter.specs.Filter.{IsFilter, filter_of};
+    ghost use Rattle.odata_checked_filter.specs.private.KeptLists.{expansion_in, list_in};
 
-    ghost view = { λ c. record { schema = c.schema.now; filtered = c.filtered_type; list = list_in c.list } };
+    ghost view = { λ c. filter_of c.schema.now c.filtered_type (list_in c.list) (expansion_in c.list) };
 
-    ghost invariant = { λ c. IsFilter
-        (record { schema = c.schema.now; filtered = c.filtered_type; list = list_in c.list }) };
+    ghost invariant = { λ c.
+        IsFilter (filter_of c.schema.now c.filtered_type (list_in c.list) (expansion_in c.list)) };
 }
 
 impl<'s> Checked<'s> {
-    /// The filter of a list that stands for a tree of type Boolean or Null.
-    pub fn new(schema: &'s Schema, filtered_type: TypeId, list: NodeList) -> Checked<'s>
-        requires { IsFilter (record { schema = schema.now; filtered = filtered_type; list = list }) }
-        ensures { result ≡ record { schema = schema.entry.now; filtered = filtered_type; list = list } }
+    /// The filter of a list that stands for a tree of type Boolean or Null, with what that needs of navigation.
+    pub fn new(
+        schema: &'s Schema,
+        filtered_type: TypeId,
+        list: NodeList,
+        expansion: Expansion,
+    ) -> Checked<'s>
+        requires { IsFilter (filter_of schema.now filtered_type list expansion) }
+        ensures { result ≡ filter_of schema.entry.now filtered_type list expansion }
     {
-        Checked::of(schema, filtered_type, KeptList::Own(list))
+        Checked::of(schema, filtered_type, KeptList::Own(list, expansion))
     }
 
     /// The same, wherever the list is kept.
     pub(crate) fn of(schema: &'s Schema, filtered_type: TypeId, list: KeptList<'s>) -> Checked<'s>
-        requires { IsFilter (record { schema = schema.now; filtered = filtered_type; list = list_in list }) }
-        ensures { result ≡ record { schema = schema.entry.now; filtered = filtered_type; list = list_in list.entry } }
+        requires { IsFilter (filter_of schema.now filtered_type (list_in list) (expansion_in list)) }
+        ensures { result ≡ filter_of schema.entry.now filtered_type (list_in list.entry) (expansion_in list.entry) }
     {
         Checked {
             schema,
@@ -88,6 +93,14 @@ impl<'s> Checked<'s> {
         ensures held { HoldsType self.now.schema result }
     {
         self.filtered_type
+    }
+
+    /// The paths of its nodes that end with a navigation property: what a row must have expanded.
+    pub fn expansion(&self) -> &Expansion
+        ensures same { result.now ≡ self.now.expansion }
+        ensures right { IsFilter self.now }
+    {
+        self.list.expansion()
     }
 
     /// The nodes of the tree in pre-order, each with its kind, its span, its type and where it stops.

@@ -1,14 +1,15 @@
-//! Where a filter has its list.
+//! Where a filter has its list, and what it needs of navigation.
 ghost use Rattle.std.specs.Prelude.{◌≡◌};
-ghost use Rattle.odata_checked_filter.specs.private.KeptLists.{list_in};
+ghost use Rattle.odata_checked_filter.specs.private.KeptLists.{expansion_in, list_in};
 
 use super::node_list::NodeList;
+use csdl_schema::Expansion;
 
-/// The list of a filter: its own, or one that is kept elsewhere.
+/// The list and the expansion of a filter: its own, or those that are kept elsewhere.
 #[derive(Drop)]
 pub(crate) enum KeptList<'s> {
-    Own(NodeList),
-    Lent(&'s NodeList),
+    Own(NodeList, Expansion),
+    Lent(&'s NodeList, &'s Expansion),
 }
 
 impl KeptList<'_> {
@@ -17,8 +18,18 @@ impl KeptList<'_> {
         ensures { result.now ≡ list_in self.now }
     {
         match self {
-            KeptList::Own(list) => list,
-            KeptList::Lent(list) => *list,
+            KeptList::Own(list, _) => list,
+            KeptList::Lent(list, _) => *list,
+        }
+    }
+
+    /// The expansion.
+    pub(crate) fn expansion(&self) -> &Expansion
+        ensures { result.now ≡ expansion_in self.now }
+    {
+        match self {
+            KeptList::Own(_, expansion) => expansion,
+            KeptList::Lent(_, expansion) => *expansion,
         }
     }
 }

@@ -12,6 +12,7 @@ mod kind_levels;
 mod kind_words;
 mod lambda_depth;
 mod laws;
+mod needed_paths;
 mod node_list;
 mod stored_filter;
 
@@ -21,5 +22,6 @@ pub use laws::{
     a_list_is_read_as_its_tree, a_list_stands_for_one_tree, nodes_stand_where_they_are_put,
     numbers_have_one_type_and_slot,
 };
+pub use needed_paths::expansion_of;
 pub use node_list::NodeList;
 pub use stored_filter::StoredFilter;

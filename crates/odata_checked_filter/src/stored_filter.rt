@@ -4,7 +4,7 @@ ghost use Rattle.odata_checked_filter.specs.Filter.{IsFilter, filter_in};
 use super::checked::Checked;
 use super::kept_list::KeptList;
 use super::node_list::NodeList;
-use csdl_schema::{Schema, TypeId};
+use csdl_schema::{Expansion, Schema, TypeId};
 use std::marker::Model;
 
 /// A filter apart from its schema. Who keeps both, each for as long as the other, puts them together to ask something of
@@ -13,6 +13,7 @@ use std::marker::Model;
 pub struct StoredFilter {
     filtered_type: TypeId,
     list: NodeList,
+    expansion: Expansion,
 }
 
 impl Model for StoredFilter {
@@ -25,17 +26,18 @@ impl Model for StoredFilter {
 
     ghost coded = { Prim.hlevel (codes, checked_node.the_row.coded, value.the_row.coded) };
 
-    ghost view = { λ s. record { filtered = s.filtered_type; list = s.list } };
+    ghost view = { λ s. record { filtered = s.filtered_type; list = s.list; expansion = s.expansion } };
 }
 
 impl StoredFilter {
     /// What is kept of a filter of that type.
-    pub fn new(filtered_type: TypeId, list: NodeList) -> StoredFilter
-        ensures { result ≡ record { filtered = filtered_type; list = list } }
+    pub fn new(filtered_type: TypeId, list: NodeList, expansion: Expansion) -> StoredFilter
+        ensures { result ≡ record { filtered = filtered_type; list = list; expansion = expansion } }
     {
         StoredFilter {
             filtered_type,
             list,
+            expansion,
         }
     }
 
@@ -44,6 +46,10 @@ impl StoredFilter {
         requires { IsFilter (filter_in schema.now self.now) }
         ensures { result ≡ filter_in schema.entry.now self.entry.now }
     {
-        Checked::of(schema, self.filtered_type, KeptList::Lent(&self.list))
+        Checked::of(
+            schema,
+            self.filtered_type,
+            KeptList::Lent(&self.list, &self.expansion),
+        )
     }
 }

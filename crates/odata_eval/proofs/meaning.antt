@@ -1,6 +1,7 @@
 -- What a tree comes to: at most one outcome, and one where it has a type.
 pub mod AllTrees
 pub mod ArgumentForms
+pub mod AtPaths
 pub mod CallEnds
 pub mod CallLaws
 pub mod CompareEnds
@@ -24,6 +25,7 @@ pub mod OneMeaning
 pub mod OneOutcome
 pub mod OneStep
 pub mod Progress
+pub mod ProgressAtPaths
 pub mod Reads
 pub mod SameForms
 pub mod SameGives

@@ -1,4 +1,6 @@
+pub use Rattle.csdl_schema.specs.ExpansionView
 pub use Rattle.csdl_schema.specs.ExprType
+pub use Rattle.csdl_schema.specs.PathSet
 pub use Rattle.csdl_schema.specs.SchemaModel
 pub use Rattle.edm_entities.specs.HasType
 pub use Rattle.edm_entities.specs.Row
@@ -23,6 +25,7 @@ pub use Rattle.odata_signatures.specs.Functions
 pub use Rattle.odata_signatures.specs.OperatorClass
 pub use Rattle.odata_signatures.specs.OperatorTyped
 pub use Rattle.odata_checked_filter.specs.Stands
+pub use Rattle.odata_expression_types.specs.NeededPaths
 pub use Rattle.odata_expression_types.specs.Reads
 pub use Rattle.odata_expression_types.specs.Sides
 pub use Rattle.odata_expression_types.specs.Typed
@@ -34,6 +37,7 @@ pub mod ComesTo
 pub mod ComesToMembers
 pub mod CompareGives
 pub mod EndsOnce
+pub mod EndsOnceAtPaths
 pub mod Environment
 pub mod FunctionGives
 pub mod HasGives
@@ -50,6 +54,7 @@ pub mod QuantifierGives
 pub mod ReadGives
 pub mod SameMeaning
 pub mod TruthGives
+pub mod TypesAtPaths
 pub mod UnreadMeans
 pub mod VerdictView
 pub mod private

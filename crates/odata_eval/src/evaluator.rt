@@ -4,6 +4,8 @@ ghost use Rattle.odata_eval.specs.MeansOn.{MeansOn, IsTheOutcome};
 ghost use Rattle.odata_eval.specs.VerdictView.{told_outcome, verdict_val};
 ghost use Rattle.odata_eval.specs.TruthGives.{truth_val};
 ghost use Rattle.odata_checked_filter.specs.Calls.{TakesMemory};
+ghost use Rattle.csdl_schema.specs.ExpansionView.{paths_in};
+ghost use Rattle.csdl_schema.specs.PathSet.{Covers};
 ghost use Rattle.odata_checked_filter.specs.Filter.{tree_of_filter};
 
 use super::fault::EvalFault;
@@ -36,6 +38,7 @@ pub fn evaluate(
 ) -> Result<Verdict, EvalFault>
     requires one_schema { checked.now.schema ≡ entity.now.schema }
     requires one_type { checked.now.filtered ≡ entity.now.type_id }
+    requires covers { Covers (paths_in entity.now.expansion) (paths_in checked.now.expansion) }
     ensures outcome { IfSome (told_outcome result)
         (IsTheOutcome entity.now now.now (tree_of_filter checked.now)) }
     ensures no_memory { ¬ TakesMemory (tree_of_filter checked.now) → result ≢ Err EvalFault.Memory }

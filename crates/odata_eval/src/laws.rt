@@ -6,6 +6,7 @@ ghost use Rattle.odata_syntax.specs.Tree.{Tree, any_item, count, in_list, in_pat
 ghost use Rattle.odata_syntax.specs.declared.node.Quantifier.{Quantifier};
 ghost use Rattle.odata_syntax.specs.declared.node.Quantifier.TheVariants.{All, Any};
 ghost use Rattle.odata_eval.specs.EndsOnce.{EndsOnceOnEntities, TypedEndsOnce};
+ghost use Rattle.odata_eval.specs.EndsOnceAtPaths.{TypedEndsOnceAtPaths};
 ghost use Rattle.csdl_schema.specs.SchemaModel.{Slots};
 ghost use Rattle.odata_eval.specs.ComesTo.{ComesTo, ComesToIn, false_and_missing, item_value};
 ghost use Rattle.odata_eval.specs.ComesToMembers.{ComesToOn, all_alike, is_null, named, null_literal, one_div_zero};
@@ -29,10 +30,12 @@ use odata_signatures::{
 use odata_syntax::{canonical_texts_read_back, one_tree};
 use odata_text::one_list_of_any_length;
 
-/// A law: an expression that has a type has exactly one outcome on every value of the filtered type, at every moment and
-/// whatever the range variables around it hold: a value of its type, or the fault of an arithmetic operator.
-pub fn typed_trees_end_once()
-    ensures { TypedEndsOnce }
+/// A law: an expression that has a type has exactly one outcome on every value of the filtered type in which all is
+/// expanded that it needs, at every moment and whatever the range variables around it hold, each a value of its type at
+/// a path: a value of its type at its path, or the fault of an arithmetic operator. Nothing is asked of what is not
+/// needed.
+pub fn typed_trees_end_once_at_paths()
+    ensures { TypedEndsOnceAtPaths }
 {
     literals_have_one_value();
     trees_have_one_type();
@@ -47,6 +50,13 @@ pub fn typed_trees_end_once()
     quoted_texts_have_one_number();
     quoting_trees_are_texts();
     unread_operands_go_by_types();
+}
+
+/// A law: so it has apart from paths, where each value is of its type whatever is needed in it.
+pub fn typed_trees_end_once()
+    ensures { TypedEndsOnce }
+{
+    typed_trees_end_once_at_paths();
 }
 
 /// A law: so it has on every entity of that type.

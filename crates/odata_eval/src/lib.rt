@@ -22,6 +22,7 @@ pub use evaluator::evaluate;
 pub use fault::EvalFault;
 pub use laws::{
     canonical_texts_keep_outcomes, first_run_comes_to, members_come_to, one_by_one,
-    typed_trees_end_once, typed_trees_end_once_on_entities, unread_operands_stand_alone,
+    typed_trees_end_once, typed_trees_end_once_at_paths, typed_trees_end_once_on_entities,
+    unread_operands_stand_alone,
 };
 pub use verdict::Verdict;

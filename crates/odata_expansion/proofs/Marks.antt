@@ -3,9 +3,9 @@ use Rattle.std.proofs.Common.{◌≡◌, ◌⊎◌, ℕ, zero, suc, ◌+◌, ◌
 use Rattle.std.proofs.lemmas.Cmp.{nat_list_eq_equiv}
 use Rattle.std.proofs.lemmas.List.{length-append, map_push}
 use Rattle.odata_expansion.specs.PathSet.{PropertyPath, is_path, with_path}
-use Rattle.odata_expansion.specs.ExpansionView.{StepModel, goes_on, next_from, next_node, is_needed_step, is_needed_at, paths_at, paths_in}
+use Rattle.odata_expansion.specs.ExpansionView.{StepModel, goes_on, next_from, next_node, is_needed_step, is_needed_at, paths_at, paths_in, LeadsTo, KeepsPaths, node_at}
 use Rattle.odata_expansion.specs.declared.steps.Step.{Step}
-use Rattle.odata_expansion.specs.private.StepView.{AreSteps, LeadsTo, IsStep, KeepsPaths, mark_step, marked, node_at, step_model}
+use Rattle.odata_expansion.specs.private.StepView.{AreSteps, IsStep, mark_step, marked, step_model}
 use Rattle.odata_expansion.proofs.Nodes.{same_truth, path_decides, found_at, within_list, next_within, needed_if, paths_by_node, one_path}
 
 -- ---- truth values
@@ -278,6 +278,11 @@ pub mark_set : (xs : List Step) (i : ℕ) (step : Step) → i < length xs → st
 mark_set [] i step within is = absurd (omega arith)
 mark_set (x ∷ xs) zero step within is = ap (λ (s : Step). record { before = s.before; name = string_bytes s.name; needed = true } ∷ map step_model xs) is
 mark_set (x ∷ xs) (suc i) step within is = ap (λ steps. step_model x ∷ steps) (mark_set xs i step (omega arith) is)
+
+-- a mark leads nowhere else
+pub marked_leads : (node : ℕ) (steps : List StepModel) (path : PropertyPath) (other : ℕ) → LeadsTo steps path other → LeadsTo (marked node steps) path other
+marked_leads zero steps path other leads = leads
+marked_leads (suc i) steps path other leads = node_at-marked i steps (Some 0) path ∙ leads
 
 pub marked_at : (node : ℕ) (steps : List StepModel) → 0 < node → mark_step (node - 1) steps ≡ marked node steps
 marked_at zero steps some = absurd (omega arith)

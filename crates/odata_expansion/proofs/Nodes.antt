@@ -3,9 +3,9 @@ use Rattle.std.proofs.Common.{◌≡◌, ℕ, zero, suc, ◌+◌, ◌-◌, ◌<�
 use Rattle.std.proofs.lemmas.Option.{slice_get-map, slice_get_read}
 use Rattle.std.specs.Cmp.Lexicographic.{pointwise, bytes_decides, pointwise_decides}
 use Rattle.odata_expansion.specs.PathSet.{PropertyPath, Covers, is_path}
-use Rattle.odata_expansion.specs.ExpansionView.{StepModel, goes_on, next_from, next_node, is_needed_step, is_needed_at, paths_at, paths_in}
+use Rattle.odata_expansion.specs.ExpansionView.{StepModel, goes_on, next_from, next_node, is_needed_step, is_needed_at, paths_at, paths_in, LeadsTo, node_at}
 use Rattle.odata_expansion.specs.declared.steps.Step.{Step}
-use Rattle.odata_expansion.specs.private.StepView.{AreSteps, LeadsTo, LeadsBack, node_at, onto, step_model}
+use Rattle.odata_expansion.specs.private.StepView.{AreSteps, LeadsBack, onto, step_model}
 
 -- ---- truth values
 
@@ -251,3 +251,14 @@ truth_of false some = absurd (some refl)
 pub leads_on : (steps : List StepModel) (path : PropertyPath) (node : ℕ) (name : List ℕ) (next : ℕ) → LeadsTo steps path node → next_node steps node name ≡ Some next
     → LeadsTo steps (path ++ name ∷ []) next
 leads_on steps path node name next leads is = node_at-step steps (Some 0) path name node leads ∙ is
+
+-- a path leads to a node within the steps
+pub leads_within : (steps : List StepModel) (o : Option ℕ) (path : PropertyPath) (node : ℕ) → ((start : ℕ) → o ≡ Some start → start ≤ length steps)
+    → node_at steps o path ≡ Some node → node ≤ length steps
+leads_within steps None path node within leads = absurd (cc)
+leads_within steps (Some start) [] node within leads = let same : start ≡ node = cc in subst (λ n. n ≤ length steps) same (within start refl)
+leads_within steps (Some start) (name ∷ path) node within leads =
+    leads_within steps (next_node steps start name) path node (λ next is. next_within steps start name next is) leads
+
+pub reached_within : (steps : List StepModel) (path : PropertyPath) (node : ℕ) → LeadsTo steps path node → node ≤ length steps
+reached_within steps path node leads = leads_within steps (Some 0) path node (λ start is. let same : 0 ≡ start = cc in subst (λ n. n ≤ length steps) same (omega arith)) leads

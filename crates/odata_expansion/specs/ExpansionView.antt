@@ -1,7 +1,7 @@
--- What an expansion stands for: a set of property paths.
-use Rattle.std.specs.Prelude.{ℕ, zero, suc, List, [], ◌∷◌, ◌&&◌, Bool, false, Option, Some, None, if◌then◌else◌, nat_eq, slice_get}
+-- What an expansion stands for: a set of property paths, whose steps lead from node to node.
+use Rattle.std.specs.Prelude.{◌≡◌, ℕ, zero, suc, List, [], ◌∷◌, ◌&&◌, Bool, false, Option, Some, None, if◌then◌else◌, nat_eq, slice_get}
 use Rattle.std.specs.Cmp.Lexicographic.{pointwise}
-use Rattle.odata_expansion.specs.PathSet.{PathSet}
+use Rattle.odata_expansion.specs.PathSet.{PathSet, PropertyPath}
 
 -- a step to a property from a node; `needed`, if the path that ends with it is in the set. Node 0 is the start, and the
 -- step at an index leads to the node with the next number
@@ -40,3 +40,22 @@ paths_at steps (Some node) (name ∷ path) = paths_at steps (next_node steps nod
 -- the paths of the set
 abbrev pub paths_in : List StepModel → PathSet
 paths_in steps = paths_at steps (Some 0)
+
+-- the node to which a path leads from a node
+abbrev pub node_at : List StepModel → Option ℕ → PropertyPath → Option ℕ
+node_at steps None path = None
+node_at steps (Some node) [] = Some node
+node_at steps (Some node) (name ∷ path) = node_at steps (next_node steps node name) path
+
+-- the path leads to the node
+abbrev pub LeadsTo : List StepModel → PropertyPath → ℕ → Type 0
+LeadsTo steps path node = node_at steps (Some 0) path ≡ Some node
+
+-- it is the node to which some path leads
+abbrev pub IsReached : List StepModel → ℕ → Type 0
+IsReached steps node = (path : PropertyPath) × LeadsTo steps path node
+
+-- the set of paths is the same, and what led to a node leads there still
+pub record KeepsPaths (old new : List StepModel) : Type 0 where
+  pub same : (path : PropertyPath) → paths_in new path ≡ paths_in old path
+  pub leads : (path : PropertyPath) (node : ℕ) → LeadsTo old path node → LeadsTo new path node

@@ -1,7 +1,7 @@
-ghost use Rattle.std.specs.Prelude.{◌≡◌, ◌≤◌, ◌↔◌, false, length, map, IfOk, IsTrue, OnErr, OnOk};
+ghost use Rattle.std.specs.Prelude.{◌≡◌, ◌≤◌, ◌↔◌, ◌++◌, ◌∷◌, [], ℕ, false, length, map, IfOk, IsTrue, OnErr, OnOk};
 ghost use Rattle.odata_expansion.specs.PathSet.{PropertyPath, Covers, with_path};
-ghost use Rattle.odata_expansion.specs.ExpansionView.{is_needed_at, next_node, paths_in};
-ghost use Rattle.odata_expansion.specs.private.StepView.{IsStep, KeepsPaths, marked};
+ghost use Rattle.odata_expansion.specs.ExpansionView.{is_needed_at, next_node, paths_in, IsReached, KeepsPaths, LeadsTo};
+ghost use Rattle.odata_expansion.specs.private.StepView.{marked};
 
 use super::steps::{Step, copy_steps, covers, is_marked, next_of};
 use std::alloc::{AllocError, Global};
@@ -98,9 +98,10 @@ impl Expansion {
     }
 
     /// The node to which a step of that name leads, which is put there where there is none. The set stays as it is.
-    fn step_on(&mut self, node: usize, name: &str) -> Result<usize, AllocError>
-        requires { node ≤ length self.old }
-        ensures step { IfOk result (λ next. IsStep self.new node name.now next) }
+    pub fn step_on(&mut self, node: usize, name: &str) -> Result<usize, AllocError>
+        requires { IsReached self.old node }
+        ensures leads { IfOk result (λ next. (path : PropertyPath)
+            → LeadsTo self.old path node → LeadsTo self.new (path ++ name.now ∷ []) next) }
         ensures kept { KeepsPaths self.old self.new }
     {
         if let Some(next) = self.next_node(node, name) {
@@ -116,7 +117,17 @@ impl Expansion {
     }
 
     /// Puts the path to a node into the set; that to the start is in none.
-    fn mark(&mut self, node: usize)
+    pub fn mark(&mut self, node: usize)
+        requires { IsReached self.old node }
+        ensures added { (path asked : PropertyPath) → LeadsTo self.old path node
+            → paths_in self.new asked ≡ with_path (paths_in self.old) path asked }
+        ensures leads { (path : PropertyPath) (other : ℕ)
+            → LeadsTo self.old path other → LeadsTo self.new path other }
+    {
+        self.set_flag(node);
+    }
+
+    fn set_flag(&mut self, node: usize)
         requires { node ≤ length self.old }
         ensures { self.new ≡ marked node self.old }
     {

@@ -2,8 +2,8 @@
 //! node with the next number.
 ghost use Rattle.std.specs.Prelude.{◌≡◌, ◌↔◌, [], Some, true, false, map, IfOk, IsTrue};
 ghost use Rattle.odata_expansion.specs.PathSet.{PropertyPath, Covers};
-ghost use Rattle.odata_expansion.specs.ExpansionView.{goes_on, is_needed_at, next_node, paths_in};
-ghost use Rattle.odata_expansion.specs.private.StepView.{AreSteps, LeadsBack, node_at, onto, step_model};
+ghost use Rattle.odata_expansion.specs.ExpansionView.{goes_on, is_needed_at, next_node, paths_in, node_at};
+ghost use Rattle.odata_expansion.specs.private.StepView.{AreSteps, LeadsBack, onto, step_model};
 
 use std::alloc::{AllocError, Global};
 

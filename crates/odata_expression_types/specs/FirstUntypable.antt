@@ -1,5 +1,5 @@
 -- Where and why a tree is no filter (OData URL Conventions 4.01, section 5.1.1).
-use Rattle.std.specs.Prelude.{◌≡◌, ◌⊎◌, ℕ, ◌≤◌, List, [], MatchOption}
+use Rattle.std.specs.Prelude.{◌≡◌, ◌⊎◌, ℕ, ◌≤◌, List, [], None, Some, MatchOption}
 use Rattle.odata_syntax.specs.Tree.{Tree, node, literal, it, name, member, count, binary, has, in_list, in_path, call, any_item, lambda, start_of, stop_of}
 use Rattle.odata_syntax.specs.declared.node.LiteralKind.{LiteralKind}
 use Rattle.csdl_schema.specs.ExprType.{ExprType, single, collection, structured}
@@ -20,7 +20,8 @@ use Rattle.odata_expression_types.specs.Typed.{AreTyped, Scope, Typed, IsUntyped
 abbrev pub PropertyReason : PropertyType → TypeFaultCode → Type 0
 PropertyReason (declared type) code = ⊥
 PropertyReason opaque code = code ≡ TypeFaultCode.TypeLeftOut
-PropertyReason (navigation target) code = code ≡ TypeFaultCode.Navigation
+PropertyReason (navigation None) code = code ≡ TypeFaultCode.TypeLeftOut
+PropertyReason (navigation (Some type)) code = ⊥
 
 -- why a name has no type
 abbrev pub NameReason : List PropertyModel → List ℕ → TypeFaultCode → Type 0

@@ -1,5 +1,7 @@
 pub use Rattle.csdl_schema.specs.EnumerationText
+pub use Rattle.csdl_schema.specs.ExpansionView
 pub use Rattle.csdl_schema.specs.ExprType
+pub use Rattle.csdl_schema.specs.PathSet
 pub use Rattle.csdl_schema.specs.SchemaModel
 pub use Rattle.edm_values.specs.Civil
 pub use Rattle.edm_values.specs.DateLiteral
@@ -41,4 +43,5 @@ pub mod PreOrder
 pub mod SameTypes
 pub mod Sides
 pub mod Reads
+pub mod NeededPaths
 pub mod Laws

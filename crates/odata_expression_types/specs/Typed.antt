@@ -1,11 +1,11 @@
 -- Which type an expression has (OData URL Conventions 4.01, sections 4.8, 5.1.1.1, 5.1.1.2, 5.1.1.13 to 5.1.1.15 and
 -- 5.1.1.18).
-use Rattle.std.specs.Prelude.{◌≡◌, ℕ, List, [], ◌∷◌, Option, None, IsSomeAnd, MatchOption, find, nat_eq}
+use Rattle.std.specs.Prelude.{◌≡◌, ℕ, List, [], ◌∷◌, Option, None, Some, IsSomeAnd, MatchOption, find, nat_eq}
 use Rattle.std.specs.Option.{option_map}
 use Rattle.std.specs.Cmp.Lexicographic.{pointwise}
 use Rattle.odata_syntax.specs.Tree.{Tree, Trees, node, literal, it, name, member, count, negation, logical_not, binary, has, in_list, in_path, call, any_item, lambda, more_trees, no_trees}
 use Rattle.csdl_schema.specs.ExprType.{SingleType, ExprType, single, collection, structured}
-use Rattle.csdl_schema.specs.SchemaModel.{PropertyModel, Slots, declared}
+use Rattle.csdl_schema.specs.SchemaModel.{PropertyModel, PropertyType, Slots, declared, opaque, navigation}
 use Rattle.odata_expression_types.specs.LiteralValue.{LiteralTyped}
 use Rattle.odata_expression_types.specs.Sides.{BeforeList, Between}
 use Rattle.odata_signatures.specs.CallTyped.{CallTyped}
@@ -35,9 +35,17 @@ variable_type scope asked = option_map (λ v. v.type_of) (find (λ v. pointwise 
 abbrev pub property_named : List PropertyModel → List ℕ → Option PropertyModel
 property_named properties asked = find (λ p. pointwise nat_eq asked p.name) properties
 
--- a property of that name has the type; one that is opaque or navigates has none
+-- the type of a property where an expression names it: its own, or the target's, or the collection of that, to which it
+-- navigates (section 5.1.1.15); one that is opaque or navigates to no target has none
+abbrev pub named_type : PropertyType → Option ExprType
+named_type (declared type) = Some type
+named_type opaque = None
+named_type (navigation target) = target
+
+-- a property of that name has the type
 abbrev pub PropertyTyped : List PropertyModel → List ℕ → ExprType → Type 0
-PropertyTyped properties asked type = IsSomeAnd (property_named properties asked) (λ p. p.type_of ≡ declared type)
+PropertyTyped properties asked type =
+    IsSomeAnd (property_named properties asked) (λ p. named_type p.type_of ≡ Some type)
 
 -- a name is a variable in scope, or else a property of the filtered type
 abbrev pub NameTyped : Slots → List ℕ → Scope → List ℕ → ExprType → Type 0

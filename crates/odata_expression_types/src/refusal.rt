@@ -35,15 +35,12 @@ pub enum TypeFaultCode {
     /// An enumeration literal without a value.
     #[error("UnknownEnum")]
     UnknownEnum,
-    /// A property of a type that this profile leaves out.
+    /// A property of a type that this profile leaves out, or a navigation property that leads to no entity type.
     #[error("TypeLeftOut")]
     TypeLeftOut,
     /// A whole filter that is neither Boolean nor null.
     #[error("NotBoolean")]
     NotBoolean,
-    /// A navigation property.
-    #[error("Navigation")]
-    Navigation,
 }
 
 /// The first node that has no type, by its span, and why. For `NotBoolean` the span is the whole text.

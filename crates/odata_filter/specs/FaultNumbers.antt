@@ -1,5 +1,5 @@
 -- The numbers and names of faults, for callers that have no enums. Names are those by which the faults are shown.
-use Rattle.std.specs.Prelude.{ℕ, zero, suc, List, [], ◌∷◌, Option, Some, None, codes, slice_get}
+use Rattle.std.specs.Prelude.{ℕ, zero, suc, List, [], ◌∷◌, Option, Some, None, codes, slice_get, option_and_then}
 use Rattle.std.specs.Option.{option_map}
 use Rattle.csdl_declarations.specs.declared.fault.SchemaFault.{SchemaFault}
 use Rattle.odata_text.specs.declared.query_fault.QueryFault.{QueryFault}
@@ -64,7 +64,6 @@ type_number TypeFaultCode.LiteralRange = 9
 type_number TypeFaultCode.UnknownEnum = 10
 type_number TypeFaultCode.TypeLeftOut = 11
 type_number TypeFaultCode.NotBoolean = 12
-type_number TypeFaultCode.Navigation = 13
 
 -- why a row is no entity of its type
 abbrev pub row_number : RowFault → ℕ
@@ -75,6 +74,7 @@ row_number (RowFault.NullNotAllowed path) = 4
 row_number (RowFault.OutOfRange path) = 5
 row_number (RowFault.BadText path) = 6
 row_number RowFault.Memory = 7
+row_number (RowFault.NotExpanded path) = 8
 
 -- why a filter has no value
 abbrev pub evaluation_number : EvalFault → ℕ
@@ -82,7 +82,8 @@ evaluation_number EvalFault.Overflow = 1
 evaluation_number EvalFault.DivideByZero = 2
 evaluation_number EvalFault.Memory = 3
 
--- the names of a kind's faults in the order of their numbers; want of memory has none
+-- the names of a kind's faults in the order of their numbers; want of memory has none, or the empty one where others
+-- follow
 abbrev pub names_of : FaultKind → List (List ℕ)
 names_of FaultKind.Schema =
     codes "NotJson" ∷ codes "NotObject" ∷ codes "Version" ∷ codes "BadType" ∷ codes "BadProperty"
@@ -95,16 +96,20 @@ names_of FaultKind.Syntax = codes "Unexpected" ∷ codes "TooDeep" ∷ []
 names_of FaultKind.Typing =
     codes "UnknownProperty" ∷ codes "UnknownFunction" ∷ codes "ArgumentCount" ∷ codes "ArgumentType"
     ∷ codes "OperandTypes" ∷ codes "NotCollection" ∷ codes "VariableTaken" ∷ codes "BodyNotBoolean"
-    ∷ codes "LiteralRange" ∷ codes "UnknownEnum" ∷ codes "TypeLeftOut" ∷ codes "NotBoolean" ∷ codes "Navigation" ∷ []
+    ∷ codes "LiteralRange" ∷ codes "UnknownEnum" ∷ codes "TypeLeftOut" ∷ codes "NotBoolean" ∷ []
 names_of FaultKind.Row =
     codes "NotObject" ∷ codes "Missing" ∷ codes "WrongKind" ∷ codes "NullNotAllowed" ∷ codes "OutOfRange"
-    ∷ codes "BadText" ∷ []
+    ∷ codes "BadText" ∷ [] ∷ codes "NotExpanded" ∷ []
 names_of FaultKind.Evaluation = codes "Overflow" ∷ codes "DivideByZero" ∷ []
+
+abbrev pub unless_empty : List ℕ → Option (List ℕ)
+unless_empty [] = None
+unless_empty (letter ∷ letters) = Some (letter ∷ letters)
 
 -- the name of a number, counted from 1
 abbrev pub name_at : List (List ℕ) → ℕ → Option (List ℕ)
 name_at names zero = None
-name_at names (suc place) = slice_get names place
+name_at names (suc place) = option_and_then unless_empty (slice_get names place)
 
 -- where in its text a filter is refused
 abbrev pub span_told : Refusal → Option Span

@@ -4,13 +4,15 @@ use Rattle.std.specs.Prelude.{◌≡◌, ◌≢◌, ◌⊎◌, ◌↔◌, ◌≤
 use Rattle.serde_json.specs.Data.{Data}
 use Rattle.edm_values.specs.MomentParts.{IsMoment, MomentParts}
 use Rattle.edm_values.specs.Val.{Val, null, boolean}
+use Rattle.csdl_schema.specs.ExpansionView.{paths_in}
 use Rattle.csdl_schema.specs.JsonText.{IsJsonOf}
+use Rattle.csdl_schema.specs.PathSet.{Covers}
 use Rattle.csdl_schema.specs.SchemaModel.{Slots, slots_of, type_name_at}
 use Rattle.edm_entities.specs.Fits.{Fits}
 use Rattle.edm_entities.specs.Row.{Row, IsEntity, value_of}
 use Rattle.odata_expression_types.specs.HasTyping.{HasTyping, HasNoTyping, IsRefusal}
 use Rattle.odata_expression_types.specs.declared.refusal.Refusal.{Refusal}
-use Rattle.odata_checked_filter.specs.Filter.{Filter, tree_of_filter}
+use Rattle.odata_checked_filter.specs.Filter.{Filter, HasNeededPaths, slots_for_filter, tree_of_filter}
 use Rattle.odata_eval.specs.MeansOn.{IsTheOutcome}
 use Rattle.odata_eval.specs.Outcome.{Outcome, gives, overflow, divides_by_zero}
 use Rattle.odata_eval.specs.VerdictView.{told_outcome}
@@ -30,20 +32,22 @@ use Rattle.odata_filter.specs.declared.bad_row.BadRow.{BadRow}
 use Rattle.odata_filter.specs.declared.run_fault.RunFault.{RunFault}
 
 -- what `check` says of the filter that it answers for a text
-abbrev pub IsCheckedOf : List ℕ → Filter → Type 0
-IsCheckedOf text filter =
-    HasTyping (slots_of filter.schema) (type_name_at filter.schema filter.filtered) text (tree_of_filter filter)
+pub record IsCheckedOf (text : List ℕ) (filter : Filter) : Type 0 where
+  pub typing :
+      HasTyping (slots_of filter.schema) (type_name_at filter.schema filter.filtered) text (tree_of_filter filter)
+  pub expands : HasNeededPaths filter.schema filter.filtered filter.list filter.expansion
 
--- some JSON fits the value as an entity of the filter's type
+-- some JSON fits the value as an entity of the filter's type, expanded for the filter
 abbrev pub ConformsTo : Filter → Val → Type 0
 ConformsTo filter value =
-    (json : Data) × Fits (slots_of filter.schema) (type_name_at filter.schema filter.filtered) json value
+    (json : Data) × Fits (slots_for_filter filter) (type_name_at filter.schema filter.filtered) json value
 
--- an entity of the filter's schema and type
+-- an entity of the filter's schema and type, in which all is expanded that the filter needs
 pub record IsEntityFor (filter : Filter) (row : Row) : Type 0 where
   pub entity : IsEntity row
   pub one_schema : filter.schema ≡ row.schema
   pub one_type : filter.filtered ≡ row.type_id
+  pub covers : Covers (paths_in row.expansion) (paths_in filter.expansion)
 
 -- true, false or null, or the fault of an arithmetic operator: overflow or division by zero
 abbrev pub IsTruthOrFault : Outcome → Type 0
@@ -82,7 +86,7 @@ pub record IsTrueRow (filter : Filter) (now : MomentParts) (line : List ℕ) : T
   pub json : Data
   pub is_json : IsJsonOf line json
   pub value : Val
-  pub fits : Fits (slots_of filter.schema) (type_name_at filter.schema filter.filtered) json value
+  pub fits : Fits (slots_for_filter filter) (type_name_at filter.schema filter.filtered) json value
   pub is_true : FilterMeans filter now value (gives (boolean true))
 
 -- a line is kept exactly where it is such a row

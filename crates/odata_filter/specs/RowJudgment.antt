@@ -15,7 +15,7 @@ use Rattle.edm_entities.specs.RowFaults.{IsRowFault}
 use Rattle.odata_eval.specs.Means.{Means}
 use Rattle.odata_eval.specs.Outcome.{Outcome, gives}
 use Rattle.odata_eval.specs.VerdictView.{fault_outcome}
-use Rattle.odata_checked_filter.specs.Filter.{Filter, tree_of_filter}
+use Rattle.odata_checked_filter.specs.Filter.{Filter, slots_for_filter, tree_of_filter}
 
 -- what a filter comes to on a value of its type
 abbrev pub FilterMeans : Filter → MomentParts → Val → Outcome → Type 0
@@ -25,7 +25,7 @@ FilterMeans filter now value =
 -- the JSON fits a value, and on that value the filter has this outcome and no other
 pub record HasOutcome (filter : Filter) (now : MomentParts) (json : Data) (outcome : Outcome) : Type 0 where
   pub value : Val
-  pub fits : Fits (slots_of filter.schema) (type_name_at filter.schema filter.filtered) json value
+  pub fits : Fits (slots_for_filter filter) (type_name_at filter.schema filter.filtered) json value
   pub related : FilterMeans filter now value outcome
   pub only : (other : Outcome) → FilterMeans filter now value other → other ≡ outcome
 
@@ -37,7 +37,7 @@ JudgesValue filter now json Judgment.LeftOut =
     (value : Val) × ((value ≢ boolean true) × HasOutcome filter now json (gives value))
 JudgesValue filter now json (Judgment.Fault BadRow.NotJson) = ⊥
 JudgesValue filter now json (Judgment.Fault (BadRow.NoEntity fault)) =
-    IsRowFault (slots_of filter.schema) (type_name_at filter.schema filter.filtered) json fault
+    IsRowFault (slots_for_filter filter) (type_name_at filter.schema filter.filtered) json fault
 JudgesValue filter now json (Judgment.Fault (BadRow.NoValue fault)) =
     (outcome : Outcome) × ((fault_outcome fault ≡ Some outcome) × HasOutcome filter now json outcome)
 

@@ -1,7 +1,7 @@
 -- What can be said of a row once only.
 use Rattle.std.specs.Prelude.{◌≡◌, ℕ, List, Option, Some, None, string_bytes}
 use Rattle.line_filter.specs.declared.judge.Judgment.{Judgment}
-use Rattle.edm_entities.specs.FitsPrimitive.{Flaw, missing, wrong_kind, null_not_allowed, out_of_range, bad_text}
+use Rattle.edm_entities.specs.FitsPrimitive.{Flaw, missing, wrong_kind, null_not_allowed, out_of_range, bad_text, not_expanded}
 use Rattle.edm_entities.specs.declared.fault.RowFault.{RowFault}
 use Rattle.odata_filter.specs.declared.bad_row.BadRow.{BadRow}
 use Rattle.odata_filter.specs.declared.run_fault.RunFault.{RunFault}
@@ -16,6 +16,7 @@ flaw_told (RowFault.NullNotAllowed path) = Some (string_bytes path, null_not_all
 flaw_told (RowFault.OutOfRange path) = Some (string_bytes path, out_of_range)
 flaw_told (RowFault.BadText path) = Some (string_bytes path, bad_text)
 flaw_told RowFault.Memory = None
+flaw_told (RowFault.NotExpanded path) = Some (string_bytes path, not_expanded)
 
 -- the same judgment: of two faults of an entity, the same fault at the same path
 abbrev pub AreSameJudgment : Judgment BadRow → Judgment BadRow → Type 0

@@ -29,7 +29,7 @@ pub trait Numbered {
     // Its number.
     ghost number_of: { Self → ℕ };
 
-    /// The number, from 1 in the order of the enum. Want of memory has the last one.
+    /// The number, from 1 in the order of the enum. It stays what it is: what comes later has a further one.
     fn number(&self) -> u8
         ensures { result ≡ number_of self.now };
 }
@@ -112,7 +112,6 @@ impl Numbered for TypeFaultCode {
             TypeFaultCode::UnknownEnum => 10,
             TypeFaultCode::TypeLeftOut => 11,
             TypeFaultCode::NotBoolean => 12,
-            TypeFaultCode::Navigation => 13,
         }
     }
 }
@@ -129,6 +128,7 @@ impl Numbered for RowFault {
             RowFault::OutOfRange { .. } => 5,
             RowFault::BadText { .. } => 6,
             RowFault::Memory => 7,
+            RowFault::NotExpanded { .. } => 8,
         }
     }
 }
@@ -183,7 +183,6 @@ const TYPING_NAMES: &[&str] = &[
     "UnknownEnum",
     "TypeLeftOut",
     "NotBoolean",
-    "Navigation",
 ];
 
 const ROW_NAMES: &[&str] = &[
@@ -193,11 +192,14 @@ const ROW_NAMES: &[&str] = &[
     "NullNotAllowed",
     "OutOfRange",
     "BadText",
+    "",
+    "NotExpanded",
 ];
 
 const EVALUATION_NAMES: &[&str] = &["Overflow", "DivideByZero"];
 
-/// The names of the faults of a kind, in the order of their numbers, but for want of memory.
+/// The names of the faults of a kind, in the order of their numbers; an empty one for want of memory, where others
+/// follow.
 fn names(kind: FaultKind) -> &'static [&'static str]
     ensures { map (λ name. name.now) result.now ≡ names_of kind }
 {
@@ -221,7 +223,7 @@ pub fn fault_name(kind: FaultKind, number: u8) -> Option<&'static str>
         return None;
     }
     match names(kind).get(usize::from(number) - 1) {
-        Some(name) => Some(*name),
+        Some(name) => if name.is_empty() { None } else { Some(*name) },
         None => None,
     }
 }
@@ -259,6 +261,7 @@ pub fn row_fault_path(fault: &RowFault) -> Option<&str>
         RowFault::NullNotAllowed { path } => Some(path.as_str()),
         RowFault::OutOfRange { path } => Some(path.as_str()),
         RowFault::BadText { path } => Some(path.as_str()),
+        RowFault::NotExpanded { path } => Some(path.as_str()),
         RowFault::NotObject | RowFault::Memory => None,
     }
 }

@@ -1,9 +1,11 @@
 ghost use Rattle.std.specs.Prelude.{◌≡◌, ◌≢◌, Err, Some, None, MatchResult};
 ghost use Rattle.serde_json.specs.Data.{Data};
 ghost use Rattle.serde_json.specs.View.{view};
-ghost use Rattle.csdl_schema.specs.SchemaModel.{slots_of, type_name_at};
+ghost use Rattle.csdl_schema.specs.ExpansionView.{paths_in};
+ghost use Rattle.csdl_schema.specs.PathSet.{PropertyPath};
+ghost use Rattle.csdl_schema.specs.SchemaModel.{type_name_at};
 ghost use Rattle.edm_entities.specs.Fits.{Fits};
-ghost use Rattle.edm_entities.specs.Row.{value_of};
+ghost use Rattle.edm_entities.specs.Row.{slots_for, value_of};
 ghost use Rattle.odata_checked_filter.specs.Calls.{TakesMemory};
 ghost use Rattle.odata_checked_filter.specs.Filter.{tree_of_filter};
 ghost use Rattle.odata_filter.specs.RowAnswer.{IsPlanOfFilter, TellsRow, judgment_told};
@@ -33,18 +35,26 @@ impl RowJudge<'_, '_> {
         ensures { TellsValue self.now.checked.now self.now.moment.now (view json.now) result }
     {
         let (schema, type_id) = (self.checked.schema(), self.checked.filtered_type());
-        match Entity::from_json(self.alloc, schema, type_id, json) {
+        match Entity::expanded_from_json(
+            self.alloc,
+            schema,
+            type_id,
+            self.checked.expansion(),
+            json,
+        ) {
             Ok(entity) => self.judge_entity(&entity),
             Err(RowFault::Memory) => Err(NoVerdict::Memory),
             Err(fault) => Err(NoVerdict::Bad(BadRow::NoEntity(fault))),
         }
     }
 
-    /// Judges an entity of the filter's type.
+    /// Judges an entity of the filter's type, with what the filter needs.
     fn judge_entity(&self, entity: &Entity<'_>) -> Result<Verdict, NoVerdict>
         requires schema { entity.now.schema ≡ self.now.checked.now.schema }
         requires type_id { entity.now.type_id ≡ self.now.checked.now.filtered }
-        ensures told { (json : Data) → Fits (slots_of entity.now.schema)
+        requires expansion { (path : PropertyPath)
+            → paths_in entity.now.expansion path ≡ paths_in self.now.checked.now.expansion path }
+        ensures told { (json : Data) → Fits (slots_for entity.now)
             (type_name_at entity.now.schema entity.now.type_id) json (value_of entity.now)
             → TellsValue self.now.checked.now self.now.moment.now json result }
         ensures no_memory { ¬ TakesMemory (tree_of_filter self.now.checked.now) → result ≢ Err NoVerdict.Memory }
@@ -71,7 +81,8 @@ impl RowJudge<'_, '_> {
         }
     }
 
-    /// Judges a row: without a tree where it is an entity, else by way of one.
+    /// Judges a row: without a tree where it is an entity, else by way of one. So it is judged too where the plan has not
+    /// what the filter needs of navigation.
     pub(crate) fn judge_bytes(
         &self,
         plan: &RowPlan,
@@ -81,6 +92,9 @@ impl RowJudge<'_, '_> {
         requires { IsPlanOfFilter self.now.checked.now plan.now }
         ensures { TellsRow self.now.checked.now self.now.moment.now row.now result }
     {
+        if !plan.expansion.covers(self.checked.expansion()) {
+            return self.judge_by_tree(row);
+        }
         match reader.read(self.checked.schema(), plan, row) {
             Some(entity) => {
                 let answer = self.judge_entity(&entity);

@@ -8,11 +8,16 @@ use odata_eval::Verdict;
 use odata_typing::Checked;
 use std::alloc::Global;
 
-/// What rows are read by, of the filter's schema and type.
+/// What rows are read by, of the filter's schema and type, and with what it needs of navigation.
 pub fn row_plan_of(alloc: Global, checked: &Checked<'_>) -> RowPlan
     ensures { IsPlanOfFilter checked.now result }
 {
-    RowPlan::new(alloc, checked.schema(), checked.filtered_type())
+    RowPlan::new(
+        alloc,
+        checked.schema(),
+        checked.filtered_type(),
+        checked.expansion(),
+    )
 }
 
 /// What the filter says of a row, one JSON object as a line of [`filter_lines`](crate::filter_lines) is one.

@@ -1,5 +1,7 @@
 pub use Rattle.csdl_schema.specs.EnumerationText
+pub use Rattle.csdl_schema.specs.ExpansionView
 pub use Rattle.csdl_schema.specs.ExprType
+pub use Rattle.csdl_schema.specs.PathSet
 pub use Rattle.csdl_schema.specs.SchemaModel
 pub use Rattle.edm_values.specs.Civil
 pub use Rattle.edm_values.specs.DateLiteral
@@ -28,6 +30,7 @@ pub use Rattle.odata_expression_types.specs.FirstUntypable
 pub use Rattle.odata_expression_types.specs.HasTyping
 pub use Rattle.odata_expression_types.specs.Laws
 pub use Rattle.odata_expression_types.specs.LiteralValue
+pub use Rattle.odata_expression_types.specs.NeededPaths
 pub use Rattle.odata_expression_types.specs.PreOrder
 pub use Rattle.odata_expression_types.specs.SameTypes
 pub use Rattle.odata_expression_types.specs.Sides

@@ -1,10 +1,12 @@
-ghost use Rattle.std.specs.Prelude.{◌≡◌, ℕ, List, IfOk, IfErr};
+ghost use Rattle.std.specs.Prelude.{◌≡◌, ℕ, List, [], length, IfOk, IfErr};
 ghost use Rattle.odata_syntax.specs.Tree.{Tree};
 ghost use Rattle.odata_syntax.specs.TreeView.{tree_of};
+ghost use Rattle.csdl_schema.specs.ExpansionView.{StepModel};
 ghost use Rattle.csdl_schema.specs.SchemaModel.{Slots, HoldsType, slots_of, type_name_at};
 ghost use Rattle.odata_checked_filter.specs.FlatTree.{tree_of_nodes};
 ghost use Rattle.odata_typing.specs.private.Answer.{HasNoTree, IsSyntaxRefusal, IsTextRefusal};
-ghost use Rattle.odata_checked_filter.specs.Filter.{IsFilter, filter_in, tree_of_filter};
+ghost use Rattle.odata_checked_filter.specs.Filter.{HasNeededPaths, IsFilter, filter_in, filter_of, tree_of_filter};
+ghost use Rattle.odata_checked_filter.specs.Stands.{Stands};
 ghost use Rattle.odata_expression_types.specs.HasTyping.{HasTree, HasTyping, HasNoTyping, IsRefusal, UnlessMemory};
 
 use super::laws_below::laws_below;
@@ -12,8 +14,10 @@ use super::node::checked_tree;
 use super::setting::Setting;
 use super::untyped::Untyped;
 use super::variables::Variables;
-use csdl_schema::{Schema, TypeId};
-use odata_checked_filter::{Checked, NodeList, StoredFilter, a_list_stands_for_one_tree};
+use csdl_schema::{Expansion, Schema, TypeId};
+use odata_checked_filter::{
+    Checked, NodeList, StoredFilter, a_list_stands_for_one_tree, expansion_of,
+};
 use odata_expression_types::{Refusal, TypeFault, TypeFaultCode, texts_have_few_nodes};
 use odata_syntax::{Expr, SyntaxFault, parse};
 use odata_text::{Span, TextFault, tokens, tokens_are_spelled};
@@ -34,13 +38,14 @@ pub fn check<'s>(
         text.now (tree_of_filter c)) }
     ensures schema { IfOk result (λ c. c.schema ≡ schema.entry.now) }
     ensures filtered_type { IfOk result (λ c. c.filtered ≡ filtered_type) }
+    ensures expansion { IfOk result (λ c. HasNeededPaths c.schema c.filtered c.list c.expansion) }
     ensures refusal { IfErr result (λ r. UnlessMemory r
         (IsRefusal (slots_of schema.entry.now) (type_name_at schema.entry.now filtered_type) text.now r)) }
     ensures none { IfErr result (λ r. UnlessMemory r
         (HasNoTyping (slots_of schema.entry.now) (type_name_at schema.entry.now filtered_type) text.now)) }
 {
-    match checked_list(alloc, schema, filtered_type, text) {
-        Ok(list) => Ok(Checked::new(schema, filtered_type, list)),
+    match checked_parts(alloc, schema, filtered_type, text) {
+        Ok((list, expansion)) => Ok(Checked::new(schema, filtered_type, list, expansion)),
         Err(refusal) => Err(refusal),
     }
 }
@@ -62,9 +67,35 @@ pub fn check_to_store(
     ensures none { IfErr result (λ r. UnlessMemory r
         (HasNoTyping (slots_of schema.now) (type_name_at schema.now filtered_type) text.now)) }
 {
-    match checked_list(alloc, schema, filtered_type, text) {
-        Ok(list) => Ok(StoredFilter::new(filtered_type, list)),
+    match checked_parts(alloc, schema, filtered_type, text) {
+        Ok((list, expansion)) => Ok(StoredFilter::new(filtered_type, list, expansion)),
         Err(refusal) => Err(refusal),
+    }
+}
+
+/// The list of a filter's nodes, and what it needs of navigation.
+fn checked_parts(
+    alloc: Global,
+    schema: &Schema,
+    filtered_type: TypeId,
+    text: &str,
+) -> Result<(NodeList, Expansion), Refusal>
+    requires { HoldsType schema.now filtered_type }
+    ensures filter { IfOk result (λ parts. IsFilter (filter_of schema.now filtered_type parts.0 parts.1)) }
+    ensures typing { IfOk result (λ parts. HasTyping (slots_of schema.now) (type_name_at schema.now filtered_type)
+        text.now (tree_of_nodes parts.0)) }
+    ensures refusal { IfErr result (λ r. UnlessMemory r
+        (IsRefusal (slots_of schema.now) (type_name_at schema.now filtered_type) text.now r)) }
+    ensures none { IfErr result (λ r. UnlessMemory r
+        (HasNoTyping (slots_of schema.now) (type_name_at schema.now filtered_type) text.now)) }
+{
+    let list = match checked_list(alloc, schema, filtered_type, text) {
+        Ok(list) => list,
+        Err(refusal) => return Err(refusal),
+    };
+    match expansion_of(alloc, schema, filtered_type, &list) {
+        Ok(expansion) => Ok((list, expansion)),
+        Err(_) => Err(Refusal::Memory),
     }
 }
 
@@ -76,8 +107,11 @@ fn checked_list(
     text: &str,
 ) -> Result<NodeList, Refusal>
     requires { HoldsType schema.now filtered_type }
-    ensures filter { IfOk result (λ list. IsFilter
-        (record { schema = schema.now; filtered = filtered_type; list = list })) }
+    ensures stands { IfOk result (λ list.
+        Stands schema.now filtered_type [] list 0 (length list.nodes) (tree_of_nodes list)) }
+    ensures filter { IfOk result (λ list. (expansion : List StepModel)
+        → HasNeededPaths schema.now filtered_type list expansion
+        → IsFilter (filter_of schema.now filtered_type list expansion)) }
     ensures typing { IfOk result (λ list. HasTyping (slots_of schema.now) (type_name_at schema.now filtered_type)
         text.now (tree_of_nodes list)) }
     ensures refusal { IfErr result (λ r. UnlessMemory r

@@ -3,12 +3,12 @@ ghost use Rattle.std.specs.Prelude.{◌≡◌, ◌≤◌, ℕ, [], Some, length,
 ghost use Rattle.odata_syntax.specs.Tree.{node, name};
 ghost use Rattle.csdl_schema.specs.ExprType.{ExprType};
 ghost use Rattle.csdl_schema.specs.PropertyView.{PointsWithin, property_type};
-ghost use Rattle.csdl_schema.specs.SchemaModel.{SchemaModel, declared, properties_at, slot_named, slots_of, type_name_at};
+ghost use Rattle.csdl_schema.specs.SchemaModel.{SchemaModel, properties_at, slot_named, slots_of, type_name_at};
 ghost use Rattle.odata_signatures.specs.TypeThere.{IsTypeThere};
 ghost use Rattle.odata_typing.specs.private.Answer.{Answers, IsAnswer};
 ghost use Rattle.odata_expression_types.specs.FirstUntypable.{NameReason, PropertyReason};
 ghost use Rattle.odata_signatures.specs.TypeView.{expr_type};
-ghost use Rattle.odata_expression_types.specs.Typed.{NameTyped, PropertyTyped, Scope};
+ghost use Rattle.odata_expression_types.specs.Typed.{NameTyped, PropertyTyped, Scope, named_type};
 ghost use Rattle.odata_checked_filter.specs.Stands.{IsNameNode, variable_names};
 ghost use Rattle.odata_typing.specs.private.Variables.{AreThere, IsUnbound, scope_of};
 
@@ -144,8 +144,8 @@ pub(crate) fn property_named(
 
 /// The type of a property, or why a filter may not name it.
 fn property_edm_type(property: &Property) -> Result<EdmType, TypeFaultCode>
-    ensures declared { IfOk result (λ t. (schema : SchemaModel) →
-        property_type schema property.now ≡ declared (expr_type schema t)) }
+    ensures named { IfOk result (λ t. (schema : SchemaModel) →
+        named_type (property_type schema property.now) ≡ Some (expr_type schema t)) }
     ensures there { IfOk result (λ t. (schema : SchemaModel) →
         PointsWithin schema property.now.kind → IsTypeThere schema t) }
     ensures reason { IfErr result (λ code. (schema : SchemaModel) →
@@ -159,6 +159,9 @@ fn property_edm_type(property: &Property) -> Result<EdmType, TypeFaultCode>
             property.many,
         )),
         PropertyKind::Opaque => Err(TypeFaultCode::TypeLeftOut),
-        PropertyKind::Navigation => Err(TypeFaultCode::Navigation),
+        PropertyKind::Navigation => match property.target() {
+            Some(id) => Ok(EdmType::of_values(ValueType::Structured(id), property.many)),
+            None => Err(TypeFaultCode::TypeLeftOut),
+        },
     }
 }

@@ -1,5 +1,5 @@
 -- What each call is lent, and what it leaves.
-use Rattle.std.specs.Prelude.{◌≡◌, ℕ, List, [], ◌∷◌}
+use Rattle.std.specs.Prelude.{ℕ, List, [], ◌∷◌}
 use base.Fml.{Fml, fsep, feq, fex}
 use denote.RawPtr.{Ptr}
 use Rattle.odfilter_c.specs.Loans.{Loan, lent_handle, lent_judge, lent_bytes, lent_room, lent_made, lent_answer, left_judge, left_room, left_made, left_answer, unless_null, holds}

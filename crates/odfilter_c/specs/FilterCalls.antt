@@ -1,5 +1,5 @@
 -- What checking a filter comes to, and what a filter is asked for.
-use Rattle.std.specs.Prelude.{◌≡◌, ◌≢◌, ℕ, IsUtf8, List, Option, None, Some}
+use Rattle.std.specs.Prelude.{◌≡◌, ◌≢◌, ℕ, IsUtf8, List, None, Some}
 use Rattle.odata_text.specs.declared.query_fault.QueryFault.{QueryFault}
 use Rattle.odata_text.specs.Query.{IsFilterOf, IsQueryFault}
 use Rattle.csdl_schema.specs.SchemaModel.{slots_of, type_name_at}

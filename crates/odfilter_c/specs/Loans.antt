@@ -1,10 +1,10 @@
 -- What a call of C is lent. Each address is null, or that of a value as a reference has it, lent for the call.
-use Rattle.std.specs.Prelude.{◌≡◌, ℕ, List, [], ◌∷◌, length}
+use Rattle.std.specs.Prelude.{ℕ, List, [], ◌∷◌, length}
 use base.Fml.{Fml, Lft, GName, Share, ftrue, fsep, feq, fex, fres, fbor}
 use denote.RattleType.{RattleType}
 use denote.RawPtr.{Ptr, block_ptr, null_ptr, ptr_val, block_of, count_of}
 use denote.Ref.{ShrRef, MutRef}
-use denote.Slice.{ShrSlice, MutSlice, slice_val, finally, Holeys}
+use denote.Slice.{ShrSlice, MutSlice, slice_val, finally}
 use denote.Builtin.{u8}
 use denote.Memory.{mem}
 use denote.Lend.{Held}

@@ -1,5 +1,5 @@
 -- What each call tells of what it is lent.
-use Rattle.std.specs.Prelude.{◌≡◌, ◌+◌, ◌++◌, ◌⊎◌, ℕ, List, [], codes, length, Option, None, Some, Result, Ok, Err, MatchResult}
+use Rattle.std.specs.Prelude.{◌≡◌, ◌++◌, ◌⊎◌, ℕ, List, codes, length, Option, None, Some, Result, Ok, Err, MatchResult}
 use Rattle.csdl_declarations.specs.declared.fault.SchemaFault.{SchemaFault}
 use Rattle.odfilter_c.specs.Answers.{fault_answer, fault_status}
 use Rattle.odfilter_c.specs.FilterCalls.{IsCanonicalOf, IsExplanationOf, IsFilterIn, IsFilterOfQuery, IsNoFilter, IsNoQueryFilter, IsNoText}

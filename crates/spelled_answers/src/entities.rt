@@ -5,7 +5,7 @@ use crate::filters::{TypeOf, moment_of, schema_of};
 use crate::numbers::shown_row_fault;
 use crate::trouble::Trouble;
 use crate::values::push_slots;
-use csdl_schema::{Schema, TypeId};
+use csdl_schema::{Expansion, Schema, TypeId};
 use edm_entities::{Entity, RowFault, RowPlan, RowReader};
 use odata_eval::Verdict;
 use odata_filter::{NoVerdict, judge_row, row_plan_of};
@@ -46,7 +46,7 @@ fn by_tree(alloc: Global, schema: &Schema, id: TypeId, line: &[u8]) -> Result<St
 fn by_bytes(alloc: Global, schema: &Schema, id: TypeId, line: &[u8]) -> Result<String, Trouble>
     requires { HoldsType schema.now id }
 {
-    let plan = RowPlan::new(alloc, schema, id);
+    let plan = RowPlan::new(alloc, schema, id, &Expansion::none(alloc));
     match RowReader::new(alloc).read(schema, &plan, line) {
         Some(entity) => told(alloc, &entity),
         None => Ok(String::new(alloc)),

@@ -1,9 +1,11 @@
 //! What is said of filters: refusals, outcomes on rows, canonical texts, types.
 ghost use Rattle.std.specs.Prelude.{◌≡◌};
+ghost use Rattle.csdl_schema.specs.ExpansionView.{paths_in};
+ghost use Rattle.csdl_schema.specs.PathSet.{Covers};
 ghost use Rattle.csdl_schema.specs.SchemaModel.{HoldsType};
 
 use crate::nodes::{second_type, told_nodes};
-use crate::numbers::shown_refusal;
+use crate::numbers::{shown_refusal, shown_row_fault};
 use crate::trouble::Trouble;
 use csdl_schema::{Schema, SchemaFault, TypeId};
 use edm_entities::{Entity, RowFault, RowReader};
@@ -140,6 +142,7 @@ fn evaluated(
 ) -> &'static str
     requires one_schema { checked.now.schema ≡ entity.now.schema }
     requires one_type { checked.now.filtered ≡ entity.now.type_id }
+    requires covers { Covers (paths_in entity.now.expansion) (paths_in checked.now.expansion) }
 {
     let mut said = "not evaluated";
     for time in 0..times {
@@ -152,22 +155,77 @@ fn evaluated(
     said
 }
 
-/// The outcome on an entity of so many evaluations.
+/// The outcome on a row of so many evaluations, or why it is no entity with what the filter needs.
 fn outcome(
     alloc: Global,
     checked: &Checked<'_>,
     row: &Value,
     now: &Moment,
     times: usize,
-) -> Result<&'static str, Trouble> {
-    match Entity::from_json(alloc, checked.schema(), checked.filtered_type(), row) {
+) -> Result<&'static str, RowFault> {
+    match Entity::expanded_from_json(
+        alloc,
+        checked.schema(),
+        checked.filtered_type(),
+        checked.expansion(),
+        row,
+    ) {
         Ok(entity) => Ok(evaluated(alloc, checked, &entity, now, times)),
-        Err(RowFault::Memory) => Err(Trouble::Memory),
-        Err(_) => Err(Trouble::NoEntity),
+        Err(fault) => Err(fault),
     }
 }
 
-/// The outcome on a row, where a run over it says the same, and so it is told of the row by itself.
+/// What is told of a row by itself that is at fault.
+fn fault_of_row(
+    alloc: Global,
+    checked: &Checked<'_>,
+    line: &[u8],
+    now: &Moment,
+) -> Result<String, Trouble> {
+    let plan = row_plan_of(alloc, checked);
+    let mut reader = RowReader::new(alloc);
+    match &judge_row(checked, now, &plan, &mut reader, line) {
+        Ok(_) => Ok(String::from_str(alloc, "no fault")?),
+        Err(NoVerdict::Memory) => Err(Trouble::Memory),
+        Err(NoVerdict::Bad(fault)) => Ok(format!(in alloc; "row 1 {fault}")?),
+    }
+}
+
+/// What a run ends with over a row that is at fault.
+fn fault_of_run(
+    alloc: Global,
+    checked: &Checked<'_>,
+    line: &[u8],
+    now: &Moment,
+) -> Result<String, Trouble> {
+    let mut out = Vec::new(alloc);
+    match &filter_slice(alloc, checked, now, line, &mut out) {
+        Ok(_) => Ok(String::from_str(alloc, "no fault")?),
+        Err(RunFault::Memory { .. }) => Err(Trouble::Memory),
+        Err(fault) => Ok(format!(in alloc; "{fault}")?),
+    }
+}
+
+/// The fault of a row, where a run over it tells the same, and so it is told of the row by itself.
+fn agreed_fault(
+    alloc: Global,
+    checked: &Checked<'_>,
+    line: &[u8],
+    now: &Moment,
+    fault: &RowFault,
+) -> Result<String, Trouble> {
+    let found = shown_row_fault(alloc, fault)?;
+    let told = fault_of_row(alloc, checked, line, now)?;
+    let said = fault_of_run(alloc, checked, line, now)?;
+    let is_told = told.as_str().strip_prefix("row 1 ") == Some(found.as_str());
+    if is_told && told.as_str() == said.as_str() {
+        Ok(found)
+    } else {
+        Ok(format!(in alloc; "{found}, but {told} of a row, and {said} of a run")?)
+    }
+}
+
+/// The outcome on a row, or the row's fault, where a run over it says the same, and so it is told of the row by itself.
 fn agreed_outcome(
     alloc: Global,
     checked: &Checked<'_>,
@@ -176,8 +234,12 @@ fn agreed_outcome(
     times: usize,
 ) -> Result<String, Trouble> {
     let times = if checked.takes_memory() { 1 } else { times };
-    let found = outcome(alloc, checked, row, now, times)?;
     let line = row.to_string(alloc)?;
+    let found = match outcome(alloc, checked, row, now, times) {
+        Ok(found) => found,
+        Err(RowFault::Memory) => return Err(Trouble::Memory),
+        Err(fault) => return agreed_fault(alloc, checked, line.as_bytes(), now, &fault),
+    };
     let said = kept(alloc, checked, line.as_bytes(), now);
     let told = judged(alloc, checked, line.as_bytes(), now, times);
     if found == "memory" || said == "memory" || told == "memory" {
@@ -200,7 +262,11 @@ fn repeated_outcome(
 ) -> Result<String, Trouble> {
     let mut told = String::with_capacity(alloc, 32)?;
     let line = row.to_string(alloc)?;
-    let found = outcome(alloc, checked, row, now, times)?;
+    let found = match outcome(alloc, checked, row, now, times) {
+        Ok(found) => found,
+        Err(RowFault::Memory) => return Err(Trouble::Memory),
+        Err(_) => return Err(Trouble::NoEntity),
+    };
     let said = judged(alloc, checked, line.as_bytes(), now, times);
     if said == "memory" {
         return Err(Trouble::Memory);

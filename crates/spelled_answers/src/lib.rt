@@ -3,6 +3,7 @@
 #![tactic(auto)]
 
 pub mod entities;
+pub mod expansions;
 pub mod filters;
 pub mod literals;
 mod nodes;

@@ -109,13 +109,18 @@ fn kind_name(schema: &Schema, kind: PropertyKind) -> &str {
     }
 }
 
-/// A property's kind, with `?` behind it if it is nullable, and `*` if there are many.
+/// A property's kind, of a navigation property with its target, if it has one; then `?` if it is nullable, and `*` if there
+/// are many.
 pub fn push_property(
     text: &mut String,
     schema: &Schema,
     property: &Property,
 ) -> Result<(), Trouble> {
     text.push_str(kind_name(schema, property.kind))?;
+    if let Some(target) = property.target() {
+        text.push_str(" ")?;
+        text.push_str(structured_name(schema, target))?;
+    }
     if property.nullable {
         text.push_str("?")?;
     }

@@ -30,3 +30,9 @@ pub const TWICE: &str =
 /// A type of items that may hold one another, and their schema.
 pub const ITEMS: &str =
     "{\"$Version\":\"4.01\",\"N\":{\"T\":{\"$Kind\":\"ComplexType\",\"T\":{\"$Type\":\"N.T\",\"$Nullable\":true}},\"A\":{\"$Kind\":\"EntityType\",\"ID\":{\"$Type\":\"Edm.Int32\"},\"Name\":{},\"Active\":{\"$Type\":\"Edm.Boolean\",\"$Nullable\":true},\"T\":{\"$Type\":\"N.T\",\"$Nullable\":true}}}}";
+
+/// A type of entities with links to others of it, and one of them.
+pub const LINKS: &str =
+    "{\"$Version\":\"4.01\",\"N\":{\"A\":{\"$Kind\":\"EntityType\",\"ID\":{\"$Type\":\"Edm.Int32\"},\"To\":{\"$Kind\":\"NavigationProperty\",\"$Type\":\"N.A\",\"$Nullable\":true},\"Many\":{\"$Kind\":\"NavigationProperty\",\"$Type\":\"N.A\",\"$Collection\":true}}}}";
+
+pub const LINKED: &str = "{\"ID\":1,\"To\":{\"ID\":4},\"Many\":[{\"ID\":2,\"To\":{\"ID\":3}}]}";

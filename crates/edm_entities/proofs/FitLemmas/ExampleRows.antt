@@ -11,7 +11,7 @@ use Rattle.serde_json.specs.Find.{get}
 use Rattle.edm_values.specs.Val.{Val, fields, FieldVal, absent, present}
 use Rattle.edm_values.specs.declared.primitive.PrimitiveType.TheVariants.{Bool as EdmBoolean}
 use Rattle.csdl_schema.specs.ExprType.{single, primitive}
-use Rattle.csdl_schema.specs.SchemaModel.{Slots, PropertyModel, declared}
+use Rattle.csdl_schema.specs.SchemaModel.{Slots, PropertyModel, declared, slots_behind}
 use Rattle.edm_entities.specs.Example.{item_properties, item_row, inactive_row, item_field}
 use Rattle.edm_entities.specs.Fits.{Fits, FitsProperty, FitsRecord}
 
@@ -33,7 +33,7 @@ others name all = rw (apart (codes "Active") name all.0, apart (codes "ID") name
 
 -- what a record of that type holds under a property's name
 abbrev Holds : Slots → Data → (List ℕ → FieldVal) → PropertyModel → Type 0
-Holds slots json f p = FitsProperty slots p.nullable p.type_of (get p.name json) (f p.name)
+Holds slots json f p = FitsProperty (slots_behind slots p.name) p.nullable p.type_of (get p.name json) (f p.name)
 
 record_fits : (slots : Slots) → FitsRecord item_properties item_row item_field (Holds slots item_row item_field)
 record_fits slots =
@@ -54,5 +54,5 @@ no_boolean slots absent fits = fits
 pub inactive_row_fits_nothing : (slots : Slots) (type_name : List ℕ) → slots.properties type_name ≡ item_properties → (v : Val) → ¬ (Fits slots type_name inactive_row v)
 inactive_row_fits_nothing slots type_name is (fields f) fits =
     let each : FitsRecord item_properties inactive_row f (Holds slots inactive_row f) = subst (λ ps. FitsRecord ps inactive_row f (Holds slots inactive_row f)) is fits in
-    no_boolean slots (f (codes "Active")) each.each_fits.0
+    no_boolean (slots_behind slots (codes "Active")) (f (codes "Active")) each.each_fits.0
 inactive_row_fits_nothing slots type_name is _ fits = fits

@@ -1,5 +1,5 @@
 -- A value that fits has its type.
-use Rattle.std.proofs.Common.{◌≡◌, ℕ, ℤ, zero, suc, ◌+◌, List, [], ◌∷◌, length, Bool, false, Option, Some, None, inl, inr, refl, sym, ap, ◌∙◌, subst, arith}
+use Rattle.std.proofs.Common.{◌≡◌, ℕ, ℤ, zero, suc, ◌+◌, List, [], ◌∷◌, length, Bool, true, false, Option, Some, None, inl, inr, refl, sym, ap, ◌∙◌, subst, arith}
 use Rattle.std.proofs.lemmas.Int.{ints}
 use Rattle.std.specs.List.{AllByRecursion}
 use Rattle.serde_json.specs.Data.{Data, null as json_null, boolean as json_boolean, number, string, array, object, Items, no_items as no_json, item as json_item}
@@ -11,8 +11,9 @@ use Rattle.edm_values.specs.Val.{Val, fields, items, FieldVal, absent, present, 
 use Rattle.edm_values.specs.declared.primitive.PrimitiveType.{PrimitiveType}
 use Rattle.edm_values.specs.declared.primitive.PrimitiveType.TheVariants.{Bool as EdmBoolean, Byte, SByte, Int16, Int32, Int64, String as EdmString, Date as EdmDate, DateTimeOffset as EdmDateTimeOffset, Guid as EdmGuid}
 use Rattle.csdl_schema.specs.ExprType.{ExprType, null_type, single, collection, SingleType, primitive, enumeration, structured}
-use Rattle.csdl_schema.specs.SchemaModel.{Slots, PropertyModel, PropertyType, declared, opaque, navigation}
-use Rattle.edm_entities.specs.Fits.{FitsFound, FitsType, FitsProperty, FitItems, Fits}
+use Rattle.csdl_schema.specs.PathSet.{PathSet, below}
+use Rattle.csdl_schema.specs.SchemaModel.{Slots, PropertyModel, PropertyType, declared, opaque, navigation, expanded}
+use Rattle.edm_entities.specs.Fits.{takes_null, FitsFound, FitsNavigation, FitsType, FitsProperty, FitItems, Fits}
 use Rattle.edm_entities.specs.FitsPrimitive.{FitsNumber, FitsPrimitive, FitsText, IsMemberText}
 use Rattle.edm_entities.specs.HasType.{HasType, HasPropertyType, AllHaveType}
 
@@ -65,36 +66,48 @@ found_has_type slots type (Some (string s)) takes v P further fits = further (st
 found_has_type slots type (Some (array ds)) takes v P further fits = further (array ds) fits
 found_has_type slots type (Some (object ms)) takes v P further fits = further (object ms) fits
 
+-- and of a navigation property, which is null where it is not expanded
+navigation_has_type : (slots : Slots) (type : ExprType) (needed : Bool) (found : Option Data) (takes : Bool) (v : Val) (P : Data → Type 0)
+    → ((json : Data) → P json → HasType slots type v) → FitsNavigation needed found takes v P → HasType slots type v
+navigation_has_type slots type true None takes v P further fits = absurd fits
+navigation_has_type slots type true (Some json) takes v P further fits = found_has_type slots type (Some json) takes v P further fits
+navigation_has_type slots type false found takes v P further fits = subst (HasType slots type) (sym fits) tt
+
 each_by : (P Q : PropertyModel → Type 0) → ((p : PropertyModel) → P p → Q p) → (ps : List PropertyModel) → AllByRecursion P ps → AllByRecursion Q ps
 each_by P Q by [] each = tt
 each_by P Q by (p ∷ ps) each = (by p each.0, each_by P Q by ps each.1)
 
+-- whatever is expanded in the value
 mutual
-  value_has_type : (slots : Slots) (nullable : Bool) (type : ExprType) (json : Data) (v : Val) → FitsType slots nullable type json v → HasType slots type v
-  value_has_type slots nullable (single (primitive type)) json v fits = primitive_has_type slots type json v fits
-  value_has_type slots nullable (single (enumeration name)) json v fits = member_has_type slots name json v fits
-  value_has_type slots nullable (single (structured name)) json (fields f) fits =
-      each_by (λ p. FitsProperty slots p.nullable p.type_of (get p.name json) (f p.name)) (λ p. HasPropertyType slots p.type_of (f p.name))
-      (λ p here. held_has_type slots p.nullable p.type_of (get p.name json) (f p.name) here) (slots.properties name) fits.each_fits
-  value_has_type slots nullable (single (structured name)) json _ fits = absurd fits
-  value_has_type slots nullable (collection type) json (items values) fits = items_have_type slots nullable type fits.0 values fits.2
-  value_has_type slots nullable (collection type) json _ fits = absurd fits
-  value_has_type slots nullable null_type json v fits = absurd fits
+  value_has_type : (slots : Slots) (expansion : PathSet) (nullable : Bool) (type : ExprType) (json : Data) (v : Val) → FitsType (expanded slots expansion) nullable type json v → HasType slots type v
+  value_has_type slots expansion nullable (single (primitive type)) json v fits = primitive_has_type slots type json v fits
+  value_has_type slots expansion nullable (single (enumeration name)) json v fits = member_has_type slots name json v fits
+  value_has_type slots expansion nullable (single (structured name)) json (fields f) fits =
+      each_by (λ p. FitsProperty (expanded slots (below expansion p.name)) p.nullable p.type_of (get p.name json) (f p.name)) (λ p. HasPropertyType slots p.type_of (f p.name))
+      (λ p here. held_has_type slots (below expansion p.name) p.nullable p.type_of (get p.name json) (f p.name) here) (slots.properties name) fits.each_fits
+  value_has_type slots expansion nullable (single (structured name)) json _ fits = absurd fits
+  value_has_type slots expansion nullable (collection type) json (items values) fits = items_have_type slots expansion nullable type fits.0 values fits.2
+  value_has_type slots expansion nullable (collection type) json _ fits = absurd fits
+  value_has_type slots expansion nullable null_type json v fits = absurd fits
 
-  pub held_has_type : (slots : Slots) (nullable : Bool) (type : PropertyType) (found : Option Data) (held : FieldVal) → FitsProperty slots nullable type found held → HasPropertyType slots type held
-  held_has_type slots nullable (declared type) found (present v) fits =
-      found_has_type slots type found _ v _ (λ json here. value_has_type slots nullable type json v here) fits
-  held_has_type slots nullable (declared type) found absent fits = absurd fits
-  held_has_type slots nullable opaque found held fits = tt
-  held_has_type slots nullable (navigation target) found held fits = tt
+  pub held_has_type : (slots : Slots) (expansion : PathSet) (nullable : Bool) (type : PropertyType) (found : Option Data) (held : FieldVal) → FitsProperty (expanded slots expansion) nullable type found held → HasPropertyType slots type held
+  held_has_type slots expansion nullable (declared type) found (present v) fits =
+      found_has_type slots type found _ v _ (λ json here. value_has_type slots expansion nullable type json v here) fits
+  held_has_type slots expansion nullable (declared type) found absent fits = absurd fits
+  held_has_type slots expansion nullable opaque found held fits = tt
+  held_has_type slots expansion nullable (navigation None) found held fits = tt
+  held_has_type slots expansion nullable (navigation (Some type)) found (present v) fits =
+      navigation_has_type slots type (expansion []) found (takes_null type nullable) v (λ json. FitsType (expanded slots expansion) false type json v)
+      (λ json here. value_has_type slots expansion false type json v here) fits
+  held_has_type slots expansion nullable (navigation (Some type)) found absent fits = absurd fits
 
-  items_have_type : (slots : Slots) (nullable : Bool) (type : SingleType) (jsons : Items) (values : Vals) → FitItems slots nullable type jsons values → AllHaveType slots type values
-  items_have_type slots nullable type jsons no_items fits = tt
-  items_have_type slots nullable type no_json (item v values) fits = absurd fits
-  items_have_type slots nullable type (json_item json jsons) (item v values) fits = (
-    found_has_type slots (single type) (Some json) nullable v _ (λ found here. value_has_type slots nullable (single type) found v here) fits.0,
-    items_have_type slots nullable type jsons values fits.1,
+  items_have_type : (slots : Slots) (expansion : PathSet) (nullable : Bool) (type : SingleType) (jsons : Items) (values : Vals) → FitItems (expanded slots expansion) nullable type jsons values → AllHaveType slots type values
+  items_have_type slots expansion nullable type jsons no_items fits = tt
+  items_have_type slots expansion nullable type no_json (item v values) fits = absurd fits
+  items_have_type slots expansion nullable type (json_item json jsons) (item v values) fits = (
+    found_has_type slots (single type) (Some json) nullable v _ (λ found here. value_has_type slots expansion nullable (single type) found v here) fits.0,
+    items_have_type slots expansion nullable type jsons values fits.1,
   )
 
-pub fits_has_type : (slots : Slots) (type_name : List ℕ) (json : Data) (v : Val) → Fits slots type_name json v → HasType slots (single (structured type_name)) v
-fits_has_type slots type_name json v fits = value_has_type slots false (single (structured type_name)) json v fits
+pub fits_has_type : (slots : Slots) (expansion : PathSet) (type_name : List ℕ) (json : Data) (v : Val) → Fits (expanded slots expansion) type_name json v → HasType slots (single (structured type_name)) v
+fits_has_type slots expansion type_name json v fits = value_has_type slots expansion false (single (structured type_name)) json v fits

@@ -16,8 +16,8 @@ use Rattle.edm_values.specs.declared.primitive.PrimitiveType.TheVariants.{Bool a
 use Rattle.edm_enumerations.specs.EnumerationModel.{EnumerationModel}
 use Rattle.edm_enumerations.specs.EnumerationValue.{EnumerationValue}
 use Rattle.csdl_schema.specs.ExprType.{ExprType, null_type, single, collection, SingleType, primitive, enumeration, structured}
-use Rattle.csdl_schema.specs.SchemaModel.{Slots, PropertyModel, PropertyType, declared, opaque, navigation}
-use Rattle.edm_entities.specs.Fits.{FitsFound, FitsRecord, FitsType, FitsProperty, FitItems, Fits}
+use Rattle.csdl_schema.specs.SchemaModel.{Slots, PropertyModel, PropertyType, declared, opaque, navigation, slots_behind}
+use Rattle.edm_entities.specs.Fits.{takes_null, FitsFound, FitsNavigation, FitsRecord, FitsType, FitsProperty, FitItems, Fits}
 use Rattle.edm_entities.specs.FitsPrimitive.{FitsBoolean, FitsNumber, FitsText, FitsPrimitive, TextMeaning, IsTextValue, IsMemberText}
 
 -- what the laws of literals say: a text has one value of each kind
@@ -48,6 +48,12 @@ found_once (Some (number n)) takes v w P Q once a b = once (number n) a b
 found_once (Some (string s)) takes v w P Q once a b = once (string s) a b
 found_once (Some (array ds)) takes v w P Q once a b = once (array ds) a b
 found_once (Some (object ms)) takes v w P Q once a b = once (object ms) a b
+
+navigation_once : (needed : Bool) (found : Option Data) (takes : Bool) (v w : Val) (P Q : Data → Type 0) → ((json : Data) → P json → Q json → v ≡ w)
+    → FitsNavigation needed found takes v P → FitsNavigation needed found takes w Q → v ≡ w
+navigation_once true None takes v w P Q once a b = absurd a
+navigation_once true (Some json) takes v w P Q once a b = found_once (Some json) takes v w P Q once a b
+navigation_once false found takes v w P Q once a b = a ∙ sym b
 
 module _ (f g : List ℕ → FieldVal) (P Q : PropertyModel → Type 0) (once : (p : PropertyModel) → P p → Q p → f p.name ≡ g p.name) where
   -- two records that fit agree at a name, or no property has it
@@ -107,9 +113,9 @@ module _ (texts : TextsOnce) where
     same_value slots nullable (single (enumeration name)) json v w a b =
         same_in_text (IsMemberText (slots.enumerations name)) (same_member (slots.enumerations name)) json v w a b
     same_value slots nullable (single (structured name)) json (fields f) (fields g) a b =
-        ap fields (fun_ext (same_record f g (λ p. FitsProperty slots p.nullable p.type_of (get p.name json) (f p.name))
-        (λ p. FitsProperty slots p.nullable p.type_of (get p.name json) (g p.name))
-        (λ p one other. same_held slots p.nullable p.type_of (get p.name json) (f p.name) (g p.name) one other) (slots.properties name) json a b))
+        ap fields (fun_ext (same_record f g (λ p. FitsProperty (slots_behind slots p.name) p.nullable p.type_of (get p.name json) (f p.name))
+        (λ p. FitsProperty (slots_behind slots p.name) p.nullable p.type_of (get p.name json) (g p.name))
+        (λ p one other. same_held (slots_behind slots p.name) p.nullable p.type_of (get p.name json) (f p.name) (g p.name) one other) (slots.properties name) json a b))
     same_value slots nullable (single (structured name)) json (fields f) _ a b = absurd b
     same_value slots nullable (single (structured name)) json _ w a b = absurd a
     same_value slots nullable (collection type) json (items values) (items others) a b =
@@ -128,9 +134,14 @@ module _ (texts : TextsOnce) where
     same_held slots nullable opaque found absent absent a b = refl
     same_held slots nullable opaque found absent (present w) a b = absurd b
     same_held slots nullable opaque found (present v) k a b = absurd a
-    same_held slots nullable (navigation target) found absent absent a b = refl
-    same_held slots nullable (navigation target) found absent (present w) a b = absurd b
-    same_held slots nullable (navigation target) found (present v) k a b = absurd a
+    same_held slots nullable (navigation None) found absent absent a b = refl
+    same_held slots nullable (navigation None) found absent (present w) a b = absurd b
+    same_held slots nullable (navigation None) found (present v) k a b = absurd a
+    same_held slots nullable (navigation (Some type)) found absent k a b = absurd a
+    same_held slots nullable (navigation (Some type)) found (present v) absent a b = absurd b
+    same_held slots nullable (navigation (Some type)) found (present v) (present w) a b =
+        ap present (navigation_once (slots.needed []) found (takes_null type nullable) v w (λ json. FitsType slots false type json v) (λ json. FitsType slots false type json w)
+        (λ json one other. same_value slots false type json v w one other) a b)
 
     same_items : (slots : Slots) (nullable : Bool) (type : SingleType) (jsons : Items) (values others : Vals)
         → FitItems slots nullable type jsons values → FitItems slots nullable type jsons others → values ≡ others

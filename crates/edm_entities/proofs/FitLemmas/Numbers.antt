@@ -19,7 +19,7 @@ use Rattle.edm_entities.specs.declared.scalar.Scalar.TheVariants.{Other}
 
 -- the row of a number type is that of numbers
 pub number_row : (type : PrimitiveType) (slots : Slots) (expr : ExprType) (json : Data) (r : Result Value ReadFlaw) → IsNumberType type
-    → IfOk r (λ v. FitsNumber type json (val_of v slots expr)) → IfOk r (λ v. FitsPrimitive type json (val_of v slots expr))
+    → IfOk r (λ v. FitsNumber type json (val_of v slots.properties expr)) → IfOk r (λ v. FitsPrimitive type json (val_of v slots.properties expr))
 number_row Byte slots expr json r is fits = fits
 number_row SByte slots expr json r is fits = fits
 number_row Int16 slots expr json r is fits = fits
@@ -49,19 +49,19 @@ other_flaw EdmDate json is = is.2
 other_flaw EdmDateTimeOffset json is = is.2
 other_flaw EdmGuid json is = is.2
 
-pub val_of-Bool : (slots : Slots) (type : ExprType) (b : Bool) → val_of (BoolValue b) slots type ≡ boolean b
+pub val_of-Bool : (slots : Slots) (type : ExprType) (b : Bool) → val_of (BoolValue b) slots.properties type ≡ boolean b
 val_of-Bool slots type b = search (rules, the_lemmas)
 
-pub val_of-Text : (slots : Slots) (type : ExprType) (s : String Global) → val_of (Text s) slots type ≡ text (string_bytes s)
+pub val_of-Text : (slots : Slots) (type : ExprType) (s : String Global) → val_of (Text s) slots.properties type ≡ text (string_bytes s)
 val_of-Text slots type s = search (rules, the_lemmas)
 
-pub val_of-Date : (slots : Slots) (type : ExprType) (d : CivilDate) → val_of (Date d) slots type ≡ date d
+pub val_of-Date : (slots : Slots) (type : ExprType) (d : CivilDate) → val_of (Date d) slots.properties type ≡ date d
 val_of-Date slots type d = search (rules, the_lemmas)
 
-pub val_of-Moment : (slots : Slots) (type : ExprType) (m : MomentParts) → val_of (Moment m) slots type ≡ moment m
+pub val_of-Moment : (slots : Slots) (type : ExprType) (m : MomentParts) → val_of (Moment m) slots.properties type ≡ moment m
 val_of-Moment slots type m = search (rules, the_lemmas)
 
-pub val_of-Enum : (slots : Slots) (type : ExprType) (n : ℤ) → val_of (Enum n) slots type ≡ member n
+pub val_of-Enum : (slots : Slots) (type : ExprType) (n : ℤ) → val_of (Enum n) slots.properties type ≡ member n
 val_of-Enum slots type n = search (rules, the_lemmas)
 
 -- nothing is not something

@@ -8,8 +8,9 @@ use Rattle.serde_json.specs.Find.{get, get_item, as_object, as_array}
 use Rattle.edm_values.specs.declared.primitive.PrimitiveType.{PrimitiveType}
 use Rattle.edm_values.specs.declared.primitive.PrimitiveType.TheVariants.{Bool as EdmBoolean, Byte, SByte, Int16, Int32, Int64, String as EdmString, Date as EdmDate, DateTimeOffset as EdmDateTimeOffset, Guid as EdmGuid}
 use Rattle.csdl_schema.specs.ExprType.{ExprType, null_type, single, collection, SingleType, primitive, enumeration, structured}
-use Rattle.csdl_schema.specs.SchemaModel.{Slots, PropertyModel, PropertyType, declared, opaque, navigation}
+use Rattle.csdl_schema.specs.SchemaModel.{Slots, PropertyModel, PropertyType, declared, opaque, navigation, slots_behind}
 use Rattle.edm_entities.specs.FitsPrimitive.{Flaw, wrong_kind, out_of_range, bad_text, TextMeaning, IsTextValue, IsMemberText, OnWrongKind, IsNumberFlaw, IsTextFlaw, IsPrimitiveFlaw}
+use Rattle.edm_entities.specs.Fits.{takes_null}
 use Rattle.edm_entities.specs.RowFaults.{Path, IsFlawHere, IsFoundFault, HasFitting, HasFittingItem, IsFirstProperty, IsFirstItem, IsValueFault, IsPropertyFault, IsFirstFault}
 use Rattle.edm_entities.proofs.FitLemmas.RowFaultRefuses.{kind_clash, held_clash, item_clash, type_clash}
 
@@ -77,24 +78,27 @@ found_once (Some (string x)) takes r s a b P Q once is_a is_b = once (string x) 
 found_once (Some (array x)) takes r s a b P Q once is_a is_b = once (array x) is_a is_b
 found_once (Some (object x)) takes r s a b P Q once is_a is_b = once (object x) is_a is_b
 
-module _ (slots : Slots) (r s : Path) (a b : Flaw) (once : Once slots r a b) where
-  held_once : (nullable : Bool) (type : PropertyType) (found : Option Data) → IsPropertyFault slots nullable type found r a → IsPropertyFault slots nullable type found s b → IsSame r s a b
-  held_once nullable (declared type) found is_a is_b = found_once found _ r s a b _ _ (λ json one other. once s nullable type json one other) is_a is_b
-  held_once nullable opaque found is_a is_b = absurd is_a
-  held_once nullable (navigation target) found is_a is_b = absurd is_a
+module _ (slots : Slots) (r s : Path) (a b : Flaw) (once : (inner : Slots) → Once inner r a b) where
+  held_once : (inner : Slots) (nullable : Bool) (type : PropertyType) (found : Option Data) → IsPropertyFault inner nullable type found r a → IsPropertyFault inner nullable type found s b → IsSame r s a b
+  held_once inner nullable (declared type) found is_a is_b = found_once found _ r s a b _ _ (λ json one other. once inner s nullable type json one other) is_a is_b
+  held_once inner nullable opaque found is_a is_b = absurd is_a
+  held_once inner nullable (navigation None) found is_a is_b = absurd is_a
+  held_once inner nullable (navigation (Some type)) None is_a is_b = record { path = is_a.1.0 ∙ sym is_b.1.0; flaw = is_a.1.1 ∙ sym is_b.1.1 }
+  held_once inner nullable (navigation (Some type)) (Some json) is_a is_b =
+      found_once (Some json) (takes_null type nullable) r s a b _ _ (λ there one other. once inner s false type there one other) is_a.1 is_b.1
 
   module _ (json : Data) where
     abbrev At : Path → Flaw → PropertyModel → Type 0
-    At path flaw p = IsPropertyFault slots p.nullable p.type_of (get p.name json) path flaw
+    At path flaw p = IsPropertyFault (slots_behind slots p.name) p.nullable p.type_of (get p.name json) path flaw
 
     clash : (p : PropertyModel) (path : Path) (flaw : Flaw) → HasFitting slots json p → ¬ (At path flaw p)
-    clash p path flaw fits fault = held_clash slots p.nullable p.type_of (get p.name json) fits.0 path flaw (type_clash path slots flaw) fits.1 fault
+    clash p path flaw fits fault = held_clash (slots_behind slots p.name) p.nullable p.type_of (get p.name json) fits.0 path flaw (type_clash path (slots_behind slots p.name) flaw) fits.1 fault
 
     same_place : (before before' : List PropertyModel) (p p' : PropertyModel) (behind behind' : List PropertyModel) → before ++ p ∷ behind ≡ before' ++ p' ∷ behind'
         → AllByRecursion (HasFitting slots json) before → AllByRecursion (HasFitting slots json) before' → At r a p → At s b p' → IsSame (p.name ∷ r) (p'.name ∷ s) a b
     same_place [] [] p p' behind behind' same fit fit' fault fault' =
         let heads : p ≡ p' = cc in
-        let is : IsSame r s a b = held_once p'.nullable p'.type_of (get p'.name json) (subst (λ (q : PropertyModel). At r a q) heads fault) fault' in
+        let is : IsSame r s a b = held_once (slots_behind slots p'.name) p'.nullable p'.type_of (get p'.name json) (subst (λ (q : PropertyModel). At r a q) heads fault) fault' in
         record { path = ap (λ (q : PropertyModel). q.name ∷ r) heads ∙ ap (λ (t : Path). p'.name ∷ t) is.path; flaw = is.flaw }
     same_place [] (q' ∷ before') p p' behind behind' same fit fit' fault fault' =
         let heads : q' ≡ p = cc in absurd (clash p r a (subst (HasFitting slots json) heads fit'.0) fault)
@@ -125,7 +129,7 @@ module _ (slots : Slots) (r s : Path) (a b : Flaw) (once : Once slots r a b) whe
     same_index jsons m n d e at_m at_n before_m before_n fault fault' (inl same) =
         let at : get_item n jsons ≡ Some d = subst (λ (k : ℕ). get_item k jsons ≡ Some d) same at_m in
         let here : d ≡ e = (let there = at_n in cc) in
-        let is : IsSame r s a b = found_once (Some e) nullable r s a b _ _ (λ found one other. once s nullable (single type) found one other) (subst (In r a) here fault) fault' in
+        let is : IsSame r s a b = found_once (Some e) nullable r s a b _ _ (λ found one other. once slots s nullable (single type) found one other) (subst (In r a) here fault) fault' in
         record { path = ap (λ (k : ℕ). decimal k ∷ r) same ∙ ap (λ (t : Path). decimal n ∷ t) is.path; flaw = is.flaw }
     same_index jsons m n d e at_m at_n before_m before_n fault fault' (inr (inr more)) = absurd (apart e s b (before_m n e more at_n) fault')
 
@@ -154,9 +158,9 @@ same_fault [] slots a b [] nullable type json is_a is_b = record { path = refl; 
 same_fault [] slots a b (step ∷ s) nullable type json is_a is_b = absurd (no_parts step s slots nullable type json a b is_a is_b)
 same_fault (step ∷ r) slots a b [] nullable type json is_a is_b = absurd (no_parts step r slots nullable type json b a is_b is_a)
 same_fault (step ∷ r) slots a b (step' ∷ s) nullable (single (structured name)) json is_a is_b =
-    same_property slots r s a b (same_fault r slots a b) json (slots.properties name) step step' is_a is_b
+    same_property slots r s a b (λ inner. same_fault r inner a b) json (slots.properties name) step step' is_a is_b
 same_fault (step ∷ r) slots a b (step' ∷ s) nullable (collection type) json is_a is_b =
-    same_item slots r s a b (same_fault r slots a b) nullable type json step step' is_a is_b
+    same_item slots r s a b (λ inner. same_fault r inner a b) nullable type json step step' is_a is_b
 same_fault (step ∷ r) slots a b (step' ∷ s) nullable (single (primitive type)) json is_a is_b = absurd is_a
 same_fault (step ∷ r) slots a b (step' ∷ s) nullable (single (enumeration name)) json is_a is_b = absurd is_a
 same_fault (step ∷ r) slots a b (step' ∷ s) nullable null_type json is_a is_b = absurd is_a

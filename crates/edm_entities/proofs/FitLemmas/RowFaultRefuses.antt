@@ -8,12 +8,12 @@ use Rattle.edm_values.specs.Val.{Val, fields, items, FieldVal, absent, present, 
 use Rattle.edm_values.specs.declared.primitive.PrimitiveType.{PrimitiveType}
 use Rattle.edm_values.specs.declared.primitive.PrimitiveType.TheVariants.{Bool as EdmBoolean, Byte, SByte, Int16, Int32, Int64, String as EdmString, Date as EdmDate, DateTimeOffset as EdmDateTimeOffset, Guid as EdmGuid}
 use Rattle.csdl_schema.specs.ExprType.{ExprType, null_type, single, collection, SingleType, primitive, enumeration, structured}
-use Rattle.csdl_schema.specs.SchemaModel.{Slots, PropertyModel, PropertyType, declared, opaque, navigation}
-use Rattle.edm_entities.specs.Fits.{FitsFound, FitsRecord, FitsType, FitsProperty, FitItems, Fits}
-use Rattle.edm_entities.specs.FitsPrimitive.{Flaw, missing, wrong_kind, null_not_allowed, out_of_range, bad_text, FitsNumber, FitsPrimitive, FitsText, TextMeaning, IsTextValue, IsMemberText, OnWrongKind, IsNumberFlaw, IsTextFlaw, IsPrimitiveFlaw}
+use Rattle.csdl_schema.specs.SchemaModel.{Slots, PropertyModel, PropertyType, declared, opaque, navigation, slots_behind}
+use Rattle.edm_entities.specs.Fits.{takes_null, FitsFound, FitsNavigation, FitsRecord, FitsType, FitsProperty, FitItems, Fits}
+use Rattle.edm_entities.specs.FitsPrimitive.{Flaw, missing, wrong_kind, null_not_allowed, out_of_range, bad_text, not_expanded, FitsNumber, FitsPrimitive, FitsText, TextMeaning, IsTextValue, IsMemberText, OnWrongKind, IsNumberFlaw, IsTextFlaw, IsPrimitiveFlaw}
 use Rattle.edm_entities.specs.RowFaults.{Path, IsFlawHere, IsFoundFault, HasFittingItem, IsFirstProperty, IsValueFault, IsPropertyFault, IsFirstFault, IsFirstFaultAt, IsRowFault}
 use Rattle.edm_entities.specs.declared.fault.RowFault.{RowFault}
-use Rattle.edm_entities.specs.declared.fault.RowFault.TheVariants.{NotObject, Missing, WrongKind, NullNotAllowed, OutOfRange, BadText, Memory}
+use Rattle.edm_entities.specs.declared.fault.RowFault.TheVariants.{NotObject, Missing, WrongKind, NullNotAllowed, OutOfRange, BadText, NotExpanded, Memory}
 
 -- JSON of the wanted kind has no flaw of kind
 pub kind_clash : {X : Type 0} (found : Option X) (flaw : Flaw) → IsSome found → ¬ (OnWrongKind flaw (found ≡ None))
@@ -32,6 +32,7 @@ number_clash type json v out_of_range fits other =
 number_clash type json v missing fits other = other
 number_clash type json v null_not_allowed fits other = other
 number_clash type json v bad_text fits other = other
+number_clash type json v not_expanded fits other = other
 
 text_clash : (IsText : TextMeaning) (json : Data) (v : Val) (flaw : Flaw) → FitsText IsText json v → ¬ (IsTextFlaw IsText json flaw)
 text_clash IsText json v wrong_kind fits other = cc
@@ -40,6 +41,7 @@ text_clash IsText json v bad_text fits other =
 text_clash IsText json v missing fits other = other
 text_clash IsText json v null_not_allowed fits other = other
 text_clash IsText json v out_of_range fits other = other
+text_clash IsText json v not_expanded fits other = other
 
 primitive_clash : (type : PrimitiveType) (json : Data) (v : Val) (flaw : Flaw) → FitsPrimitive type json v → ¬ (IsPrimitiveFlaw type json flaw)
 primitive_clash EdmBoolean json v flaw fits other = boolean_clash json v flaw fits other
@@ -97,15 +99,22 @@ held_clash slots nullable (declared type) found (present v) path flaw clash fits
     found_clash found _ v path flaw _ _ (λ json here there. clash nullable type json v here there) fits other
 held_clash slots nullable (declared type) found absent path flaw clash fits other = fits
 held_clash slots nullable opaque found held path flaw clash fits other = other
-held_clash slots nullable (navigation target) found held path flaw clash fits other = other
+held_clash slots nullable (navigation None) found held path flaw clash fits other = other
+held_clash slots nullable (navigation (Some type)) found absent path flaw clash fits other = fits
+held_clash slots nullable (navigation (Some type)) None (present v) path flaw clash fits other =
+    subst (λ (b : Bool). FitsNavigation b None (takes_null type nullable) v (λ json. FitsType slots false type json v)) other.0 fits
+held_clash slots nullable (navigation (Some type)) (Some json) (present v) path flaw clash fits other =
+    found_clash (Some json) (takes_null type nullable) v path flaw (λ there. FitsType slots false type there v) (λ there. IsValueFault slots false path type there flaw)
+    (λ there here fault. clash false type there v here fault)
+    (subst (λ (b : Bool). FitsNavigation b (Some json) (takes_null type nullable) v (λ there. FitsType slots false type there v)) other.0 fits) other.1
 
-property_clash : (slots : Slots) (properties : List PropertyModel) (json : Data) (f : List ℕ → FieldVal) (step : List ℕ) (path : Path) (flaw : Flaw) → Clash slots path flaw
-    → FitsRecord properties json f (λ p. FitsProperty slots p.nullable p.type_of (get p.name json) (f p.name))
-    → ¬ (IsFirstProperty slots properties json step (λ p. IsPropertyFault slots p.nullable p.type_of (get p.name json) path flaw))
+property_clash : (slots : Slots) (properties : List PropertyModel) (json : Data) (f : List ℕ → FieldVal) (step : List ℕ) (path : Path) (flaw : Flaw) → ((inner : Slots) → Clash inner path flaw)
+    → FitsRecord properties json f (λ p. FitsProperty (slots_behind slots p.name) p.nullable p.type_of (get p.name json) (f p.name))
+    → ¬ (IsFirstProperty slots properties json step (λ p. IsPropertyFault (slots_behind slots p.name) p.nullable p.type_of (get p.name json) path flaw))
 property_clash slots properties json f step path flaw clash fits other =
-    let each = subst (AllByRecursion (λ p. FitsProperty slots p.nullable p.type_of (get p.name json) (f p.name))) other.split fits.each_fits in
-    held_clash slots other.faulty.nullable other.faulty.type_of (get other.faulty.name json) (f other.faulty.name) path flaw clash
-    (all_at (λ p. FitsProperty slots p.nullable p.type_of (get p.name json) (f p.name)) other.before other.faulty other.behind each)
+    let each = subst (AllByRecursion (λ p. FitsProperty (slots_behind slots p.name) p.nullable p.type_of (get p.name json) (f p.name))) other.split fits.each_fits in
+    held_clash (slots_behind slots other.faulty.name) other.faulty.nullable other.faulty.type_of (get other.faulty.name json) (f other.faulty.name) path flaw (clash (slots_behind slots other.faulty.name))
+    (all_at (λ p. FitsProperty (slots_behind slots p.name) p.nullable p.type_of (get p.name json) (f p.name)) other.before other.faulty other.behind each)
     other.fault
 
 pub item_clash : (slots : Slots) (nullable : Bool) (type : SingleType) (json : Data) (path : Path) (flaw : Flaw) → Clash slots path flaw → HasFittingItem slots nullable type json
@@ -116,7 +125,7 @@ item_clash slots nullable type json path flaw clash fits other =
 pub type_clash : (path : Path) (slots : Slots) (flaw : Flaw) → Clash slots path flaw
 type_clash [] slots flaw nullable type json v fits other = here_clash slots nullable type json v flaw fits other
 type_clash (step ∷ path) slots flaw nullable (single (structured name)) json (fields f) fits other =
-    property_clash slots (slots.properties name) json f step path flaw (type_clash path slots flaw) fits other
+    property_clash slots (slots.properties name) json f step path flaw (λ inner. type_clash path inner flaw) fits other
 type_clash (step ∷ path) slots flaw nullable (single (structured name)) json _ fits other = fits
 type_clash (step ∷ path) slots flaw nullable (collection type) json (items values) fits other =
     let same : other.jsons ≡ fits.0 = (let one = other.is_array in let two = fits.1 in cc) in
@@ -146,4 +155,5 @@ fault_refuses slots type_name json (WrongKind path) is v fits = at_clash slots t
 fault_refuses slots type_name json (NullNotAllowed path) is v fits = at_clash slots type_name json v _ null_not_allowed fits is
 fault_refuses slots type_name json (OutOfRange path) is v fits = at_clash slots type_name json v _ out_of_range fits is
 fault_refuses slots type_name json (BadText path) is v fits = at_clash slots type_name json v _ bad_text fits is
+fault_refuses slots type_name json (NotExpanded path) is v fits = at_clash slots type_name json v _ not_expanded fits is
 fault_refuses slots type_name json Memory is v fits = is

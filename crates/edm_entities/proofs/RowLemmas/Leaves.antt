@@ -9,7 +9,7 @@ use Rattle.edm_values.specs.Val.{Val}
 use Rattle.edm_values.specs.declared.primitive.PrimitiveType.{PrimitiveType}
 use Rattle.edm_values.specs.declared.value.Value.{Value, Null}
 use Rattle.csdl_schema.specs.ExprType.{single, SingleType, primitive, enumeration}
-use Rattle.csdl_schema.specs.SchemaModel.{SchemaModel, Slots, slots_of}
+use Rattle.csdl_schema.specs.SchemaModel.{SchemaModel, Slots}
 use Rattle.edm_entities.specs.Fits.{FitsFound, FitsType}
 use Rattle.edm_entities.specs.HoldsEachSlot.{HoldsEachSlot}
 use Rattle.edm_entities.specs.Row.{val_of}
@@ -56,7 +56,7 @@ pub value_of_read : (read : Result Value ReadFlaw) (P : Value → Type 0) (v : V
 value_of_read read P v ok is = subst (λ (r : Result Value ReadFlaw). IfOk r P) is ok
 
 pub leaf_taken : (slots : Slots) (type : SingleType) (token : Token) (S : Data → Type 0) (v : Value) → ReadsToken token S
-    → ((json : Data) (nullable : Bool) → S json → FitsType slots nullable (single type) json (val_of v slots (single type)))
+    → ((json : Data) (nullable : Bool) → S json → FitsType slots nullable (single type) json (val_of v slots.properties (single type)))
     → ReadsToken token (FitsHoweverNullable slots (single type) v)
 leaf_taken slots type token S v reads fits =
     record {
@@ -64,28 +64,28 @@ leaf_taken slots type token S v reads fits =
       is_read = reads.is_read;
       no_null = reads.no_null;
       holds = λ nullable.
-          other_fits reads.json nullable (val_of v slots (single type)) (λ found. FitsType slots nullable (single type) found (val_of v slots (single type))) reads.no_null
+          other_fits reads.json nullable (val_of v slots.properties (single type)) (λ found. FitsType slots nullable (single type) found (val_of v slots.properties (single type))) reads.no_null
           (fits reads.json nullable reads.holds);
     }
 
 pub token_leaf : (slots : Slots) (type : SingleType) (token : Token) (tokens rest : List Token) (S : Data → Type 0) (v : Value) → tokens ≡ token ∷ rest → ReadsToken token S
-    → ((json : Data) (nullable : Bool) → S json → FitsType slots nullable (single type) json (val_of v slots (single type)))
+    → ((json : Data) (nullable : Bool) → S json → FitsType slots nullable (single type) json (val_of v slots.properties (single type)))
     → ReadsLeaf tokens rest (FitsHoweverNullable slots (single type) v)
 token_leaf slots type token tokens rest S v is reads fits =
     let leaf = leaf_taken slots type token S v reads fits in
     record { json = leaf.json; is_read = λ depth. ap (λ (ts : List Token). converted of_json (value depth ts)) is ∙ leaf.is_read depth rest; holds = leaf.holds }
 
 pub text_leaf : (slots : Slots) (type : SingleType) (s : List ℕ) (tokens rest : List Token) (v : Value) → tokens ≡ Token.string s ∷ rest
-    → ((nullable : Bool) → FitsType slots nullable (single type) (string s) (val_of v slots (single type))) → ReadsLeaf tokens rest (FitsHoweverNullable slots (single type) v)
+    → ((nullable : Bool) → FitsType slots nullable (single type) (string s) (val_of v slots.properties (single type))) → ReadsLeaf tokens rest (FitsHoweverNullable slots (single type) v)
 text_leaf slots type s tokens rest v is fits =
     token_leaf slots type (Token.string s) tokens rest (λ json. json ≡ string s) v is (record { json = string s; is_read = string_token s; no_null = refl; holds = refl })
-    (λ json nullable same. subst (λ (d : Data). FitsType slots nullable (single type) d (val_of v slots (single type))) (sym same) (fits nullable))
+    (λ json nullable same. subst (λ (d : Data). FitsType slots nullable (single type) d (val_of v slots.properties (single type))) (sym same) (fits nullable))
 
 pub truth_leaf : (slots : Slots) (type : SingleType) (b : Bool) (tokens rest : List Token) (v : Value) → tokens ≡ Token.boolean b ∷ rest
-    → ((nullable : Bool) → FitsType slots nullable (single type) (boolean b) (val_of v slots (single type))) → ReadsLeaf tokens rest (FitsHoweverNullable slots (single type) v)
+    → ((nullable : Bool) → FitsType slots nullable (single type) (boolean b) (val_of v slots.properties (single type))) → ReadsLeaf tokens rest (FitsHoweverNullable slots (single type) v)
 truth_leaf slots type b tokens rest v is fits =
     token_leaf slots type (Token.boolean b) tokens rest (λ json. json ≡ boolean b) v is (record { json = boolean b; is_read = boolean_token b; no_null = refl; holds = refl })
-    (λ json nullable same. subst (λ (d : Data). FitsType slots nullable (single type) d (val_of v slots (single type))) (sym same) (fits nullable))
+    (λ json nullable same. subst (λ (d : Data). FitsType slots nullable (single type) d (val_of v slots.properties (single type))) (sym same) (fits nullable))
 
 pub leaf_read : (depth : ℕ) (tokens rest : List Token) (P : Data → Type 0) → ReadsLeaf tokens rest P → Reads depth tokens rest P
 leaf_read depth tokens rest P leaf = record { json = leaf.json; is_read = leaf.is_read depth; holds = leaf.holds }
@@ -103,21 +103,21 @@ pub primitive_leaf_holds : (slots : Slots) (type : PrimitiveType) (tokens rest :
     → HoldsEachSlot v slots (single (primitive type))
 primitive_leaf_holds slots type tokens rest v leaf =
     primitive_holds slots type leaf.json v
-    (not_null_fits leaf.json (val_of v slots (single (primitive type))) (λ found. FitsType slots false (single (primitive type)) found (val_of v slots (single (primitive type)))) (leaf.holds false))
+    (not_null_fits leaf.json (val_of v slots.properties (single (primitive type))) (λ found. FitsType slots false (single (primitive type)) found (val_of v slots.properties (single (primitive type)))) (leaf.holds false))
 
 pub member_leaf_holds : (slots : Slots) (name : List ℕ) (tokens rest : List Token) (v : Value) → ReadsLeaf tokens rest (FitsHoweverNullable slots (single (enumeration name)) v)
     → HoldsEachSlot v slots (single (enumeration name))
 member_leaf_holds slots name tokens rest v leaf =
     member_holds slots name leaf.json v
-    (not_null_fits leaf.json (val_of v slots (single (enumeration name))) (λ found. FitsType slots false (single (enumeration name)) found (val_of v slots (single (enumeration name)))) (leaf.holds false))
+    (not_null_fits leaf.json (val_of v slots.properties (single (enumeration name))) (λ found. FitsType slots false (single (enumeration name)) found (val_of v slots.properties (single (enumeration name)))) (leaf.holds false))
 
 -- what was read of what is wanted, behind a look for a null
-pub wanted_read : (schema : SchemaModel) (wanted one : Wanted) (nullable : Bool) (depth : ℕ) (tokens left rest : List Token) (v : Value) → wanted ≡ one → left ≡ tokens
-    → Reads depth left rest (FitsHoweverNullable (slots_of schema) (single (wanted_single schema one)) v)
-    → Reads depth tokens rest (FitsNullable (slots_of schema) nullable nullable (single (wanted_single schema wanted)) v)
-wanted_read schema wanted one nullable depth tokens left rest v is kept reads =
-    subst (λ (w : Wanted). Reads depth tokens rest (FitsNullable (slots_of schema) nullable nullable (single (wanted_single schema w)) v)) (sym is)
-    (subst (λ (ts : List Token). Reads depth ts rest (FitsNullable (slots_of schema) nullable nullable (single (wanted_single schema one)) v)) kept
+pub wanted_read : (schema : SchemaModel) (slots : Slots) (wanted one : Wanted) (nullable : Bool) (depth : ℕ) (tokens left rest : List Token) (v : Value) → wanted ≡ one → left ≡ tokens
+    → Reads depth left rest (FitsHoweverNullable slots (single (wanted_single schema one)) v)
+    → Reads depth tokens rest (FitsNullable slots nullable nullable (single (wanted_single schema wanted)) v)
+wanted_read schema slots wanted one nullable depth tokens left rest v is kept reads =
+    subst (λ (w : Wanted). Reads depth tokens rest (FitsNullable slots nullable nullable (single (wanted_single schema w)) v)) (sym is)
+    (subst (λ (ts : List Token). Reads depth ts rest (FitsNullable slots nullable nullable (single (wanted_single schema one)) v)) kept
     (record { json = reads.json; is_read = reads.is_read; holds = reads.holds nullable }))
 
 pub null_reads : (depth : ℕ) (tokens rest : List Token) (P : Data → Type 0) → tokens ≡ Token.null ∷ rest → P null → Reads depth tokens rest P
@@ -129,4 +129,4 @@ pub null_taken : (slots : Slots) (nullable : Bool) (type : SingleType) (depth : 
     → Reads depth tokens rest (FitsNullable slots nullable nullable (single type) v)
 null_taken slots nullable type depth tokens rest v is may same =
     null_reads depth tokens rest (FitsNullable slots nullable nullable (single type) v) is
-    (null_fits null nullable slots (single type) v (λ found. FitsType slots nullable (single type) found (val_of v slots (single type))) refl may same)
+    (null_fits null nullable slots (single type) v (λ found. FitsType slots nullable (single type) found (val_of v slots.properties (single type))) refl may same)

@@ -1,19 +1,23 @@
 -- Types that were looked up once, and the members of an object among their slots.
-use Rattle.std.proofs.Common.{◌≡◌, ℕ, zero, suc, ◌+◌, ◌<◌, ◌==◌, Bool, true, false, lt_of_not-le, List, [], ◌∷◌, ◌++◌, length, take, slice_set, map, Option, Some, IfSome, slice_get, refl, sym, ap, ◌∙◌, subst, arith}
+use Rattle.std.proofs.Common.{◌≡◌, ℕ, zero, suc, ◌+◌, ◌<◌, ◌==◌, Bool, true, false, lt_of_not-le, List, [], ◌∷◌, ◌++◌, length, take, slice_set, map, Option, Some, IfSome, slice_get, refl, sym, ap, ap₂, ◌∙◌, subst, arith}
 use Rattle.std.proofs.lemmas.Bool.{eqb-true, eqb-false}
 use Rattle.json.specs.Token.{Token}
 use Rattle.json.proofs.Grammar.{read_key-shorter}
 use Rattle.serde_json.specs.Data.{Data, Members, put}
+use Rattle.csdl_schema.specs.ExpansionView.{StepModel}
 use Rattle.csdl_schema.specs.PropertyView.{IsReadAs}
-use Rattle.csdl_schema.specs.SchemaModel.{SchemaModel, properties_at}
+use Rattle.csdl_schema.specs.SchemaModel.{SchemaModel, properties_at, slots_behind}
 use Rattle.csdl_schema.specs.declared.property.Property.{Property}
+use Rattle.edm_entities.specs.ExpandedNodes.{node_behind}
+use Rattle.edm_entities.specs.private.Expanded.{slots_at}
 use Rattle.edm_entities.specs.private.NextMember.{ReadsMember}
-use Rattle.edm_entities.specs.Plans.{ArePlans, IsPlan, IsSlotNamed}
+use Rattle.edm_entities.specs.Plans.{ArePlans, IsPlan, IsSlotPlan, target_at}
 use Rattle.edm_entities.specs.private.RowTokens.{MembersLead}
 use Rattle.edm_entities.specs.declared.type_plan.SlotPlan.{SlotPlan}
 use Rattle.edm_entities.specs.declared.type_plan.TypePlan.{TypePlan}
 use Rattle.edm_entities.proofs.RowLemmas.Leads.{member_more}
 use Rattle.edm_entities.proofs.RowLemmas.Tokens.{read_shorter}
+use Rattle.edm_entities.proofs.SlotLemmas.FoundWalk.{node_slots}
 
 -- ---- lists by their places
 
@@ -55,20 +59,31 @@ each_at Q items k x each at = subst (λ o. IfSome o (Q k)) at (each k)
 
 -- ---- plans
 
--- a slot by its name and its property
-pub slot_made : (schema : SchemaModel) (id slot : ℕ) (name : List ℕ) (property : Property) (key : Option (List ℕ)) (plan : SlotPlan) → key ≡ Some plan.key → plan.property ≡ property
+-- a slot by its name and its property, and by what is behind it
+pub slot_made : (schema : SchemaModel) (steps : List StepModel) (id : ℕ) (node : Option ℕ) (slot : ℕ) (name : List ℕ) (property : Property) (behind : Option ℕ) (key : Option (List ℕ)) (plan : SlotPlan)
+    → (key ≡ Some plan.key) × (plan.property ≡ property) × (plan.node ≡ behind) × (plan.target ≡ target_at steps behind property)
     → IfSome key (λ k. k ≡ name) → slice_get (map (λ p. p.name) (properties_at schema id)) slot ≡ Some name → IfSome (slice_get (properties_at schema id) slot) (λ p. IsReadAs schema p property)
-    → IsSlotNamed schema id plan.key slot plan.property
-slot_made schema id slot name property key plan made same named at read =
-    let own : plan.key ≡ name = subst (λ o. IfSome o (λ k. k ≡ name)) made named in
-    (at ∙ ap Some (sym own), subst (λ q. IfSome (slice_get (properties_at schema id) slot) (λ p. IsReadAs schema p q)) (sym same) read)
+    → behind ≡ node_behind steps node name → IsSlotPlan schema steps id node slot plan
+slot_made schema steps id node slot name property behind key plan made named at read stands =
+    let own : plan.key ≡ name = subst (λ (o : Option (List ℕ)). IfSome o (λ k. k ≡ name)) made.0 named in
+    record {
+      named = (at ∙ ap Some (sym own), subst (λ (q : Property). IfSome (slice_get (properties_at schema id) slot) (λ p. IsReadAs schema p q)) (sym made.1) read);
+      behind = made.2 ∙ stands ∙ ap (node_behind steps node) (sym own);
+      leads = made.3 ∙ ap₂ (target_at steps) (sym made.2) (sym made.1);
+    }
 
-pub slot_planned : (schema : SchemaModel) (plan : TypePlan) (slot : ℕ) (s : SlotPlan) → IsPlan schema plan → slice_get plan.slots.items slot ≡ Some s
-    → IsSlotNamed schema plan.type_id s.key slot s.property
-slot_planned schema plan slot s is at = each_at (λ n q. IsSlotNamed schema plan.type_id q.key n q.property) plan.slots.items slot s is.planned.each at
+pub slot_planned : (schema : SchemaModel) (steps : List StepModel) (plan : TypePlan) (slot : ℕ) (s : SlotPlan) → IsPlan schema steps plan → slice_get plan.slots.items slot ≡ Some s
+    → IsSlotPlan schema steps plan.type_id plan.node slot s
+slot_planned schema steps plan slot s is at = each_at (IsSlotPlan schema steps plan.type_id plan.node) plan.slots.items slot s is.planned.each at
 
-pub plan_there : (schema : SchemaModel) (plans : List TypePlan) (place : ℕ) (plan : TypePlan) → ArePlans schema plans → slice_get plans place ≡ Some plan → IsPlan schema plan
-plan_there schema plans place plan are at = each_at (λ _. IsPlan schema) plans place plan are at
+pub plan_there : (schema : SchemaModel) (steps : List StepModel) (plans : List TypePlan) (place : ℕ) (plan : TypePlan) → ArePlans schema steps plans → slice_get plans place ≡ Some plan
+    → IsPlan schema steps plan
+plan_there schema steps plans place plan are at = each_at (λ _. IsPlan schema steps) plans place plan are at
+
+-- what is expanded behind a planned slot
+pub slot_slots : (schema : SchemaModel) (steps : List StepModel) (id : ℕ) (node : Option ℕ) (slot : ℕ) (s : SlotPlan) → IsSlotPlan schema steps id node slot s
+    → slots_at schema steps s.node ≡ slots_behind (slots_at schema steps node) s.key
+slot_slots schema steps id node slot s is = ap (slots_at schema steps) is.behind ∙ node_slots schema steps node s.key
 
 -- ---- members
 

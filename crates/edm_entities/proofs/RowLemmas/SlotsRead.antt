@@ -6,14 +6,13 @@ use Rattle.serde_json.specs.Find.{get_member}
 use Rattle.serde_json.proofs.Views.{get_member-put, get_member-put_other}
 use Rattle.edm_values.specs.declared.value.Value.{Value, Null}
 use Rattle.csdl_schema.specs.PropertyView.{IsReadAs, property_type}
-use Rattle.csdl_schema.specs.SchemaModel.{SchemaModel, Slots, PropertyModel, PropertyType, declared, opaque, navigation, HasDistinctNames, slots_of, properties_at}
+use Rattle.csdl_schema.specs.SchemaModel.{SchemaModel, Slots, PropertyModel, PropertyType, slots_behind, HasDistinctNames}
 use Rattle.csdl_schema.specs.declared.property.Property.{Property}
 use Rattle.edm_entities.specs.Fits.{FitsProperty}
 use Rattle.edm_entities.specs.Row.{field_of, val_of}
-use Rattle.edm_entities.specs.private.SlotsSoFar.{HoldsSoFar, HoldEachSoFar, SlotsSoFar, may_be_absent}
+use Rattle.edm_entities.specs.private.SlotsSoFar.{HoldsSoFar, HoldEachSoFar, SlotsSoFar}
 use Rattle.edm_entities.specs.private.Walk.{HoldEach, FitsSlot, FitSlots, HoldsInSlot}
 use Rattle.edm_entities.proofs.SlotLemmas.EachSlot.{null_in_slot}
-use Rattle.edm_entities.proofs.SlotLemmas.FoundWalk.{val_of-Null}
 
 abbrev pub found_in : Members → List ℕ → Option Data
 found_in found name = get_member name found
@@ -44,10 +43,9 @@ none_filled slots [] (v ∷ values) long = absurd (omega (arith, long))
 none_filled slots (p ∷ ps) [] long = absurd (omega (arith, long))
 none_filled slots (p ∷ ps) (v ∷ values) long = (refl, none_filled slots ps values (omega (arith, long)))
 
-pub slots_start : (schema : SchemaModel) (id : ℕ) (filled : List Bool) (values : List Value) → filled ≡ replicate (length (properties_at schema id)) false → length values ≡ length (properties_at schema id)
-    → SlotsSoFar schema id no_members filled values
-slots_start schema id filled values are long =
-    subst (λ (marks : List Bool). SlotsSoFar schema id no_members marks values) (sym are) (none_filled (slots_of schema) (properties_at schema id) values long)
+pub slots_start : (slots : Slots) (ps : List PropertyModel) (filled : List Bool) (values : List Value) → filled ≡ replicate (length ps) false → length values ≡ length ps
+    → SlotsSoFar slots ps no_members filled values
+slots_start slots ps filled values are long = subst (λ (marks : List Bool). SlotsSoFar slots ps no_members marks values) (sym are) (none_filled slots ps values long)
 
 -- ---- one member more
 
@@ -55,7 +53,7 @@ module _ (slots : Slots) (found : Members) (name : List ℕ) (json : Data) where
   other_holds : (p : PropertyModel) (b : Bool) (v : Value) → p.name ≢ name → HoldsSoFar slots (found_in found) p b v → HoldsSoFar slots (found_in (put name json found)) p b v
   other_holds p false v other none = get_member-put_other p.name name json found other ∙ none
   other_holds p true v other fits =
-      (subst (λ (o : Option Data). FitsProperty slots p.nullable p.type_of o (field_of slots p.type_of (val_of v))) (sym (get_member-put_other p.name name json found other)) fits.0, fits.1)
+      (subst (λ (o : Option Data). FitsProperty (slots_behind slots p.name) p.nullable p.type_of o (field_of slots.properties p.type_of (val_of v))) (sym (get_member-put_other p.name name json found other)) fits.0, fits.1)
 
   pub others_hold : (ps : List PropertyModel) (filled : List Bool) (values : List Value) → AllByRecursion (λ p. p.name ≢ name) ps → HoldEachSoFar (HoldsSoFar slots (found_in found)) ps filled values
       → HoldEachSoFar (HoldsSoFar slots (found_in (put name json found))) ps filled values
@@ -74,7 +72,8 @@ module _ (slots : Slots) (found : Members) (name : List ℕ) (json : Data) where
 
   -- what fits what was found fills its slot
   pub slot_set : (ps : List PropertyModel) (filled : List Bool) (values : List Value) (n : ℕ) (v : Value) → HasDistinctNames ps → slice_get (map (λ p. p.name) ps) n ≡ Some name
-      → IfSome (slice_get ps n) (λ p. FitsProperty slots p.nullable p.type_of (Some json) (field_of slots p.type_of (val_of v))) → IfSome (slice_get ps n) (λ p. HoldsInSlot slots p.type_of v)
+      → IfSome (slice_get ps n) (λ p. FitsProperty (slots_behind slots p.name) p.nullable p.type_of (Some json) (field_of slots.properties p.type_of (val_of v)))
+      → IfSome (slice_get ps n) (λ p. HoldsInSlot (slots_behind slots p.name) p.type_of v)
       → HoldEachSoFar (HoldsSoFar slots (found_in found)) ps filled values → HoldEachSoFar (HoldsSoFar slots (found_in (put name json found))) ps (slice_set filled n true) (slice_set values n v)
   slot_set [] filled values n v distinct at fits holds hold = absurd (cc)
   slot_set (p ∷ ps) [] values n v distinct at fits holds hold = absurd hold
@@ -83,35 +82,29 @@ module _ (slots : Slots) (found : Members) (name : List ℕ) (json : Data) where
       let named : p.name ≡ name = cc in
       let here : Some json ≡ get_member p.name (put name json found) = sym (ap (λ (s : List ℕ). get_member s (put name json found)) named ∙ get_member-put name json found) in
       let others = subst (λ (s : List ℕ). AllByRecursion (λ q. q.name ≢ s) ps) named distinct.0 in
-      ((subst (λ (o : Option Data). FitsProperty slots p.nullable p.type_of o (field_of slots p.type_of (val_of v))) here fits, holds), others_hold ps filled values others hold.1)
+      ((subst (λ (o : Option Data). FitsProperty (slots_behind slots p.name) p.nullable p.type_of o (field_of slots.properties p.type_of (val_of v))) here fits, holds), others_hold ps filled values others hold.1)
   slot_set (p ∷ ps) (b ∷ filled) (w ∷ values) (suc n) v distinct at fits holds hold =
       (other_holds p b w (apart p.name ps n distinct.0 at) hold.0, slot_set ps filled values n v distinct.1 at fits holds hold.1)
 
 -- ---- at the end
 
-absent_fits : (slots : Slots) (type : PropertyType) (nullable : Bool) (found : Option Data) → found ≡ None → may_be_absent type nullable ≡ true
-    → FitsProperty slots nullable type found (field_of slots type (val_of Null))
-absent_fits slots (declared type) nullable found none may =
-    subst (λ (o : Option Data). FitsProperty slots nullable (declared type) o (field_of slots (declared type) (val_of Null))) (sym none) (may, val_of-Null slots type)
-absent_fits slots opaque nullable found none may = tt
-absent_fits slots (navigation target) nullable found none may = tt
-
-absent_filled : (slots : Slots) (found : List ℕ → Option Data) (p : PropertyModel) (b : Bool) (v : Value) → b ≡ false → may_be_absent p.type_of p.nullable ≡ true → HoldsSoFar slots found p b v
-    → HoldsSoFar slots found p true Null
-absent_filled slots found p true v not may hold = absurd (cc)
-absent_filled slots found p false v not may none = (absent_fits slots p.type_of p.nullable (found p.name) none may, null_in_slot slots p.type_of Null refl)
+absent_filled : (slots : Slots) (found : List ℕ → Option Data) (p : PropertyModel) (b : Bool) (v : Value) → b ≡ false
+    → FitsProperty (slots_behind slots p.name) p.nullable p.type_of None (field_of slots.properties p.type_of (val_of Null)) → HoldsSoFar slots found p b v → HoldsSoFar slots found p true Null
+absent_filled slots found p true v not fits hold = absurd (cc)
+absent_filled slots found p false v not fits none =
+    (subst (λ (o : Option Data). FitsProperty (slots_behind slots p.name) p.nullable p.type_of o (field_of slots.properties p.type_of (val_of Null))) (sym none) fits, null_in_slot (slots_behind slots p.name) p.type_of Null refl)
 
 -- null fills a slot that may be absent and was not filled
 pub slot_filled : (slots : Slots) (found : List ℕ → Option Data) (ps : List PropertyModel) (filled : List Bool) (values : List Value) (n : ℕ)
-    → IfSome (slice_get ps n) (λ p. may_be_absent p.type_of p.nullable ≡ true) → n < length filled → get_or filled n false ≡ false → HoldEachSoFar (HoldsSoFar slots found) ps filled values
-    → HoldEachSoFar (HoldsSoFar slots found) ps (slice_set filled n true) (slice_set values n Null)
-slot_filled slots found [] [] [] n may within not hold = absurd (omega arith)
-slot_filled slots found [] [] (v ∷ values) n may within not hold = absurd hold
-slot_filled slots found [] (b ∷ filled) values n may within not hold = absurd hold
-slot_filled slots found (p ∷ ps) [] values n may within not hold = absurd hold
-slot_filled slots found (p ∷ ps) (b ∷ filled) [] n may within not hold = absurd hold
-slot_filled slots found (p ∷ ps) (b ∷ filled) (v ∷ values) zero may within not hold = (absent_filled slots found p b v not may hold.0, hold.1)
-slot_filled slots found (p ∷ ps) (b ∷ filled) (v ∷ values) (suc n) may within not hold = (hold.0, slot_filled slots found ps filled values n may (omega (arith, within)) not hold.1)
+    → IfSome (slice_get ps n) (λ p. FitsProperty (slots_behind slots p.name) p.nullable p.type_of None (field_of slots.properties p.type_of (val_of Null))) → n < length filled → get_or filled n false ≡ false
+    → HoldEachSoFar (HoldsSoFar slots found) ps filled values → HoldEachSoFar (HoldsSoFar slots found) ps (slice_set filled n true) (slice_set values n Null)
+slot_filled slots found [] [] [] n fits within not hold = absurd (omega arith)
+slot_filled slots found [] [] (v ∷ values) n fits within not hold = absurd hold
+slot_filled slots found [] (b ∷ filled) values n fits within not hold = absurd hold
+slot_filled slots found (p ∷ ps) [] values n fits within not hold = absurd hold
+slot_filled slots found (p ∷ ps) (b ∷ filled) [] n fits within not hold = absurd hold
+slot_filled slots found (p ∷ ps) (b ∷ filled) (v ∷ values) zero fits within not hold = (absent_filled slots found p b v not fits hold.0, hold.1)
+slot_filled slots found (p ∷ ps) (b ∷ filled) (v ∷ values) (suc n) fits within not hold = (hold.0, slot_filled slots found ps filled values n fits (omega (arith, within)) not hold.1)
 
 filled_fits : (slots : Slots) (found : List ℕ → Option Data) (p : PropertyModel) (b : Bool) (v : Value) → b ≡ true → HoldsSoFar slots found p b v → FitsSlot slots found p v
 filled_fits slots found p true v is fits = fits
@@ -127,31 +120,34 @@ each_fits slots found (p ∷ ps) (b ∷ filled) [] all hold = absurd hold
 each_fits slots found (p ∷ ps) (b ∷ filled) (v ∷ values) all hold =
     (filled_fits slots found p b v (all 0 (omega arith)) hold.0, each_fits slots found ps filled values (λ k less. all (suc k) (omega (arith, less))) hold.1)
 
-pub slots_over : (schema : SchemaModel) (id : ℕ) (found : Members) (filled : List Bool) (values : List Value) → ((k : ℕ) → k < length (properties_at schema id) → get_or filled k false ≡ true)
-    → SlotsSoFar schema id found filled values → FitSlots (slots_of schema) (object found) (properties_at schema id) values
-slots_over schema id found filled values all hold = each_fits (slots_of schema) (found_in found) (properties_at schema id) filled values all hold
+pub slots_over : (slots : Slots) (ps : List PropertyModel) (found : Members) (filled : List Bool) (values : List Value) → ((k : ℕ) → k < length ps → get_or filled k false ≡ true)
+    → SlotsSoFar slots ps found filled values → FitSlots slots (object found) ps values
+slots_over slots ps found filled values all hold = each_fits slots (found_in found) ps filled values all hold
 
 -- ---- properties as the code reads them
 
-pub property_fits : (schema : SchemaModel) (slots : Slots) (o : Option PropertyModel) (property : Property) (json : Data) (v : Value) → IfSome o (λ p. IsReadAs schema p property)
-    → FitsProperty slots property.nullable (property_type schema property) (Some json) (field_of slots (property_type schema property) (val_of v))
-    → IfSome o (λ p. FitsProperty slots p.nullable p.type_of (Some json) (field_of slots p.type_of (val_of v)))
-property_fits schema slots None property json v is fits = tt
-property_fits schema slots (Some p) property json v is fits =
-    subst (λ (nullable : Bool). FitsProperty slots nullable p.type_of (Some json) (field_of slots p.type_of (val_of v))) is.nullable
-    (subst (λ (type : PropertyType). FitsProperty slots property.nullable type (Some json) (field_of slots type (val_of v))) is.type_of fits)
+pub property_fits : (schema : SchemaModel) (slots : Slots) (o : Option PropertyModel) (property : Property) (found : Option Data) (v : Value) → IfSome o (λ p. IsReadAs schema p property)
+    → FitsProperty slots property.nullable (property_type schema property) found (field_of slots.properties (property_type schema property) (val_of v))
+    → IfSome o (λ p. FitsProperty slots p.nullable p.type_of found (field_of slots.properties p.type_of (val_of v)))
+property_fits schema slots None property found v is fits = tt
+property_fits schema slots (Some p) property found v is fits =
+    subst (λ (nullable : Bool). FitsProperty slots nullable p.type_of found (field_of slots.properties p.type_of (val_of v))) is.nullable
+    (subst (λ (type : PropertyType). FitsProperty slots property.nullable type found (field_of slots.properties type (val_of v))) is.type_of fits)
+
+-- what holds of a property behind its name
+pub behind_named : (P : Slots → PropertyModel → Type 0) (slots inner : Slots) (ps : List PropertyModel) (n : ℕ) (name : List ℕ) → inner ≡ slots_behind slots name
+    → slice_get (map (λ p. p.name) ps) n ≡ Some name → IfSome (slice_get ps n) (P inner) → IfSome (slice_get ps n) (λ p. P (slots_behind slots p.name) p)
+behind_named P slots inner [] zero name same at holds = absurd (cc)
+behind_named P slots inner [] (suc n) name same at holds = absurd (cc)
+behind_named P slots inner (p ∷ ps) zero name same at holds =
+    let named : p.name ≡ name = cc in
+    subst (λ (s : List ℕ). P (slots_behind slots s) p) (sym named) (subst (λ (s : Slots). P s p) same holds)
+behind_named P slots inner (p ∷ ps) (suc n) name same at holds = behind_named P slots inner ps n name same at holds
 
 pub slot_within : (ps : List PropertyModel) (n : ℕ) (name : List ℕ) → slice_get (map (λ p. p.name) ps) n ≡ Some name → n < length ps
 slot_within [] n name at = absurd (cc)
 slot_within (p ∷ ps) zero name at = omega arith
 slot_within (p ∷ ps) (suc n) name at = omega (arith, slot_within ps n name at)
-
--- whether a property may be absent, as the code reads it
-pub may_as_read : (schema : SchemaModel) (o : Option PropertyModel) (property : Property) → IfSome o (λ p. IsReadAs schema p property)
-    → may_be_absent (property_type schema property) property.nullable ≡ true → IfSome o (λ p. may_be_absent p.type_of p.nullable ≡ true)
-may_as_read schema None property is may = tt
-may_as_read schema (Some p) property is may =
-    subst (λ (b : Bool). may_be_absent p.type_of b ≡ true) is.nullable (subst (λ (type : PropertyType). may_be_absent type property.nullable ≡ true) is.type_of may)
 
 -- ---- marks
 

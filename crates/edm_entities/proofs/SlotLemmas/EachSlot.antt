@@ -1,5 +1,5 @@
 -- Values hold one value for each slot of their records, null in the slots that are not looked at.
-use Rattle.std.proofs.Common.{◌≡◌, ℕ, List, [], ◌∷◌, ◌++◌, Bool, true, false, ◌&&◌, map, Option, Some, None, IfSome, Vec, Global, refl, rules, sym, ap, ◌∙◌, subst}
+use Rattle.std.proofs.Common.{◌≡◌, ℕ, List, [], ◌∷◌, ◌++◌, Bool, true, false, cond, ◌&&◌, map, Option, Some, None, IfSome, Vec, Global, refl, rules, sym, ap, ◌∙◌, subst}
 use Rattle.serde_json.specs.Data.{Data}
 use Rattle.edm_values.specs.Val.{Val, fields, items, FieldVal, Vals}
 use Rattle.edm_values.specs.declared.primitive.PrimitiveType.{PrimitiveType}
@@ -9,7 +9,7 @@ use Rattle.edm_values.specs.declared.value.Value as views
 use Rattle.edm_enumerations.specs.EnumerationModel.{EnumerationModel}
 use Rattle.csdl_schema.specs.ExprType.{ExprType, null_type, single, collection, SingleType, primitive, enumeration, structured}
 use Rattle.csdl_schema.specs.PropertyView.{IsReadAs, property_type}
-use Rattle.csdl_schema.specs.SchemaModel.{SchemaModel, Slots, PropertyModel, PropertyType, declared, opaque, navigation, slots_of, type_name_at, properties_at}
+use Rattle.csdl_schema.specs.SchemaModel.{SchemaModel, Slots, PropertyModel, PropertyType, declared, opaque, navigation}
 use Rattle.csdl_schema.specs.declared.property.Property.{Property}
 use Rattle.edm_entities.specs.FitsPrimitive.{FitsNumber, FitsPrimitive, FitsText, IsMemberText}
 use Rattle.edm_entities.specs.HoldsEachSlot.{HoldsEachSlot, holding_of, items_hold, list_holds, record_holds, slots_hold}
@@ -29,7 +29,13 @@ null_is_null = search (rules, the_lemmas)
 pub null_in_slot : (slots : Slots) (type : PropertyType) (v : Value) → v ≡ Null → HoldsInSlot slots type v
 null_in_slot slots (declared type) v same = null_holds slots type v same
 null_in_slot slots opaque v same = ap (λ (w : Value). (holding_of w).is_null) same ∙ null_is_null
-null_in_slot slots (navigation target) v same = ap (λ (w : Value). (holding_of w).is_null) same ∙ null_is_null
+null_in_slot slots (navigation None) v same = ap (λ (w : Value). (holding_of w).is_null) same ∙ null_is_null
+null_in_slot slots (navigation (Some type)) v same =
+    either (slots.needed []) ((holding_of v).holds slots type) (holding_of v).is_null (null_holds slots type v same) (ap (λ (w : Value). (holding_of w).is_null) same ∙ null_is_null)
+  where
+    either : (b x y : Bool) → x ≡ true → y ≡ true → cond b x y ≡ true
+    either true x y here there = here
+    either false x y here there = there
 
 -- ---- values without parts
 
@@ -57,21 +63,21 @@ member_leaf : (e : Option EnumerationModel) (json : Data) (v : Val) → FitsText
 member_leaf e json v fits = subst IsLeaf (sym fits.2.3) tt
 
 -- what a record and a list stand for is no leaf
-record_val : (slots : Slots) (type : ExprType) (shape : _) (all : _) → (names : List ℕ → FieldVal) × (val_of (Record' shape all) slots type ≡ fields names)
+record_val : (slots : Slots) (type : ExprType) (shape : _) (all : _) → (names : List ℕ → FieldVal) × (val_of (Record' shape all) slots.properties type ≡ fields names)
 unfolding views.out-Value denote.Hole.Carrier.out
-record_val slots null_type shape all = (_, ap (λ (f : ValAtType). f slots null_type) (fold_out-Value ValAtType val_step (Record' shape all)))
-record_val slots (single (primitive p)) shape all = (_, ap (λ (f : ValAtType). f slots (single (primitive p))) (fold_out-Value ValAtType val_step (Record' shape all)))
-record_val slots (single (enumeration name)) shape all = (_, ap (λ (f : ValAtType). f slots (single (enumeration name))) (fold_out-Value ValAtType val_step (Record' shape all)))
-record_val slots (single (structured name)) shape all = (_, ap (λ (f : ValAtType). f slots (single (structured name))) (fold_out-Value ValAtType val_step (Record' shape all)))
-record_val slots (collection t) shape all = (_, ap (λ (f : ValAtType). f slots (collection t)) (fold_out-Value ValAtType val_step (Record' shape all)))
+record_val slots null_type shape all = (_, ap (λ (f : ValAtType). f slots.properties null_type) (fold_out-Value ValAtType val_step (Record' shape all)))
+record_val slots (single (primitive p)) shape all = (_, ap (λ (f : ValAtType). f slots.properties (single (primitive p))) (fold_out-Value ValAtType val_step (Record' shape all)))
+record_val slots (single (enumeration name)) shape all = (_, ap (λ (f : ValAtType). f slots.properties (single (enumeration name))) (fold_out-Value ValAtType val_step (Record' shape all)))
+record_val slots (single (structured name)) shape all = (_, ap (λ (f : ValAtType). f slots.properties (single (structured name))) (fold_out-Value ValAtType val_step (Record' shape all)))
+record_val slots (collection t) shape all = (_, ap (λ (f : ValAtType). f slots.properties (collection t)) (fold_out-Value ValAtType val_step (Record' shape all)))
 
-list_val : (slots : Slots) (type : ExprType) (shape : _) (all : _) → (held : Vals) × (val_of (List' shape all) slots type ≡ items held)
+list_val : (slots : Slots) (type : ExprType) (shape : _) (all : _) → (held : Vals) × (val_of (List' shape all) slots.properties type ≡ items held)
 unfolding views.out-Value denote.Hole.Carrier.out
-list_val slots null_type shape all = (_, ap (λ (f : ValAtType). f slots null_type) (fold_out-Value ValAtType val_step (List' shape all)))
-list_val slots (single t) shape all = (_, ap (λ (f : ValAtType). f slots (single t)) (fold_out-Value ValAtType val_step (List' shape all)))
-list_val slots (collection t) shape all = (_, ap (λ (f : ValAtType). f slots (collection t)) (fold_out-Value ValAtType val_step (List' shape all)))
+list_val slots null_type shape all = (_, ap (λ (f : ValAtType). f slots.properties null_type) (fold_out-Value ValAtType val_step (List' shape all)))
+list_val slots (single t) shape all = (_, ap (λ (f : ValAtType). f slots.properties (single t)) (fold_out-Value ValAtType val_step (List' shape all)))
+list_val slots (collection t) shape all = (_, ap (λ (f : ValAtType). f slots.properties (collection t)) (fold_out-Value ValAtType val_step (List' shape all)))
 
-leaf_holds : (slots : Slots) (type : ExprType) (v : Value) → IsLeaf (val_of v slots type) → HoldsEachSlot v slots type
+leaf_holds : (slots : Slots) (type : ExprType) (v : Value) → IsLeaf (val_of v slots.properties type) → HoldsEachSlot v slots type
 leaf_holds slots type Null leaf = null_holds slots type Null refl
 leaf_holds slots type (BoolValue b) leaf = search (rules, the_lemmas)
 leaf_holds slots type (Int n) leaf = search (rules, the_lemmas)
@@ -83,13 +89,13 @@ leaf_holds slots type (Enum n) leaf = search (rules, the_lemmas)
 leaf_holds slots type (Record' shape all) leaf = let seen = record_val slots type shape all in absurd (subst IsLeaf seen.1 leaf)
 leaf_holds slots type (List' shape all) leaf = let seen = list_val slots type shape all in absurd (subst IsLeaf seen.1 leaf)
 
-pub primitive_holds : (slots : Slots) (type : PrimitiveType) (json : Data) (v : Value) → FitsPrimitive type json (val_of v slots (single (primitive type)))
+pub primitive_holds : (slots : Slots) (type : PrimitiveType) (json : Data) (v : Value) → FitsPrimitive type json (val_of v slots.properties (single (primitive type)))
     → HoldsEachSlot v slots (single (primitive type))
-primitive_holds slots type json v fits = leaf_holds slots (single (primitive type)) v (primitive_leaf type json (val_of v slots (single (primitive type))) fits)
+primitive_holds slots type json v fits = leaf_holds slots (single (primitive type)) v (primitive_leaf type json (val_of v slots.properties (single (primitive type))) fits)
 
-pub member_holds : (slots : Slots) (name : List ℕ) (json : Data) (v : Value) → FitsText (IsMemberText (slots.enumerations name)) json (val_of v slots (single (enumeration name)))
+pub member_holds : (slots : Slots) (name : List ℕ) (json : Data) (v : Value) → FitsText (IsMemberText (slots.enumerations name)) json (val_of v slots.properties (single (enumeration name)))
     → HoldsEachSlot v slots (single (enumeration name))
-member_holds slots name json v fits = leaf_holds slots (single (enumeration name)) v (member_leaf (slots.enumerations name) json (val_of v slots (single (enumeration name))) fits)
+member_holds slots name json v fits = leaf_holds slots (single (enumeration name)) v (member_leaf (slots.enumerations name) json (val_of v slots.properties (single (enumeration name))) fits)
 
 -- ---- records
 
@@ -106,10 +112,9 @@ each_holds slots found [] (v ∷ values) fits = absurd fits
 each_holds slots found (p ∷ ps) [] fits = absurd fits
 each_holds slots found (p ∷ ps) (v ∷ values) fits = both _ _ fits.0.1 (each_holds slots found ps values fits.1)
 
-pub slots_held : (schema : SchemaModel) (id : ℕ) (found : List ℕ → Option Data) (values : Vec Value Global) → HoldEach (FitsSlot (slots_of schema) found) (properties_at schema id) values.items
-    → HoldsEachSlot (Record values) (slots_of schema) (single (structured (type_name_at schema id)))
-slots_held schema id found values fits =
-    holding-Record (slots_of schema) (single (structured (type_name_at schema id))) values ∙ each_holds (slots_of schema) found (properties_at schema id) values.items fits
+pub slots_held : (slots : Slots) (name : List ℕ) (found : List ℕ → Option Data) (values : Vec Value Global) → HoldEach (FitsSlot slots found) (slots.properties name) values.items
+    → HoldsEachSlot (Record values) slots (single (structured name))
+slots_held slots name found values fits = holding-Record slots (single (structured name)) values ∙ each_holds slots found (slots.properties name) values.items fits
 
 -- ---- lists
 
@@ -137,6 +142,21 @@ pub slot_as_read : (schema : SchemaModel) (slots : Slots) (o : Option PropertyMo
     → HoldsInSlot slots (property_type schema property) v → IfSome o (λ p. HoldsInSlot slots p.type_of v)
 slot_as_read schema slots None property v is holds = tt
 slot_as_read schema slots (Some p) property v is holds = subst (λ (type : PropertyType). HoldsInSlot slots type v) is.type_of holds
+
+-- a property of that kind is looked at, and its value is of the type: of a navigation property, where it is expanded
+abbrev pub IsLookedAt : Slots → PropertyType → ExprType → Type 0
+IsLookedAt slots (declared t) type = t ≡ type
+IsLookedAt slots opaque type = ⊥
+IsLookedAt slots (navigation None) type = ⊥
+IsLookedAt slots (navigation (Some t)) type = (slots.needed [] ≡ true) × (t ≡ type)
+
+-- a value of a property that is looked at
+pub held_seen : (slots : Slots) (type : PropertyType) (wanted : ExprType) (v : Value) → IsLookedAt slots type wanted → HoldsEachSlot v slots wanted → HoldsInSlot slots type v
+held_seen slots (declared type) wanted v is holds = subst (λ (t : ExprType). HoldsEachSlot v slots t) (sym is) holds
+held_seen slots opaque wanted v is holds = absurd is
+held_seen slots (navigation None) wanted v is holds = absurd is
+held_seen slots (navigation (Some type)) wanted v is holds =
+    subst (λ (b : Bool). cond b ((holding_of v).holds slots type) (holding_of v).is_null ≡ true) (sym is.0) (subst (λ (t : ExprType). HoldsEachSlot v slots t) (sym is.1) holds)
 
 -- a value of a property by what it is read as
 pub held_as : (slots : Slots) (type : PropertyType) (wanted : ExprType) (v : Value) → type ≡ declared wanted → HoldsEachSlot v slots wanted → HoldsInSlot slots type v

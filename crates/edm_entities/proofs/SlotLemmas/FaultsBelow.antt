@@ -1,6 +1,6 @@
 -- A fault that is told from a step further up, and the fault of a row.
 use Rattle.std.proofs.Common.{◌≡◌, inl, inr, ℕ, List, [], ◌∷◌, None, sym, subst}
-use Rattle.edm_entities.specs.FitsPrimitive.{Flaw, missing, wrong_kind, null_not_allowed, out_of_range, bad_text}
+use Rattle.edm_entities.specs.FitsPrimitive.{Flaw, missing, wrong_kind, null_not_allowed, out_of_range, bad_text, not_expanded}
 use Rattle.edm_entities.specs.RowFaults.{Path}
 use Rattle.edm_entities.specs.private.Faults.{OnFlaw, IsPathText, IsFaultOf, IsBelow}
 use Rattle.edm_entities.specs.declared.flaw.ReadFlaw.{ReadFlaw}
@@ -13,6 +13,7 @@ on_flaw code.WrongKind P Q by holds = by wrong_kind holds
 on_flaw code.NullNotAllowed P Q by holds = by null_not_allowed holds
 on_flaw code.OutOfRange P Q by holds = by out_of_range holds
 on_flaw code.BadText P Q by holds = by bad_text holds
+on_flaw code.NotExpanded P Q by holds = by not_expanded holds
 on_flaw code.Memory P Q by holds = tt
 
 -- a flaw of a value itself has the way without steps

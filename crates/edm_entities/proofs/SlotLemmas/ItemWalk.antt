@@ -25,7 +25,7 @@ item_there (y ∷ xs) (suc n) x within is = item_there xs n x (omega arith) is
 
 module _ (slots : Slots) (nullable : Bool) (type : SingleType) where
   abbrev Fitting : json.Value → Value → Type 0
-  Fitting x v = FitsFound (Some (view x)) nullable (val_of v slots (single type)) (λ found. FitsType slots nullable (single type) found (val_of v slots (single type)))
+  Fitting x v = FitsFound (Some (view x)) nullable (val_of v slots.properties (single type)) (λ found. FitsType slots nullable (single type) found (val_of v slots.properties (single type)))
 
   -- one item more
   pub list_push : (xs : List json.Value) (n : ℕ) (values : List Value) (x : json.Value) (v : Value) → slice_get xs n ≡ Some x
@@ -61,7 +61,7 @@ module _ (slots : Slots) (nullable : Bool) (type : SingleType) where
         faulty = view x;
         at_index = viewed xs n x at;
         before_fit = λ k before less there.
-            item_at slots nullable type (items_view (take n xs)) (items_of slots type (map val_of values)) k before fits (taken xs n k less ∙ there);
+            item_at slots nullable type (items_view (take n xs)) (items_of slots.properties type (map val_of values)) k before fits (taken xs n k less ∙ there);
         step_is = refl;
         fault = fault;
       }

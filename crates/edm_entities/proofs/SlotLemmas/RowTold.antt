@@ -4,7 +4,7 @@ use Rattle.serde_json.specs.Data.{Data}
 use Rattle.serde_json.specs.Find.{as_object}
 use Rattle.csdl_schema.specs.ExprType.{single, structured}
 use Rattle.csdl_schema.specs.SchemaModel.{Slots}
-use Rattle.edm_entities.specs.FitsPrimitive.{Flaw, missing, wrong_kind, null_not_allowed, out_of_range, bad_text}
+use Rattle.edm_entities.specs.FitsPrimitive.{Flaw, missing, wrong_kind, null_not_allowed, out_of_range, bad_text, not_expanded}
 use Rattle.edm_entities.specs.RowFaults.{Path, IsValueFault, IsFirstFaultAt, IsRowFault, IsMemory}
 use Rattle.edm_entities.specs.private.Faults.{OnFlaw, IsPathText, IsFaultOf, IsToldAs}
 use Rattle.edm_entities.specs.declared.flaw.ReadFlaw.{ReadFlaw}
@@ -29,6 +29,7 @@ module _ (slots : Slots) (name : List ℕ) (json : Data) where
   no_object null_not_allowed [] text here = absurd here
   no_object out_of_range [] text here = absurd here
   no_object bad_text [] text here = absurd here
+  no_object not_expanded [] text here = absurd here
   no_object flaw (step ∷ path) text here = absurd text
 
   found : (told : ReadFault) (flaw : ReadFlaw) (path : Option (String Global)) → told.flaw ≡ flaw → told.path ≡ path → IsFaultOf At told
@@ -43,6 +44,7 @@ module _ (slots : Slots) (name : List ℕ) (json : Data) where
   nowhere code.NullNotAllowed memory here = no_object null_not_allowed here.0 here.1 here.2
   nowhere code.OutOfRange memory here = no_object out_of_range here.0 here.1 here.2
   nowhere code.BadText memory here = no_object bad_text here.0 here.1 here.2
+  nowhere code.NotExpanded memory here = no_object not_expanded here.0 here.1 here.2
   nowhere code.Memory memory here = absurd (memory refl)
 
   pub row_told : (told : ReadFault) (result : RowFault) → IsToldAs told result → IsFaultOf At told → ¬ (IsMemory result) → IsRowFault slots name json result
@@ -52,4 +54,5 @@ module _ (slots : Slots) (name : List ℕ) (json : Data) where
   row_told told (fault.NullNotAllowed path) is here some = let at = found told code.NullNotAllowed (Some path) is.0 is.1 here in at_path null_not_allowed path at.0 at.1 at.2
   row_told told (fault.OutOfRange path) is here some = let at = found told code.OutOfRange (Some path) is.0 is.1 here in at_path out_of_range path at.0 at.1 at.2
   row_told told (fault.BadText path) is here some = let at = found told code.BadText (Some path) is.0 is.1 here in at_path bad_text path at.0 at.1 at.2
+  row_told told (fault.NotExpanded path) is here some = let at = found told code.NotExpanded (Some path) is.0 is.1 here in at_path not_expanded path at.0 at.1 at.2
   row_told told fault.Memory is here some = absurd (some tt)

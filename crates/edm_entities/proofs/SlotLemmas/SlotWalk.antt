@@ -5,8 +5,9 @@ use Rattle.serde_json.specs.Data.{Data}
 use Rattle.serde_json.specs.Find.{get, as_object}
 use Rattle.edm_values.specs.declared.value.Value.{Value}
 use Rattle.csdl_schema.specs.ExprType.{single, structured}
+use Rattle.csdl_schema.specs.PathSet.{PathSet}
 use Rattle.csdl_schema.specs.PropertyView.{IsReadAs, property_type}
-use Rattle.csdl_schema.specs.SchemaModel.{SchemaModel, Slots, PropertyModel, PropertyType, slots_of, type_name_at, properties_at}
+use Rattle.csdl_schema.specs.SchemaModel.{SchemaModel, Slots, PropertyModel, PropertyType, expanded, slots_behind, slots_of, type_name_at, properties_at}
 use Rattle.csdl_schema.specs.declared.property.Property.{Property}
 use Rattle.edm_entities.specs.Fits.{FitsProperty}
 use Rattle.edm_entities.specs.FitsPrimitive.{Flaw}
@@ -31,7 +32,7 @@ some_fit : (slots : Slots) (json : Data) (properties : List PropertyModel) (valu
     → AllByRecursion (HasFitting slots json) properties
 some_fit slots json [] values fits = tt
 some_fit slots json (p ∷ ps) [] fits = absurd fits
-some_fit slots json (p ∷ ps) (v ∷ values) fits = ((field_of slots p.type_of (val_of v), fits.0.0), some_fit slots json ps values fits.1)
+some_fit slots json (p ∷ ps) (v ∷ values) fits = ((field_of slots.properties p.type_of (val_of v), fits.0.0), some_fit slots json ps values fits.1)
 
 cut_at : (properties : List PropertyModel) (n : ℕ) (p : PropertyModel) → slice_get properties n ≡ Some p → properties ≡ take n properties ++ p ∷ drop (suc n) properties
 cut_at [] n p at = absurd (cc)
@@ -62,47 +63,57 @@ slot_read : (schema : SchemaModel) (id n : ℕ) (name : List ℕ) (property : Pr
 slot_read schema id n name property named read =
     read_model schema id n name property (slice_get (properties_at schema id) n) refl (let is = name_at (properties_at schema id) n in cc) read
 
-module _ (schema : SchemaModel) (id n : ℕ) (json : Data) (values : List Value) (name : List ℕ) (property : Property)
+module _ (schema : SchemaModel) (paths : PathSet) (id n : ℕ) (json : Data) (values : List Value) (name : List ℕ) (property : Property)
     (named : slice_get (map (λ p. p.name) (properties_at schema id)) n ≡ Some name)
     (read : IfSome (slice_get (properties_at schema id) n) (λ p. IsReadAs schema p property))
-    (fits : FitSlots (slots_of schema) json (take n (properties_at schema id)) values) where
+    (fits : FitSlots (expanded (slots_of schema) paths) json (take n (properties_at schema id)) values) where
   slot : IsSlotRead schema id n name property
   slot = slot_read schema id n name property named read
 
+  abbrev whole : Slots
+  whole = expanded (slots_of schema) paths
+
+  abbrev inner : List ℕ → Slots
+  inner step = slots_behind whole step
+
   -- a value that fits its property takes its slot
-  pub slot_pushed : (v : Value) → FitsProperty (slots_of schema) property.nullable (property_type schema property) (get name json) (field_of (slots_of schema) (property_type schema property) (val_of v))
-      → HoldsInSlot (slots_of schema) (property_type schema property) v → FitSlots (slots_of schema) json (take (suc n) (properties_at schema id)) (values ++ v ∷ [])
+  pub slot_pushed : (v : Value)
+      → FitsProperty (slots_behind (expanded (slots_of schema) paths) name) property.nullable (property_type schema property) (get name json)
+      (field_of (slots_of schema).properties (property_type schema property) (val_of v))
+      → HoldsInSlot (slots_behind (expanded (slots_of schema) paths) name) (property_type schema property) v
+      → FitSlots (expanded (slots_of schema) paths) json (take (suc n) (properties_at schema id)) (values ++ v ∷ [])
   slot_pushed v here holds =
-      let by_type : FitsProperty (slots_of schema) property.nullable slot.model.type_of (get name json) (field_of (slots_of schema) slot.model.type_of (val_of v)) =
-      subst (λ (t : PropertyType). FitsProperty (slots_of schema) property.nullable t (get name json) (field_of (slots_of schema) t (val_of v))) slot.type_of here in
-      let by_null = subst (λ (b : Bool). FitsProperty (slots_of schema) b slot.model.type_of (get name json) (field_of (slots_of schema) slot.model.type_of (val_of v))) slot.nullable by_type in
-      let by_name = subst (λ (s : List ℕ). FitsProperty (slots_of schema) slot.model.nullable slot.model.type_of (get s json) (field_of (slots_of schema) slot.model.type_of (val_of v))) (sym slot.named) by_null in
-      hold_push (FitsSlot (slots_of schema) (λ s. get s json)) (properties_at schema id) n values v slot.model slot.at_slot fits
-      (by_name, subst (λ (t : PropertyType). HoldsInSlot (slots_of schema) t v) slot.type_of holds)
+      let by_type : FitsProperty (inner name) property.nullable slot.model.type_of (get name json) (field_of whole.properties slot.model.type_of (val_of v)) =
+      subst (λ (t : PropertyType). FitsProperty (inner name) property.nullable t (get name json) (field_of whole.properties t (val_of v))) slot.type_of here in
+      let by_null = subst (λ (b : Bool). FitsProperty (inner name) b slot.model.type_of (get name json) (field_of whole.properties slot.model.type_of (val_of v))) slot.nullable by_type in
+      let by_name = subst (λ (s : List ℕ). FitsProperty (inner s) slot.model.nullable slot.model.type_of (get s json) (field_of whole.properties slot.model.type_of (val_of v))) (sym slot.named) by_null in
+      let held = subst (λ (t : PropertyType). HoldsInSlot (inner name) t v) slot.type_of holds in
+      hold_push (FitsSlot whole (λ s. get s json)) (properties_at schema id) n values v slot.model slot.at_slot fits
+      (by_name, subst (λ (s : List ℕ). HoldsInSlot (inner s) slot.model.type_of v) (sym slot.named) held)
 
   -- a fault of a property is the first of the object
   slot_fault : (nullable : Bool) (path : Path) (flaw : Flaw) → IsSome (as_object json)
-      → IsPropertyFault (slots_of schema) property.nullable (property_type schema property) (get name json) path flaw
-      → IsValueFault (slots_of schema) nullable (name ∷ path) (single (structured (type_name_at schema id))) json flaw
+      → IsPropertyFault (inner name) property.nullable (property_type schema property) (get name json) path flaw
+      → IsValueFault whole nullable (name ∷ path) (single (structured (type_name_at schema id))) json flaw
   slot_fault nullable path flaw is_object fault =
-      let by_type = subst (λ (t : PropertyType). IsPropertyFault (slots_of schema) property.nullable t (get name json) path flaw) slot.type_of fault in
-      let by_null = subst (λ (b : Bool). IsPropertyFault (slots_of schema) b slot.model.type_of (get name json) path flaw) slot.nullable by_type in
-      let by_name = subst (λ (s : List ℕ). IsPropertyFault (slots_of schema) slot.model.nullable slot.model.type_of (get s json) path flaw) (sym slot.named) by_null in
+      let by_type = subst (λ (t : PropertyType). IsPropertyFault (inner name) property.nullable t (get name json) path flaw) slot.type_of fault in
+      let by_null = subst (λ (b : Bool). IsPropertyFault (inner name) b slot.model.type_of (get name json) path flaw) slot.nullable by_type in
+      let by_name = subst (λ (s : List ℕ). IsPropertyFault (inner s) slot.model.nullable slot.model.type_of (get s json) path flaw) (sym slot.named) by_null in
       record {
         is_object = is_object;
         before = take n (properties_at schema id);
         faulty = slot.model;
         behind = drop (suc n) (properties_at schema id);
         split = cut_at (properties_at schema id) n slot.model slot.at_slot;
-        before_fit = some_fit (slots_of schema) json (take n (properties_at schema id)) values fits;
+        before_fit = some_fit whole json (take n (properties_at schema id)) values fits;
         step_is = sym slot.named;
         fault = by_name;
       }
 
   pub slots_fault : (nullable : Bool) (told result : ReadFault) → IsSome (as_object json) → IsBelow name told result
-      → IsFaultOf (IsPropertyFault (slots_of schema) property.nullable (property_type schema property) (get name json)) told
-      → IsFaultOf (λ path flaw. IsValueFault (slots_of schema) nullable path (single (structured (type_name_at schema id))) json flaw) result
+      → IsFaultOf (IsPropertyFault (slots_behind (expanded (slots_of schema) paths) name) property.nullable (property_type schema property) (get name json)) told
+      → IsFaultOf (λ path flaw. IsValueFault (expanded (slots_of schema) paths) nullable path (single (structured (type_name_at schema id))) json flaw) result
   slots_fault nullable told result is_object below fault =
-      fault_below (IsPropertyFault (slots_of schema) property.nullable (property_type schema property) (get name json))
-      (λ path flaw. IsValueFault (slots_of schema) nullable path (single (structured (type_name_at schema id))) json flaw) name told result below
+      fault_below (IsPropertyFault (inner name) property.nullable (property_type schema property) (get name json))
+      (λ path flaw. IsValueFault whole nullable path (single (structured (type_name_at schema id))) json flaw) name told result below
       (λ path flaw here. slot_fault nullable path flaw is_object here) fault

@@ -31,13 +31,13 @@ leaf_fault read (Result.Err fault) P is holds = flaw_here P fault is.0 (subst (�
 
 -- a value of a type by another name
 pub value_as : (slots : Slots) (nullable : Bool) (json : Data) (type other : SingleType) (v : Value) → type ≡ other
-    → FitsType slots nullable (single other) json (val_of v slots (single other)) → FitsType slots nullable (single type) json (val_of v slots (single type))
-value_as slots nullable json type other v same fits = subst (λ (s : SingleType). FitsType slots nullable (single s) json (val_of v slots (single s))) (sym same) fits
+    → FitsType slots nullable (single other) json (val_of v slots.properties (single other)) → FitsType slots nullable (single type) json (val_of v slots.properties (single type))
+value_as slots nullable json type other v same fits = subst (λ (s : SingleType). FitsType slots nullable (single s) json (val_of v slots.properties (single s))) (sym same) fits
 
 pub read_as : (slots : Slots) (nullable : Bool) (json : Data) (type other : SingleType) (result : Result Value ReadFault) → type ≡ other
-    → IfOk result (λ v. FitsType slots nullable (single other) json (val_of v slots (single other))) → IfOk result (λ v. FitsType slots nullable (single type) json (val_of v slots (single type)))
+    → IfOk result (λ v. FitsType slots nullable (single other) json (val_of v slots.properties (single other))) → IfOk result (λ v. FitsType slots nullable (single type) json (val_of v slots.properties (single type)))
 read_as slots nullable json type other result same fits =
-    subst (λ (s : SingleType). IfOk result (λ v. FitsType slots nullable (single s) json (val_of v slots (single s)))) (sym same) fits
+    subst (λ (s : SingleType). IfOk result (λ v. FitsType slots nullable (single s) json (val_of v slots.properties (single s)))) (sym same) fits
 
 -- ---- records
 
@@ -61,9 +61,9 @@ not_null json jsons is = let same : json ≡ array jsons = array_is json jsons i
 
 pub array_fits : (slots : Slots) (nullable : Bool) (type : SingleType) (json : Data) (jsons : Items) (values : Vec Value Global) → as_array json ≡ Some jsons
     → FitList slots nullable type jsons values.items
-    → FitsFound (Some json) false (val_of (ListOf values) slots (collection type)) (λ found. FitsType slots nullable (collection type) found (val_of (ListOf values) slots (collection type)))
+    → FitsFound (Some json) false (val_of (ListOf values) slots.properties (collection type)) (λ found. FitsType slots nullable (collection type) found (val_of (ListOf values) slots.properties (collection type)))
 array_fits slots nullable type json jsons values is fits =
-    other_fits json false (val_of (ListOf values) slots (collection type)) (λ found. FitsType slots nullable (collection type) found (val_of (ListOf values) slots (collection type)))
+    other_fits json false (val_of (ListOf values) slots.properties (collection type)) (λ found. FitsType slots nullable (collection type) found (val_of (ListOf values) slots.properties (collection type)))
     (not_null json jsons is)
     (subst (FitsType slots nullable (collection type) json) (sym (val_of-List slots (collection type) values)) (jsons, is, fits))
 

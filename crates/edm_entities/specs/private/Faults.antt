@@ -2,10 +2,10 @@
 use Rattle.std.specs.Prelude.{◌≡◌, ◌⊎◌, ℕ, List, [], ◌∷◌, Option, Some, None, String, string_bytes}
 use Rattle.std.specs.declared.alloc.Global.{Global}
 use Rattle.std.specs.List.{join_with_byte}
-use Rattle.edm_entities.specs.FitsPrimitive.{Flaw, missing, wrong_kind, null_not_allowed, out_of_range, bad_text}
+use Rattle.edm_entities.specs.FitsPrimitive.{Flaw, missing, wrong_kind, null_not_allowed, out_of_range, bad_text, not_expanded}
 use Rattle.edm_entities.specs.RowFaults.{Path}
 use Rattle.edm_entities.specs.declared.flaw.ReadFlaw.{ReadFlaw}
-use Rattle.edm_entities.specs.declared.flaw.ReadFlaw.TheVariants.{Missing, WrongKind, NullNotAllowed, OutOfRange, BadText, Memory}
+use Rattle.edm_entities.specs.declared.flaw.ReadFlaw.TheVariants.{Missing, WrongKind, NullNotAllowed, OutOfRange, BadText, NotExpanded, Memory}
 use Rattle.edm_entities.specs.declared.flaw.ReadFault.{ReadFault}
 use Rattle.edm_entities.specs.declared.fault.RowFault.{RowFault}
 use Rattle.edm_entities.specs.declared.fault.RowFault.TheVariants as fault
@@ -17,6 +17,7 @@ OnFlaw WrongKind P = P wrong_kind
 OnFlaw NullNotAllowed P = P null_not_allowed
 OnFlaw OutOfRange P = P out_of_range
 OnFlaw BadText P = P bad_text
+OnFlaw NotExpanded P = P not_expanded
 OnFlaw Memory P = Unit {0}
 
 -- the text of a path; none of the path without steps
@@ -48,4 +49,5 @@ IsToldAs told (fault.WrongKind path) = (told.flaw ≡ WrongKind) × (told.path �
 IsToldAs told (fault.NullNotAllowed path) = (told.flaw ≡ NullNotAllowed) × (told.path ≡ Some path)
 IsToldAs told (fault.OutOfRange path) = (told.flaw ≡ OutOfRange) × (told.path ≡ Some path)
 IsToldAs told (fault.BadText path) = (told.flaw ≡ BadText) × (told.path ≡ Some path)
+IsToldAs told (fault.NotExpanded path) = (told.flaw ≡ NotExpanded) × (told.path ≡ Some path)
 IsToldAs told fault.Memory = told.flaw ≡ Memory

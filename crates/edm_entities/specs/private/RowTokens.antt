@@ -68,7 +68,8 @@ pub record ItemsLead (depth : ℕ) (first left : List Token) (P : Items → Type
 -- what is found for one value, which may be null, fits it
 abbrev pub FitsNullable : Slots → Bool → Bool → ExprType → Value → Data → Type 0
 FitsNullable slots takes nullable type v json =
-    FitsFound (Some json) takes (val_of v slots type) (λ found. FitsType slots nullable type found (val_of v slots type))
+    FitsFound (Some json) takes (val_of v slots.properties type)
+    (λ found. FitsType slots nullable type found (val_of v slots.properties type))
 
 -- the same, however nullable
 abbrev pub FitsHoweverNullable : Slots → ExprType → Value → Data → Type 0

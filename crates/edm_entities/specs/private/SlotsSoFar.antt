@@ -3,9 +3,14 @@ use Rattle.std.specs.Prelude.{◌≡◌, ℕ, List, [], ◌∷◌, Bool, true, f
 use Rattle.serde_json.specs.Data.{Data, Members}
 use Rattle.serde_json.specs.Find.{get_member}
 use Rattle.edm_values.specs.declared.value.Value.{Value}
-use Rattle.csdl_schema.specs.SchemaModel.{SchemaModel, Slots, PropertyModel, PropertyType, declared, opaque, navigation, slots_of, properties_at}
-use Rattle.edm_entities.specs.Fits.{takes_null}
+use Rattle.csdl_schema.specs.SchemaModel.{Slots, PropertyModel}
+use Rattle.edm_entities.specs.private.Expanded.{slots_at}
 use Rattle.edm_entities.specs.private.Walk.{FitsSlot}
+use Rattle.edm_entities.specs.declared.row_walk.RowScene.{RowScene}
+
+-- the types of a row's schema, where what stands behind a node of its expansion is expanded
+abbrev pub slots_below : RowScene → Option ℕ → Slots
+slots_below scene node = slots_at scene.schema.now scene.expansion.now node
 
 -- what stands in a slot that was filled fits what was found; for another nothing was found, and what stands there says
 -- nothing: it is of an earlier row
@@ -19,13 +24,7 @@ HoldEachSoFar Q [] [] [] = Unit {0}
 HoldEachSoFar Q (p ∷ ps) (filled ∷ more) (value ∷ values) = Q p filled value × HoldEachSoFar Q ps more values
 HoldEachSoFar Q _ _ _ = ⊥
 
--- each slot of a type, with what was found among an object's members
-abbrev pub SlotsSoFar : SchemaModel → ℕ → Members → List Bool → List Value → Type 0
-SlotsSoFar schema id found filled values =
-    HoldEachSoFar (HoldsSoFar (slots_of schema) (λ name. get_member name found)) (properties_at schema id) filled values
-
--- whether a property may be absent
-abbrev pub may_be_absent : PropertyType → Bool → Bool
-may_be_absent (declared type) nullable = takes_null type nullable
-may_be_absent opaque nullable = true
-may_be_absent (navigation target) nullable = true
+-- each slot of these properties, with what was found among an object's members
+abbrev pub SlotsSoFar : Slots → List PropertyModel → Members → List Bool → List Value → Type 0
+SlotsSoFar slots properties found filled values =
+    HoldEachSoFar (HoldsSoFar slots (λ name. get_member name found)) properties filled values

@@ -1,25 +1,15 @@
 -- For private clauses: what the walk over an object's slots and an array's items has read so far.
-use Rattle.std.specs.Prelude.{◌≡◌, ℕ, List, [], ◌∷◌, Bool, true, Option, Some, None, map}
+use Rattle.std.specs.Prelude.{◌≡◌, ℕ, List, [], ◌∷◌, Bool, true, Option, map}
 use Rattle.serde_json.specs.Data.{Data, Items}
 use Rattle.serde_json.specs.Find.{get}
 use Rattle.edm_values.specs.declared.value.Value.{Value}
 use Rattle.csdl_schema.specs.ExprType.{SingleType, primitive, enumeration, structured}
-use Rattle.csdl_schema.specs.SchemaModel.{SchemaModel, Slots, PropertyModel, PropertyType, type_name_at}
-use Rattle.csdl_schema.specs.declared.property.PropertyKind.{PropertyKind}
-use Rattle.csdl_schema.specs.declared.property.PropertyKind.TheVariants as kind
+use Rattle.csdl_schema.specs.SchemaModel.{SchemaModel, Slots, PropertyModel, PropertyType, slots_behind, type_name_at}
 use Rattle.edm_entities.specs.Fits.{FitsProperty, FitItems}
 use Rattle.edm_entities.specs.HoldsEachSlot.{holding_of, items_hold, slot_holds}
 use Rattle.edm_entities.specs.Row.{field_of, items_of, val_of}
 use Rattle.edm_entities.specs.declared.wanted.Wanted.{Wanted}
 use Rattle.edm_entities.specs.declared.wanted.Wanted.TheVariants.{Prim, Enum, Complex}
-
--- what a property of that kind is read as; one that is not looked at as nothing
-abbrev pub wanted_as : PropertyKind → Option Wanted
-wanted_as (kind.Prim p) = Some (Prim p)
-wanted_as (kind.Enum e) = Some (Enum e)
-wanted_as (kind.Complex t) = Some (Complex t)
-wanted_as kind.Opaque = None
-wanted_as kind.Navigation = None
 
 -- the type that is wanted of one value
 abbrev pub wanted_single : SchemaModel → Wanted → SingleType
@@ -40,8 +30,9 @@ HoldsInSlot slots type value = slot_holds slots type (holding_of value) ≡ true
 -- a slot's value is what fits what was found under the property's name, and null where the property is not looked at
 abbrev pub FitsSlot : Slots → (List ℕ → Option Data) → PropertyModel → Value → Type 0
 FitsSlot slots found p value =
-    FitsProperty slots p.nullable p.type_of (found p.name) (field_of slots p.type_of (val_of value))
-    × HoldsInSlot slots p.type_of value
+    FitsProperty (slots_behind slots p.name) p.nullable p.type_of (found p.name)
+    (field_of slots.properties p.type_of (val_of value))
+    × HoldsInSlot (slots_behind slots p.name) p.type_of value
 
 -- these slots hold values that fit the members of an object
 abbrev pub FitSlots : Slots → Data → List PropertyModel → List Value → Type 0
@@ -53,4 +44,5 @@ HoldInItems slots type values = items_hold slots type (map holding_of values) �
 
 -- these values fit the items of an array
 abbrev pub FitList : Slots → Bool → SingleType → Items → List Value → Type 0
-FitList slots nullable type jsons values = FitItems slots nullable type jsons (items_of slots type (map val_of values))
+FitList slots nullable type jsons values =
+    FitItems slots nullable type jsons (items_of slots.properties type (map val_of values))

@@ -20,7 +20,7 @@ use Rattle.odata_eval.specs.CollectionGives.{AnyItemGives, CountGives, members_o
 use Rattle.odata_eval.specs.CompareGives.{CompareGives}
 use Rattle.odata_eval.specs.Environment.{Environment}
 use Rattle.odata_eval.specs.HasGives.{HasGives}
-use Rattle.odata_eval.specs.LambdaGives.{InGives, ItemsGive, LambdaGives, MembersGive}
+use Rattle.odata_eval.specs.LambdaGives.{InGives, ItemsGive, MembersGive}
 use Rattle.odata_eval.specs.LeftFirst.{After}
 use Rattle.odata_eval.specs.Means.{ItemMeans}
 use Rattle.odata_eval.specs.OneByOne.{GoesOn, ItemAlone, ItemsGo, MembersGo}
@@ -38,10 +38,10 @@ use Rattle.odata_eval.proofs.meaning.OneByOne.{items_both, members_both}
 use Rattle.odata_eval.proofs.meaning.SameGives.{Both}
 use Rattle.odata_eval.proofs.meaning.TypeValues.{IsOfKind, list_form, member_kind, members, null_has, null_value, truth_has}
 
-of_type : (slots : Slots) (given type : ExprType) (Gives : Outcome → Type 0) → type ≡ given → Ends slots given Gives → Ends slots type Gives
+pub of_type : (slots : Slots) (given type : ExprType) (Gives : Outcome → Type 0) → type ≡ given → Ends slots given Gives → Ends slots type Gives
 of_type slots given type Gives same ends = subst (λ (t : ExprType). Ends slots t Gives) (sym same) ends
 
-both_ends : (slots : Slots) (type : ExprType) (P Q : Outcome → Type 0) → Both P Q → Ends slots type Q → Ends slots type P
+pub both_ends : (slots : Slots) (type : ExprType) (P Q : Outcome → Type 0) → Both P Q → Ends slots type Q → Ends slots type P
 both_ends slots type P Q same ends = (ends.0, ((same ends.0).1 ends.1.0, ends.1.1))
 
 -- a value of a collection's type
@@ -132,12 +132,12 @@ truth_goes slots Quantifier.All More (Some true) ends = ends
 truth_goes slots Quantifier.All More (Some false) ends = (gives (boolean false), (refl, truth_has slots false))
 truth_goes slots Quantifier.All More None ends = (gives (boolean false), (refl, truth_has slots false))
 
-goes_on_ends : (slots : Slots) (quantifier : Quantifier) (More : Outcome → Type 0) (v : Val) → IsTruth v → Ends slots boolean_type More
+pub goes_on_ends : (slots : Slots) (quantifier : Quantifier) (More : Outcome → Type 0) (v : Val) → IsTruth v → Ends slots boolean_type More
     → Ends slots boolean_type (GoesOn quantifier More v)
 goes_on_ends slots quantifier More v truth ends =
     subst (λ (w : Val). Ends slots boolean_type (GoesOn quantifier More w)) (sym truth.1) (truth_goes slots quantifier More truth.0 ends)
 
-undecided_typed : (slots : Slots) (quantifier : Quantifier) → HasType slots boolean_type (undecided_val quantifier)
+pub undecided_typed : (slots : Slots) (quantifier : Quantifier) → HasType slots boolean_type (undecided_val quantifier)
 undecided_typed slots Quantifier.Any = truth_has slots false
 undecided_typed slots Quantifier.All = truth_has slots true
 
@@ -154,19 +154,6 @@ module _ (slots : Slots) (quantifier : Quantifier) (Body : Val → Outcome → T
       both_ends slots boolean_type (MembersGive quantifier Body values) (MembersGo quantifier Body values) (members_both quantifier Body values) (members_go_end values all)
 
 -- ---- by their places
-
-pub lambda_ends : (slots : Slots) (quantifier : Quantifier) (BaseTyped : ExprType → Type 0) (Body : ExprType → Val → Outcome → Type 0) (m : SingleType) (body type : ExprType) (v : Val)
-    → BaseTyped (collection m) → IsBooleanOrNull body → type ≡ boolean_type → HasType slots (collection m) v
-    → ((w : Val) → HasType slots (single m) w → Ends slots body (Body (single m) w)) → Ends slots type (LambdaGives quantifier BaseTyped Body v)
-lambda_ends slots quantifier BaseTyped Body m body type v over truth is has each =
-    elim (list_form slots m v has) [
-      | inl is_null ↦ rw is_null (gives null, (refl, null_has slots type))
-      | inr list_is ↦
-          let values : Vals = list_is.0 in
-          let v_is : v ≡ items values = list_is.1 in
-          let ends = of_type slots boolean_type type (MembersGive quantifier (Body (single m)) values) is (members_end slots quantifier (Body (single m)) m body truth each values list_is.2) in
-          subst (λ (w : Val). Ends slots type (LambdaGives quantifier BaseTyped Body w)) (sym v_is) (ends.0, ((m, over, ends.1.0), ends.1.1))
-    ]
 
 pub in_path_ends : SomeEach → (slots : Slots) (left path type : ExprType) (l v : Val) → IsComparableWithMembers left path × (type ≡ boolean_type) → HasType slots left l → HasType slots path v
     → Ends slots type (InGives l v)
@@ -199,11 +186,11 @@ items_go_end some slots Item left l (more_trees tree more) of_l all =
     (λ w has. goes_on_ends slots Quantifier.Any (ItemsGo Item l more) w (truth_of slots boolean_type w (inl refl) has)
     (items_go_end some slots Item left l more of_l all.1))
 
-pub in_list_ends : SomeEach → (slots : Slots) (root : List ℕ) (now : MomentParts) (entity : Val) (environment : Environment) (Beside : ExprType → Type 0) (left : ExprType) (l : Val) (trees : Trees)
-    (type : ExprType) → type ≡ boolean_type → HasType slots left l → AllTrees (λ tree. ItemEnds slots left (ItemAlone slots root now entity environment Beside tree)) trees
-    → Ends slots type (ItemsGive l (length (list_of_trees trees)) (ItemMeans slots root now entity environment Beside trees))
-in_list_ends some slots root now entity environment Beside left l trees type is of_l all =
+pub in_list_ends : SomeEach → (slots held : Slots) (root : List ℕ) (now : MomentParts) (entity : Val) (environment : Environment) (Beside : ExprType → Type 0) (left : ExprType) (l : Val) (trees : Trees)
+    (type : ExprType) → type ≡ boolean_type → HasType held left l → AllTrees (λ tree. ItemEnds held left (ItemAlone slots root now entity environment Beside tree)) trees
+    → Ends held type (ItemsGive l (length (list_of_trees trees)) (ItemMeans slots root now entity environment Beside trees))
+in_list_ends some slots held root now entity environment Beside left l trees type is of_l all =
     let Given : Outcome → Type 0 = ItemsGive l (length (list_of_trees trees)) (ItemMeans slots root now entity environment Beside trees) in
-    of_type slots boolean_type type Given is
-    (both_ends slots boolean_type Given (ItemsGo (ItemAlone slots root now entity environment Beside) l trees) (items_both slots root now entity environment Beside l trees)
-    (items_go_end some slots (ItemAlone slots root now entity environment Beside) left l trees of_l all))
+    of_type held boolean_type type Given is
+    (both_ends held boolean_type Given (ItemsGo (ItemAlone slots root now entity environment Beside) l trees) (items_both slots root now entity environment Beside l trees)
+    (items_go_end some held (ItemAlone slots root now entity environment Beside) left l trees of_l all))

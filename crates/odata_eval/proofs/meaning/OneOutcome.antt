@@ -1,31 +1,37 @@
 -- A tree that has a type has one outcome.
-use Rattle.std.proofs.Common.{ℕ, List}
+use Rattle.std.proofs.Common.{refl, ℕ, List, []}
 use Rattle.serde_json.specs.Data.{Data}
 use Rattle.edm_values.specs.Val.{Val}
+use Rattle.csdl_schema.specs.ExpansionView.{paths_in}
 use Rattle.csdl_schema.specs.ExprType.{single, structured}
-use Rattle.csdl_schema.specs.SchemaModel.{Slots, slots_of, type_name_at}
+use Rattle.csdl_schema.specs.PathSet.{PathSet}
+use Rattle.csdl_schema.specs.SchemaModel.{Slots, expanded, slots_of, type_name_at}
 use Rattle.edm_entities.specs.Fits.{Fits}
 use Rattle.edm_entities.specs.HasType.{HasType}
 use Rattle.edm_entities.specs.Row.{value_of}
+use Rattle.odata_expression_types.specs.NeededPaths.{path_of}
 use Rattle.odata_eval.specs.EndsOnce.{EndsOnceOnEntities, TypedEndsOnce}
-use Rattle.odata_eval.proofs.meaning.LawsBelow.{OneEach, Promotes, SomeEach}
-use Rattle.odata_eval.proofs.meaning.OneMeaning.{Means-one}
-use Rattle.odata_eval.proofs.meaning.Progress.{tree_ends}
+use Rattle.odata_eval.specs.EndsOnceAtPaths.{TypedEndsOnceAtPaths}
+use Rattle.odata_eval.specs.Environment.{scope_of}
+use Rattle.odata_eval.proofs.meaning.AtPaths.{every_path, fitting_at, has_at, no_steps, outcome_apart}
 
-pub ends_once : OneEach → SomeEach → Promotes → TypedEndsOnce
-ends_once one some promotes slots root now entity environment tree type is_moment conforms fitting typed =
-    let ends = tree_ends some promotes slots root now entity is_moment conforms environment fitting tree type typed in
+-- apart from paths: as where every path is needed
+pub ends_once : TypedEndsOnceAtPaths → TypedEndsOnce
+ends_once at_paths slots root now entity environment tree type is_moment conforms fitting typed =
+    let paths = no_steps slots environment in
+    let ends = at_paths slots every_path root now entity environment paths tree type is_moment
+    (has_at slots every_path [] (single (structured root)) entity conforms) (fitting_at slots environment fitting) typed (λ path is. refl) in
     record {
-      outcome = ends.0;
-      related = ends.1.0;
-      of_type = ends.1.1;
-      only = λ other of_other. Means-one one slots root now entity environment tree other ends.0 of_other ends.1.0;
+      outcome = ends.outcome;
+      related = ends.related;
+      of_type = outcome_apart slots (path_of (scope_of environment) paths tree) type ends.outcome ends.of_type;
+      only = ends.only;
     }
 
 pub ends_on_entities :
     TypedEndsOnce
-    → ((slots : Slots) (type_name : List ℕ) (json : Data) (v : Val) → Fits slots type_name json v → HasType slots (single (structured type_name)) v)
+    → ((slots : Slots) (expansion : PathSet) (type_name : List ℕ) (json : Data) (v : Val) → Fits (expanded slots expansion) type_name json v → HasType slots (single (structured type_name)) v)
     → EndsOnceOnEntities
 ends_on_entities ends fits row now environment tree type is_moment entity fitting typed =
     ends (slots_of row.schema) (type_name_at row.schema row.type_id) now (value_of row) environment tree type is_moment
-    (fits (slots_of row.schema) (type_name_at row.schema row.type_id) entity.conforms.0 (value_of row) entity.conforms.1) fitting typed
+    (fits (slots_of row.schema) (paths_in row.expansion) (type_name_at row.schema row.type_id) entity.conforms.0 (value_of row) entity.conforms.1) fitting typed

@@ -1,5 +1,5 @@
 -- Which values a type has, as the few facts by which one outcome goes.
-use Rattle.std.proofs.Common.{◌≡◌, ◌⊎◌, ◌∙◌, refl, ap, subst, inl, inr, ℕ, ℤ, List, [], ◌∷◌, Bool, true, false, Some, IsUtf8, cond, length, nat_eq}
+use Rattle.std.proofs.Common.{◌≡◌, ◌⊎◌, ◌∙◌, refl, ap, subst, inl, inr, ℕ, ℤ, List, [], ◌∷◌, Bool, true, false, None, Some, IsUtf8, cond, length, nat_eq}
 use Rattle.std.specs.Prelude.{IsSomeAnd}
 use Rattle.std.specs.List.{AllByRecursion}
 use Rattle.std.specs.Cmp.Lexicographic.{pointwise}
@@ -11,10 +11,10 @@ use Rattle.edm_values.specs.Val.{Val, null, boolean, whole, text, date, moment, 
 use Rattle.edm_values.specs.declared.primitive.PrimitiveType.{PrimitiveType}
 use Rattle.csdl_schema.specs.EnumerationText.{IsOfUnderlying}
 use Rattle.csdl_schema.specs.ExprType.{ExprType, null_type, single, collection, SingleType, primitive, enumeration, structured}
-use Rattle.csdl_schema.specs.SchemaModel.{Slots, PropertyModel, declared}
+use Rattle.csdl_schema.specs.SchemaModel.{Slots, PropertyModel, PropertyType, declared, opaque, navigation}
 use Rattle.edm_entities.specs.HasType.{AllHaveType, HasPropertyType, HasType}
 use Rattle.odata_signatures.specs.ExprTypes.{boolean_type, string_type}
-use Rattle.odata_expression_types.specs.Typed.{PropertyTyped, property_named}
+use Rattle.odata_expression_types.specs.Typed.{PropertyTyped, named_type, property_named}
 
 module _ (slots : Slots) where
   -- ---- a type has these values
@@ -123,9 +123,14 @@ module _ (slots : Slots) where
   list_form type (items values) has = inr (values, refl, has)
   list_form type _ has = absurd has
 
-  held_of : (type : ExprType) (held : FieldVal) → HasPropertyType slots (declared type) held → (v : Val) × ((held ≡ present v) × HasType slots type v)
-  held_of type (present v) has = (v, (refl, has))
-  held_of type absent has = absurd has
+  held_of : (type_of : PropertyType) (type : ExprType) (held : FieldVal) → named_type type_of ≡ Some type → HasPropertyType slots type_of held
+      → (v : Val) × ((held ≡ present v) × HasType slots type v)
+  held_of (declared t) type (present v) named has = let same : t ≡ type = cc in (v, (refl, subst (λ (s : ExprType). HasType slots s v) same has))
+  held_of (declared t) type absent named has = absurd has
+  held_of opaque type held named has = absurd cc
+  held_of (navigation None) type held named has = absurd cc
+  held_of (navigation (Some t)) type (present v) named has = let same : t ≡ type = cc in (v, (refl, subst (λ (s : ExprType). HasType slots s v) same has))
+  held_of (navigation (Some t)) type absent named has = absurd has
 
   -- under the name of a property that has a type a record has a value of it
   pub held_present : (asked : List ℕ) (type : ExprType) (properties : List PropertyModel) (held : List ℕ → FieldVal)
@@ -134,11 +139,11 @@ module _ (slots : Slots) where
   held_present asked type [] held all typed = absurd typed
   held_present asked type (p ∷ more) held all typed =
       elim (pointwise nat_eq asked p.name) as (λ is_it. pointwise nat_eq asked p.name ≡ is_it
-      → IsSomeAnd (cond is_it (Some p) (property_named more asked)) (λ q. q.type_of ≡ declared type)
+      → IsSomeAnd (cond is_it (Some p) (property_named more asked)) (λ q. named_type q.type_of ≡ Some type)
       → (v : Val) × ((held asked ≡ present v) × HasType slots type v)) [
         | true ↦ λ same is_typed.
             let named : asked ≡ p.name = (bytes_eq-Decides asked p.name).0 same in
-            let there = held_of type (held p.name) (subst (λ t. HasPropertyType slots t (held p.name)) is_typed all.0) in
+            let there = held_of p.type_of type (held p.name) is_typed all.0 in
             (there.0, (ap held named ∙ there.1.0, there.1.1))
         | false ↦ λ other is_typed. held_present asked type more held all.1 is_typed
       ] refl typed

@@ -89,7 +89,7 @@ module _ (scene : SceneModel) (place : ℕ) (comparison : ComparisonOperator) (h
         → (q m : Contents) → AreComparableBy comparison (kept_val q left) (kept_val m right)
     may_compare_kept ends anyhow part q m =
         let slots = slots_of scene.row.schema in
-        let sides = comparable_sides (val_of left slots) (val_of right slots) first second ends part in
+        let sides = comparable_sides (val_of left slots.properties) (val_of right slots.properties) first second ends part in
         let may = at_contents (AreComparableBy comparison) slots sides.0 sides.1 left right sides.2 in
         anyhow comparison left right may.0 may.1 q m may.2
 
@@ -98,7 +98,7 @@ module _ (scene : SceneModel) (place : ℕ) (comparison : ComparisonOperator) (h
     kept_compared ends anyhow part answer compared =
         let slots = slots_of scene.row.schema in
         let may = may_compare_kept ends anyhow part in
-        comparison_answers (val_of left slots) (val_of right slots) first second answer (λ s t. at_types (AreComparableBy comparison) slots s t left right may)
+        comparison_answers (val_of left slots.properties) (val_of right slots.properties) first second answer (λ s t. at_types (AreComparableBy comparison) slots s t left right may)
         (λ s t. at_types (λ v w. IsTrue answer ↔ ComparesTrue comparison v w) slots s t left right compared)
 
   -- of two that are made

@@ -19,25 +19,25 @@ use Rattle.odata_eval.proofs.walking.Readings.{IsPlain, PlainValues}
 use Rattle.odata_eval.proofs.walking.WalkValues.{same_values, typed_value}
 
 -- a record and a list, with what they hold
-record_kept : (slots : Slots) (type : ExprType) (shape : _) (all : _) → (names : List ℕ → FieldVal) × (val_of (Record' shape all) slots type ≡ fields names)
+record_kept : (slots : Slots) (type : ExprType) (shape : _) (all : _) → (names : List ℕ → FieldVal) × (val_of (Record' shape all) slots.properties type ≡ fields names)
 unfolding views.out-Value denote.Hole.Carrier.out
-record_kept slots null_type shape all = (_, ap (λ (f : ValAtType). f slots null_type) (fold_out-Value ValAtType val_step (Record' shape all)))
-record_kept slots (single (primitive p)) shape all = (_, ap (λ (f : ValAtType). f slots (single (primitive p))) (fold_out-Value ValAtType val_step (Record' shape all)))
-record_kept slots (single (enumeration name)) shape all = (_, ap (λ (f : ValAtType). f slots (single (enumeration name))) (fold_out-Value ValAtType val_step (Record' shape all)))
-record_kept slots (single (structured name)) shape all = (_, ap (λ (f : ValAtType). f slots (single (structured name))) (fold_out-Value ValAtType val_step (Record' shape all)))
-record_kept slots (collection t) shape all = (_, ap (λ (f : ValAtType). f slots (collection t)) (fold_out-Value ValAtType val_step (Record' shape all)))
+record_kept slots null_type shape all = (_, ap (λ (f : ValAtType). f slots.properties null_type) (fold_out-Value ValAtType val_step (Record' shape all)))
+record_kept slots (single (primitive p)) shape all = (_, ap (λ (f : ValAtType). f slots.properties (single (primitive p))) (fold_out-Value ValAtType val_step (Record' shape all)))
+record_kept slots (single (enumeration name)) shape all = (_, ap (λ (f : ValAtType). f slots.properties (single (enumeration name))) (fold_out-Value ValAtType val_step (Record' shape all)))
+record_kept slots (single (structured name)) shape all = (_, ap (λ (f : ValAtType). f slots.properties (single (structured name))) (fold_out-Value ValAtType val_step (Record' shape all)))
+record_kept slots (collection t) shape all = (_, ap (λ (f : ValAtType). f slots.properties (collection t)) (fold_out-Value ValAtType val_step (Record' shape all)))
 
-list_kept : (slots : Slots) (type : ExprType) (shape : _) (all : _) → (held : Vals) × (val_of (List' shape all) slots type ≡ items held)
+list_kept : (slots : Slots) (type : ExprType) (shape : _) (all : _) → (held : Vals) × (val_of (List' shape all) slots.properties type ≡ items held)
 unfolding views.out-Value denote.Hole.Carrier.out
-list_kept slots null_type shape all = (_, ap (λ (f : ValAtType). f slots null_type) (fold_out-Value ValAtType val_step (List' shape all)))
-list_kept slots (single t) shape all = (_, ap (λ (f : ValAtType). f slots (single t)) (fold_out-Value ValAtType val_step (List' shape all)))
-list_kept slots (collection t) shape all = (_, ap (λ (f : ValAtType). f slots (collection t)) (fold_out-Value ValAtType val_step (List' shape all)))
+list_kept slots null_type shape all = (_, ap (λ (f : ValAtType). f slots.properties null_type) (fold_out-Value ValAtType val_step (List' shape all)))
+list_kept slots (single t) shape all = (_, ap (λ (f : ValAtType). f slots.properties (single t)) (fold_out-Value ValAtType val_step (List' shape all)))
+list_kept slots (collection t) shape all = (_, ap (λ (f : ValAtType). f slots.properties (collection t)) (fold_out-Value ValAtType val_step (List' shape all)))
 
 -- what a kept value stands for, with its contents
 without : Contents
 without = record { fields_are = λ name. absent; items_are = no_items }
 
-kept_contents : (slots : Slots) (type : ExprType) (value : Value) → (contents : Contents) × (val_of value slots type ≡ kept_val contents value)
+kept_contents : (slots : Slots) (type : ExprType) (value : Value) → (contents : Contents) × (val_of value slots.properties type ≡ kept_val contents value)
 kept_contents slots type Null = (without, plain_is slots type Null null refl)
 kept_contents slots type (BoolValue b) = (without, plain_is slots type (BoolValue b) (boolean b) refl)
 kept_contents slots type (Int n) = (without, plain_is slots type (Int n) (whole n) refl)
@@ -55,18 +55,18 @@ kept_contents slots type (List' shape all) =
 
 -- a fact of two kept values whatever they hold is one at their types, and one at their types is one of some contents
 pub at_types : (P : Val → Val → Type 0) (slots : Slots) (s t : ExprType) (left right : Value) → ((q m : Contents) → P (kept_val q left) (kept_val m right))
-    → P (val_of left slots s) (val_of right slots t)
+    → P (val_of left slots.properties s) (val_of right slots.properties t)
 at_types P slots s t left right all =
     let l = kept_contents slots s left in
     let r = kept_contents slots t right in
-    subst (λ (v : Val). P v (val_of right slots t)) (sym l.1) (subst (λ (w : Val). P (kept_val l.0 left) w) (sym r.1) (all l.0 r.0))
+    subst (λ (v : Val). P v (val_of right slots.properties t)) (sym l.1) (subst (λ (w : Val). P (kept_val l.0 left) w) (sym r.1) (all l.0 r.0))
 
-pub at_contents : (P : Val → Val → Type 0) (slots : Slots) (s t : ExprType) (left right : Value) → P (val_of left slots s) (val_of right slots t)
+pub at_contents : (P : Val → Val → Type 0) (slots : Slots) (s t : ExprType) (left right : Value) → P (val_of left slots.properties s) (val_of right slots.properties t)
     → (l : Contents) × (r : Contents) × P (kept_val l left) (kept_val r right)
 at_contents P slots s t left right is =
     let l = kept_contents slots s left in
     let r = kept_contents slots t right in
-    (l.0, r.0, subst (λ (w : Val). P (kept_val l.0 left) w) r.1 (subst (λ (v : Val). P v (val_of right slots t)) l.1 is))
+    (l.0, r.0, subst (λ (w : Val). P (kept_val l.0 left) w) r.1 (subst (λ (v : Val). P v (val_of right slots.properties t)) l.1 is))
 
 -- so a value that stands for one without parts is that one
 plain_contents : (contents : Contents) (value : Value) (v : Val) → IsPlain v → kept_val contents value ≡ v → plain_val value ≡ Some v
@@ -81,9 +81,9 @@ module _ (scene : SceneModel) (place : ℕ) (value : Value) (kept : AnswersKept 
   value_kept values ends stands =
       let slots = slots_of scene.row.schema in
       let contents = kept_contents slots stands.type_of value in
-      let held = typed_value scene place (val_of value slots) kept values ends stands in
+      let held = typed_value scene place (val_of value slots.properties) kept values ends stands in
       (held.0, plain_contents contents.0 value (values.val held.0) (values.plain held.0) (sym contents.1 ∙ held.1))
 
   -- a value without parts is the outcome itself
   pub kept_value : (v : Val) → plain_val value ≡ Some v → AnswersAtPlace scene place (λ type. Some (gives v))
-  kept_value v is = same_values scene place (val_of value (slots_of scene.row.schema)) (λ type. v) (λ type. plain_is (slots_of scene.row.schema) type value v is) kept
+  kept_value v is = same_values scene place (val_of value (slots_of scene.row.schema).properties) (λ type. v) (λ type. plain_is (slots_of scene.row.schema) type value v is) kept

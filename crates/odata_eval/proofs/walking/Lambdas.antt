@@ -55,12 +55,12 @@ collection_is schema (EdmType.Single member) type is = absurd (cc)
 collection_is schema EdmType.Null type is = absurd (cc)
 
 -- the members of a value that has a collection's type
-vals_same : (slots : Slots) (type : SingleType) (members : List Value) → vals_of slots (single type) members ≡ items_of slots type (map val_of members)
+vals_same : (slots : Slots) (type : SingleType) (members : List Value) → vals_of slots (single type) members ≡ items_of slots.properties type (map val_of members)
 vals_same slots type [] = refl
-vals_same slots type (value ∷ more) = ap (λ (rest : Vals). item (val_of value slots (single type)) rest) (vals_same slots type more)
+vals_same slots type (value ∷ more) = ap (λ (rest : Vals). item (val_of value slots.properties (single type)) rest) (vals_same slots type more)
 
-all_suit : (slots : Slots) (type : SingleType) (members : List Value) → AllHaveType slots type (items_of slots type (map val_of members))
-    → AllByRecursion (λ (v : Value). HasType slots (single type) (val_of v slots (single type))) members
+all_suit : (slots : Slots) (type : SingleType) (members : List Value) → AllHaveType slots type (items_of slots.properties type (map val_of members))
+    → AllByRecursion (λ (v : Value). HasType slots (single type) (val_of v slots.properties (single type))) members
 all_suit slots type [] all = tt
 all_suit slots type (value ∷ more) all = (all.0, all_suit slots type more all.1)
 
@@ -140,7 +140,7 @@ module _ (types : OneType) (scene : SceneModel) (place : ℕ) (quantifier : Quan
     as_named : (asked : List ℕ) (type : SingleType) (body : Tree) → IsNamed asked type → (members : List Value) (o : Outcome)
         → MembersGo quantifier (BodyMeans scene variable body) (vals_of (slots_of scene.row.schema) (type_of_variable scene variable) members) o
         → MembersGo quantifier (λ v. Means (slots_of scene.row.schema) (type_name_at scene.row.schema scene.row.type_id) scene.moment (value_of scene.row) (bound_over (environment_of scene) asked (single type) v) body)
-        (items_of (slots_of scene.row.schema) type (map val_of members)) o
+        (items_of (slots_of scene.row.schema).properties type (map val_of members)) o
     as_named asked type body named members o goes =
         subst (λ (vals : Vals). MembersGo quantifier (λ v. Means (slots_of scene.row.schema) (type_name_at scene.row.schema scene.row.type_id) scene.moment (value_of scene.row) (bound_over (environment_of scene) asked (single type) v) body) vals o)
         (vals_same (slots_of scene.row.schema) type members)
@@ -183,7 +183,7 @@ module _ (types : OneType) (scene : SceneModel) (place : ℕ) (quantifier : Quan
           let typed = stands.top.typed in
           let slots = slots_of scene.row.schema in
           let named = is_named stop from to base asked body stands typed.member_type typed.binds.over in
-          subst (λ (t : ExprType). AllByRecursion (λ (v : Value). HasType slots t (val_of v slots t)) held.now) (sym named.type_same)
+          subst (λ (t : ExprType). AllByRecursion (λ (v : Value). HasType slots t (val_of v slots.properties t)) held.now) (sym named.type_same)
           (all_suit slots typed.member_type held.now
           (value_has scene ends base (collection typed.member_type) (datum_val (reading_at slots (collection typed.member_type)) (datum.List held)) typed.binds.over
           (first.of_tree stands.children.middle base (collection typed.member_type) stands.children.left typed.binds.over))))
@@ -210,7 +210,7 @@ module _ (types : OneType) (scene : SceneModel) (place : ℕ) (quantifier : Quan
                 (
                   typed.member_type,
                   typed.binds.over,
-                  (members_one_by_one slots root scene.moment (value_of scene.row) (environment_of scene) quantifier asked (single typed.member_type) body (items_of slots typed.member_type (map val_of held.now)) o).1
+                  (members_one_by_one slots root scene.moment (value_of scene.row) (environment_of scene) quantifier asked (single typed.member_type) body (items_of slots.properties typed.member_type (map val_of held.now)) o).1
                       (as_named asked typed.member_type body named held.now o goes),
                 ),
               ),

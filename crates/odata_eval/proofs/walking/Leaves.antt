@@ -32,15 +32,15 @@ use Rattle.odata_eval.proofs.walking.SlotValue.{slot_value}
 use Rattle.odata_eval.proofs.walking.Variables.{level_below, unbound, variable_gives}
 
 -- a value without parts stands for the same at each type
-pub plain_is : (slots : Slots) (type : ExprType) (value : Value) (v : Val) → plain_val value ≡ Some v → val_of value slots type ≡ v
-plain_is slots type Null v is = let same : val_of Null slots type ≡ null = search (rules, the_lemmas) in cc
-plain_is slots type (Bool b) v is = let same : val_of (Bool b) slots type ≡ boolean b = search (rules, the_lemmas) in cc
-plain_is slots type (Int n) v is = let same : val_of (Int n) slots type ≡ whole n = search (rules, the_lemmas) in cc
-plain_is slots type (Text s) v is = let same : val_of (Text s) slots type ≡ text (string_bytes s) = search (rules, the_lemmas) in cc
-plain_is slots type (Date d) v is = let same : val_of (Date d) slots type ≡ date d = search (rules, the_lemmas) in cc
-plain_is slots type (Moment m) v is = let same : val_of (Moment m) slots type ≡ moment m = search (rules, the_lemmas) in cc
-plain_is slots type (Guid g) v is = let same : val_of (Guid g) slots type ≡ guid g = search (rules, the_lemmas) in cc
-plain_is slots type (Enum n) v is = let same : val_of (Enum n) slots type ≡ member n = search (rules, the_lemmas) in cc
+pub plain_is : (slots : Slots) (type : ExprType) (value : Value) (v : Val) → plain_val value ≡ Some v → val_of value slots.properties type ≡ v
+plain_is slots type Null v is = let same : val_of Null slots.properties type ≡ null = search (rules, the_lemmas) in cc
+plain_is slots type (Bool b) v is = let same : val_of (Bool b) slots.properties type ≡ boolean b = search (rules, the_lemmas) in cc
+plain_is slots type (Int n) v is = let same : val_of (Int n) slots.properties type ≡ whole n = search (rules, the_lemmas) in cc
+plain_is slots type (Text s) v is = let same : val_of (Text s) slots.properties type ≡ text (string_bytes s) = search (rules, the_lemmas) in cc
+plain_is slots type (Date d) v is = let same : val_of (Date d) slots.properties type ≡ date d = search (rules, the_lemmas) in cc
+plain_is slots type (Moment m) v is = let same : val_of (Moment m) slots.properties type ≡ moment m = search (rules, the_lemmas) in cc
+plain_is slots type (Guid g) v is = let same : val_of (Guid g) slots.properties type ≡ guid g = search (rules, the_lemmas) in cc
+plain_is slots type (Enum n) v is = let same : val_of (Enum n) slots.properties type ≡ member n = search (rules, the_lemmas) in cc
 plain_is slots type (Record' shape all) v is = absurd (cc)
 plain_is slots type (List' shape all) v is = absurd (cc)
 
@@ -60,7 +60,7 @@ module _ (scene : SceneModel) (place : ℕ) where
       → AnswersKept scene place v
   literal_answers kind value here v at = record {
     of_tree = λ stop tree type stands typed.
-        by_kind scene place (NodeKind.Literal kind value) here (λ stop tree. MeansHere scene tree (gives (val_of v (slots_of scene.row.schema) type)))
+        by_kind scene place (NodeKind.Literal kind value) here (λ stop tree. MeansHere scene tree (gives (val_of v (slots_of scene.row.schema).properties type)))
         (λ k spelling stop from to stands.
         let read : IsValueOf (slots_of scene.row.schema) k spelling v =
         found_there (IsValueOf (slots_of scene.row.schema) k spelling) (slice_get scene.list.values value) v at
@@ -72,8 +72,8 @@ module _ (scene : SceneModel) (place : ℕ) where
   pub it_answers : HasKind scene.list place NodeKind.It → AnswersKept scene place scene.row.value
   it_answers here = record {
     of_tree = λ stop tree type stands typed.
-        by_kind scene place NodeKind.It here (λ stop tree. (t : ExprType) → TypedHere scene tree t → MeansHere scene tree (gives (val_of scene.row.value (slots_of scene.row.schema) t)))
-        (λ stop from to stands t typed. ap (λ (s : ExprType). gives (val_of scene.row.value (slots_of scene.row.schema) s)) typed)
+        by_kind scene place NodeKind.It here (λ stop tree. (t : ExprType) → TypedHere scene tree t → MeansHere scene tree (gives (val_of scene.row.value (slots_of scene.row.schema).properties t)))
+        (λ stop from to stands t typed. ap (λ (s : ExprType). gives (val_of scene.row.value (slots_of scene.row.schema).properties s)) typed)
         stop tree stands type typed;
   }
 
@@ -94,7 +94,7 @@ module _ (scene : SceneModel) (place : ℕ) where
   pub now_answers : HasKind scene.list place NodeKind.Now → (v : Value) → v ≡ Moment scene.moment → AnswersKept scene place v
   now_answers here v is = record {
     of_tree = λ stop tree type stands typed.
-        by_kind scene place NodeKind.Now here (λ stop tree. (t : ExprType) → TypedHere scene tree t → MeansHere scene tree (gives (val_of v (slots_of scene.row.schema) t)))
+        by_kind scene place NodeKind.Now here (λ stop tree. (t : ExprType) → TypedHere scene tree t → MeansHere scene tree (gives (val_of v (slots_of scene.row.schema).properties t)))
         (λ asked arguments named stop from to stands t typed. record {
           function = Function.Now;
           named = named;
@@ -121,7 +121,7 @@ module _ (scene : SceneModel) (place : ℕ) where
   pub variable_answers : (level : ℕ) → HasKind scene.list place (NodeKind.Variable level) → (v : Value) → StandsAtLevel (slots_of scene.row.schema) (environment_of scene) level v → AnswersKept scene place v
   variable_answers level here v at = record {
     of_tree = λ stop tree type stands typed.
-        by_kind scene place (NodeKind.Variable level) here (λ stop tree. (t : ExprType) → TypedHere scene tree t → MeansHere scene tree (gives (val_of v (slots_of scene.row.schema) t)))
+        by_kind scene place (NodeKind.Variable level) here (λ stop tree. (t : ExprType) → TypedHere scene tree t → MeansHere scene tree (gives (val_of v (slots_of scene.row.schema).properties t)))
         (λ asked stop from to stands t typed.
         variable_gives (slots_of scene.row.schema) (variable_type (scope_of (environment_of scene)) asked) (variable_value (environment_of scene) asked) (value_of scene.row) asked
         (PropertyTyped (properties_at scene.row.schema scene.row.type_id) asked t) t v
@@ -132,11 +132,11 @@ module _ (scene : SceneModel) (place : ℕ) where
   pub property_answers : (slot : ℕ) → HasKind scene.list place (NodeKind.Property slot) → (v : Value) → HoldsAt scene.row slot v → AnswersKept scene place v
   property_answers slot here v holds = record {
     of_tree = λ stop tree type stands typed.
-        by_kind scene place (NodeKind.Property slot) here (λ stop tree. (t : ExprType) → TypedHere scene tree t → MeansHere scene tree (gives (val_of v (slots_of scene.row.schema) t)))
+        by_kind scene place (NodeKind.Property slot) here (λ stop tree. (t : ExprType) → TypedHere scene tree t → MeansHere scene tree (gives (val_of v (slots_of scene.row.schema).properties t)))
         (λ asked stop from to stands t typed.
         let kind = kind_there scene place (NodeKind.Property slot) here stop from to (name asked) stands in
         let none = unbound (environment_of scene) asked kind.0 in
-        subst (λ (w : Option Val). FoundGives w (value_of scene.row) asked (gives (val_of v (slots_of scene.row.schema) t))) (sym none.0)
+        subst (λ (w : Option Val). FoundGives w (value_of scene.row) asked (gives (val_of v (slots_of scene.row.schema).properties t))) (sym none.0)
         (slot_value scene.row slot v asked t holds kind.1
         (subst (λ (u : Option ExprType). MatchOption u (PropertyTyped (properties_at scene.row.schema scene.row.type_id) asked t) (λ w. t ≡ w)) none.1 typed)))
         stop tree stands type typed;

@@ -34,7 +34,7 @@ slot_in : (slots : Slots) (name asked : List ℕ) (slot : ℕ) (type : ExprType)
     → HasType slots (single (structured name)) (datum_val (reading_at slots (single (structured name))) made) → HasSlot made slot
 slot_in slots name asked slot type datum.Null named typed has = tt
 slot_in slots name asked slot type (datum.Record held) named typed has =
-    let there = held_present slots asked type (slots.properties name) (field_by_name slots (slots.properties name) (map val_of held.now)) has typed in
+    let there = held_present slots asked type (slots.properties name) (field_by_name slots.properties (slots.properties name) (map val_of held.now)) has typed in
     subst (λ (k : ℕ). k < length held.now) (found_slot _ _ slot named)
     (slot_within slots asked type (slots.properties name) held.now typed there.0 there.1.0)
 slot_in slots name asked slot type _ named typed has = absurd has
@@ -46,8 +46,8 @@ step_gives slots name asked slot type datum.Null stepped named typed is = rw is 
 step_gives slots name asked slot type (datum.Record held) stepped named typed is =
     let there = some_there (λ value. IsDatumOf value stepped) (slice_get held.now slot) is in
     let here = field_at slots (slots.properties name) asked slot type held.now there.0 named typed there.1.0 in
-    subst (λ (v : Val). StepGives (fields (field_by_name slots (slots.properties name) (map val_of held.now))) asked (gives v)) (sym (there.1.1 slots type))
-    (field_gives (field_by_name slots (slots.properties name) (map val_of held.now)) asked (val_of there.0 slots type) here)
+    subst (λ (v : Val). StepGives (fields (field_by_name slots.properties (slots.properties name) (map val_of held.now))) asked (gives v)) (sym (there.1.1 slots type))
+    (field_gives (field_by_name slots.properties (slots.properties name) (map val_of held.now)) asked (val_of there.0 slots.properties type) here)
 step_gives slots name asked slot type _ stepped named typed is = absurd is
 
 module _ (types : OneType) (scene : SceneModel) (ends : EndsOnceHere scene) (place slot : ℕ) (here : HasKind scene.list place (NodeKind.Member slot)) where

@@ -32,13 +32,13 @@ use Rattle.odata_eval.proofs.walking.Members.{as_many_members}
 
 module _ (slots : Slots) (member : SingleType) (held : List Value) where
   pub count_within : (n : ℤ) → n ≡ pos (length held) → IsNumberOf PrimitiveType.Int64 (pos (length held))
-      → GivesNumber PrimitiveType.Int64 (pos (length (members_of (items_of slots member (map val_of held))))) (gives (whole n))
+      → GivesNumber PrimitiveType.Int64 (pos (length (members_of (items_of slots.properties member (map val_of held))))) (gives (whole n))
   count_within n same within =
-      let as_many : length held ≡ length (members_of (items_of slots member (map val_of held))) = sym (as_many_members slots member held) in
+      let as_many : length held ≡ length (members_of (items_of slots.properties member (map val_of held))) = sym (as_many_members slots member held) in
       (Ok (Some n), (ap Some (same ∙ ap pos as_many), subst (λ (k : ℕ). IsNumberOf PrimitiveType.Int64 (pos k)) as_many within), refl)
 
   pub count_outside : ¬ (IsNumberOf PrimitiveType.Int64 (pos (length held)))
-      → GivesNumber PrimitiveType.Int64 (pos (length (members_of (items_of slots member (map val_of held))))) overflow
+      → GivesNumber PrimitiveType.Int64 (pos (length (members_of (items_of slots.properties member (map val_of held))))) overflow
   count_outside outside =
       (Err ArithFault.Overflow, (refl, subst (λ (n : ℕ). ¬ (IsNumberOf PrimitiveType.Int64 (pos n))) (sym (as_many_members slots member held)) outside), refl)
 
@@ -46,19 +46,19 @@ not_zero : (n : ℕ) → (suc n == 0) ≡ false
 not_zero n = grind (arith, nat_tests)
 
 pub some_member : (slots : Slots) (member : SingleType) (held : List Value) (empty : Bool) → empty ≡ (length held == 0)
-    → AnyItemGives (items (items_of slots member (map val_of held))) (gives (boolean (not empty)))
+    → AnyItemGives (items (items_of slots.properties member (map val_of held))) (gives (boolean (not empty)))
 some_member slots member [] empty is = ap (λ (b : Bool). gives (boolean (not b))) is
 some_member slots member (v ∷ more) empty is = ap (λ (b : Bool). gives (boolean (not b))) (is ∙ not_zero (length more))
 
 -- ---- `in` before a path: the members are of the type that the left side is compared with
 
 members_compared : (slots : Slots) (type : ExprType) (member : SingleType) (left : Datum) (held : List Value) → IsComparableWithMembers type (collection member)
-    → HasType slots type (datum_val (reading_at slots type) left) → AllHaveType slots member (items_of slots member (map val_of held)) → MayBeMember slots type member left held
+    → HasType slots type (datum_val (reading_at slots type) left) → AllHaveType slots member (items_of slots.properties member (map val_of held)) → MayBeMember slots type member left held
 members_compared slots type member left [] alike of_left all k found at = absurd (cc)
 members_compared slots type member left (v ∷ more) alike of_left all zero found at =
     let is : v ≡ found = cc in
-    subst (λ (w : Value). HaveEquality (datum_val (reading_at slots type) left) (val_of w slots (single member))) is
-    (comparable_values slots ComparisonOperator.Eq type (single member) (datum_val (reading_at slots type) left) (val_of v slots (single member)) alike of_left all.0)
+    subst (λ (w : Value). HaveEquality (datum_val (reading_at slots type) left) (val_of w slots.properties (single member))) is
+    (comparable_values slots ComparisonOperator.Eq type (single member) (datum_val (reading_at slots type) left) (val_of v slots.properties (single member)) alike of_left all.0)
 members_compared slots type member left (v ∷ more) alike of_left all (suc k) found at =
     members_compared slots type member left more alike of_left all.1 k found at
 

@@ -28,24 +28,24 @@ use Rattle.odata_eval.proofs.walking.Parts.{there_found}
 
 module _ (slots : Slots) (member : SingleType) where
   -- what is held, one value behind another
-  members_are : (held : List Value) → members_of (items_of slots member (map val_of held)) ≡ map (λ v. val_of v slots (single member)) held
+  members_are : (held : List Value) → members_of (items_of slots.properties member (map val_of held)) ≡ map (λ v. val_of v slots.properties (single member)) held
   members_are [] = refl
-  members_are (v ∷ more) = ap (λ (vs : List Val). val_of v slots (single member) ∷ vs) (members_are more)
+  members_are (v ∷ more) = ap (λ (vs : List Val). val_of v slots.properties (single member) ∷ vs) (members_are more)
 
-  pub as_many_members : (held : List Value) → length (members_of (items_of slots member (map val_of held))) ≡ length held
-  as_many_members held = ap (λ (vs : List Val). length vs) (members_are held) ∙ length-map held (λ v. val_of v slots (single member))
+  pub as_many_members : (held : List Value) → length (members_of (items_of slots.properties member (map val_of held))) ≡ length held
+  as_many_members held = ap (λ (vs : List Val). length vs) (members_are held) ∙ length-map held (λ v. val_of v slots.properties (single member))
 
   pub member_there : (held : List Value) (k : ℕ) (found : Value) → slice_get held k ≡ Some found
-      → slice_get (members_of (items_of slots member (map val_of held))) k ≡ Some (val_of found slots (single member))
+      → slice_get (members_of (items_of slots.properties member (map val_of held))) k ≡ Some (val_of found slots.properties (single member))
   member_there held k found at =
-      ap (λ (vs : List Val). slice_get vs k) (members_are held) ∙ (slice_get-map (λ (v : Value). val_of v slots (single member)) held k
-      ∙ ap (option_map (λ (v : Value). val_of v slots (single member))) at)
+      ap (λ (vs : List Val). slice_get vs k) (members_are held) ∙ (slice_get-map (λ (v : Value). val_of v slots.properties (single member)) held k
+      ∙ ap (option_map (λ (v : Value). val_of v slots.properties (single member))) at)
 
 -- ---- a value among them
 
 -- before a comparison: however the two are read, they may be compared
 pub may_compare_member : ComparedAnyhow → (slots : Slots) (s t : ExprType) (left made : Datum) (found : Value) → IsDatumOf found made
-    → HaveEquality (datum_val (reading_at slots s) left) (val_of found slots t) → (l r : Reading) → HaveEquality (datum_val l left) (datum_val r made)
+    → HaveEquality (datum_val (reading_at slots s) left) (val_of found slots.properties t) → (l r : Reading) → HaveEquality (datum_val l left) (datum_val r made)
 may_compare_member anyhow slots s t left made found is may l r =
     anyhow ComparisonOperator.Eq left made (reading_at slots s) (reading_at slots t) l r
     (subst (λ (v : Val). HaveEquality (datum_val (reading_at slots s) left) v) (sym (is slots t)) may)
@@ -87,28 +87,28 @@ differs_all left held place all before k found at =
 
 module _ (slots : Slots) (type : ExprType) (member : SingleType) (left : Datum) (held : List Value) (may : MayBeMember slots type member left held) where
   passes : (k : ℕ) (found : Value) → slice_get held k ≡ Some found → Differs left found
-      → Passes Quantifier.Any (MemberGives (CompareGives ComparisonOperator.Eq (datum_val (reading_at slots type) left)) (items_of slots member (map val_of held)) k)
+      → Passes Quantifier.Any (MemberGives (CompareGives ComparisonOperator.Eq (datum_val (reading_at slots type) left)) (items_of slots.properties member (map val_of held)) k)
   passes k found at differs = (
     boolean false,
-    there_found (λ (w : Val). CompareGives ComparisonOperator.Eq (datum_val (reading_at slots type) left) w (gives (boolean false))) _ (val_of found slots (single member))
+    there_found (λ (w : Val). CompareGives ComparisonOperator.Eq (datum_val (reading_at slots type) left) w (gives (boolean false))) _ (val_of found slots.properties (single member))
         (member_there slots member held k found at) (may k found at, ((λ no. absurd (cc)), (λ same. absurd (differs slots type (single member) same)))),
     tt,
   )
 
   passes_within : (k : ℕ) → k < length held → ((found : Value) → slice_get held k ≡ Some found → Differs left found)
-      → Passes Quantifier.Any (MemberGives (CompareGives ComparisonOperator.Eq (datum_val (reading_at slots type) left)) (items_of slots member (map val_of held)) k)
+      → Passes Quantifier.Any (MemberGives (CompareGives ComparisonOperator.Eq (datum_val (reading_at slots type) left)) (items_of slots.properties member (map val_of held)) k)
   passes_within k within differs =
       let at = slice_get-get_or held k Null within in
       passes k _ at (differs _ at)
 
   pub among_gives : (answer : Bool) → IsAmong left held answer
-      → MembersGive Quantifier.Any (CompareGives ComparisonOperator.Eq (datum_val (reading_at slots type) left)) (items_of slots member (map val_of held)) (gives (boolean answer))
+      → MembersGive Quantifier.Any (CompareGives ComparisonOperator.Eq (datum_val (reading_at slots type) left)) (items_of slots.properties member (map val_of held)) (gives (boolean answer))
   among_gives true first = inl (record {
     place = first.place;
     here = (
       gives (boolean true),
       (
-        there_found (λ (w : Val). CompareGives ComparisonOperator.Eq (datum_val (reading_at slots type) left) w (gives (boolean true))) _ (val_of first.found slots (single member))
+        there_found (λ (w : Val). CompareGives ComparisonOperator.Eq (datum_val (reading_at slots type) left) w (gives (boolean true))) _ (val_of first.found slots.properties (single member))
             (member_there slots member held first.place first.found first.stands_at) (may first.place first.found first.stands_at, ((λ yes. first.equals slots type (single member)), (λ same. refl))),
         refl,
       ),

@@ -99,7 +99,7 @@ module _ (scene : SceneModel) (place : ℕ) (quantifier : Quantifier) (variable 
       fault_at fault answers = record {
         of_body = λ stop body type stands typed.
             let More = GoOver body (drop (index + 1) members) in
-            let v = val_of member (slots_of scene.row.schema) (type_of_variable scene variable) in
+            let v = val_of member (slots_of scene.row.schema).properties (type_of_variable scene variable) in
             tells_there (fault_outcome fault) (TakesMemory body) (TakesMemory body) (After (BodyMeans scene variable body v) (GoesOn quantifier More)) (GoOver body members) (λ takes. takes)
             (λ o goes. left.of_body stop body type stands typed o (member_first is body o goes))
             (fault_stays fault (TakesMemory body) (TakesMemory body) (BodyMeans scene variable body v) (GoesOn quantifier More) (λ takes. takes) (answers.of_tree stop body type stands typed));

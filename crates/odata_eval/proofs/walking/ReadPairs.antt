@@ -313,7 +313,7 @@ module _ (types : OneType) (scene : SceneModel) (place : ℕ) where
   Holds value held = (n : ℤ) → value ≡ Value.Enum n → (s : ExprType) → held s ≡ member n
 
   abbrev kept : Value → ExprType → Val
-  kept value type = val_of value (slots_of scene.row.schema) type
+  kept value type = val_of value (slots_of scene.row.schema).properties type
 
   abbrev made : Datum → ExprType → Val
   made value type = datum_val (reading_at (slots_of scene.row.schema) type) value

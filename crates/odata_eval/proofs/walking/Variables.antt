@@ -50,14 +50,14 @@ unbound (bound ∷ more) asked none =
 
 -- one that a variable has comes to the variable's value
 pub variable_gives : (slots : Slots) (in_scope : Option ExprType) (value : Option Val) (entity : Val) (asked : List ℕ) (Otherwise : Type 0) (type : ExprType) (v : Value)
-    → VariableHolds slots in_scope value v → MatchOption in_scope Otherwise (λ t. type ≡ t) → FoundGives value entity asked (gives (val_of v slots type))
-variable_gives slots (Some t) (Some w) entity asked Otherwise type v holds typed = ap (λ (u : ExprType). gives (val_of v slots u)) typed ∙ ap gives (sym holds)
+    → VariableHolds slots in_scope value v → MatchOption in_scope Otherwise (λ t. type ≡ t) → FoundGives value entity asked (gives (val_of v slots.properties type))
+variable_gives slots (Some t) (Some w) entity asked Otherwise type v holds typed = ap (λ (u : ExprType). gives (val_of v slots.properties u)) typed ∙ ap gives (sym holds)
 variable_gives slots (Some t) None entity asked Otherwise type v holds typed = absurd holds
 variable_gives slots None value entity asked Otherwise type v holds typed = absurd holds
 
 module _ (slots : Slots) (environment : Environment) (bound : BoundVariable) (level : ℕ) (value : Value) where
   -- the innermost variable
-  pub at_innermost : level ≡ length (names_of environment) → bound.value ≡ val_of value slots bound.variable.type_of → StandsAtLevel slots (bound ∷ environment) level value
+  pub at_innermost : level ≡ length (names_of environment) → bound.value ≡ val_of value slots.properties bound.variable.type_of → StandsAtLevel slots (bound ∷ environment) level value
   at_innermost same is = record {
     within = omega (arith, same);
     holds = λ asked named.

@@ -37,7 +37,7 @@ module _ (scene : SceneModel) (place : ℕ) where
   pub kept_datum : (value : Value) (made : Datum) → AnswersKept scene place value → IsDatumOf value made → AnswersDatum scene place (Ok made)
   kept_datum value made kept same =
       let slots = slots_of scene.row.schema in
-      same_values (val_of value slots) (λ type. datum_val (reading_at slots type) made) (λ type. sym (same slots type)) kept
+      same_values (val_of value slots.properties) (λ type. datum_val (reading_at slots type) made) (λ type. sym (same slots type)) kept
 
   -- what is made stands for one value under each reading, and back
   pub read_value : (made : Datum) (v : Val) → AnswersDatum scene place (Ok made) → ((reading : Reading) → datum_val reading made ≡ v)

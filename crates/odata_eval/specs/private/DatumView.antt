@@ -14,12 +14,12 @@ use Rattle.odata_eval.specs.VerdictView.{fault_outcome}
 
 -- what slots hold by name, at the type of their record
 abbrev pub fields_at : Slots → ExprType → List ValAtType → List ℕ → FieldVal
-fields_at slots (single (structured name)) held = field_by_name slots (slots.properties name) held
+fields_at slots (single (structured name)) held = field_by_name slots.properties (slots.properties name) held
 fields_at slots type held = λ name. absent
 
 -- what items there are, at the type of their list
 abbrev pub items_at : Slots → ExprType → List ValAtType → Vals
-items_at slots (collection type) held = items_of slots type held
+items_at slots (collection type) held = items_of slots.properties type held
 items_at slots type held = no_items
 
 -- how a record or a list of that type is read
@@ -43,7 +43,7 @@ HasSlot _ slot = ⊥
 -- what stands for a kept value, at any type
 abbrev pub IsDatumOf : Value → Datum → Type 0
 IsDatumOf value made =
-    (slots : Slots) (type : ExprType) → datum_val (reading_at slots type) made ≡ val_of value slots type
+    (slots : Slots) (type : ExprType) → datum_val (reading_at slots type) made ≡ val_of value slots.properties type
 
 -- null of null; of a record what stands in its slot
 abbrev pub IsStepOf : Datum → ℕ → Datum → Type 0

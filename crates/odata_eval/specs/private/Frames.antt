@@ -37,7 +37,7 @@ frames_in = fold-Frames (List Frame) frame_step
 abbrev pub bound_of : SchemaModel → Frame → Bound
 bound_of schema frame = record {
   variable = record { name = frame.name; type_of = expr_type schema frame.edm_type };
-  value = val_of frame.value (slots_of schema) (expr_type schema frame.edm_type);
+  value = val_of frame.value (slots_of schema).properties (expr_type schema frame.edm_type);
 }
 
 -- the environment that they make
@@ -50,7 +50,7 @@ names_of environment = variable_names (scope_of environment)
 
 -- what a name stands for, if it is a variable's, is the value at the type of the variable
 abbrev pub VariableHolds : Slots → Option ExprType → Option Val → Value → Type 0
-VariableHolds slots (Some type) (Some v) value = v ≡ val_of value slots type
+VariableHolds slots (Some type) (Some v) value = v ≡ val_of value slots.properties type
 VariableHolds slots _ _ value = ⊥
 
 -- the variable of that level has the value

@@ -76,12 +76,12 @@ BodyMeans scene variable body v =
 abbrev pub Suits : SceneModel → RangeVariable → Value → Type 0
 Suits scene variable value =
     HasType (slots_of scene.row.schema) (type_of_variable scene variable)
-    (val_of value (slots_of scene.row.schema) (type_of_variable scene variable))
+    (val_of value (slots_of scene.row.schema).properties (type_of_variable scene variable))
 
 -- what members are, each of that type
 abbrev pub vals_of : Slots → ExprType → List Value → Vals
 vals_of slots type [] = no_items
-vals_of slots type (value ∷ more) = item (val_of value slots type) (vals_of slots type more)
+vals_of slots type (value ∷ more) = item (val_of value slots.properties type) (vals_of slots type more)
 
 -- the answer is an outcome of the operator over these members, whatever body stands in the place
 pub record AnswersMembers

@@ -21,7 +21,7 @@ HasMembers _ = ⊥
 abbrev pub MayBeMember : Slots → ExprType → SingleType → Datum → List Value → Type 0
 MayBeMember slots type of_members left members =
     (k : ℕ) (found : Value) → slice_get members k ≡ Some found
-    → HaveEquality (datum_val (reading_at slots type) left) (val_of found slots (single of_members))
+    → HaveEquality (datum_val (reading_at slots type) left) (val_of found slots.properties (single of_members))
 
 -- so it may with those of a collection; there are none in null
 abbrev pub MayBeAmong : Slots → ExprType → SingleType → Datum → Datum → Type 0
@@ -32,11 +32,11 @@ MayBeAmong slots type of_members left _ = ⊥
 -- the value equals what is kept, or does not, at whatever types
 abbrev pub Equals : Datum → Value → Type 0
 Equals left found =
-    (slots : Slots) (s t : ExprType) → AreEqual (datum_val (reading_at slots s) left) (val_of found slots t)
+    (slots : Slots) (s t : ExprType) → AreEqual (datum_val (reading_at slots s) left) (val_of found slots.properties t)
 
 abbrev pub Differs : Datum → Value → Type 0
 Differs left found =
-    (slots : Slots) (s t : ExprType) → ¬ (AreEqual (datum_val (reading_at slots s) left) (val_of found slots t))
+    (slots : Slots) (s t : ExprType) → ¬ (AreEqual (datum_val (reading_at slots s) left) (val_of found slots.properties t))
 
 -- none of the members before a place equals it
 abbrev pub DiffersBefore : Datum → List Value → ℕ → Type 0

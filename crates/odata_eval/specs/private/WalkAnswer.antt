@@ -53,7 +53,7 @@ AnswersNumber scene place answer = AnswersAtPlace scene place (λ type. answer_o
 -- and a value that is kept
 abbrev pub AnswersKept : SceneModel → ℕ → Value → Type 0
 AnswersKept scene place value =
-    AnswersAtPlace scene place (λ type. Some (gives (val_of value (slots_of scene.row.schema) type)))
+    AnswersAtPlace scene place (λ type. Some (gives (val_of value (slots_of scene.row.schema).properties type)))
 
 -- what stands in the place: a value, a node of truth values, one of numbers, or another one with operands
 abbrev pub IsPart : SceneModel → ℕ → Part → Type 0

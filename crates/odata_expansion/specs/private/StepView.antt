@@ -1,7 +1,7 @@
 -- For private clauses: the steps of an expansion of the code, and the nodes to which they lead.
-use Rattle.std.specs.Prelude.{◌≡◌, ◌≤◌, ℕ, zero, suc, List, [], ◌∷◌, true, Option, Some, None, map, length, slice_get, string_bytes}
+use Rattle.std.specs.Prelude.{◌≡◌, ◌≤◌, ℕ, zero, suc, List, [], ◌∷◌, true, Some, map, length, slice_get, string_bytes}
 use Rattle.odata_expansion.specs.PathSet.{PropertyPath}
-use Rattle.odata_expansion.specs.ExpansionView.{StepModel, next_node, paths_in}
+use Rattle.odata_expansion.specs.ExpansionView.{StepModel, next_node}
 use Rattle.odata_expansion.specs.declared.steps.Step.{Step}
 use Rattle.odata_expansion.specs.declared.expansion.Expansion.TheInside.{Inside}
 
@@ -20,25 +20,10 @@ pub record AreSteps (steps : List StepModel) : Type 0 where
 abbrev pub AreKeptSteps : Inside → Type 0
 AreKeptSteps expansion = AreSteps (steps_model expansion)
 
--- the node to which a path leads from a node
-abbrev pub node_at : List StepModel → Option ℕ → PropertyPath → Option ℕ
-node_at steps None path = None
-node_at steps (Some node) [] = Some node
-node_at steps (Some node) (name ∷ path) = node_at steps (next_node steps node name) path
-
--- the path leads to the node
-abbrev pub LeadsTo : List StepModel → PropertyPath → ℕ → Type 0
-LeadsTo steps path node = node_at steps (Some 0) path ≡ Some node
-
 -- a step of that name leads from one node to the other
 pub record IsStep (steps : List StepModel) (node : ℕ) (name : List ℕ) (next : ℕ) : Type 0 where
   pub leads : next_node steps node name ≡ Some next
   pub within : next ≤ length steps
-
--- the set of paths is the same, and what led to a node leads there still
-pub record KeepsPaths (old new : List StepModel) : Type 0 where
-  pub same : (path : PropertyPath) → paths_in new path ≡ paths_in old path
-  pub leads : (path : PropertyPath) (node : ℕ) → LeadsTo old path node → LeadsTo new path node
 
 -- these steps, the one at the index marked as needed
 abbrev pub mark_step : ℕ → List StepModel → List StepModel

@@ -6,7 +6,6 @@ use Rattle.std.specs.Str.Parse.{IsNumeral}
 use Rattle.edm_values.specs.IntLiteral.{IntValue}
 use Rattle.csdl_schema.specs.ExprType.{ExprType, single, primitive}
 use Rattle.edm_values.specs.declared.primitive.PrimitiveType.{PrimitiveType}
-use Rattle.csdl_schema.specs.SchemaModel.{declared}
 use Rattle.odata_signatures.specs.ComparableTypes.{AreComparable}
 use Rattle.odata_signatures.specs.ExprTypes.{boolean_type, string_type}
 use Rattle.odata_syntax.specs.declared.node.BinaryOperator.{BinaryOperator}
@@ -58,8 +57,8 @@ item_filter_typed = record {
   makes = inl (inl refl, inl refl, refl);
 }
 
-declared_one : (a b : ExprType) → declared a ≡ declared b → a ≡ b
-declared_one a b same = cc
+named_one : (a b : ExprType) → Some a ≡ Some b → a ≡ b
+named_one a b same = cc
 
 apart : AreComparable int32 string_type → ⊥
 apart compared = elim compared [ inl numbers ↦ absurd numbers.1 | inr same ↦ (let e : PrimitiveType.Int32 ≡ PrimitiveType.String = same in cc) ]
@@ -70,5 +69,5 @@ mixed_filter_untyped type typed =
     let P : ExprType → Type 0 = λ (t : ExprType). OperatorTyped item_slots BinaryOperator.Eq (quoting None t) (quoting (Some (codes "'a'")) typed.right) type in
     let Q : ExprType → Type 0 = λ (t : ExprType). OperatorTyped item_slots BinaryOperator.Eq (quoting None int32) (quoting (Some (codes "'a'")) t) type in
     let made : OperatorTyped item_slots BinaryOperator.Eq (quoting None int32) (quoting (Some (codes "'a'")) string_type) type =
-    subst Q typed.right_typed.2 (subst P (sym (declared_one int32 typed.left typed.left_typed)) typed.makes) in
+    subst Q typed.right_typed.2 (subst P (sym (named_one int32 typed.left typed.left_typed)) typed.makes) in
     elim made [ inl compared ↦ apart compared.0 | inr read ↦ elim read.0.1 [ inl none ↦ absurd none.1 | inr none ↦ absurd none.1 ] ]

@@ -9,7 +9,7 @@ use Rattle.odata_functions.specs.Promotion.{promotion, negation_type}
 use Rattle.odata_syntax.specs.Tree.{Tree, Trees, node, literal, it, name, member, count, negation, logical_not, binary, has, in_list, in_path, call, any_item, lambda, more_trees, no_trees}
 use Rattle.odata_syntax.specs.declared.node.LiteralKind.{LiteralKind}
 use Rattle.csdl_schema.specs.ExprType.{ExprType, null_type, single, collection, primitive, enumeration, structured}
-use Rattle.csdl_schema.specs.SchemaModel.{PropertyModel, Slots, declared}
+use Rattle.csdl_schema.specs.SchemaModel.{PropertyModel, Slots}
 use Rattle.odata_signatures.specs.declared.operator_class.OperatorClass.{OperatorClass}
 use Rattle.odata_signatures.specs.ExprTypes.{IsNumberOrNull, boolean_type, number_or_null}
 use Rattle.odata_expression_types.specs.LiteralValue.{EnumerationLiteral, IntTyped, IsNameAndText, LiteralTyped}
@@ -19,7 +19,7 @@ use Rattle.odata_signatures.specs.OperatorTyped.{ArithmeticTyped, ClassTyped, Is
 use Rattle.odata_signatures.specs.Side.{Side}
 use Rattle.odata_syntax.specs.declared.node.BinaryOperator.{BinaryOperator}
 use Rattle.odata_expression_types.specs.Sides.{Between, side_of}
-use Rattle.odata_expression_types.specs.Typed.{AreTyped, Scope, StepTyped, Typed, PropertyTyped, variable_type, property_named}
+use Rattle.odata_expression_types.specs.Typed.{AreTyped, Scope, StepTyped, Typed, PropertyTyped, named_type, variable_type, property_named}
 
 -- an Int literal stands for one number at most
 one_number : (text : List ℕ) (m n : ℤ) → IntNumber text m → IntNumber text n → m ≡ n
@@ -82,9 +82,9 @@ LiteralTyped-one slots LiteralKind.EnumLit spelling a b x y =
     x.3 ∙ ap (λ (q : List ℕ). single (enumeration q)) (one_enumeration slots spelling x.0 y.0 x.1 y.1 x.2 y.2) ∙ sym y.3
 
 FoundTyped-one :
-    (found : Option PropertyModel) (a b : ExprType) → IsSomeAnd found (λ p. p.type_of ≡ declared a) → IsSomeAnd found (λ p. p.type_of ≡ declared b) → a ≡ b
+    (found : Option PropertyModel) (a b : ExprType) → IsSomeAnd found (λ p. named_type p.type_of ≡ Some a) → IsSomeAnd found (λ p. named_type p.type_of ≡ Some b) → a ≡ b
 FoundTyped-one None a b x y = absurd x
-FoundTyped-one (Some p) a b x y = cc (x, y)
+FoundTyped-one (Some p) a b x y = let same : Some a ≡ Some b = sym x ∙ y in cc
 
 BoundTyped-one :
     (bound : Option ExprType) (properties : List PropertyModel) (asked : List ℕ) (a b : ExprType)

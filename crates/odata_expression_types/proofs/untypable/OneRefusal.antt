@@ -50,7 +50,8 @@ literal_reason _ a b x y = x ∙ sym y
 property_reason : (kind : PropertyType) (a b : TypeFaultCode) → PropertyReason kind a → PropertyReason kind b → a ≡ b
 property_reason (declared type) a b x y = absurd x
 property_reason opaque a b x y = x ∙ sym y
-property_reason (navigation target) a b x y = x ∙ sym y
+property_reason (navigation None) a b x y = x ∙ sym y
+property_reason (navigation (Some type)) a b x y = absurd x
 
 found_reason :
     (found : Option PropertyModel) (a b : TypeFaultCode)

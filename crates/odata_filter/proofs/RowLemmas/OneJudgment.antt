@@ -7,16 +7,16 @@ use Rattle.serde_json.specs.Find.{as_object}
 use Rattle.edm_values.specs.MomentParts.{MomentParts}
 use Rattle.edm_values.specs.Val.{Val, boolean}
 use Rattle.csdl_schema.specs.JsonText.{IsJsonOf, IsNoJson}
-use Rattle.csdl_schema.specs.SchemaModel.{Slots, slots_of, type_name_at}
+use Rattle.csdl_schema.specs.SchemaModel.{Slots, type_name_at}
 use Rattle.edm_entities.specs.Fits.{Fits}
 use Rattle.edm_entities.specs.RowFaults.{Path, IsFirstFault, IsRowFault}
-use Rattle.edm_entities.specs.FitsPrimitive.{Flaw, missing, wrong_kind, null_not_allowed, out_of_range, bad_text}
+use Rattle.edm_entities.specs.FitsPrimitive.{Flaw, missing, wrong_kind, null_not_allowed, out_of_range, bad_text, not_expanded}
 use Rattle.edm_entities.specs.declared.fault.RowFault.{RowFault}
 use Rattle.odata_eval.specs.Outcome.{Outcome, gives}
 use Rattle.odata_eval.specs.VerdictView.{fault_outcome, verdict_val}
 use Rattle.odata_eval.specs.declared.fault.EvalFault.{EvalFault}
 use Rattle.odata_eval.specs.declared.verdict.Verdict.{Verdict}
-use Rattle.odata_checked_filter.specs.Filter.{Filter}
+use Rattle.odata_checked_filter.specs.Filter.{Filter, slots_for_filter}
 use Rattle.line_filter.specs.declared.judge.Judgment.{Judgment}
 use Rattle.odata_filter.specs.declared.bad_row.BadRow.{BadRow}
 use Rattle.odata_filter.specs.declared.no_verdict.NoVerdict.{NoVerdict}
@@ -48,6 +48,7 @@ row_fault_view slots type_name json (RowFault.NullNotAllowed p) (path, first, te
 row_fault_view slots type_name json (RowFault.OutOfRange p) (path, first, text) = inr (path, out_of_range, first, ap (λ (l : List ℕ). Some (l, out_of_range)) text)
 row_fault_view slots type_name json (RowFault.BadText p) (path, first, text) = inr (path, bad_text, first, ap (λ (l : List ℕ). Some (l, bad_text)) text)
 row_fault_view slots type_name json RowFault.Memory is = absurd is
+row_fault_view slots type_name json (RowFault.NotExpanded p) (path, first, text) = inr (path, not_expanded, first, ap (λ (l : List ℕ). Some (l, not_expanded)) text)
 
 not_none : {X : Type 0} (o : Option X) → o ≡ None → IsSome o → ⊥
 not_none None is some = absurd cc
@@ -102,7 +103,7 @@ verdict_once Verdict.Null Verdict.Null is = refl
 module _ (one_fits : OneFits) (fits_nothing : FaultFitsNothing) (one_fault : OneFirstFault) (filter : Filter) (now : MomentParts) where
   outcome_once : (json : Data) (o p : Outcome) → HasOutcome filter now json o → HasOutcome filter now json p → o ≡ p
   outcome_once json o p a b =
-      let value : b.value ≡ a.value = one_fits (slots_of filter.schema) (type_name_at filter.schema filter.filtered) json b.value a.value b.fits a.fits in
+      let value : b.value ≡ a.value = one_fits (slots_for_filter filter) (type_name_at filter.schema filter.filtered) json b.value a.value b.fits a.fits in
       sym (a.only p (subst (λ (v : Val). FilterMeans filter now v p) value b.related))
 
   -- what an outcome says of its row
@@ -138,7 +139,7 @@ module _ (one_fits : OneFits) (fits_nothing : FaultFitsNothing) (one_fault : One
   -- ---- a JSON value
 
   abbrev IsBad : Data → RowFault → Type 0
-  IsBad json f = IsRowFault (slots_of filter.schema) (type_name_at filter.schema filter.filtered) json f
+  IsBad json f = IsRowFault (slots_for_filter filter) (type_name_at filter.schema filter.filtered) json f
 
   value_view : (json : Data) (j : Judgment BadRow) → JudgesValue filter now json j
       → ((o : Outcome) × HasOutcome filter now json o × Tells o j) ⊎ ((f : RowFault) × IsBad json f × (j ≡ Judgment.Fault (BadRow.NoEntity f)))
@@ -152,12 +153,12 @@ module _ (one_fits : OneFits) (fits_nothing : FaultFitsNothing) (one_fault : One
   value_once json j k p q = elim (value_view json j p) [
     | inl (o, has, tells) ↦ elim (value_view json k q) [
       | inl (o', has', tells') ↦ tells_once o' j k (subst (λ (r : Outcome). Tells r j) (outcome_once json o o' has has') tells) tells'
-      | inr (g, bad', is') ↦ absurd (fits_nothing (slots_of filter.schema) (type_name_at filter.schema filter.filtered) json g bad' has.value has.fits)
+      | inr (g, bad', is') ↦ absurd (fits_nothing (slots_for_filter filter) (type_name_at filter.schema filter.filtered) json g bad' has.value has.fits)
     ]
     | inr (f, bad, is) ↦ elim (value_view json k q) [
-      | inl (o', has', tells') ↦ absurd (fits_nothing (slots_of filter.schema) (type_name_at filter.schema filter.filtered) json f bad has'.value has'.fits)
+      | inl (o', has', tells') ↦ absurd (fits_nothing (slots_for_filter filter) (type_name_at filter.schema filter.filtered) json f bad has'.value has'.fits)
       | inr (g, bad', is') ↦
-          let told = row_fault_once one_fault (slots_of filter.schema) (type_name_at filter.schema filter.filtered) json f g bad bad' in
+          let told = row_fault_once one_fault (slots_for_filter filter) (type_name_at filter.schema filter.filtered) json f g bad bad' in
           subst (λ (r : Judgment BadRow). AreSameJudgment r k) (sym is) (subst (λ (r : Judgment BadRow). AreSameJudgment (Judgment.Fault (BadRow.NoEntity f)) r) (sym is') told)
     ]
   ]

@@ -1,52 +1,72 @@
 -- From what is known of an entity to what is told of its row, and said of its line.
-use Rattle.std.proofs.Common.{◌≡◌, ◌≢◌, ◌∙◌, ℕ, List, [], Some, None, Result, Ok, Err, sym, subst, refl, IfSome, IfOk}
+use mathlib.Core.Path.{fun_ext}
+use Rattle.std.proofs.Common.{◌≡◌, ◌≢◌, ◌⊎◌, ◌∙◌, inl, inr, ℕ, List, [], Some, None, Result, Ok, Err, sym, ap, subst, refl, IfSome, IfOk}
 use Rattle.serde_json.specs.Data.{Data}
 use Rattle.edm_values.specs.MomentParts.{MomentParts}
 use Rattle.edm_values.specs.Val.{Val, null, boolean}
-use Rattle.std.specs.Prelude.{true, false, MatchResult}
+use Rattle.std.specs.Prelude.{Bool, true, false, MatchResult}
 use Rattle.csdl_schema.specs.JsonText.{IsJsonOf}
-use Rattle.csdl_schema.specs.SchemaModel.{SchemaModel, slots_of, type_name_at}
+use Rattle.csdl_schema.specs.ExpansionView.{StepModel, paths_in}
+use Rattle.csdl_schema.specs.PathSet.{Covers, PathSet, PropertyPath}
+use Rattle.csdl_schema.specs.SchemaModel.{SchemaModel, expanded, slots_of, type_name_at}
 use Rattle.odata_eval.specs.declared.fault.EvalFault.{EvalFault}
 use Rattle.odata_eval.specs.declared.verdict.Verdict.{Verdict}
 use Rattle.line_filter.specs.declared.judge.Judgment.{Judgment}
 use Rattle.odata_filter.specs.declared.bad_row.BadRow.{BadRow}
 use Rattle.edm_entities.specs.Fits.{Fits}
-use Rattle.edm_entities.specs.Row.{Row, value_of}
+use Rattle.edm_entities.specs.Row.{Row, expanded_by, slots_for, value_of}
 use Rattle.odata_eval.specs.Means.{Means}
 use Rattle.odata_eval.specs.MeansOn.{IsTheOutcome}
 use Rattle.odata_eval.specs.Outcome.{Outcome, gives, overflow, divides_by_zero}
 use Rattle.odata_eval.specs.VerdictView.{fault_outcome}
-use Rattle.odata_checked_filter.specs.Filter.{Filter, tree_of_filter}
+use Rattle.odata_checked_filter.specs.Filter.{Filter, slots_for_filter, tree_of_filter}
 use Rattle.odata_filter.specs.declared.no_verdict.NoVerdict.{NoVerdict}
 use Rattle.odata_filter.specs.RowAnswer.{TellsRow, judgment_told}
 use Rattle.odata_filter.specs.RowJudgment.{HasOutcome, JudgesRow, JudgesValue}
 use Rattle.odata_filter.specs.private.ValueAnswer.{TellsValue, fault_told}
 
--- an entity of the filter's schema and type, read from the JSON
+unless_true : (b : Bool) → (b ≡ true → true ≡ false) → b ≡ false
+unless_true true clash = clash refl
+unless_true false clash = refl
+
+-- no more is in the set than in one that has nothing
+pub none_covered : (paths other : PathSet) → ((path : PropertyPath) → paths path ≡ false) → Covers paths other → (path : PropertyPath) → other path ≡ false
+none_covered paths other none covers path = unless_true (other path) (λ is. sym (covers path is) ∙ none path)
+
+-- a plan that has what the filter needs has nothing else
+pub planned_paths : (planned needed : List StepModel) → (planned ≡ needed) ⊎ ((path : PropertyPath) → paths_in planned path ≡ false) → Covers (paths_in planned) (paths_in needed)
+    → (path : PropertyPath) → paths_in planned path ≡ paths_in needed path
+planned_paths planned needed (inl same) covers path = ap (λ (steps : List StepModel). paths_in steps path) same
+planned_paths planned needed (inr none) covers path = none path ∙ sym (none_covered (paths_in planned) (paths_in needed) none covers path)
+
+-- an entity of the filter's schema and type, read from the JSON with what the filter needs
 pub record IsRowOf (filter : Filter) (json : Data) (row : Row) : Type 0 where
   pub same_schema : row.schema ≡ filter.schema
   pub same_type : row.type_id ≡ filter.filtered
-  pub fits : Fits (slots_of filter.schema) (type_name_at filter.schema filter.filtered) json (value_of row)
+  pub fits : Fits (slots_for_filter filter) (type_name_at filter.schema filter.filtered) json (value_of row)
 
--- it was read by a schema and a type that are the filter's
-pub row_of_filter : (filter : Filter) (json : Data) (row : Row) (s : SchemaModel) (n : ℕ)
-    → row.schema ≡ s → row.type_id ≡ n → s ≡ filter.schema → n ≡ filter.filtered
-    → Fits (slots_of s) (type_name_at s n) json (value_of row) → IsRowOf filter json row
-row_of_filter filter json row s n of_schema of_type schema_is type_is fits =
-    let Schema : SchemaModel → Type 0 = λ s'. Fits (slots_of s') (type_name_at s' n) json (value_of row) in
-    let Place : ℕ → Type 0 = λ n'. Fits (slots_of filter.schema) (type_name_at filter.schema n') json (value_of row) in
+-- it fits by its own schema and type, with the paths that it expands, which are the filter's
+pub row_of_filter : (filter : Filter) (json : Data) (row : Row)
+    → row.schema ≡ filter.schema → row.type_id ≡ filter.filtered → ((path : PropertyPath) → paths_in row.expansion path ≡ paths_in filter.expansion path)
+    → Fits (slots_for row) (type_name_at row.schema row.type_id) json (value_of row) → IsRowOf filter json row
+row_of_filter filter json row schema_is type_is paths fits =
+    let Paths : PathSet → Type 0 = λ p. Fits (expanded (slots_of row.schema) p) (type_name_at row.schema row.type_id) json (value_of row) in
+    let Schema : SchemaModel → Type 0 = λ s. Fits (expanded (slots_of s) (paths_in filter.expansion)) (type_name_at s row.type_id) json (value_of row) in
+    let Place : ℕ → Type 0 = λ n. Fits (slots_for_filter filter) (type_name_at filter.schema n) json (value_of row) in
     record {
-      same_schema = of_schema ∙ schema_is;
-      same_type = of_type ∙ type_is;
-      fits = subst Place type_is (subst Schema schema_is fits);
+      same_schema = schema_is;
+      same_type = type_is;
+      fits = subst Place type_is (subst Schema schema_is (subst Paths (fun_ext paths) fits));
     }
 
--- it fits by its own schema and type
-pub fits_of_row : (json : Data) (row : Row) (s : SchemaModel) (n : ℕ) → row.schema ≡ s → row.type_id ≡ n → Fits (slots_of s) (type_name_at s n) json (value_of row)
-    → Fits (slots_of row.schema) (type_name_at row.schema row.type_id) json (value_of row)
-fits_of_row json row s n of_schema of_type fits =
-    subst (λ n'. Fits (slots_of row.schema) (type_name_at row.schema n') json (value_of row)) (sym of_type)
-    (subst (λ s'. Fits (slots_of s') (type_name_at s' n) json (value_of row)) (sym of_schema) fits)
+-- it fits by its own schema and type, and what it expands
+pub fits_of_row : (json : Data) (row : Row) (s : SchemaModel) (n : ℕ) (expansion : List StepModel) → row.schema ≡ s → row.type_id ≡ n → row.expansion ≡ expansion
+    → Fits (expanded_by s expansion) (type_name_at s n) json (value_of row)
+    → Fits (slots_for row) (type_name_at row.schema row.type_id) json (value_of row)
+fits_of_row json row s n expansion of_schema of_type of_expansion fits =
+    subst (λ e. Fits (expanded_by row.schema e) (type_name_at row.schema row.type_id) json (value_of row)) (sym of_expansion)
+    (subst (λ n'. Fits (expanded_by row.schema expansion) (type_name_at row.schema n') json (value_of row)) (sym of_type)
+    (subst (λ s'. Fits (expanded_by s' expansion) (type_name_at s' n) json (value_of row)) (sym of_schema) fits))
 
 -- the outcome on the entity is that of the JSON
 pub outcome_of_row : (filter : Filter) (now : MomentParts) (json : Data) (row : Row) (outcome : Outcome)

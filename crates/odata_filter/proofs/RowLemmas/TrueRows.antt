@@ -7,7 +7,9 @@ use Rattle.edm_values.specs.MomentParts.{IsMoment, MomentParts}
 use Rattle.edm_values.specs.declared.primitive.PrimitiveType.TheVariants.{Bool as EdmBoolean}
 use Rattle.edm_values.specs.Val.{Val, null, boolean, whole, text as of_text, date, moment, guid, member, fields, items}
 use Rattle.csdl_schema.specs.ExprType.{ExprType, null_type, single, primitive, structured}
-use Rattle.csdl_schema.specs.SchemaModel.{Slots, SchemaModel, slots_of, type_name_at}
+use Rattle.csdl_schema.specs.ExpansionView.{paths_in}
+use Rattle.csdl_schema.specs.PathSet.{PathSet}
+use Rattle.csdl_schema.specs.SchemaModel.{Slots, SchemaModel, expanded, slots_of, type_name_at}
 use Rattle.edm_entities.specs.Fits.{Fits}
 use Rattle.edm_entities.specs.HasType.{HasType}
 use Rattle.edm_entities.specs.Row.{Row, value_of}
@@ -36,7 +38,7 @@ use Rattle.odata_filter.proofs.RowLemmas.OneJudgment.{OneFits, FaultFitsNothing,
 
 -- the law of what fits and its type, as it is cited
 abbrev pub FitsHasType : Type 0
-FitsHasType = (slots : Slots) (type_name : List ℕ) (json : Data) (v : Val) → Fits slots type_name json v → HasType slots (single (structured type_name)) v
+FitsHasType = (slots : Slots) (expansion : PathSet) (type_name : List ℕ) (json : Data) (v : Val) → Fits (expanded slots expansion) type_name json v → HasType slots (single (structured type_name)) v
 
 -- ---- the five outcomes
 
@@ -72,9 +74,11 @@ known_of slots type divides_by_zero truth of_type = tt
 
 pub one_outcome : TypedEndsOnce → FitsHasType → HaveOneOutcome
 one_outcome ends has_type text filter now value checked is_moment (json, fits) =
-    let once = ends (slots_of filter.schema) (type_name_at filter.schema filter.filtered) now value [] (tree_of_filter filter) checked.type_of is_moment
-    (has_type (slots_of filter.schema) (type_name_at filter.schema filter.filtered) json value fits) tt checked.typed in
-    (once.outcome, record { known = known_of (slots_of filter.schema) checked.type_of once.outcome checked.truth once.of_type; related = once.related; only = once.only })
+    let slots = slots_of filter.schema in
+    let root = type_name_at filter.schema filter.filtered in
+    let once = ends slots root now value [] (tree_of_filter filter) checked.typing.type_of is_moment
+    (has_type slots (paths_in filter.expansion) root json value fits) tt checked.typing.typed in
+    (once.outcome, record { known = known_of slots checked.typing.type_of once.outcome checked.typing.truth once.of_type; related = once.related; only = once.only })
 
 -- ---- what is answered on an entity
 

@@ -1,15 +1,15 @@
 -- What is known of a property by its name.
-use Rattle.std.proofs.Common.{◌≡◌, refl, sym, subst, ◌∙◌, inl, inr, ℕ, ◌<◌, ◌≤◌, List, length, Option, Some, None, IfSome, IsSomeAnd, MatchOption, slice_get, arith}
+use Rattle.std.proofs.Common.{◌≡◌, refl, sym, ap, subst, ◌∙◌, inl, inr, ℕ, ◌<◌, ◌≤◌, List, length, Option, Some, None, IfSome, IsSomeAnd, MatchOption, slice_get, arith}
 use Rattle.std.proofs.lemmas.Option.{slice_get_cases}
 use Rattle.odata_syntax.specs.Tree.{node, name}
 use Rattle.odata_text.specs.declared.span.Span.{Span}
 use Rattle.csdl_schema.specs.ExprType.{ExprType}
 use Rattle.csdl_schema.specs.PropertyView.{IsReadAs, PointsWithin, property_type}
-use Rattle.csdl_schema.specs.SchemaModel.{PropertyModel, PropertyType, SchemaModel, Slots, declared, slot_named}
+use Rattle.csdl_schema.specs.SchemaModel.{PropertyModel, PropertyType, SchemaModel, Slots, declared, opaque, navigation, slot_named}
 use Rattle.csdl_schema.specs.declared.property.Property.{Property}
 use Rattle.odata_expression_types.specs.declared.refusal.TypeFaultCode.{TypeFaultCode}
 use Rattle.odata_expression_types.specs.FirstUntypable.{IsFirstUntypable, NameReason, PropertyReason}
-use Rattle.odata_expression_types.specs.Typed.{PropertyTyped, Scope, variable_type}
+use Rattle.odata_expression_types.specs.Typed.{PropertyTyped, Scope, named_type, variable_type}
 use Rattle.odata_typing.specs.private.LawsBelow.{LawsBelow}
 use Rattle.odata_typing.proofs.untypable.Untypable.{first_itself}
 use Rattle.odata_typing.proofs.scopes.Scopes.{unbound_only}
@@ -29,7 +29,7 @@ first_name laws slots root scope asked span code none untyped reason =
 -- there is no property of the name
 pub unknown_untyped : (properties : List PropertyModel) (asked : List ℕ) (type : ExprType) → slot_named properties asked ≡ None → ¬ PropertyTyped properties asked type
 unknown_untyped properties asked type none typed =
-    let P : Option PropertyModel → Type 0 = λ (o : Option PropertyModel). IsSomeAnd o (λ p. p.type_of ≡ declared type) in
+    let P : Option PropertyModel → Type 0 = λ (o : Option PropertyModel). IsSomeAnd o (λ p. named_type p.type_of ≡ Some type) in
     subst P (property_none properties asked none) typed
 
 pub unknown_reason : (properties : List PropertyModel) (asked : List ℕ) → slot_named properties asked ≡ None → NameReason properties asked TypeFaultCode.UnknownProperty
@@ -73,9 +73,11 @@ points_within schema properties asked k p found read =
     is.there
 
 -- a property that a filter may not name has no type
-reason_untyped : (kind : PropertyType) (code : TypeFaultCode) (type : ExprType) → PropertyReason kind code → ¬ (kind ≡ declared type)
+reason_untyped : (kind : PropertyType) (code : TypeFaultCode) (type : ExprType) → PropertyReason kind code → ¬ (named_type kind ≡ Some type)
 reason_untyped (declared t) code type reason same = reason
-reason_untyped _ code type reason same = cc
+reason_untyped opaque code type reason same = cc
+reason_untyped (navigation None) code type reason same = cc
+reason_untyped (navigation (Some t)) code type reason same = reason
 
 pub refused_untyped :
     (properties : List PropertyModel) (asked : List ℕ) (k : ℕ) (kind : PropertyType) (code : TypeFaultCode) (type : ExprType)
@@ -84,8 +86,8 @@ pub refused_untyped :
     → PropertyReason kind code
     → ¬ PropertyTyped properties asked type
 refused_untyped properties asked k kind code type found at reason typed =
-    let P : Option PropertyModel → Type 0 = λ (o : Option PropertyModel). IsSomeAnd o (λ p. p.type_of ≡ declared type) in
-    reason_untyped kind code type reason (at.kind_is ∙ subst P (property_at properties asked k found ∙ at.named) typed)
+    let P : Option PropertyModel → Type 0 = λ (o : Option PropertyModel). IsSomeAnd o (λ p. named_type p.type_of ≡ Some type) in
+    reason_untyped kind code type reason (ap named_type at.kind_is ∙ subst P (property_at properties asked k found ∙ at.named) typed)
 
 pub refused_reason :
     (properties : List PropertyModel) (asked : List ℕ) (k : ℕ) (kind : PropertyType) (code : TypeFaultCode)
@@ -103,8 +105,8 @@ pub property_typed :
     (properties : List PropertyModel) (asked : List ℕ) (k : ℕ) (type : ExprType) (kind : PropertyType)
     → slot_named properties asked ≡ Some k
     → IsFoundAt properties asked k kind
-    → kind ≡ declared type
+    → named_type kind ≡ Some type
     → PropertyTyped properties asked type
-property_typed properties asked k type kind found at is_declared =
-    let P : Option PropertyModel → Type 0 = λ (o : Option PropertyModel). IsSomeAnd o (λ p. p.type_of ≡ declared type) in
-    subst P (sym (property_at properties asked k found ∙ at.named)) (sym at.kind_is ∙ is_declared)
+property_typed properties asked k type kind found at is_named =
+    let P : Option PropertyModel → Type 0 = λ (o : Option PropertyModel). IsSomeAnd o (λ p. named_type p.type_of ≡ Some type) in
+    subst P (sym (property_at properties asked k found ∙ at.named)) (ap named_type (sym at.kind_is) ∙ is_named)

@@ -1,10 +1,11 @@
 //! Calls over texts, each with all that it stands on, as the suite of cases spells their answers.
 use crate::items;
 use crate::refused::tell;
-use crate::shop::{E0, NAMED, SHOP, TWICE};
+use crate::shop::{E0, LINKED, LINKS, NAMED, SHOP, TWICE};
 use odata_functions::{concat, to_lower, to_upper};
 use serde_json::Value;
 use spelled_answers::entities::line_and_row_answer;
+use spelled_answers::expansions::paths_answer;
 use spelled_answers::filters::{AskedOfFilter, TypeOf, answer_of, moment_of};
 use spelled_answers::literals::value_behind;
 use spelled_answers::runs::{plan_answer, query_filter, run_answer};
@@ -15,8 +16,9 @@ use std::alloc::Global;
 use std::test::Fail;
 
 /// What is asked: of a document, of a type of the shop, of a line as a product, of a filter of products (last its
-/// outcome on one, and that of so many evaluations on the product), of a text without types, of a literal of a kind
-/// behind other text, of texts, of a query string, of words, of words over a document and rows.
+/// outcome on one, and that of so many evaluations on the product), of a filter of entities with links (last its outcome
+/// on one, or the fault of that), of paths, of a text without types, of a literal of a kind behind other text, of texts,
+/// of a query string, of words, of words over a document and rows.
 #[derive(Clone, Copy)]
 enum Call {
     Document(&'static str),
@@ -27,6 +29,9 @@ enum Call {
     Explanation(&'static str),
     Outcome(&'static str, &'static str),
     Evaluations(&'static str, usize),
+    LinksCanonical(&'static str),
+    LinksOutcome(&'static str, &'static str),
+    Paths(&'static [&'static [&'static str]]),
     Text(&'static str),
     Literal(&'static str, &'static str),
     Concat(&'static str, &'static str),
@@ -37,17 +42,24 @@ enum Call {
     Run(&'static [&'static str], &'static str, &'static str),
 }
 
-/// The type of products.
-fn product() -> TypeOf<'static> {
+/// A type by its document and its name.
+type Named = (&'static str, &'static str);
+
+const PRODUCT: Named = (SHOP, "Shop.Product");
+
+const LINKED_ENTITY: Named = (LINKS, "N.A");
+
+fn typed(named: Named) -> TypeOf<'static> {
     TypeOf {
-        document: SHOP.as_bytes(),
-        named: "Shop.Product",
+        document: named.0.as_bytes(),
+        named: named.1,
     }
 }
 
-/// The outcome of a filter on a product, once and by a run, or of so many evaluations.
+/// The outcome of a filter on a row, once and by a run, or of so many evaluations.
 fn outcome_of(
     alloc: Global,
+    named: Named,
     row: &str,
     filter: &str,
     times: Option<usize>,
@@ -58,21 +70,36 @@ fn outcome_of(
         Some(times) => AskedOfFilter::Evaluations(&row, &now, times),
         None => AskedOfFilter::Outcome(&row, &now, 1),
     };
-    answer_of(alloc, product(), filter, asked)
+    answer_of(alloc, typed(named), filter, asked)
 }
 
 fn answer(alloc: Global, call: Call) -> Result<String, Trouble> {
     match call {
         Call::Document(text) => fault_of(alloc, text.as_bytes()),
         Call::Slots(named) => slots_of(alloc, SHOP.as_bytes(), named),
-        Call::Line(line) => line_and_row_answer(alloc, product(), line.as_bytes()),
-        Call::Check(filter) => answer_of(alloc, product(), filter, AskedOfFilter::Acceptance),
-        Call::Canonical(filter) => answer_of(alloc, product(), filter, AskedOfFilter::Canonical),
+        Call::Line(line) => line_and_row_answer(alloc, typed(PRODUCT), line.as_bytes()),
+        Call::Check(filter) => answer_of(alloc, typed(PRODUCT), filter, AskedOfFilter::Acceptance),
+        Call::Canonical(filter) => answer_of(
+            alloc,
+            typed(PRODUCT),
+            filter,
+            AskedOfFilter::Canonical,
+        ),
         Call::Explanation(filter) => {
-            answer_of(alloc, product(), filter, AskedOfFilter::Explanation)
+            answer_of(alloc, typed(PRODUCT), filter, AskedOfFilter::Explanation)
         }
-        Call::Outcome(filter, row) => outcome_of(alloc, row, filter, None),
-        Call::Evaluations(filter, times) => outcome_of(alloc, E0, filter, Some(times)),
+        Call::Outcome(filter, row) => outcome_of(alloc, PRODUCT, row, filter, None),
+        Call::Evaluations(filter, times) => outcome_of(alloc, PRODUCT, E0, filter, Some(times)),
+        Call::LinksCanonical(filter) => {
+            answer_of(
+                alloc,
+                typed(LINKED_ENTITY),
+                filter,
+                AskedOfFilter::Canonical,
+            )
+        }
+        Call::LinksOutcome(filter, row) => outcome_of(alloc, LINKED_ENTITY, row, filter, None),
+        Call::Paths(paths) => paths_answer(alloc, paths),
         Call::Text(text) => answer_of_text(alloc, text, AskedOfText::Canonical),
         Call::Literal(kind, text) => value_behind(alloc, "a", kind, text),
         Call::Concat(left, right) => Ok(concat(alloc, left, right)?),
@@ -217,6 +244,33 @@ const CALLS: &[(Call, &str, &str)] = &[
         Call::Outcome("Color has Shop.Color'Red,Blue'", E0),
         "evaluate_of_enumeration",
         "true",
+    ),
+    (
+        Call::LinksCanonical("Many/any(m:m/To/Many/$count eq 0) or To/To eq null"),
+        "check_of_paths",
+        "Many/any(m:m/To/Many/$count eq 0) or To/To eq null",
+    ),
+    (
+        Call::LinksOutcome("Many/any(m:m/To/ID eq 3) and To/ID eq 4", LINKED),
+        "expanded_from_json",
+        "true",
+    ),
+    (
+        Call::LinksOutcome("Many/any(m:m/To/To eq null)", LINKED),
+        "expanded_from_json_of_fault",
+        "NotExpanded Many/0/To/To",
+    ),
+    (Call::Paths(&[&["Maker"]]), "expansion_add", "1 of 1"),
+    (
+        Call::Paths(&[
+            &["To", "Many", "To"],
+            &["To"],
+            &[],
+            &["To", "Many"],
+            &["Home", "To"],
+        ]),
+        "expansion_add_of_several",
+        "4 of 5",
     ),
     (
         Call::Text("Parts/any(p:p/Sub/any(q:q/Qty gt p/Qty))"),

@@ -17,8 +17,8 @@ returns-in-Some-clause-fits c json slots type is =
     let same : json ≡ string c.in-Text.text.now = rw c.in-Text.is at is in
     let fits : FitsSigned w64 c.in-Some.n = search rules in
     let named = (slots_of c.args.schema.now).enumerations (type_name_at c.args.schema.now c.args.id) in
-    subst (λ (n : ℤ). FitsText (IsMemberText named) json (val_of (Enum n) slots type)) (sym (to_z-of_z w64 c.in-Some.n fits))
-    (member_read (enumeration_at c.args.schema.now c.args.id) named json c.in-Text.text.now c.in-Some.n (val_of (Enum c.in-Some.n) slots type)
+    subst (λ (n : ℤ). FitsText (IsMemberText named) json (val_of (Enum n) slots.properties type)) (sym (to_z-of_z w64 c.in-Some.n fits))
+    (member_read (enumeration_at c.args.schema.now c.args.id) named json c.in-Text.text.now c.in-Some.n (val_of (Enum c.in-Some.n) slots.properties type)
     c.enum_value.ensures.by_name same c.in-Some.ensures.value c.in-Some.ensures.within (val_of-Enum slots type c.in-Some.n))
 
 pub returns-in-None-clause-flaw : goal.returns-in-None-clause-flaw

@@ -9,7 +9,7 @@ use Rattle.edm_entities.proofs.leaf.read_primitive.Goals as goal
 pub returns-in-Truth-clause-fits : goal.returns-in-Truth-clause-fits
 returns-in-Truth-clause-fits c json slots type is =
     let same : json ≡ boolean c.in-Truth.truth = rw c.in-Truth.is at is in
-    subst (λ (d : Data). IfOk c.read_truth.result (λ v. FitsPrimitive c.args.wanted d (val_of v slots type))) (sym same) (c.read_truth.ensures.fits slots type)
+    subst (λ (d : Data). IfOk c.read_truth.result (λ v. FitsPrimitive c.args.wanted d (val_of v slots.properties type))) (sym same) (c.read_truth.ensures.fits slots type)
 
 pub returns-in-Truth-clause-flaw : goal.returns-in-Truth-clause-flaw
 returns-in-Truth-clause-flaw c json is =
@@ -25,7 +25,7 @@ returns-in-Number-clause-flaw c json is = c.read_number.ensures.flaw json (rw c.
 pub returns-in-Text-clause-fits : goal.returns-in-Text-clause-fits
 returns-in-Text-clause-fits c json slots type is =
     let same : json ≡ string c.in-Text.text.now = rw c.in-Text.is at is in
-    subst (λ (d : Data). IfOk c.read_text.result (λ v. FitsPrimitive c.args.wanted d (val_of v slots type))) (sym same) (c.read_text.ensures.fits slots type)
+    subst (λ (d : Data). IfOk c.read_text.result (λ v. FitsPrimitive c.args.wanted d (val_of v slots.properties type))) (sym same) (c.read_text.ensures.fits slots type)
 
 pub returns-in-Text-clause-flaw : goal.returns-in-Text-clause-flaw
 returns-in-Text-clause-flaw c json is =

@@ -14,5 +14,5 @@ returns c done =
     let type = enumeration (type_name_at c.args.schema.now c.args.id) in
     let v = c.put_read.new.place in
     text_leaf slots type s c.args.reader.now c.take_text.new.self v c.in-Some.ensures.taken
-    (λ nullable. value_of_read c.read_member.result (λ w. FitsType slots nullable (single type) (string s) (val_of w slots (single type))) v
+    (λ nullable. value_of_read c.read_member.result (λ w. FitsType slots nullable (single type) (string s) (val_of w slots.properties (single type))) v
     (c.read_member.ensures.fits (string s) slots (single type) refl) (c.put_read.ensures done))

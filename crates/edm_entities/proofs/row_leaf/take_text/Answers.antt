@@ -3,7 +3,7 @@ use Rattle.csdl_schema.specs.ExprType.{single, primitive}
 use Rattle.edm_entities.proofs.RowLemmas.Leaves.{text_leaf}
 use Rattle.edm_entities.proofs.row_leaf.take_text.Goals as goal
 
-pub returns : goal.returns
-returns c slots done =
+pub returns-clause-read : goal.returns-clause-read
+returns-clause-read c slots done =
     text_leaf slots (primitive prim.String) c.in-Some.text.now c.args.reader.now c.take_text.new.self c.put_text.new.place c.in-Some.ensures.taken
-    (λ nullable. c.put_text.ensures slots (single (primitive prim.String)) done)
+    (λ nullable. c.put_text.ensures slots (single (primitive prim.String)) (c.leaf_put.ensures.read done))

@@ -1,5 +1,7 @@
 use Rattle.std.proofs.Common.{◌≡◌, length, slice_get, get_or, true, false, Some, ◌∙◌, refl, arith}
 use Rattle.std.proofs.lemmas.Option.{slice_get_read}
+use Rattle.csdl_schema.specs.SchemaModel.{properties_at}
+use Rattle.edm_entities.specs.private.Expanded.{slots_at}
 use Rattle.edm_entities.proofs.RowLemmas.Plans.{slot_planned, below_next}
 use Rattle.edm_entities.proofs.RowLemmas.SlotsRead.{slots_over}
 use Rattle.edm_entities.proofs.row_slots.fill_slots.Goals as goal
@@ -13,13 +15,14 @@ loop-slot-preserved c =
       c.fill_absent.ensures.long.0 ∙ l.invariant.0,
       c.fill_absent.ensures.long.1 ∙ l.invariant.1,
       below_next (λ k. get_or filled k false ≡ true) l.slot (λ k less. c.fill_absent.ensures.others k (l.invariant.2 k less)) (c.fill_absent.ensures.filled c.if-not-fill_absent.false),
-      λ schema found is so_far.
+      λ schema steps found is so_far.
           let planned : slice_get plan.slots.items l.slot ≡ Some s = slice_get_read plan.slots.items (length plan.slots.items) l.slot s refl (omega arith) c.index.ensures in
-          c.fill_absent.ensures.so_far schema plan.type_id found (slot_planned schema plan l.slot s is planned) (l.invariant.3 schema found is so_far),
+          c.fill_absent.ensures.so_far schema steps plan.type_id plan.node found (slot_planned schema steps plan l.slot s is planned) (l.invariant.3 schema steps found is so_far),
     )
 
 pub returns : goal.returns
-returns c schema found is done so_far =
+returns c schema steps found is done so_far =
     let l = c.loop-slot in
     let plan = c.args.plan.now in
-    slots_over schema plan.type_id found l.slots.filled.items l.slots.values.items (λ k less. l.invariant.2 k (omega (arith, less, is.planned.count))) (l.invariant.3 schema found is so_far)
+    slots_over (slots_at schema steps plan.node) (properties_at schema plan.type_id) found l.slots.filled.items l.slots.values.items (λ k less. l.invariant.2 k (omega (arith, less, is.planned.count)))
+    (l.invariant.3 schema steps found is so_far)

@@ -1,7 +1,9 @@
-use Rattle.std.proofs.Common.{◌≡◌, ◌<◌, ℕ, length, get_or, true, false}
+use Rattle.std.proofs.Common.{◌≡◌, ◌<◌, ℕ, List, length, get_or, true, false}
 use Rattle.serde_json.specs.Data.{Members}
-use Rattle.csdl_schema.specs.SchemaModel.{SchemaModel}
+use Rattle.csdl_schema.specs.ExpansionView.{StepModel}
+use Rattle.csdl_schema.specs.SchemaModel.{SchemaModel, properties_at}
 use Rattle.edm_entities.specs.Plans.{IsPlan}
+use Rattle.edm_entities.specs.private.Expanded.{slots_at}
 use Rattle.edm_entities.specs.private.SlotsSoFar.{SlotsSoFar}
 use Rattle.edm_entities.proofs.row_slots.fill_slots.Given as goal
 
@@ -10,6 +12,6 @@ abbrev pub invariant-loop-slot : goal.invariant-loop-slot
 invariant-loop-slot l =
     (length l.slots.filled.items ≡ length l.plan.slots.items) × (length l.slots.values.items ≡ length l.plan.slots.items)
     × ((k : ℕ) → k < l.slot → get_or l.slots.filled.items k false ≡ true)
-    × ((schema : SchemaModel) (found : Members) → IsPlan schema l.plan
-    → SlotsSoFar schema l.plan.type_id found l.initial.slots.filled.items l.initial.slots.values.items
-    → SlotsSoFar schema l.plan.type_id found l.slots.filled.items l.slots.values.items)
+    × ((schema : SchemaModel) (steps : List StepModel) (found : Members) → IsPlan schema steps l.plan
+    → SlotsSoFar (slots_at schema steps l.plan.node) (properties_at schema l.plan.type_id) found l.initial.slots.filled.items l.initial.slots.values.items
+    → SlotsSoFar (slots_at schema steps l.plan.node) (properties_at schema l.plan.type_id) found l.slots.filled.items l.slots.values.items)

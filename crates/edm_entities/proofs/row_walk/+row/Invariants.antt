@@ -1,7 +1,7 @@
 use Rattle.std.proofs.Common.{◌+◌, ◌*◌, ◌≤◌, length, take}
-use Rattle.csdl_schema.specs.SchemaModel.{slots_of}
+use Rattle.csdl_schema.specs.SchemaModel.{properties_at}
 use Rattle.edm_entities.specs.private.RowTokens.{MembersLead, ItemsLead}
-use Rattle.edm_entities.specs.private.SlotsSoFar.{SlotsSoFar}
+use Rattle.edm_entities.specs.private.SlotsSoFar.{SlotsSoFar, slots_below}
 use Rattle.edm_entities.specs.private.Walk.{FitList, HoldInItems, wanted_single}
 use Rattle.edm_entities.proofs.row_walk.+row.Given as goal
 
@@ -30,7 +30,7 @@ decreases-take_items l = 8 * l.scene.now.depth + 2
 -- the slots that are filled hold what was found among the members so far
 abbrev pub invariant-take_members-members : goal.invariant-take_members-members
 invariant-take_members-members l =
-    MembersLead l.scene.depth l.initial.reader l.reader (λ found. SlotsSoFar l.scene.schema.now l.plan.type_id found l.slots.filled.items l.slots.values.items)
+    MembersLead l.scene.depth l.initial.reader l.reader (λ found. SlotsSoFar (slots_below l.scene l.plan.node) (properties_at l.scene.schema.now l.plan.type_id) found l.slots.filled.items l.slots.values.items)
 
 abbrev pub decreases-take_members-members : goal.decreases-take_members-members
 decreases-take_members-members l = length l.reader
@@ -38,8 +38,8 @@ decreases-take_members-members l = length l.reader
 -- the first values fit the items so far, and hold one value for each slot
 abbrev pub invariant-take_items-items : goal.invariant-take_items-items
 invariant-take_items-items l =
-    ItemsLead l.scene.depth l.initial.reader l.reader (λ jsons. FitList (slots_of l.scene.schema.now) l.one.nullable (wanted_single l.scene.schema.now l.one.wanted) jsons (take l.count l.values.items))
-    × HoldInItems (slots_of l.scene.schema.now) (wanted_single l.scene.schema.now l.one.wanted) (take l.count l.values.items)
+    ItemsLead l.scene.depth l.initial.reader l.reader (λ jsons. FitList (slots_below l.scene l.one.node) l.one.nullable (wanted_single l.scene.schema.now l.one.wanted) jsons (take l.count l.values.items))
+    × HoldInItems (slots_below l.scene l.one.node) (wanted_single l.scene.schema.now l.one.wanted) (take l.count l.values.items)
     × (l.count ≤ length l.values.items)
 
 abbrev pub decreases-take_items-items : goal.decreases-take_items-items

@@ -1,7 +1,7 @@
 use Rattle.std.proofs.Common.{◌≡◌, ◌-◌, ◌≤◌, suc, [], ◌∷◌, Some, None, map, length, ap, sym, ◌∙◌, arith}
 use Rattle.std.proofs.lemmas.List.{length-map}
-use Rattle.odata_expansion.specs.ExpansionView.{next_node}
-use Rattle.odata_expansion.specs.private.StepView.{node_at, step_model}
+use Rattle.odata_expansion.specs.ExpansionView.{next_node, node_at}
+use Rattle.odata_expansion.specs.private.StepView.{step_model}
 use Rattle.odata_expansion.proofs.Nodes.{node_at-end, node_back, nowhere_back, start_back, step_got}
 use Rattle.odata_expansion.proofs.steps.+node_of.Goals as goal
 

@@ -11,7 +11,7 @@ returns-in-Err-clause-none c =
     UnlessMemory-map _ _ c.in-Err.refusal (treeless (slots_of c.args.schema.now) (type_name_at c.args.schema.now c.args.filtered_type) c.args.text.now) c.in-Err.ensures.none
 
 pub returns-then-is_truth-clause-filter : goal.returns-then-is_truth-clause-filter
-returns-then-is_truth-clause-filter c =
+returns-then-is_truth-clause-filter c expansion expands =
     let same : tree_of c.root.result.now ≡ tree_of c.in-Ok.expr = cc in
     let walked = rw (same, scope_in-Empty c.args.schema.now) at c.in-Ok-checked_tree.ensures.answer in
     let whole = is_whole c.a_list_stands_for_one_tree.ensures c.args.schema.now c.args.filtered_type c.new-list.result (tree_of c.in-Ok.expr) c.checked_tree.new.list c.in-Ok-checked_tree.edm_type c.new-list.ensures walked in
@@ -22,7 +22,14 @@ returns-then-is_truth-clause-filter c =
       typed = whole.typed;
       truth = (c.is_truth.ensures c.args.schema.now).0 c.if-is_truth.true;
       few = few_whole c.a_list_stands_for_one_tree.ensures c.texts_have_few_nodes.ensures c.args.schema.now c.args.filtered_type c.args.text.now c.new-list.result (tree_of c.in-Ok.expr) c.checked_tree.new.list c.in-Ok-checked_tree.edm_type c.in-Ok.ensures.tree c.new-list.ensures walked;
+      expands = expands;
     }
+
+pub returns-then-is_truth-clause-stands : goal.returns-then-is_truth-clause-stands
+returns-then-is_truth-clause-stands c =
+    let same : tree_of c.root.result.now ≡ tree_of c.in-Ok.expr = cc in
+    let walked = rw (same, scope_in-Empty c.args.schema.now) at c.in-Ok-checked_tree.ensures.answer in
+    (is_whole c.a_list_stands_for_one_tree.ensures c.args.schema.now c.args.filtered_type c.new-list.result (tree_of c.in-Ok.expr) c.checked_tree.new.list c.in-Ok-checked_tree.edm_type c.new-list.ensures walked).stands
 
 pub returns-then-is_truth-clause-typing : goal.returns-then-is_truth-clause-typing
 returns-then-is_truth-clause-typing c =

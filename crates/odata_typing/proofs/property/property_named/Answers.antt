@@ -11,7 +11,7 @@ returns-in-Ok-clause-typed c =
     let properties = properties_at schema c.args.owner in
     property_typed properties c.args.asked.now c.in-Some.slot (expr_type schema c.in-Ok.edm_type) (property_type schema c.property.result.now) (sym c.in-Some.ensures)
     (found_at schema properties c.args.asked.now c.in-Some.slot c.property.result.now (sym c.in-Some.ensures) c.property.ensures)
-    (c.in-Ok.ensures.declared schema)
+    (c.in-Ok.ensures.named schema)
 
 pub returns-in-Ok-clause-there : goal.returns-in-Ok-clause-there
 returns-in-Ok-clause-there c =

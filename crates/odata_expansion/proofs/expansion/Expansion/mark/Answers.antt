@@ -1,21 +1,17 @@
-use Rattle.std.proofs.Common.{◌-◌, ◌<◌, length, map, sym, ap, ◌∙◌, subst, arith}
-use Rattle.std.proofs.lemmas.List.{length-map}
-use Rattle.odata_expansion.specs.private.StepView.{AreSteps, mark_step, step_model}
-use Rattle.odata_expansion.proofs.Marks.{mark_set, marked_at, steps-marked}
+use Rattle.std.proofs.Common.{List, sym, ap, ◌∙◌, subst}
+use Rattle.odata_expansion.specs.ExpansionView.{StepModel, LeadsTo, paths_in}
+use Rattle.odata_expansion.proofs.Marks.{marked_leads, path_added}
+use Rattle.odata_expansion.proofs.Nodes.{reached_within}
 use Rattle.odata_expansion.proofs.expansion.Expansion.mark.Goals as goal
 
-pub invariant_of-self : goal.invariant_of-self
-invariant_of-self c =
-    let items = c.self.inside.steps.items in
-    let i = c.args.node - 1 in
-    let within : i < length items = omega (arith, c.requires, ap length c.self.view_is, length-map items step_model, c.if-node-gt0.true) in
-    subst AreSteps (sym (mark_set items i c.index_mut.result.now within c.index_mut.ensures.value)) (steps-marked i (map step_model items) c.self.invariant)
+pub set_flag-requires : goal.set_flag-requires
+set_flag-requires c = reached_within c.args.self.now c.requires.0 c.args.node c.requires.1
 
-pub returns-then-node-gt0 : goal.returns-then-node-gt0
-returns-then-node-gt0 c =
-    let items = c.self.inside.steps.items in
-    let i = c.args.node - 1 in
-    let within : i < length items = omega (arith, c.requires, ap length c.self.view_is, length-map items step_model, c.if-node-gt0.true) in
-    mark_set items i c.index_mut.result.now within c.index_mut.ensures.value
-    ∙ ap (mark_step i) c.self.view_is
-    ∙ marked_at c.args.node c.args.self.now c.if-node-gt0.true
+pub returns-clause-added : goal.returns-clause-added
+returns-clause-added c path asked leads =
+    ap (λ (steps : List StepModel). paths_in steps asked) c.set_flag.ensures
+    ∙ path_added c.args.self.now path c.args.node (reached_within c.args.self.now path c.args.node leads) leads asked
+
+pub returns-clause-leads : goal.returns-clause-leads
+returns-clause-leads c path other leads =
+    subst (λ (steps : List StepModel). LeadsTo steps path other) (sym c.set_flag.ensures) (marked_leads c.args.node c.args.self.now path other leads)

@@ -1,7 +1,7 @@
 -- `into_box` makes the box again, unless the pointer is null.
-use Rattle.odfilter_c.proofs.Steps.{◌≡◌, ℕ, ◌<◌, ◌^◌, List, [], ◌∷◌, ◌++◌, refl, lit<, proved, leaves, SProp, ent, id⊢, Lft, ftrue, flft, Val, vptr, vnull, fact, tables, WpFn, Ura, Logic, Memory, Routine, Calls, Loops, Fun, FmC, Triple, Contract, ‵, raw, ◌⊛◌, some, later, at_ret, ◌$◌, ◌∵◌, !, qed, move, keep, drop, use0, use1, use2, split, join, fsplit, fjoin, pick, await, by, enter, of_opd, lit, bin, stop, fld, no_more, and_then, first, blocks, branches, skips, exec, returns, returns_within, agg, sub, whole, alloc_all, pass_all, free_all, look_at, get, get_in, sets, sets_last, env, yes, Typed, Ptr, block_ptr, null_ptr, Testable, tests_null, owns, types_at, plain, nothing, heard, lasts, triple_of, Stays, walk_of, stay_dropped, Goes-dropped, framed}
+use Rattle.odfilter_c.proofs.Steps.{◌≡◌, List, [], ◌∷◌, refl, lit<, proved, leaves, SProp, ent, id⊢, Lft, ftrue, flft, Val, vptr, fact, tables, WpFn, Ura, Logic, Memory, Routine, Calls, Loops, Fun, FmC, Triple, Contract, ‵, raw, ◌⊛◌, some, later, at_ret, ◌$◌, ◌∵◌, !, qed, move, keep, drop, use0, use1, use2, split, join, fsplit, fjoin, pick, await, by, enter, of_opd, lit, bin, stop, fld, no_more, and_then, first, blocks, branches, skips, exec, returns, returns_within, agg, sub, whole, alloc_all, pass_all, free_all, look_at, get, get_in, sets, env, yes, Typed, Ptr, block_ptr, null_ptr, Testable, tests_null, owns, types_at, plain, nothing, heard, lasts, triple_of, Stays, walk_of, stay_dropped, Goes-dropped, framed}
 use Rattle.odfilter_c.proofs.Types.{Global, GlobalRow, global_val, global_lowers, global_laws, global_within, Handle, HandleRow, handle_within, ghosts, dict, HandleArg, GlobalArg, handle_arg_laws, global_arg_laws}
-use Rattle.std.proofs.Common.{sym, ap, ◌∙◌, subst}
+use Rattle.std.proofs.Common.{sym, ap, subst}
 use Rattle.std.specs.declared.option.Option.{Option}
 use Rattle.std.specs.declared.option.Option.TheVariants.{None, Some}
 use Rattle.std.specs.contracts.option.Option as OP
@@ -9,9 +9,8 @@ use base.Fraction.{full_share}
 use base.Logic.{emp, via, fst∗, snd∗, never, never_e, sep}
 use mir.Syntax.{Callee, Dict, a_type, impl, tcons, tnil, dcons, dnil}
 use mir.Raw.{raw as bare}
-use mir.Val.{vcons, vnil, of_list, has_ty, WT}
+use mir.Val.{of_list, has_ty, WT}
 use lib.Dec.{T}
-use mathlib.Core.Bool.{true, ◌&&◌}
 use contract.Monad.{fact_i, fact_use}
 use contract.BorrowLft.{◌⊑◌}
 use types.Logic.{sem}
@@ -38,7 +37,6 @@ use Rattle.std.proofs.GlobalToken.{dealloc_token-Testable}
 use Rattle.std.proofs.option.Made.{Some-of, none_of}
 use Rattle.odfilter_c.proofs.OwnedSteps.{and_tt}
 use Rattle.odfilter_c.specs.Ownership.{owned_or_null}
-use Rattle.odfilter_c.specs.declared.owned.Owned.{Owned}
 use Rattle.odfilter_c.specs.contracts.owned.Owned.{the_row as OwnedRow}
 use Rattle.odfilter_c.proofs.owned.Owned.TheLaws.{lowers as owned_lowers, lowered}
 use Rattle.odfilter_c.specs.contracts.owned.Owned.into_box as f

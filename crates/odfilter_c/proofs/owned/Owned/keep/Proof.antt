@@ -4,7 +4,7 @@ use Rattle.std.proofs.raw_atomic.Walks.{proved_at}
 use mir.Val.{vstruct, vcons, vnil, of_list}
 use types.Kit.{suffices, fpick, feq_l}
 use denote.RawPtr.{ptr_val}
-use Rattle.std.proofs.Common.{sym, ap, subst}
+use Rattle.std.proofs.Common.{sym, subst}
 use Rattle.std.specs.declared.option.Option.TheVariants.{Some}
 use base.Logic.{emp, never, fst∗}
 use mir.Raw.{raw as bare}
@@ -13,11 +13,10 @@ use types.Logic.{sem}
 use denote.Param.{layout}
 use denote.RawPtr.{in_a_block, null_ptr}
 use Rattle.std.proofs.alloc.Calls.{Goes-blank}
-use Rattle.odfilter_c.proofs.Types.{Handle, HandleRow, ghosts}
+use Rattle.odfilter_c.proofs.Types.{HandleRow, ghosts}
 use Rattle.odfilter_c.proofs.OwnedSteps.{owned_in}
 use Rattle.odfilter_c.specs.Block.{block_owns, the_global}
 use Rattle.odfilter_c.proofs.owned.Owned.TheLaws.{lowered}
-use Rattle.odfilter_c.specs.declared.raw.Raw.{Raw}
 use Rattle.odfilter_c.specs.contracts.raw.Raw.{the_row as raw_row}
 use Rattle.odfilter_c.specs.contracts.owned.Owned.keep as f
 use Rattle.odfilter_c.proofs.owned.Owned.keep.Statement.{statement}

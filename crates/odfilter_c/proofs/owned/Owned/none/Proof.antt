@@ -1,5 +1,5 @@
 -- `none` makes a null pointer, which owns nothing.
-use Rattle.odfilter_c.proofs.Steps.{◌≡◌, List, [], ◌∷◌, refl, lit<, proved, leaves, id⊢, ftrue, tables, fact, ‵, raw, ◌$◌, ◌∵◌, !, qed, move, drop, use0, by, enter, lit, no_more, and_then, returns, agg, alloc_all, pass_all, free_all, look_at, sets, null_ptr, nothing, on_entry, walk_of}
+use Rattle.odfilter_c.proofs.Steps.{◌≡◌, [], ◌∷◌, refl, lit<, proved, leaves, ftrue, fact, ‵, raw, ◌$◌, ◌∵◌, !, qed, drop, use0, by, enter, lit, no_more, and_then, returns, agg, alloc_all, pass_all, free_all, look_at, sets, null_ptr, nothing, on_entry, walk_of}
 use Rattle.std.specs.declared.option.Option.TheVariants.{None}
 use base.Logic.{emp}
 use contract.Monad.{fact_i}

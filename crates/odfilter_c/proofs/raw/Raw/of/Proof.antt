@@ -1,6 +1,6 @@
 -- `of` takes the pointer of a box, and all that the box owned.
-use Rattle.odfilter_c.proofs.Steps.{◌≡◌, ℕ, List, [], ◌∷◌, ◌++◌, refl, leaves, SProp, ent, id⊢, Lft, ftrue, flft, Val, vptr, fact, tables, WpFn, ‵, raw, ◌⊛◌, some, later, ◌$◌, ◌∵◌, !, qed, move, keep, drop, use0, use1, use2, split, join, fsplit, fjoin, fpack, feq_i, pick, await, by, enter, of_opd, no_more, and_then, returns, agg, alloc_all, pass_all, free_all, look_at, get, sets, Ptr, RawPtr, block_ptr, ptr_val, owns, types_at, plain, nothing, heard, lasts, triple_of, Stays, walk_of, stay_dropped, framed}
-use Rattle.odfilter_c.proofs.Types.{Global, GlobalRow, ghosts, dict, GlobalArg, global_arg_laws, global_within}
+use Rattle.odfilter_c.proofs.Steps.{◌≡◌, List, [], ◌∷◌, ◌++◌, refl, leaves, SProp, ent, id⊢, Lft, ftrue, flft, Val, vptr, fact, tables, WpFn, ‵, raw, ◌⊛◌, some, later, ◌$◌, ◌∵◌, !, qed, move, keep, drop, use0, use1, use2, split, join, fsplit, fjoin, fpack, feq_i, pick, await, by, enter, of_opd, no_more, and_then, returns, agg, alloc_all, pass_all, free_all, look_at, get, sets, Ptr, RawPtr, block_ptr, ptr_val, owns, types_at, plain, nothing, lasts, triple_of, Stays, walk_of, stay_dropped, framed}
+use Rattle.odfilter_c.proofs.Types.{GlobalRow, ghosts, dict, GlobalArg, global_arg_laws, global_within}
 use Rattle.std.proofs.Common.{sym, ap, ◌∙◌, subst}
 use Rattle.std.proofs.raw_atomic.Walks.{proved_at}
 use base.Fraction.{full_share}
@@ -35,7 +35,7 @@ use Rattle.std.specs.contracts.boxed.Box.into_raw as callee
 use Rattle.std.proofs.boxed.Box.into_raw.Met.{met}
 use Rattle.std.proofs.impls.GlobalAllocator.TheImpl.Met.{passed}
 use Rattle.odfilter_c.proofs.OwnedSteps.{and_tt}
-use Rattle.odfilter_c.specs.contracts.raw.Raw.{the_row as raw_row, the_type as raw_type}
+use Rattle.odfilter_c.specs.contracts.raw.Raw.{the_type as raw_type}
 use Rattle.odfilter_c.specs.contracts.raw.Raw.of.{ended, clauses}
 use Rattle.odfilter_c.specs.contracts.raw.Raw.of.Key.{name as #self}
 use Rattle.odfilter_c.proofs.raw.Raw.of.Statement.{statement}

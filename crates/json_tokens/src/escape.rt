@@ -1,0 +1,83 @@
+//! What an escape stands for, but for surrogates (RFC 8259, section 7).
+ghost use Rattle.std.specs.Prelude.{◌≡◌, ◌+◌, ◌<◌, ◌≤◌, Some, get_or, length, IfSome};
+ghost use Rattle.std.specs.Char.{digit_value};
+ghost use Rattle.json.specs.Text.{code_unit, short_escape};
+ghost use Rattle.json_tokens.specs.private.Escapes.{EscapesAt};
+
+/// The value of a hexadecimal digit; of any other byte one that is too large.
+#[inline(always)]
+fn hex_digit(byte: u8) -> u32
+    ensures value { result ≡ digit_value byte }
+    ensures ascii { result < 16 → byte < 128 }
+{
+    match byte {
+        b'0'..=b'9' => (byte - b'0') as u32,
+        b'a'..=b'z' => (byte - b'a') as u32 + 10,
+        b'A'..=b'Z' => (byte - b'A') as u32 + 10,
+        _ => 36,
+    }
+}
+
+/// What four hexadecimal digits write.
+#[inline(always)]
+fn unit_at(bytes: &[u8], place: usize) -> Option<u32>
+    requires { place + 4 ≤ length bytes.now }
+    ensures value { IfSome result (λ unit.
+        code_unit (get_or bytes.now place 0) (get_or bytes.now (place + 1) 0) (get_or bytes.now (place + 2) 0)
+        (get_or bytes.now (place + 3) 0) ≡ Some unit) }
+    ensures ascii { IfSome result (λ unit. get_or bytes.now (place + 3) 0 < 128) }
+{
+    let first = hex_digit(bytes[place]);
+    let second = hex_digit(bytes[place + 1]);
+    let third = hex_digit(bytes[place + 2]);
+    let last = hex_digit(bytes[place + 3]);
+    if (first < 16) & (second < 16) & (third < 16) & (last < 16) {
+        Some(first * 4096 + second * 256 + third * 16 + last)
+    } else {
+        None
+    }
+}
+
+/// What a backslash and a byte behind it stand for, where no digits follow.
+#[inline(always)]
+fn told_by_byte(byte: u8) -> Option<u8>
+    ensures value { IfSome result (λ told. short_escape byte ≡ Some told) }
+    ensures ascii { IfSome result (λ told. (told < 128) × (byte < 128)) }
+{
+    match byte {
+        b'"' | b'\\' | b'/' => Some(byte),
+        b'n' => Some(b'\n'),
+        b't' => Some(b'\t'),
+        b'r' => Some(b'\r'),
+        b'b' => Some(8),
+        b'f' => Some(12),
+        _ => None,
+    }
+}
+
+/// The character that an escape stands for, from behind its backslash on, and the place behind it.
+#[inline(always)]
+pub(crate) fn escape_at(bytes: &[u8], place: usize) -> Option<(char, usize)>
+    requires { place ≤ length bytes.now }
+    ensures { IfSome result (λ found. EscapesAt bytes.now place found.0 found.1) }
+{
+    if place == bytes.len() {
+        return None;
+    }
+    if bytes[place] != b'u' {
+        return match told_by_byte(bytes[place]) {
+            Some(told) => Some((told as char, place + 1)),
+            None => None,
+        };
+    }
+    if bytes.len() - place < 5 {
+        return None;
+    }
+    let Some(unit) = unit_at(bytes, place + 1) else {
+        return None;
+    };
+    match char::from_u32(unit) {
+        Some(character) => Some((character, place + 5)),
+        None => None,
+    }
+}

@@ -1,0 +1,329 @@
+//! What a filter needs of navigation: the paths of its nodes that end with a navigation property.
+ghost use Rattle.std.specs.Prelude.{◌≡◌, ◌<◌, ◌+◌, ◌++◌, ◌∷◌, [], ℕ, List, Some, length, IfOk, IsSome, OnOk};
+ghost use Rattle.odata_syntax.specs.Tree.{Tree};
+ghost use Rattle.csdl_schema.specs.ExpansionView.{IsReached, LeadsTo, paths_in};
+ghost use Rattle.csdl_schema.specs.PathSet.{PropertyPath};
+ghost use Rattle.csdl_schema.specs.SchemaModel.{properties_at};
+ghost use Rattle.odata_expression_types.specs.NeededPaths.{VariablePaths};
+ghost use Rattle.odata_expression_types.specs.Typed.{Scope};
+ghost use Rattle.odata_checked_filter.specs.Filter.{HasNeededPaths};
+ghost use Rattle.odata_checked_filter.specs.FlatTree.{tree_of_nodes};
+ghost use Rattle.odata_checked_filter.specs.Stands.{Stands};
+ghost use Rattle.odata_checked_filter.specs.private.NeededWalk.{ArePlacesOf, AreTreesThere, IsLambdaOf, IsLambdaThere};
+ghost use Rattle.odata_checked_filter.specs.private.NeededWalk.{IsNodeAtLevel, IsPathEnd, IsPutFrom, IsTargetAt};
+ghost use Rattle.odata_checked_filter.specs.private.NeededWalk.{IsTreeThere, IsWithoutTarget, LambdaNeeds};
+ghost use Rattle.odata_checked_filter.specs.private.NeededWalk.{LeadThere, NeedsAmong};
+ghost use Rattle.odata_checked_filter.specs.private.NeededWalk.{Puts, StandInLine, need_class, node_of_level, nodes_in, root_there, slots_there};
+
+use super::checked_node::NodeKind;
+use super::node_list::NodeList;
+use csdl_schema::{Expansion, Schema, TypeId};
+use odata_expression_types::trees_have_one_type;
+use odata_signatures::{EdmType, ValueType};
+use std::alloc::{AllocError, Global};
+
+/// What a walk over a list goes by.
+#[derive(Clone, Copy)]
+struct ListScene<'e> {
+    schema: &'e Schema,
+    filtered_type: TypeId,
+    list: &'e NodeList,
+}
+
+/// The nodes of an expansion at which the collections of the range variables around stand, the innermost first.
+#[derive(Clone, Copy)]
+enum VariableNodes<'e> {
+    Empty,
+    Bound(usize, &'e VariableNodes<'e>),
+}
+
+/// What is found of a level: the node of its variable, or how many variables there are, none of them at that level.
+#[derive(Clone, Copy)]
+enum VariableNode {
+    There(usize),
+    Fewer(usize),
+}
+
+/// Where a path of steps ends: at that node of the expansion. It begins in that place of the list.
+#[derive(Clone, Copy)]
+struct PathEnd {
+    node: usize,
+    base: usize,
+}
+
+/// What a node needs: a lambda operator what its base and its body need; a path, which begins with a property or a
+/// step, what its steps need; any other one what its children need.
+#[derive(Clone, Copy)]
+enum NeedClass {
+    Lambda,
+    Path,
+    Children,
+}
+
+/// Where the base of a lambda operator begins, where its body begins, and where that stops.
+#[derive(Clone, Copy)]
+struct LambdaPlaces {
+    base: usize,
+    body: usize,
+    stop: usize,
+}
+
+/// The paths that a list of a filter needs, as a set.
+pub fn expansion_of(
+    alloc: Global,
+    schema: &Schema,
+    filtered_type: TypeId,
+    list: &NodeList,
+) -> Result<Expansion, AllocError>
+    requires { Stands schema.now filtered_type [] list.now 0 (length list.now.nodes) (tree_of_nodes list.now) }
+    ensures { IfOk result (HasNeededPaths schema.now filtered_type list.now) }
+{
+    let scene = ListScene {
+        schema,
+        filtered_type,
+        list,
+    };
+    let mut expansion = Expansion::none(alloc);
+    let stop = list.nodes().len();
+    expand(&scene, 0, stop, &VariableNodes::Empty, &mut expansion)?;
+    Ok(without_idle_steps(alloc, expansion))
+}
+
+/// The same set; where no path is in it, without steps, so that nothing is copied or looked for on its account.
+fn without_idle_steps(alloc: Global, expansion: Expansion) -> Expansion
+    ensures { (path : PropertyPath) → paths_in result path ≡ paths_in expansion path }
+{
+    let nothing = Expansion::none(alloc);
+    if nothing.covers(&expansion) {
+        nothing
+    } else {
+        expansion
+    }
+}
+
+/// Puts what the nodes from one place up to another need into the set. What stands in a lambda operator is gone through
+/// by a further call, so as many calls wait as operators stand in one another.
+#[cycle(expand)]
+fn expand(
+    scene: &ListScene<'_>,
+    from: usize,
+    stop: usize,
+    variables: &VariableNodes<'_>,
+    expansion: &mut Expansion,
+) -> Result<(), AllocError>
+    requires { AreTreesThere scene.now expansion.old (nodes_in variables.now) from stop }
+    ensures { (scope : Scope) (paths : VariablePaths) (trees : List Tree)
+        → StandInLine scene.now.schema.now scene.now.filtered_type scope scene.now.list.now from stop trees
+        → LeadThere expansion.old scope paths (nodes_in variables.now)
+        → OnOk result (Puts expansion.old expansion.new
+        (NeedsAmong (slots_there scene.now) (root_there scene.now) scope paths trees)) }
+{
+    let mut place = from;
+    while place < stop {
+        match need_class(scene.list.node(place).kind) {
+            NeedClass::Lambda => {
+                let places = lambda_places(scene.list, place);
+                expand_lambda(scene, &places, variables, expansion)?;
+                place = places.stop;
+            }
+            NeedClass::Path => {
+                let base = expand_operand(scene, place, variables, expansion)?;
+                place = base.max(place + 1);
+            }
+            NeedClass::Children => place += 1,
+        }
+    }
+    Ok(())
+}
+
+/// The same of a lambda operator: of its base, and of its body, whose variable goes over what stands at the base's
+/// path.
+#[cycle(expand)]
+fn expand_lambda(
+    scene: &ListScene<'_>,
+    places: &LambdaPlaces,
+    variables: &VariableNodes<'_>,
+    expansion: &mut Expansion,
+) -> Result<(), AllocError>
+    requires { IsLambdaThere scene.now expansion.old (nodes_in variables.now) places.now }
+    ensures { (scope : Scope) (paths : VariablePaths) (base : Tree) (variable : List ℕ) (body : Tree)
+        → IsLambdaOf scene.now scope places.now base variable body
+        → LeadThere expansion.old scope paths (nodes_in variables.now)
+        → OnOk result (Puts expansion.old expansion.new
+        (LambdaNeeds (slots_there scene.now) (root_there scene.now) scope paths base variable body)) }
+{
+    trees_have_one_type();
+    expand(scene, places.base, places.body, variables, expansion)?;
+    let base = expand_path(scene, places.base, variables, expansion)?;
+    let inner = VariableNodes::Bound(base.node, &*variables);
+    expand(scene, places.body, places.stop, &inner, expansion)
+}
+
+fn need_class(kind: NodeKind) -> NeedClass
+    ensures { result ≡ need_class kind }
+{
+    match kind {
+        NodeKind::Lambda { .. } => NeedClass::Lambda,
+        NodeKind::Member { .. } => NeedClass::Path,
+        NodeKind::Property { .. } => NeedClass::Path,
+        _ => NeedClass::Children,
+    }
+}
+
+/// Where the base of the lambda operator in a place stands, and behind that its body.
+fn lambda_places(list: &NodeList, place: usize) -> LambdaPlaces
+    requires { place + 1 < length list.now.nodes }
+    ensures { ArePlacesOf list.now place result }
+{
+    let nodes = list.nodes();
+    LambdaPlaces {
+        base: place + 1,
+        body: nodes[place + 1].stop,
+        stop: nodes[place].stop,
+    }
+}
+
+/// Puts what a path of steps needs into the set, and answers where it begins. No step is put for a property alone that
+/// has no target.
+fn expand_operand(
+    scene: &ListScene<'_>,
+    place: usize,
+    variables: &VariableNodes<'_>,
+    expansion: &mut Expansion,
+) -> Result<usize, AllocError>
+    requires { IsTreeThere scene.now expansion.old (nodes_in variables.now) place }
+    ensures { (scope : Scope) (paths : VariablePaths) (stop : ℕ) (tree : Tree)
+        → Stands scene.now.schema.now scene.now.filtered_type scope scene.now.list.now place stop tree
+        → LeadThere expansion.old scope paths (nodes_in variables.now)
+        → IfOk result (IsPutFrom (slots_there scene.now) (root_there scene.now) scope paths expansion.old
+        expansion.new place tree) }
+{
+    if has_no_target(scene, scene.list.node(place).kind) {
+        return Ok(place);
+    }
+    let end = expand_path(scene, place, variables, expansion)?;
+    Ok(end.base)
+}
+
+/// Whether a node of that kind is a property of the filtered type without a target.
+fn has_no_target(scene: &ListScene<'_>, kind: NodeKind) -> bool
+    requires { (slot : ℕ) → kind ≡ NodeKind.Property slot
+        → slot < length (properties_at scene.now.schema.now scene.now.filtered_type) }
+    ensures { IsWithoutTarget scene.now.schema.now scene.now.filtered_type kind result }
+{
+    match kind {
+        NodeKind::Property { slot } => {
+            let property = scene.schema.property(scene.filtered_type, slot);
+            property.target().is_none()
+        }
+        _ => false,
+    }
+}
+
+/// Puts what a path of steps needs into the set, and answers where it ends.
+fn expand_path(
+    scene: &ListScene<'_>,
+    place: usize,
+    variables: &VariableNodes<'_>,
+    expansion: &mut Expansion,
+) -> Result<PathEnd, AllocError>
+    requires { IsTreeThere scene.now expansion.old (nodes_in variables.now) place }
+    ensures { (scope : Scope) (paths : VariablePaths) (stop : ℕ) (tree : Tree)
+        → Stands scene.now.schema.now scene.now.filtered_type scope scene.now.list.now place stop tree
+        → LeadThere expansion.old scope paths (nodes_in variables.now)
+        → IfOk result (IsPathEnd (slots_there scene.now) (root_there scene.now) scope paths expansion.old
+        expansion.new place tree) }
+{
+    trees_have_one_type();
+    let name = scene.list.text(place);
+    match scene.list.node(place).kind {
+        NodeKind::Member { slot } => {
+            let before = expand_path(scene, place + 1, variables, expansion)?;
+            let base = scene.list.node(place + 1);
+            let target = target_at(scene.schema, &base.edm_type, slot);
+            let node = step_to(target, name, before.node, expansion)?;
+            Ok(PathEnd {
+                node,
+                base: before.base,
+            })
+        }
+        NodeKind::Property { slot } => {
+            let target = scene.schema.property(scene.filtered_type, slot).target();
+            let node = step_to(target, name, 0, expansion)?;
+            Ok(PathEnd { node, base: place })
+        }
+        NodeKind::Variable { level } => Ok(PathEnd {
+            node: variable_node(variables, level),
+            base: place,
+        }),
+        _ => Ok(PathEnd {
+            node: 0,
+            base: place,
+        }),
+    }
+}
+
+/// The node to which a property leads, whose path is put into the set if it has a target.
+fn step_to(
+    target: Option<TypeId>,
+    name: &str,
+    before: usize,
+    expansion: &mut Expansion,
+) -> Result<usize, AllocError>
+    requires { IsReached expansion.old before }
+    ensures leads { IfOk result (λ next. (path : PropertyPath)
+        → LeadsTo expansion.old path before → LeadsTo expansion.new (path ++ name.now ∷ []) next) }
+    ensures puts { (path : PropertyPath) → LeadsTo expansion.old path before → OnOk result
+        (Puts expansion.old expansion.new (λ put. IsSome target × (put ≡ path ++ name.now ∷ []))) }
+{
+    let node = expansion.step_on(before, name)?;
+    if target.is_none() {
+        return Ok(node);
+    }
+    expansion.mark(node);
+    Ok(node)
+}
+
+/// The target of the property at a slot of a structured type.
+fn target_at(schema: &Schema, owner: &EdmType, slot: usize) -> Option<TypeId>
+    requires { (id : ℕ) × (owner.now ≡ EdmType.Single (ValueType.Structured id))
+        × (slot < length (properties_at schema.now id)) }
+    ensures { (id : ℕ) → owner.now ≡ EdmType.Single (ValueType.Structured id) → IsTargetAt schema.now id slot result }
+{
+    match owner {
+        EdmType::Single(ValueType::Structured(id)) => schema.property(*id, slot).target(),
+        EdmType::Single(ValueType::Prim(_)) => None,
+        EdmType::Single(ValueType::Enum(_)) => None,
+        EdmType::Null => None,
+        EdmType::Collection(_) => None,
+    }
+}
+
+/// The node of the variable around which so many are.
+fn variable_node(variables: &VariableNodes<'_>, level: usize) -> usize
+    requires { level < length (nodes_in variables.now) }
+    ensures { node_of_level (nodes_in variables.now) level ≡ Some result }
+{
+    match at_level(variables, level) {
+        VariableNode::There(node) => node,
+        VariableNode::Fewer(_) => unreachable!(),
+    }
+}
+
+fn at_level(variables: &VariableNodes<'_>, level: usize) -> VariableNode
+    ensures { IsNodeAtLevel (nodes_in variables.now) level result }
+{
+    match variables {
+        VariableNodes::Empty => VariableNode::Fewer(0),
+        VariableNodes::Bound(node, outer) => match at_level(*outer, level) {
+            VariableNode::There(found) => VariableNode::There(found),
+            VariableNode::Fewer(count) => {
+                if count == level {
+                    VariableNode::There(*node)
+                } else {
+                    VariableNode::Fewer(count + 1)
+                }
+            }
+        },
+    }
+}
