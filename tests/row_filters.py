@@ -2,11 +2,12 @@
 import collections
 import re
 
-from row_judge import RANGES, Enumeration, Record
+from row_judge import NOTHING, RANGES, UNSEEN, Enumeration, Record
 from row_values import literal, plain
 
-# A filter's text, and its outcome for the values in scope: the row, then a member for each lambda operator around it.
-Condition = collections.namedtuple("Condition", "text outcome")
+# A filter's text, its outcome for the values in scope, the row, then a member for each lambda operator around it, and
+# the property paths that it names.
+Condition = collections.namedtuple("Condition", "text outcome named")
 # names that a path of a filter does not begin with
 LITERALS = ("true", "false", "null", "not")
 BYTES, TOKENS = 12_000, 3_500
@@ -50,10 +51,10 @@ def compared(operator, left, right):
 
 
 class Path:
-    """A path to a value, from the row or from a variable."""
+    """A path to a value, from the row or from a variable, the property path to whose collection is told too."""
 
-    def __init__(self, level=0, steps=()):
-        self.level, self.steps = level, steps
+    def __init__(self, level=0, steps=(), before=()):
+        self.level, self.steps, self.before = level, steps, before
         text = "/".join(steps)
         if level:
             text = f"v{level}" + (f"/{text}" if text else "")
@@ -62,7 +63,14 @@ class Path:
         self.text = text
 
     def step(self, name):
-        return Path(self.level, (*self.steps, name))
+        return Path(self.level, (*self.steps, name), self.before)
+
+    def names(self):
+        return (*self.before, *self.steps)
+
+    def named(self):
+        """The property paths that it names: each of its steps is one."""
+        return frozenset((*self.before, *self.steps[: count + 1]) for count in range(len(self.steps)))
 
     def value(self, scope):
         value = scope[self.level]
@@ -75,13 +83,19 @@ def comparison(path, operator, kind, value):
     return Condition(
         f"{path.text} {operator} {literal(kind, value)}",
         lambda scope: compared(operator, path.value(scope), value),
+        path.named(),
     )
+
+
+def all_named(conditions):
+    return NOTHING.union(*(one.named for one in conditions))
 
 
 def joined(conditions):
     return Condition(
         " and ".join(one.text for one in conditions),
         lambda scope: conjunction(one.outcome(scope) for one in conditions),
+        all_named(conditions),
     )
 
 
@@ -89,15 +103,16 @@ def either(conditions):
     return Condition(
         " or ".join(one.text for one in conditions),
         lambda scope: disjunction(one.outcome(scope) for one in conditions),
+        all_named(conditions),
     )
 
 
 def grouped(condition):
-    return Condition(f"({condition.text})", condition.outcome)
+    return condition._replace(text=f"({condition.text})")
 
 
 def negated(condition):
-    return Condition(f"not ({condition.text})", lambda scope: opposite(condition.outcome(scope)))
+    return Condition(f"not ({condition.text})", lambda scope: opposite(condition.outcome(scope)), condition.named)
 
 
 def some_member(path, level, body):
@@ -108,7 +123,7 @@ def some_member(path, level, body):
             return None
         return any(body.outcome([*scope[:level], member]) is True for member in members)
 
-    return Condition(f"{path.text}/any(v{level}:{body.text})", outcome)
+    return Condition(f"{path.text}/any(v{level}:{body.text})", outcome, path.named() | body.named)
 
 
 def counted(path, count):
@@ -116,7 +131,7 @@ def counted(path, count):
         members = path.value(scope)
         return (None if members is None else len(members)) == count
 
-    return Condition(f"{path.text}/$count eq {count}", outcome)
+    return Condition(f"{path.text}/$count eq {count}", outcome, path.named())
 
 
 def is_long(path, text):
@@ -129,7 +144,7 @@ def is_long(path, text):
 
     first, last = literal("Edm.String", start), literal("Edm.String", stop)
     ends = f"startswith({path.text},{first}) and endswith({path.text},{last})"
-    return Condition(f"length({path.text}) eq {len(text)} and {ends}", outcome)
+    return Condition(f"length({path.text}) eq {len(text)} and {ends}", outcome, path.named())
 
 
 def is_single(path, kind, value, level):
@@ -144,13 +159,14 @@ def is_single(path, kind, value, level):
 
 def is_value(path, one, value, level=1):
     """Conditions that hold together where a property has this value, whatever the order of a collection's members."""
-    if one.kind is None:
+    kind = one.target or one.kind
+    if value is UNSEEN:
         return []
     if not one.many:
-        return is_single(path, one.kind, value, level)
+        return is_single(path, kind, value, level)
     bodies = {}
     for item in value:
-        body = joined(is_single(Path(level), one.kind, item, level + 1))
+        body = joined(is_single(Path(level, (), path.names()), kind, item, level + 1))
         bodies[body.text] = body
     return [counted(path, len(value)), *(some_member(path, level, body) for body in bodies.values())]
 
@@ -197,10 +213,11 @@ def drawn_comparison(draw, paths, records):
 
 def drawn(draw, kind, records):
     """A filter of a few comparisons; none where no property is looked at."""
-    single = [one for one in kind.slots() if one.kind is not None and not one.many]
-    paths = [(Path().step(one.name), one.kind) for one in single if not isinstance(one.kind, Record)]
+    single = [one for one in kind.slots() if records[0][one.name] is not UNSEEN and not one.many]
+    kinds = {one.name: one.target or one.kind for one in single}
+    paths = [(Path().step(name), inner) for name, inner in kinds.items() if not isinstance(inner, Record)]
     for one in single if draw.chance(50) else ():
-        for part in one.kind.slots() if isinstance(one.kind, Record) else ():
+        for part in kinds[one.name].slots() if isinstance(kinds[one.name], Record) else ():
             if isinstance(part.kind, (str, Enumeration)) and not part.many:
                 paths.append((Path().step(one.name).step(part.name), part.kind))
     if not paths:

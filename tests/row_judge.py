@@ -1,8 +1,10 @@
 """What becomes of a row, by the rules alone: an independent judge of lines and of collections, for tests/drawn_rows. It
 shares no code with the program, reads JSON by Python's reader, and knows a type by its properties.
 
-A record is a dict by the names of the properties, a collection a list, null is None. A whole number is an int, a date a
-`datetime.date`, a moment the nanoseconds since 1970, a Guid its bytes, a value of an enumeration its number.
+A record is a dict by the names of the properties, a collection a list, null is None, UNSEEN what is not looked at. A
+whole number is an int, a date a `datetime.date`, a moment the nanoseconds since 1970, a Guid its bytes, a value of an
+enumeration its number. What a filter names is a set of property paths, tuples of names: a navigation property is looked
+at exactly where the path to it is in that set.
 """
 import collections
 import datetime
@@ -13,9 +15,15 @@ LINE_LIMIT, DEPTH = 1_048_576, 127
 RANGES = {"Edm.Byte": (0, 2**8 - 1), "Edm.SByte": (-(2**7), 2**7 - 1), "Edm.Int16": (-(2**15), 2**15 - 1)}
 RANGES |= {"Edm.Int32": (-(2**31), 2**31 - 1), "Edm.Int64": (-(2**63), 2**63 - 1)}
 
-# A property; its kind is the name of a primitive type, an Enumeration, a Record, or None where it is not looked at. The
-# judge does not go by what a document declares of it.
-Property = collections.namedtuple("Property", "name kind many nullable declared")
+# A property; its kind is the name of a primitive type, an Enumeration, a Record, or None where it is not looked at, or
+# where it is a navigation property, whose target is a Record, or None where it leads to no entity type. The judge does
+# not go by what a document declares of it.
+Property = collections.namedtuple("Property", "name kind many nullable declared target", defaults=(None,))
+# where the judge is in a row: the path that is told, the names of properties that lead there, and what a filter names
+Place = collections.namedtuple("Place", "path names named")
+# the value of a property that is not looked at
+UNSEEN = object()
+NOTHING = frozenset()
 # a number of JSON as it is spelled
 Number = collections.namedtuple("Number", "text")
 
@@ -149,12 +157,13 @@ def number_of_members(kind, text):
 READERS = {"Edm.String": str, "Edm.Date": date_of, "Edm.DateTimeOffset": moment_of, "Edm.Guid": guid_of}
 
 
-def plain_value(kind, tree, path):
+def plain_value(kind, tree, place):
     """The value of a type that may be no null."""
+    path = place.path
     if isinstance(kind, Record):
         if not isinstance(tree, dict):
             raise Fault("WrongKind", path)
-        return record_of(kind, tree, path)
+        return record_of(kind, tree, place)
     if kind in RANGES:
         return whole_of(tree, RANGES[kind], path)
     if kind == "Edm.Boolean":
@@ -169,60 +178,74 @@ def plain_value(kind, tree, path):
         raise Fault("BadText", path) from None
 
 
-def single_value(kind, nullable, tree, path):
+def single_value(kind, nullable, tree, place):
     if tree is not None:
-        return plain_value(kind, tree, path)
+        return plain_value(kind, tree, place)
     if not nullable:
-        raise Fault("NullNotAllowed", path)
+        raise Fault("NullNotAllowed", place.path)
     return None
 
 
-def value_of(one, members, path):
+def kind_seen(one, names, named):
+    """The kind that a property is judged by, where those names lead to it; None where it is not looked at."""
+    return one.target if one.target and names in named else one.kind
+
+
+def value_of(one, members, place):
     """The value of a property by an object's members."""
-    if one.kind is None:
-        return None
+    path, kind = place.path, kind_seen(one, place.names, place.named)
+    if kind is None:
+        return UNSEEN
     if one.name not in members:
+        if one.target:
+            raise Fault("NotExpanded", path)
         if one.many or not one.nullable:
             raise Fault("Missing", path)
         return None
     tree = members[one.name]
     if not one.many:
-        return single_value(one.kind, one.nullable, tree, path)
+        return single_value(kind, one.nullable, tree, place)
     if tree is None:
         raise Fault("NullNotAllowed", path)
     if not isinstance(tree, list):
         raise Fault("WrongKind", path)
-    return [single_value(one.kind, one.nullable, item, f"{path}/{place}") for place, item in enumerate(tree)]
+    # behind a navigation property no item is null, whatever is declared
+    nullable = one.nullable and not one.target
+    places = (place._replace(path=f"{path}/{number}") for number in range(len(tree)))
+    return [single_value(kind, nullable, item, at) for item, at in zip(tree, places)]
 
 
-def record_of(kind, members, path=""):
-    start = f"{path}/" if path else ""
-    return {one.name: value_of(one, members, start + one.name) for one in kind.slots()}
+def record_of(kind, members, place):
+    start, names, named = f"{place.path}/" if place.path else "", place.names, place.named
+    return {
+        one.name: value_of(one, members, Place(start + one.name, (*names, one.name), named)) for one in kind.slots()
+    }
 
 
-def entity_of(kind, tree):
-    """The record of a tree, and what is told of it where it fits none: one of both is None."""
+def entity_of(kind, tree, named=NOTHING):
+    """The record of a tree by a filter that names these paths, and what is told of it where it fits none: one of both
+    is None."""
     if not isinstance(tree, dict):
         return None, "NotObject"
     try:
-        return record_of(kind, tree), None
+        return record_of(kind, tree, Place("", (), named)), None
     except Fault as fault:
         return None, fault.told
 
 
-def of_line(kind, line):
+def of_line(kind, line, named=NOTHING):
     """The same of a line, and both None where it is passed over."""
     if len(line) > LINE_LIMIT:
         return None, "LineTooLong"
     if not line.strip(b" \t\r"):
         return None, None
     try:
-        return entity_of(kind, tree_of(line))
+        return entity_of(kind, tree_of(line), named)
     except NoJson:
         return None, "Json"
 
 
-def of_collection(kind, text):
+def of_collection(kind, text, named=NOTHING):
     """The records of a collection's entities up to the first at fault, and what is told of that, if there is one."""
     try:
         tree = tree_of(text)
@@ -232,7 +255,7 @@ def of_collection(kind, text):
         return [], "row NotACollection"
     records = []
     for place, item in enumerate(tree["value"], 1):
-        record, fault = entity_of(kind, item)
+        record, fault = entity_of(kind, item, named)
         if fault:
             return records, f"row {place} {fault}"
         records.append(record)

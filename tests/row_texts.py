@@ -1,7 +1,7 @@
 """Spellings of rows in JSON, drawn by a fixed generator, good ones and damaged ones: for tests/drawn_rows."""
-from row_judge import DEPTH, LINE_LIMIT, RANGES, Enumeration, Record
+from row_judge import DEPTH, LINE_LIMIT, RANGES, UNSEEN, Enumeration, Record
 from row_types import like, new_name
-from row_values import DEEPEST, date_text, guid_text, member_names, moment_text, property_value
+from row_values import DEEPEST, Values, date_text, guid_text, member_names, moment_text
 
 SHORT = {'"': '\\"', "\\": "\\\\", "/": "\\/", "\b": "\\b", "\f": "\\f", "\n": "\\n", "\r": "\\r", "\t": "\\t"}
 GAPS = [" ", "  ", "\t", "\r", " \t\r "]
@@ -125,26 +125,29 @@ class Writer:
 
     def property(self, one, value):
         """A property's value, or None where it is left out."""
-        if one.kind is None:
+        kind = one.target or one.kind
+        if value is UNSEEN:
             return None if self.draw.chance(40) else self.any()
         if one.many:
-            return self.array([self.single(one.kind, item) for item in value])
-        return None if value is None and self.draw.chance(self.absent) else self.single(one.kind, value)
+            return self.array([self.single(kind, item) for item in value])
+        # a navigation property that is looked at is there, null too
+        is_absent = value is None and not one.target and self.draw.chance(self.absent)
+        return None if is_absent else self.single(kind, value)
 
     def flawed(self, one, value):
         """The same with something at fault, here or further down."""
-        way = self.draw.below(10)
-        if way == 0:
+        way, kind = self.draw.below(10), one.target or one.kind
+        if way == 0 or way == 1 and one.target:
             return None
         if one.many and value and way < 7:
             bad = self.draw.below(len(value))
-            items = [self.single(one.kind, item) for item in value]
-            is_inner = isinstance(one.kind, Record) and value[bad] is not None and way < 6
-            items[bad] = self.object(one.kind, value[bad], 1) if is_inner else self.wrong(one.kind)
+            items = [self.single(kind, item) for item in value]
+            is_inner = isinstance(kind, Record) and value[bad] is not None and way < 6
+            items[bad] = self.object(kind, value[bad], 1) if is_inner else self.wrong(kind)
             return self.array(items)
-        if not one.many and isinstance(one.kind, Record) and value is not None and way < 8:
-            return self.object(one.kind, value, 1)
-        return self.any() if one.many else self.wrong(one.kind)
+        if not one.many and isinstance(kind, Record) and value is not None and way < 8:
+            return self.object(kind, value, 1)
+        return self.any() if one.many else self.wrong(kind)
 
     def wrong(self, kind):
         """What fits no such kind, mostly."""
@@ -180,7 +183,7 @@ class Writer:
     def object(self, kind, value, flaws=0):
         """An object, so many of its members at fault."""
         draw, slots, members = self.draw, kind.slots(), []
-        looked_at = [one.name for one in slots if one.kind is not None]
+        looked_at = [one.name for one in slots if value[one.name] is not UNSEEN]
         is_further = draw.chance(self.broken // 3) if flaws else False
         bad = {draw.one_of(looked_at) for _ in range(flaws)} if looked_at and not is_further else ()
         for one in slots:
@@ -207,7 +210,7 @@ class Writer:
             return
         draw, at = self.draw, self.draw.below(len(members))
         one = next(one for one in slots if one.name == members[at][0])
-        text = self.property(one, property_value(draw, one, 80, DEEPEST)) if draw.chance(50) else self.any()
+        text = self.property(one, Values(draw, 80).value(one, (), DEEPEST)) if draw.chance(50) else self.any()
         at = draw.below(at + 1) if draw.chance(95) else at + 1
         members.insert(at, (one.name, text or "null"))
 

@@ -75,15 +75,21 @@ def names(draw, count, taken=()):
 class Types:
     """The types of a document: `root`, which rows are of, and those that its properties are of."""
 
-    def __init__(self, draw, count, kinds=()):
-        """Draws a type of so many properties, or of one of each of these kinds."""
-        self.draw, self.records = draw, []
+    def __init__(self, draw, count, kinds=(), links=5):
+        """Draws a type of so many properties, or of one of each of these kinds; such a share of properties, in percent,
+        navigates."""
+        self.draw, self.records, self.links = draw, [], links
         # of a long row fewer values have parts
         self.parts = 13 if count < 64 else 3
         self.enumerations = [self.enumeration("Flags", True), self.enumeration("Color", False)]
+        # what navigation properties lead to; a few values have some
+        self.linked = [self.record("Link", None, []), self.record("Links", None, [])]
         self.complex = [self.nested("Deep", False), self.nested("Deeps", True)]
         for n in range(4):
             self.complex.append(self.part(f"Part{n}", draw.one_of([1, 3, 5, 8])))
+        for one in self.linked:
+            own = names(draw, draw.one_of([2, 3, 5]))
+            one.own += [self.of_kind(own[0], "navigation"), *map(self.property, own[1:])]
         own = [self.of_kind(name, kind) for name, kind in zip("ABCD", kinds)]
         self.root = self.record("Row", None, own) if kinds else self.chain(count)
 
@@ -126,10 +132,12 @@ class Types:
 
     def property(self, name):
         draw, part = self.draw, self.draw.below(100)
-        if part < 12:
-            return self.of_kind(name, "left out" if part < 7 else "navigation")
-        if part < 20 + self.parts:
-            return self.of_kind(name, draw.one_of(self.enumerations if part < 20 else self.complex))
+        if draw.chance(self.links):
+            return self.of_kind(name, "navigation")
+        if part < 7:
+            return self.of_kind(name, "left out")
+        if part < 15 + self.parts:
+            return self.of_kind(name, draw.one_of(self.enumerations if part < 15 else self.complex))
         return self.of_kind(name, draw.one_of(PRIMITIVES))
 
     def of_kind(self, name, kind):
@@ -137,7 +145,10 @@ class Types:
         if kind == "left out":
             return Property(name, None, many, nullable, {"$Type": self.draw.one_of(LEFT_OUT)})
         if kind == "navigation":
-            return Property(name, None, many, nullable, {"$Kind": "NavigationProperty", "$Type": "N.Other"})
+            # some lead to no entity type: to a complex type, or nowhere
+            target = self.draw.one_of([*self.linked, *self.linked, None])
+            named = self.draw.one_of(["N.", "M."]) + (target.name if target else self.draw.one_of(["Deep", "Nowhere"]))
+            return Property(name, None, many, nullable, {"$Kind": "NavigationProperty", "$Type": named}, target)
         if kind in PRIMITIVES:
             defined = f"N.Of{PRIMITIVES.index(kind)}"
             return Property(name, kind, many, nullable, {"$Type": defined if self.draw.chance(10) else kind})
@@ -146,14 +157,14 @@ class Types:
 
     def document(self):
         """The document in CSDL JSON; its namespace is `N`, or `M`."""
-        inner = {"$Alias": "M", "Other": {"$Kind": "EntityType", "ID": {"$Type": "Edm.Int32"}}}
+        inner = {"$Alias": "M"}
         for n, kind in enumerate(PRIMITIVES):
             inner[f"Of{n}"] = {"$Kind": "TypeDefinition", "$UnderlyingType": kind}
         for kind in self.enumerations:
             inner[kind.name] = {"$Kind": "EnumType", "$UnderlyingType": kind.underlying, "$IsFlags": kind.is_flags}
             inner[kind.name] |= kind.members
         for record in self.records:
-            is_entity = record.name.startswith(("Row", "Base"))
+            is_entity = record.name.startswith(("Row", "Base", "Link"))
             inner[record.name] = {"$Kind": "EntityType" if is_entity else "ComplexType"}
             if record.base:
                 inner[record.name]["$BaseType"] = f"N.{record.base.name}"

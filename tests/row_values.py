@@ -1,7 +1,7 @@
 """Values of types, drawn by a fixed generator, and their spellings in JSON and in filters: for tests/drawn_rows."""
 import datetime
 
-from row_judge import RANGES, Enumeration, Record
+from row_judge import NOTHING, RANGES, UNSEEN, Enumeration, Record, kind_seen
 
 CHARACTERS = "abcxyzABCXYZ019  ''\"\\/é名😀\x01\t\n\x1f\x7f\u2028ß,{}[]:"
 FIRST_DAY, DAYS, EPOCH = datetime.date(1, 1, 1), 3_652_059, datetime.date(1970, 1, 1)
@@ -72,25 +72,42 @@ def plain(draw, kind):
     return draw.chance(50) if kind == "Edm.Boolean" else text(draw) if kind == "Edm.String" else moment(draw)
 
 
-def single(draw, kind, nullable, share, depth):
-    if nullable and (not draw.chance(share) or isinstance(kind, Record) and depth >= DEEPEST):
-        return None
-    return record(draw, kind, share, depth + 1) if isinstance(kind, Record) else plain(draw, kind)
+class Values:
+    """Draws values; of those that may be null or empty such a share, in percent, is neither. Navigation properties have
+    a value where their paths are among those."""
+
+    def __init__(self, draw, share, named=NOTHING):
+        self.draw, self.share, self.named = draw, share, named
+
+    def single(self, kind, nullable, names, depth):
+        if nullable and (not self.draw.chance(self.share) or isinstance(kind, Record) and depth >= DEEPEST):
+            return None
+        return self.record(kind, names, depth + 1) if isinstance(kind, Record) else plain(self.draw, kind)
+
+    def value(self, one, names, depth=0):
+        """The value of a property to which these names lead."""
+        kind, nullable = kind_seen(one, names, self.named), one.nullable and not (one.many and one.target)
+        if kind is None:
+            return UNSEEN
+        if not one.many:
+            return self.single(kind, nullable, names, depth)
+        if not self.draw.chance(self.share) or isinstance(kind, Record) and depth >= DEEPEST:
+            return []
+        return [self.single(kind, nullable, names, depth) for _ in range(1 + self.draw.below(1 if depth else 3))]
+
+    def record(self, kind, names=(), depth=0):
+        return {one.name: self.value(one, (*names, one.name), depth) for one in kind.slots()}
 
 
-def property_value(draw, one, share, depth=0):
-    """The value of a property; of those that may be null or empty such a share, in percent, is neither."""
-    if one.kind is None:
-        return None
-    if not one.many:
-        return single(draw, one.kind, one.nullable, share, depth)
-    if not draw.chance(share) or isinstance(one.kind, Record) and depth >= DEEPEST:
-        return []
-    return [single(draw, one.kind, one.nullable, share, depth) for _ in range(1 + draw.below(1 if depth else 3))]
-
-
-def record(draw, kind, share, depth=0):
-    return {one.name: property_value(draw, one, share, depth) for one in kind.slots()}
+def expanded(draw, kind, names=()):
+    """Some paths from a record to navigation properties, each with all that end before it."""
+    found = set()
+    for one in kind.slots() if len(names) <= DEEPEST else ():
+        path, inner = (*names, one.name), one.target or one.kind
+        if isinstance(inner, Record) and draw.chance(60):
+            found |= {path} if one.target else set()
+            found |= expanded(draw, inner, path)
+    return found
 
 
 def member_names(draw, kind, value):

@@ -66,7 +66,6 @@ static const char *const fault_names[][14] = {
             [ODFILTER_TYPE_UNKNOWN_ENUM] = "UnknownEnum",
             [ODFILTER_TYPE_TYPE_LEFT_OUT] = "TypeLeftOut",
             [ODFILTER_TYPE_NOT_BOOLEAN] = "NotBoolean",
-            [ODFILTER_TYPE_NAVIGATION] = "Navigation",
         },
     [ODFILTER_QUERY_FAULT] =
         {
@@ -83,6 +82,7 @@ static const char *const fault_names[][14] = {
             [ODFILTER_ROW_NULL_NOT_ALLOWED] = "NullNotAllowed",
             [ODFILTER_ROW_OUT_OF_RANGE] = "OutOfRange",
             [ODFILTER_ROW_BAD_TEXT] = "BadText",
+            [ODFILTER_ROW_NOT_EXPANDED] = "NotExpanded",
         },
     [ODFILTER_EVAL_FAULT] =
         {
