@@ -182,7 +182,8 @@ typedef struct odfilter_answer {
  *
  * ODFILTER_OK: `schema` is a schema. ODFILTER_SCHEMA_FAULT: `fault` says which, and the names that it carries have
  * been written into `names`, one directly behind the other: `length` bytes, of which `first` are the first name.
- * Where the room is smaller than `length`, none was written (the status stays ODFILTER_SCHEMA_FAULT).
+ * Where the room is smaller than `length`, none was written (the status stays ODFILTER_SCHEMA_FAULT). Bytes that are
+ * no UTF-8 are no JSON: ODFILTER_SCHEMA_NOT_JSON.
  * ODFILTER_NULL: any of the four is. ODFILTER_MEMORY. */
 uint32_t odfilter_read_schema(odfilter_bytes document, odfilter_room names, odfilter_handle **schema,
                               odfilter_answer *answer);

@@ -2,6 +2,7 @@
 ghost use Rattle.std.specs.Prelude.{◌≡◌, IfOk, IfErr, MatchResult, None};
 ghost use Rattle.odata_checked_filter.specs.Calls.{UsesNow};
 ghost use Rattle.odata_checked_filter.specs.Filter.{tree_of_filter};
+ghost use Rattle.odata_filter.specs.Run.{IsFirstMoment};
 ghost use Rattle.odfilter_c.specs.Answers.{empty_answer};
 ghost use Rattle.odfilter_c.specs.Outcomes.{IsTold};
 ghost use Rattle.odfilter_c.specs.RowCalls.{IsMomentFor, IsMomentOf, IsNewJudge, IsNoMemory, IsNoVerdict, IsVerdictOn};
@@ -82,8 +83,10 @@ pub(crate) fn put_moment(handle: &mut Handle, text: &[u8]) -> u32
     }
 }
 
-/// The moment that is handed in where none is asked for.
-fn first_moment() -> Moment {
+/// The moment that is handed in where none is asked for, the first one of year 1.
+fn first_moment() -> Moment
+    ensures { IsFirstMoment result }
+{
     match Moment::new(civil::date(1, 1, 1).at(0, 0, 0, 0), 0) {
         Some(moment) => moment,
         None => unreachable!(),
