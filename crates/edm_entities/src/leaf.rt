@@ -79,6 +79,7 @@ fn read_whole(wanted: Prim, number: JsonNumber) -> Result<Value, ReadFlaw>
 }
 
 /// Reads a text where a primitive type is wanted.
+#[inline(always)]
 pub(crate) fn read_text(alloc: Global, wanted: Prim, text: &str) -> Result<Value, ReadFlaw>
     ensures fits { (slots : Slots) (type : ExprType)
         → IfOk result (λ v. FitsPrimitive wanted (string text.now) (val_of v slots.properties type)) }

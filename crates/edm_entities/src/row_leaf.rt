@@ -50,11 +50,13 @@ pub(crate) fn take_primitive(
         (FitsHoweverNullable slots (single (primitive wanted)) place.new) }
     ensures kept { result ≡ Leaf.Other → reader.new ≡ reader.old }
 {
+    if let Prim::String = wanted {
+        return take_text(cache, reader, place);
+    }
     if wanted.is_number() {
         return take_number(wanted, reader, place);
     }
     match wanted {
-        Prim::String => take_text(cache, reader, place),
         Prim::Bool => take_truth(reader, place),
         _ => take_literal(cache, wanted, reader, place),
     }
@@ -135,6 +137,7 @@ fn take_literal(
 }
 
 /// Puts a value of an enumeration into its place.
+#[inline(never)]
 pub(crate) fn take_enumeration(
     scratch: &mut Scratch,
     schema: &Schema,
@@ -196,6 +199,7 @@ fn put_text(texts: &mut SpareTexts, text: &str, place: &mut Value) -> bool
     }
 }
 
+#[inline(always)]
 fn put_read(read: Result<Value, ReadFlaw>, place: &mut Value) -> bool
     ensures { IsTrue result → read ≡ Ok place.new }
 {

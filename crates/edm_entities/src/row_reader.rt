@@ -1,4 +1,4 @@
-ghost use Rattle.std.specs.Prelude.{◌≡◌, Some, IsSome, IfSome};
+ghost use Rattle.std.specs.Prelude.{◌≡◌, Some, IsSome, IsTrue, IfSome};
 ghost use Rattle.serde_json.specs.Data.{Data};
 ghost use Rattle.serde_json.specs.Find.{as_object};
 ghost use Rattle.serde_json.specs.Read.{read};
@@ -20,6 +20,7 @@ use edm_values::Value;
 use json_tokens::{TokenReader, text_of_line};
 use std::alloc::Global;
 use std::marker::Model;
+use std::mem;
 
 /// How deep objects and arrays may nest in a row.
 const DEPTH: usize = 127;
@@ -29,6 +30,7 @@ const DEPTH: usize = 127;
 #[derive(Drop)]
 pub struct RowReader {
     cache: RowCache,
+    row: RowSlots,
 }
 
 // What is kept says nothing of a line, so clauses see nothing of it.
@@ -43,6 +45,10 @@ impl RowReader {
     pub fn new(alloc: Global) -> RowReader {
         RowReader {
             cache: RowCache::new(alloc),
+            row: RowSlots {
+                values: Vec::new(alloc),
+                filled: Vec::new(alloc),
+            },
         }
     }
 
@@ -73,50 +79,45 @@ impl RowReader {
             plans: plan.plans.as_slice(),
             depth: DEPTH - 1,
         };
-        match take_row(&mut self.cache, &scene, plan.type_id, text) {
-            Some(values) => {
-                let kept = KeptExpansion::Lent(&plan.expansion);
-                Some(Entity::from_values(schema, plan.type_id, kept, values))
-            }
-            None => None,
+        if !take_row(&mut self.cache, &scene, plan.type_id, text, &mut self.row) {
+            return None;
         }
+        let kept = KeptExpansion::Lent(&plan.expansion);
+        let values = mem::replace(&mut self.row.values, Vec::new(self.cache.alloc));
+        Some(Entity::from_values(schema, plan.type_id, kept, values))
     }
 
     /// Takes back an entity whose row is done with: its texts and lists are filled again by the rows to come. It says
     /// nothing of them, and any entity will do.
     pub fn take_back(&mut self, entity: Entity<'_>) {
-        self.cache.row.values = entity.into_values();
+        self.row.values = entity.into_values();
     }
 }
 
-/// The values by slot of a whole text.
+/// Puts the values of a whole text into their slots.
 fn take_row(
     cache: &mut RowCache,
     scene: &RowScene<'_>,
     type_id: TypeId,
     text: &str,
-) -> Option<Vec<Value>>
+    slots: &mut RowSlots,
+) -> bool
     requires plans { ArePlans scene.now.schema.now scene.now.expansion.now scene.now.plans.now }
     requires depth { scene.now.depth ≡ 126 }
-    ensures distinct { IfSome result (λ _. HasDistinctNames (properties_at scene.now.schema.now type_id)) }
-    ensures fits { IfSome result (λ values. (json : Data) × (read text.now ≡ Some json) × IsSome (as_object json)
-        × FitSlots (slots_below scene.now (Some 0)) json (properties_at scene.now.schema.now type_id) values.items) }
+    ensures distinct { IsTrue result → HasDistinctNames (properties_at scene.now.schema.now type_id) }
+    ensures fits { IsTrue result → (json : Data) × (read text.now ≡ Some json) × IsSome (as_object json)
+        × FitSlots (slots_below scene.now (Some 0)) json (properties_at scene.now.schema.now type_id)
+        slots.new.values.items }
 {
     let Some(plan) = plan_at(scene.plans, 0, type_id, Some(0)) else {
-        return None;
+        return false;
     };
     let mut reader = TokenReader::new(text);
     if !reader.take_begin_object() {
-        return None;
+        return false;
     }
-    let mut slots = cache.row_slots();
-    if !take_members(cache, scene, plan, &mut reader, &mut slots) {
-        return None;
+    if !take_members(cache, scene, plan, &mut reader, slots) {
+        return false;
     }
-    if !reader.is_at_end() {
-        return None;
-    }
-    let RowSlots { values, filled } = slots;
-    cache.row.filled = filled;
-    Some(values)
+    reader.is_at_end()
 }

@@ -1,13 +1,13 @@
 //! The walk over a row's tokens, straight into the slots of its type. It ends where the row fits no value, and where
 //! memory is wanting. What most rows are, an object of values without parts, is one piece of code (`inline(always)`);
 //! arrays and objects within it are called apart: that saves a call for each value.
-ghost use Rattle.std.specs.Prelude.{◌≡◌, ◌∷◌, ◌<◌, ◌≤◌, length, take, true, false, Some, None, IsTrue};
+ghost use Rattle.std.specs.Prelude.{◌≡◌, ◌∷◌, ◌<◌, ◌≤◌, ℕ, length, take, true, false, Some, None, IsTrue};
 ghost use Rattle.json.specs.Json.{read_key};
 ghost use Rattle.json.specs.Token.{null};
 ghost use Rattle.serde_json.specs.Data.{object, put, Members};
-ghost use Rattle.csdl_schema.specs.ExprType.{single, collection, structured};
+ghost use Rattle.csdl_schema.specs.ExprType.{single, collection, primitive, structured};
 ghost use Rattle.csdl_schema.specs.PropertyView.{property_type};
-ghost use Rattle.csdl_schema.specs.SchemaModel.{properties_at, type_name_at};
+ghost use Rattle.csdl_schema.specs.SchemaModel.{Slots, properties_at, type_name_at};
 ghost use Rattle.edm_entities.specs.Fits.{FitsProperty};
 ghost use Rattle.edm_entities.specs.HoldsEachSlot.{HoldsEachSlot};
 ghost use Rattle.edm_entities.specs.Row.{field_of, val_of};
@@ -24,8 +24,8 @@ use super::row_skip::skip_value;
 use super::row_slots::{RowSlots, begin_slots, fill_slots};
 use super::type_plan::{SlotPlan, TypePlan, plan_at};
 use super::wanted::{Wanted, may_hold_null, wanted_with};
-use csdl_schema::{Expansion, Schema};
-use edm_values::Value;
+use csdl_schema::{Expansion, PropertyKind, Schema};
+use edm_values::{Prim, Value};
 use json_tokens::TokenReader;
 use std::mem;
 
@@ -128,10 +128,39 @@ fn take_member(
     }
 }
 
-/// Puts the value of a property into its place. One that is not looked at is held as null.
+/// Puts the value of a property into its place. What most are, a single value of a primitive type, is looked for first:
+/// that saves ten instructions a value.
 #[inline(always)]
 #[cycle(row)]
 fn take_property(
+    cache: &mut RowCache,
+    scene: &RowScene<'_>,
+    plan: &SlotPlan,
+    reader: &mut TokenReader<'_>,
+    place: &mut Value,
+) -> bool
+    requires plans { ArePlans scene.now.schema.now scene.now.expansion.now scene.now.plans.now }
+    requires leads { plan.now.target ≡ target_at scene.now.expansion.now plan.now.node plan.now.property }
+    ensures read { IsTrue result → Reads scene.now.depth reader.old reader.new (λ json. FitsProperty
+        (slots_below scene.now plan.now.node) plan.now.property.nullable
+        (property_type scene.now.schema.now plan.now.property) (Some json)
+        (field_of (slots_below scene.now plan.now.node).properties
+        (property_type scene.now.schema.now plan.now.property) (val_of place.new))) }
+    ensures holds { IsTrue result → HoldsInSlot (slots_below scene.now plan.now.node)
+        (property_type scene.now.schema.now plan.now.property) place.new }
+{
+    if let PropertyKind::Prim(prim) = plan.property.kind {
+        if !plan.property.many {
+            return take_scalar(cache, prim, plan.property.nullable, reader, place);
+        }
+    }
+    take_other_property(cache, scene, plan, reader, place)
+}
+
+/// The same of any property. One that is not looked at is held as null.
+#[inline(always)]
+#[cycle(row)]
+fn take_other_property(
     cache: &mut RowCache,
     scene: &RowScene<'_>,
     plan: &SlotPlan,
@@ -189,11 +218,7 @@ fn take_single(
         (single (wanted_single scene.now.schema.now one.now.wanted)) }
 {
     if let Wanted::Prim(prim) = one.wanted {
-        return match take_primitive(cache, prim, reader, place) {
-            Leaf::Read => true,
-            Leaf::Other => take_null_instead(cache, one.nullable, reader, place),
-            Leaf::Refused => false,
-        };
+        return take_scalar(cache, prim, one.nullable, reader, place);
     }
     if reader.take_null() {
         return put_null(cache, one.nullable, place);
@@ -205,6 +230,26 @@ fn take_single(
         },
         Wanted::Enum(id) => take_enumeration(&mut cache.scratch, scene.schema, id, reader, place),
         Wanted::Prim(_) => false,
+    }
+}
+
+/// The same of a value of a primitive type.
+#[inline(always)]
+fn take_scalar(
+    cache: &mut RowCache,
+    wanted: Prim,
+    nullable: bool,
+    reader: &mut TokenReader<'_>,
+    place: &mut Value,
+) -> bool
+    ensures read { (slots : Slots) (depth : ℕ) → IsTrue result → Reads depth reader.old reader.new
+        (FitsNullable slots nullable nullable (single (primitive wanted)) place.new) }
+    ensures holds { (slots : Slots) → IsTrue result → HoldsEachSlot place.new slots (single (primitive wanted)) }
+{
+    match take_primitive(cache, wanted, reader, place) {
+        Leaf::Read => true,
+        Leaf::Other => take_null_instead(cache, nullable, reader, place),
+        Leaf::Refused => false,
     }
 }
 
@@ -257,11 +302,11 @@ fn take_record(
         plans: scene.plans,
         depth: scene.depth - 1,
     };
-    let mut slots = cache.slots_of(mem::replace(place, Value::Null));
+    let mut slots = cache.slots_of(place);
     if !take_members(cache, &inner, plan, reader, &mut slots) {
         return false;
     }
-    *place = Value::Record(cache.values_of(slots));
+    cache.put_record(slots, place);
     true
 }
 
@@ -291,12 +336,22 @@ fn take_array(
         plans: scene.plans,
         depth: scene.depth - 1,
     };
-    let mut values = cache.items_of(mem::replace(place, Value::Null));
+    let mut values = cache.items_of(place);
     if !take_items(cache, &inner, one, reader, &mut values) {
         return false;
     }
-    *place = Value::List(values);
+    put_list(values, place);
     true
+}
+
+#[inline(always)]
+fn put_list(values: Vec<Value>, place: &mut Value)
+    ensures { place.new ≡ Value.List values }
+{
+    match place {
+        Value::List(old) => *old = values,
+        _ => *place = Value::List(values),
+    }
 }
 
 /// Whether there is room for a value behind so many.

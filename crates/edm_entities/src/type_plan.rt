@@ -79,16 +79,6 @@ fn place_for(types: &mut Vec<NeededType>, type_id: TypeId, node: Option<usize>) 
     Some(place)
 }
 
-fn complex_type(wanted: Option<Wanted>) -> Option<TypeId> {
-    let Some(wanted) = wanted else {
-        return None;
-    };
-    match wanted {
-        Wanted::Complex(type_id) => Some(type_id),
-        _ => None,
-    }
-}
-
 /// Where the plan of a property's type is to be.
 fn record_of(
     scene: &WalkScene<'_>,
@@ -97,9 +87,12 @@ fn record_of(
     types: &mut Vec<NeededType>,
 ) -> Option<usize> {
     let target = expanded_target(scene, property, node);
-    match complex_type(wanted_with(property, target)) {
-        Some(type_id) => place_for(types, type_id, node),
-        None => Some(0),
+    let Some(wanted) = wanted_with(property, target) else {
+        return Some(0);
+    };
+    match wanted {
+        Wanted::Complex(type_id) => place_for(types, type_id, node),
+        _ => Some(0),
     }
 }
 

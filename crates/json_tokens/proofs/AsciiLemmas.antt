@@ -1,4 +1,4 @@
--- Lemmas on bytes of ASCII, sixteen at a time.
+-- Lemmas on bytes of ASCII, some at a time.
 use Rattle.std.proofs.Common.{◌≡◌, ℕ, ◌+◌, ◌%◌, ◌^◌, ◌≤◌, true, cond, eqb, leb, List, length, map, replicate, sym, ap, ◌∙◌, ⊎_elim, arith, leb-false}
 use Rattle.std.proofs.lemmas.Bool.{cases_lt, eqb-true}
 use Rattle.std.proofs.lemmas.List.{get_or_past, length-map}
@@ -9,15 +9,15 @@ use mir.Syntax.{w8}
 use Rattle.json_tokens.specs.private.Lexemes.{AsciiBetween}
 
 -- where no lane passes the test of 128 and more, as the code makes it
-pub window_is_ascii : (d : List ℕ) (i : ℕ) → i + 16 ≤ length d
-    → eqb (mask_l (map (top 7) (zip2 (λ a b. cond (leb a b) 255 0) (replicate 16 128) (chunk i 16 d))) % 2 ^ 64) 0 ≡ true → AsciiBetween d i (i + 16)
-window_is_ascii d i room is k from to =
-    let lanes = chunk i 16 d in
-    let long : length lanes ≡ 16 = length-chunk i 16 d room in
-    let tests = tops_compared w8 leb (replicate 16 128) lanes ∙ zip2_splat_left leb 128 16 lanes long in
-    let few : length (map (leb 128) lanes) ≤ 64 = omega (arith, length-map lanes (leb 128), long) in
+pub window_is_ascii : (n : ℕ) (d : List ℕ) (i : ℕ) → n ≤ 64 → i + n ≤ length d
+    → eqb (mask_l (map (top 7) (zip2 (λ a b. cond (leb a b) 255 0) (replicate n 128) (chunk i n d))) % 2 ^ 64) 0 ≡ true → AsciiBetween d i (i + n)
+window_is_ascii n d i fits room is k from to =
+    let lanes = chunk i n d in
+    let long : length lanes ≡ n = length-chunk i n d room in
+    let tests = tops_compared w8 leb (replicate n 128) lanes ∙ zip2_splat_left leb 128 n lanes long in
+    let few : length (map (leb 128) lanes) ≤ 64 = omega (arith, length-map lanes (leb 128), long, fits) in
     let none : mask_l (map (leb 128) lanes) ≡ 0 = sym (mask_l-mod (map (leb 128) lanes) 64 few) ∙ sym (ap (λ z. mask_l z % 2 ^ 64) tests) ∙ eqb-true _ _ is in
-    leb-false _ _ (none_from_empty_mask (leb 128) d i 16 0 room none k from to)
+    leb-false _ _ (none_from_empty_mask (leb 128) d i n 0 room none k from to)
 
 pub ascii_joined : (d : List ℕ) (i j : ℕ) → AsciiBetween d 0 i → AsciiBetween d i j → AsciiBetween d 0 j
 ascii_joined d i j first more k from to = ⊎_elim (λ before. first k from before) (λ behind. more k behind to) (cases_lt k i)

@@ -9,7 +9,7 @@ use Rattle.json.specs.Token.{key, string}
 use Rattle.json.specs.Lex.{token, between, lex, punctuate}
 use Rattle.json.specs.Written.{PlainBetween}
 use Rattle.json.proofs.Printed.Plain.{escape_on_plain}
-use Rattle.json_tokens.specs.Keys.{quoted_name}
+use Rattle.json_tokens.specs.Keys.{name_with_colon, quoted_name}
 use Rattle.json_tokens.specs.private.Lexemes.{PassesSpaces, StandsAt, may_begin_at}
 use Rattle.json_tokens.specs.TokenReading.{place_of, tokens_left}
 use Rattle.json_tokens.specs.declared.lexeme.Turn.{Turn}
@@ -76,3 +76,12 @@ key_there turn d i j k name may passed plain stands behind colon =
     let there : lex between (58 ∷ drop (k + 1) d) ≡ lex between r = sym (ap (lex between) (from_byte d k 58 (within_byte d k 58 colon (λ e. omega arith)) colon)) ∙ behind.same in
     ap (punctuate (place_of turn)) (sym passed.same ∙ ap (lex between) parts ∙ quoted_lexed name r (escape_on_plain true name plain) ∙ ap (λ ls. token (string name) ∷ ls) (sym there))
     ∙ begins_key (place_of turn) name (drop (k + 1) d) may
+
+-- the same, where the colon stands behind the name
+pub member_there : (turn : Turn) (d : List ℕ) (i j : ℕ) (name : List ℕ) → may_begin_at turn ≡ true → PassesSpaces d i j → PlainBetween name 0 (length name) → StandsAt d j (name_with_colon name)
+    → tokens_left turn (drop i d) ≡ key name ∷ tokens_left Fresh (drop (j + length (name_with_colon name)) d)
+member_there turn d i j name may passed plain stands =
+    let r = drop (j + length (name_with_colon name)) d in
+    let parts : drop j d ≡ 34 ∷ (name ++ 34 ∷ (58 ∷ r)) =
+    stands.is ∙ ap (λ l. 34 ∷ l) (append_assoc (name ++ 34 ∷ []) (58 ∷ []) r ∙ append_assoc name (34 ∷ []) (58 ∷ r)) in
+    ap (punctuate (place_of turn)) (sym passed.same ∙ ap (lex between) parts ∙ quoted_lexed name (58 ∷ r) (escape_on_plain true name plain)) ∙ begins_key (place_of turn) name r may

@@ -1,18 +1,19 @@
 //! A member's name as it stands in a text.
 ghost use Rattle.std.specs.Prelude.{◌≡◌, length, string_bytes, IfSome};
 ghost use Rattle.json.specs.Written.{PlainBetween};
-ghost use Rattle.json_tokens.specs.Keys.{quoted_name};
+ghost use Rattle.json_tokens.specs.Keys.{name_with_colon, quoted_name};
 
 use super::lexeme::plain_end;
 use std::alloc::Global;
 use std::marker::Model;
 
-/// A name with its quotes, which is compared with a text where it stands. Only a name that is written
-/// as it is makes one.
+/// A name with its quotes, which is compared with a text where it stands, mostly with its colon at once. Only a name that
+/// is written as it is makes one.
 #[derive(Drop)]
 pub struct Key {
     name: String,
     quoted: String,
+    with_colon: String,
 }
 
 impl Model for Key {
@@ -40,8 +41,15 @@ impl Key {
         let Ok(copy) = String::from_str(alloc, name) else {
             return None;
         };
-        match quoted_name(alloc, name) {
-            Some(quoted) => Some(Key { name: copy, quoted }),
+        let Some(quoted) = quoted_name(alloc, name) else {
+            return None;
+        };
+        match name_with_colon(alloc, name) {
+            Some(with_colon) => Some(Key {
+                name: copy,
+                quoted,
+                with_colon,
+            }),
             None => None,
         }
     }
@@ -53,6 +61,15 @@ impl Key {
         ensures plain { PlainBetween self.now 0 (length self.now) }
     {
         self.quoted.as_bytes()
+    }
+
+    /// The name with its quotes and the colon behind it.
+    #[inline(always)]
+    pub(crate) fn with_colon(&self) -> &[u8]
+        ensures named { result.now ≡ name_with_colon self.now }
+        ensures plain { PlainBetween self.now 0 (length self.now) }
+    {
+        self.with_colon.as_bytes()
     }
 }
 
@@ -70,4 +87,16 @@ fn quoted_name(alloc: Global, name: &str) -> Option<String>
         return None;
     }
     Some(quoted)
+}
+
+fn name_with_colon(alloc: Global, name: &str) -> Option<String>
+    ensures { IfSome result (λ named. string_bytes named ≡ name_with_colon name.now) }
+{
+    let Some(mut named) = quoted_name(alloc, name) else {
+        return None;
+    };
+    if named.push_str(":").is_err() {
+        return None;
+    }
+    Some(named)
 }

@@ -8,8 +8,8 @@ ghost use Rattle.json.specs.Token.{begin_array, begin_object, boolean, null, num
 
 use super::key::Key;
 use super::lexeme::{
-    Turn, begins_number, byte_at, key_at, null_at, number_value, past_spaces, text_value, token_at,
-    truth_at, value_end,
+    Turn, begins_number, byte_at, key_at, null_at, other_number_value, past_spaces, text_value,
+    token_at, truth_at, value_end,
 };
 use super::same_bytes::stands_at;
 use super::scratch::Scratch;
@@ -103,9 +103,27 @@ impl<'a> TokenReader<'a> {
         Ok(Some(key))
     }
 
-    /// Takes a member's name and its colon, if they are next.
+    /// Takes a member's name and its colon, if they are next. Mostly the colon stands behind the name, and both are
+    /// compared at once, which saves ten instructions a member.
     #[inline(always)]
     pub fn take_key(&mut self, key: &Key) -> bool
+        ensures taken { IsTrue result → read_key self.old ≡ Some (Some key.now, self.new) }
+        ensures kept { result ≡ false → self.new ≡ self.old }
+    {
+        let bytes = self.text.as_bytes();
+        let place = past_spaces(bytes, self.place);
+        let named = key.with_colon();
+        if self.turn.may_begin() && stands_at(bytes, place, named) {
+            self.place = place + named.len();
+            self.turn = Turn::Fresh;
+            return true;
+        }
+        self.take_key_before_spaces(key)
+    }
+
+    /// The same, where white space may stand before the colon.
+    #[inline(never)]
+    fn take_key_before_spaces(&mut self, key: &Key) -> bool
         ensures taken { IsTrue result → read_key self.old ≡ Some (Some key.now, self.new) }
         ensures kept { result ≡ false → self.new ≡ self.old }
     {
@@ -147,7 +165,8 @@ impl<'a> TokenReader<'a> {
         }
     }
 
-    /// The digits of the number that is next, with its sign, fraction and exponent.
+    /// The digits of the number that is next, with its sign, fraction and exponent. Who asks has mostly found that it is
+    /// not a whole one, so that is not looked for again, which saves some seventy instructions.
     #[inline(always)]
     pub fn take_number(&mut self) -> Option<&'a str>
         ensures taken { IfSome result (λ s. self.old ≡ number s.now ∷ self.new) }
@@ -158,7 +177,7 @@ impl<'a> TokenReader<'a> {
         if !begins_number(byte_at(bytes, place)) || !self.turn.may_begin() {
             return None;
         }
-        match number_value(self.text, place) {
+        match other_number_value(self.text, place) {
             Some((written, next, turn)) => {
                 self.place = next;
                 self.turn = turn;

@@ -8,10 +8,10 @@ ghost use Rattle.csdl_schema.specs.ExpansionView.{paths_in};
 ghost use Rattle.csdl_schema.specs.PathSet.{Covers};
 ghost use Rattle.odata_checked_filter.specs.Filter.{tree_of_filter};
 
+use super::and_chain::root_truth;
 use super::fault::EvalFault;
 use super::scene::Scene;
 use super::verdict::Verdict;
-use super::walk::truth_at;
 use edm_entities::Entity;
 use edm_values::{Moment, Value};
 use odata_checked_filter::Checked;
@@ -48,7 +48,7 @@ pub fn evaluate(
     let moment = Value::Moment(*now);
     let scene = Scene::of(alloc, checked, entity, now, &moment);
     scene.ends_once();
-    match truth_at(&scene, 0) {
+    match root_truth(&scene) {
         Ok(truth) => Ok(verdict_of(truth)),
         Err(fault) => Err(fault),
     }

@@ -1,6 +1,7 @@
 //! What a checked filter comes to on an entity (OData URL Conventions 4.01, section 5.1.1).
 #![tactic(auto)]
 
+mod and_chain;
 mod calls;
 mod collection_walk;
 mod collections;

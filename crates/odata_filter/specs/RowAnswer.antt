@@ -1,11 +1,9 @@
 -- What is told of a row that is judged by itself (OData JSON Format 4.01, sections 4.5 and 7; OData URL Conventions 4.01,
 -- section 5.1.1).
-use Rattle.std.specs.Prelude.{◌≡◌, ◌⊎◌, ℕ, List, false, Option, Some, None, Result, Ok, Err}
+use Rattle.std.specs.Prelude.{◌≡◌, ℕ, List, Option, Some, None, Result, Ok, Err, IsTrue}
 use Rattle.serde_json.specs.Data.{Data}
 use Rattle.edm_values.specs.MomentParts.{MomentParts}
-use Rattle.csdl_schema.specs.ExpansionView.{paths_in}
 use Rattle.csdl_schema.specs.JsonText.{IsJsonOf}
-use Rattle.csdl_schema.specs.PathSet.{PropertyPath}
 use Rattle.edm_entities.specs.Plans.{IsPlanOf}
 use Rattle.edm_entities.specs.declared.row_plan.RowPlan.{RowPlan}
 use Rattle.line_filter.specs.declared.judge.Judgment.{Judgment}
@@ -18,13 +16,11 @@ use Rattle.odata_filter.specs.RowsOnce.{AreSameJudgment}
 use Rattle.odata_filter.specs.declared.bad_row.BadRow.{BadRow}
 use Rattle.odata_filter.specs.declared.no_verdict.NoVerdict.{NoVerdict}
 
--- the plan is of the filter's schema and type, and that is expanded which the filter needs; nothing, where memory was
--- wanting
+-- the plan is of the filter's schema and type, and a whole one has that expanded which the filter needs
 pub record IsPlanOfFilter (filter : Filter) (plan : RowPlan) : Type 0 where
   pub schema : IsPlanOf filter.schema plan
   pub type_id : plan.type_id ≡ filter.filtered
-  pub expansion :
-      (plan.expansion ≡ filter.expansion) ⊎ ((path : PropertyPath) → paths_in plan.expansion path ≡ false)
+  pub whole : IsTrue plan.is_whole → plan.expansion ≡ filter.expansion
 
 -- the row is a JSON value that fits, and the verdict is the filter's one outcome on it
 pub record HasVerdict (filter : Filter) (now : MomentParts) (row : List ℕ) (verdict : Verdict) : Type 0 where

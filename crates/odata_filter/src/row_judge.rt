@@ -1,4 +1,4 @@
-ghost use Rattle.std.specs.Prelude.{◌≡◌, ◌≢◌, Err, Some, None, MatchResult};
+ghost use Rattle.std.specs.Prelude.{◌≡◌, ◌≢◌, Ok, Err, Some, None, IfSome, MatchResult};
 ghost use Rattle.serde_json.specs.Data.{Data};
 ghost use Rattle.serde_json.specs.View.{view};
 ghost use Rattle.csdl_schema.specs.ExpansionView.{paths_in};
@@ -9,7 +9,7 @@ ghost use Rattle.edm_entities.specs.Row.{slots_for, value_of};
 ghost use Rattle.odata_checked_filter.specs.Calls.{TakesMemory};
 ghost use Rattle.odata_checked_filter.specs.Filter.{tree_of_filter};
 ghost use Rattle.odata_filter.specs.RowAnswer.{IsPlanOfFilter, TellsRow, judgment_told};
-ghost use Rattle.odata_filter.specs.private.ValueAnswer.{TellsValue, fault_told};
+ghost use Rattle.odata_filter.specs.private.ValueAnswer.{TellsValue, answer_told, fault_told};
 
 use crate::bad_row::BadRow;
 use crate::no_verdict::NoVerdict;
@@ -42,31 +42,30 @@ impl RowJudge<'_, '_> {
             self.checked.expansion(),
             json,
         ) {
-            Ok(entity) => self.judge_entity(&entity),
+            Ok(entity) => told(self.judge_entity(&entity)),
             Err(RowFault::Memory) => Err(NoVerdict::Memory),
             Err(fault) => Err(NoVerdict::Bad(BadRow::NoEntity(fault))),
         }
     }
 
     /// Judges an entity of the filter's type, with what the filter needs.
-    fn judge_entity(&self, entity: &Entity<'_>) -> Result<Verdict, NoVerdict>
+    #[inline(always)]
+    fn judge_entity(&self, entity: &Entity<'_>) -> Result<Verdict, EvalFault>
         requires schema { entity.now.schema ≡ self.now.checked.now.schema }
         requires type_id { entity.now.type_id ≡ self.now.checked.now.filtered }
         requires expansion { (path : PropertyPath)
             → paths_in entity.now.expansion path ≡ paths_in self.now.checked.now.expansion path }
         ensures told { (json : Data) → Fits (slots_for entity.now)
             (type_name_at entity.now.schema entity.now.type_id) json (value_of entity.now)
-            → TellsValue self.now.checked.now self.now.moment.now json result }
-        ensures no_memory { ¬ TakesMemory (tree_of_filter self.now.checked.now) → result ≢ Err NoVerdict.Memory }
+            → TellsValue self.now.checked.now self.now.moment.now json (answer_told result) }
+        ensures no_memory { ¬ TakesMemory (tree_of_filter self.now.checked.now) → result ≢ Err EvalFault.Memory }
     {
-        match evaluate(self.alloc, self.checked, entity, self.moment) {
-            Ok(verdict) => Ok(verdict),
-            Err(fault) => Err(told_fault(fault)),
-        }
+        evaluate(self.alloc, self.checked, entity, self.moment)
     }
 
     /// Judges a row by way of a tree.
-    fn judge_by_tree(&self, row: &[u8]) -> Result<Verdict, NoVerdict>
+    #[inline(never)]
+    pub(crate) fn judge_by_tree(&self, row: &[u8]) -> Result<Verdict, NoVerdict>
         ensures { TellsRow self.now.checked.now self.now.moment.now row.now result }
     {
         match Value::from_slice(self.alloc, row) {
@@ -81,8 +80,7 @@ impl RowJudge<'_, '_> {
         }
     }
 
-    /// Judges a row: without a tree where it is an entity, else by way of one. So it is judged too where the plan has not
-    /// what the filter needs of navigation.
+    /// Judges a row: without a tree where it is an entity, else by way of one.
     pub(crate) fn judge_bytes(
         &self,
         plan: &RowPlan,
@@ -92,22 +90,39 @@ impl RowJudge<'_, '_> {
         requires { IsPlanOfFilter self.now.checked.now plan.now }
         ensures { TellsRow self.now.checked.now self.now.moment.now row.now result }
     {
-        if !plan.expansion.covers(self.checked.expansion()) {
-            return self.judge_by_tree(row);
-        }
-        match reader.read(self.checked.schema(), plan, row) {
-            Some(entity) => {
-                let answer = self.judge_entity(&entity);
-                reader.take_back(entity);
-                answer
-            }
+        match self.judge_read(plan, reader, row) {
+            Some(answer) => told(answer),
             None => self.judge_by_tree(row),
         }
+    }
+
+    /// Judges a row that is an entity, without a tree. Where it answers none, the row goes by way of one: so it does
+    /// also where the plan is not whole.
+    #[inline(always)]
+    pub(crate) fn judge_read(
+        &self,
+        plan: &RowPlan,
+        reader: &mut RowReader,
+        row: &[u8],
+    ) -> Option<Result<Verdict, EvalFault>>
+        requires { IsPlanOfFilter self.now.checked.now plan.now }
+        ensures { IfSome result (λ answer. TellsRow self.now.checked.now self.now.moment.now row.now (answer_told answer)) }
+    {
+        let is_whole = plan.is_whole;
+        if !is_whole {
+            return None;
+        }
+        let Some(entity) = reader.read(self.checked.schema(), plan, row) else {
+            return None;
+        };
+        let answer = self.judge_entity(&entity);
+        reader.take_back(entity);
+        Some(answer)
     }
 }
 
 /// What a fault of the filter says of its row. Want of memory says nothing of it.
-fn told_fault(fault: EvalFault) -> NoVerdict
+pub(crate) fn told_fault(fault: EvalFault) -> NoVerdict
     ensures { result ≡ fault_told fault }
 {
     match fault {
@@ -116,7 +131,28 @@ fn told_fault(fault: EvalFault) -> NoVerdict
     }
 }
 
-/// What is kept of rows by what is told of each: those on which the filter is true.
+/// What a filter's answer to an entity says of its row.
+fn told(answer: Result<Verdict, EvalFault>) -> Result<Verdict, NoVerdict>
+    ensures { result ≡ answer_told answer }
+{
+    match answer {
+        Ok(verdict) => Ok(verdict),
+        Err(fault) => Err(told_fault(fault)),
+    }
+}
+
+/// What is kept of rows by their verdicts: those on which the filter is true.
+#[inline(always)]
+pub(crate) fn judged_by(verdict: Verdict) -> Judgment<BadRow>
+    ensures { judgment_told (Ok verdict) ≡ Some result }
+{
+    match verdict {
+        Verdict::True => Judgment::Kept,
+        Verdict::False | Verdict::Null => Judgment::LeftOut,
+    }
+}
+
+/// What is kept of rows by what is told of each.
 pub(crate) fn judgment_of(
     answer: Result<Verdict, NoVerdict>,
 ) -> Result<Judgment<BadRow>, AllocError>
@@ -124,8 +160,7 @@ pub(crate) fn judgment_of(
         (λ refused. judgment_told answer ≡ None) }
 {
     match answer {
-        Ok(Verdict::True) => Ok(Judgment::Kept),
-        Ok(Verdict::False | Verdict::Null) => Ok(Judgment::LeftOut),
+        Ok(verdict) => Ok(judged_by(verdict)),
         Err(NoVerdict::Bad(bad)) => Ok(Judgment::Fault(bad)),
         Err(NoVerdict::Memory) => Err(AllocError),
     }

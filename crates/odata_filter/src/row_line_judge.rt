@@ -2,7 +2,7 @@ ghost use Rattle.std.specs.Prelude.{◌≡◌};
 ghost use Rattle.odata_filter.specs.RowJudgment.{JudgesRow};
 
 use crate::bad_row::BadRow;
-use crate::row_judge::{RowJudge, judgment_of};
+use crate::row_judge::{RowJudge, judged_by, judgment_of, told_fault};
 use crate::row_verdict::row_plan_of;
 use edm_entities::{RowPlan, RowReader};
 use edm_values::Moment;
@@ -60,6 +60,10 @@ impl Judge for RowLineJudge<'_, '_> {
     ghost says = { λ judge. JudgesRow judge.filter judge.moment };
 
     fn judge(&mut self, line: &[u8]) -> Result<Judgment<BadRow>, AllocError> {
-        judgment_of(self.rows.judge_bytes(&self.plan, &mut self.reader, line))
+        match self.rows.judge_read(&self.plan, &mut self.reader, line) {
+            Some(Ok(verdict)) => Ok(judged_by(verdict)),
+            Some(Err(fault)) => judgment_of(Err(told_fault(fault))),
+            None => judgment_of(self.rows.judge_by_tree(line)),
+        }
     }
 }

@@ -1,3 +1,6 @@
+ghost use Rattle.std.specs.Prelude.{◌≡◌, ◌⊎◌, false};
+ghost use Rattle.csdl_schema.specs.ExpansionView.{paths_in};
+ghost use Rattle.csdl_schema.specs.PathSet.{PropertyPath};
 ghost use Rattle.odata_filter.specs.RowAnswer.{IsPlanOfFilter, TellsRow};
 
 use crate::no_verdict::NoVerdict;
@@ -10,7 +13,9 @@ use std::alloc::Global;
 
 /// What rows are read by, of the filter's schema and type, and with what it needs of navigation.
 pub fn row_plan_of(alloc: Global, checked: &Checked<'_>) -> RowPlan
-    ensures { IsPlanOfFilter checked.now result }
+    ensures plan { IsPlanOfFilter checked.now result }
+    ensures expansion { (result.expansion ≡ checked.now.expansion)
+        ⊎ ((path : PropertyPath) → paths_in result.expansion path ≡ false) }
 {
     RowPlan::new(
         alloc,

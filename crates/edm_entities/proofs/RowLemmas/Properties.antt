@@ -1,17 +1,23 @@
 -- What was read of a property, from what was read of its value.
-use Rattle.std.proofs.Common.{◌≡◌, ℕ, List, Bool, Some, refl, subst}
+use Rattle.std.proofs.Common.{◌≡◌, ℕ, List, [], Bool, false, Some, refl, ap, subst}
 use Rattle.json.specs.Token.{Token}
 use Rattle.serde_json.specs.Data.{Data, null as json_null, boolean as json_boolean, number as json_number, string as json_string, array as json_array, object as json_object}
 use Rattle.edm_values.specs.Val.{Val, null, boolean, whole, text, date, moment, guid, member, fields, items}
+use Rattle.edm_values.specs.declared.primitive.PrimitiveType.{PrimitiveType}
 use Rattle.edm_values.specs.declared.value.Value.{Value}
 use Rattle.csdl_schema.specs.ExprType.{ExprType, single, SingleType, primitive, enumeration, structured}
-use Rattle.csdl_schema.specs.SchemaModel.{Slots, PropertyType}
+use Rattle.csdl_schema.specs.PropertyView.{property_type, target_of}
+use Rattle.csdl_schema.specs.SchemaModel.{SchemaModel, Slots, PropertyType}
+use Rattle.csdl_schema.specs.declared.property.Property.{Property}
+use Rattle.csdl_schema.specs.declared.property.PropertyKind.TheVariants as kind
 use Rattle.edm_entities.specs.Fits.{takes_null, FitsFound, FitsProperty, FitsType}
 use Rattle.edm_entities.specs.Row.{field_of, val_of}
+use Rattle.edm_entities.specs.declared.wanted.Wanted.TheVariants.{Prim}
+use Rattle.edm_entities.specs.private.Expanded.{wanted_of}
 use Rattle.edm_entities.specs.private.RowTokens.{Reads, FitsNullable}
 use Rattle.edm_entities.proofs.RowLemmas.Tokens.{reads_as}
 use Rattle.edm_entities.proofs.SlotLemmas.EachSlot.{IsLookedAt}
-use Rattle.edm_entities.proofs.SlotLemmas.FoundWalk.{items_null, seen_fits}
+use Rattle.edm_entities.proofs.SlotLemmas.FoundWalk.{items_null, seen_as, seen_fits, type_wanted}
 
 found_by : (json : Data) (takes : Bool) (v : Val) (P Q : Data → Type 0) → ((found : Data) → P found → Q found) → FitsFound (Some json) takes v P → FitsFound (Some json) takes v Q
 found_by json_null takes v P Q by fits = fits
@@ -58,3 +64,9 @@ single_read slots nullable type wanted depth tokens rest v seen reads =
     (λ json fits. found_by json nullable held (λ there. FitsType slots nullable (single wanted) there held) (λ there. FitsType slots inner (single wanted) there held)
     (λ there there_fits. single_fits slots nullable inner wanted there held there_fits) fits)
     reads)
+
+pub primitive_seen : (schema : SchemaModel) (slots : Slots) (p : Property) (type : PrimitiveType) → p.kind ≡ kind.Prim type → p.many ≡ false
+    → IsLookedAt slots (property_type schema p) (single (primitive type))
+primitive_seen schema slots p type is one =
+    subst (λ (many : Bool). IsLookedAt slots (property_type schema p) (type_wanted schema (Prim type) many)) one
+    (seen_as schema slots p.kind (target_of p) p.many (Prim type) (ap (λ of. wanted_of of (slots.needed []) (target_of p)) is))

@@ -1,13 +1,13 @@
 -- From what is known of an entity to what is told of its row, and said of its line.
 use mathlib.Core.Path.{fun_ext}
-use Rattle.std.proofs.Common.{◌≡◌, ◌≢◌, ◌⊎◌, ◌∙◌, inl, inr, ℕ, List, [], Some, None, Result, Ok, Err, sym, ap, subst, refl, IfSome, IfOk}
+use Rattle.std.proofs.Common.{◌≡◌, ◌≢◌, ℕ, List, [], Some, None, Result, Ok, Err, sym, subst, refl, IfSome, IfOk}
 use Rattle.serde_json.specs.Data.{Data}
 use Rattle.edm_values.specs.MomentParts.{MomentParts}
 use Rattle.edm_values.specs.Val.{Val, null, boolean}
-use Rattle.std.specs.Prelude.{Bool, true, false, MatchResult}
+use Rattle.std.specs.Prelude.{true, false, MatchResult}
 use Rattle.csdl_schema.specs.JsonText.{IsJsonOf}
 use Rattle.csdl_schema.specs.ExpansionView.{StepModel, paths_in}
-use Rattle.csdl_schema.specs.PathSet.{Covers, PathSet, PropertyPath}
+use Rattle.csdl_schema.specs.PathSet.{PathSet, PropertyPath}
 use Rattle.csdl_schema.specs.SchemaModel.{SchemaModel, expanded, slots_of, type_name_at}
 use Rattle.odata_eval.specs.declared.fault.EvalFault.{EvalFault}
 use Rattle.odata_eval.specs.declared.verdict.Verdict.{Verdict}
@@ -18,26 +18,12 @@ use Rattle.edm_entities.specs.Row.{Row, expanded_by, slots_for, value_of}
 use Rattle.odata_eval.specs.Means.{Means}
 use Rattle.odata_eval.specs.MeansOn.{IsTheOutcome}
 use Rattle.odata_eval.specs.Outcome.{Outcome, gives, overflow, divides_by_zero}
-use Rattle.odata_eval.specs.VerdictView.{fault_outcome}
+use Rattle.odata_eval.specs.VerdictView.{fault_outcome, told_outcome, verdict_val}
 use Rattle.odata_checked_filter.specs.Filter.{Filter, slots_for_filter, tree_of_filter}
 use Rattle.odata_filter.specs.declared.no_verdict.NoVerdict.{NoVerdict}
 use Rattle.odata_filter.specs.RowAnswer.{TellsRow, judgment_told}
 use Rattle.odata_filter.specs.RowJudgment.{HasOutcome, JudgesRow, JudgesValue}
-use Rattle.odata_filter.specs.private.ValueAnswer.{TellsValue, fault_told}
-
-unless_true : (b : Bool) → (b ≡ true → true ≡ false) → b ≡ false
-unless_true true clash = clash refl
-unless_true false clash = refl
-
--- no more is in the set than in one that has nothing
-pub none_covered : (paths other : PathSet) → ((path : PropertyPath) → paths path ≡ false) → Covers paths other → (path : PropertyPath) → other path ≡ false
-none_covered paths other none covers path = unless_true (other path) (λ is. sym (covers path is) ∙ none path)
-
--- a plan that has what the filter needs has nothing else
-pub planned_paths : (planned needed : List StepModel) → (planned ≡ needed) ⊎ ((path : PropertyPath) → paths_in planned path ≡ false) → Covers (paths_in planned) (paths_in needed)
-    → (path : PropertyPath) → paths_in planned path ≡ paths_in needed path
-planned_paths planned needed (inl same) covers path = ap (λ (steps : List StepModel). paths_in steps path) same
-planned_paths planned needed (inr none) covers path = none path ∙ sym (none_covered (paths_in planned) (paths_in needed) none covers path)
+use Rattle.odata_filter.specs.private.ValueAnswer.{TellsValue, answer_told, fault_told}
 
 -- an entity of the filter's schema and type, read from the JSON with what the filter needs
 pub record IsRowOf (filter : Filter) (json : Data) (row : Row) : Type 0 where
@@ -91,11 +77,12 @@ told_by_fault filter now json row EvalFault.DivideByZero is_row told =
     (divides_by_zero, (refl, outcome_of_row filter now json row divides_by_zero is_row told))
 told_by_fault filter now json row EvalFault.Memory is_row told = tt
 
--- what tells want of memory is want of memory
-pub memory_told : (fault : EvalFault) → fault_told fault ≡ NoVerdict.Memory → fault ≡ EvalFault.Memory
-memory_told EvalFault.Overflow is = absurd cc
-memory_told EvalFault.DivideByZero is = absurd cc
-memory_told EvalFault.Memory is = refl
+-- the filter's answer to the entity is what is told of the JSON
+pub answer_of_row : (filter : Filter) (now : MomentParts) (json : Data) (row : Row) (answer : Result Verdict EvalFault)
+    → IsRowOf filter json row → IfSome (told_outcome answer) (IsTheOutcome row now (tree_of_filter filter))
+    → TellsValue filter now json (answer_told answer)
+answer_of_row filter now json row (Ok verdict) is_row told = outcome_of_row filter now json row (gives (verdict_val verdict)) is_row told
+answer_of_row filter now json row (Err fault) is_row told = told_by_fault filter now json row fault is_row told
 
 -- ---- what is told, and what is said of a line
 

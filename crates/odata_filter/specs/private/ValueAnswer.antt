@@ -23,3 +23,8 @@ abbrev pub fault_told : EvalFault → NoVerdict
 fault_told EvalFault.Overflow = NoVerdict.Bad (BadRow.NoValue EvalFault.Overflow)
 fault_told EvalFault.DivideByZero = NoVerdict.Bad (BadRow.NoValue EvalFault.DivideByZero)
 fault_told EvalFault.Memory = NoVerdict.Memory
+
+-- what a filter's answer to an entity tells
+abbrev pub answer_told : Result Verdict EvalFault → Result Verdict NoVerdict
+answer_told (Ok verdict) = Ok verdict
+answer_told (Err fault) = Err (fault_told fault)

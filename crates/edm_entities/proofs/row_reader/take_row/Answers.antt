@@ -16,12 +16,12 @@ pub take_members-requires-clause-plan : goal.take_members-requires-clause-plan
 take_members-requires-clause-plan c = c.in-Some.ensures.plan c.args.scene.now.schema.now c.args.scene.now.expansion.now c.requires.plans
 
 pub returns-clause-distinct : goal.returns-clause-distinct
-returns-clause-distinct c =
+returns-clause-distinct c taken =
     let schema = c.args.scene.now.schema.now in
     subst (λ id. HasDistinctNames (properties_at schema id)) c.in-Some.ensures.of_type (c.in-Some.ensures.plan schema c.args.scene.now.expansion.now c.requires.plans).distinct
 
 pub returns-clause-fits : goal.returns-clause-fits
-returns-clause-fits c =
+returns-clause-fits c taken =
     let schema = c.args.scene.now.schema.now in
     let slots = slots_below c.args.scene.now (Some 0) in
     let id = c.in-Some.plan.now.type_id in
@@ -29,7 +29,7 @@ returns-clause-fits c =
     let values = c.take_members.new.slots.values in
     let started : tokens c.args.text.now ≡ Token.begin_object ∷ c.take_begin_object.new.self =
     sym c.new-reader.ensures ∙ c.take_begin_object.ensures.taken c.if-not-take_begin_object.false in
-    let ended : c.take_members.new.reader ≡ [] = c.is_at_end.ensures c.if-not-is_at_end.false in
+    let ended : c.take_members.new.reader ≡ [] = c.is_at_end.ensures taken in
     let members : ReadsMembers 126 c.take_begin_object.new.self c.take_members.new.reader (λ found. FitSlots slots (object found) ps values.items) =
     subst (λ (depth : ℕ). ReadsMembers depth c.take_begin_object.new.self c.take_members.new.reader (λ found. FitSlots slots (object found) ps values.items)) c.requires.depth
     (subst (λ (node : Option ℕ). ReadsMembers c.args.scene.now.depth c.take_begin_object.new.self c.take_members.new.reader (λ found. FitSlots (slots_below c.args.scene.now node) (object found) ps values.items))

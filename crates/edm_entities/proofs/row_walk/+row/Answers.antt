@@ -19,11 +19,12 @@ use Rattle.edm_entities.specs.private.Expanded.{wanted_with}
 use Rattle.edm_entities.specs.private.Walk.{FitList, FitSlots, HoldInItems, HoldsInSlot, wanted_single}
 use Rattle.edm_entities.specs.declared.row_member.Member.TheVariants.{OfSlot, Other, End}
 use Rattle.edm_entities.proofs.RowLemmas.Leads.{members_start, members_over, items_start, item_more, items_over}
-use Rattle.edm_entities.proofs.RowLemmas.Leaves.{leaf_read, primitive_leaf_holds, member_leaf_holds, null_taken, wanted_read}
+use Rattle.edm_entities.proofs.RowLemmas.Leaves.{leaf_read, member_leaf_holds, null_taken, wanted_read}
+use Rattle.edm_entities.specs.declared.wanted.Wanted.{Wanted}
 use Rattle.edm_entities.specs.declared.wanted.Wanted.TheVariants.{Prim, Enum, Complex}
 use Rattle.edm_entities.proofs.RowLemmas.Parts.{fit_push, list_held, record_held}
 use Rattle.edm_entities.proofs.RowLemmas.Plans.{long_set, member_shorter, member_taken, slot_planned, slot_slots, take_none, take_set}
-use Rattle.edm_entities.proofs.RowLemmas.Properties.{property_read, single_read}
+use Rattle.edm_entities.proofs.RowLemmas.Properties.{primitive_seen, property_read, single_read}
 use Rattle.edm_entities.proofs.RowLemmas.SlotsRead.{as_many_filled, as_many_values, behind_named, slots_start, slot_set, slot_within, others_hold, property_fits}
 use Rattle.edm_entities.proofs.RowLemmas.Tokens.{read_shorter, reads_as, unclosed, object_reads, array_reads}
 use Rattle.edm_entities.proofs.SlotLemmas.FoundWalk.{items_as, seen_as, type_wanted, unwanted_fits}
@@ -38,14 +39,17 @@ take_array-returns-clause-read t c done =
     let depth = c.args.scene.now.depth in
     let values = c.take_items.new.values in
     let first : c.args.reader.now ≡ Token.begin_array ∷ c.take_begin_array.new.self = c.take_begin_array.ensures.taken c.if-not-take_begin_array.false in
-    subst (λ ts. Reads depth ts c.take_items.new.reader (FitsNullable slots false one.nullable (collection type) (ListOf values))) (sym first)
+    subst (λ v. Reads depth c.args.reader.now c.take_items.new.reader (FitsNullable slots false one.nullable (collection type) v)) (sym c.put_list.ensures)
+    (subst (λ ts. Reads depth ts c.take_items.new.reader (FitsNullable slots false one.nullable (collection type) (ListOf values))) (sym first)
     (array_reads depth c.take_begin_array.new.self c.take_items.new.reader (λ jsons. FitList slots one.nullable type jsons values.items)
     (FitsNullable slots false one.nullable (collection type) (ListOf values)) (omega arith)
-    (λ jsons fits. list_held slots one.nullable type values jsons fits) (c.take_items.ensures.read c.if-not-take_items.false))
+    (λ jsons fits. list_held slots one.nullable type values jsons fits) (c.take_items.ensures.read c.if-not-take_items.false)))
 
 pub take_array-returns-clause-holds : goal.take_array-returns-clause-holds
 take_array-returns-clause-holds t c done =
-    array_holds (slots_below c.args.scene.now c.args.one.now.node) (wanted_single c.args.scene.now.schema.now c.args.one.now.wanted) c.take_items.new.values (c.take_items.ensures.holds c.if-not-take_items.false)
+    let slots = slots_below c.args.scene.now c.args.one.now.node in
+    let type = wanted_single c.args.scene.now.schema.now c.args.one.now.wanted in
+    subst (λ v. HoldsEachSlot v slots (collection type)) (sym c.put_list.ensures) (array_holds slots type c.take_items.new.values (c.take_items.ensures.holds c.if-not-take_items.false))
 
 pub take_items-items-init : goal.take_items-items-init
 take_items-items-init t c =
@@ -252,7 +256,7 @@ take_members-returns-then-not-more t c done =
 pub take_record-returns-clause-holds : goal.take_record-returns-clause-holds
 take_record-returns-clause-holds t c done =
     let read = c.take_members.ensures c.if-not-take_members.false in
-    subst (λ vs. HoldsEachSlot (Record vs) (slots_below c.args.scene.now c.args.plan.now.node) (single (structured (type_name_at c.args.scene.now.schema.now c.args.plan.now.type_id)))) (sym c.values_of.ensures)
+    subst (λ v. HoldsEachSlot v (slots_below c.args.scene.now c.args.plan.now.node) (single (structured (type_name_at c.args.scene.now.schema.now c.args.plan.now.type_id)))) (sym c.put_record.ensures)
     (slots_held (slots_below c.args.scene.now c.args.plan.now.node) (type_name_at c.args.scene.now.schema.now c.args.plan.now.type_id) (λ name. get name (object read.found)) c.take_members.new.slots.values read.holds)
 
 pub take_record-returns-clause-read : goal.take_record-returns-clause-read
@@ -264,14 +268,31 @@ take_record-returns-clause-read t c done =
     let values = c.take_members.new.slots.values in
     let type : SingleType = structured (type_name_at schema id) in
     let first : c.args.reader.now ≡ Token.begin_object ∷ c.take_begin_object.new.self = c.take_begin_object.ensures.taken c.if-not-take_begin_object.false in
-    subst (λ vs. Reads depth c.args.reader.now c.take_members.new.reader (FitsHoweverNullable slots (single type) (Record vs))) (sym c.values_of.ensures)
+    subst (λ v. Reads depth c.args.reader.now c.take_members.new.reader (FitsHoweverNullable slots (single type) v)) (sym c.put_record.ensures)
     (subst (λ ts. Reads depth ts c.take_members.new.reader (FitsHoweverNullable slots (single type) (Record values))) (sym first)
     (object_reads depth c.take_begin_object.new.self c.take_members.new.reader (λ found. FitSlots slots (object found) (properties_at schema id) values.items)
     (FitsHoweverNullable slots (single type) (Record values)) (omega arith)
     (λ found fits. record_held schema c.args.scene.now.expansion.now c.args.plan.now.node id values found c.requires.plan.distinct fits) (c.take_members.ensures c.if-not-take_members.false)))
 
-pub take_property-returns-in_default-clause-read : goal.take_property-returns-in_default-clause-read
-take_property-returns-in_default-clause-read t c done =
+-- a single value of a primitive type
+pub take_property-returns-then-not-plan-clause-read : goal.take_property-returns-then-not-plan-clause-read
+take_property-returns-then-not-plan-clause-read t c done =
+    let schema = c.args.scene.now.schema.now in
+    let slots = slots_below c.args.scene.now c.args.plan.now.node in
+    let p = c.args.plan.now.property in
+    let depth = c.args.scene.now.depth in
+    single_read slots p.nullable (property_type schema p) (primitive c.in-Prim.prim) depth c.args.reader.now c.take_scalar.new.reader c.take_scalar.new.place
+    (primitive_seen schema slots p c.in-Prim.prim c.in-Prim.is c.if-not-plan.true) (c.take_scalar.ensures.read slots depth done)
+
+pub take_property-returns-then-not-plan-clause-holds : goal.take_property-returns-then-not-plan-clause-holds
+take_property-returns-then-not-plan-clause-holds t c done =
+    let schema = c.args.scene.now.schema.now in
+    let slots = slots_below c.args.scene.now c.args.plan.now.node in
+    let p = c.args.plan.now.property in
+    held_seen slots (property_type schema p) (single (primitive c.in-Prim.prim)) c.take_scalar.new.place (primitive_seen schema slots p c.in-Prim.prim c.in-Prim.is c.if-not-plan.true) (c.take_scalar.ensures.holds slots done)
+
+pub take_other_property-returns-in_default-clause-read : goal.take_other_property-returns-in_default-clause-read
+take_other_property-returns-in_default-clause-read t c done =
     let schema = c.args.scene.now.schema.now in
     let slots = slots_below c.args.scene.now c.args.plan.now.node in
     let p = c.args.plan.now.property in
@@ -281,12 +302,12 @@ take_property-returns-in_default-clause-read t c done =
     (λ json _. unwanted_fits schema slots p.nullable p.kind (target_of p) p.many (Some json) Null never refl)
     (c.skip_value.ensures done)
 
-pub take_property-returns-in_default-clause-holds : goal.take_property-returns-in_default-clause-holds
-take_property-returns-in_default-clause-holds t c _ =
+pub take_other_property-returns-in_default-clause-holds : goal.take_other_property-returns-in_default-clause-holds
+take_other_property-returns-in_default-clause-holds t c _ =
     null_in_slot (slots_below c.args.scene.now c.args.plan.now.node) (property_type c.args.scene.now.schema.now c.args.plan.now.property) Null refl
 
-pub take_property-returns-then-plan-clause-read : goal.take_property-returns-then-plan-clause-read
-take_property-returns-then-plan-clause-read t c done =
+pub take_other_property-returns-then-plan-clause-read : goal.take_other_property-returns-then-plan-clause-read
+take_other_property-returns-then-plan-clause-read t c done =
     let schema = c.args.scene.now.schema.now in
     let slots = slots_below c.args.scene.now c.args.plan.now.node in
     let p = c.args.plan.now.property in
@@ -296,8 +317,8 @@ take_property-returns-then-plan-clause-read t c done =
     property_read slots p.nullable (property_type schema p) (collection (wanted_single schema wanted)) false c.may_hold_null.result c.args.scene.now.depth c.args.reader.now c.take_array.new.reader c.take_array.new.place seen refl
     (c.may_hold_null.ensures ∙ items_as schema slots p.kind (target_of p) p.many p.nullable wanted is) (c.take_array.ensures.read done)
 
-pub take_property-returns-then-plan-clause-holds : goal.take_property-returns-then-plan-clause-holds
-take_property-returns-then-plan-clause-holds t c done =
+pub take_other_property-returns-then-plan-clause-holds : goal.take_other_property-returns-then-plan-clause-holds
+take_other_property-returns-then-plan-clause-holds t c done =
     let schema = c.args.scene.now.schema.now in
     let slots = slots_below c.args.scene.now c.args.plan.now.node in
     let p = c.args.plan.now.property in
@@ -306,8 +327,8 @@ take_property-returns-then-plan-clause-holds t c done =
     let seen = subst (IsLookedAt slots (property_type schema p)) (ap (type_wanted schema wanted) c.if-plan.true) (seen_as schema slots p.kind (target_of p) p.many wanted is) in
     held_seen slots (property_type schema p) (collection (wanted_single schema wanted)) c.take_array.new.place seen (c.take_array.ensures.holds done)
 
-pub take_property-returns-clause-read : goal.take_property-returns-clause-read
-take_property-returns-clause-read t c done =
+pub take_other_property-returns-clause-read : goal.take_other_property-returns-clause-read
+take_other_property-returns-clause-read t c done =
     let schema = c.args.scene.now.schema.now in
     let slots = slots_below c.args.scene.now c.args.plan.now.node in
     let p = c.args.plan.now.property in
@@ -316,8 +337,8 @@ take_property-returns-clause-read t c done =
     let seen = subst (IsLookedAt slots (property_type schema p)) (ap (type_wanted schema wanted) c.if-plan.false) (seen_as schema slots p.kind (target_of p) p.many wanted is) in
     single_read slots p.nullable (property_type schema p) (wanted_single schema wanted) c.args.scene.now.depth c.args.reader.now c.take_single.new.reader c.take_single.new.place seen (c.take_single.ensures.read done)
 
-pub take_property-returns-clause-holds : goal.take_property-returns-clause-holds
-take_property-returns-clause-holds t c done =
+pub take_other_property-returns-clause-holds : goal.take_other_property-returns-clause-holds
+take_other_property-returns-clause-holds t c done =
     let schema = c.args.scene.now.schema.now in
     let slots = slots_below c.args.scene.now c.args.plan.now.node in
     let p = c.args.plan.now.property in
@@ -363,34 +384,19 @@ take_single-returns-in-Some-clause-holds t c done =
     (ap (wanted_single schema) c.in-Complex.is ∙ ap (λ id. structured (type_name_at schema id)) (sym c.in-Some.ensures.of_type))
     (subst (λ node. HoldsEachSlot v (slots_below c.args.scene.now node) (single (structured (type_name_at schema c.in-Some.plan.now.type_id)))) c.in-Some.ensures.of_node (c.take_record.ensures.holds done))
 
-pub take_single-returns-in-Read-clause-read : goal.take_single-returns-in-Read-clause-read
-take_single-returns-in-Read-clause-read t c _ =
-    let schema = c.args.scene.now.schema.now in
+pub take_single-returns-in-Prim-clause-read : goal.take_single-returns-in-Prim-clause-read
+take_single-returns-in-Prim-clause-read t c done =
     let one = c.args.one.now in
-    let v = c.take_primitive.new.place in
-    let wanted = c.in-Prim.prim in
-    wanted_read schema (slots_below c.args.scene.now c.args.one.now.node) one.wanted (Prim wanted) one.nullable c.args.scene.now.depth c.args.reader.now c.args.reader.now c.take_primitive.new.reader v c.in-Prim.is refl
-    (leaf_read c.args.scene.now.depth c.args.reader.now c.take_primitive.new.reader (FitsHoweverNullable (slots_below c.args.scene.now c.args.one.now.node) (single (primitive wanted)) v)
-    (c.take_primitive.ensures.read (slots_below c.args.scene.now c.args.one.now.node) c.in-Read.is))
+    let slots = slots_below c.args.scene.now one.node in
+    let depth = c.args.scene.now.depth in
+    subst (λ (w : Wanted). Reads depth c.args.reader.now c.take_scalar.new.reader (FitsNullable slots one.nullable one.nullable (single (wanted_single c.args.scene.now.schema.now w)) c.take_scalar.new.place))
+    (sym c.in-Prim.is) (c.take_scalar.ensures.read slots depth done)
 
-pub take_single-returns-in-Read-clause-holds : goal.take_single-returns-in-Read-clause-holds
-take_single-returns-in-Read-clause-holds t c _ =
+pub take_single-returns-in-Prim-clause-holds : goal.take_single-returns-in-Prim-clause-holds
+take_single-returns-in-Prim-clause-holds t c done =
     let schema = c.args.scene.now.schema.now in
-    let v = c.take_primitive.new.place in
-    holds_as (slots_below c.args.scene.now c.args.one.now.node) (wanted_single schema c.args.one.now.wanted) (primitive c.in-Prim.prim) v (ap (wanted_single schema) c.in-Prim.is)
-    (primitive_leaf_holds (slots_below c.args.scene.now c.args.one.now.node) c.in-Prim.prim c.args.reader.now c.take_primitive.new.reader v (c.take_primitive.ensures.read (slots_below c.args.scene.now c.args.one.now.node) c.in-Read.is))
-
-pub take_single-returns-in-Other-clause-read : goal.take_single-returns-in-Other-clause-read
-take_single-returns-in-Other-clause-read t c done =
-    let schema = c.args.scene.now.schema.now in
-    let one = c.args.one.now in
-    let is = c.take_null_instead.ensures.may_be done in
-    null_taken (slots_below c.args.scene.now c.args.one.now.node) one.nullable (wanted_single schema one.wanted) c.args.scene.now.depth c.args.reader.now c.take_null_instead.new.reader c.take_null_instead.new.place
-    (sym (c.take_primitive.ensures.kept c.in-Other.is) ∙ c.take_null_instead.ensures.taken done) is.0 is.1
-
-pub take_single-returns-in-Other-clause-holds : goal.take_single-returns-in-Other-clause-holds
-take_single-returns-in-Other-clause-holds t c done =
-    null_holds (slots_below c.args.scene.now c.args.one.now.node) (single (wanted_single c.args.scene.now.schema.now c.args.one.now.wanted)) c.take_null_instead.new.place (c.take_null_instead.ensures.may_be done).1
+    let slots = slots_below c.args.scene.now c.args.one.now.node in
+    holds_as slots (wanted_single schema c.args.one.now.wanted) (primitive c.in-Prim.prim) c.take_scalar.new.place (ap (wanted_single schema) c.in-Prim.is) (c.take_scalar.ensures.holds slots done)
 
 pub take_single-returns-in-Enum-clause-read : goal.take_single-returns-in-Enum-clause-read
 take_single-returns-in-Enum-clause-read t c done =

@@ -7,13 +7,16 @@ use Rattle.edm_entities.proofs.row_walk.+row.Given as goal
 
 -- how deep values may nest counts first, and at one depth the order of the calls
 abbrev pub decreases-take_members : goal.decreases-take_members
-decreases-take_members l = 8 * l.scene.now.depth + 4
+decreases-take_members l = 8 * l.scene.now.depth + 5
 
 abbrev pub decreases-take_member : goal.decreases-take_member
-decreases-take_member l = 8 * l.scene.now.depth + 3
+decreases-take_member l = 8 * l.scene.now.depth + 4
 
 abbrev pub decreases-take_property : goal.decreases-take_property
-decreases-take_property l = 8 * l.scene.now.depth + 2
+decreases-take_property l = 8 * l.scene.now.depth + 3
+
+abbrev pub decreases-take_other_property : goal.decreases-take_other_property
+decreases-take_other_property l = 8 * l.scene.now.depth + 2
 
 abbrev pub decreases-take_single : goal.decreases-take_single
 decreases-take_single l = 8 * l.scene.now.depth + 1

@@ -6,12 +6,12 @@ use Rattle.json_tokens.proofs.lexeme.value_end.Goals as goal
 pub returns-then-from-bytes : goal.returns-then-from-bytes
 returns-then-from-bytes c = ends_at_end c.args.bytes.now c.args.from c.args.from (stay c.args.bytes.now c.args.from c.requires) c.if-from-bytes.true
 
-pub returns-in-44 : goal.returns-in-44
-returns-in-44 c =
+pub returns-then-bytes-from-eq44 : goal.returns-then-bytes-from-eq44
+returns-then-bytes-from-eq44 c =
     let d = c.args.bytes.now in
     let i = c.args.from in
-    let within : i < length d = omega (arith, c.requires) in
-    ends_at_comma d i i (stay d i c.requires) within (sym (get_or_default d i 0 32 within) ∙ c.in-44.is)
+    let within : i < length d = omega arith in
+    ends_at_comma d i i (stay d i c.requires) within (sym (get_or_default d i 0 32 within) ∙ c.if-bytes-from-eq44.true)
 
 pub returns-in-125 : goal.returns-in-125
 returns-in-125 c =

@@ -3,7 +3,7 @@ use Rattle.json_tokens.proofs.AsciiLemmas.{all_ascii, ascii_joined}
 use Rattle.json_tokens.proofs.line_text.is_ascii.Goals as goal
 
 pub loop-place-init : goal.loop-place-init
-loop-place-init c = (omega arith, λ k from to. absurd (omega (arith, to)))
+loop-place-init c = (c.ascii_by_64-place.ensures.within, c.ascii_by_64-place.ensures.ascii)
 
 pub loop-place-preserved : goal.loop-place-preserved
 loop-place-preserved c =

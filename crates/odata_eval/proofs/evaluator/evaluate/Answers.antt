@@ -3,8 +3,8 @@ use Rattle.odata_eval.specs.declared.fault.EvalFault.{EvalFault}
 use Rattle.odata_eval.proofs.walking.TopNode.{top_memory, top_outcome, top_stands}
 use Rattle.odata_eval.proofs.evaluator.evaluate.Goals as goal
 
-pub truth_at-requires : goal.truth_at-requires
-truth_at-requires c = record {
+pub root_truth-requires : goal.root_truth-requires
+root_truth-requires c = record {
   stands = top_stands c.args.checked.now c.args.entity.now c.args.now.now c.of-scene.result c.nodes-nodes.ensures.right c.requires.one_schema c.requires.one_type
       c.of-scene.ensures.row c.of-scene.ensures.moment c.of-scene.ensures.list c.of-scene.ensures.variables;
 }

@@ -1,27 +1,6 @@
-use Rattle.std.proofs.Common.{List, sym, ap, ◌∙◌, subst}
-use Rattle.csdl_schema.specs.ExpansionView.{StepModel, paths_in}
-use Rattle.csdl_schema.specs.PathSet.{Covers}
-use Rattle.edm_entities.specs.Plans.{IsPlanOf}
-use Rattle.odata_filter.proofs.RowLemmas.RowJudges.{planned_paths, row_told}
+use Rattle.std.proofs.Common.{sym, subst}
+use Rattle.odata_filter.specs.RowAnswer.{TellsRow}
 use Rattle.odata_filter.proofs.row_judge.RowJudge.judge_bytes.Goals as goal
 
-pub read-requires : goal.read-requires
-read-requires c = subst (λ schema. IsPlanOf schema c.args.plan.now) (sym c.schema.ensures) c.requires.schema
-
-pub judge_entity-answer-requires : goal.judge_entity-answer-requires
-judge_entity-answer-requires c =
-    let planned = c.args.plan.now.expansion in
-    let needed = c.args.self.now.checked.now.expansion in
-    let covers : Covers (paths_in planned) (paths_in needed) =
-    subst (λ (e : List StepModel). Covers (paths_in planned) (paths_in e)) c.expansion.ensures.same (c.covers.ensures.0 c.if-not-covers.false) in
-    record {
-      schema = c.in-Some.ensures.of_type.0 ∙ c.schema.ensures;
-      type_id = c.in-Some.ensures.of_type.1 ∙ c.requires.type_id;
-      expansion = λ path. ap (λ (steps : List StepModel). paths_in steps path) c.in-Some.ensures.expansion ∙ planned_paths planned needed c.requires.expansion covers path;
-    }
-
 pub returns-in-Some : goal.returns-in-Some
-returns-in-Some c =
-    let line = c.in-Some.ensures.row in
-    row_told c.args.self.now.checked.now c.args.self.now.moment.now c.args.row.now line.json c.judge_entity-answer.result line.is_json
-    (c.judge_entity-answer.ensures.told line.json line.fits)
+returns-in-Some c = subst (TellsRow c.args.self.now.checked.now c.args.self.now.moment.now c.args.row.now) (sym c.told.ensures) c.in-Some.ensures

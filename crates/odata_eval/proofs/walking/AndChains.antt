@@ -1,0 +1,132 @@
+-- A chain of `and` from the top of a filter's list down: what stands in it, and what is answered at its top.
+use Rattle.std.proofs.Common.{◌≡◌, ℕ, zero, suc, ◌<◌, ◌≤◌, ◌+◌, ◌-◌, Bool, true, false, Option, Some, None, Ok, Err, refl, subst, inl, inr, arith}
+use Rattle.std.specs.Prelude.{◌↔◌, IfSome, IsTrue}
+use Rattle.std.proofs.lemmas.Bool.{cases_lt}
+use Rattle.edm_values.specs.PlainVal.{plain_val}
+use Rattle.edm_values.specs.declared.value.Value.{Value}
+use Rattle.odata_syntax.specs.declared.node.BinaryOperator.{BinaryOperator}
+use Rattle.odata_signatures.specs.ExprTypes.{IsBooleanOrNull}
+use Rattle.odata_signatures.specs.OperatorClass.{class_of}
+use Rattle.odata_signatures.specs.declared.operator_class.Connective.{Connective}
+use Rattle.odata_signatures.specs.declared.operator_class.OperatorClass.{OperatorClass}
+use Rattle.odata_checked_filter.specs.FlatTree.{FlatTree}
+use Rattle.odata_eval.specs.TruthGives.{joined, truth_val}
+use Rattle.odata_eval.specs.declared.fault.EvalFault.{EvalFault}
+use Rattle.odata_eval.specs.declared.part.WalkClass.{WalkClass}
+use Rattle.odata_eval.specs.private.Place.{HasOperator, IsClassAt, IsRightOf, PartStands, TruthStands}
+use Rattle.odata_eval.specs.private.SceneModel.{SceneModel}
+use Rattle.odata_eval.specs.private.WalkAnswer.{AnswersKept, AnswersTruth}
+use Rattle.odata_eval.specs.private.WalkClass.{IsDecided, walk_of_operator}
+use Rattle.odata_eval.proofs.walking.KeptValues.{kept_value}
+use Rattle.odata_eval.proofs.walking.Spines.{first_faults, first_part, first_step, part_down, right_there, right_typed, typed_part, walks_by}
+use Rattle.odata_eval.proofs.walking.WalkSteps.{decided_answers, joined_answers, joined_faults}
+
+-- before so many places there are only `and`s
+abbrev pub AndsBefore : FlatTree → ℕ → Type 0
+AndsBefore list count = (k : ℕ) → k < count → HasOperator list k BinaryOperator.And
+
+pub ands_further : (list : FlatTree) (count : ℕ) → AndsBefore list count → HasOperator list count BinaryOperator.And → AndsBefore list (count + 1)
+ands_further list count ands here k within =
+    elim (cases_lt k count) [
+      | inl before ↦ ands k before
+      | inr after ↦ (let same : count ≡ k = omega arith in subst (λ (n : ℕ). HasOperator list n BinaryOperator.And) same here)
+    ]
+
+-- what goes on from each place to the one before it goes up to the top
+up : (P : ℕ → Type 0) (d : ℕ) → ((i : ℕ) → i < d → P (i + 1) → P i) → P d → P 0
+up P zero step last = last
+up P (suc d) step last =
+    let e : suc d ≡ d + 1 = omega arith in
+    up P d (λ i before. step i (omega arith)) (step d (omega arith) (subst P e last))
+
+-- what is told not to hold does not
+pub told_not : (answer : Bool) (Fact : Type 0) → (IsTrue answer ↔ Fact) → answer ≡ false → ¬ Fact
+told_not answer Fact told so = λ fact. let e : answer ≡ true = told.1 fact in absurd (cc)
+
+-- a true term leaves what the others come to, a false one makes them false
+true_term : (left : Option Bool) → joined Connective.And left (Some true) ≡ left
+true_term (Some true) = refl
+true_term (Some false) = refl
+true_term None = refl
+
+false_term : (left : Option Bool) → joined Connective.And left (Some false) ≡ Some false
+false_term (Some true) = refl
+false_term (Some false) = refl
+false_term None = refl
+
+module _ (scene : SceneModel) where
+  and_walks : (place : ℕ) → HasOperator scene.list place BinaryOperator.And → IsClassAt scene.list WalkClass.Logical place
+  and_walks place here = walks_by scene.list place BinaryOperator.And WalkClass.Logical here refl
+
+  -- the next place down
+  pub next_stands : (place : ℕ) → HasOperator scene.list place BinaryOperator.And → TruthStands scene place → TruthStands scene (place + 1)
+  next_stands place here stands = first_step scene place WalkClass.Logical (λ leaf. cc) (and_walks place here) (typed_part scene place IsBooleanOrNull stands)
+
+  module _ (count : ℕ) (ands : AndsBefore scene.list count) where
+    -- what decides in a place of the chain, or has a fault, is what the whole comes to
+    pub decided_up : (left : Option Bool) → IsDecided Connective.And (truth_val left) → (place : ℕ) → place ≤ count → AnswersTruth scene place (Ok left) → AnswersTruth scene 0 (Ok left)
+    decided_up left decided place within =
+        up (λ k. AnswersTruth scene k (Ok left)) place
+        (λ i before first. decided_answers scene i BinaryOperator.And (ands i (omega arith)) Connective.And left refl decided first)
+
+    pub fault_up : (place : ℕ) → place ≤ count → (fault : EvalFault) → AnswersTruth scene place (Err fault) → AnswersTruth scene 0 (Err fault)
+    fault_up place within fault =
+        up (λ k. AnswersTruth scene k (Err fault)) place
+        (λ i before first. first_faults scene i WalkClass.Logical fault (λ leaf. cc) (and_walks i (ands i (omega arith))) first)
+
+    -- a step up, to the `and` of which the terms so far are the left side
+    module _ (top : TruthStands scene 0) (at : ℕ) (above : 0 < at) (within : at ≤ count) where
+      and_there : HasOperator scene.list (at - 1) BinaryOperator.And
+      and_there = ands (at - 1) (omega arith)
+
+      part_there : PartStands scene (at - 1)
+      part_there =
+          part_down scene WalkClass.Logical (λ leaf. cc) 0 (at - 1) (omega arith) (typed_part scene 0 IsBooleanOrNull top)
+          (λ i before from. and_walks i (ands i (omega arith)))
+
+      -- the next term stands on its right
+      pub term_there : (right : ℕ) × IsRightOf scene.list (at - 1) right
+      term_there = right_there scene (at - 1) BinaryOperator.And and_there part_there
+
+      module _ (right : ℕ) (is_right : IsRightOf scene.list (at - 1) right) where
+        pub term_stands : TruthStands scene right
+        term_stands = right_typed scene (at - 1) BinaryOperator.And and_there part_there right is_right WalkClass.Logical refl
+
+        module _ (left : Option Bool) (undecided : ¬ (IsDecided Connective.And (truth_val left))) (first : AnswersTruth scene at (Ok left)) where
+          left_there : AnswersTruth scene (at - 1 + 1) (Ok left)
+          left_there = let e : at ≡ at - 1 + 1 = omega arith in subst (λ (k : ℕ). AnswersTruth scene k (Ok left)) e first
+
+          -- what comes of the terms so far and of the next one
+          pub next_answers : (term : Option Bool) → AnswersTruth scene right (Ok term) → AnswersTruth scene (at - 1) (Ok (joined Connective.And left term))
+          next_answers term second =
+              joined_answers scene (at - 1) BinaryOperator.And and_there right is_right Connective.And left refl undecided left_there term second
+
+          pub true_answers : AnswersTruth scene right (Ok (Some true)) → AnswersTruth scene (at - 1) (Ok left)
+          true_answers second = subst (λ (r : Option Bool). AnswersTruth scene (at - 1) (Ok r)) (true_term left) (next_answers (Some true) second)
+
+          pub false_answers : AnswersTruth scene right (Ok (Some false)) → AnswersTruth scene 0 (Ok (Some false))
+          false_answers second =
+              decided_up (Some false) tt (at - 1) (omega arith) (subst (λ (r : Option Bool). AnswersTruth scene (at - 1) (Ok r)) (false_term left) (next_answers (Some false) second))
+
+          pub fault_answers : (fault : EvalFault) → AnswersTruth scene right (Err fault) → AnswersTruth scene 0 (Err fault)
+          fault_answers fault second =
+              fault_up (at - 1) (omega arith) fault
+              (joined_faults scene (at - 1) BinaryOperator.And and_there right is_right Connective.And left refl undecided left_there fault second)
+
+-- no operator is taken as a leaf
+operator_inner : (class : OperatorClass) → ¬ (walk_of_operator class ≡ WalkClass.Leaf)
+operator_inner (OperatorClass.Connective connective) leaf = cc
+operator_inner (OperatorClass.Comparison comparison) leaf = cc
+operator_inner (OperatorClass.Arithmetic arithmetic) leaf = cc
+
+-- its left side stands behind it
+pub left_side : (scene : SceneModel) (place : ℕ) (operator : BinaryOperator) → HasOperator scene.list place operator → PartStands scene place → PartStands scene (place + 1)
+left_side scene place operator here part =
+    first_part scene place (walk_of_operator (class_of operator)) (operator_inner (class_of operator))
+    (walks_by scene.list place operator (walk_of_operator (class_of operator)) here refl) part
+
+-- a truth value that is kept is answered where it is no null
+pub kept_answers : (scene : SceneModel) (place : ℕ) (value : Value) → AnswersKept scene place value → (truth : Option Bool) → plain_val value ≡ Some (truth_val truth)
+    → IfSome truth (λ t. AnswersTruth scene place (Ok (Some t)))
+kept_answers scene place value kept None is = tt
+kept_answers scene place value kept (Some t) is = kept_value scene place value kept (truth_val (Some t)) is
