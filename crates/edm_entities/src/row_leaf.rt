@@ -38,7 +38,7 @@ fn leaf_put(put: bool) -> Leaf
     if put { Leaf::Read } else { Leaf::Refused }
 }
 
-/// Puts a value of a primitive type into its place.
+/// Puts a value of a primitive type into its place. What most are, a text, is looked for first.
 #[inline(always)]
 pub(crate) fn take_primitive(
     cache: &mut RowCache,

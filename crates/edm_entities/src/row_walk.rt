@@ -129,7 +129,7 @@ fn take_member(
 }
 
 /// Puts the value of a property into its place. What most are, a single value of a primitive type, is looked for first:
-/// that saves ten instructions a value.
+/// that saves eight instructions a value.
 #[inline(always)]
 #[cycle(row)]
 fn take_property(
