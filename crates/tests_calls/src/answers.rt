@@ -1,8 +1,6 @@
 //! What `filter_lines` answers over rows of items, by their first filter.
-ghost use Rattle.csdl_schema.specs.SchemaModel.{HoldsType};
-
 use crate::items::{FIRST, SCHEMA};
-use csdl_schema::{Schema, TypeId};
+use csdl_schema::Schema;
 use edm_values::Moment;
 use jiff::civil;
 use odata_filter::{RunFault, Tally, filter_lines};
@@ -17,22 +15,7 @@ pub(crate) fn first_moment() -> Result<Moment, Fail> {
     Ok(moment)
 }
 
-/// What the first filter answers over rows of a type.
-fn answer_over<R: Read + Drop, W: Write>(
-    alloc: Global,
-    schema: &Schema,
-    id: TypeId,
-    rows: R,
-    out: &mut W,
-) -> Result<Result<Tally, RunFault>, Fail>
-    requires { HoldsType schema.now id }
-{
-    let checked = check(alloc, schema, id, FIRST)?;
-    let now = first_moment()?;
-    Ok(filter_lines(alloc, &checked, &now, rows, out))
-}
-
-/// The same of items.
+/// What the first filter answers over rows of items.
 pub(crate) fn answer_to<R: Read + Drop, W: Write>(
     alloc: Global,
     rows: R,
@@ -40,7 +23,11 @@ pub(crate) fn answer_to<R: Read + Drop, W: Write>(
 ) -> Result<Result<Tally, RunFault>, Fail> {
     let schema = Schema::read(alloc, SCHEMA.as_bytes())?;
     match schema.type_named("Mini.Item") {
-        Some(id) if schema.holds(id) => answer_over(alloc, &schema, id, rows, out),
+        Some(id) if schema.holds(id) => {
+            let checked = check(alloc, &schema, id, FIRST)?;
+            let now = first_moment()?;
+            Ok(filter_lines(alloc, &checked, &now, rows, out))
+        }
         _ => Err(Fail::new("no type")),
     }
 }

@@ -26,6 +26,8 @@ mod line_readers;
 #[cfg(test)]
 mod moments;
 #[cfg(test)]
+mod more_expanded;
+#[cfg(test)]
 mod order;
 #[cfg(test)]
 mod places;

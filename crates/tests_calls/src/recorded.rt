@@ -1,10 +1,8 @@
 //! Devices that keep what became of their calls, through the engine.
-ghost use Rattle.csdl_schema.specs.SchemaModel.{HoldsType};
-
 use crate::answers::{first_moment, is_told};
 use crate::devices::{Giving, NEVER, Taking, stumbling, taker};
 use crate::items::{A, FIRST, SCHEMA};
-use csdl_schema::{Schema, TypeId};
+use csdl_schema::Schema;
 use odata_filter::{ByRecord, Calls, LineReader, Recorded, RunFault, Tally, filter_lines_by};
 use odata_typing::check;
 use std::alloc::Global;
@@ -14,24 +12,7 @@ use std::test::Fail;
 /// A row, and then the end or a read that fails.
 type Rows<'b> = Recorded<Chain<&'b [u8], Giving<&'b [u8]>>>;
 
-/// What the first filter of a type answers.
-fn answer_over(
-    alloc: Global,
-    schema: &Schema,
-    id: TypeId,
-    lines: &mut LineReader<Rows<'_>>,
-    out: &mut Recorded<Taking>,
-) -> Result<Result<Tally, RunFault>, Fail>
-    requires { HoldsType schema.now id }
-{
-    let checked = check(alloc, schema, id, FIRST)?;
-    let now = first_moment()?;
-    Ok(filter_lines_by::<Rows<'_>, ByRecord, Recorded<Taking>, ByRecord>(
-        alloc, &checked, &now, lines, out,
-    ))
-}
-
-/// The same of items.
+/// What the first filter of items answers.
 fn answer_to(
     alloc: Global,
     lines: &mut LineReader<Rows<'_>>,
@@ -39,20 +20,15 @@ fn answer_to(
 ) -> Result<Result<Tally, RunFault>, Fail> {
     let schema = Schema::read(alloc, SCHEMA.as_bytes())?;
     match schema.type_named("Mini.Item") {
-        Some(id) if schema.holds(id) => answer_over(alloc, &schema, id, lines, out),
+        Some(id) if schema.holds(id) => {
+            let checked = check(alloc, &schema, id, FIRST)?;
+            let now = first_moment()?;
+            Ok(filter_lines_by::<Rows<'_>, ByRecord, Recorded<Taking>, ByRecord>(
+                alloc, &checked, &now, lines, out,
+            ))
+        }
         _ => Err(Fail::new("no type")),
     }
-}
-
-/// Fails if a run answers otherwise.
-fn answers(
-    alloc: Global,
-    lines: &mut LineReader<Rows<'_>>,
-    out: &mut Recorded<Taking>,
-    wanted: &str,
-) -> Result<(), Fail> {
-    let answer = answer_to(alloc, lines, out)?;
-    is_told(alloc, &answer, wanted)
 }
 
 /// Fails if a run answers otherwise, or its writer, whose flush may fail, keeps something else of its calls.
@@ -67,7 +43,7 @@ fn keeps_writes(
         device: taker(alloc, NEVER, 2, error),
         calls: Calls::Well,
     };
-    answers(alloc, lines, &mut out, wanted)?;
+    is_told(alloc, &answer_to(alloc, lines, &mut out)?, wanted)?;
     if out.calls == writes && out.device.taken.as_slice() == A.as_bytes() {
         Ok(())
     } else {
