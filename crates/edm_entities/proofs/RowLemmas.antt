@@ -1,6 +1,7 @@
 -- Lemmas on rows that are read without a tree.
 pub mod Leads
 pub mod Leaves
+pub mod Members
 pub mod Parts
 pub mod Plans
 pub mod Properties

@@ -1,11 +1,12 @@
 -- Definitions that private clauses alone cite.
 pub mod Expanded
 pub mod Faults
-pub mod KeptExpansions
+pub mod KeptRows
 pub mod Lent
 pub mod Members
 pub mod NextMember
 pub mod RowTokens
+pub mod Rows
 pub mod Scalars
 pub mod SlotsSoFar
 pub mod Walk

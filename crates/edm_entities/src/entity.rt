@@ -3,7 +3,7 @@ ghost use Rattle.serde_json.specs.View.{view};
 
 use super::fault::RowFault;
 use super::flaw::row_fault;
-use super::kept_expansion::KeptExpansion;
+use super::kept_row::KeptRow;
 use super::walk::{WalkScene, read_slots};
 use csdl_schema::{Expansion, Schema, TypeId};
 use edm_values::Value;
@@ -15,8 +15,7 @@ use std::marker::Model;
 pub struct Entity<'s> {
     schema: &'s Schema,
     type_id: TypeId,
-    expansion: KeptExpansion<'s>,
-    value: Value,
+    kept: KeptRow<'s>,
 }
 
 impl<'s> Model for Entity<'s> {
@@ -28,21 +27,11 @@ impl<'s> Model for Entity<'s> {
 
     ghost coded = { Prim.hlevel (codes, value_contract.the_row.coded) };
 
-    ghost use Rattle.edm_entities.specs.private.KeptExpansions.{expansion_in};
+    ghost use Rattle.edm_entities.specs.private.KeptRows.{row_kept};
 
-    ghost view = { λ e. record {
-      schema = e.schema.now;
-      type_id = e.type_id;
-      expansion = expansion_in e.expansion;
-      value = e.value;
-    } };
+    ghost view = { λ e. row_kept e.schema.now e.type_id e.kept };
 
-    ghost invariant = { λ e. IsEntity (record {
-      schema = e.schema.now;
-      type_id = e.type_id;
-      expansion = expansion_in e.expansion;
-      value = e.value;
-    }) };
+    ghost invariant = { λ e. IsEntity (row_kept e.schema.now e.type_id e.kept) };
 }
 
 impl<'s> Entity<'s> {
@@ -51,9 +40,9 @@ impl<'s> Entity<'s> {
     ghost use Rattle.csdl_schema.specs.SchemaModel.{HoldsType, slots_of, type_name_at};
     ghost use Rattle.edm_values.specs.Val.{Val};
     ghost use Rattle.edm_entities.specs.Fits.{Fits};
-    ghost use Rattle.edm_entities.specs.Row.{expanded_by, row_of, value_of, IsEntity};
+    ghost use Rattle.edm_entities.specs.Row.{expanded_by, value_of, IsEntity};
     ghost use Rattle.edm_entities.specs.RowFaults.{IsRowFault, IsMemory};
-    ghost use Rattle.edm_entities.specs.private.KeptExpansions.{expansion_in};
+    ghost use Rattle.edm_entities.specs.private.KeptRows.{row_kept};
 
     /// Reads a JSON object as an entity of that type. Members that the type does not declare say nothing, nor do those
     /// of opaque and navigation properties; the first fault in the order of the slots is answered, depth first.
@@ -104,8 +93,8 @@ impl<'s> Entity<'s> {
         match read_slots(&scene, type_id, Some(0), row) {
             Ok(values) => match expansion.copy(alloc) {
                 Ok(copy) => {
-                    let kept = KeptExpansion::Own(copy);
-                    Ok(Entity::from_values(schema, type_id, kept, values))
+                    let kept = KeptRow::Own(copy, Value::Record(values));
+                    Ok(Entity::of_row(schema, type_id, kept))
                 }
                 Err(_) => Err(RowFault::Memory),
             },
@@ -113,33 +102,16 @@ impl<'s> Entity<'s> {
         }
     }
 
-    /// The entity of that type with these values by slot, where that is expanded.
-    pub(crate) fn from_values(
-        schema: &'s Schema,
-        type_id: TypeId,
-        expansion: KeptExpansion<'s>,
-        values: Vec<Value>,
-    ) -> Entity<'s>
-        requires { IsEntity (row_of schema.now type_id (expansion_in expansion) values) }
-        ensures { result ≡ row_of schema.now type_id (expansion_in expansion.entry) values }
+    /// The entity of that type with this value, where that is expanded.
+    #[inline(always)]
+    pub(crate) fn of_row(schema: &'s Schema, type_id: TypeId, kept: KeptRow<'s>) -> Entity<'s>
+        requires { IsEntity (row_kept schema.now type_id kept) }
+        ensures { result ≡ row_kept schema.now type_id kept.entry }
     {
         Entity {
             schema,
             type_id,
-            expansion,
-            value: Value::Record(values),
-        }
-    }
-
-    /// Its values by slot, given back.
-    pub(crate) fn into_values(self) -> Vec<Value>
-        ensures values { self.entry ≡ row_of self.entry.schema self.entry.type_id self.entry.expansion result }
-        ensures entity { IsEntity self.entry }
-    {
-        let value = self.value;
-        match value {
-            Value::Record(values) => values,
-            _ => unreachable!(),
+            kept,
         }
     }
 
@@ -161,7 +133,7 @@ impl<'s> Entity<'s> {
     pub fn expansion(&self) -> &Expansion
         ensures { result.now ≡ self.now.expansion }
     {
-        self.expansion.expansion()
+        self.kept.expansion()
     }
 
     /// Its value: a record, with the properties' values by slot.
@@ -169,6 +141,6 @@ impl<'s> Entity<'s> {
         ensures value { result.now ≡ self.now.value }
         ensures entity { IsEntity self.now }
     {
-        &self.value
+        self.kept.value()
     }
 }

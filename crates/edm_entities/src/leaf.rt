@@ -53,20 +53,9 @@ fn read_number(wanted: Prim, number: JsonNumber) -> Result<Value, ReadFlaw>
         → IfErr result (λ f. OnFlaw f (IsPrimitiveFlaw wanted json)) }
     ensures no_memory { IfErr result (λ f. f ≢ ReadFlaw.Memory) }
 {
-    if wanted.is_number() {
-        read_whole(wanted, number)
-    } else {
-        Err(ReadFlaw::WrongKind)
+    if !wanted.is_number() {
+        return Err(ReadFlaw::WrongKind);
     }
-}
-
-fn read_whole(wanted: Prim, number: JsonNumber) -> Result<Value, ReadFlaw>
-    ensures fits { (json : Data) (slots : Slots) (type : ExprType) → IsJsonNumber number json
-        → IfOk result (λ v. FitsNumber wanted json (val_of v slots.properties type)) }
-    ensures flaw { (json : Data) → IsJsonNumber number json
-        → IfErr result (λ f. OnFlaw f (IsNumberFlaw wanted json)) }
-    ensures no_memory { IfErr result (λ f. f ≢ ReadFlaw.Memory) }
-{
     match number {
         JsonNumber::Whole(n) => if wanted.holds_number(n) {
             Ok(Value::Int(n))

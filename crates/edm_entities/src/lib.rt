@@ -4,7 +4,7 @@
 mod entity;
 mod fault;
 mod flaw;
-mod kept_expansion;
+mod kept_row;
 mod laws;
 mod leaf;
 mod lent_piece;

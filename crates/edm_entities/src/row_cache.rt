@@ -1,7 +1,7 @@
 //! What is kept from row to row: values to be filled again, and the order in which members came.
 ghost use Rattle.std.specs.Prelude.{◌≡◌, string_bytes, take, IfSome};
 
-use super::row_slots::RowSlots;
+use super::row_member::Member;
 use edm_values::Value;
 use json_tokens::{KeyOrder, Scratch};
 use std::alloc::Global;
@@ -45,16 +45,17 @@ impl SpareTexts {
     }
 }
 
-/// What a reader of rows keeps for the next one: the values of the last one, to be filled again; also the memory in which
-/// a text's escapes are told.
+/// What a reader of rows keeps for the next one: in which order keys came, spare texts and lists, to be filled again,
+/// and the memory in which a text's escapes are told; also which member was found by its name.
 #[derive(Drop)]
 pub(crate) struct RowCache {
     pub(crate) alloc: Global,
     pub(crate) order: KeyOrder,
+    /// The member that was looked up last.
+    pub(crate) found: Member,
     pub(crate) scratch: Scratch,
     pub(crate) texts: SpareTexts,
     lists: Vec<Vec<Value>>,
-    marks: Vec<Vec<bool>>,
 }
 
 impl RowCache {
@@ -62,60 +63,36 @@ impl RowCache {
         RowCache {
             alloc,
             order: KeyOrder::new(),
+            found: Member::End,
             scratch: Scratch::new(alloc),
             texts: SpareTexts {
                 alloc,
                 texts: Vec::new(alloc),
             },
             lists: Vec::new(alloc),
-            marks: Vec::new(alloc),
         }
     }
 
-    /// The slots of an object, with the values in them that stood in its place. They leave an empty record there.
+    /// Makes sure that a record stands in a place. What else stood there is let go.
     #[inline(always)]
-    pub(crate) fn slots_of(&mut self, place: &mut Value) -> RowSlots {
-        let filled = match self.marks.pop() {
-            Some(marks) => marks,
-            None => Vec::new(self.alloc),
-        };
-        if let Value::Record(old) = place {
-            let values = mem::replace(old, Vec::new(self.alloc));
-            return RowSlots { values, filled };
+    pub(crate) fn begin_record(&mut self, place: &mut Value) {
+        if let Value::Record(_) = place {
+            return;
         }
         self.retire(mem::replace(place, Value::Null));
-        RowSlots {
-            values: self.list(),
-            filled,
-        }
+        *place = Value::Record(self.list());
     }
 
-    /// Puts an object whose slots are filled into its place.
+    /// Makes sure that a list stands in a place, and that it has not much room. What else stood there is let go.
     #[inline(always)]
-    pub(crate) fn put_record(&mut self, slots: RowSlots, place: &mut Value)
-        ensures { place.new ≡ Value.Record slots.values }
-    {
-        let RowSlots { values, filled } = slots;
-        if self.marks.len() < LISTS {
-            drop(self.marks.push(filled));
-        }
-        match place {
-            Value::Record(old) => *old = values,
-            _ => *place = Value::Record(values),
-        }
-    }
-
-    /// The values of an array, with those in it that stood in its place. They leave an empty list there, so that nothing
-    /// is let go when they come back: that saves fifteen instructions an array. Those with much room are let go.
-    #[inline(always)]
-    pub(crate) fn items_of(&mut self, place: &mut Value) -> Vec<Value> {
+    pub(crate) fn begin_list(&mut self, place: &mut Value) {
         if let Value::List(old) = place {
             if old.capacity() <= LIST_ROOM {
-                return mem::replace(old, Vec::new(self.alloc));
+                return;
             }
         }
         self.retire(mem::replace(place, Value::Null));
-        self.list()
+        *place = Value::List(self.list());
     }
 
     fn list(&mut self) -> Vec<Value> {

@@ -1,4 +1,5 @@
-ghost use Rattle.std.specs.Prelude.{◌≡◌, Some, IsSome, IsTrue, IfSome};
+ghost use Rattle.std.specs.Prelude.{◌≡◌, Some, Vec, IsSome, IsTrue, IfSome};
+ghost use Rattle.std.specs.declared.alloc.Global.{Global as GlobalModel};
 ghost use Rattle.serde_json.specs.Data.{Data};
 ghost use Rattle.serde_json.specs.Find.{as_object};
 ghost use Rattle.serde_json.specs.Read.{read};
@@ -9,18 +10,16 @@ ghost use Rattle.edm_entities.specs.private.SlotsSoFar.{slots_below};
 ghost use Rattle.edm_entities.specs.private.Walk.{FitSlots};
 
 use super::entity::Entity;
-use super::kept_expansion::KeptExpansion;
+use super::kept_row::KeptRow;
 use super::row_cache::RowCache;
 use super::row_plan::RowPlan;
-use super::row_slots::RowSlots;
-use super::row_walk::{RowScene, take_members};
+use super::row_walk::{RowScene, record_in, take_members};
 use super::type_plan::plan_at;
 use csdl_schema::{Schema, TypeId};
 use edm_values::Value;
 use json_tokens::{TokenReader, text_of_line};
 use std::alloc::Global;
 use std::marker::Model;
-use std::mem;
 
 /// How deep objects and arrays may nest in a row.
 const DEPTH: usize = 127;
@@ -30,7 +29,8 @@ const DEPTH: usize = 127;
 #[derive(Drop)]
 pub struct RowReader {
     cache: RowCache,
-    row: RowSlots,
+    /// The value of the last row, which is filled again.
+    row: Value,
 }
 
 // What is kept says nothing of a line, so clauses see nothing of it.
@@ -45,10 +45,7 @@ impl RowReader {
     pub fn new(alloc: Global) -> RowReader {
         RowReader {
             cache: RowCache::new(alloc),
-            row: RowSlots {
-                values: Vec::new(alloc),
-                filled: Vec::new(alloc),
-            },
+            row: Value::Null,
         }
     }
 
@@ -58,9 +55,10 @@ impl RowReader {
     }
 
     /// Reads a line as an entity of the plan's type, in which that is expanded which the plan expands. Where it answers
-    /// none, the line may still be one: `Entity::expanded_from_json` says what is wrong with it, if anything is.
+    /// none, the line may still be one: `Entity::expanded_from_json` says what is wrong with it, if anything is. The
+    /// entity is lent: the next row is read into the same memory.
     pub fn read<'s>(
-        &mut self,
+        &'s mut self,
         schema: &'s Schema,
         plan: &'s RowPlan,
         line: &[u8],
@@ -82,32 +80,25 @@ impl RowReader {
         if !take_row(&mut self.cache, &scene, plan.type_id, text, &mut self.row) {
             return None;
         }
-        let kept = KeptExpansion::Lent(&plan.expansion);
-        let values = mem::replace(&mut self.row.values, Vec::new(self.cache.alloc));
-        Some(Entity::from_values(schema, plan.type_id, kept, values))
-    }
-
-    /// Takes back an entity whose row is done with: its texts and lists are filled again by the rows to come. It says
-    /// nothing of them, and any entity will do.
-    pub fn take_back(&mut self, entity: Entity<'_>) {
-        self.row.values = entity.into_values();
+        let kept = KeptRow::Lent(&plan.expansion, &self.row);
+        Some(Entity::of_row(schema, plan.type_id, kept))
     }
 }
 
-/// Puts the values of a whole text into their slots.
+/// Puts the value of a whole text into its place.
 fn take_row(
     cache: &mut RowCache,
     scene: &RowScene<'_>,
     type_id: TypeId,
     text: &str,
-    slots: &mut RowSlots,
+    place: &mut Value,
 ) -> bool
     requires plans { ArePlans scene.now.schema.now scene.now.expansion.now scene.now.plans.now }
     requires depth { scene.now.depth ≡ 126 }
     ensures distinct { IsTrue result → HasDistinctNames (properties_at scene.now.schema.now type_id) }
-    ensures fits { IsTrue result → (json : Data) × (read text.now ≡ Some json) × IsSome (as_object json)
-        × FitSlots (slots_below scene.now (Some 0)) json (properties_at scene.now.schema.now type_id)
-        slots.new.values.items }
+    ensures fits { IsTrue result → (values : Vec Value GlobalModel) × (place.new ≡ Value.Record values)
+        × ((json : Data) × (read text.now ≡ Some json) × IsSome (as_object json)
+        × FitSlots (slots_below scene.now (Some 0)) json (properties_at scene.now.schema.now type_id) values.items) }
 {
     let Some(plan) = plan_at(scene.plans, 0, type_id, Some(0)) else {
         return false;
@@ -116,8 +107,14 @@ fn take_row(
     if !reader.take_begin_object() {
         return false;
     }
-    if !take_members(cache, scene, plan, &mut reader, slots) {
-        return false;
+    cache.begin_record(place);
+    match record_in(place) {
+        Some(values) => {
+            if !take_members(cache, scene, plan, &mut reader, values) {
+                return false;
+            }
+            reader.is_at_end()
+        }
+        None => false,
     }
-    reader.is_at_end()
 }

@@ -2,23 +2,26 @@
 ghost use Rattle.std.specs.Prelude.{IsTrue};
 ghost use Rattle.edm_entities.specs.private.RowTokens.{Reads, ReadsItems, ReadsMembers};
 
-use super::row_token::scalar_of_token;
 use json::Token;
-use json_tokens::{Scratch, TokenReader};
+use json_tokens::{Scratch, TokenReader, number_of_text};
 
 /// Passes over a value.
 #[cycle(skip)]
 pub(crate) fn skip_value(scratch: &mut Scratch, reader: &mut TokenReader<'_>, depth: usize) -> bool
     ensures { IsTrue result → Reads depth reader.old reader.new (λ json. Unit {0}) }
 {
+    if reader.pass_number() {
+        return true;
+    }
     let Some(token) = reader.next(scratch) else {
         return false;
     };
     match token {
         Token::BeginObject => depth > 0 && skip_members(scratch, reader, depth - 1),
         Token::BeginArray => depth > 0 && skip_items(scratch, reader, depth - 1),
-        Token::Null => true,
-        _ => scalar_of_token(token).is_some(),
+        Token::Null | Token::Bool(_) | Token::String(_) => true,
+        Token::Number(text) => number_of_text(text).is_some(),
+        _ => false,
     }
 }
 

@@ -1,12 +1,10 @@
-//! Values without parts, from a row's tokens, whatever type is wanted.
+//! Numbers from a row's tokens, whatever type is wanted.
 ghost use Rattle.std.specs.Prelude.{IfSome};
-ghost use Rattle.json.specs.Reads.{token_of};
 ghost use Rattle.json.specs.Token.{number};
 ghost use Rattle.edm_entities.specs.private.RowTokens.{ReadsToken};
-ghost use Rattle.edm_entities.specs.private.Scalars.{IsJsonNumber, IsScalar};
+ghost use Rattle.edm_entities.specs.private.Scalars.{IsJsonNumber};
 
-use super::scalar::{JsonNumber, Scalar, json_number};
-use json::Token;
+use super::scalar::{JsonNumber, json_number};
 use json_tokens::{number_of_text, whole_of_digits};
 
 /// The number that a text writes; none where it is too large for a float. Most are digits alone.
@@ -26,21 +24,5 @@ fn other_number_written(text: &str) -> Option<JsonNumber>
     match number_of_text(text) {
         Some(number) => Some(json_number(&number)),
         None => None,
-    }
-}
-
-/// The truth value, number or text that a token is; none for a number too large for a float.
-#[inline(always)]
-pub(crate) fn scalar_of_token(token: Token<'_>) -> Option<Scalar<'_>>
-    ensures { IfSome result (λ scalar. ReadsToken (token_of token.entry) (IsScalar scalar)) }
-{
-    match token {
-        Token::String(text) => Some(Scalar::Text(text)),
-        Token::Number(text) => match number_written(text) {
-            Some(number) => Some(Scalar::Number(number)),
-            None => None,
-        },
-        Token::Bool(truth) => Some(Scalar::Truth(truth)),
-        _ => None,
     }
 }

@@ -1,32 +1,35 @@
 //! The walk over a row's tokens, straight into the slots of its type. It ends where the row fits no value, and where
-//! memory is wanting. What most rows are, an object of values without parts, is one piece of code (`inline(always)`);
-//! arrays and objects within it are called apart: that saves a call for each value.
-ghost use Rattle.std.specs.Prelude.{◌≡◌, ◌∷◌, ◌<◌, ◌≤◌, ℕ, length, take, true, false, Some, None, IsTrue};
-ghost use Rattle.json.specs.Json.{read_key};
+//! memory is wanting. What most rows are, an object of values without parts whose members come in the order of the last
+//! time, is one piece of code (`inline(always)`); arrays and objects within it, and a member that was not expected, are
+//! called apart: that saves a call for each value.
+ghost use Rattle.std.specs.Borrow.{LendsIf, sem};
+ghost use Rattle.std.specs.Prelude.{◌≡◌, ◌∷◌, ◌<◌, ◌≤◌, ℕ, length, take, true, false, Some, IfSome, IsTrue};
 ghost use Rattle.json.specs.Token.{null};
-ghost use Rattle.serde_json.specs.Data.{object, put, Members};
+ghost use Rattle.serde_json.specs.Data.{object};
 ghost use Rattle.csdl_schema.specs.ExprType.{single, collection, primitive, structured};
 ghost use Rattle.csdl_schema.specs.PropertyView.{property_type};
 ghost use Rattle.csdl_schema.specs.SchemaModel.{Slots, properties_at, type_name_at};
+ghost use Rattle.edm_values.specs.contracts.value.Value.{the_row};
+ghost use Rattle.edm_values.specs.declared.value.Value.{List, Record};
 ghost use Rattle.edm_entities.specs.Fits.{FitsProperty};
 ghost use Rattle.edm_entities.specs.HoldsEachSlot.{HoldsEachSlot};
 ghost use Rattle.edm_entities.specs.Row.{field_of, val_of};
-ghost use Rattle.edm_entities.specs.private.NextMember.{ReadsMember};
 ghost use Rattle.edm_entities.specs.Plans.{ArePlans, IsPlan, target_at};
 ghost use Rattle.edm_entities.specs.private.RowTokens.{Reads, ReadsItems, ReadsMembers, FitsNullable, FitsHoweverNullable};
-ghost use Rattle.edm_entities.specs.private.SlotsSoFar.{SlotsSoFar, slots_below};
+ghost use Rattle.edm_entities.specs.private.Rows.{list_row};
+ghost use Rattle.edm_entities.specs.private.SlotsSoFar.{TakesMember, slots_below};
 ghost use Rattle.edm_entities.specs.private.Walk.{FitList, FitSlots, HoldsInSlot, HoldInItems, wanted_single};
 
 use super::row_cache::RowCache;
-use super::row_leaf::{Leaf, take_enumeration, take_primitive};
-use super::row_member::{Member, next_member};
+use super::row_leaf::{Leaf, leaf_put, take_enumeration, take_primitive};
+use super::row_member::{Member, find_member};
 use super::row_skip::skip_value;
-use super::row_slots::{RowSlots, begin_slots, fill_slots};
+use super::row_slots::{begin_slots, fill_slots};
 use super::type_plan::{SlotPlan, TypePlan, plan_at};
 use super::wanted::{Wanted, may_hold_null, wanted_with};
 use csdl_schema::{Expansion, PropertyKind, Schema};
 use edm_values::{Prim, Value};
-use json_tokens::TokenReader;
+use json_tokens::{KeyMarks, TokenReader};
 use std::mem;
 
 /// What a walk goes by: the types, and how deep values may nest. It is lent, and made anew one level down.
@@ -55,30 +58,40 @@ pub(crate) fn take_members(
     scene: &RowScene<'_>,
     plan: &TypePlan,
     reader: &mut TokenReader<'_>,
-    slots: &mut RowSlots,
+    values: &mut Vec<Value>,
 ) -> bool
     requires plans { ArePlans scene.now.schema.now scene.now.expansion.now scene.now.plans.now }
     requires plan { IsPlan scene.now.schema.now scene.now.expansion.now plan.now }
     ensures { IsTrue result → ReadsMembers scene.now.depth reader.old reader.new (λ found. FitSlots
         (slots_below scene.now plan.now.node) (object found) (properties_at scene.now.schema.now plan.now.type_id)
-        slots.new.values.items) }
+        values.new.items) }
 {
-    if !begin_slots(cache, slots, plan.slots.len()) {
+    if !begin_slots(cache, values, plan.slots.len()) {
         return false;
     }
+    let mut filled = KeyMarks::new();
     cache.order.begin(plan.slots.len());
     'members: loop {
-        let Some(more) = take_member(cache, scene, plan, reader, slots) else {
+        let Some(member) = take_member(cache, scene, plan, reader, values) else {
             return false;
         };
-        if !more {
-            return fill_slots(cache, plan, slots);
+        match member {
+            Member::OfSlot(slot) => {
+                filled.pass(slot);
+                cache.order.pass(plan.slots.len(), slot);
+            }
+            Member::Other => {}
+            Member::End => {
+                return filled.are_first(plan.slots.len())
+                    || fill_slots(cache, plan, &mut filled, values);
+            }
         }
     }
 }
 
-/// Reads a member's value into the slot of its name, if there is one: true. At the closing brace false, and where the
-/// member is none none.
+/// Reads the next member of an object, and its value into the slot of its name, if there is one; none where it does not
+/// fit. The slot that came next the last time is tried first, by its name where that stands, so that most names are not
+/// read.
 #[inline(always)]
 #[cycle(row)]
 fn take_member(
@@ -86,45 +99,64 @@ fn take_member(
     scene: &RowScene<'_>,
     plan: &TypePlan,
     reader: &mut TokenReader<'_>,
-    slots: &mut RowSlots,
-) -> Option<bool>
+    values: &mut Vec<Value>,
+) -> Option<Member>
     requires plans { ArePlans scene.now.schema.now scene.now.expansion.now scene.now.plans.now }
     requires plan { IsPlan scene.now.schema.now scene.now.expansion.now plan.now }
-    requires values { length slots.old.values.items ≡ length plan.now.slots.items }
-    requires filled { length slots.old.filled.items ≡ length plan.now.slots.items }
-    ensures member { result ≡ Some true → ReadsMember scene.now.depth reader.old reader.new (λ name json.
-        (found : Members)
-        → SlotsSoFar (slots_below scene.now plan.now.node) (properties_at scene.now.schema.now plan.now.type_id) found
-        slots.old.filled.items slots.old.values.items
-        → SlotsSoFar (slots_below scene.now plan.now.node) (properties_at scene.now.schema.now plan.now.type_id)
-        (put name json found) slots.new.filled.items slots.new.values.items) }
-    ensures end { result ≡ Some false
-        → (read_key reader.old ≡ Some (None, reader.new)) × (slots.new ≡ slots.old) }
+    requires values { length values.old.items ≡ length plan.now.slots.items }
+    ensures { IfSome result (TakesMember scene.now.depth (slots_below scene.now plan.now.node)
+        (properties_at scene.now.schema.now plan.now.type_id) reader.old reader.new values.old.items values.new.items) }
 {
-    let Some(member) = next_member(cache, scene, plan, reader) else {
-        return None;
-    };
-    match member {
-        Member::OfSlot(slot) => {
-            if !take_property(
-                cache,
-                scene,
-                &plan.slots[slot],
-                reader,
-                &mut slots.values[slot],
-            ) {
+    let likely = cache.order.likely();
+    if likely < plan.slots.len() {
+        let slot_plan = &plan.slots[likely];
+        if reader.take_key(&slot_plan.key) {
+            if !take_property(cache, scene, slot_plan, reader, &mut values[likely]) {
                 return None;
             }
-            slots.filled[slot] = true;
-            cache.order.pass(plan.slots.len(), slot);
-            Some(true)
+            return Some(Member::OfSlot(likely));
         }
-        Member::Other => if skip_value(&mut cache.scratch, reader, scene.depth) {
-            Some(true)
-        } else {
-            None
-        },
-        Member::End => Some(false),
+    } else if reader.take_end_object() {
+        return Some(Member::End);
+    }
+    if take_named_member(cache, scene, plan, reader, values) {
+        Some(cache.found)
+    } else {
+        None
+    }
+}
+
+/// The same of any member, whose name is read and looked up; `found` of the cache tells which it was.
+#[inline(never)]
+#[cycle(row)]
+fn take_named_member(
+    cache: &mut RowCache,
+    scene: &RowScene<'_>,
+    plan: &TypePlan,
+    reader: &mut TokenReader<'_>,
+    values: &mut Vec<Value>,
+) -> bool
+    requires plans { ArePlans scene.now.schema.now scene.now.expansion.now scene.now.plans.now }
+    requires plan { IsPlan scene.now.schema.now scene.now.expansion.now plan.now }
+    requires values { length values.old.items ≡ length plan.now.slots.items }
+    ensures { IsTrue result → TakesMember scene.now.depth (slots_below scene.now plan.now.node)
+        (properties_at scene.now.schema.now plan.now.type_id) reader.old reader.new values.old.items values.new.items
+        cache.new.found }
+{
+    if !find_member(cache, scene.schema, plan.type_id, reader) {
+        return false;
+    }
+    match cache.found {
+        Member::OfSlot(slot) => {
+            if !take_property(cache, scene, &plan.slots[slot], reader, &mut values[slot]) {
+                return false;
+            }
+            // Within its value others may have been found.
+            cache.found = Member::OfSlot(slot);
+            true
+        }
+        Member::Other => skip_value(&mut cache.scratch, reader, scene.depth),
+        Member::End => true,
     }
 }
 
@@ -157,8 +189,9 @@ fn take_property(
     take_other_property(cache, scene, plan, reader, place)
 }
 
-/// The same of any property. One that is not looked at is held as null.
-#[inline(always)]
+/// The same of any property, called apart, so that `take_property` is small enough to stand at both its callers. One
+/// that is not looked at is held as null.
+#[inline(never)]
 #[cycle(row)]
 fn take_other_property(
     cache: &mut RowCache,
@@ -200,7 +233,8 @@ fn take_other_property(
     take_single(cache, scene, &one, reader, place)
 }
 
-/// Puts a single value, or an item, into its place; null, if it may be.
+/// Puts a single value, or an item, into its place; null, if it may be, which is looked for last: that saves twenty
+/// instructions or more an object.
 #[inline(always)]
 #[cycle(row)]
 fn take_single(
@@ -217,19 +251,27 @@ fn take_single(
     ensures holds { IsTrue result → HoldsEachSlot place.new (slots_below scene.now one.now.node)
         (single (wanted_single scene.now.schema.now one.now.wanted)) }
 {
-    if let Wanted::Prim(prim) = one.wanted {
-        return take_scalar(cache, prim, one.nullable, reader, place);
-    }
-    if reader.take_null() {
-        return put_null(cache, one.nullable, place);
-    }
     match one.wanted {
+        Wanted::Prim(prim) => take_scalar(cache, prim, one.nullable, reader, place),
         Wanted::Complex(id) => match plan_at(scene.plans, one.record, id, one.node) {
-            Some(plan) => take_record(cache, scene, plan, reader, place),
+            Some(plan) => match take_record(cache, scene, plan, reader, place) {
+                Leaf::Read => true,
+                Leaf::Other => take_null_instead(cache, one.nullable, reader, place),
+                Leaf::Refused => false,
+            },
             None => false,
         },
-        Wanted::Enum(id) => take_enumeration(&mut cache.scratch, scene.schema, id, reader, place),
-        Wanted::Prim(_) => false,
+        Wanted::Enum(id) => match take_enumeration(
+            &mut cache.scratch,
+            scene.schema,
+            id,
+            reader,
+            place,
+        ) {
+            Leaf::Read => true,
+            Leaf::Other => take_null_instead(cache, one.nullable, reader, place),
+            Leaf::Refused => false,
+        },
     }
 }
 
@@ -264,13 +306,9 @@ fn take_null_instead(
     ensures taken { IsTrue result → reader.old ≡ null ∷ reader.new }
     ensures may_be { IsTrue result → (nullable ≡ true) × (place.new ≡ Value.Null) }
 {
-    reader.take_null() && put_null(cache, nullable, place)
-}
-
-/// A null that may be.
-fn put_null(cache: &mut RowCache, nullable: bool, place: &mut Value) -> bool
-    ensures { IsTrue result → (nullable ≡ true) × (place.new ≡ Value.Null) }
-{
+    if !reader.take_null() {
+        return false;
+    }
     cache.retire(mem::replace(place, Value::Null));
     nullable
 }
@@ -284,17 +322,21 @@ fn take_record(
     plan: &TypePlan,
     reader: &mut TokenReader<'_>,
     place: &mut Value,
-) -> bool
+) -> Leaf
     requires plans { ArePlans scene.now.schema.now scene.now.expansion.now scene.now.plans.now }
     requires plan { IsPlan scene.now.schema.now scene.now.expansion.now plan.now }
-    ensures read { IsTrue result → Reads scene.now.depth reader.old reader.new (FitsHoweverNullable
+    ensures read { result ≡ Leaf.Read → Reads scene.now.depth reader.old reader.new (FitsHoweverNullable
         (slots_below scene.now plan.now.node)
         (single (structured (type_name_at scene.now.schema.now plan.now.type_id))) place.new) }
-    ensures holds { IsTrue result → HoldsEachSlot place.new (slots_below scene.now plan.now.node)
+    ensures holds { result ≡ Leaf.Read → HoldsEachSlot place.new (slots_below scene.now plan.now.node)
         (single (structured (type_name_at scene.now.schema.now plan.now.type_id))) }
+    ensures kept { result ≡ Leaf.Other → reader.new ≡ reader.old }
 {
-    if scene.depth == 0 || !reader.take_begin_object() {
-        return false;
+    if !reader.take_begin_object() {
+        return Leaf::Other;
+    }
+    if scene.depth == 0 {
+        return Leaf::Refused;
     }
     let inner = RowScene {
         schema: scene.schema,
@@ -302,12 +344,23 @@ fn take_record(
         plans: scene.plans,
         depth: scene.depth - 1,
     };
-    let mut slots = cache.slots_of(place);
-    if !take_members(cache, &inner, plan, reader, &mut slots) {
-        return false;
+    cache.begin_record(place);
+    match record_in(place) {
+        Some(values) => leaf_put(take_members(cache, &inner, plan, reader, values)),
+        None => Leaf::Refused,
     }
-    cache.put_record(slots, place);
-    true
+}
+
+/// The values of the record that stands in a place, to be filled there.
+#[inline(always)]
+pub(crate) fn record_in(place: &mut Value) -> Option<&mut Vec<Value>>
+    ensures* { sem 𝓛 (LendsIf the_row list_row place.entry result Record place.old) }
+{
+    if let Value::Record(values) = place {
+        Some(values)
+    } else {
+        None
+    }
 }
 
 /// Puts the value of an array into its place.
@@ -336,21 +389,23 @@ fn take_array(
         plans: scene.plans,
         depth: scene.depth - 1,
     };
-    let mut values = cache.items_of(place);
-    if !take_items(cache, &inner, one, reader, &mut values) {
-        return false;
+    cache.begin_list(place);
+    match list_in(place) {
+        Some(values) => take_items(cache, &inner, one, reader, values),
+        None => false,
     }
-    put_list(values, place);
-    true
 }
 
+/// The values of the array that stands in a place, to be filled there: to move them out and back took 27 instructions
+/// more an array.
 #[inline(always)]
-fn put_list(values: Vec<Value>, place: &mut Value)
-    ensures { place.new ≡ Value.List values }
+fn list_in(place: &mut Value) -> Option<&mut Vec<Value>>
+    ensures* { sem 𝓛 (LendsIf the_row list_row place.entry result List place.old) }
 {
-    match place {
-        Value::List(old) => *old = values,
-        _ => *place = Value::List(values),
+    if let Value::List(values) = place {
+        Some(values)
+    } else {
+        None
     }
 }
 

@@ -1,6 +1,7 @@
 -- Lemmas on lexemes of a text without escapes.
-use Rattle.std.proofs.Common.{◌≡◌, ◌⊎◌, ℕ, ◌+◌, ◌-◌, ◌<◌, ◌≤◌, List, [], ◌∷◌, ◌++◌, length, take, drop, get_or, Bool, true, false, cond, ◌||◌, ◌==◌, None, Some, option_and_then, inl, inr, refl, sym, ap, ap₂, ◌∙◌, subst, arith, length-take-le, length-drop, lt_of_not-le}
-use Rattle.std.proofs.lemmas.Bool.{true≢false, and_parts, leb-true, ne_eqb}
+use Rattle.std.proofs.Common.{◌≡◌, ◌⊎◌, ⊎_elim, ℕ, zero, suc, ◌+◌, ◌-◌, ◌<◌, ◌≤◌, List, [], ◌∷◌, ◌++◌, length, take, drop, get_or, Bool, true, false, not, cond, ◌&&◌, ◌||◌, ◌==◌, None, Some, option_and_then, inl, inr, refl, sym, ap, ap₂, ◌∙◌, subst, arith, length-take-le, length-drop, lt_of_not-le}
+use Rattle.std.proofs.lemmas.Bool.{true≢false, and_parts, cases_Bool, cases_lt, eqb-true, leb-true, ne_eqb, or_cases}
+use Rattle.std.specs.Prelude.{bit_or}
 use Rattle.std.proofs.lemmas.List.{drop_more, drop_all, take-append-drop, drop-drop, get_or-drop, get_or-take, get_or_past, get_or_default}
 use Rattle.std.proofs.lemmas.List.Sums.{prefix_len_is}
 use Rattle.std.specs.Char.{is_ascii_digit}
@@ -174,6 +175,47 @@ digits_are_number (x ∷ xs) some digits first =
     ∙ ap (λ b. option_and_then after_exponent (option_and_then after_fraction (cond b None (Some (drop (length (x ∷ xs)) (x ∷ xs)))))) (ne_eqb (length (x ∷ xs)) 0 (λ e. omega arith))
     ∙ ap (λ r. option_and_then after_exponent (after_fraction r)) (drop_all (length (x ∷ xs)) (x ∷ xs) (omega arith))
 
+abbrev pub EachDigit : List ℕ → Type 0
+EachDigit s = (k : ℕ) → k < length s → is_ascii_digit (get_or s k 0) ≡ true
+
+one_zero : (s : List ℕ) → get_or s 0 0 ≡ 48 → length s ≡ 1 → IsNumber s
+unfolding after_number
+one_zero [] starts one = absurd (omega (arith, one))
+one_zero (x ∷ []) starts one = ap (λ y. after_number (y ∷ [])) starts
+one_zero (x ∷ y ∷ ys) starts one = absurd (omega (arith, one))
+
+-- digits alone
+whole_number : (s : List ℕ) → EachDigit s → 0 < length s → (get_or s 0 0 ≡ 48 → length s ≡ 1) → IsNumber s
+whole_number s each some starts =
+    let lead : head s ≡ get_or s 0 0 = sym (get_or_default s 0 0 32 some) in
+    elim (cases_Bool (head s == 48)) [
+      | inl is ↦ let first = sym lead ∙ eqb-true (head s) 48 is in one_zero s first (starts first)
+      | inr none ↦ digits_are_number s some each none
+    ]
+
+-- the bytes from one place to the other
+abbrev pub cut : List ℕ → ℕ → ℕ → List ℕ
+cut d i j = take (j - i) (drop i d)
+
+pub cut_long : (d : List ℕ) (i j : ℕ) → i ≤ j → j ≤ length d → length (cut d i j) ≡ j - i
+cut_long d i j order room = length-take-le (j - i) (drop i d) (omega (arith, room, order, length-drop i d))
+
+pub cut_digits : (d : List ℕ) (i j : ℕ) → i ≤ j → j ≤ length d → DigitsBetween d i j → EachDigit (cut d i j)
+cut_digits d i j order room digits k l =
+    let few : k < j - i = omega (arith, l, cut_long d i j order room) in
+    ap is_ascii_digit (get_or-take (j - i) (drop i d) k 0 few ∙ get_or-drop i d k 0) ∙ digits (i + k) (omega arith) (omega (arith, few))
+
+pub first_cut : (d : List ℕ) (i p : ℕ) → i < p → p ≤ length d → get_or (cut d i p) 0 0 ≡ get_or d i 0
+first_cut d i p order room =
+    let same : i + 0 ≡ i = omega arith in
+    get_or-take (p - i) (drop i d) 0 0 (omega arith) ∙ get_or-drop i d 0 0 ∙ ap (λ k. get_or d k 0) same
+
+-- digits from one place to the other, of which the first is 0 only where it is the only one, are a number
+pub cut_number : (d : List ℕ) (i j : ℕ) → i < j → j ≤ length d → DigitsBetween d i j → (get_or d i 0 ≡ 48 → j ≡ i + 1) → IsNumber (cut d i j)
+cut_number d i j order room digits starts =
+    let long = cut_long d i j (omega arith) room in
+    whole_number (cut d i j) (cut_digits d i j (omega arith) room digits) (omega (arith, long)) (λ is. omega (arith, long, starts (sym (first_cut d i j order room) ∙ is)))
+
 pub number_begins : (d : List ℕ) (i j : ℕ) (s : List ℕ) (next : ℕ) (turn : Turn) → i ≤ j → s ≡ take (j - i) (drop i d) → IsNumber s → EndsValue d j next turn
     → BeginsToken d i (number s) next turn
 number_begins d i j s next turn order is counts ended =
@@ -186,16 +228,31 @@ number_begins d i j s next turn order is counts ended =
       begins = λ p may. ap (punctuate p) read ∙ begins_number p s (lex between (drop j d)) may ∙ ap (λ ts. number s ∷ ts) (sym ended.left);
     }
 
-pub digits_begin : (d : List ℕ) (i j : ℕ) (s : List ℕ) (next : ℕ) (turn : Turn) → i < j → j ≤ length d → s ≡ take (j - i) (drop i d) → DigitsBetween d i j → (get_or d i 0 == 48) ≡ false
-    → EndsValue d j next turn → BeginsToken d i (number s) next turn
-digits_begin d i j s next turn order room is digits first ended =
-    let n = j - i in
-    let long : length s ≡ n = ap length is ∙ length-take-le n (drop i d) (omega (arith, length-drop i d)) in
-    let at : (k : ℕ) → k < n → get_or s k 0 ≡ get_or d (i + k) 0 = λ k l. ap (λ t. get_or t k 0) is ∙ get_or-take n (drop i d) k 0 l ∙ get_or-drop i d k 0 in
-    let same : i + 0 ≡ i = omega arith in
-    let lead : head s ≡ get_or d i 0 = sym (get_or_default s 0 0 32 (omega (arith, long))) ∙ at 0 (omega arith) ∙ ap (λ k. get_or d k 0) same in
-    let counts : IsNumber s = digits_are_number s (omega (arith, long)) (λ k l. ap is_ascii_digit (at k (omega (arith, long))) ∙ digits (i + k) (omega arith) (omega (arith, long))) (ap (λ x. x == 48) lead ∙ first) in
-    number_begins d i j s next turn (omega arith) is counts ended
+-- ---- closing braces and brackets, which differ by one bit
+
+abbrev each_below : (ℕ → Bool) → ℕ → Bool
+each_below p zero = true
+each_below p (suc n) = p n && each_below p n
+
+told_below : (p : ℕ → Bool) (n x : ℕ) → each_below p n ≡ true → x < n → p x ≡ true
+told_below p zero x all low = absurd (omega (arith, low))
+told_below p (suc n) x all low =
+    let both = and_parts _ _ all in
+    ⊎_elim (λ lower. told_below p n x both.1 lower) (λ at. let same : n ≡ x = omega (arith, low, at) in ap p (sym same) ∙ both.0) (cases_lt x n)
+
+pub closing_byte : (x : ℕ) → x < 256 → bit_or x 32 ≡ 125 → (x ≡ 125) ⊎ (x ≡ 93)
+closing_byte x small is = go (or_cases _ _ told)
+  where
+    told : (not (bit_or x 32 == 125) || ((x == 125) || (x == 93))) ≡ true
+    told = told_below (λ y. not (bit_or y 32 == 125) || ((y == 125) || (y == 93))) 256 x refl small
+
+    which : ((x == 125) ≡ true) ⊎ ((x == 93) ≡ true) → (x ≡ 125) ⊎ (x ≡ 93)
+    which (inl e) = inl (eqb-true x 125 e)
+    which (inr e) = inr (eqb-true x 93 e)
+
+    go : (not (bit_or x 32 == 125) ≡ true) ⊎ (((x == 125) || (x == 93)) ≡ true) → (x ≡ 125) ⊎ (x ≡ 93)
+    go (inl none) = absurd (true≢false (sym none ∙ ap (λ y. not (y == 125)) is))
+    go (inr some) = which (or_cases _ _ some)
 
 -- ---- places
 

@@ -20,16 +20,17 @@ impl KeyOrder {
         }
     }
 
-    /// Stands before the first key of an object, of whose keys so many are known.
+    /// Stands before the first key of an object, of whose keys so many are known: the place before those behind its
+    /// keys.
     #[inline(always)]
     pub fn begin(&mut self, count: usize) {
-        self.place = count.wrapping_mul(64);
+        self.place = count.wrapping_mul(64).wrapping_sub(1);
     }
 
     /// Stands behind the key at that index.
     #[inline(always)]
     pub fn pass(&mut self, count: usize, index: usize) {
-        self.place = count.wrapping_mul(64).wrapping_add(index).wrapping_add(1);
+        self.place = count.wrapping_mul(64).wrapping_add(index);
     }
 
     /// The key that came next the last time.

@@ -1,5 +1,5 @@
 //! Lexemes of a text, straight from its bytes: each step goes from a place to the one behind it.
-ghost use Rattle.std.specs.Prelude.{◌≡◌, ◌≢◌, ◌+◌, ◌<◌, ◌≤◌, length, get_or, map, IfSome, IsTrue};
+ghost use Rattle.std.specs.Prelude.{◌≡◌, ◌≢◌, ◌+◌, ◌<◌, ◌≤◌, length, get_or, map, None, IfSome, IsTrue};
 ghost use Rattle.std.specs.Simd.Lanes.{mask_l};
 ghost use Rattle.json.specs.Word.{is_space};
 ghost use Rattle.json.specs.Reads.{token_of};
@@ -111,22 +111,24 @@ fn stops_8(lanes: u8x8) -> u64
         | lanes.simd_lt(u8x8::splat(0x20))).to_bitmask()
 }
 
-/// How many of sixteen bytes stand before the first quote, backslash or control character.
+/// How many of sixteen bytes stand before the first quote, backslash or control character; none where all are plain,
+/// which is asked before they are counted: that saves two instructions.
 #[inline(always)]
-fn plain_run_16(bytes: &[u8], place: usize) -> usize
+fn plain_run_16(bytes: &[u8], place: usize) -> Option<usize>
     requires { place + 16 ≤ length bytes.now }
-    ensures few { result ≤ 16 }
-    ensures plain { PlainBetween bytes.now place (place + result) }
+    ensures few { IfSome result (λ run. run ≤ 16) }
+    ensures plain { IfSome result (λ run. PlainBetween bytes.now place (place + run)) }
+    ensures all { result ≡ None → PlainBetween bytes.now place (place + 16) }
 {
     let stops = stops_16(u8x16::from_slice(&bytes[place..]));
     if stops == 0 {
-        16
+        None
     } else {
-        stops.trailing_zeros() as usize
+        Some(stops.trailing_zeros() as usize)
     }
 }
 
-/// The same of eight bytes.
+/// The same of eight bytes: eight where all are plain.
 #[inline(always)]
 fn plain_run_8(bytes: &[u8], place: usize) -> usize
     requires { place + 8 ≤ length bytes.now }
@@ -183,8 +185,7 @@ pub(crate) fn plain_end(bytes: &[u8], from: usize) -> usize
 {
     let mut place = from;
     while bytes.len() - place >= 16 {
-        let run = plain_run_16(bytes, place);
-        if run < 16 {
+        if let Some(run) = plain_run_16(bytes, place) {
             return place + run;
         }
         place += 16;
@@ -223,8 +224,9 @@ pub(crate) fn text_at<'t>(
     }
 }
 
-/// Passes the comma that may follow a value: mostly it stands there, so it is looked for first, which saves four
-/// instructions a value, and white space is passed apart.
+/// Passes the comma that may follow a value: mostly it stands there, so it is looked for first. A closing brace and a
+/// closing bracket differ by one bit, and are asked for at once, which also keeps them behind the comma; white space is
+/// passed apart.
 #[inline(always)]
 pub(crate) fn value_end(bytes: &[u8], from: usize) -> Option<(usize, Turn)>
     requires { from ≤ length bytes.now }
@@ -233,14 +235,17 @@ pub(crate) fn value_end(bytes: &[u8], from: usize) -> Option<(usize, Turn)>
     if from == bytes.len() {
         return Some((from, Turn::AfterValue));
     }
-    if bytes[from] == b',' {
+    let byte = bytes[from];
+    if byte == b',' {
         return Some((from + 1, Turn::AfterComma));
     }
-    match bytes[from] {
-        b'}' | b']' => Some((from, Turn::AfterValue)),
-        0..=b' ' => value_end_past_spaces(bytes, from),
-        _ => None,
+    if byte | 0x20 == b'}' {
+        return Some((from, Turn::AfterValue));
     }
+    if byte <= b' ' {
+        return value_end_past_spaces(bytes, from);
+    }
+    None
 }
 
 #[inline(never)]
@@ -302,7 +307,7 @@ pub(crate) fn text_value<'t>(
 
 /// The first place from there on that has no digit.
 #[inline(always)]
-fn digits_end(bytes: &[u8], from: usize) -> usize
+pub(crate) fn digits_end(bytes: &[u8], from: usize) -> usize
     requires { from ≤ length bytes.now }
     ensures bounds { (from ≤ result) × (result ≤ length bytes.now) }
     ensures digits { DigitsBetween bytes.now from result }
@@ -350,38 +355,12 @@ pub(crate) fn other_number_value(text: &str, place: usize) -> Option<(&str, usiz
     }
 }
 
-/// Whether digits from one place to the other are some, of which the first is not 0.
-#[inline(always)]
-fn is_whole(bytes: &[u8], from: usize, to: usize) -> bool
-    requires { to ≤ length bytes.now }
-    ensures { IsTrue result → (from < to) × (get_or bytes.now from 0 ≢ 48) }
-{
-    from < to && bytes[from] != b'0'
-}
-
 /// Whether a byte of that kind begins numbers, and nothing else.
 #[inline(always)]
 pub(crate) fn begins_number(byte: u8) -> bool
     ensures { IsTrue result → (byte < 128) × (byte ≢ 32) }
 {
     byte.is_ascii_digit() || byte == b'-'
-}
-
-/// A number: most are digits alone, of which the first is not 0.
-#[inline(always)]
-fn number_value(text: &str, place: usize) -> Option<(&str, usize, Turn)>
-    requires within { place < length text.now }
-    requires ascii { get_or text.now place 32 < 128 }
-    ensures { IfSome result (λ found. BeginsToken text.now place (number found.0.now) found.1 found.2) }
-{
-    let bytes = text.as_bytes();
-    let end = digits_end(bytes, place);
-    if is_whole(bytes, place, end) {
-        if let Some((next, turn)) = value_end(bytes, end) {
-            return Some((&text[place..end], next, turn));
-        }
-    }
-    other_number_value(text, place)
 }
 
 #[inline(always)]
@@ -463,7 +442,7 @@ pub(crate) fn token_at<'t>(
             Some((next, turn)) => Some((Token::Null, next, turn)),
             None => None,
         },
-        b'-' | b'0'..=b'9' => match number_value(text, place) {
+        b'-' | b'0'..=b'9' => match other_number_value(text, place) {
             Some((number, next, turn)) => Some((Token::Number(number), next, turn)),
             None => None,
         },

@@ -1,20 +1,23 @@
 //! The tokens of a JSON text (RFC 8259), read straight from its bytes; a text with surrogates by `json`'s reader. Also
-//! what number the text of one writes, and in which order keys came.
+//! what number the text of one writes, which keys came, and in which order.
 #![tactic(auto)]
 
 mod escape;
 mod escaped_text;
 mod key;
+mod key_marks;
 mod key_order;
 mod lexeme;
 mod line_text;
 mod number_text;
 mod same_bytes;
 mod scratch;
+mod short_number;
 mod token_reader;
 mod whole;
 
 pub use key::Key;
+pub use key_marks::{KeyMarks, MARKS};
 pub use key_order::KeyOrder;
 pub use line_text::text_of_line;
 pub use number_text::{number_of_text, whole_of_digits};

@@ -116,7 +116,6 @@ impl RowJudge<'_, '_> {
             return None;
         };
         let answer = self.judge_entity(&entity);
-        reader.take_back(entity);
         Some(answer)
     }
 }

@@ -47,7 +47,8 @@ fn by_bytes(alloc: Global, schema: &Schema, id: TypeId, line: &[u8]) -> Result<S
     requires { HoldsType schema.now id }
 {
     let plan = RowPlan::new(alloc, schema, id, &Expansion::none(alloc));
-    match RowReader::new(alloc).read(schema, &plan, line) {
+    let mut reader = RowReader::new(alloc);
+    match reader.read(schema, &plan, line) {
         Some(entity) => told(alloc, &entity),
         None => Ok(String::new(alloc)),
     }

@@ -1,40 +1,18 @@
 -- The rows of the primitive types, by classes of types.
-use Rattle.std.proofs.Common.{◌≡◌, ℤ, Bool, Some, None, Result, String, Global, string_bytes, refl, rules, IfOk, IfErr}
+use Rattle.std.proofs.Common.{◌≡◌, ℤ, Bool, Some, None, String, Global, string_bytes, refl, rules}
 use Rattle.serde_json.specs.Data.{Data}
-use Rattle.edm_values.specs.NumberTypes.{IsNumberType}
 use Rattle.edm_values.specs.Civil.{Date as CivilDate}
 use Rattle.edm_values.specs.MomentParts.{MomentParts}
 use Rattle.edm_values.specs.Val.{boolean, date, moment, member, text}
 use Rattle.edm_values.specs.declared.primitive.PrimitiveType.{PrimitiveType}
 use Rattle.edm_values.specs.declared.primitive.PrimitiveType.TheVariants.{Bool as EdmBoolean, Byte, SByte, Int16, Int32, Int64, String as EdmString, Date as EdmDate, DateTimeOffset as EdmDateTimeOffset, Guid as EdmGuid}
-use Rattle.edm_values.specs.declared.value.Value.{Value, Bool as BoolValue, Text, Date, Moment, Enum, the_lemmas}
+use Rattle.edm_values.specs.declared.value.Value.{Bool as BoolValue, Text, Date, Moment, Enum, the_lemmas}
 use Rattle.csdl_schema.specs.ExprType.{ExprType}
 use Rattle.csdl_schema.specs.SchemaModel.{Slots}
-use Rattle.edm_entities.specs.FitsPrimitive.{FitsNumber, FitsPrimitive, IsNumberFlaw, IsPrimitiveFlaw, wrong_kind}
+use Rattle.edm_entities.specs.FitsPrimitive.{IsPrimitiveFlaw, wrong_kind}
 use Rattle.edm_entities.specs.Row.{val_of}
-use Rattle.edm_entities.specs.declared.flaw.ReadFlaw.{ReadFlaw}
-use Rattle.edm_entities.specs.private.Faults.{OnFlaw}
 use Rattle.edm_entities.specs.private.Scalars.{IsScalar}
 use Rattle.edm_entities.specs.declared.scalar.Scalar.TheVariants.{Other}
-
--- the row of a number type is that of numbers
-pub number_row : (type : PrimitiveType) (slots : Slots) (expr : ExprType) (json : Data) (r : Result Value ReadFlaw) → IsNumberType type
-    → IfOk r (λ v. FitsNumber type json (val_of v slots.properties expr)) → IfOk r (λ v. FitsPrimitive type json (val_of v slots.properties expr))
-number_row Byte slots expr json r is fits = fits
-number_row SByte slots expr json r is fits = fits
-number_row Int16 slots expr json r is fits = fits
-number_row Int32 slots expr json r is fits = fits
-number_row Int64 slots expr json r is fits = fits
-number_row _ slots expr json r is fits = absurd is
-
-pub number_flaw : (type : PrimitiveType) (json : Data) (r : Result Value ReadFlaw) → IsNumberType type
-    → IfErr r (λ f. OnFlaw f (IsNumberFlaw type json)) → IfErr r (λ f. OnFlaw f (IsPrimitiveFlaw type json))
-number_flaw Byte json r is flaw = flaw
-number_flaw SByte json r is flaw = flaw
-number_flaw Int16 json r is flaw = flaw
-number_flaw Int32 json r is flaw = flaw
-number_flaw Int64 json r is flaw = flaw
-number_flaw _ json r is flaw = absurd is
 
 -- what is no truth value, number or text is of no primitive type's kind
 pub other_flaw : (type : PrimitiveType) (json : Data) → IsScalar Other json → IsPrimitiveFlaw type json wrong_kind

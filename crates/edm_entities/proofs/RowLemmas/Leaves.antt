@@ -14,34 +14,27 @@ use Rattle.edm_entities.specs.Fits.{FitsFound, FitsType}
 use Rattle.edm_entities.specs.HoldsEachSlot.{HoldsEachSlot}
 use Rattle.edm_entities.specs.Row.{val_of}
 use Rattle.edm_entities.specs.private.RowTokens.{Reads, ReadsLeaf, ReadsToken, FitsNullable, FitsHoweverNullable}
-use Rattle.edm_entities.specs.private.Scalars.{IsScalar, IsJsonNumber}
+use Rattle.edm_entities.specs.private.Scalars.{IsJsonNumber}
 use Rattle.edm_entities.specs.private.Walk.{wanted_single}
 use Rattle.edm_entities.specs.declared.flaw.ReadFlaw.{ReadFlaw}
 use Rattle.edm_entities.specs.declared.scalar.JsonNumber.{JsonNumber}
-use Rattle.edm_entities.specs.declared.scalar.Scalar.{Scalar}
 use Rattle.edm_entities.specs.declared.wanted.Wanted.{Wanted}
 use Rattle.edm_entities.proofs.SlotLemmas.EachSlot.{primitive_holds, member_holds}
 use Rattle.edm_entities.proofs.SlotLemmas.FoundWalk.{other_fits, null_fits}
 
-null_token : (depth : ℕ) (rest : List Token) → converted of_json (value depth (Token.null ∷ rest)) ≡ Some (null, rest)
+pub null_token : (depth : ℕ) (rest : List Token) → converted of_json (value depth (Token.null ∷ rest)) ≡ Some (null, rest)
 null_token depth rest = ap (converted of_json) (value_is depth (Token.null ∷ rest))
 
-string_token : (s : List ℕ) (depth : ℕ) (rest : List Token) → converted of_json (value depth (Token.string s ∷ rest)) ≡ Some (string s, rest)
+pub string_token : (s : List ℕ) (depth : ℕ) (rest : List Token) → converted of_json (value depth (Token.string s ∷ rest)) ≡ Some (string s, rest)
 string_token s depth rest = ap (converted of_json) (value_is depth (Token.string s ∷ rest))
 
-boolean_token : (b : Bool) (depth : ℕ) (rest : List Token) → converted of_json (value depth (Token.boolean b ∷ rest)) ≡ Some (boolean b, rest)
+pub boolean_token : (b : Bool) (depth : ℕ) (rest : List Token) → converted of_json (value depth (Token.boolean b ∷ rest)) ≡ Some (boolean b, rest)
 boolean_token b depth rest = ap (converted of_json) (value_is depth (Token.boolean b ∷ rest))
 
-number_token : (s : List ℕ) (m : Num) → number_of s ≡ Some m → (depth : ℕ) (rest : List Token) → converted of_json (value depth (Token.number s ∷ rest)) ≡ Some (number m, rest)
+pub number_token : (s : List ℕ) (m : Num) → number_of s ≡ Some m → (depth : ℕ) (rest : List Token) → converted of_json (value depth (Token.number s ∷ rest)) ≡ Some (number m, rest)
 number_token s m is depth rest = ap (converted of_json) (value_is depth (Token.number s ∷ rest)) ∙ rw is
 
--- ---- scalars
-
-pub text_scalar : (s : List ℕ) (scalar : Scalar) → ((json : Data) → json ≡ string s → IsScalar scalar json) → ReadsToken (Token.string s) (IsScalar scalar)
-text_scalar s scalar by = record { json = string s; is_read = string_token s; no_null = refl; holds = by (string s) refl }
-
-pub truth_scalar : (b : Bool) (scalar : Scalar) → ((json : Data) → json ≡ boolean b → IsScalar scalar json) → ReadsToken (Token.boolean b) (IsScalar scalar)
-truth_scalar b scalar by = record { json = boolean b; is_read = boolean_token b; no_null = refl; holds = by (boolean b) refl }
+-- ---- numbers
 
 pub number_reads : (s : List ℕ) (m : Num) (n : JsonNumber) → number_of s ≡ Some m → IsJsonNumber n (number m) → ReadsToken (Token.number s) (IsJsonNumber n)
 number_reads s m n is holds = record { json = number m; is_read = number_token s m is; no_null = refl; holds = holds }
@@ -111,14 +104,13 @@ member_leaf_holds slots name tokens rest v leaf =
     member_holds slots name leaf.json v
     (not_null_fits leaf.json (val_of v slots.properties (single (enumeration name))) (λ found. FitsType slots false (single (enumeration name)) found (val_of v slots.properties (single (enumeration name)))) (leaf.holds false))
 
--- what was read of what is wanted, behind a look for a null
-pub wanted_read : (schema : SchemaModel) (slots : Slots) (wanted one : Wanted) (nullable : Bool) (depth : ℕ) (tokens left rest : List Token) (v : Value) → wanted ≡ one → left ≡ tokens
-    → Reads depth left rest (FitsHoweverNullable slots (single (wanted_single schema one)) v)
+-- what was read of what is wanted
+pub wanted_read : (schema : SchemaModel) (slots : Slots) (wanted one : Wanted) (nullable : Bool) (depth : ℕ) (tokens rest : List Token) (v : Value) → wanted ≡ one
+    → Reads depth tokens rest (FitsHoweverNullable slots (single (wanted_single schema one)) v)
     → Reads depth tokens rest (FitsNullable slots nullable nullable (single (wanted_single schema wanted)) v)
-wanted_read schema slots wanted one nullable depth tokens left rest v is kept reads =
+wanted_read schema slots wanted one nullable depth tokens rest v is reads =
     subst (λ (w : Wanted). Reads depth tokens rest (FitsNullable slots nullable nullable (single (wanted_single schema w)) v)) (sym is)
-    (subst (λ (ts : List Token). Reads depth ts rest (FitsNullable slots nullable nullable (single (wanted_single schema one)) v)) kept
-    (record { json = reads.json; is_read = reads.is_read; holds = reads.holds nullable }))
+    (record { json = reads.json; is_read = reads.is_read; holds = reads.holds nullable })
 
 pub null_reads : (depth : ℕ) (tokens rest : List Token) (P : Data → Type 0) → tokens ≡ Token.null ∷ rest → P null → Reads depth tokens rest P
 null_reads depth tokens rest P is holds =

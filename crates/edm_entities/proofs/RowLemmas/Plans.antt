@@ -3,16 +3,19 @@ use Rattle.std.proofs.Common.{◌≡◌, ℕ, zero, suc, ◌+◌, ◌<◌, ◌==
 use Rattle.std.proofs.lemmas.Bool.{eqb-true, eqb-false}
 use Rattle.json.specs.Token.{Token}
 use Rattle.json.proofs.Grammar.{read_key-shorter}
-use Rattle.serde_json.specs.Data.{Data, Members, put}
+use Rattle.serde_json.specs.Data.{Data, put}
+use Rattle.edm_values.specs.declared.value.Value.{Value}
 use Rattle.csdl_schema.specs.ExpansionView.{StepModel}
 use Rattle.csdl_schema.specs.PropertyView.{IsReadAs}
-use Rattle.csdl_schema.specs.SchemaModel.{SchemaModel, properties_at, slots_behind}
+use Rattle.csdl_schema.specs.SchemaModel.{SchemaModel, PropertyModel, Slots, properties_at, slots_behind}
 use Rattle.csdl_schema.specs.declared.property.Property.{Property}
 use Rattle.edm_entities.specs.ExpandedNodes.{node_behind}
 use Rattle.edm_entities.specs.private.Expanded.{slots_at}
 use Rattle.edm_entities.specs.private.NextMember.{ReadsMember}
 use Rattle.edm_entities.specs.Plans.{ArePlans, IsPlan, IsSlotPlan, target_at}
 use Rattle.edm_entities.specs.private.RowTokens.{MembersLead}
+use Rattle.edm_entities.specs.private.SlotsSoFar.{FillsSlots, SlotsSoFar, marks_behind}
+use Rattle.edm_entities.specs.declared.row_member.Member.{Member}
 use Rattle.edm_entities.specs.declared.type_plan.SlotPlan.{SlotPlan}
 use Rattle.edm_entities.specs.declared.type_plan.TypePlan.{TypePlan}
 use Rattle.edm_entities.proofs.RowLemmas.Leads.{member_more}
@@ -93,12 +96,14 @@ member_shorter depth tokens rest P member =
     let less : length rest < length member.behind_name = read_shorter depth member.behind_name rest (P member.name) member.value in
     omega arith
 
--- a member more, behind those before it
-pub member_taken : (depth : ℕ) (first tokens rest : List Token) (P R : Members → Type 0) → ReadsMember depth tokens rest (λ name json. (found : Members) → P found → R (put name json found))
-    → MembersLead depth first tokens P → MembersLead depth first rest R
-member_taken depth first tokens rest P R member lead =
-    member_more depth first tokens member.behind_name rest member.name P (λ json. (found : Members) → P found → R (put member.name json found)) R member.is_name
-    (λ found json holds by. by found holds) member.value lead
+-- a member more, behind those before it, and the marks behind it
+pub member_taken : (depth : ℕ) (first tokens rest : List Token) (slots : Slots) (ps : List PropertyModel) (member : Member) (old new : List Value) (filled marks : List Bool)
+    → ReadsMember depth tokens rest (FillsSlots slots ps member old new) → marks ≡ marks_behind member filled
+    → MembersLead depth first tokens (λ found. SlotsSoFar slots ps found filled old) → MembersLead depth first rest (λ found. SlotsSoFar slots ps found marks new)
+member_taken depth first tokens rest slots ps member old new filled marks taken same lead =
+    member_more depth first tokens taken.behind_name rest taken.name (λ found. SlotsSoFar slots ps found filled old) (FillsSlots slots ps member old new taken.name)
+    (λ found. SlotsSoFar slots ps found marks new) taken.is_name
+    (λ found json holds by. subst (λ (bs : List Bool). SlotsSoFar slots ps (put taken.name json found) bs new) (sym same) (by found filled holds)) taken.value lead
 
 -- ---- numbers one after another
 

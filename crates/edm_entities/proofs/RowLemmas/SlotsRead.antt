@@ -1,5 +1,5 @@
 -- The slots of a type, while the members of an object are read into them.
-use Rattle.std.proofs.Common.{◌≡◌, ◌≢◌, ℕ, zero, suc, List, [], ◌∷◌, length, map, replicate, slice_set, ◌<◌, Bool, true, false, Option, Some, None, slice_get, get_or, IfSome, refl, sym, ap, ◌∙◌, subst, arith}
+use Rattle.std.proofs.Common.{◌≡◌, ◌≢◌, ℕ, zero, suc, List, [], ◌∷◌, length, map, replicate, slice_set, ◌<◌, ◌≤◌, Bool, true, false, Option, Some, None, slice_get, get_or, IfSome, refl, sym, ap, ◌∙◌, subst, arith}
 use Rattle.std.specs.List.{AllByRecursion}
 use Rattle.serde_json.specs.Data.{Data, Members, no_members, object, put}
 use Rattle.serde_json.specs.Find.{get_member}
@@ -20,32 +20,31 @@ found_in found name = get_member name found
 -- ---- lengths
 
 pub as_many_values : (Q : PropertyModel → Bool → Value → Type 0) (ps : List PropertyModel) (filled : List Bool) (values : List Value) → HoldEachSoFar Q ps filled values → length values ≡ length ps
-as_many_values Q [] [] [] hold = refl
-as_many_values Q [] [] (v ∷ values) hold = absurd hold
-as_many_values Q [] (b ∷ filled) values hold = absurd hold
+as_many_values Q [] filled [] hold = refl
+as_many_values Q [] filled (v ∷ values) hold = absurd hold
 as_many_values Q (p ∷ ps) [] values hold = absurd hold
 as_many_values Q (p ∷ ps) (b ∷ filled) [] hold = absurd hold
 as_many_values Q (p ∷ ps) (b ∷ filled) (v ∷ values) hold = ap suc (as_many_values Q ps filled values hold.1)
 
-pub as_many_filled : (Q : PropertyModel → Bool → Value → Type 0) (ps : List PropertyModel) (filled : List Bool) (values : List Value) → HoldEachSoFar Q ps filled values → length filled ≡ length ps
-as_many_filled Q [] [] [] hold = refl
-as_many_filled Q [] [] (v ∷ values) hold = absurd hold
-as_many_filled Q [] (b ∷ filled) values hold = absurd hold
-as_many_filled Q (p ∷ ps) [] values hold = absurd hold
-as_many_filled Q (p ∷ ps) (b ∷ filled) [] hold = absurd hold
-as_many_filled Q (p ∷ ps) (b ∷ filled) (v ∷ values) hold = ap suc (as_many_filled Q ps filled values hold.1)
+-- each slot has a mark
+pub marked : (Q : PropertyModel → Bool → Value → Type 0) (ps : List PropertyModel) (filled : List Bool) (values : List Value) → HoldEachSoFar Q ps filled values → length ps ≤ length filled
+marked Q [] filled values hold = omega arith
+marked Q (p ∷ ps) [] values hold = absurd hold
+marked Q (p ∷ ps) (b ∷ filled) [] hold = absurd hold
+marked Q (p ∷ ps) (b ∷ filled) (v ∷ values) hold = omega (arith, marked Q ps filled values hold.1)
 
 -- ---- at the start
 
-none_filled : (slots : Slots) (ps : List PropertyModel) (values : List Value) → length values ≡ length ps → HoldEachSoFar (HoldsSoFar slots (found_in no_members)) ps (replicate (length ps) false) values
-none_filled slots [] [] long = tt
-none_filled slots [] (v ∷ values) long = absurd (omega (arith, long))
-none_filled slots (p ∷ ps) [] long = absurd (omega (arith, long))
-none_filled slots (p ∷ ps) (v ∷ values) long = (refl, none_filled slots ps values (omega (arith, long)))
+none_filled : (slots : Slots) (ps : List PropertyModel) (marks : ℕ) (values : List Value) → length ps ≤ marks → length values ≡ length ps → HoldEachSoFar (HoldsSoFar slots (found_in no_members)) ps (replicate marks false) values
+none_filled slots [] marks [] few long = tt
+none_filled slots [] marks (v ∷ values) few long = absurd (omega (arith, long))
+none_filled slots (p ∷ ps) zero values few long = absurd (omega (arith, few))
+none_filled slots (p ∷ ps) (suc marks) [] few long = absurd (omega (arith, long))
+none_filled slots (p ∷ ps) (suc marks) (v ∷ values) few long = (refl, none_filled slots ps marks values (omega (arith, few)) (omega (arith, long)))
 
-pub slots_start : (slots : Slots) (ps : List PropertyModel) (filled : List Bool) (values : List Value) → filled ≡ replicate (length ps) false → length values ≡ length ps
+pub slots_start : (slots : Slots) (ps : List PropertyModel) (marks : ℕ) (filled : List Bool) (values : List Value) → filled ≡ replicate marks false → length ps ≤ marks → length values ≡ length ps
     → SlotsSoFar slots ps no_members filled values
-slots_start slots ps filled values are long = subst (λ (marks : List Bool). SlotsSoFar slots ps no_members marks values) (sym are) (none_filled slots ps values long)
+slots_start slots ps marks filled values are few long = subst (λ (bs : List Bool). SlotsSoFar slots ps no_members bs values) (sym are) (none_filled slots ps marks values few long)
 
 -- ---- one member more
 
@@ -57,9 +56,8 @@ module _ (slots : Slots) (found : Members) (name : List ℕ) (json : Data) where
 
   pub others_hold : (ps : List PropertyModel) (filled : List Bool) (values : List Value) → AllByRecursion (λ p. p.name ≢ name) ps → HoldEachSoFar (HoldsSoFar slots (found_in found)) ps filled values
       → HoldEachSoFar (HoldsSoFar slots (found_in (put name json found))) ps filled values
-  others_hold [] [] [] others hold = tt
-  others_hold [] [] (v ∷ values) others hold = absurd hold
-  others_hold [] (b ∷ filled) values others hold = absurd hold
+  others_hold [] filled [] others hold = tt
+  others_hold [] filled (v ∷ values) others hold = absurd hold
   others_hold (p ∷ ps) [] values others hold = absurd hold
   others_hold (p ∷ ps) (b ∷ filled) [] others hold = absurd hold
   others_hold (p ∷ ps) (b ∷ filled) (v ∷ values) others hold = (other_holds p b v others.0 hold.0, others_hold ps filled values others.1 hold.1)
@@ -96,15 +94,14 @@ absent_filled slots found p false v not fits none =
 
 -- null fills a slot that may be absent and was not filled
 pub slot_filled : (slots : Slots) (found : List ℕ → Option Data) (ps : List PropertyModel) (filled : List Bool) (values : List Value) (n : ℕ)
-    → IfSome (slice_get ps n) (λ p. FitsProperty (slots_behind slots p.name) p.nullable p.type_of None (field_of slots.properties p.type_of (val_of Null))) → n < length filled → get_or filled n false ≡ false
+    → IfSome (slice_get ps n) (λ p. FitsProperty (slots_behind slots p.name) p.nullable p.type_of None (field_of slots.properties p.type_of (val_of Null))) → get_or filled n false ≡ false
     → HoldEachSoFar (HoldsSoFar slots found) ps filled values → HoldEachSoFar (HoldsSoFar slots found) ps (slice_set filled n true) (slice_set values n Null)
-slot_filled slots found [] [] [] n fits within not hold = absurd (omega arith)
-slot_filled slots found [] [] (v ∷ values) n fits within not hold = absurd hold
-slot_filled slots found [] (b ∷ filled) values n fits within not hold = absurd hold
-slot_filled slots found (p ∷ ps) [] values n fits within not hold = absurd hold
-slot_filled slots found (p ∷ ps) (b ∷ filled) [] n fits within not hold = absurd hold
-slot_filled slots found (p ∷ ps) (b ∷ filled) (v ∷ values) zero fits within not hold = (absent_filled slots found p b v not fits hold.0, hold.1)
-slot_filled slots found (p ∷ ps) (b ∷ filled) (v ∷ values) (suc n) fits within not hold = (hold.0, slot_filled slots found ps filled values n fits (omega (arith, within)) not hold.1)
+slot_filled slots found [] filled [] n fits not hold = tt
+slot_filled slots found [] filled (v ∷ values) n fits not hold = absurd hold
+slot_filled slots found (p ∷ ps) [] values n fits not hold = absurd hold
+slot_filled slots found (p ∷ ps) (b ∷ filled) [] n fits not hold = absurd hold
+slot_filled slots found (p ∷ ps) (b ∷ filled) (v ∷ values) zero fits not hold = (absent_filled slots found p b v not fits hold.0, hold.1)
+slot_filled slots found (p ∷ ps) (b ∷ filled) (v ∷ values) (suc n) fits not hold = (hold.0, slot_filled slots found ps filled values n fits not hold.1)
 
 filled_fits : (slots : Slots) (found : List ℕ → Option Data) (p : PropertyModel) (b : Bool) (v : Value) → b ≡ true → HoldsSoFar slots found p b v → FitsSlot slots found p v
 filled_fits slots found p true v is fits = fits
@@ -112,9 +109,8 @@ filled_fits slots found p false v is none = absurd (cc)
 
 each_fits : (slots : Slots) (found : List ℕ → Option Data) (ps : List PropertyModel) (filled : List Bool) (values : List Value) → ((k : ℕ) → k < length ps → get_or filled k false ≡ true)
     → HoldEachSoFar (HoldsSoFar slots found) ps filled values → HoldEach (FitsSlot slots found) ps values
-each_fits slots found [] [] [] all hold = tt
-each_fits slots found [] [] (v ∷ values) all hold = absurd hold
-each_fits slots found [] (b ∷ filled) values all hold = absurd hold
+each_fits slots found [] filled [] all hold = tt
+each_fits slots found [] filled (v ∷ values) all hold = absurd hold
 each_fits slots found (p ∷ ps) [] values all hold = absurd hold
 each_fits slots found (p ∷ ps) (b ∷ filled) [] all hold = absurd hold
 each_fits slots found (p ∷ ps) (b ∷ filled) (v ∷ values) all hold =

@@ -11,8 +11,8 @@ loop-slot-preserved c =
     let l = c.loop-slot in
     let plan = c.args.plan.now in
     let s = c.index.result.now in
-    let filled = c.fill_absent.new.slots.filled.items in (
-      c.fill_absent.ensures.long.0 ∙ l.invariant.0,
+    let filled = c.fill_absent.new.filled in (
+      omega (arith, c.fill_absent.ensures.long.0, l.invariant.0),
       c.fill_absent.ensures.long.1 ∙ l.invariant.1,
       below_next (λ k. get_or filled k false ≡ true) l.slot (λ k less. c.fill_absent.ensures.others k (l.invariant.2 k less)) (c.fill_absent.ensures.filled c.if-not-fill_absent.false),
       λ schema steps found is so_far.
@@ -24,5 +24,5 @@ pub returns : goal.returns
 returns c schema steps found is done so_far =
     let l = c.loop-slot in
     let plan = c.args.plan.now in
-    slots_over (slots_at schema steps plan.node) (properties_at schema plan.type_id) found l.slots.filled.items l.slots.values.items (λ k less. l.invariant.2 k (omega (arith, less, is.planned.count)))
+    slots_over (slots_at schema steps plan.node) (properties_at schema plan.type_id) found l.filled l.values.items (λ k less. l.invariant.2 k (omega (arith, less, is.planned.count)))
     (l.invariant.3 schema steps found is so_far)

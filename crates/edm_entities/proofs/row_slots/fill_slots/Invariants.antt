@@ -1,4 +1,4 @@
-use Rattle.std.proofs.Common.{◌≡◌, ◌<◌, ℕ, List, length, get_or, true, false}
+use Rattle.std.proofs.Common.{◌≡◌, ◌<◌, ◌≤◌, ℕ, List, length, get_or, true, false}
 use Rattle.serde_json.specs.Data.{Members}
 use Rattle.csdl_schema.specs.ExpansionView.{StepModel}
 use Rattle.csdl_schema.specs.SchemaModel.{SchemaModel, properties_at}
@@ -10,8 +10,8 @@ use Rattle.edm_entities.proofs.row_slots.fill_slots.Given as goal
 -- the slots so far are filled, and what was found is still told
 abbrev pub invariant-loop-slot : goal.invariant-loop-slot
 invariant-loop-slot l =
-    (length l.slots.filled.items ≡ length l.plan.slots.items) × (length l.slots.values.items ≡ length l.plan.slots.items)
-    × ((k : ℕ) → k < l.slot → get_or l.slots.filled.items k false ≡ true)
+    (length l.plan.slots.items ≤ length l.filled) × (length l.values.items ≡ length l.plan.slots.items)
+    × ((k : ℕ) → k < l.slot → get_or l.filled k false ≡ true)
     × ((schema : SchemaModel) (steps : List StepModel) (found : Members) → IsPlan schema steps l.plan
-    → SlotsSoFar (slots_at schema steps l.plan.node) (properties_at schema l.plan.type_id) found l.initial.slots.filled.items l.initial.slots.values.items
-    → SlotsSoFar (slots_at schema steps l.plan.node) (properties_at schema l.plan.type_id) found l.slots.filled.items l.slots.values.items)
+    → SlotsSoFar (slots_at schema steps l.plan.node) (properties_at schema l.plan.type_id) found l.initial.filled l.initial.values.items
+    → SlotsSoFar (slots_at schema steps l.plan.node) (properties_at schema l.plan.type_id) found l.filled l.values.items)

@@ -7,10 +7,13 @@ use Rattle.edm_entities.proofs.row_walk.+row.Given as goal
 
 -- how deep values may nest counts first, and at one depth the order of the calls
 abbrev pub decreases-take_members : goal.decreases-take_members
-decreases-take_members l = 8 * l.scene.now.depth + 5
+decreases-take_members l = 8 * l.scene.now.depth + 6
 
 abbrev pub decreases-take_member : goal.decreases-take_member
-decreases-take_member l = 8 * l.scene.now.depth + 4
+decreases-take_member l = 8 * l.scene.now.depth + 5
+
+abbrev pub decreases-take_named_member : goal.decreases-take_named_member
+decreases-take_named_member l = 8 * l.scene.now.depth + 4
 
 abbrev pub decreases-take_property : goal.decreases-take_property
 decreases-take_property l = 8 * l.scene.now.depth + 3
@@ -33,7 +36,7 @@ decreases-take_items l = 8 * l.scene.now.depth + 2
 -- the slots that are filled hold what was found among the members so far
 abbrev pub invariant-take_members-members : goal.invariant-take_members-members
 invariant-take_members-members l =
-    MembersLead l.scene.depth l.initial.reader l.reader (λ found. SlotsSoFar (slots_below l.scene l.plan.node) (properties_at l.scene.schema.now l.plan.type_id) found l.slots.filled.items l.slots.values.items)
+    MembersLead l.scene.depth l.initial.reader l.reader (λ found. SlotsSoFar (slots_below l.scene l.plan.node) (properties_at l.scene.schema.now l.plan.type_id) found l.filled l.values.items)
 
 abbrev pub decreases-take_members-members : goal.decreases-take_members-members
 decreases-take_members-members l = length l.reader

@@ -2,8 +2,8 @@ use Rattle.std.proofs.Common.{arith}
 use Rattle.json_tokens.proofs.StopLemmas.{all_plain, plain_before, run_within}
 use Rattle.json_tokens.proofs.lexeme.plain_run_16.Goals as goal
 
-pub returns-then-stops-eq0-clause-plain : goal.returns-then-stops-eq0-clause-plain
-returns-then-stops-eq0-clause-plain c =
+pub returns-then-stops-eq0-clause-all : goal.returns-then-stops-eq0-clause-all
+returns-then-stops-eq0-clause-all c _ =
     let stops = c.stops_16-stops in
     all_plain c.args.bytes.now c.args.place 16 stops.result c.requires stops.ensures (omega (arith, c.if-stops-eq0.true))
 

@@ -10,8 +10,8 @@ use Rattle.edm_entities.proofs.SlotLemmas.ReadEntities.{entity_fits, is_entity}
 use Rattle.edm_entities.proofs.SlotLemmas.RowTold.{row_told}
 use Rattle.edm_entities.proofs.entity.Entity.expanded_from_json.Goals as goal
 
-pub from_values-requires : goal.from_values-requires
-from_values-requires c =
+pub of_row-requires : goal.of_row-requires
+of_row-requires c =
     let schema = c.args.schema.now in
     let json = view c.args.row.now in
     is_entity schema c.args.type_id c.in-Ok-copy.copy json c.in-Ok.values c.requires c.in-Ok.ensures.distinct c.in-Ok.ensures.object
@@ -22,7 +22,7 @@ returns-in-Ok-copy-clause-fits c =
     let schema = c.args.schema.now in
     let json = view c.args.row.now in
     let name = type_name_at schema c.args.type_id in
-    subst (λ (e : Row). Fits (expanded_by schema c.args.expansion.now) name json (value_of e)) (sym c.from_values.ensures)
+    subst (λ (e : Row). Fits (expanded_by schema c.args.expansion.now) name json (value_of e)) (sym c.of_row.ensures)
     (subst (λ (steps : List StepModel). Fits (expanded_by schema steps) name json (value_of (row_of schema c.args.type_id c.in-Ok-copy.copy c.in-Ok.values))) c.in-Ok-copy.ensures
     (entity_fits schema c.args.type_id c.in-Ok-copy.copy json c.in-Ok.values c.in-Ok.ensures.distinct c.in-Ok.ensures.object
     (subst (λ (steps : List StepModel). FitSlots (expanded_by schema steps) json (properties_at schema c.args.type_id) c.in-Ok.values.items) (sym c.in-Ok-copy.ensures) c.in-Ok.ensures.fits)))

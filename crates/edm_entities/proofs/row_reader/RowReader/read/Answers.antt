@@ -1,32 +1,32 @@
-use Rattle.std.proofs.Common.{Vec, Global, sym, ap, ◌∙◌, subst}
+use Rattle.std.proofs.Common.{sym, ap, ◌∙◌, subst}
 use Rattle.serde_json.specs.Read.{read}
-use Rattle.csdl_schema.specs.SchemaModel.{properties_at}
 use Rattle.edm_values.specs.declared.value.Value.{Value}
-use Rattle.edm_entities.specs.Row.{expanded_by}
+use Rattle.edm_entities.specs.Row.{IsEntity}
 use Rattle.edm_entities.specs.RowReading.{IsLineOf}
-use Rattle.edm_entities.specs.private.Walk.{FitSlots}
-use Rattle.edm_entities.proofs.SlotLemmas.ReadEntities.{entity_fits, is_entity}
+use Rattle.edm_entities.proofs.SlotLemmas.ReadEntities.{entity_fits, is_entity, lent_row}
 use Rattle.edm_entities.proofs.row_reader.RowReader.read.Goals as goal
 
-pub from_values-requires : goal.from_values-requires
-from_values-requires c =
+pub of_row-requires : goal.of_row-requires
+of_row-requires c =
     let schema = c.args.schema.now in
     let id = c.args.plan.now.type_id in
-    let expansion = c.args.plan.now.expansion in
-    let found = c.take_row.ensures.fits c.if-not-take_row.false in
-    let fits = subst (λ (values : Vec Value Global). FitSlots (expanded_by schema expansion) found.0 (properties_at schema id) values.items) (sym c.replace-values.ensures.value) found.3 in
-    is_entity schema id expansion found.0 c.replace-values.result c.requires.held (c.take_row.ensures.distinct c.if-not-take_row.false) found.2 fits
+    let steps = c.args.plan.now.expansion in
+    let done = c.if-not-take_row.false in
+    let found = c.take_row.ensures.fits done in
+    subst (λ (v : Value). IsEntity (lent_row schema id steps v)) (sym found.1)
+    (is_entity schema id steps found.2.0 found.0 c.requires.held (c.take_row.ensures.distinct done) found.2.2 found.2.3)
 
 pub returns-clause-row : goal.returns-clause-row
 returns-clause-row c =
     let schema = c.args.schema.now in
     let id = c.args.plan.now.type_id in
-    let expansion = c.args.plan.now.expansion in
-    let found = c.take_row.ensures.fits c.if-not-take_row.false in
-    let fits = subst (λ (values : Vec Value Global). FitSlots (expanded_by schema expansion) found.0 (properties_at schema id) values.items) (sym c.replace-values.ensures.value) found.3 in
-    subst (IsLineOf c.args.line.now) (sym c.from_values.ensures)
+    let steps = c.args.plan.now.expansion in
+    let done = c.if-not-take_row.false in
+    let found = c.take_row.ensures.fits done in
+    subst (IsLineOf c.args.line.now) (sym c.of_row.ensures)
+    (subst (λ (v : Value). IsLineOf c.args.line.now (lent_row schema id steps v)) (sym found.1)
     (record {
-      json = found.0;
-      is_json = (c.in-Some.ensures.1, ap read (sym c.in-Some.ensures.0) ∙ found.1);
-      fits = entity_fits schema id expansion found.0 c.replace-values.result (c.take_row.ensures.distinct c.if-not-take_row.false) found.2 fits;
-    })
+      json = found.2.0;
+      is_json = (c.in-Some.ensures.1, ap read (sym c.in-Some.ensures.0) ∙ found.2.1);
+      fits = entity_fits schema id steps found.2.0 found.0 (c.take_row.ensures.distinct done) found.2.2 found.2.3;
+    }))

@@ -1,20 +1,17 @@
-use Rattle.std.proofs.Common.{◌≡◌, Some, None, sym, ◌∙◌}
+use Rattle.std.proofs.Common.{◌≡◌, Some, sym, ◌∙◌}
 use Rattle.json.specs.Json.{read_key}
 use Rattle.csdl_schema.specs.SchemaModel.{properties_at}
 use Rattle.edm_entities.proofs.RowLemmas.SlotNames.{slot_is_named, no_slot_is_named}
-use Rattle.edm_entities.proofs.row_member.member_by_name.Goals as goal
+use Rattle.edm_entities.proofs.row_member.find_member.Goals as goal
 
 pub returns-in-Some-slot : goal.returns-in-Some-slot
-returns-in-Some-slot c =
+returns-in-Some-slot c _ =
     let name = c.in-Some.name.now in
     let named : read_key c.args.reader.now ≡ Some (Some name, c.next_key.new.self) = rw c.in-Some.is at c.in-Ok.ensures.key in
     (name, named, slot_is_named name (properties_at c.args.schema.now c.args.type_id) c.in-Some-slot.slot (sym c.in-Some-slot.is ∙ c.slot.ensures))
 
 pub returns-in-None : goal.returns-in-None
-returns-in-None c =
+returns-in-None c _ =
     let name = c.in-Some.name.now in
     let named : read_key c.args.reader.now ≡ Some (Some name, c.next_key.new.self) = rw c.in-Some.is at c.in-Ok.ensures.key in
     (name, named, no_slot_is_named name (properties_at c.args.schema.now c.args.type_id) (sym c.in-None.is ∙ c.slot.ensures))
-
-pub returns-in_default-key : goal.returns-in_default-key
-returns-in_default-key c = let closed : read_key c.args.reader.now ≡ Some (None, c.next_key.new.self) = rw c.in_default-key.is at c.in-Ok.ensures.key in closed
