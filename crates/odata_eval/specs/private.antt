@@ -7,6 +7,7 @@ pub mod Lambda
 pub mod Members
 pub mod Operands
 pub mod Place
+pub mod Rest
 pub mod Scene
 pub mod SceneModel
 pub mod WalkAnswer

@@ -1,8 +1,10 @@
 //! The walk of a whole filter. Most are chains of `and` over Boolean properties and comparisons of a property with a
-//! literal: such a chain is walked from its leftmost term on, and left at once where a term is false. This alone takes
-//! some 135 of 1,470 instructions off a short row whose second term is false.
+//! literal, called plain terms here: such a chain is asked from its leftmost term on, and left at once where a term is
+//! false. This alone takes some 135 of 1,470 instructions off a short row whose second term is false. The plain terms
+//! before the first other one are asked of a scene that is not kept in memory, which takes off another 57 of 1,216.
 ghost use Rattle.std.specs.Prelude.{◌<◌, ℕ, IfSome, IsTrue, Ok, Some};
 ghost use Rattle.odata_eval.specs.private.Place.{HasOperator, PartStands, TruthStands};
+ghost use Rattle.odata_eval.specs.private.Rest.{IsRest, TellsTerms};
 ghost use Rattle.odata_eval.specs.private.WalkAnswer.{AnswersTruth};
 
 use super::datum::kept_truth;
@@ -11,26 +13,70 @@ use super::operators::{compare_kept, decides, join};
 use super::part::right_of;
 use super::scene::Scene;
 use super::walk::side_at;
+use edm_values::Value;
 use odata_checked_filter::NodeKind;
-use odata_functions::comparisons_are_decided;
+use odata_functions::{compare_values, comparisons_are_decided};
 use odata_signatures::{Connective, OperatorClass, class_of};
 use odata_syntax::BinaryOperator;
 
-/// What the filter comes to on the entity. The terms of a chain of `and` behind a false one are left out together.
+/// The terms of a chain of `and` that are left to ask, where those before them are true.
+#[derive(Clone, Copy)]
+pub(crate) struct Rest {
+    /// The place of the next one.
+    pub term: usize,
+    /// How many `and`s stand above the one that joins it; at the leftmost term, above the term.
+    pub ands: usize,
+}
+
+/// What comes of the plain terms of a chain.
+#[derive(Clone, Copy)]
+pub(crate) enum PlainTerms {
+    /// The whole chain comes to this.
+    Decide(bool),
+    /// They are true, and these terms are left.
+    Leave(Rest),
+}
+
+/// What comes of the plain terms before the first other one. All of this is inlined, so that the scene has no address.
 #[inline(always)]
-pub(crate) fn root_truth(scene: &Scene<'_, '_, '_>) -> Result<Option<bool>, EvalFault>
+pub(crate) fn ask_plain_terms(scene: &Scene<'_, '_, '_>) -> PlainTerms
     requires stands { TruthStands scene.now 0 }
-    ensures { AnswersTruth scene.now 0 result }
+    ensures { TellsTerms scene.now result }
 {
     let ands = ands_end(scene);
-    let mut left = match kept_truth_at(scene, ands) {
-        Some(truth) => Some(truth),
-        None => match side_at(scene, ands) {
-            Ok(truth) => truth,
-            Err(fault) => return Err(fault),
-        },
-    };
+    match kept_truth_at(scene, ands) {
+        Some(true) => {}
+        Some(false) => return PlainTerms::Decide(false),
+        None => return PlainTerms::Leave(Rest { term: ands, ands }),
+    }
     let mut at = ands;
+    while 0 < at {
+        at -= 1;
+        let term = right_of(scene, at);
+        match kept_truth_at(scene, term) {
+            Some(true) => {}
+            Some(false) => return PlainTerms::Decide(false),
+            None => return PlainTerms::Leave(Rest { term, ands: at }),
+        }
+    }
+    PlainTerms::Decide(true)
+}
+
+/// What the chain comes to by the terms that are left. Those behind a false one are left out together.
+#[inline(always)]
+pub(crate) fn truth_of_rest(
+    scene: &Scene<'_, '_, '_>,
+    rest: Rest,
+) -> Result<Option<bool>, EvalFault>
+    requires stands { TruthStands scene.now 0 }
+    requires rest { IsRest scene.now rest }
+    ensures { AnswersTruth scene.now 0 result }
+{
+    let mut left = match side_at(scene, rest.term) {
+        Ok(truth) => truth,
+        Err(fault) => return Err(fault),
+    };
+    let mut at = rest.ands;
     while 0 < at {
         if decides(Connective::And, left) {
             return Ok(left);
@@ -92,7 +138,8 @@ fn kept_truth_at(scene: &Scene<'_, '_, '_>, place: usize) -> Option<bool>
     }
 }
 
-/// Whether a comparison of a property with a literal is true.
+/// Whether a comparison of a property with a literal is true. Two numbers are looked for before the operator's class is
+/// asked for, so that they are compared behind one jump by the operator.
 #[inline(always)]
 fn compared_with_literal(
     scene: &Scene<'_, '_, '_>,
@@ -114,8 +161,16 @@ fn compared_with_literal(
         NodeKind::Literal { value, .. } => scene.literal(value),
         _ => return None,
     };
+    if let Value::Int(_) = left {
+        if let Value::Int(_) = right {
+            return match class_of(operator) {
+                OperatorClass::Comparison(numeric) => Some(compare_kept(numeric, left, right)),
+                _ => None,
+            };
+        }
+    }
     match class_of(operator) {
-        OperatorClass::Comparison(comparison) => Some(compare_kept(comparison, left, right)),
+        OperatorClass::Comparison(comparison) => Some(compare_values(comparison, left, right)),
         _ => None,
     }
 }

@@ -1,5 +1,5 @@
 -- A chain of `and` from the top of a filter's list down: what stands in it, and what is answered at its top.
-use Rattle.std.proofs.Common.{◌≡◌, ℕ, zero, suc, ◌<◌, ◌≤◌, ◌+◌, ◌-◌, Bool, true, false, Option, Some, None, Ok, Err, refl, subst, inl, inr, arith}
+use Rattle.std.proofs.Common.{◌≡◌, ℕ, zero, suc, ◌<◌, ◌≤◌, ◌+◌, ◌-◌, Bool, true, false, Option, Some, None, Result, Ok, Err, refl, subst, inl, inr, arith}
 use Rattle.std.specs.Prelude.{◌↔◌, IfSome, IsTrue}
 use Rattle.std.proofs.lemmas.Bool.{cases_lt}
 use Rattle.edm_values.specs.PlainVal.{plain_val}
@@ -53,6 +53,12 @@ false_term : (left : Option Bool) → joined Connective.And left (Some false) �
 false_term (Some true) = refl
 false_term (Some false) = refl
 false_term None = refl
+
+-- behind a true one the others come to what they come to by themselves
+true_side : (term : Option Bool) → joined Connective.And (Some true) term ≡ term
+true_side (Some true) = refl
+true_side (Some false) = refl
+true_side None = refl
 
 module _ (scene : SceneModel) where
   and_walks : (place : ℕ) → HasOperator scene.list place BinaryOperator.And → IsClassAt scene.list WalkClass.Logical place
@@ -112,6 +118,14 @@ module _ (scene : SceneModel) where
           fault_answers fault second =
               fault_up (at - 1) (omega arith) fault
               (joined_faults scene (at - 1) BinaryOperator.And and_there right is_right Connective.And left refl undecided left_there fault second)
+
+        module _ (first : AnswersTruth scene at (Ok (Some true))) where
+          -- behind true terms the next one's answer is that of its `and`
+          pub true_goes_up : (answer : Result (Option Bool) EvalFault) → AnswersTruth scene right answer → AnswersTruth scene (at - 1) answer
+          true_goes_up (Ok term) second =
+              subst (λ (r : Option Bool). AnswersTruth scene (at - 1) (Ok r)) (true_side term) (next_answers (Some true) (λ none. none) first term second)
+          true_goes_up (Err fault) second =
+              joined_faults scene (at - 1) BinaryOperator.And and_there right is_right Connective.And (Some true) refl (λ none. none) (left_there (Some true) (λ none. none) first) fault second
 
 -- no operator is taken as a leaf
 operator_inner : (class : OperatorClass) → ¬ (walk_of_operator class ≡ WalkClass.Leaf)

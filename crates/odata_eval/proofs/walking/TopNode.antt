@@ -1,5 +1,5 @@
 -- What a filter's whole list comes to.
-use Rattle.std.proofs.Common.{◌≡◌, ◌∙◌, ℕ, [], Option, Some, None, Result, Err, Bool, ap, length, sym, subst}
+use Rattle.std.proofs.Common.{◌≡◌, ◌∙◌, ℕ, [], Option, Some, None, Result, Err, Bool, List, ap, length, refl, sym, subst}
 use Rattle.std.specs.Prelude.{IfSome}
 use Rattle.edm_values.specs.MomentParts.{MomentParts}
 use Rattle.csdl_schema.specs.SchemaModel.{SchemaModel, slots_of, type_name_at}
@@ -13,14 +13,14 @@ use Rattle.odata_eval.specs.declared.fault.EvalFault.{EvalFault}
 use Rattle.odata_eval.specs.Environment.{Environment, scope_of}
 use Rattle.odata_eval.specs.Means.{Means}
 use Rattle.odata_eval.specs.MeansOn.{IsTheOutcome, MeansOn}
-use Rattle.odata_eval.specs.private.Frames.{environment_in}
+use Rattle.odata_eval.specs.private.Frames.{Frame, environment_in}
 use Rattle.odata_eval.specs.Outcome.{Outcome}
 use Rattle.odata_eval.specs.TruthGives.{truth_val}
 use Rattle.odata_eval.specs.VerdictView.{fault_outcome}
 use Rattle.odata_eval.specs.private.DatumView.{answer_outcome}
 use Rattle.odata_eval.specs.private.Place.{TruthStands}
 use Rattle.odata_eval.specs.private.Scene.{EndsOnceHere, MeansHere, StandsHere, TypedHere}
-use Rattle.odata_eval.specs.private.SceneModel.{SceneModel, environment_of}
+use Rattle.odata_eval.specs.private.SceneModel.{SceneModel, environment_of, scene_in}
 use Rattle.odata_eval.specs.private.WalkAnswer.{AnswersTruth, Tells}
 
 module _ (filter : Filter) (row : Row) (moment : MomentParts) (scene : SceneModel) (right : IsFilter filter) (one_schema : filter.schema ≡ row.schema)
@@ -90,3 +90,12 @@ module _ (filter : Filter) (row : Row) (moment : MomentParts) (scene : SceneMode
       (subst (λ (m : MomentParts). IfSome (answer_outcome truth_val answer) (IsTheOutcome scene.row m (tree_of_filter filter))) is_moment
       (only_told ends (answer_outcome truth_val answer)
       (answers.of_tree (length filter.list.nodes) (tree_of_filter filter) right.type_of whole_stands whole_typed)))
+
+-- a scene without variables is its row, its moment and its list
+pub scene_is : (row : Row) (moment : MomentParts) (list : FlatTree) (scene : SceneModel)
+    → scene.row ≡ row → scene.moment ≡ moment → scene.list ≡ list → scene.frames ≡ [] → scene_in row moment list [] ≡ scene
+scene_is row moment list scene is_row is_moment is_list is_empty =
+    subst (λ (r : Row). scene_in r moment list [] ≡ scene) is_row
+    (subst (λ (m : MomentParts). scene_in scene.row m list [] ≡ scene) is_moment
+    (subst (λ (l : FlatTree). scene_in scene.row scene.moment l [] ≡ scene) is_list
+    (subst (λ (f : List Frame). scene_in scene.row scene.moment scene.list f ≡ scene) is_empty refl)))

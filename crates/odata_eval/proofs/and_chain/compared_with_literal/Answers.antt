@@ -37,18 +37,36 @@ literal-right-requires c =
 
 pub compare_kept-requires : goal.compare_kept-requires
 compare_kept-requires c =
-    let here = class_of_operator c.args.scene.now.list c.args.place c.args.operator (OperatorClass.Comparison c.in-Comparison.comparison) c.requires.here (sym c.class_of.ensures ∙ c.in-Comparison.is) in
+    let here = class_of_operator c.args.scene.now.list c.args.place c.args.operator (OperatorClass.Comparison c.in-Comparison.numeric) c.requires.here (sym c.class_of.ensures ∙ c.in-Comparison.is) in
     let left = property_answers c.args.scene.now (c.args.place + 1) c.in-Property.slot
     (there_found (λ (f : CheckedNode). f.kind ≡ NodeKind.Property c.in-Property.slot) (slice_get c.args.scene.now.list.nodes (c.args.place + 1)) c.node.result.now c.node.ensures c.in-Property.is) c.property-left.result.now c.property-left.ensures in
     let right = literal_answers c.args.scene.now c.right_of-right_place.result c.in-Literal.kind c.in-Literal.value
     (there_found (λ (f : CheckedNode). f.kind ≡ NodeKind.Literal c.in-Literal.kind c.in-Literal.value) (slice_get c.args.scene.now.list.nodes c.right_of-right_place.result) c.node-2.result.now c.node-2.ensures c.in-Literal.is) c.literal-right.result.now c.literal-right.ensures in
-    may_compare_kept c.args.scene.now c.args.place c.in-Comparison.comparison here c.right_of-right_place.result c.right_of-right_place.ensures c.property-left.result.now c.literal-right.result.now left right c.ends_once.ensures c.comparisons_are_decided.ensures.any_contents c.requires.stands
+    may_compare_kept c.args.scene.now c.args.place c.in-Comparison.numeric here c.right_of-right_place.result c.right_of-right_place.ensures c.property-left.result.now c.literal-right.result.now left right c.ends_once.ensures c.comparisons_are_decided.ensures.any_contents c.requires.stands
 
 pub returns-in-Comparison : goal.returns-in-Comparison
 returns-in-Comparison c =
-    let here = class_of_operator c.args.scene.now.list c.args.place c.args.operator (OperatorClass.Comparison c.in-Comparison.comparison) c.requires.here (sym c.class_of.ensures ∙ c.in-Comparison.is) in
+    let here = class_of_operator c.args.scene.now.list c.args.place c.args.operator (OperatorClass.Comparison c.in-Comparison.numeric) c.requires.here (sym c.class_of.ensures ∙ c.in-Comparison.is) in
     let left = property_answers c.args.scene.now (c.args.place + 1) c.in-Property.slot
     (there_found (λ (f : CheckedNode). f.kind ≡ NodeKind.Property c.in-Property.slot) (slice_get c.args.scene.now.list.nodes (c.args.place + 1)) c.node.result.now c.node.ensures c.in-Property.is) c.property-left.result.now c.property-left.ensures in
     let right = literal_answers c.args.scene.now c.right_of-right_place.result c.in-Literal.kind c.in-Literal.value
     (there_found (λ (f : CheckedNode). f.kind ≡ NodeKind.Literal c.in-Literal.kind c.in-Literal.value) (slice_get c.args.scene.now.list.nodes c.right_of-right_place.result) c.node-2.result.now c.node-2.ensures c.in-Literal.is) c.literal-right.result.now c.literal-right.ensures in
-    kept_compared c.args.scene.now c.args.place c.in-Comparison.comparison here c.right_of-right_place.result c.right_of-right_place.ensures c.property-left.result.now c.literal-right.result.now left right c.ends_once.ensures c.comparisons_are_decided.ensures.any_contents c.requires.stands c.compare_kept.result c.compare_kept.ensures
+    kept_compared c.args.scene.now c.args.place c.in-Comparison.numeric here c.right_of-right_place.result c.right_of-right_place.ensures c.property-left.result.now c.literal-right.result.now left right c.ends_once.ensures c.comparisons_are_decided.ensures.any_contents c.requires.stands c.compare_kept.result c.compare_kept.ensures
+
+pub compare_values-requires : goal.compare_values-requires
+compare_values-requires c =
+    let here = class_of_operator c.args.scene.now.list c.args.place c.args.operator (OperatorClass.Comparison c.in-Comparison-class_of.comparison) c.requires.here (sym c.class_of-2.ensures ∙ c.in-Comparison-class_of.is) in
+    let left = property_answers c.args.scene.now (c.args.place + 1) c.in-Property.slot
+    (there_found (λ (f : CheckedNode). f.kind ≡ NodeKind.Property c.in-Property.slot) (slice_get c.args.scene.now.list.nodes (c.args.place + 1)) c.node.result.now c.node.ensures c.in-Property.is) c.property-left.result.now c.property-left.ensures in
+    let right = literal_answers c.args.scene.now c.right_of-right_place.result c.in-Literal.kind c.in-Literal.value
+    (there_found (λ (f : CheckedNode). f.kind ≡ NodeKind.Literal c.in-Literal.kind c.in-Literal.value) (slice_get c.args.scene.now.list.nodes c.right_of-right_place.result) c.node-2.result.now c.node-2.ensures c.in-Literal.is) c.literal-right.result.now c.literal-right.ensures in
+    may_compare_kept c.args.scene.now c.args.place c.in-Comparison-class_of.comparison here c.right_of-right_place.result c.right_of-right_place.ensures c.property-left.result.now c.literal-right.result.now left right c.ends_once.ensures c.comparisons_are_decided.ensures.any_contents c.requires.stands
+
+pub returns-in-Comparison-class_of : goal.returns-in-Comparison-class_of
+returns-in-Comparison-class_of c =
+    let here = class_of_operator c.args.scene.now.list c.args.place c.args.operator (OperatorClass.Comparison c.in-Comparison-class_of.comparison) c.requires.here (sym c.class_of-2.ensures ∙ c.in-Comparison-class_of.is) in
+    let left = property_answers c.args.scene.now (c.args.place + 1) c.in-Property.slot
+    (there_found (λ (f : CheckedNode). f.kind ≡ NodeKind.Property c.in-Property.slot) (slice_get c.args.scene.now.list.nodes (c.args.place + 1)) c.node.result.now c.node.ensures c.in-Property.is) c.property-left.result.now c.property-left.ensures in
+    let right = literal_answers c.args.scene.now c.right_of-right_place.result c.in-Literal.kind c.in-Literal.value
+    (there_found (λ (f : CheckedNode). f.kind ≡ NodeKind.Literal c.in-Literal.kind c.in-Literal.value) (slice_get c.args.scene.now.list.nodes c.right_of-right_place.result) c.node-2.result.now c.node-2.ensures c.in-Literal.is) c.literal-right.result.now c.literal-right.ensures in
+    kept_compared c.args.scene.now c.args.place c.in-Comparison-class_of.comparison here c.right_of-right_place.result c.right_of-right_place.ensures c.property-left.result.now c.literal-right.result.now left right c.ends_once.ensures c.comparisons_are_decided.ensures.any_contents c.requires.stands c.compare_values.result c.compare_values.ensures

@@ -1,26 +1,9 @@
-use Rattle.std.proofs.Common.{◌≡◌, Ok, Err}
-use Rattle.odata_eval.specs.declared.fault.EvalFault.{EvalFault}
-use Rattle.odata_eval.proofs.walking.TopNode.{top_memory, top_outcome, top_stands}
+use Rattle.std.proofs.Common.{[], Ok, Some, refl}
+use Rattle.odata_eval.specs.private.SceneModel.{scene_in}
+use Rattle.odata_eval.proofs.walking.TopNode.{top_outcome}
 use Rattle.odata_eval.proofs.evaluator.evaluate.Goals as goal
 
-pub root_truth-requires : goal.root_truth-requires
-root_truth-requires c = record {
-  stands = top_stands c.args.checked.now c.args.entity.now c.args.now.now c.of-scene.result c.nodes-nodes.ensures.right c.requires.one_schema c.requires.one_type
-      c.of-scene.ensures.row c.of-scene.ensures.moment c.of-scene.ensures.list c.of-scene.ensures.variables;
-}
-
-pub returns-in-Ok-clause-outcome : goal.returns-in-Ok-clause-outcome
-returns-in-Ok-clause-outcome c =
-    rw c.verdict_of.ensures (top_outcome c.args.checked.now c.args.entity.now c.args.now.now c.of-scene.result c.nodes-nodes.ensures.right c.requires.one_schema c.requires.one_type
-    c.of-scene.ensures.row c.of-scene.ensures.moment c.of-scene.ensures.list c.of-scene.ensures.variables c.ends_once.ensures (Ok c.in-Ok.truth) c.in-Ok.ensures)
-
-pub returns-clause-outcome : goal.returns-clause-outcome
-returns-clause-outcome c =
-    top_outcome c.args.checked.now c.args.entity.now c.args.now.now c.of-scene.result c.nodes-nodes.ensures.right c.requires.one_schema c.requires.one_type
-    c.of-scene.ensures.row c.of-scene.ensures.moment c.of-scene.ensures.list c.of-scene.ensures.variables c.ends_once.ensures (Err c.in-Err.fault) c.in-Err.ensures
-
-pub returns-clause-no_memory : goal.returns-clause-no_memory
-returns-clause-no_memory c = λ takes_none same.
-    let memory : c.in-Err.fault ≡ EvalFault.Memory = cc in
-    takes_none (top_memory c.args.checked.now c.args.entity.now c.args.now.now c.of-scene.result c.nodes-nodes.ensures.right c.requires.one_schema c.requires.one_type
-    c.of-scene.ensures.row c.of-scene.ensures.moment c.of-scene.ensures.list c.of-scene.ensures.variables c.in-Err.fault c.in-Err.ensures memory)
+pub returns-in-Decide-clause-outcome : goal.returns-in-Decide-clause-outcome
+returns-in-Decide-clause-outcome c =
+    rw c.verdict_of.ensures (top_outcome c.args.checked.now c.args.entity.now c.args.now.now (scene_in c.args.entity.now c.args.now.now c.args.checked.now.list []) c.nodes-nodes.ensures.right c.requires.one_schema c.requires.one_type
+    refl refl refl refl c.plain_terms_on.ensures.ends_once (Ok (Some c.in-Decide.truth)) c.in-Decide.ensures.told)

@@ -1,10 +1,10 @@
 use Rattle.std.proofs.Common.{◌≤◌, Ok}
 use Rattle.odata_eval.specs.private.WalkAnswer.{AnswersTruth}
-use Rattle.odata_eval.proofs.and_chain.root_truth.Given as goal
+use Rattle.odata_eval.proofs.and_chain.truth_of_rest.Given as goal
 
 abbrev pub invariant-loop-at : goal.invariant-loop-at
 invariant-loop-at l = record {
-  within : l.at ≤ l.ands;
+  within : l.at ≤ l.fn.rest.ands;
   answers : AnswersTruth l.scene l.at (Ok l.left);
 }
 

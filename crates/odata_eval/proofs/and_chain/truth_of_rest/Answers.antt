@@ -1,0 +1,76 @@
+use Rattle.std.proofs.Common.{◌≡◌, ◌<◌, ◌≤◌, ◌-◌, Bool, false, true, Option, Some, Ok, Err, arith, subst, sym}
+use Rattle.odata_signatures.specs.declared.operator_class.Connective.{Connective}
+use Rattle.odata_eval.specs.TruthGives.{truth_val}
+use Rattle.odata_eval.specs.private.WalkAnswer.{AnswersTruth}
+use Rattle.odata_eval.specs.private.WalkClass.{IsDecided}
+use Rattle.odata_eval.proofs.walking.AndChains.{decided_up, false_answers, fault_answers, fault_up, next_answers, term_stands, term_there, told_not, true_answers}
+use Rattle.odata_eval.proofs.and_chain.truth_of_rest.Goals as goal
+
+pub returns-in-Err : goal.returns-in-Err
+returns-in-Err c = fault_up c.args.scene.now c.args.rest.ands c.requires.rest.ands c.args.rest.ands (omega arith) c.in-Err.fault (c.requires.rest.goes_up (Err c.in-Err.fault) c.in-Err.ensures)
+
+pub returns-then-decides : goal.returns-then-decides
+returns-then-decides c =
+    let l = c.loop-at in
+    decided_up c.args.scene.now c.args.rest.ands c.requires.rest.ands l.left (c.decides.ensures.0 c.if-decides.true) l.at l.invariant.within l.invariant.answers
+
+pub right_of-right_place-requires : goal.right_of-right_place-requires
+right_of-right_place-requires c =
+    let l = c.loop-at in
+    let above : 0 < l.at = omega arith in
+    term_there c.args.scene.now c.args.rest.ands c.requires.rest.ands c.requires.stands l.at above l.invariant.within
+
+pub kept_truth_at-requires : goal.kept_truth_at-requires
+kept_truth_at-requires c =
+    let l = c.loop-at in
+    let above : 0 < l.at = omega arith in
+    record {
+      stands = term_stands c.args.scene.now c.args.rest.ands c.requires.rest.ands c.requires.stands l.at above l.invariant.within c.right_of-right_place.result c.right_of-right_place.ensures;
+    }
+
+pub side_at-requires-in-None : goal.side_at-requires-in-None
+side_at-requires-in-None c =
+    let l = c.loop-at in
+    let above : 0 < l.at = omega arith in
+    record {
+      stands = term_stands c.args.scene.now c.args.rest.ands c.requires.rest.ands c.requires.stands l.at above l.invariant.within c.right_of-right_place.result c.right_of-right_place.ensures;
+    }
+
+pub loop-at-preserved-in-Some-true : goal.loop-at-preserved-in-Some-true
+loop-at-preserved-in-Some-true c =
+    let l = c.loop-at in
+    let above : 0 < l.at = omega arith in
+    let is : c.in-Some-true.field-0 ≡ true = cc in
+    let term : AnswersTruth c.args.scene.now c.right_of-right_place.result (Ok (Some true)) =
+    subst (λ (b : Bool). AnswersTruth c.args.scene.now c.right_of-right_place.result (Ok (Some b))) is c.in-Some-true.ensures in
+    let within : l.at ≤ c.args.rest.ands = l.invariant.within in
+    record {
+      within = omega arith;
+      answers = true_answers c.args.scene.now c.args.rest.ands c.requires.rest.ands c.requires.stands l.at above l.invariant.within c.right_of-right_place.result c.right_of-right_place.ensures l.left (told_not c.decides.result (IsDecided Connective.And (truth_val l.left)) c.decides.ensures c.if-decides.false) l.invariant.answers term;
+    }
+
+pub returns-in-Some-false : goal.returns-in-Some-false
+returns-in-Some-false c =
+    let l = c.loop-at in
+    let above : 0 < l.at = omega arith in
+    let is : c.in-Some-false.field-0 ≡ false = cc in
+    let term : AnswersTruth c.args.scene.now c.right_of-right_place.result (Ok (Some false)) =
+    subst (λ (b : Bool). AnswersTruth c.args.scene.now c.right_of-right_place.result (Ok (Some b))) is c.in-Some-false.ensures in
+    false_answers c.args.scene.now c.args.rest.ands c.requires.rest.ands c.requires.stands l.at above l.invariant.within c.right_of-right_place.result c.right_of-right_place.ensures l.left (told_not c.decides.result (IsDecided Connective.And (truth_val l.left)) c.decides.ensures c.if-decides.false) l.invariant.answers term
+
+pub loop-at-preserved : goal.loop-at-preserved
+loop-at-preserved c =
+    let l = c.loop-at in
+    let above : 0 < l.at = omega arith in
+    let within : l.at ≤ c.args.rest.ands = l.invariant.within in
+    record {
+      within = omega arith;
+      answers = subst (λ (r : Option Bool). AnswersTruth c.args.scene.now (l.at - 1) (Ok r)) (sym c.join-left.ensures)
+          (next_answers c.args.scene.now c.args.rest.ands c.requires.rest.ands c.requires.stands l.at above l.invariant.within c.right_of-right_place.result c.right_of-right_place.ensures l.left (told_not c.decides.result (IsDecided Connective.And (truth_val l.left)) c.decides.ensures c.if-decides.false) l.invariant.answers c.in-Ok-side_at.right c.in-Ok-side_at.ensures);
+    }
+
+pub returns-in-Err-side_at : goal.returns-in-Err-side_at
+returns-in-Err-side_at c =
+    let l = c.loop-at in
+    let above : 0 < l.at = omega arith in
+    fault_answers c.args.scene.now c.args.rest.ands c.requires.rest.ands c.requires.stands l.at above l.invariant.within c.right_of-right_place.result c.right_of-right_place.ensures l.left (told_not c.decides.result (IsDecided Connective.And (truth_val l.left)) c.decides.ensures c.if-decides.false) l.invariant.answers c.in-Err-side_at.fault c.in-Err-side_at.ensures
