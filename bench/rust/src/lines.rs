@@ -1,4 +1,4 @@
-//! The lines of a file, of which some are written: what both programs have in common.
+//! The lines of a file, of which some are written: what all three programs have in common.
 use std::error::Error;
 use std::fs::File;
 use std::io::{self, BufRead, BufReader, BufWriter, Write};
