@@ -5,6 +5,7 @@ pub mod Enumerations
 pub mod Forms
 pub mod Levels
 pub mod Lists
+pub mod LowerCase
 pub mod Pieces
 pub mod Printable
 pub mod ReadBack

@@ -1,2 +1,3 @@
+pub mod ByteTables
 pub mod IdentifierBytes
 pub mod Identifiers

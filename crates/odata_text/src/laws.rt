@@ -19,36 +19,18 @@ pub fn one_reading()
         → IsTextFault text fault → IsTokenList text list → ⊥ }
 {}
 
-/// `Active and ID eq 1 and Name eq 'a'` has nine tokens.
-pub fn plain_reading()
-    ensures { IsTokenList plain_filter plain_tokens }
-{}
-
-/// `Changed gt 2020-01-01T00:00Z` ends in a moment.
-pub fn moment_reading()
-    ensures { IsTokenList moment_filter moment_tokens }
-{}
-
-/// `ID eq 1234567e-1234-1234-1234-123456789012` ends in a Guid.
-pub fn guid_reading()
-    ensures { IsTokenList guid_filter guid_tokens }
-{}
-
-/// `a.b'x'` is one token, an enumeration literal.
-pub fn enumeration_reading()
-    ensures { IsTokenList enumeration_filter enumeration_tokens }
-{}
-
-/// `1.5` is a literal that is left out, and so has no tokens.
-pub fn fraction_reading()
-    ensures fault { IsTextFault fraction_filter (TextFault.LeftOutLiteral (record { start = 0; stop = 3 })) }
-    ensures none { (list : List TokenModel) → IsTokenList fraction_filter list → ⊥ }
-{}
-
-/// `1st` is a number that runs on up to its third byte, and so has no tokens.
-pub fn run_on_reading()
-    ensures fault { IsTextFault run_on_filter (TextFault.RunOn (record { start = 0; stop = 3 })) }
-    ensures none { (list : List TokenModel) → IsTokenList run_on_filter list → ⊥ }
+/// Texts by example: `Active and ID eq 1 and Name eq 'a'`, `Changed gt 2020-01-01T00:00Z`,
+/// `ID eq 1234567e-1234-1234-1234-123456789012` and `a.b'x'` have their tokens; `1.5`, a literal that is left out, and
+/// `1st`, a number that runs on up to its third byte, have none.
+pub fn texts_by_example()
+    ensures plain { IsTokenList plain_filter plain_tokens }
+    ensures moment { IsTokenList moment_filter moment_tokens }
+    ensures guid { IsTokenList guid_filter guid_tokens }
+    ensures enumeration { IsTokenList enumeration_filter enumeration_tokens }
+    ensures fraction { IsTextFault fraction_filter (TextFault.LeftOutLiteral (record { start = 0; stop = 3 })) }
+    ensures no_fraction { (list : List TokenModel) → IsTokenList fraction_filter list → ⊥ }
+    ensures run_on { IsTextFault run_on_filter (TextFault.RunOn (record { start = 0; stop = 3 })) }
+    ensures no_run_on { (list : List TokenModel) → IsTokenList run_on_filter list → ⊥ }
 {}
 
 /// Tokens that are printed one after another are the tokens of what was printed.

@@ -1,18 +1,26 @@
 //! Query strings, identifiers and tokens of OData texts (OData URL Conventions 4.01, section 5; OData ABNF 4.01).
 #![tactic(auto)]
 
+mod any_token;
 mod ascii_case;
 mod byte_class;
 mod byte_test;
 mod decimal;
+mod disguise;
 mod fault;
+mod find;
+mod find_fault;
+mod find_laws;
 mod form;
+mod found_filter;
 mod guid;
 mod identifier;
 mod laws;
 mod longest;
 mod number;
+mod parentheses;
 mod pattern;
+mod plain;
 mod printing_laws;
 mod query;
 mod query_fault;
@@ -21,24 +29,27 @@ mod query_name;
 mod query_part;
 mod quoted;
 mod scan;
+mod scanner;
 mod span;
 mod time;
 mod token;
 mod word;
 
 pub use fault::TextFault;
+pub use find::find_filter;
+pub use find_fault::FindFault;
+pub use find_laws::{found_filter_stands_there, one_found_reading, same_text_as_alone};
+pub use found_filter::FoundFilter;
 pub use identifier::is_identifier;
-pub use laws::{
-    enumeration_reading, fraction_reading, guid_reading, moment_reading, one_reading,
-    plain_reading, printed_reading, run_on_reading,
-};
+pub use laws::{one_reading, printed_reading, texts_by_example};
 pub use printing_laws::{
     letters_are_an_identifier, literals_have_one_spelling, one_list_of_any_length,
     printed_list_of_any_length, tokens_are_spelled, words_in_lower_case,
 };
 pub use query::filter_of_query;
 pub use query_fault::QueryFault;
-pub use query_laws::{escaped_query_reading, one_query_reading, paged_query_reading};
+pub use query_laws::{one_query_reading, queries_by_example};
 pub use scan::tokens;
+pub use scanner::{Scanned, Scanner};
 pub use span::Span;
 pub use token::{Token, TokenKind};

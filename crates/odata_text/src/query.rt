@@ -10,21 +10,21 @@ use super::query_part::decoded_part;
 use std::alloc::Global;
 use std::borrow::CowStr;
 
-/// How many bytes stand before the first `=` of an option.
-fn name_length(option: &[u8]) -> usize
-    ensures value { result ≡ position_or_len (λ b. b == 61) option.now }
-    ensures within { result ≤ length option.now }
+/// How many bytes stand before the first such byte.
+pub fn length_before(bytes: &[u8], mark: u8) -> usize
+    ensures value { result ≡ position_or_len (λ b. b == mark) bytes.now }
+    ensures within { result ≤ length bytes.now }
 {
-    option.iter().take_while(|byte| **byte != b'=').count()
+    bytes.iter().take_while(|byte| **byte != mark).count()
 }
 
 /// What stands before and behind the first `=` of an option.
 #[tactic(auto, unfolding(crate::specs::Query::name_of, crate::specs::Query::value_of))]
-fn name_and_value(option: &[u8]) -> (&[u8], &[u8])
+pub fn name_and_value(option: &[u8]) -> (&[u8], &[u8])
     ensures name { result.0.now ≡ name_of option.now }
     ensures value { result.1.now ≡ value_of option.now }
 {
-    let end = name_length(option);
+    let end = length_before(option, b'=');
     if end < option.len() {
         (&option[..end], &option[end + 1..])
     } else {

@@ -15,12 +15,9 @@ pub fn one_query_reading()
         → IsFilterOf query filter → IsQueryFault query fault → ⊥ }
 {}
 
-/// `$filter=a%2Bb%26c` asks for `a+b&c`.
-pub fn escaped_query_reading()
-    ensures { IsFilterOf escaped_query (Some escaped_filter) }
-{}
-
-/// `$top=5&$filter=Active` has another system query option in front.
-pub fn paged_query_reading()
-    ensures { IsQueryFault paged_query (QueryFault.OtherOption 0) }
+/// Queries by example: `$filter=a%2Bb%26c` asks for `a+b&c`, and `$top=5&$filter=Active` has another system query option
+/// before the filter.
+pub fn queries_by_example()
+    ensures escaped { IsFilterOf escaped_query (Some escaped_filter) }
+    ensures paged { IsQueryFault paged_query (QueryFault.OtherOption 0) }
 {}

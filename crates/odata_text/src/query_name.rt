@@ -3,12 +3,19 @@ ghost use Rattle.odata_text.specs.Query.{is_filter_name, is_refused_name, is_ref
 
 use super::ascii_case::is_named;
 
-/// Whether an option of this name is the filter.
+/// Whether these bytes are the filter's name.
 #[tactic(auto, unfolding(crate::specs::Query::is_filter_name))]
+pub fn is_filter_in_bytes(name: &[u8]) -> bool
+    ensures { result ≡ is_filter_name name.now }
+{
+    is_named(name, b"filter") || is_named(name, b"$filter")
+}
+
+/// Whether an option of this name is the filter.
 pub fn is_filter_name(name: &str) -> bool
     ensures { result ≡ is_filter_name name.now }
 {
-    is_named(name.as_bytes(), b"filter") || is_named(name.as_bytes(), b"$filter")
+    is_filter_in_bytes(name.as_bytes())
 }
 
 /// Whether the name is that of another system query option, without its `$`.

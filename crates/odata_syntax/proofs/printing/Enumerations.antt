@@ -1,6 +1,7 @@
 -- Enumeration literals, piece by piece.
-use Rattle.std.proofs.Common.{◌≡◌, ◌≢◌, ℕ, zero, suc, ◌<◌, ◌==◌, ◌||◌, ◌&&◌, Bool, true, false, List, [], ◌∷◌, ◌++◌, length, get_or, replicate, arith, refl, sym, ◌∙◌, ap, subst, append_assoc, length-append}
-use Rattle.std.proofs.lemmas.Bool.{and_left, and_right, cond-false, cond-true, ne_eqb}
+use Rattle.std.specs.List.{list_any}
+use Rattle.std.proofs.Common.{cond, ◌≡◌, ◌≢◌, ℕ, zero, suc, ◌<◌, ◌==◌, ◌||◌, ◌&&◌, Bool, true, false, List, [], ◌∷◌, ◌++◌, length, get_or, replicate, arith, refl, sym, ◌∙◌, ap, subst, append_assoc, length-append}
+use Rattle.std.proofs.lemmas.Bool.{or_parts, and_left, and_right, cond-false, cond-true, ne_eqb}
 use Rattle.std.proofs.Math.ListN.{get_or-append}
 use Rattle.odata_text.specs.LiteralSpelling.{enumeration_spelling, is_piece_end, trimmed_pieces}
 
@@ -34,6 +35,25 @@ past_quote (b ∷ word) rest lacks =
     ap (λ (xs : List ℕ). b ∷ xs)
     (cond-false (b == 39) (trimmed_pieces true (word ++ 39 ∷ rest)) (enumeration_spelling (word ++ 39 ∷ rest)) (lacks-first 39 b word lacks)
     ∙ past_quote word rest (lacks-rest 39 b word lacks))
+
+-- No space at all.
+
+spaceless_pieces : (before : Bool) (text : List ℕ) → list_any (λ b. b == 32) text ≡ false → trimmed_pieces before text ≡ text
+spaceless_pieces before [] none = refl
+spaceless_pieces before (b ∷ bs) none =
+    let parts = or_parts (b == 32) _ none in
+    cond-false ((b == 32) && (before || is_piece_end bs)) (trimmed_pieces before bs) (b ∷ trimmed_pieces (b == 44) bs) (and_left (b == 32) _ parts.0)
+    ∙ ap (λ (xs : List ℕ). b ∷ xs) (spaceless_pieces (b == 44) bs parts.1)
+
+either : (quote : Bool) (xs ys zs : List ℕ) → xs ≡ zs → ys ≡ zs → cond quote xs ys ≡ zs
+either true xs ys zs first second = first
+either false xs ys zs first second = second
+
+pub spaceless : (text : List ℕ) → list_any (λ b. b == 32) text ≡ false → enumeration_spelling text ≡ text
+spaceless [] none = refl
+spaceless (b ∷ bs) none =
+    let parts = or_parts (b == 32) _ none in
+    ap (λ (xs : List ℕ). b ∷ xs) (either (b == 39) (trimmed_pieces true bs) (enumeration_spelling bs) bs (spaceless_pieces true bs parts.1) (spaceless bs parts.1))
 
 -- Spaces round a piece.
 

@@ -3,11 +3,14 @@ ghost use Rattle.odata_text.specs.LiteralSpelling.{enumeration_spelling, trimmed
 
 use std::alloc::{AllocError, Global};
 
-/// Appends an enumeration literal without the spaces round its pieces.
+/// Appends an enumeration literal without the spaces round its pieces. One that has no space is appended as it stands.
 pub fn write_enumeration(out: &mut String, text: &str) -> Result<(), AllocError>
     ensures ok { OnOk result (string_bytes out.new ≡ string_bytes out.old ++ enumeration_spelling text.now) }
     ensures err { OnErr result (string_bytes out.new ≡ string_bytes out.old) }
 {
+    if !text.as_bytes().contains(&b' ') {
+        return out.push_str(text);
+    }
     let spelling = spelling_of(*out.allocator(), text)?;
     out.push_str(spelling.as_str())
 }

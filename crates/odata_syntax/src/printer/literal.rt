@@ -1,4 +1,6 @@
 ghost use Rattle.std.specs.Prelude.{◌≡◌, ◌++◌, OnErr, OnOk, string_bytes};
+ghost use Rattle.std.specs.Char.{is_ascii_uppercase};
+ghost use Rattle.std.specs.List.{list_any};
 ghost use Rattle.std.specs.Str.{str_to_ascii_lowercase};
 ghost use Rattle.odata_text.specs.LiteralSpelling.{IsLiteralSpelling};
 ghost use Rattle.odata_syntax.specs.NormalForm.{literal_token};
@@ -34,11 +36,21 @@ pub fn write_literal(out: &mut String, kind: LiteralKind, text: &str) -> Result<
     }
 }
 
-/// Appends a text in ASCII lower case.
+/// Whether the text has an ASCII capital letter.
+fn has_capital(text: &str) -> bool
+    ensures { result ≡ list_any is_ascii_uppercase text.now }
+{
+    text.as_bytes().iter().any(|byte| byte.is_ascii_uppercase())
+}
+
+/// Appends a text in ASCII lower case. One that has no capital letter is appended as it stands.
 fn push_lowercase(out: &mut String, text: &str) -> Result<(), AllocError>
     ensures ok { OnOk result (string_bytes out.new ≡ string_bytes out.old ++ str_to_ascii_lowercase text.now) }
     ensures err { OnErr result (string_bytes out.new ≡ string_bytes out.old) }
 {
+    if !has_capital(text) {
+        return out.push_str(text);
+    }
     let lower = text.to_ascii_lowercase(*out.allocator())?;
     out.push_str(&lower)
 }

@@ -1,5 +1,4 @@
 -- Which ASCII bytes an identifier has.
-use Rattle.std.specs.Char.{is_ascii_alphanumeric}
 use Rattle.std.specs.Bool.{beq}
 use Rattle.std.specs.Str.{IsAscii, NonePass}
 use Rattle.std.proofs.lemmas.Str.{NoCharPasses-byte, char_from_byte}
@@ -8,17 +7,10 @@ use Rattle.unicode.specs.GeneralCategory.{general_category}
 use Rattle.unicode.proofs.Facts.{Stepped-below, same_from_beq}
 use Rattle.unicode.proofs.CategoryComputing.{ucd_category}
 use Rattle.unicode.proofs.GeneralCategoryLemmas.{general_category_stepped}
-use Rattle.odata_text.proofs.Common.{not-false, or_right, All-from_get_or, AllPass-from_list_all, list_all-from_AllPass, ◌≡◌, ⊎_elim, ℕ, ◌<◌, ◌≤◌, nat_le, ◌||◌, ◌&&◌, ◌==◌, Bool, true, false, not, List, [], ◌∷◌, length, get_or, arith, refl, sym, ◌∙◌, ap, append-nil, chars, is_ascii_alphabetic, is_ascii, list_all, take_while, encode_utf8_all, nat_tests, and_from, and_parts, both_ways, cases_lt, or_left, IsUtf8-from_ascii, chars-IsAscii, encodes-chars, IsIdentifier, begins_identifier, continues_identifier, identifier_run, is_identifier}
+use Rattle.odata_text.proofs.Common.{not-false, or_right, All-from_get_or, AllPass-from_list_all, list_all-from_AllPass, ◌≡◌, ⊎_elim, ℕ, ◌<◌, ◌≤◌, nat_le, ◌||◌, ◌&&◌, ◌==◌, Bool, true, false, not, List, [], ◌∷◌, length, get_or, arith, refl, sym, ◌∙◌, ap, append-nil, ◌++◌, chars, chars-nil, chars-append, cond-false, take_while-cons, IsAscii-cons, IsAscii-nil, is_ascii_alphabetic, is_ascii, list_all, take_while, encode_utf8_all, nat_tests, and_from, and_parts, both_ways, cases_lt, or_left, IsUtf8-from_ascii, chars-IsAscii, encodes-chars, IsIdentifier, begins_identifier, continues_identifier, identifier_run, is_identifier}
 use Rattle.odata_text.specs.Identifier.{is_following, is_leading}
+pub use Rattle.odata_text.specs.private.PlainTokens.{is_first_byte, is_name_byte}
 use Rattle.odata_text.proofs.characters.Identifiers.{all-from_identifier, identifier-nonempty, list_all-weaker, take_while-front}
-
--- letters and `_`
-abbrev pub is_first_byte : ℕ → Bool
-is_first_byte b = is_ascii_alphabetic b || (b == 95)
-
--- these and digits
-abbrev pub is_name_byte : ℕ → Bool
-is_name_byte b = is_ascii_alphanumeric b || (b == 95)
 
 -- a first byte of an identifier: those of ASCII, or one of a character past ASCII
 abbrev pub is_word_start : ℕ → Bool
@@ -109,6 +101,19 @@ pub run-names : (rest : List ℕ) → list_all is_name_byte rest ≡ true → id
 run-names rest all =
     ap (λ (cs : List ℕ). length (encode_utf8_all cs))
     (ap (take_while continues_identifier) (chars-IsAscii rest (names-ascii rest all) ∙ sym (append-nil rest)) ∙ take_while-front continues_identifier rest [] (names-continue rest all) ∙ append-nil rest)
+
+-- The run of identifier characters at the front ends before any other ASCII byte.
+
+pub run-nothing : identifier_run [] ≡ 0
+run-nothing = ap (λ (cs : List ℕ). length (encode_utf8_all (take_while continues_identifier cs))) chars-nil
+
+pub run-outside : (b : ℕ) (more : List ℕ) → b < 128 → is_name_byte b ≡ false → identifier_run (b ∷ more) ≡ 0
+run-outside b more ascii outside =
+    let one = IsAscii-cons b [] ascii IsAscii-nil in
+    let front : chars (b ∷ more) ≡ b ∷ chars more = chars-append (b ∷ []) more (IsUtf8-from_ascii (b ∷ []) one) ∙ ap (λ (cs : List ℕ). cs ++ chars more) (chars-IsAscii (b ∷ []) one) in
+    let stops : continues_identifier b ≡ false = continues-ascii b ascii ∙ outside in
+    let none : take_while continues_identifier (b ∷ chars more) ≡ [] = take_while-cons continues_identifier b (chars more) ∙ cond-false (continues_identifier b) _ _ stops in
+    ap (λ (cs : List ℕ). length (encode_utf8_all cs)) (ap (take_while continues_identifier) front ∙ none)
 
 pub letters-identifier : (bs : List ℕ) → 0 < length bs → list_all is_ascii_alphabetic bs ≡ true → IsIdentifier bs
 letters-identifier [] some letters = absurd (omega arith)

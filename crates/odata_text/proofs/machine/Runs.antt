@@ -26,7 +26,7 @@ dotted-run part (next ∷ more) identifier all =
     goes-both Dotted Dotted (dotted_parts part (next ∷ more)) part (46 ∷ dotted_parts next more) refl (part-run Dotted part refl (λ l. refl) identifier)
     ∙ dotted-run next more all.0 all.1
 
-identifier-run : (xs : List ℕ) → IsIdentifier xs → run xs ≡ Name
+pub identifier-run : (xs : List ℕ) → IsIdentifier xs → run xs ≡ Name
 identifier-run [] identifier = let some = identifier-nonempty [] identifier in absurd (omega arith)
 identifier-run (b ∷ bs) identifier =
     let parts = and_parts (is_part_byte b) (list_all is_part_byte bs) (identifier-part (b ∷ bs) identifier) in
@@ -43,7 +43,7 @@ pair-run xs pair =
 
 -- Texts in quotes, behind what the state has read.
 
-text-run : (q : State) (lead : Lead) (xs : List ℕ) → step q 39 ≡ Text lead Opened → IsStringSpelling xs → fold step q xs ≡ Text lead Closed
+pub text-run : (q : State) (lead : Lead) (xs : List ℕ) → step q 39 ≡ Text lead Opened → IsStringSpelling xs → fold step q xs ≡ Text lead Closed
 text-run q lead xs opens spelled =
     let behind = with_doubled_quotes spelled.0 ++ 39 ∷ [] in
     ap (fold step q) spelled.1

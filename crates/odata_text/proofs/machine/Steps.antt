@@ -32,7 +32,7 @@ hex-sorts b hex =
     (cases_Bool ((b == 101) || (b == 69))))
     (cases_Bool (is_ascii_digit b))
 
-quote-sort : (b : ℕ) → is_quote (sort_of b) ≡ (b == 39)
+pub quote-sort : (b : ℕ) → is_quote (sort_of b) ≡ (b == 39)
 quote-sort b = grind (arith, nat_tests)
 
 -- Bytes that keep a state.

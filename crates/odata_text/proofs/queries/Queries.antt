@@ -20,7 +20,7 @@ count-none_before p xs j d few inside passes =
     let one : cond {A = ℕ} (p (get_or xs j d)) 1 0 ≡ 1 = cond-true (p (get_or xs j d)) 1 0 passes in
     omega arith
 
-none-before : {X : Type 0} (p : X → Bool) (xs : List X) (i j : ℕ) (d : X) → count_by p xs ≤ 1 → i < j → j < length xs → p (get_or xs i d) ≡ true → p (get_or xs j d) ≡ true → ⊥
+pub none-before : {X : Type 0} (p : X → Bool) (xs : List X) (i j : ℕ) (d : X) → count_by p xs ≤ 1 → i < j → j < length xs → p (get_or xs i d) ≡ true → p (get_or xs j d) ≡ true → ⊥
 none-before p xs i j d few order inside passes_i passes_j =
     let size = length-take-le j xs (omega arith) in
     let first = count-some p (take j xs) i d (omega arith) (ap p (get_or-take j xs i d order) ∙ passes_i) in
@@ -34,7 +34,7 @@ unsound part number start (BadEscape place) sound fault = both_ways _ (sound.esc
 unsound part number start (NotUtf8 option) sound fault = let none = fault.1 in none.not_utf8 sound.utf8
 unsound part number start _ sound fault = fault
 
-same-within : (part : List ℕ) (start place other : ℕ) → (f : IsFirstBadEscape part start place) → (g : IsFirstBadEscape part start other) → (f.within ≡ g.within) ⊎ ((f.within < g.within) ⊎ (g.within < f.within)) → place ≡ other
+pub same-within : (part : List ℕ) (start place other : ℕ) → (f : IsFirstBadEscape part start place) → (g : IsFirstBadEscape part start other) → (f.within ≡ g.within) ⊎ ((f.within < g.within) ⊎ (g.within < f.within)) → place ≡ other
 same-within part start place other f g (inl same) = f.global ∙ ap (λ (k : ℕ). start + k) same ∙ sym g.global
 same-within part start place other f g (inr (inl earlier)) = absurd (both_ways _ (g.first f.within earlier) f.bad)
 same-within part start place other f g (inr (inr later)) = absurd (both_ways _ (f.first g.within later) g.bad)

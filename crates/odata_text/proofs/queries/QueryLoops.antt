@@ -79,14 +79,17 @@ next-given query number xs v t given same r u x is step road =
       at = get_or_default (options_of query) (length xs) [] (v x) turn.0 ∙ sym turn.1;
     })
 
-pub read-room : (query option : List ℕ) (read : List (List ℕ)) (number start : ℕ) (filter : Option (List ℕ)) → IsReadSoFar read start filter → IsNext query read number option → start + length option ≤ length query
-read-room query option read number start filter so_far next =
+-- the option that is read next ends within the query
+pub next-room : (query option : List ℕ) (read : List (List ℕ)) (number start : ℕ) → start ≡ size read → IsNext query read number option → start + length option ≤ length query
+next-room query option read number start begins next =
     let within = sum_by_more_le (λ (o : List ℕ). length o + 1) (options_of query) number [] next.within in
     let all = split-size query in
     let front : size (take number (options_of query)) ≡ size read = ap size next.before in
     let this : length (get_or (options_of query) number []) ≡ length option = ap length next.at in
-    let begins = so_far.begins in
     omega arith
+
+pub read-room : (query option : List ℕ) (read : List (List ℕ)) (number start : ℕ) (filter : Option (List ℕ)) → IsReadSoFar read start filter → IsNext query read number option → start + length option ≤ length query
+read-room query option read number start filter so_far next = next-room query option read number start so_far.begins next
 
 -- one option more, which is the filter or is passed over
 pub read-kept : (option : List ℕ) (read : List (List ℕ)) (start : ℕ) (filter found kept : Option (List ℕ)) → IsReadSoFar read start filter → IsReadable option → GivesFilter option found → KeepsFilter filter found kept

@@ -1,10 +1,10 @@
 -- Tokens that are printed one after another are read back.
 use Rattle.std.proofs.Math.ListN.{get_or-append}
 use Rattle.std.proofs.Math.Seq.{get_or-append_right}
-use Rattle.odata_text.proofs.Common.{drop-drop, drop_at, ◌≡◌, ℕ, ◌+◌, ◌-◌, ◌<◌, ◌≤◌, ◌==◌, not, true, false, List, [], ◌∷◌, ◌++◌, suc, length, get_or, take, drop, chars, arith, refl, sym, ◌∙◌, ap, subst, length-append, append_assoc, append-nil, All, take_while, encode_utf8_all, and_parts, cond-false, nat_tests, take_at, take_while-cons, chars-append, chars-IsAscii, chars-nil, IsUtf8-from_ascii, IsAscii-cons, IsAscii-nil, class_of, continues_identifier, identifier_run, AreTokensOf, ArePrintable, MayFollow, Print, is_separator, may_follow, Spells, AreTokensFrom, IsGap, IsTokenAt, IsTokenList, end_of, is_undelimited, text_limit, token_limit, Space, TokenKind, Int}
+use Rattle.odata_text.proofs.Common.{drop-drop, drop_at, ◌≡◌, ℕ, ◌+◌, ◌-◌, ◌<◌, ◌≤◌, ◌==◌, not, true, false, List, [], ◌∷◌, ◌++◌, suc, length, get_or, take, drop, arith, refl, sym, ◌∙◌, ap, subst, length-append, append_assoc, append-nil, All, and_parts, nat_tests, take_at, class_of, identifier_run, AreTokensOf, ArePrintable, MayFollow, Print, is_separator, may_follow, Spells, AreTokensFrom, IsGap, IsTokenAt, IsTokenList, end_of, is_undelimited, text_limit, token_limit, Space, TokenKind, Int}
 use Rattle.odata_text.specs.Printing.{print_tokens, print_text}
 use Rattle.odata_text.specs.Tokens.{RunsOn}
-use Rattle.odata_text.proofs.characters.IdentifierBytes.{continues-ascii, is_name_byte}
+use Rattle.odata_text.proofs.characters.IdentifierBytes.{is_name_byte, run-nothing, run-outside}
 use Rattle.odata_text.proofs.machine.Longest.{longest-before, separator-ascii}
 
 -- No identifier character stands behind a token.
@@ -13,20 +13,14 @@ separator-name : (b : ℕ) → is_separator b ≡ true → is_name_byte b ≡ fa
 separator-name b separator = grind (arith, nat_tests)
 
 run-none : (b : ℕ) (more : List ℕ) → is_separator b ≡ true → identifier_run (b ∷ more) ≡ 0
-run-none b more separator =
-    let ascii = separator-ascii b separator in
-    let one = IsAscii-cons b [] ascii IsAscii-nil in
-    let front : chars (b ∷ more) ≡ b ∷ chars more = chars-append (b ∷ []) more (IsUtf8-from_ascii (b ∷ []) one) ∙ ap (λ (cs : List ℕ). cs ++ chars more) (chars-IsAscii (b ∷ []) one) in
-    let stops : continues_identifier b ≡ false = continues-ascii b ascii ∙ separator-name b separator in
-    let none : take_while continues_identifier (b ∷ chars more) ≡ [] = take_while-cons continues_identifier b (chars more) ∙ cond-false (continues_identifier b) _ _ stops in
-    ap (λ (cs : List ℕ). length (encode_utf8_all cs)) (ap (take_while continues_identifier) front ∙ none)
+run-none b more separator = run-outside b more (separator-ascii b separator) (separator-name b separator)
 
 follow-separator : (kind : TokenKind) (b : ℕ) → is_undelimited kind ≡ true → may_follow kind b ≡ true → is_separator b ≡ true
 follow-separator Int b undelimited follows = (and_parts (is_separator b) (not (b == 58)) follows).0
 follow-separator _ b undelimited follows = cc
 
 no_run : (kind : TokenKind) (rest : List ℕ) → MayFollow kind rest → RunsOn kind rest → ⊥
-no_run kind [] follows runs = let some = runs.1 in let none : identifier_run [] ≡ 0 = ap (λ (cs : List ℕ). length (encode_utf8_all (take_while continues_identifier cs))) chars-nil in absurd (omega arith)
+no_run kind [] follows runs = let some = runs.1 in let none = run-nothing in absurd (omega arith)
 no_run kind (b ∷ more) follows runs =
     let none = run-none b more (follow-separator kind b runs.0 follows) in
     let some = runs.1 in

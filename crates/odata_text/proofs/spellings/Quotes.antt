@@ -43,7 +43,7 @@ closing_quote (b ∷ c ∷ rest) closed =
           (b ∷ found.0, rw other.0 (ap (λ (ys : List ℕ). b ∷ ys) found.1))
     ]
 
-spelling-from_closed : (xs : List ℕ) → quoted_of xs ≡ Closed → IsStringSpelling xs
+pub spelling-from_closed : (xs : List ℕ) → quoted_of xs ≡ Closed → IsStringSpelling xs
 spelling-from_closed [] closed = cc
 spelling-from_closed (b ∷ bs) closed =
     elim (eqb_tells b 39) [

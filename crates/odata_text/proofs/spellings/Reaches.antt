@@ -4,7 +4,7 @@ use Rattle.std.specs.Int.{IsInRange}
 use Rattle.std.specs.Str.Parse.{digits_value}
 use Rattle.std.proofs.lemmas.List.Sums.{prefix_len_stops}
 use Rattle.std.proofs.lemmas.Str.Parse.{numerals_by_value, tells_by_index, digit_at}
-use Rattle.odata_text.proofs.Common.{All-from_get_or, list_all-from_AllPass, ◌≡◌, ◌⊎◌, inl, inr, ⊎_elim, ℕ, ◌<◌, true, pos, List, [], ◌∷◌, length, get_or, take, arith, refl, sym, ◌∙◌, ap, subst, is_ascii_digit, list_all, prefix_len, IsNumeral, both_ways, cases_lt, nat_tests, get_or-take, length-take-le, prefix_len-le-length, prefix_len_passes, IsIntSpelling, FollowedBy, IsReach, PassesTests, passes, Sign}
+use Rattle.odata_text.proofs.Common.{All-from_get_or, AllPass-from_list_all, list_all-from_AllPass, ◌≡◌, ◌⊎◌, inl, inr, ⊎_elim, ℕ, ◌<◌, true, pos, List, [], ◌∷◌, length, get_or, take, arith, refl, sym, ◌∙◌, ap, subst, is_ascii_digit, list_all, prefix_len, IsNumeral, both_ways, cases_lt, nat_tests, get_or-take, length-take-le, prefix_len-le-length, prefix_len_passes, IsIntSpelling, FollowedBy, IsReach, PassesTests, passes, Sign}
 use Rattle.odata_text.proofs.spellings.Patterns.{either-byte, marked-pair, pair-marked}
 
 -- Digits.
@@ -20,6 +20,9 @@ numeral-digits xs numeral = list_all-from_AllPass is_ascii_digit xs (All-from_ge
 
 pub numeral-none : IsNumeral 10 [] → ⊥
 numeral-none numeral = let some = numeral.0 in absurd (omega arith)
+
+pub digits-numeral : (xs : List ℕ) → 0 < length xs → list_all is_ascii_digit xs ≡ true → IsNumeral 10 xs
+digits-numeral xs some all = (some, (numerals_by_value _ tells_by_index).to xs (λ i below. digit_range (get_or xs i 0) (AllPass-from_list_all is_ascii_digit xs all i 0 below)))
 
 -- a run of digits is the longest numeral at the front
 pub numeral-run : (rest : List ℕ) (n : ℕ) → n ≡ prefix_len is_ascii_digit rest → IsReach (IsNumeral 10) n rest

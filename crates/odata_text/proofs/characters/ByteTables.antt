@@ -1,0 +1,9 @@
+-- A table of flags agrees with a test at each of the 256 bytes, by computing.
+use Rattle.std.proofs.Common.{nat_eq, bit_and}
+use Rattle.odata_text.proofs.Common.{◌≡◌, ℕ, ◌<◌, not, Bool, true, List, get_or, agree_below, agree_below_at}
+
+abbrev pub has_flag : List ℕ → ℕ → ℕ → Bool
+has_flag table flag b = not (nat_eq (bit_and (get_or table b 0) flag) 0)
+
+pub from_table : (table : List ℕ) (flag : ℕ) (test : ℕ → Bool) (b : ℕ) → b < 256 → agree_below (has_flag table flag) test 256 ≡ true → has_flag table flag b ≡ test b
+from_table table flag test b byte agree = agree_below_at (has_flag table flag) test 256 b agree byte

@@ -1,5 +1,0 @@
-use Rattle.odata_text.proofs.readings.Examples.{plain_list}
-use Rattle.odata_text.proofs.laws.plain_reading.Goals as goal
-
-pub returns : goal.returns
-returns c = plain_list

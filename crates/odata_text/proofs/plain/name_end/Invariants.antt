@@ -1,0 +1,10 @@
+use Rattle.odata_text.proofs.Common.{◌-◌, length}
+use Rattle.odata_text.specs.private.PlainTokens.{is_name_byte}
+use Rattle.odata_text.proofs.readings.PlainTokens.{PassesUpTo}
+use Rattle.odata_text.proofs.plain.name_end.Given as goal
+
+abbrev pub invariant-loop-end : goal.invariant-loop-end
+invariant-loop-end l = PassesUpTo is_name_byte l.bytes l.from l.end
+
+abbrev pub decreases-loop-end : goal.decreases-loop-end
+decreases-loop-end l = length l.bytes - l.end
