@@ -4,3 +4,5 @@ pub mod canonical
 pub mod pre_orders
 pub mod explained
 pub mod needed
+pub mod same_forms
+pub mod named

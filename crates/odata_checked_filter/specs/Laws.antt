@@ -1,5 +1,7 @@
 -- What follows from the definitions of a list of nodes alone, and an example that shows that they mean something.
-use Rattle.std.specs.Prelude.{◌≡◌, ℕ, ◌+◌, pos, [], ◌∷◌, codes, length}
+use Rattle.std.specs.Prelude.{◌≡◌, ◌≢◌, ◌↔◌, ℕ, ◌+◌, pos, List, [], ◌∷◌, Contains, codes, length, map, nat_eq}
+use Rattle.std.specs.Cmp.Lexicographic.{pointwise}
+use Rattle.std.specs.List.{IsDistinct}
 use Rattle.edm_values.specs.declared.primitive.PrimitiveType.{PrimitiveType}
 use Rattle.edm_values.specs.declared.value.Value.{Value}
 use Rattle.odata_syntax.specs.FirstRun.{active_and_id}
@@ -18,6 +20,7 @@ use Rattle.odata_checked_filter.specs.Filter.{Filter, IsTypeAt}
 use Rattle.odata_checked_filter.specs.NameKinds.{IsSlotAt}
 use Rattle.odata_checked_filter.specs.FlatTree.{FlatTree, tree_of_nodes}
 use Rattle.odata_checked_filter.specs.ListGrowth.{IsGrownBy, IsKept, IsOpened, node_put, with_node}
+use Rattle.odata_checked_filter.specs.PropertyPaths.{node_paths, path_text, property_paths}
 use Rattle.odata_checked_filter.specs.Stands.{ChildrenStand, IsKindOf, Stands, text_of_shape}
 
 -- a list of nodes stands for one tree at most, which is the tree of the list
@@ -98,3 +101,13 @@ OneTypeAt = (filter : Filter) (k : ℕ) (a b : ExprType) → IsTypeAt filter k a
 -- and of one slot at most
 abbrev pub OneSlotAt : Type 0
 OneSlotAt = (filter : Filter) (k a b : ℕ) → IsSlotAt filter k a → IsSlotAt filter k b → a ≡ b
+
+-- no property path of a tree stands twice among them
+abbrev pub PathsOnce : Type 0
+PathsOnce = (tree : Tree) → IsDistinct (pointwise nat_eq) (property_paths tree)
+
+-- they are the paths of its nodes, but for the empty one
+abbrev pub PathsOfNodes : Type 0
+PathsOfNodes =
+    (tree : Tree) (text : List ℕ)
+    → Contains (property_paths tree) text ↔ ((text ≢ []) × Contains (map path_text (node_paths [] [] tree)) text)

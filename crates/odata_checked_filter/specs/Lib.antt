@@ -5,6 +5,7 @@ pub use Rattle.csdl_schema.specs.SchemaModel
 pub use Rattle.edm_values.specs.PlainVal
 pub use Rattle.edm_values.specs.Val
 pub use Rattle.odata_expression_types.specs.Considered
+pub use Rattle.odata_expression_types.specs.HasTyping
 pub use Rattle.odata_expression_types.specs.LiteralValue
 pub use Rattle.odata_expression_types.specs.NeededPaths
 pub use Rattle.odata_expression_types.specs.PreOrder
@@ -32,5 +33,7 @@ pub mod TypeText
 pub mod Explanation
 pub mod Calls
 pub mod LambdaDepth
+pub mod PropertyPaths
 pub mod Laws
+pub mod CanonicalFilters
 pub mod private

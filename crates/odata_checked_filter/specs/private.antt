@@ -6,3 +6,4 @@ pub mod KeptLists
 pub mod KindTexts
 pub mod LambdaLines
 pub mod NeededWalk
+pub mod PathWalk

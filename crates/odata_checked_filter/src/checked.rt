@@ -1,4 +1,4 @@
-ghost use Rattle.std.specs.Prelude.{◌≡◌, ◌<◌, ◌↔◌, ℕ, length, slice_get, string_bytes};
+ghost use Rattle.std.specs.Prelude.{◌≡◌, ◌<◌, ◌↔◌, ℕ, length, map, slice_get, string_bytes};
 ghost use Rattle.std.specs.Prelude.{IsTrue, IsSome, IfSome, IfNone, IfOk, Some};
 ghost use Rattle.std.specs.Option.{option_map};
 ghost use Rattle.odata_syntax.specs.CanonicalText.{IsCanonicalText};
@@ -8,6 +8,7 @@ ghost use Rattle.odata_checked_filter.specs.Explanation.{IsExplanation};
 ghost use Rattle.odata_checked_filter.specs.Filter.{IsFilter, IsTypeAt, filter_of, tree_of_filter};
 ghost use Rattle.odata_checked_filter.specs.LambdaDepth.{lambda_depth};
 ghost use Rattle.odata_checked_filter.specs.NameKinds.{IsSlotAt, level_at};
+ghost use Rattle.odata_checked_filter.specs.PropertyPaths.{property_paths};
 ghost use Rattle.odata_checked_filter.specs.private.KeptLists.{expansion_in, list_in};
 ghost use Rattle.odata_expression_types.specs.PreOrder.{pre_order, span_of_tree};
 ghost use Rattle.odata_signatures.specs.TypeView.{expr_type};
@@ -19,6 +20,7 @@ use super::explanation::explanation_of;
 use super::kept_list::KeptList;
 use super::lambda_depth::deepest;
 use super::node_list::NodeList;
+use super::property_paths::paths_of_list;
 use csdl_schema::{Expansion, Schema, TypeId};
 use edm_values::Value;
 use odata_expression_types::trees_have_one_type;
@@ -226,6 +228,17 @@ impl<'s> Checked<'s> {
     {
         let list = self.list();
         deepest(list, 0, list.nodes().len())
+    }
+
+    /// The properties that the filter reads, by their paths from the filtered entity on: a property of that type by its
+    /// name, as `Name`, a step by its base's path and its name, as `Home/City`, and what a range variable leads to by its
+    /// collection's path, as `Parts/Qty` of `Parts/any(p:p/Qty gt 1)`. Each stands once, in the order of the first node
+    /// that names it in pre-order, so `Home`, which a node of `Home/City` names too, comes after that. The only error is
+    /// out of memory.
+    pub fn property_paths(&self, alloc: Global) -> Result<Vec<String>, AllocError>
+        ensures { IfOk result (λ paths. map string_bytes paths.items ≡ property_paths (tree_of_filter self.now)) }
+    {
+        paths_of_list(alloc, self.list())
     }
 
     /// Whether evaluating the filter makes texts.

@@ -30,7 +30,7 @@ pub(crate) fn deepest(list: &NodeList, from: usize, stop: usize) -> usize
 }
 
 /// Whether the node is a lambda operator with a body.
-fn is_lambda(node: &CheckedNode) -> bool
+pub(crate) fn is_lambda(node: &CheckedNode) -> bool
     ensures { result ≡ kind_is_lambda node.now.kind }
 {
     match node.kind {

@@ -1,7 +1,13 @@
+ghost use Rattle.odata_checked_filter.specs.CanonicalFilters.{AreCoveredAlike, ExpandTheSame, HaveAsManyNodes};
+ghost use Rattle.odata_checked_filter.specs.CanonicalFilters.{HaveOneTypeAt, HaveSameTypesAt, OfCanonicalTexts};
 ghost use Rattle.odata_checked_filter.specs.Laws.{ClosedStands, ItemListStands, KeptStands, OneSlotAt, OneTree};
-ghost use Rattle.odata_checked_filter.specs.Laws.{OneTypeAt, PushedStands};
+ghost use Rattle.odata_checked_filter.specs.Laws.{OneTypeAt, PathsOfNodes, PathsOnce, PushedStands};
 
-use odata_expression_types::trees_have_one_type;
+use odata_expression_types::{
+    canonical_texts_keep_types, canonical_texts_need_the_same, normal_forms_keep_types,
+    trees_have_one_type,
+};
+use odata_text::tokens_are_spelled;
 
 /// A law: a list of nodes stands for one tree at most, and that is read off it as `tree_of_nodes` says.
 pub fn a_list_stands_for_one_tree()
@@ -28,3 +34,25 @@ pub fn numbers_have_one_type_and_slot()
 {
     trees_have_one_type();
 }
+
+/// A law: a filter and the filter of its canonical text have as many nodes, the same type at each, and the same paths
+/// in their expansions. So an entity that has all expanded which the one needs has all which the other needs.
+pub fn canonical_texts_keep_filters()
+    ensures count { OfCanonicalTexts HaveAsManyNodes }
+    ensures types { OfCanonicalTexts HaveSameTypesAt }
+    ensures one { OfCanonicalTexts HaveOneTypeAt }
+    ensures paths { OfCanonicalTexts ExpandTheSame }
+    ensures covers { OfCanonicalTexts AreCoveredAlike }
+{
+    trees_have_one_type();
+    normal_forms_keep_types();
+    canonical_texts_keep_types();
+    canonical_texts_need_the_same();
+    tokens_are_spelled();
+}
+
+/// A law: the property paths of a tree are those that some node of it names, each once.
+pub fn property_paths_stand_once()
+    ensures once { PathsOnce }
+    ensures nodes { PathsOfNodes }
+{}

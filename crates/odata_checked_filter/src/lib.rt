@@ -14,13 +14,14 @@ mod lambda_depth;
 mod laws;
 mod needed_paths;
 mod node_list;
+mod property_paths;
 mod stored_filter;
 
 pub use checked::Checked;
 pub use checked_node::{CheckedNode, NodeKind};
 pub use laws::{
-    a_list_is_read_as_its_tree, a_list_stands_for_one_tree, nodes_stand_where_they_are_put,
-    numbers_have_one_type_and_slot,
+    a_list_is_read_as_its_tree, a_list_stands_for_one_tree, canonical_texts_keep_filters,
+    nodes_stand_where_they_are_put, numbers_have_one_type_and_slot, property_paths_stand_once,
 };
 pub use needed_paths::expansion_of;
 pub use node_list::NodeList;

@@ -2,6 +2,7 @@ pub use Rattle.csdl_schema.specs.ExpansionView
 pub use Rattle.csdl_schema.specs.ExprType
 pub use Rattle.csdl_schema.specs.PathSet
 pub use Rattle.csdl_schema.specs.SchemaModel
+pub use Rattle.edm_entities.specs.Fits
 pub use Rattle.edm_entities.specs.HasType
 pub use Rattle.edm_entities.specs.Row
 pub use Rattle.edm_values.specs.MomentParts
@@ -35,6 +36,7 @@ pub mod CallGives
 pub mod CollectionGives
 pub mod ComesTo
 pub mod ComesToMembers
+pub mod ConformsAtPaths
 pub mod CompareGives
 pub mod EndsOnce
 pub mod EndsOnceAtPaths

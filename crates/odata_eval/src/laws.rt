@@ -7,6 +7,8 @@ ghost use Rattle.odata_syntax.specs.declared.node.Quantifier.{Quantifier};
 ghost use Rattle.odata_syntax.specs.declared.node.Quantifier.TheVariants.{All, Any};
 ghost use Rattle.odata_eval.specs.EndsOnce.{EndsOnceOnEntities, TypedEndsOnce};
 ghost use Rattle.odata_eval.specs.EndsOnceAtPaths.{TypedEndsOnceAtPaths};
+ghost use Rattle.odata_eval.specs.ConformsAtPaths.{AreAllNeededAlike, ConformAtPaths, EndsOnceAtPathsOnEntities};
+ghost use Rattle.odata_eval.specs.ConformsAtPaths.{FitAtAnyPaths, HaveTypesAtEveryPath};
 ghost use Rattle.csdl_schema.specs.SchemaModel.{Slots};
 ghost use Rattle.odata_eval.specs.ComesTo.{ComesTo, ComesToIn, false_and_missing, item_value};
 ghost use Rattle.odata_eval.specs.ComesToMembers.{ComesToOn, all_alike, is_null, named, null_literal, one_div_zero};
@@ -65,6 +67,26 @@ pub fn typed_trees_end_once_on_entities()
 {
     typed_trees_end_once();
     what_fits_has_its_type();
+}
+
+/// A law: a value of a type has that type at every path, whatever is needed, and no other value has it where all is
+/// needed; so have the values of variables, at any paths, and what some JSON fits as an entity.
+pub fn values_have_types_at_paths()
+    ensures values { HaveTypesAtEveryPath }
+    ensures all_needed { AreAllNeededAlike }
+    ensures variables { FitAtAnyPaths }
+    ensures fits { ConformAtPaths }
+{
+    what_fits_has_its_type();
+}
+
+/// A law: so an expression that has a type ends once on every entity of the filtered type, with range variables at
+/// paths of their own, where all is needed that it needs.
+pub fn entities_end_once_at_paths()
+    ensures { EndsOnceAtPathsOnEntities }
+{
+    typed_trees_end_once_at_paths();
+    values_have_types_at_paths();
 }
 
 /// A law: the members of a collection and the items of a list, taken one by one from the first on, come to what the

@@ -22,8 +22,8 @@ mod walk;
 pub use evaluator::evaluate;
 pub use fault::EvalFault;
 pub use laws::{
-    canonical_texts_keep_outcomes, first_run_comes_to, members_come_to, one_by_one,
-    typed_trees_end_once, typed_trees_end_once_at_paths, typed_trees_end_once_on_entities,
-    unread_operands_stand_alone,
+    canonical_texts_keep_outcomes, entities_end_once_at_paths, first_run_comes_to, members_come_to,
+    one_by_one, typed_trees_end_once, typed_trees_end_once_at_paths,
+    typed_trees_end_once_on_entities, unread_operands_stand_alone, values_have_types_at_paths,
 };
 pub use verdict::Verdict;

@@ -1,4 +1,4 @@
-ghost use Rattle.std.specs.Prelude.{◌≡◌, ◌≤◌, ◌↔◌, ◌++◌, ◌∷◌, [], ℕ, false, length, map, IfOk, IsTrue, OnErr, OnOk};
+ghost use Rattle.std.specs.Prelude.{◌≡◌, ◌==◌, ◌≤◌, ◌↔◌, ◌++◌, ◌∷◌, [], ℕ, false, length, map, IfOk, IsTrue, OnErr, OnOk};
 ghost use Rattle.odata_expansion.specs.PathSet.{PropertyPath, Covers, with_path};
 ghost use Rattle.odata_expansion.specs.ExpansionView.{is_needed_at, next_node, paths_in, IsReached, KeepsPaths, LeadsTo};
 ghost use Rattle.odata_expansion.specs.private.StepView.{marked};
@@ -36,6 +36,13 @@ impl Expansion {
             alloc,
             steps: Vec::new(alloc),
         }
+    }
+
+    /// Whether the set has no steps, and so no paths.
+    pub fn is_empty(&self) -> bool
+        ensures { result ≡ (length self.now == 0) }
+    {
+        self.steps.is_empty()
     }
 
     /// Whether the path of these names is in the set. The empty path never is.

@@ -2,6 +2,7 @@
 pub mod Enumerations
 pub mod Literals
 pub mod Nodes
+pub mod Paths
 pub mod Places
 pub mod Pieces
 pub mod Readings

@@ -3,6 +3,8 @@ pub use Rattle.csdl_schema.specs.ExpansionView
 pub use Rattle.csdl_schema.specs.ExprType
 pub use Rattle.csdl_schema.specs.PathSet
 pub use Rattle.csdl_schema.specs.SchemaModel
+pub use Rattle.edm_enumerations.specs.EnumerationValue
+pub use Rattle.edm_enumerations.specs.Spaces
 pub use Rattle.edm_values.specs.Civil
 pub use Rattle.edm_values.specs.DateLiteral
 pub use Rattle.edm_values.specs.GuidLiteral
@@ -34,12 +36,14 @@ pub use Rattle.odata_text.specs.LiteralSpelling
 pub use Rattle.odata_text.specs.TokenModel
 pub use Rattle.odata_text.specs.Tokens
 pub mod LiteralValue
+pub mod EnumerationSpelling
 pub mod Typed
 pub mod Considered
 pub mod FirstUntypable
 pub mod FirstAmong
 pub mod HasTyping
 pub mod PreOrder
+pub mod SamePaths
 pub mod SameTypes
 pub mod Sides
 pub mod Reads

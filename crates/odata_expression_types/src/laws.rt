@@ -1,3 +1,4 @@
+ghost use Rattle.odata_expression_types.specs.EnumerationSpelling.{SpelledByPieces};
 ghost use Rattle.odata_expression_types.specs.Laws.{FewNodes, FirstBelow, FirstItself, ItemFilterTyped, MixedFilterUntyped};
 ghost use Rattle.odata_expression_types.specs.Laws.{OneLiteralValue, OneNameAndText, OneRefusal, OneType, OneUntypableStart};
 ghost use Rattle.odata_expression_types.specs.Laws.{QuotingIsText, RefusedIsUntyped, TypedIsClear, UnreadReason};
@@ -26,6 +27,12 @@ pub fn literals_have_one_value()
 /// A law: the spelling of an enumeration literal is of one name and one text at most.
 pub fn enumeration_literals_have_one_name()
     ensures { OneNameAndText }
+{}
+
+/// A law: the canonical spelling of an enumeration literal has the pieces of its text, whatever that is, without their
+/// outer spaces and with a comma between each two.
+pub fn enumeration_literals_are_spelled_by_pieces()
+    ensures { SpelledByPieces }
 {}
 
 /// A law: a tree that has a type has no untypable node.

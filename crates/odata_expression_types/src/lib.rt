@@ -8,9 +8,12 @@ mod refusal;
 
 pub use laws::{
     a_filter_of_items_is_boolean, a_number_is_no_text, children_come_first,
-    enumeration_literals_have_one_name, literals_have_one_value, quoting_trees_are_texts,
-    texts_have_few_nodes, texts_have_one_refusal, trees_have_one_type, typed_trees_are_clear,
-    unread_operands_have_one_reason, untypable_nodes_start_apart,
+    enumeration_literals_are_spelled_by_pieces, enumeration_literals_have_one_name,
+    literals_have_one_value, quoting_trees_are_texts, texts_have_few_nodes, texts_have_one_refusal,
+    trees_have_one_type, typed_trees_are_clear, unread_operands_have_one_reason,
+    untypable_nodes_start_apart,
 };
-pub use normal_form_laws::{canonical_texts_keep_types, normal_forms_keep_types};
+pub use normal_form_laws::{
+    canonical_texts_keep_types, canonical_texts_need_the_same, normal_forms_keep_types,
+};
 pub use refusal::{Refusal, TypeFault, TypeFaultCode};

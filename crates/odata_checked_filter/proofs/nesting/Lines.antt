@@ -29,7 +29,7 @@ line_onward list i j (tree ∷ trees) line =
     let behind : line.middle ≤ j = line_onward list line.middle j trees line.right in
     omega (arith, before, behind)
 
-line_behind :
+pub line_behind :
     (list : FlatTree) (i m j : ℕ) (trees more : List Tree)
     → AreInLine list i m trees
     → AreInLine list m j more
@@ -49,7 +49,7 @@ deepest_behind (tree ∷ trees) more =
 
 -- ---- the children of a node
 
-one_line : (schema : SchemaModel) (n : ℕ) (scope : Scope) (list : FlatTree) (i j : ℕ) (tree : Tree) → Stands schema n scope list i j tree → AreInLine list i j (tree ∷ [])
+pub one_line : (schema : SchemaModel) (n : ℕ) (scope : Scope) (list : FlatTree) (i j : ℕ) (tree : Tree) → Stands schema n scope list i j tree → AreInLine list i j (tree ∷ [])
 one_line schema n scope list i j tree stands =
     record { middle = j; left = record { schema = schema; filtered = n; scope = scope; stands = stands }; right = refl }
 
@@ -72,7 +72,7 @@ all_line schema n scope list i j (more_trees tree trees) stand = record {
   right = all_line schema n scope list stand.middle j trees stand.right;
 }
 
-children_line :
+pub children_line :
     (schema : SchemaModel) (n : ℕ) (scope : Scope) (list : FlatTree) (i j : ℕ) (shape : Shape)
     → ChildrenStand schema n scope list i j shape
     → AreInLine list i j (children_of shape)
@@ -105,11 +105,11 @@ children_line schema n scope list i j (lambda quantifier base variable body) sta
 
 -- ---- a node's depth, from those of its children
 
-abbrev is_lambda : Shape → Bool
+abbrev pub is_lambda : Shape → Bool
 is_lambda (lambda quantifier base variable body) = true
 is_lambda _ = false
 
-lambda_kind :
+pub lambda_kind :
     (values : List Value) (slots : Slots) (root : List ℕ) (scope : Scope) (shape : Shape) (kind : NodeKind)
     → IsKindOf values slots root scope shape kind
     → kind_is_lambda kind ≡ is_lambda shape

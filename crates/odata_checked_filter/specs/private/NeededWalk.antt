@@ -1,5 +1,5 @@
 -- For private clauses: what a walk over a filter's list puts into an expansion.
-use Rattle.std.specs.Prelude.{◌≡◌, ◌⊎◌, ◌↔◌, ◌++◌, ◌≤◌, ℕ, ◌+◌, List, [], ◌∷◌, Bool, not, true, false, is_some, Option, None, Some, length, nat_eq, slice_get, IfSome, IsSomeAnd, if◌then◌else◌}
+use Rattle.std.specs.Prelude.{◌≡◌, ◌⊎◌, ◌↔◌, ◌≤◌, ℕ, ◌+◌, List, [], ◌∷◌, Bool, not, true, false, is_some, Option, None, Some, length, nat_eq, slice_get, IfSome, IsSomeAnd, if◌then◌else◌}
 use Rattle.odata_syntax.specs.Tree.{Tree, node, name, member}
 use Rattle.csdl_schema.specs.ExpansionView.{LeadsTo, StepModel, paths_in}
 use Rattle.csdl_schema.specs.PathSet.{PropertyPath}

@@ -1,5 +1,5 @@
 -- Values of types at property paths, of which some are needed.
-use Rattle.std.proofs.Common.{◌≡◌, ◌∙◌, ◌++◌, refl, sym, ap, subst, ℕ, List, [], ◌∷◌, true, false, Option, Some, None, cond, map, nat_eq}
+use Rattle.std.proofs.Common.{◌≡◌, ◌∙◌, ◌++◌, refl, sym, ap, subst, ℕ, List, [], ◌∷◌, true, false, Option, Some, None, cond, map, nat_eq, length, arith}
 use Rattle.std.specs.Prelude.{IsSomeAnd, MatchOption, find, unwrap_or}
 use Rattle.std.specs.List.{AllByRecursion}
 use Rattle.std.specs.Option.{option_map}
@@ -65,6 +65,14 @@ module _ (slots : Slots) (needed : PathSet) where
     all_at : (path : PropertyPath) (type : SingleType) (values : Vals) → AllHaveType slots type values → AllHaveTypeAt slots needed path type values
     all_at path type no_items all = tt
     all_at path type (item v more) all = (has_at path (single type) v all.0, all_at path type more all.1)
+
+  pub fitting_at_each : (environment : Environment) (paths : VariablePaths) → length paths ≡ length environment → IsFitting slots environment → AreFittingAt slots needed environment paths
+  fitting_at_each [] [] as_many fitting = tt
+  fitting_at_each [] (path ∷ paths) as_many fitting = omega arith
+  fitting_at_each (bound ∷ more) [] as_many fitting = omega arith
+  fitting_at_each (bound ∷ more) (path ∷ paths) as_many fitting =
+      let fewer : length paths ≡ length more = omega arith in
+      (has_at path bound.variable.type_of bound.value fitting.0, fitting_at_each more paths fewer fitting.1)
 
   mutual
     pub shallow_has : (path : PropertyPath) (type : ExprType) (v : Val) → HasTypeAt slots needed path type v → HasType (shallow slots) type v

@@ -10,6 +10,7 @@ use Rattle.edm_entities.specs.Fits.{Fits}
 use Rattle.edm_entities.specs.HasType.{HasType}
 use Rattle.edm_entities.specs.Row.{value_of}
 use Rattle.odata_expression_types.specs.NeededPaths.{path_of}
+use Rattle.odata_eval.specs.ConformsAtPaths.{ConformAtPaths, EndsOnceAtPathsOnEntities}
 use Rattle.odata_eval.specs.EndsOnce.{EndsOnceOnEntities, TypedEndsOnce}
 use Rattle.odata_eval.specs.EndsOnceAtPaths.{TypedEndsOnceAtPaths}
 use Rattle.odata_eval.specs.Environment.{scope_of}
@@ -35,3 +36,14 @@ pub ends_on_entities :
 ends_on_entities ends fits row now environment tree type is_moment entity fitting typed =
     ends (slots_of row.schema) (type_name_at row.schema row.type_id) now (value_of row) environment tree type is_moment
     (fits (slots_of row.schema) (paths_in row.expansion) (type_name_at row.schema row.type_id) entity.conforms.0 (value_of row) entity.conforms.1) fitting typed
+
+-- ---- at paths
+
+pub conforms_at : ((slots : Slots) (expansion : PathSet) (type_name : List ℕ) (json : Data) (v : Val) → Fits (expanded slots expansion) type_name json v → HasType slots (single (structured type_name)) v)
+    → ConformAtPaths
+conforms_at fits slots expansion needed root json v is = has_at slots needed [] (single (structured root)) v (fits slots expansion root json v is)
+
+pub ends_at_on_entities : TypedEndsOnceAtPaths → ConformAtPaths → EndsOnceAtPathsOnEntities
+ends_at_on_entities ends conform row needed now environment paths tree type is_moment entity fitting typed covered =
+    ends (slots_of row.schema) needed (type_name_at row.schema row.type_id) now (value_of row) environment paths tree type is_moment
+    (conform (slots_of row.schema) (paths_in row.expansion) needed (type_name_at row.schema row.type_id) entity.conforms.0 (value_of row) entity.conforms.1) fitting typed covered

@@ -131,6 +131,25 @@ each_same facts slots root (t ∷ ts) (n ∷ ns) (u ∷ us) are same = (
 each_same facts slots root [] (n ∷ ns) us are same = absurd are
 each_same facts slots root (t ∷ ts) [] us are same = absurd are
 
+normal_each : LiteralFacts → (slots : Slots) (root : List ℕ) (ts ns : List Tree) → AreNormal ts ns → HaveSameTypesByNumber slots root ts ns
+normal_each facts slots root [] [] are = tt
+normal_each facts slots root (t ∷ ts) (n ∷ ns) are = (
+  λ scope type. (types_to facts slots root scope t n type are.0, types_from facts slots root scope t n type are.0),
+  normal_each facts slots root ts ns are.1,
+)
+normal_each facts slots root [] (n ∷ ns) are = absurd are
+normal_each facts slots root (t ∷ ts) [] are = absurd are
+
+pub normal_by_number : LiteralFacts → (slots : Slots) (root : List ℕ) (tree normal : Tree) → IsNormalForm tree normal → HaveSameTypesByNumber slots root (pre_order tree) (pre_order normal)
+normal_by_number facts slots root tree normal is = normal_each facts slots root (pre_order tree) (pre_order normal) (normal_nodes tree normal is)
+
+bare_each : (slots : Slots) (root : List ℕ) (ts : List Tree) → HaveSameTypesByNumber slots root ts (map bare ts)
+bare_each slots root [] = tt
+bare_each slots root (t ∷ ts) = (λ scope type. (bare_to slots root scope t type, bare_from slots root scope t type), bare_each slots root ts)
+
+pub bare_by_number : (slots : Slots) (root : List ℕ) (tree : Tree) → HaveSameTypesByNumber slots root (pre_order tree) (pre_order (bare tree))
+bare_by_number slots root tree = subst (λ (ts : List Tree). HaveSameTypesByNumber slots root (pre_order tree) ts) (bare_nodes tree) (bare_each slots root (pre_order tree))
+
 pub same_by_number : LiteralFacts → (slots : Slots) (root : List ℕ) (tree normal again : Tree) → IsNormalForm tree normal → bare again ≡ bare normal
     → HaveSameTypesByNumber slots root (pre_order tree) (pre_order again)
 same_by_number facts slots root tree normal again is same =

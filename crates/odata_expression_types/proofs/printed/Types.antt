@@ -13,7 +13,7 @@ use Rattle.odata_expression_types.proofs.types.Sides.{alike_normal, between_carr
 use Rattle.odata_expression_types.proofs.printed.Literals.{LiteralFacts, alike, typed_from, typed_to}
 
 -- what the normal form is, by its shape
-made : (start stop : ℕ) (other shape : Shape) (normal : Tree) → normal ≡ node start stop other → other ≡ shape → normal ≡ node start stop shape
+pub made : (start stop : ℕ) (other shape : Shape) (normal : Tree) → normal ≡ node start stop other → other ≡ shape → normal ≡ node start stop shape
 made start stop other shape normal is same = is ∙ ap (λ (s : Shape). node start stop s) same
 
 mutual

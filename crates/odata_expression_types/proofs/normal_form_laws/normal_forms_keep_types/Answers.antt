@@ -1,4 +1,5 @@
 use Rattle.odata_expression_types.proofs.printed.Literals.{LiteralFacts, alike, value_from, value_to}
+use Rattle.odata_expression_types.proofs.printed.Nodes.{bare_by_number, normal_by_number}
 use Rattle.odata_expression_types.proofs.printed.Places.{bare_from, bare_to}
 use Rattle.odata_expression_types.proofs.printed.Types.{types_from, types_to}
 use Rattle.odata_expression_types.proofs.types.Sides.{quoted_bare, quoted_normal}
@@ -27,6 +28,17 @@ returns-clause-types c = λ slots root scope tree normal type is.
 pub returns-clause-places : goal.returns-clause-places
 returns-clause-places c = λ slots root scope tree type.
     (λ typed. bare_to slots root scope tree type typed, λ typed. bare_from slots root scope tree type typed)
+
+pub returns-clause-nodes : goal.returns-clause-nodes
+returns-clause-nodes c =
+    let facts : LiteralFacts = record {
+      ints = int_values c.texts_have_one_value.ensures.int c.ints_read_back.ensures;
+      moments = moment_values c.texts_have_one_value.ensures.moment c.moments_read_back.ensures.value;
+      guids = guid_values c.texts_have_one_value.ensures.guid c.guids_read_back.ensures;
+    } in normal_by_number facts
+
+pub returns-clause-nodes_bare : goal.returns-clause-nodes_bare
+returns-clause-nodes_bare c = bare_by_number
 
 pub returns-clause-quotes : goal.returns-clause-quotes
 returns-clause-quotes c = quoted_normal

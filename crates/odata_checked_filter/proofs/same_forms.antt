@@ -1,0 +1,3 @@
+-- What a filter and that of its canonical text have alike.
+pub mod Filters
+pub mod NodeTypes
