@@ -1,3 +1,4 @@
 pub mod Found
+pub mod InMemory
 pub mod Split
 pub mod Walked

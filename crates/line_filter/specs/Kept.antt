@@ -118,3 +118,9 @@ StopsWith items Lacks text (Stop.Memory line) = Lacks text line ⊎ StopsOn item
 -- that, of items that stand in memory, of which each comes
 abbrev pub StopsHeld : {X F : Type 0} → Items X F → List ℕ → Stop F → Type 0
 StopsHeld items text stop = StopsWith items (λ text line. ⊥) text stop
+
+-- the stop is told of an item, and of no device
+abbrev pub IsOfItem : {F : Type 0} → Stop F → Type 0
+IsOfItem (Stop.Read line) = ⊥
+IsOfItem Stop.Write = ⊥
+IsOfItem _ = Unit {0}

@@ -6,5 +6,6 @@ pub mod Places
 pub mod Once
 pub mod Growth
 pub mod DeviceCalls
+pub mod RecordedDevice
 pub mod LineStreams
 pub mod private

@@ -1,8 +1,8 @@
 ghost use Rattle.std.specs.Prelude.{IfOk, IfErr, IfSome, MatchResult, OnOk};
 ghost use Rattle.std.specs.Io.KnownBytes.{Keeps};
 ghost use Rattle.line_filter.specs.DeviceCalls.{StaysWell, FlushesLast};
-ghost use Rattle.line_filter.specs.Growth.{Writes};
-ghost use Rattle.line_filter.specs.Kept.{Filters, StopsHeld, StopsWith};
+ghost use Rattle.line_filter.specs.Growth.{Grows, Writes};
+ghost use Rattle.line_filter.specs.Kept.{Filters, IsOfItem, StopsHeld, StopsWith};
 ghost use Rattle.line_filter.specs.LineItems.{lines, SaysTheSame};
 ghost use Rattle.line_filter.specs.LineSource.{left_of, IsOver};
 ghost use Rattle.line_filter.specs.LineStreams.{LacksLine, ReadsUntil, WritesUntil};
@@ -16,7 +16,7 @@ use super::places::write_kept_places;
 use super::stop::Stop;
 use super::stream::write_kept_stream;
 use super::tally::Tally;
-use super::walk::{Progress, write_kept_lines};
+use super::walk::{Progress, keep_lines};
 use std::alloc::Global;
 use std::io::{Read, Write};
 
@@ -79,24 +79,31 @@ pub fn filter_reader<R: Read, S: Reads<R>, J: Judge, W: Write, T: Writes<W>>(
     }
 }
 
-/// [`filter_reader`] over bytes that stand in memory, where no read can fail.
-pub fn filter_bytes<J: Judge, W: Write, T: Writes<W>>(
-    alloc: Global,
+/// Judges the lines of bytes that stand in memory, and puts those that are kept after what a vector holds, unchanged and
+/// each followed by LF.
+///
+/// Lines are judged as by [`filter_reader`]. No device is called, so the answer is neither `Read` nor `Write`: where a
+/// kept line finds no room it is `Memory`, and the vector has the kept lines before it.
+pub fn filter_bytes<J: Judge>(
     judge: &mut J,
     bytes: &[u8],
-    out: &mut W,
+    out: &mut Vec<u8>,
 ) -> Result<Tally, Stop<J::Fault>>
-    ensures filters { IfOk result (λ tally. Writes (W.contents out.old) (W.contents out.new)
+    ensures filters { IfOk result (λ tally. Grows out.old.items out.new.items
         (λ text. Filters (lines (J.says judge.old) bytes.now) text tally)) }
-    ensures stops { IfErr result (λ stop. Writes (W.contents out.old) (W.contents out.new)
+    ensures stops { IfErr result (λ stop. Grows out.old.items out.new.items
         (λ text. StopsHeld (lines (J.says judge.old) bytes.now) text stop)) }
-    ensures writes { MatchResult result (λ tally. FlushesLast (T.calls out.old) (T.calls out.new))
-        (λ stop. WritesUntil (T.calls out.old) (T.calls out.new) stop) }
+    ensures of_item { IfErr result IsOfItem }
     ensures same { SaysTheSame (J.says judge.old) (J.says judge.new) }
 {
-    match write_kept_lines::<J, W, T>(alloc, judge, bytes, out) {
-        Ok(progress) => finish::<J::Fault, W, T>(progress, out),
-        Err(_) => Err(Stop::Write),
+    let Progress {
+        lines: _,
+        tally,
+        stop,
+    } = keep_lines(judge, bytes, out);
+    match stop {
+        Some(stop) => Err(stop),
+        None => Ok(tally),
     }
 }
 

@@ -1,10 +1,10 @@
 ghost use Rattle.std.specs.Prelude.{◌≡◌, ℕ, List, [], decimal, IfOk, IfSome, OnErr, OnOk};
 ghost use Rattle.line_filter.specs.DeviceCalls.{StaysWell, FailsLast};
 ghost use Rattle.line_filter.specs.Growth.{Writes};
-ghost use Rattle.line_filter.specs.Kept.{StopsWithin};
+ghost use Rattle.line_filter.specs.Kept.{StopsWithin, IsOfItem};
 ghost use Rattle.line_filter.specs.Places.{IsJudged, places};
 ghost use Rattle.line_filter.specs.private.HeldBack.{WritesBut};
-ghost use Rattle.line_filter.specs.private.Walk.{GoesOver, IsOfItem};
+ghost use Rattle.line_filter.specs.private.Walk.{GoesOver};
 
 use super::device::{NotWritten, Writes};
 use super::finding::Finding;

@@ -79,3 +79,23 @@ pub fn settle<F: Drop, W: Write, T: Writes<W>>(
         }
     }
 }
+
+/// What becomes of the item of this number, of which that was found.
+pub fn step_at<F: Drop>(found: Result<Finding<F>, AllocError>, number: u64) -> Step<F>
+    ensures { result ≡ step_of number found }
+{
+    let judgment = match found {
+        Ok(Finding::TooLong) => return Step::Stopped(Stop::TooLong { line: number }),
+        Ok(Finding::PassedOver) => return Step::Passed(Tally { rows: 0, kept: 0 }),
+        Ok(Finding::Judged(judgment)) => judgment,
+        Err(_) => return Step::Stopped(Stop::Memory { line: number }),
+    };
+    match judgment {
+        Judgment::Kept => Step::Passed(Tally { rows: 1, kept: 1 }),
+        Judgment::LeftOut => Step::Passed(Tally { rows: 1, kept: 0 }),
+        Judgment::Fault(fault) => Step::Stopped(Stop::Fault {
+            line: number,
+            fault,
+        }),
+    }
+}

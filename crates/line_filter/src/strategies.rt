@@ -5,9 +5,8 @@ ghost use Rattle.std.specs.Io.KnownBytes.{Keeps, ReadConsumes, WriteAppends};
 ghost use Rattle.line_filter.specs.DeviceCalls.{after_work, after_flush, after_failure};
 ghost use Rattle.line_filter.specs.declared.calls.Calls.{Calls};
 
-use super::calls::Calls;
 use super::device::{NotRead, NotWritten, Reads, Writes};
-use std::io;
+use super::recorded::Recorded;
 use std::io::{Read, Sink, Write};
 
 /// For any reader and any writer. Nothing is told of their calls.
@@ -77,65 +76,6 @@ impl Writes<Sink> for Unfailing {
             Ok(()) => Ok(()),
             Err(_) => Err(NotWritten),
         }
-    }
-}
-
-/// A device, and what became of its calls.
-#[derive(Debug, Drop)]
-pub struct Recorded<D> {
-    pub device: D,
-    pub calls: Calls,
-}
-
-impl<R: Read> Read for Recorded<R> {
-    ghost remaining = { λ r. R.remaining r.device };
-
-    fn read(&mut self, bytes: &mut [u8]) -> io::Result<usize>
-        ensures bound { ReadsAtMost result bytes.new }
-        ensures bytes { ReadConsumes (R.remaining self.old.device) (R.remaining self.new.device) result bytes.new }
-        ensures worked { OnOk result (self.new.calls ≡ after_work self.old.calls) }
-        ensures failed { OnErr result (self.new.calls ≡ after_failure self.old.calls) }
-    {
-        let answer = self.device.read(bytes);
-        self.calls = match &answer {
-            Ok(_) => self.calls.worked(),
-            Err(_) => self.calls.failed(),
-        };
-        answer
-    }
-}
-
-impl<W: Write> Write for Recorded<W> {
-    ghost contents = { λ w. W.contents w.device };
-
-    fn write(&mut self, bytes: &[u8]) -> io::Result<usize>
-        ensures bound { WritesAtMost result bytes.now }
-        ensures bytes { WriteAppends (W.contents self.old.device) (W.contents self.new.device) result bytes.now }
-        ensures worked { IfOk result (λ count. 0 < count → self.new.calls ≡ after_work self.old.calls) }
-        ensures none { IfOk result (λ count. count ≡ 0 → 0 < length bytes.now
-            → self.new.calls ≡ after_failure self.old.calls) }
-        ensures failed { OnErr result (self.new.calls ≡ after_failure self.old.calls) }
-    {
-        let answer = self.device.write(bytes);
-        self.calls = match &answer {
-            Ok(0) if !bytes.is_empty() => self.calls.failed(),
-            Ok(_) => self.calls.worked(),
-            Err(_) => self.calls.failed(),
-        };
-        answer
-    }
-
-    fn flush(&mut self) -> io::Result<()>
-        ensures bytes { Keeps (W.contents self.old.device) (W.contents self.new.device) }
-        ensures flushed { OnOk result (self.new.calls ≡ after_flush self.old.calls) }
-        ensures failed { OnErr result (self.new.calls ≡ after_failure self.old.calls) }
-    {
-        let answer = self.device.flush();
-        self.calls = match &answer {
-            Ok(()) => self.calls.flushed(),
-            Err(_) => self.calls.failed(),
-        };
-        answer
     }
 }
 

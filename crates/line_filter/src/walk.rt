@@ -1,21 +1,17 @@
-ghost use Rattle.std.specs.Prelude.{◌≡◌, ℕ, ◌≤◌, List, [], length, IfOk, IfSome, OnErr, OnOk};
-ghost use Rattle.line_filter.specs.DeviceCalls.{StaysWell, FailsLast};
-ghost use Rattle.line_filter.specs.Growth.{Writes};
-ghost use Rattle.line_filter.specs.Kept.{StopsWithin};
-ghost use Rattle.line_filter.specs.LineItems.{lines, SaysTheSame};
-ghost use Rattle.line_filter.specs.private.HeldBack.{WritesBut};
-ghost use Rattle.line_filter.specs.private.Walk.{Goes, IsOfItem};
+ghost use Rattle.std.specs.Prelude.{◌≡◌, ◌++◌, ◌≤◌, Ok, length, IfOk, IfSome, OnErr, OnOk};
+ghost use Rattle.line_filter.specs.Growth.{Grows};
+ghost use Rattle.line_filter.specs.Kept.{IsOfItem};
+ghost use Rattle.line_filter.specs.LineItems.{SaysTheSame};
+ghost use Rattle.line_filter.specs.Lines.{text_of_line};
+ghost use Rattle.line_filter.specs.private.Walk.{Goes, text_where_kept};
 
-use super::device::{NotWritten, Writes};
-use super::finding::find;
-use super::judge::Judge;
-use super::output::release;
+use super::finding::{Finding, find};
+use super::judge::{Judge, Judgment};
 use super::split::first_line;
-use super::step::{Step, settle};
+use super::step::{Step, step_at};
 use super::stop::Stop;
 use super::tally::Tally;
-use std::alloc::Global;
-use std::io::Write;
+use std::alloc::AllocError;
 
 /// How many lines passed, what they counted, and the stop behind them.
 #[derive(Drop)]
@@ -25,32 +21,62 @@ pub struct Progress<F> {
     pub stop: Option<Stop<F>>,
 }
 
-/// Judges the lines one by one up to the first fault. The end of the kept text may be held back.
-fn judge_lines<J: Judge, W: Write, T: Writes<W>>(
-    judge: &mut J,
-    bytes: &[u8],
-    out: &mut W,
-    held: &mut Vec<u8>,
-) -> Result<Progress<J::Fault>, NotWritten>
-    requires { held.old.items ≡ [] }
-    ensures ok { IfOk result (λ progress. (text : List ℕ)
-        × WritesBut (W.contents out.old) (W.contents out.new) held.new.items text
-        × Goes (J.says judge.old) bytes.now text progress) }
-    ensures counted { IfOk result (λ progress. progress.lines ≤ length bytes.now) }
-    ensures of_item { IfOk result (λ progress. IfSome progress.stop IsOfItem) }
-    ensures err { OnErr result
-        (Writes (W.contents out.old) (W.contents out.new) (StopsWithin (lines (J.says judge.old) bytes.now))) }
+/// Puts a line and LF after what a vector holds, or nothing where memory is refused.
+fn put_line(line: &[u8], out: &mut Vec<u8>) -> Result<(), AllocError>
+    ensures ok { OnOk result (out.new.items ≡ out.old.items ++ text_of_line line.now) }
+    ensures err { OnErr result (out.new.items ≡ out.old.items) }
+{
+    let length = out.len();
+    out.extend_from_slice(line)?;
+    match out.push(b'\n') {
+        Ok(()) => Ok(()),
+        Err(refused) => {
+            out.truncate(length);
+            Err(refused.into())
+        }
+    }
+}
+
+/// What was found of a line, which is put after what a vector holds where it is kept. Out of memory where there is no
+/// room for it.
+fn put_kept<F: Drop>(
+    found: Result<Finding<F>, AllocError>,
+    line: &[u8],
+    out: &mut Vec<u8>,
+) -> Result<Finding<F>, AllocError>
+    ensures put { out.new.items ≡ out.old.items ++ text_where_kept result (text_of_line line.now) }
+    ensures same { IfOk result (λ finding. found ≡ Ok finding) }
+{
+    let judgment = match found {
+        Ok(Finding::TooLong) => return Ok(Finding::TooLong),
+        Ok(Finding::PassedOver) => return Ok(Finding::PassedOver),
+        Ok(Finding::Judged(judgment)) => judgment,
+        Err(refused) => return Err(refused),
+    };
+    match judgment {
+        Judgment::Kept => {
+            put_line(line, out)?;
+            Ok(Finding::Judged(Judgment::Kept))
+        }
+        Judgment::LeftOut => Ok(Finding::Judged(Judgment::LeftOut)),
+        Judgment::Fault(fault) => Ok(Finding::Judged(Judgment::Fault(fault))),
+    }
+}
+
+/// Judges the lines of the bytes one by one up to the first fault, and puts the kept ones after what a vector holds.
+pub fn keep_lines<J: Judge>(judge: &mut J, bytes: &[u8], out: &mut Vec<u8>) -> Progress<J::Fault>
+    ensures goes { Grows out.old.items out.new.items (λ text. Goes (J.says judge.old) bytes.now text result) }
+    ensures counted { result.lines ≤ length bytes.now }
+    ensures of_item { IfSome result.stop IsOfItem }
     ensures same { SaysTheSame (J.says judge.old) (J.says judge.new) }
-    ensures well { OnOk result (StaysWell (T.calls out.old) (T.calls out.new)) }
-    ensures failed { OnErr result (FailsLast (T.calls out.old) (T.calls out.new)) }
 {
     let mut rest = bytes;
     let mut lines = 0;
     let mut tally = Tally { rows: 0, kept: 0 };
     while !rest.is_empty() {
         let (line, after) = first_line(rest);
-        let found = find(judge, line);
-        match settle::<J::Fault, W, T>(found, line, lines + 1, out, held)? {
+        let found = put_kept(find(judge, line), line, out);
+        match step_at(found, lines + 1) {
             Step::Passed(one) => {
                 lines += 1;
                 tally.rows += one.rows;
@@ -58,34 +84,11 @@ fn judge_lines<J: Judge, W: Write, T: Writes<W>>(
             }
             Step::Stopped(stop) => {
                 let stop = Some(stop);
-                return Ok(Progress { lines, tally, stop });
+                return Progress { lines, tally, stop };
             }
         }
         rest = after;
     }
     let stop = None;
-    Ok(Progress { lines, tally, stop })
-}
-
-/// Judges the lines of the bytes up to the first fault, and writes the kept ones.
-pub fn write_kept_lines<J: Judge, W: Write, T: Writes<W>>(
-    alloc: Global,
-    judge: &mut J,
-    bytes: &[u8],
-    out: &mut W,
-) -> Result<Progress<J::Fault>, NotWritten>
-    ensures ok { IfOk result (λ progress. Writes (W.contents out.old) (W.contents out.new)
-        (λ text. Goes (J.says judge.old) bytes.now text progress)) }
-    ensures counted { IfOk result (λ progress. progress.lines ≤ length bytes.now) }
-    ensures of_item { IfOk result (λ progress. IfSome progress.stop IsOfItem) }
-    ensures err { OnErr result
-        (Writes (W.contents out.old) (W.contents out.new) (StopsWithin (lines (J.says judge.old) bytes.now))) }
-    ensures same { SaysTheSame (J.says judge.old) (J.says judge.new) }
-    ensures well { OnOk result (StaysWell (T.calls out.old) (T.calls out.new)) }
-    ensures failed { OnErr result (FailsLast (T.calls out.old) (T.calls out.new)) }
-{
-    let mut held = Vec::new(alloc);
-    let progress = judge_lines::<J, W, T>(judge, bytes, out, &mut held)?;
-    release::<W, T>(out, &mut held)?;
-    Ok(progress)
+    Progress { lines, tally, stop }
 }

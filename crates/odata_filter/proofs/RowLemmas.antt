@@ -1,3 +1,4 @@
+pub mod CanonicalRows
 pub mod Collections
 pub mod DeviceCalls
 pub mod LinesOpen

@@ -19,6 +19,12 @@ StopsLines filter now bytes waiting known text fault =
     IsSomeAnd (run_stop fault)
     (StopsWith (rows_of filter now bytes) (LacksLine (JudgesRow filter now) bytes waiting known) text)
 
+-- the line of that number did not come, of a reader of which nothing is seen any more: some bytes of the line waited, and
+-- it may have had more
+abbrev pub LacksRow : Filter → MomentParts → List ℕ → List ℕ → ℕ → Type 0
+LacksRow filter now bytes text line =
+    (waiting : List ℕ) × (known : Option (List ℕ)) × LacksLine (JudgesRow filter now) bytes waiting known text line
+
 -- which reads a run made before this fault: Read says why no more was read, and before any other each did its work
 abbrev pub ReadsUntilFault :
     {R : Type 0} → (R → Calls) → (R → Option (List ℕ)) → LineSource R → LineSource R → RunFault → Type 0

@@ -47,6 +47,7 @@ pub mod RowsOnce
 pub mod RowAnswer
 pub mod FaultNumbers
 pub mod Headline
+pub mod CanonicalRows
 pub mod Planned
 pub mod CommandLine
 pub mod WorkedLines

@@ -3,7 +3,7 @@ ghost use Rattle.line_filter.specs.DeviceCalls.{FlushesLast, StaysWell};
 ghost use Rattle.line_filter.specs.Growth.{Grows, Writes};
 ghost use Rattle.line_filter.specs.Kept.{Filters, StopsOn};
 ghost use Rattle.line_filter.specs.LineSource.{IsOver, left_of};
-ghost use Rattle.odata_filter.specs.DeviceFaults.{ReadsUntilFault, StopsLines, WritesUntilFault};
+ghost use Rattle.odata_filter.specs.DeviceFaults.{LacksRow, ReadsUntilFault, StopsLines, WritesUntilFault};
 ghost use Rattle.odata_filter.specs.RowJudgment.{rows_of};
 ghost use Rattle.odata_filter.specs.RunStops.{StopsBy};
 
@@ -48,8 +48,8 @@ pub fn filter_lines_by<R: Read, S: Reads<R>, W: Write, T: Writes<W>>(
 ///
 /// Lines are judged as they come, and what is kept of them is written before more is read. A blank line is passed over.
 /// The first faulty line ends the run: `LineTooLong`, `Json`, `Row` or `Arithmetic`, with its number from 1. Where a read
-/// fails, or memory is refused, the lines that were complete are judged first. A failed write, or a last flush that fails,
-/// is `Write`.
+/// fails, or memory is refused, the lines that were complete are judged first: `Read` has a number one above that of the
+/// complete lines, of which the kept ones have been written. A failed write, or a last flush that fails, is `Write`.
 pub fn filter_lines<R: Read + Drop, W: Write>(
     alloc: Global,
     checked: &Checked<'_>,
@@ -63,12 +63,15 @@ pub fn filter_lines<R: Read + Drop, W: Write>(
     ensures stops { IfErr result (λ fault. IfSome (R.remaining rows) (λ bytes.
         Writes (W.contents out.old) (W.contents out.new)
         (λ text. StopsBy (rows_of checked.now now.now bytes) text fault))) }
+    ensures read { (line : ℕ) → result ≡ Err (RunFault.Read line) → IfSome (R.remaining rows) (λ bytes.
+        Writes (W.contents out.old) (W.contents out.new) (λ text. LacksRow checked.now now.now bytes text line)) }
 {
     let mut lines = LineReader::new(alloc, rows);
     filter_lines_by::<R, Untold, W, Untold>(alloc, checked, now, &mut lines, out)
 }
 
-/// [`filter_lines`] over rows that stand in memory. What it writes goes behind what `out` has already.
+/// [`filter_lines`] over rows that stand in memory. What it keeps goes after what `out` has already. It answers neither
+/// `Read` nor `Write`: where `out` has no room for a kept line it is `Memory`, by the number of that line.
 pub fn filter_slice(
     alloc: Global,
     checked: &Checked<'_>,
@@ -81,11 +84,12 @@ pub fn filter_slice(
     ensures stops { IfErr result (λ fault. Grows out.old.items out.new.items
         (λ text. StopsBy (rows_of checked.now now.now rows.now) text fault)) }
     ensures unread { IfErr result (λ fault. (line : ℕ) → fault ≢ RunFault.Read line) }
+    ensures unwritten { IfErr result (λ fault. fault ≢ RunFault.Write) }
     ensures memory { (line : ℕ) → result ≡ Err (RunFault.Memory line) → Grows out.old.items out.new.items
         (λ text. StopsOn (rows_of checked.now now.now rows.now) text line) }
 {
     let mut judge = RowLineJudge::new(alloc, checked, now);
-    match filter_bytes::<RowLineJudge<'_, '_>, Vec<u8>, Untold>(alloc, &mut judge, rows, out) {
+    match filter_bytes(&mut judge, rows, out) {
         Ok(tally) => Ok(tally),
         Err(stop) => Err(run_fault(stop)),
     }

@@ -1,11 +1,16 @@
 //! What the crates below come to together, as the contract of a function that does nothing but cite laws.
+ghost use Rattle.odata_filter.specs.CanonicalRows.{HaveSameEntities, HaveSameOutcomes, KeepSameItems, KeepSameLines};
+ghost use Rattle.odata_filter.specs.CanonicalRows.{OfBoth, SaySameOfRows, SaySameOfValues, StopAlike};
+ghost use Rattle.odata_filter.specs.CanonicalRows.{StopCollectionsAlike, AnswerRowsAlike};
 ghost use Rattle.odata_filter.specs.Headline.{HaveOneOutcome, AreAnswered, KeepTrueRows};
 ghost use Rattle.odata_filter.specs.Headline.{WriteTrueRows, StopAtFaults, AreRefusedOnce};
 
 use edm_entities::{
     one_fault_is_first, one_value_fits, what_fits_has_its_type, what_has_a_fault_fits_nothing,
 };
-use odata_eval::typed_trees_end_once;
+use odata_checked_filter::canonical_texts_keep_filters;
+use odata_eval::{canonical_texts_keep_outcomes, typed_trees_end_once};
+use odata_text::tokens_are_spelled;
 use odata_typing::texts_have_one_refusal;
 
 /// The headline. A filter that `check` accepts for an entity type has exactly one outcome on every entity of that type,
@@ -26,4 +31,23 @@ pub fn filters_keep_what_is_true()
     what_has_a_fault_fits_nothing();
     one_fault_is_first();
     texts_have_one_refusal();
+}
+
+/// What `check` accepts for the canonical text of a filter keeps what the filter keeps: it has the same outcomes, judges
+/// each row alike, and keeps the same lines of every input and the same items of every collection, or stops alike. An
+/// entity that is expanded for the one is expanded for the other.
+pub fn canonical_texts_keep_rows()
+    ensures entities { OfBoth HaveSameEntities }
+    ensures outcomes { OfBoth HaveSameOutcomes }
+    ensures rows { OfBoth SaySameOfRows }
+    ensures values { OfBoth SaySameOfValues }
+    ensures answers { OfBoth AnswerRowsAlike }
+    ensures lines { OfBoth KeepSameLines }
+    ensures stops { OfBoth StopAlike }
+    ensures items { OfBoth KeepSameItems }
+    ensures collections { OfBoth StopCollectionsAlike }
+{
+    tokens_are_spelled();
+    canonical_texts_keep_filters();
+    canonical_texts_keep_outcomes();
 }

@@ -23,7 +23,7 @@ pub use command::runner::run;
 pub use command::whole::{NotWhole, read_whole, read_whole_by};
 pub use fault_number::{FaultKind, Numbered, fault_name, refusal_span, row_fault_path};
 pub use filter::{filter_lines, filter_lines_by, filter_slice};
-pub use headline::filters_keep_what_is_true;
+pub use headline::{canonical_texts_keep_rows, filters_keep_what_is_true};
 pub use laws::{
     collections_stop_once, rows_are_told_once, rows_stop_once, unfailing_devices_never_fail,
 };

@@ -16,14 +16,14 @@ type Rows<'b> = Recorded<Chain<&'b [u8], Giving<&'b [u8]>>>;
 fn answer_to(
     alloc: Global,
     lines: &mut LineReader<Rows<'_>>,
-    out: &mut Recorded<Taking>,
+    out: &mut Recorded<&mut Taking>,
 ) -> Result<Result<Tally, RunFault>, Fail> {
     let schema = Schema::read(alloc, SCHEMA.as_bytes())?;
     match schema.type_named("Mini.Item") {
         Some(id) if schema.holds(id) => {
             let checked = check(alloc, &schema, id, FIRST)?;
             let now = first_moment()?;
-            Ok(filter_lines_by::<Rows<'_>, ByRecord, Recorded<Taking>, ByRecord>(
+            Ok(filter_lines_by::<Rows<'_>, ByRecord, Recorded<&mut Taking>, ByRecord>(
                 alloc, &checked, &now, lines, out,
             ))
         }
@@ -39,12 +39,11 @@ fn keeps_writes(
     wanted: &str,
     writes: Calls,
 ) -> Result<(), Fail> {
-    let mut out = Recorded {
-        device: taker(alloc, NEVER, 2, error),
-        calls: Calls::Well,
-    };
+    let mut device = taker(alloc, NEVER, 2, error);
+    let mut out = Recorded::new(&mut device);
     is_told(alloc, &answer_to(alloc, lines, &mut out)?, wanted)?;
-    if out.calls == writes && out.device.taken.as_slice() == A.as_bytes() {
+    let calls = out.calls();
+    if calls == writes && device.taken.as_slice() == A.as_bytes() {
         Ok(())
     } else {
         Err(Fail::new(format_args!("another text or other writes: {wanted}")))
@@ -80,13 +79,10 @@ fn keep_calls(
     writes: Calls,
 ) -> Result<(), Fail> {
     let (read, flush) = errors;
-    let rows = Recorded {
-        device: A.as_bytes().chain(stumbling(read, b"\n\n".as_slice())),
-        calls: Calls::Well,
-    };
+    let rows = Recorded::new(A.as_bytes().chain(stumbling(read, b"\n\n".as_slice())));
     let mut lines = LineReader::new(alloc, rows);
     keeps_writes(alloc, &mut lines, flush, wanted, writes)?;
-    if lines.reader().calls == reads {
+    if lines.reader().calls() == reads {
         Ok(())
     } else {
         Err(Fail::new(format_args!("other reads: {wanted}")))

@@ -1,12 +1,12 @@
 -- How the reads of a run add up, and why no more is read.
-use Rattle.std.proofs.Common.{◌≡◌, ◌≢◌, ℕ, ◌+◌, ◌≤◌, List, [], ◌++◌, length, Option, None, Some, IfSome, inl, inr, ◌⊎◌, refl, sym, ap, ◌∙◌, subst, arith, length-append}
+use Rattle.std.proofs.Common.{◌≡◌, ℕ, ◌+◌, ◌≤◌, List, [], ◌++◌, length, Option, None, Some, IfSome, inl, inr, ◌⊎◌, refl, sym, ap, ◌∙◌, arith, length-append}
 use Rattle.std.specs.Prelude.{◌↔◌}
 use Rattle.std.specs.Io.KnownBytes.{Consumes, Keeps}
 use Rattle.std.proofs.KnownBytes.{Consumes-nil, Consumes-trans}
 use Rattle.line_filter.specs.declared.calls.Calls.{Calls}
 use Rattle.line_filter.specs.declared.line_reader.Course.{Course}
 use Rattle.line_filter.specs.declared.line_reader.LineFault.{LineFault}
-use Rattle.line_filter.specs.DeviceCalls.{after_work, after_failure, StaysWell, FailsLast}
+use Rattle.line_filter.specs.DeviceCalls.{after_work, after_failure, StaysWell}
 use Rattle.line_filter.specs.LineSource.{LineSource}
 use Rattle.line_filter.specs.LineStreams.{IsReadOut, WhyUnread}
 use Rattle.line_filter.specs.private.Giving.{IsGoing}

@@ -1,8 +1,8 @@
 -- Where a run over items stops.
 use Rattle.std.proofs.Common.{◌≡◌, ℕ, ◌+◌, List, [], ◌∷◌, ◌++◌, length, inl, inr, refl, subst, append_assoc, Result, Ok, Err}
 use Rattle.std.specs.Prelude.{IfOk}
-use Rattle.line_filter.specs.Kept.{Items, Passes, StopsAt, StopsOn, StopsWithin, StopsWith}
-use Rattle.line_filter.specs.private.Walk.{step_of, text_where_kept, IsOfItem}
+use Rattle.line_filter.specs.Kept.{Items, Passes, StopsAt, StopsOn, StopsWithin, StopsWith, IsOfItem}
+use Rattle.line_filter.specs.private.Walk.{step_of, text_where_kept}
 use Rattle.line_filter.specs.declared.judge.Judgment.{Judgment}
 use Rattle.line_filter.specs.declared.finding.Finding.{Finding}
 use Rattle.line_filter.specs.declared.step.Step.{Step}

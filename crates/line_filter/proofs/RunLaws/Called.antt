@@ -11,7 +11,8 @@ use Rattle.line_filter.specs.LineStreams.{ReadsUntil, WritesUntil}
 use Rattle.line_filter.specs.declared.line_reader.Course.{Course}
 use Rattle.line_filter.specs.declared.line_reader.LineFault.{LineFault}
 use Rattle.line_filter.specs.private.Reading.{ReadsOn}
-use Rattle.line_filter.specs.private.Walk.{Closes, Ends, IsOfItem, IsUnwritten, fault_stop}
+use Rattle.line_filter.specs.Kept.{IsOfItem}
+use Rattle.line_filter.specs.private.Walk.{Closes, Ends, IsUnwritten, fault_stop}
 use Rattle.line_filter.proofs.DeviceLaws.Called.{stays_well_trans, fails_last_after, flushes_last_after}
 
 pub IsOfItem-unwritten : {F : Type 0} (stop : Stop F) → IsOfItem stop → IsUnwritten stop

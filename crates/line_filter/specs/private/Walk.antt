@@ -37,12 +37,6 @@ abbrev pub text_where_kept : {F E : Type 0} → Result (Finding F) E → List �
 text_where_kept (Ok (Finding.Judged Judgment.Kept)) text = text
 text_where_kept _ text = []
 
--- the stop is told of an item, and of no device
-abbrev pub IsOfItem : {F : Type 0} → Stop F → Type 0
-IsOfItem (Stop.Read line) = ⊥
-IsOfItem Stop.Write = ⊥
-IsOfItem _ = Unit {0}
-
 -- the stop is told of no writer
 abbrev pub IsUnwritten : {F : Type 0} → Stop F → Type 0
 IsUnwritten Stop.Write = ⊥

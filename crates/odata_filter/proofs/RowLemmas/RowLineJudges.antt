@@ -3,14 +3,14 @@ use Rattle.std.proofs.Common.{◌≡◌, ◌≢◌, ◌∙◌, ◌⊎◌, ℕ, L
 use Rattle.edm_values.specs.MomentParts.{MomentParts}
 use Rattle.odata_checked_filter.specs.Filter.{Filter}
 use Rattle.line_filter.specs.Growth.{Writes}
-use Rattle.line_filter.specs.Kept.{Items, Filters, Stops, StopsHeld, StopsOn, StopsWith}
+use Rattle.line_filter.specs.Kept.{Items, Filters, IsOfItem, Stops, StopsHeld, StopsOn, StopsWith}
 use Rattle.line_filter.specs.LineStreams.{LacksLine}
 use Rattle.line_filter.specs.declared.stop.Stop.{Stop}
 use Rattle.line_filter.specs.declared.tally.Tally.{Tally}
 use Rattle.std.specs.Prelude.{IfErr, IfOk, IsSomeAnd}
 use Rattle.odata_filter.specs.declared.bad_row.BadRow.{BadRow}
 use Rattle.odata_filter.specs.declared.run_fault.RunFault.{RunFault}
-use Rattle.odata_filter.specs.DeviceFaults.{StopsLines}
+use Rattle.odata_filter.specs.DeviceFaults.{LacksRow, StopsLines}
 use Rattle.odata_filter.specs.RowJudgment.{JudgesRow, rows_of}
 use Rattle.odata_filter.specs.RunStops.{run_stop, StopsBy}
 use Rattle.odata_filter.proofs.RowLemmas.LinesOpen.{held_open, lines_open}
@@ -46,6 +46,20 @@ module _ (f : Filter) (m : MomentParts) (waiting : List ℕ) (known : Option (Li
   lines_stop left remaining old new (Err fault) same stops =
       subst (λ known. IfSome known (λ bytes. Writes old new (λ text. StopsBy (rows_of f m bytes) text fault))) same (open_known left old new fault stops)
 
+  lack_known : (left old new : Option (List ℕ)) (line : ℕ) → IfSome left (λ bytes. Writes old new (λ text. StopsLines f m bytes waiting known text (RunFault.Read line)))
+      → IfSome left (λ bytes. Writes old new (λ text. LacksRow f m bytes text line))
+  lack_known None old new line stops = tt
+  lack_known (Some bytes) old new line (text, appends, lacks) = (text, appends, (waiting, known, lacks))
+
+  -- the line that a read left out
+  pub lines_lack : (left remaining old new : Option (List ℕ)) (answer : Result Tally RunFault) (line : ℕ) → left ≡ remaining → answer ≡ Err (RunFault.Read line)
+      → IfErr answer (λ fault. IfSome left (λ bytes. Writes old new (λ text. StopsLines f m bytes waiting known text fault)))
+      → IfSome remaining (λ bytes. Writes old new (λ text. LacksRow f m bytes text line))
+  lines_lack left remaining old new answer line same is stops =
+      subst (λ all. IfSome all (λ bytes. Writes old new (λ text. LacksRow f m bytes text line))) same
+      (lack_known left old new line
+      (subst (λ r. IfErr r (λ fault. IfSome left (λ bytes. Writes old new (λ text. StopsLines f m bytes waiting known text fault)))) is stops))
+
 pub lines_pass : (f : Filter) (m : MomentParts) (left remaining old new : Option (List ℕ)) (answer : Result Tally RunFault) → left ≡ remaining
     → IfOk answer (λ tally. IfSome left (λ bytes. Writes old new (λ text. Filters (rows_of f m bytes) text tally)))
     → IfOk answer (λ tally. IfSome remaining (λ bytes. Writes old new (λ text. Filters (rows_of f m bytes) text tally)))
@@ -61,6 +75,9 @@ module _ {X : Type 0} (items : Items X BadRow) (text : List ℕ) (fault : RunFau
 
   pub held_unread : (line : ℕ) → fault ≢ RunFault.Read line
   held_unread line same = subst (StopsHeld items text) (told_of (RunFault.Read line) (Stop.Read line) same refl) stops
+
+  pub held_unwritten : IsOfItem stop → fault ≢ RunFault.Write
+  held_unwritten of_item same = subst IsOfItem (told_of RunFault.Write Stop.Write same refl) of_item
 
   never_lacks : {A : Type 0} → ⊥ ⊎ A → A
   never_lacks (inl never) = absurd never

@@ -68,12 +68,17 @@ fn verb_command<'a>(alloc: Global, word: &'a str, about: &'a str) -> Result<Comm
         "The entity type of the rows, with its namespace",
     )
     .required(true);
-    let filter = text_option(alloc, "filter", "TEXT", "The text of a $filter");
+    let filter = text_option(
+        alloc,
+        "filter",
+        "TEXT",
+        "The text of a $filter; as --filter=TEXT if it begins with '-'",
+    );
     let query = text_option(
         alloc,
         "query",
         "TEXT",
-        "A query string with one filter option, as it stands in a URL",
+        "A query string as it stands in a URL, with the filter and no other option of OData",
     );
     Command::new(alloc, word)
         .about(about)

@@ -6,7 +6,7 @@ use Rattle.line_filter.specs.Kept.{Filters, StopsOn}
 use Rattle.odata_filter.specs.RowJudgment.{rows_of}
 use Rattle.odata_filter.specs.RunStops.{StopsBy}
 use Rattle.odata_filter.specs.declared.run_fault.RunFault.{RunFault}
-use Rattle.odata_filter.proofs.RowLemmas.RowLineJudges.{of_filter, held_memory, held_stops, held_unread}
+use Rattle.odata_filter.proofs.RowLemmas.RowLineJudges.{of_filter, held_memory, held_stops, held_unread, held_unwritten}
 use Rattle.odata_filter.proofs.filter.filter_slice.Goals as goal
 
 pub returns-in-Ok-clause-filters : goal.returns-in-Ok-clause-filters
@@ -47,3 +47,9 @@ returns-clause-memory c line same =
     let On : Filter → MomentParts → Type 0 = λ f m. Grows old new (λ text. StopsOn (rows_of f m rows) text line) in
     of_filter On judge.filter c.args.checked.now judge.moment c.args.now.now c.new-judge.ensures.filter c.new-judge.ensures.moment
     (text, wrote, held_memory (rows_of judge.filter judge.moment rows) text c.run_fault.result c.in-Err.stop c.run_fault.ensures stops line here)
+
+pub returns-clause-unwritten : goal.returns-clause-unwritten
+returns-clause-unwritten c =
+    let judge = c.new-judge.result in
+    let (text, wrote, stops) = c.in-Err.ensures.stops in
+    held_unwritten (rows_of judge.filter judge.moment c.args.rows.now) text c.run_fault.result c.in-Err.stop c.run_fault.ensures stops c.in-Err.ensures.of_item

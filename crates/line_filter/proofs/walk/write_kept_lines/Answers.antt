@@ -1,9 +1,0 @@
-use Rattle.line_filter.specs.LineItems.{lines}
-use Rattle.line_filter.proofs.RunLaws.Answers.{Goes-failed}
-use Rattle.line_filter.proofs.WriteLaws.HeldBack.{OnErr-from}
-use Rattle.line_filter.proofs.walk.write_kept_lines.Goals as goal
-
-pub returns-in_err-release-clause-err : goal.returns-in_err-release-clause-err
-returns-in_err-release-clause-err g c =
-    let (text, holds, goes) = c.in_ok-progress.ensures.ok in
-    OnErr-from c.from_residual-in_err-release.result _ (Goes-failed (lines _ c.args.bytes.now) c.in_ok-progress.progress _ _ _ c.judge_lines.new.held.items text holds goes c.in_err-release.ensures.err)

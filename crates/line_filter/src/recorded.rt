@@ -1,0 +1,98 @@
+//! Devices that keep what became of their calls. Nothing outside this file can change what is kept.
+ghost use Rattle.std.specs.Prelude.{◌≡◌, ◌<◌, length, IfOk, OnErr, OnOk};
+ghost use Rattle.std.specs.Io.{ReadsAtMost, WritesAtMost};
+ghost use Rattle.std.specs.Io.KnownBytes.{Keeps, ReadConsumes, WriteAppends};
+ghost use Rattle.line_filter.specs.DeviceCalls.{after_work, after_flush, after_failure};
+ghost use Rattle.line_filter.specs.declared.calls.Calls.{Calls};
+
+use super::calls::Calls;
+use std::io;
+use std::io::{Read, Write};
+use std::marker::Model;
+
+/// A device, and what became of its calls. A call is added where the device is called, and none can be taken back; who
+/// needs the device afterwards lends it.
+#[derive(Debug, Drop)]
+pub struct Recorded<D> {
+    device: D,
+    calls: Calls,
+}
+
+impl<D> Model for Recorded<D> {
+    ghost use Rattle.line_filter.specs.RecordedDevice.{RecordedDevice};
+
+    ghost Value = { RecordedDevice D };
+
+    ghost view = { λ r. record { device = r.device; calls = r.calls } };
+}
+
+impl<D> Recorded<D> {
+    /// A device of which no call was made yet.
+    pub fn new(device: D) -> Recorded<D>
+        ensures { result ≡ record { device = device; calls = Calls.Well } }
+    {
+        Recorded {
+            device,
+            calls: Calls::Well,
+        }
+    }
+
+    /// What became of its calls so far.
+    pub fn calls(&self) -> Calls
+        ensures { result ≡ self.now.calls }
+    {
+        self.calls
+    }
+}
+
+impl<R: Read> Read for Recorded<R> {
+    ghost remaining = { λ r. R.remaining r.device };
+
+    fn read(&mut self, bytes: &mut [u8]) -> io::Result<usize>
+        ensures bound { ReadsAtMost result bytes.new }
+        ensures bytes { ReadConsumes (R.remaining self.old.device) (R.remaining self.new.device) result bytes.new }
+        ensures worked { OnOk result (self.new.calls ≡ after_work self.old.calls) }
+        ensures failed { OnErr result (self.new.calls ≡ after_failure self.old.calls) }
+    {
+        let answer = self.device.read(bytes);
+        self.calls = match &answer {
+            Ok(_) => self.calls.worked(),
+            Err(_) => self.calls.failed(),
+        };
+        answer
+    }
+}
+
+impl<W: Write> Write for Recorded<W> {
+    ghost contents = { λ w. W.contents w.device };
+
+    fn write(&mut self, bytes: &[u8]) -> io::Result<usize>
+        ensures bound { WritesAtMost result bytes.now }
+        ensures bytes { WriteAppends (W.contents self.old.device) (W.contents self.new.device) result bytes.now }
+        ensures worked { IfOk result (λ count. 0 < count → self.new.calls ≡ after_work self.old.calls) }
+        ensures none { IfOk result (λ count. count ≡ 0 → 0 < length bytes.now
+            → self.new.calls ≡ after_failure self.old.calls) }
+        ensures failed { OnErr result (self.new.calls ≡ after_failure self.old.calls) }
+    {
+        let answer = self.device.write(bytes);
+        self.calls = match &answer {
+            Ok(0) if !bytes.is_empty() => self.calls.failed(),
+            Ok(_) => self.calls.worked(),
+            Err(_) => self.calls.failed(),
+        };
+        answer
+    }
+
+    fn flush(&mut self) -> io::Result<()>
+        ensures bytes { Keeps (W.contents self.old.device) (W.contents self.new.device) }
+        ensures flushed { OnOk result (self.new.calls ≡ after_flush self.old.calls) }
+        ensures failed { OnErr result (self.new.calls ≡ after_failure self.old.calls) }
+    {
+        let answer = self.device.flush();
+        self.calls = match &answer {
+            Ok(()) => self.calls.flushed(),
+            Err(_) => self.calls.failed(),
+        };
+        answer
+    }
+}
