@@ -12,13 +12,21 @@
  *     if (odfilter_check(type, text, &filter, &answer) == ODFILTER_OK) ...
  *     odfilter_free(&filter);
  *
+ * The filter of a URL, and a caret under its fault:
+ *
+ *     char decoded[4096];
+ *     odfilter_room into = {decoded, sizeof decoded};
+ *     uint32_t status = odfilter_check_url(type, query, into, &filter, &answer);
+ *     if (status >= ODFILTER_TEXT_FAULT && status <= ODFILTER_TYPE_FAULT && answer.length <= sizeof decoded)
+ *         printf("%.*s\n%*s^\n", (int)answer.length, decoded, (int)answer.start, "");
+ *
  * EVERY CALL answers a status: ODFILTER_OK, or why it did nothing (ODFILTER_ names below). No call ends the
  * program, waits, prints, or keeps anything of its own: there is no global state.
  *
  * BYTES that are handed in are lent for the call and no longer. They are not changed, need no NUL at their end,
  * and may have any values; where a call takes a text, bytes that are no UTF-8 are ODFILTER_NOT_UTF8. A length of 0
- * is an empty text. An address that is NULL is ODFILTER_NULL, whatever the length: then nothing is looked at and
- * nothing written. A length is less than 2^63.
+ * is an empty text, at any address, NULL too. NULL with another length is ODFILTER_NULL, and so is any other address
+ * that is NULL: then nothing is looked at and nothing written. A length is less than 2^63.
  *
  * ROOM is memory of the caller's into which a call writes a text, without a NUL behind it. A text is written whole
  * or not at all: where it has more bytes than the room, the answer is ODFILTER_TOO_SMALL, `length` of the answer
@@ -124,7 +132,8 @@ extern "C" {
 #define ODFILTER_QUERY_BAD_ESCAPE 1u   /* the byte of the '%' */
 #define ODFILTER_QUERY_NOT_UTF8 2u     /* the option */
 #define ODFILTER_QUERY_REPEATED 3u     /* the option */
-#define ODFILTER_QUERY_OTHER_OPTION 4u /* the option */
+#define ODFILTER_QUERY_OTHER_OPTION 4u /* the option; odfilter_check_query only */
+#define ODFILTER_QUERY_DISGUISED 5u    /* the option; odfilter_check_url only */
 
 /* ODFILTER_ROW_FAULT. All but the first have a path. */
 #define ODFILTER_ROW_NOT_OBJECT 1u
@@ -169,11 +178,16 @@ typedef struct odfilter_answer {
     uint32_t verdict; /* of a judged row */
     size_t start;     /* where the fault is in the filter's text (of a query, decoded): its first byte, from 0 */
     size_t stop;      /* and the byte behind the last */
-    uint64_t number;  /* a query's fault's number; the line, from 1, of a run's; odfilter_needs_moment's 0 or 1 */
+    uint64_t number;  /* a query's fault's number; the line, from 1, of a run's; odfilter_needs_moment's 0 or 1; a count
+                       * or depth of a filter */
     size_t length;    /* how many bytes were written, or are wanted */
     size_t first;     /* of the two names of a schema's fault, how many bytes the first has */
     uint64_t rows;    /* how many rows a run judged */
     uint64_t kept;    /* how many of them it kept */
+    size_t piece_start; /* where the filter's option stands in the query of odfilter_check_url: its first byte */
+    size_t piece_stop;  /* and the byte after the last */
+    size_t value_start; /* where the option's value stands in it, still encoded: its first byte */
+    size_t value_stop;  /* and the byte after the last, which is piece_stop */
 } odfilter_answer;
 
 /* ---- A schema and its types */
@@ -210,6 +224,20 @@ uint32_t odfilter_check(const odfilter_handle *type, odfilter_bytes text, odfilt
 uint32_t odfilter_check_query(const odfilter_handle *type, odfilter_bytes query, odfilter_handle **filter,
                               odfilter_answer *answer);
 
+/* The filter among any options of a whole query, as it stands in a URL after the '?'. Other options are the caller's:
+ * only their names are read. A query in which some option is no filter, but would be one for a reader that is less
+ * strict (`%20$filter`, `x=1;$filter=..`, `%2524filter`), is refused as ODFILTER_QUERY_DISGUISED.
+ *
+ * ODFILTER_OK: `filter` is the filter. ODFILTER_TEXT_FAULT, ODFILTER_SYNTAX_FAULT, ODFILTER_TYPE_FAULT: `fault`, and
+ * `start` and `stop` in the decoded text. In each of these cases the decoded text of the filter has `length` bytes and
+ * was written into `text`, or, where that is smaller, nothing was (the status stays); piece_start, piece_stop,
+ * value_start and value_stop say where the option and its value stand in `query`, so another value can be put there.
+ * ODFILTER_QUERY_FAULT: `fault` and `number`; nothing is written. ODFILTER_NO_FILTER. ODFILTER_NULL: any of the five
+ * is. ODFILTER_OTHER_KIND: `type` is no type. ODFILTER_MEMORY: where the filter was found before, its text and where it
+ * stands are reported as above. Never ODFILTER_NOT_UTF8 or ODFILTER_TOO_SMALL. */
+uint32_t odfilter_check_url(const odfilter_handle *type, odfilter_bytes query, odfilter_room text,
+                            odfilter_handle **filter, odfilter_answer *answer);
+
 /* Writes the filter's canonical text; the same for what each of its nodes is, a line a node (docs/CLI.md,
  * "explain").
  *
@@ -222,6 +250,21 @@ uint32_t odfilter_explain(const odfilter_handle *filter, odfilter_room text, odf
  *
  * ODFILTER_OK: `number` is 1 or 0. ODFILTER_NULL: any of the two is. ODFILTER_OTHER_KIND: `filter` is no filter. */
 uint32_t odfilter_needs_moment(const odfilter_handle *filter, odfilter_answer *answer);
+
+/* How many nodes the filter's tree has; how many lambda operators stand in one another at most, 0 where there is none.
+ * For callers that bound what a filter may cost.
+ *
+ * ODFILTER_OK: `number`. ODFILTER_NULL: any of the two is. ODFILTER_OTHER_KIND: `filter` is no filter. */
+uint32_t odfilter_node_count(const odfilter_handle *filter, odfilter_answer *answer);
+uint32_t odfilter_lambda_depth(const odfilter_handle *filter, odfilter_answer *answer);
+
+/* Writes the paths of the properties that the filter reads, from its type: Name, Home/City, and Parts/Qty of the
+ * members of a collection. Each is written once, in the order in which they first stand in the filter, and followed by
+ * a line feed; Home, which Home/City names too, comes after that. For callers that allow some properties only.
+ *
+ * ODFILTER_OK: `number` paths have been written, `length` bytes. ODFILTER_TOO_SMALL: `length` are wanted.
+ * ODFILTER_NULL: any of the three is. ODFILTER_OTHER_KIND: `filter` is no filter. ODFILTER_MEMORY. */
+uint32_t odfilter_property_paths(const odfilter_handle *filter, odfilter_room paths, odfilter_answer *answer);
 
 /* ---- Rows */
 
@@ -281,6 +324,19 @@ uint32_t odfilter_free(odfilter_handle **handle);
 uint32_t odfilter_version(odfilter_room text, odfilter_answer *answer);
 uint32_t odfilter_status_name(uint32_t status, odfilter_room text, odfilter_answer *answer);
 uint32_t odfilter_fault_name(uint32_t status, uint32_t fault, odfilter_room text, odfilter_answer *answer);
+
+/* Writes a sentence for people about a fault: `status` and `fault` are what a call returned and the answer that it
+ * wrote, and `text` is what the fault is about: the filter's text (of odfilter_check_url, as that wrote it), the query,
+ * the path of a row's fault as odfilter_path writes it, the names of a schema's fault as odfilter_read_schema writes
+ * them, the name of a type that is unknown, or the text that is no moment. `type` is the type that the filter was
+ * checked for, which the sentence names; it may be NULL. The sentence is in English and may change from version to
+ * version; programs go by `status` and `fault`.
+ *
+ * ODFILTER_OK: `length` bytes have been written. ODFILTER_TOO_SMALL: `length` are wanted. ODFILTER_UNKNOWN_NUMBER:
+ * there is no such fault. ODFILTER_NULL: an address other than `type` is. ODFILTER_OTHER_KIND: `type` is no type.
+ * ODFILTER_NOT_UTF8: `text` is none, and the fault is not of a query. ODFILTER_MEMORY. */
+uint32_t odfilter_fault_text(const odfilter_handle *type, uint32_t status, odfilter_bytes text, odfilter_room sentence,
+                             const odfilter_answer *fault, odfilter_answer *answer);
 
 #ifdef __cplusplus
 }

@@ -28,6 +28,7 @@ run_there filter given rows (Err (Fault.TooSmall wanted)) text run = run
 run_there filter given rows (Err (Fault.Schema why)) text run = run
 run_there filter given rows (Err (Fault.Refused why)) text run = run
 run_there filter given rows (Err (Fault.Query why)) text run = run
+run_there filter given rows (Err (Fault.Whole why)) text run = run
 run_there filter given rows (Err (Fault.Json line)) text run = run
 run_there filter given rows (Err (Fault.Row line why)) text run = run
 run_there filter given rows (Err (Fault.Evaluation line why)) text run = run

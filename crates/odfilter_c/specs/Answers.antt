@@ -1,5 +1,6 @@
 -- What is told of a fault: the status and the numbers, as the header of the library has them.
 use Rattle.std.specs.Prelude.{ℕ, List, [], length, Option, None, Some}
+use Rattle.odata_text.specs.declared.find_fault.FindFault.{FindFault}
 use Rattle.odata_text.specs.declared.query_fault.QueryFault.{QueryFault}
 use Rattle.odata_text.specs.declared.span.Span.{Span}
 use Rattle.odata_expression_types.specs.declared.refusal.Refusal.{Refusal}
@@ -10,8 +11,21 @@ use Rattle.odfilter_c.specs.declared.fault.Fault.{Fault}
 
 -- an answer that tells nothing
 abbrev pub empty_answer : Answer
-empty_answer =
-    record { fault = 0; verdict = 0; start = 0; stop = 0; number = 0; length = 0; first = 0; rows = 0; kept = 0 }
+empty_answer = record {
+  fault = 0;
+  verdict = 0;
+  start = 0;
+  stop = 0;
+  number = 0;
+  length = 0;
+  first = 0;
+  rows = 0;
+  kept = 0;
+  piece_start = 0;
+  piece_stop = 0;
+  value_start = 0;
+  value_stop = 0;
+}
 
 -- the status of a refusal: which step refused the text
 abbrev pub refusal_status : Refusal → ℕ
@@ -44,6 +58,21 @@ query_place (QueryFault.Repeated option) = option
 query_place (QueryFault.OtherOption option) = option
 query_place QueryFault.Memory = 0
 
+-- the number of a whole query's fault, and the number that it carries
+abbrev pub find_number : FindFault → ℕ
+find_number (FindFault.BadEscape place) = 1
+find_number (FindFault.NotUtf8 option) = 2
+find_number (FindFault.Repeated option) = 3
+find_number (FindFault.Disguised option) = 5
+find_number FindFault.Memory = 0
+
+abbrev pub find_place : FindFault → ℕ
+find_place (FindFault.BadEscape place) = place
+find_place (FindFault.NotUtf8 option) = option
+find_place (FindFault.Repeated option) = option
+find_place (FindFault.Disguised option) = option
+find_place FindFault.Memory = 0
+
 -- the path of a row's fault, or no bytes
 abbrev pub path_or_none : Option (List ℕ) → List ℕ
 path_or_none (Some path) = path
@@ -66,6 +95,7 @@ fault_status Fault.UnknownNumber = 10
 fault_status (Fault.Schema fault) = 16
 fault_status (Fault.Refused refusal) = refusal_status refusal
 fault_status (Fault.Query fault) = 20
+fault_status (Fault.Whole fault) = 20
 fault_status (Fault.Json line) = 21
 fault_status (Fault.Row line fault) = 22
 fault_status (Fault.Evaluation line fault) = 23
@@ -86,6 +116,7 @@ fault_answer (Fault.Schema fault) = record empty_answer { fault = schema_number 
 fault_answer (Fault.Refused refusal) = record empty_answer
     { fault = refusal_number refusal; start = span_start (span_told refusal); stop = span_stop (span_told refusal) }
 fault_answer (Fault.Query fault) = record empty_answer { fault = query_number fault; number = query_place fault }
+fault_answer (Fault.Whole fault) = record empty_answer { fault = find_number fault; number = find_place fault }
 fault_answer (Fault.Json line) = record empty_answer { number = line }
 fault_answer (Fault.Row line fault) = record empty_answer
     { fault = row_number fault; number = line; length = length (path_bytes fault) }

@@ -1,14 +1,14 @@
 -- What each call is lent, and what it leaves.
-use Rattle.std.specs.Prelude.{ℕ, List, [], ◌∷◌}
+use Rattle.std.specs.Prelude.{◌≡◌, ℕ, List, [], ◌∷◌}
 use base.Fml.{Fml, fsep, feq, fex}
 use denote.RawPtr.{Ptr}
-use Rattle.odfilter_c.specs.Loans.{Loan, lent_handle, lent_judge, lent_bytes, lent_room, lent_made, lent_answer, left_judge, left_room, left_made, left_answer, unless_null, holds}
+use Rattle.odfilter_c.specs.Loans.{Loan, lent_fault, lent_handle, lent_judge, lent_bytes, lent_room, lent_made, lent_answer, left_judge, left_room, left_made, left_answer, unless_null, holds, of_optional, of_bytes}
 use Rattle.odfilter_c.specs.declared.c_types.Answer.{Answer}
 use Rattle.odfilter_c.specs.declared.c_types.Bytes.{Bytes}
 use Rattle.odfilter_c.specs.declared.c_types.Room.{Room}
 use Rattle.odfilter_c.specs.declared.handle.Handle.{Handle}
 use Rattle.odfilter_c.specs.declared.owned.Owned.{Owned}
-use Rattle.odfilter_c.specs.Tells.{ReadsSchema, FindsType, ChecksText, ChecksQuery, TellsCanonical, TellsNodes, Frees, TellsVersion, TellsStatus, TellsFault}
+use Rattle.odfilter_c.specs.Tells.{ReadsSchema, FindsType, ChecksText, ChecksQuery, Frees, TellsVersion, TellsStatus, TellsFault}
 use Rattle.odfilter_c.specs.RowTells.{TellsNeed, MakesJudge, SetsMoment, JudgesOne, FiltersLines, TellsPath}
 
 abbrev pub lent_to_read_schema : Loan → Bytes → Room → Ptr → Ptr → Fml
@@ -16,63 +16,43 @@ lent_to_read_schema l document names schema answer =
     fsep (lent_bytes l document) (fsep (lent_room l names) (fsep (lent_made l schema) (lent_answer l answer)))
 
 abbrev pub left_by_read_schema : Loan → Bytes → Room → Ptr → Ptr → ℕ → Fml
-left_by_read_schema l document names schema answer result =
-    unless_null (document.at ∷ names.at ∷ schema ∷ answer ∷ [])
+left_by_read_schema l document names schema answer result = unless_null (names.at ∷ schema ∷ answer ∷ [])
     (fsep (feq ℕ result 1) (lent_to_read_schema l document names schema answer))
     (fex (List ℕ) (λ names'. fex Owned (λ schema'. fex Answer (λ answer'.
     fsep (left_room l names names') (fsep (left_made l schema schema') (fsep (left_answer l answer answer')
-    (holds (ReadsSchema l.bytes l.room names' schema' answer' result))))))))
+    (holds (of_bytes document.at document.length l.bytes ((names' ≡ l.room) × ((schema' ≡ l.made) × ((answer' ≡ l.answer) × (result ≡ 1)))) (λ bytes. ReadsSchema bytes l.room names' schema' answer' result)))))))))
 
 abbrev pub lent_to_find_type : Loan → Ptr → Bytes → Ptr → Fml
 lent_to_find_type l schema name made = fsep (lent_handle l schema) (fsep (lent_bytes l name) (lent_made l made))
 
 abbrev pub left_by_find_type : Loan → Ptr → Bytes → Ptr → ℕ → Fml
-left_by_find_type l schema name made result = unless_null (schema ∷ name.at ∷ made ∷ [])
+left_by_find_type l schema name made result = unless_null (schema ∷ made ∷ [])
     (fsep (feq ℕ result 1) (lent_to_find_type l schema name made))
     (fex Owned (λ made'.
-    fsep (left_made l made made') (holds (FindsType l.handle l.bytes made' result))))
+    fsep (left_made l made made')
+    (holds (of_bytes name.at name.length l.bytes ((made' ≡ l.made) × (result ≡ 1)) (λ bytes. FindsType l.handle bytes made' result)))))
 
 abbrev pub lent_to_check : Loan → Ptr → Bytes → Ptr → Ptr → Fml
 lent_to_check l given text made answer =
     fsep (lent_handle l given) (fsep (lent_bytes l text) (fsep (lent_made l made) (lent_answer l answer)))
 
 abbrev pub left_by_check : Loan → Ptr → Bytes → Ptr → Ptr → ℕ → Fml
-left_by_check l given text made answer result = unless_null (given ∷ text.at ∷ made ∷ answer ∷ [])
+left_by_check l given text made answer result = unless_null (given ∷ made ∷ answer ∷ [])
     (fsep (feq ℕ result 1) (lent_to_check l given text made answer))
     (fex Owned (λ made'. fex Answer (λ answer'.
     fsep (left_made l made made') (fsep (left_answer l answer answer')
-    (holds (ChecksText l.handle l.bytes made' answer' result))))))
+    (holds (of_bytes text.at text.length l.bytes ((made' ≡ l.made) × ((answer' ≡ l.answer) × (result ≡ 1))) (λ bytes. ChecksText l.handle bytes made' answer' result)))))))
 
 abbrev pub lent_to_check_query : Loan → Ptr → Bytes → Ptr → Ptr → Fml
 lent_to_check_query l given query made answer =
     fsep (lent_handle l given) (fsep (lent_bytes l query) (fsep (lent_made l made) (lent_answer l answer)))
 
 abbrev pub left_by_check_query : Loan → Ptr → Bytes → Ptr → Ptr → ℕ → Fml
-left_by_check_query l given query made answer result = unless_null (given ∷ query.at ∷ made ∷ answer ∷ [])
+left_by_check_query l given query made answer result = unless_null (given ∷ made ∷ answer ∷ [])
     (fsep (feq ℕ result 1) (lent_to_check_query l given query made answer))
     (fex Owned (λ made'. fex Answer (λ answer'.
     fsep (left_made l made made') (fsep (left_answer l answer answer')
-    (holds (ChecksQuery l.handle l.bytes made' answer' result))))))
-
-abbrev pub lent_to_canonical : Loan → Ptr → Room → Ptr → Fml
-lent_to_canonical l filter text answer = fsep (lent_handle l filter) (fsep (lent_room l text) (lent_answer l answer))
-
-abbrev pub left_by_canonical : Loan → Ptr → Room → Ptr → ℕ → Fml
-left_by_canonical l filter text answer result = unless_null (filter ∷ text.at ∷ answer ∷ [])
-    (fsep (feq ℕ result 1) (lent_to_canonical l filter text answer))
-    (fex (List ℕ) (λ text'. fex Answer (λ answer'.
-    fsep (left_room l text text') (fsep (left_answer l answer answer')
-    (holds (TellsCanonical l.handle l.room text' answer' result))))))
-
-abbrev pub lent_to_explain : Loan → Ptr → Room → Ptr → Fml
-lent_to_explain l filter text answer = fsep (lent_handle l filter) (fsep (lent_room l text) (lent_answer l answer))
-
-abbrev pub left_by_explain : Loan → Ptr → Room → Ptr → ℕ → Fml
-left_by_explain l filter text answer result = unless_null (filter ∷ text.at ∷ answer ∷ [])
-    (fsep (feq ℕ result 1) (lent_to_explain l filter text answer))
-    (fex (List ℕ) (λ text'. fex Answer (λ answer'.
-    fsep (left_room l text text') (fsep (left_answer l answer answer')
-    (holds (TellsNodes l.handle l.room text' answer' result))))))
+    (holds (of_bytes query.at query.length l.bytes ((made' ≡ l.made) × ((answer' ≡ l.answer) × (result ≡ 1))) (λ bytes. ChecksQuery l.handle bytes made' answer' result)))))))
 
 abbrev pub lent_to_needs_moment : Loan → Ptr → Ptr → Fml
 lent_to_needs_moment l filter answer = fsep (lent_handle l filter) (lent_answer l answer)
@@ -96,21 +76,22 @@ abbrev pub lent_to_set_moment : Loan → Ptr → Bytes → Fml
 lent_to_set_moment l judge moment = fsep (lent_judge l judge) (lent_bytes l moment)
 
 abbrev pub left_by_set_moment : Loan → Ptr → Bytes → ℕ → Fml
-left_by_set_moment l judge moment result = unless_null (judge ∷ moment.at ∷ [])
+left_by_set_moment l judge moment result = unless_null (judge ∷ [])
     (fsep (feq ℕ result 1) (lent_to_set_moment l judge moment))
     (fex Handle (λ judge'.
-    fsep (left_judge l judge judge') (holds (SetsMoment l.judge judge' l.bytes result))))
+    fsep (left_judge l judge judge')
+    (holds (of_bytes moment.at moment.length l.bytes ((judge' ≡ l.judge) × (result ≡ 1)) (λ bytes. SetsMoment l.judge judge' bytes result)))))
 
 abbrev pub lent_to_judge : Loan → Ptr → Ptr → Bytes → Ptr → Fml
 lent_to_judge l filter judge row answer =
     fsep (lent_handle l filter) (fsep (lent_judge l judge) (fsep (lent_bytes l row) (lent_answer l answer)))
 
 abbrev pub left_by_judge : Loan → Ptr → Ptr → Bytes → Ptr → ℕ → Fml
-left_by_judge l filter judge row answer result = unless_null (filter ∷ judge ∷ row.at ∷ answer ∷ [])
+left_by_judge l filter judge row answer result = unless_null (filter ∷ judge ∷ answer ∷ [])
     (fsep (feq ℕ result 1) (lent_to_judge l filter judge row answer))
     (fex Handle (λ judge'. fex Answer (λ answer'.
     fsep (left_judge l judge judge') (fsep (left_answer l answer answer')
-    (holds (JudgesOne l.handle l.judge judge' l.bytes answer' result))))))
+    (holds (of_bytes row.at row.length l.bytes ((judge' ≡ l.judge) × ((answer' ≡ l.answer) × (result ≡ 1))) (λ bytes. JudgesOne l.handle l.judge judge' bytes answer' result)))))))
 
 abbrev pub lent_to_filter_lines : Loan → Ptr → Ptr → Bytes → Room → Ptr → Fml
 lent_to_filter_lines l filter judge rows kept answer =
@@ -118,12 +99,11 @@ lent_to_filter_lines l filter judge rows kept answer =
     (fsep (lent_room l kept) (lent_answer l answer))))
 
 abbrev pub left_by_filter_lines : Loan → Ptr → Ptr → Bytes → Room → Ptr → ℕ → Fml
-left_by_filter_lines l filter judge rows kept answer result =
-    unless_null (filter ∷ judge ∷ rows.at ∷ kept.at ∷ answer ∷ [])
+left_by_filter_lines l filter judge rows kept answer result = unless_null (filter ∷ judge ∷ kept.at ∷ answer ∷ [])
     (fsep (feq ℕ result 1) (lent_to_filter_lines l filter judge rows kept answer))
     (fex Handle (λ judge'. fex (List ℕ) (λ kept'. fex Answer (λ answer'.
     fsep (left_judge l judge judge') (fsep (left_room l kept kept') (fsep (left_answer l answer answer')
-    (holds (FiltersLines l.handle l.judge judge' l.bytes l.room kept' answer' result))))))))
+    (holds (of_bytes rows.at rows.length l.bytes ((judge' ≡ l.judge) × ((kept' ≡ l.room) × ((answer' ≡ l.answer) × (result ≡ 1)))) (λ bytes. FiltersLines l.handle l.judge judge' bytes l.room kept' answer' result)))))))))
 
 abbrev pub lent_to_path : Loan → Ptr → Room → Ptr → Fml
 lent_to_path l judge path answer = fsep (lent_handle l judge) (fsep (lent_room l path) (lent_answer l answer))

@@ -10,23 +10,23 @@ use Rattle.odata_checked_filter.specs.Filter.{tree_of_filter}
 use Rattle.odata_syntax.specs.CanonicalText.{IsCanonicalText}
 use Rattle.odfilter_c.specs.Kinds.{IsFilterKind, IsType}
 use Rattle.odfilter_c.specs.declared.fault.Fault.{Fault}
+use Rattle.odfilter_c.specs.HeldType.{EntityType}
 use Rattle.odfilter_c.specs.declared.handle.Handle.{Handle}
-use Rattle.odfilter_c.specs.declared.handle.TypeHandle.{TypeHandle}
 
 -- the text is a filter of the type, and this is it, with the type's schema
-abbrev pub IsFilterMade : TypeHandle → List ℕ → Handle → Type 0
+abbrev pub IsFilterMade : EntityType → List ℕ → Handle → Type 0
 IsFilterMade held text (Handle.Filter made) =
-    (made.schema ≡ held.schema.value) × (made.filtered ≡ held.id)
-    × HasTyping (slots_of held.schema.value) (type_name_at held.schema.value held.id) text (tree_of_filter made)
+    (made.schema ≡ held.schema) × (made.filtered ≡ held.id)
+    × HasTyping (slots_of held.schema) (type_name_at held.schema held.id) text (tree_of_filter made)
 IsFilterMade held text handle = ⊥
 
 -- the text is no filter of the type, and why
-abbrev pub IsRefused : TypeHandle → List ℕ → Refusal → Type 0
+abbrev pub IsRefused : EntityType → List ℕ → Refusal → Type 0
 IsRefused held text refusal =
-    UnlessMemory refusal (IsRefusal (slots_of held.schema.value) (type_name_at held.schema.value held.id) text refusal)
-    × UnlessMemory refusal (HasNoTyping (slots_of held.schema.value) (type_name_at held.schema.value held.id) text)
+    UnlessMemory refusal (IsRefusal (slots_of held.schema) (type_name_at held.schema held.id) text refusal)
+    × UnlessMemory refusal (HasNoTyping (slots_of held.schema) (type_name_at held.schema held.id) text)
 
-abbrev pub IsNotMade : TypeHandle → List ℕ → Fault → Type 0
+abbrev pub IsNotMade : EntityType → List ℕ → Fault → Type 0
 IsNotMade held text (Fault.Refused refusal) = IsRefused held text refusal
 IsNotMade held text Fault.Memory = Unit {0}
 IsNotMade held text fault = ⊥

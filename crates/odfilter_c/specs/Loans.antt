@@ -1,5 +1,5 @@
 -- What a call of C is lent. Each address is null, or that of a value as a reference has it, lent for the call.
-use Rattle.std.specs.Prelude.{ℕ, List, [], ◌∷◌, length}
+use Rattle.std.specs.Prelude.{◌≡◌, ◌<◌, ℕ, List, [], ◌∷◌, length}
 use base.Fml.{Fml, Lft, GName, Share, ftrue, fsep, feq, fex, fres, fbor}
 use denote.RattleType.{RattleType}
 use denote.RawPtr.{Ptr, block_ptr, null_ptr, ptr_val, block_of, count_of}
@@ -35,6 +35,7 @@ pub record Loan : Type 0 where
   pub made_name : GName
   pub answer : Answer
   pub answer_name : GName
+  pub fault : Answer
 
 -- a value that may change
 abbrev pub lent_place : (R : RattleType) → Lft → GName → Ptr → R.Denot → Fml
@@ -87,6 +88,24 @@ lent_answer l p = lent_place AnswerRow l.lifetime l.answer_name p l.answer
 
 abbrev pub left_answer : Loan → Ptr → Answer → Fml
 left_answer l p x = left_place AnswerRow l.lifetime l.answer_name p x
+
+-- an answer that is read
+abbrev pub lent_fault : Loan → Ptr → Fml
+lent_fault l p = if_non_null p ((ShrRef static l.lifetime AnswerRow).own_val
+    (record { ref_ptr = (block_of p, count_of p); now = l.fault }) (ptr_val p ∷ []))
+
+-- P of the bytes; at a null address they are an empty text, and with another length than 0 N holds
+abbrev pub UnlessLong : ℕ → Type 0 → Type 0 → Type 0
+UnlessLong count N P = (count ≡ 0 → P) × (0 < count → N)
+
+abbrev pub of_bytes : Ptr → ℕ → List ℕ → Type 0 → (List ℕ → Type 0) → Type 0
+of_bytes (block_ptr b o) count bytes N P = P bytes
+of_bytes null_ptr count bytes N P = UnlessLong count N (P [])
+
+-- P, or N where the address is null
+abbrev pub of_optional : Ptr → Type 0 → Type 0 → Type 0
+of_optional (block_ptr b o) N P = P
+of_optional null_ptr N P = N
 
 -- F, or N where one of the addresses is null
 abbrev pub unless_null : List Ptr → Fml → Fml → Fml

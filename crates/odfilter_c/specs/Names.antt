@@ -1,5 +1,5 @@
 -- The names of statuses, and of the faults under them.
-use Rattle.std.specs.Prelude.{ℕ, List, [], ◌∷◌, cond, eqb, codes, Option, None, Some, Result, Ok, Err}
+use Rattle.std.specs.Prelude.{ℕ, ◌&&◌, List, [], ◌∷◌, cond, eqb, codes, Option, None, Some, Result, Ok, Err}
 use Rattle.odata_filter.specs.FaultNumbers.{name_at, names_of}
 use Rattle.odata_filter.specs.declared.fault_number.FaultKind.{FaultKind}
 use Rattle.odfilter_c.specs.declared.fault.Fault.{Fault}
@@ -52,13 +52,14 @@ abbrev pub named : Option (List ℕ) → Result (List ℕ) Fault
 named (Some name) = Ok name
 named None = Err Fault.UnknownNumber
 
--- the name of a fault of a kind, and under a status
+-- the name of a fault of a kind, and under a status; the fifth of a query is one of whole queries alone
 abbrev pub kind_named : Option FaultKind → ℕ → Result (List ℕ) Fault
 kind_named (Some kind) fault = named (name_at (names_of kind) fault)
 kind_named None fault = Err Fault.UnknownNumber
 
 abbrev pub fault_named : ℕ → ℕ → Result (List ℕ) Fault
-fault_named status fault = kind_named (kind_under status) fault
+fault_named status fault =
+    cond (eqb status 20 && eqb fault 5) (Ok (codes "Disguised")) (kind_named (kind_under status) fault)
 
 -- the name of a status
 abbrev pub status_named : ℕ → Result (List ℕ) Fault

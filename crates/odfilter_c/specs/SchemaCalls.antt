@@ -21,7 +21,7 @@ IsNoSchema document fault = ⊥
 -- the entity type of that name in that schema
 abbrev pub IsTypeOf : Handle → List ℕ → Handle → Type 0
 IsTypeOf (Handle.Schema held) name (Handle.Type made) =
-    (made.schema.value ≡ held.schema.value) × (index_named held.schema.value name ≡ Some made.id)
+    (made.schema ≡ held.schema.value) × (index_named held.schema.value name ≡ Some made.id)
 IsTypeOf given name handle = ⊥
 
 -- why there is none

@@ -31,6 +31,10 @@ pub struct Answer {
     pub first: usize,
     pub rows: u64,
     pub kept: u64,
+    pub piece_start: usize,
+    pub piece_stop: usize,
+    pub value_start: usize,
+    pub value_stop: usize,
 }
 
 impl Answer {
@@ -48,6 +52,10 @@ impl Answer {
             first: 0,
             rows: 0,
             kept: 0,
+            piece_start: 0,
+            piece_stop: 0,
+            value_start: 0,
+            value_stop: 0,
         }
     }
 }

@@ -2,11 +2,15 @@
 ghost use Rattle.std.specs.Prelude.{Err};
 ghost use Rattle.odfilter_c.specs.Tells.{ChecksQuery, ChecksText, FindsType, Frees, GivesSchema, ReadsSchema};
 ghost use Rattle.odfilter_c.specs.Tells.{TellsCanonical, TellsFault, TellsNodes, TellsStatus, TellsVersion};
+ghost use Rattle.odfilter_c.specs.Sentences.{ReportsSentence, ReportsSentenceFor};
+ghost use Rattle.odfilter_c.specs.UrlCalls.{ChecksUrl};
+ghost use Rattle.odfilter_c.specs.Costs.{ReportsLambdaDepth, ReportsNodeCount, ReportsPaths};
 ghost use Rattle.odfilter_c.specs.RowTells.{FiltersLines, JudgesOne, MakesJudge, SetsMoment, TellsNeed, TellsPath};
 
 use crate::c_types::Answer;
+use crate::cost_calls::{path_lines, report_lambda_depth, report_lines, report_node_count};
 use crate::fault::Fault;
-use crate::filter_calls::{canonical_of, explanation_of, filter_in_query, filter_of};
+use crate::filter_calls::{canonical_of, explanation_of, filter_for, filter_in_query, filter_of};
 use crate::handle::Handle;
 use crate::judge_calls::{empty_judge, last_path, put_moment, tell_need, tell_row};
 use crate::line_calls::tell_rows;
@@ -14,7 +18,9 @@ use crate::name_calls::{VERSION, name_of_fault, name_of_status};
 use crate::owned::Owned;
 use crate::room::tell_bytes;
 use crate::schema_calls::{schema_of, tell_names, type_of};
+use crate::sentence_calls::{sentence_for, sentence_of};
 use crate::telling::{give, tell_fault};
+use crate::url_calls::{found_for, report_found};
 use std::alloc::Global;
 
 /// What becomes of a document that is no schema.
@@ -55,7 +61,7 @@ pub(crate) fn find_type<'a>(
     ensures { FindsType schema.now name.now made.new result }
 {
     let mut answer = Answer::empty();
-    give(alloc, type_of(schema, name), made, &mut answer)
+    give(alloc, type_of(alloc, schema, name), made, &mut answer)
 }
 
 pub(crate) fn check<'a>(
@@ -80,6 +86,61 @@ pub(crate) fn check_query<'a>(
     ensures { ChecksQuery given.now query.now made.new answer.new result }
 {
     give(alloc, filter_in_query(alloc, given, query), made, answer)
+}
+
+pub(crate) fn check_url<'a>(
+    alloc: Global,
+    given: &'a Handle,
+    query: &'a [u8],
+    text: &'a mut [u8],
+    made: &'a mut Owned,
+    answer: &'a mut Answer,
+) -> u32
+    ensures { ChecksUrl given.now query.now text.old text.new made.new answer.new result }
+{
+    match found_for(alloc, given, query) {
+        Ok(found) => {
+            let filter = filter_for(alloc, given, found.text.as_str());
+            let status = give(alloc, filter, made, answer);
+            report_found(&found, text, answer);
+            status
+        }
+        Err(fault) => give(alloc, Err(fault), made, answer),
+    }
+}
+
+pub(crate) fn fault_text<'a>(
+    alloc: Global,
+    given: &'a Handle,
+    status: u32,
+    text: &'a [u8],
+    sentence: &'a mut [u8],
+    fault: &'a Answer,
+    answer: &'a mut Answer,
+) -> u32
+    ensures { ReportsSentenceFor given.now status text.now sentence.old sentence.new fault.now answer.new result }
+{
+    match sentence_for(alloc, given, status, fault, text) {
+        Ok(words) => tell_bytes(words.as_bytes(), sentence, answer),
+        Err(fault) => tell_fault(&fault, answer),
+    }
+}
+
+/// The same without a type.
+pub(crate) fn fault_text_alone<'a>(
+    alloc: Global,
+    status: u32,
+    text: &'a [u8],
+    sentence: &'a mut [u8],
+    fault: &'a Answer,
+    answer: &'a mut Answer,
+) -> u32
+    ensures { ReportsSentence status text.now sentence.old sentence.new fault.now answer.new result }
+{
+    match sentence_of(alloc, None, status, fault, text) {
+        Ok(words) => tell_bytes(words.as_bytes(), sentence, answer),
+        Err(fault) => tell_fault(&fault, answer),
+    }
 }
 
 pub(crate) fn canonical<'a>(
@@ -116,6 +177,32 @@ pub(crate) fn needs_moment<'a>(filter: &'a Handle, answer: &'a mut Answer) -> u3
     match filter {
         Handle::Filter(held) => tell_need(held, answer),
         _ => tell_fault(&Fault::OtherKind, answer),
+    }
+}
+
+pub(crate) fn node_count<'a>(filter: &'a Handle, answer: &'a mut Answer) -> u32
+    ensures { ReportsNodeCount filter.now answer.new result }
+{
+    report_node_count(filter, answer)
+}
+
+pub(crate) fn lambda_depth<'a>(filter: &'a Handle, answer: &'a mut Answer) -> u32
+    ensures { ReportsLambdaDepth filter.now answer.new result }
+{
+    report_lambda_depth(filter, answer)
+}
+
+pub(crate) fn property_paths<'a>(
+    alloc: Global,
+    filter: &'a Handle,
+    paths: &'a mut [u8],
+    answer: &'a mut Answer,
+) -> u32
+    ensures { ReportsPaths filter.now paths.old paths.new answer.new result }
+{
+    match path_lines(alloc, filter) {
+        Ok(lines) => report_lines(lines.count, lines.text.as_bytes(), paths, answer),
+        Err(fault) => tell_fault(&fault, answer),
     }
 }
 

@@ -7,8 +7,6 @@ ghost use Rattle.odfilter_c.specs.Exports.{lent_to_read_schema, left_by_read_sch
 ghost use Rattle.odfilter_c.specs.Exports.{lent_to_find_type, left_by_find_type};
 ghost use Rattle.odfilter_c.specs.Exports.{lent_to_check, left_by_check};
 ghost use Rattle.odfilter_c.specs.Exports.{lent_to_check_query, left_by_check_query};
-ghost use Rattle.odfilter_c.specs.Exports.{lent_to_canonical, left_by_canonical};
-ghost use Rattle.odfilter_c.specs.Exports.{lent_to_explain, left_by_explain};
 ghost use Rattle.odfilter_c.specs.Exports.{lent_to_needs_moment, left_by_needs_moment};
 ghost use Rattle.odfilter_c.specs.Exports.{lent_to_new_judge, left_by_new_judge};
 ghost use Rattle.odfilter_c.specs.Exports.{lent_to_set_moment, left_by_set_moment};
@@ -21,9 +19,9 @@ ghost use Rattle.odfilter_c.specs.Exports.{lent_to_status_name, left_by_status_n
 ghost use Rattle.odfilter_c.specs.Exports.{lent_to_fault_name, left_by_fault_name};
 
 use crate::c_types::{Answer, Bytes, Room};
-use crate::calls;
 use crate::handle::Handle;
 use crate::owned::Owned;
+use crate::{calls, null_calls};
 use std::alloc::Global;
 use std::slice::{from_raw_parts, from_raw_parts_mut};
 
@@ -43,9 +41,6 @@ pub unsafe extern "C" fn odfilter_read_schema(
     ensures* { sem 𝓛 (flft loan.lifetime loan.share)
         ∗ sem 𝓛 (left_by_read_schema loan document names schema answer result) }
 {
-    if document.at.is_null() {
-        return 1;
-    }
     if names.at.is_null() {
         return 1;
     }
@@ -55,14 +50,26 @@ pub unsafe extern "C" fn odfilter_read_schema(
     if answer.is_null() {
         return 1;
     }
-    unsafe {
-        calls::read_schema(
-            alloc,
-            from_raw_parts(document.at, document.length),
-            from_raw_parts_mut(names.at, names.length),
-            &mut *schema,
-            &mut *answer,
-        )
+    if document.at.is_null() {
+        unsafe {
+            null_calls::read_schema_at_null(
+                alloc,
+                document.length,
+                from_raw_parts_mut(names.at, names.length),
+                &mut *schema,
+                &mut *answer,
+            )
+        }
+    } else {
+        unsafe {
+            calls::read_schema(
+                alloc,
+                from_raw_parts(document.at, document.length),
+                from_raw_parts_mut(names.at, names.length),
+                &mut *schema,
+                &mut *answer,
+            )
+        }
     }
 }
 
@@ -82,19 +89,27 @@ pub unsafe extern "C" fn odfilter_find_type(
     if schema.is_null() {
         return 1;
     }
-    if name.at.is_null() {
-        return 1;
-    }
     if made.is_null() {
         return 1;
     }
-    unsafe {
-        calls::find_type(
-            alloc,
-            &*(schema as *const Handle),
-            from_raw_parts(name.at, name.length),
-            &mut *made,
-        )
+    if name.at.is_null() {
+        unsafe {
+            null_calls::find_type_at_null(
+                alloc,
+                &*(schema as *const Handle),
+                name.length,
+                &mut *made,
+            )
+        }
+    } else {
+        unsafe {
+            calls::find_type(
+                alloc,
+                &*(schema as *const Handle),
+                from_raw_parts(name.at, name.length),
+                &mut *made,
+            )
+        }
     }
 }
 
@@ -115,23 +130,32 @@ pub unsafe extern "C" fn odfilter_check(
     if given.is_null() {
         return 1;
     }
-    if text.at.is_null() {
-        return 1;
-    }
     if made.is_null() {
         return 1;
     }
     if answer.is_null() {
         return 1;
     }
-    unsafe {
-        calls::check(
-            alloc,
-            &*(given as *const Handle),
-            from_raw_parts(text.at, text.length),
-            &mut *made,
-            &mut *answer,
-        )
+    if text.at.is_null() {
+        unsafe {
+            null_calls::check_at_null(
+                alloc,
+                &*(given as *const Handle),
+                text.length,
+                &mut *made,
+                &mut *answer,
+            )
+        }
+    } else {
+        unsafe {
+            calls::check(
+                alloc,
+                &*(given as *const Handle),
+                from_raw_parts(text.at, text.length),
+                &mut *made,
+                &mut *answer,
+            )
+        }
     }
 }
 
@@ -152,87 +176,32 @@ pub unsafe extern "C" fn odfilter_check_query(
     if given.is_null() {
         return 1;
     }
-    if query.at.is_null() {
-        return 1;
-    }
     if made.is_null() {
         return 1;
     }
     if answer.is_null() {
         return 1;
     }
-    unsafe {
-        calls::check_query(
-            alloc,
-            &*(given as *const Handle),
-            from_raw_parts(query.at, query.length),
-            &mut *made,
-            &mut *answer,
-        )
-    }
-}
-
-/// Writes a filter's canonical text.
-#[unsafe(no_mangle)]
-pub unsafe extern "C" fn odfilter_canonical(
-    alloc: Global,
-    filter: *const u8,
-    text: Room,
-    answer: *mut Answer,
-) -> u32
-    ghost loan: { Loan }
-    requires testable { (Testable filter) × (Testable text.at) × (Testable answer) }
-    requires* lent { sem 𝓛 (flft loan.lifetime loan.share) ∗ sem 𝓛 (lent_to_canonical loan filter text answer) }
-    ensures* { sem 𝓛 (flft loan.lifetime loan.share) ∗ sem 𝓛 (left_by_canonical loan filter text answer result) }
-{
-    if filter.is_null() {
-        return 1;
-    }
-    if text.at.is_null() {
-        return 1;
-    }
-    if answer.is_null() {
-        return 1;
-    }
-    unsafe {
-        calls::canonical(
-            alloc,
-            &*(filter as *const Handle),
-            from_raw_parts_mut(text.at, text.length),
-            &mut *answer,
-        )
-    }
-}
-
-/// Writes what each node of a filter is.
-#[unsafe(no_mangle)]
-pub unsafe extern "C" fn odfilter_explain(
-    alloc: Global,
-    filter: *const u8,
-    text: Room,
-    answer: *mut Answer,
-) -> u32
-    ghost loan: { Loan }
-    requires testable { (Testable filter) × (Testable text.at) × (Testable answer) }
-    requires* lent { sem 𝓛 (flft loan.lifetime loan.share) ∗ sem 𝓛 (lent_to_explain loan filter text answer) }
-    ensures* { sem 𝓛 (flft loan.lifetime loan.share) ∗ sem 𝓛 (left_by_explain loan filter text answer result) }
-{
-    if filter.is_null() {
-        return 1;
-    }
-    if text.at.is_null() {
-        return 1;
-    }
-    if answer.is_null() {
-        return 1;
-    }
-    unsafe {
-        calls::explain(
-            alloc,
-            &*(filter as *const Handle),
-            from_raw_parts_mut(text.at, text.length),
-            &mut *answer,
-        )
+    if query.at.is_null() {
+        unsafe {
+            null_calls::check_query_at_null(
+                alloc,
+                &*(given as *const Handle),
+                query.length,
+                &mut *made,
+                &mut *answer,
+            )
+        }
+    } else {
+        unsafe {
+            calls::check_query(
+                alloc,
+                &*(given as *const Handle),
+                from_raw_parts(query.at, query.length),
+                &mut *made,
+                &mut *answer,
+            )
+        }
     }
 }
 
@@ -279,13 +248,14 @@ pub unsafe extern "C" fn odfilter_set_moment(judge: *mut u8, moment: Bytes) -> u
         return 1;
     }
     if moment.at.is_null() {
-        return 1;
-    }
-    unsafe {
-        calls::set_moment(
-            &mut *(judge as *mut Handle),
-            from_raw_parts(moment.at, moment.length),
-        )
+        unsafe { null_calls::set_moment_at_null(&mut *(judge as *mut Handle), moment.length) }
+    } else {
+        unsafe {
+            calls::set_moment(
+                &mut *(judge as *mut Handle),
+                from_raw_parts(moment.at, moment.length),
+            )
+        }
     }
 }
 
@@ -308,19 +278,27 @@ pub unsafe extern "C" fn odfilter_judge(
     if judge.is_null() {
         return 1;
     }
-    if row.at.is_null() {
-        return 1;
-    }
     if answer.is_null() {
         return 1;
     }
-    unsafe {
-        calls::judge(
-            &*(filter as *const Handle),
-            &mut *(judge as *mut Handle),
-            from_raw_parts(row.at, row.length),
-            &mut *answer,
-        )
+    if row.at.is_null() {
+        unsafe {
+            null_calls::judge_at_null(
+                &*(filter as *const Handle),
+                &mut *(judge as *mut Handle),
+                row.length,
+                &mut *answer,
+            )
+        }
+    } else {
+        unsafe {
+            calls::judge(
+                &*(filter as *const Handle),
+                &mut *(judge as *mut Handle),
+                from_raw_parts(row.at, row.length),
+                &mut *answer,
+            )
+        }
     }
 }
 
@@ -347,23 +325,32 @@ pub unsafe extern "C" fn odfilter_filter_lines(
     if judge.is_null() {
         return 1;
     }
-    if rows.at.is_null() {
-        return 1;
-    }
     if kept.at.is_null() {
         return 1;
     }
     if answer.is_null() {
         return 1;
     }
-    unsafe {
-        calls::filter_lines(
-            &*(filter as *const Handle),
-            &mut *(judge as *mut Handle),
-            from_raw_parts(rows.at, rows.length),
-            from_raw_parts_mut(kept.at, kept.length),
-            &mut *answer,
-        )
+    if rows.at.is_null() {
+        unsafe {
+            null_calls::filter_lines_at_null(
+                &*(filter as *const Handle),
+                &mut *(judge as *mut Handle),
+                rows.length,
+                from_raw_parts_mut(kept.at, kept.length),
+                &mut *answer,
+            )
+        }
+    } else {
+        unsafe {
+            calls::filter_lines(
+                &*(filter as *const Handle),
+                &mut *(judge as *mut Handle),
+                from_raw_parts(rows.at, rows.length),
+                from_raw_parts_mut(kept.at, kept.length),
+                &mut *answer,
+            )
+        }
     }
 }
 

@@ -1,6 +1,7 @@
 //! Why a call did nothing, and how that is told.
 ghost use Rattle.std.specs.Prelude.{◌≡◌};
-ghost use Rattle.odfilter_c.specs.Answers.{empty_answer, fault_answer, fault_status, path_bytes, query_place};
+ghost use Rattle.odfilter_c.specs.Answers.{empty_answer, fault_answer, fault_status, find_number, find_place};
+ghost use Rattle.odfilter_c.specs.Answers.{path_bytes, query_place};
 ghost use Rattle.odfilter_c.specs.Answers.{refusal_number, refusal_status};
 
 use crate::c_types::Answer;
@@ -8,7 +9,7 @@ use csdl_schema::SchemaFault;
 use edm_entities::RowFault;
 use odata_eval::EvalFault;
 use odata_filter::{Numbered, refusal_span, row_fault_path};
-use odata_text::QueryFault;
+use odata_text::{FindFault, QueryFault};
 use odata_typing::Refusal;
 
 /// Why a call did nothing. The faults of the crates below are none for want of memory, which is `Memory` here.
@@ -26,6 +27,7 @@ pub(crate) enum Fault {
     Schema(SchemaFault),
     Refused(Refusal),
     Query(QueryFault),
+    Whole(FindFault),
     /// Of a row by itself the line is 0.
     Json { line: u64 },
     Row { line: u64, fault: RowFault },
@@ -96,6 +98,32 @@ fn query_answer(fault: &QueryFault) -> Answer
     answer
 }
 
+/// The number of a fault of a whole query; those that any query has are numbered alike.
+fn find_number(fault: &FindFault) -> u32
+    ensures { result ≡ find_number fault.now }
+{
+    match fault {
+        FindFault::BadEscape { .. } => 1,
+        FindFault::NotUtf8 { .. } => 2,
+        FindFault::Repeated { .. } => 3,
+        FindFault::Disguised { .. } => 5,
+        FindFault::Memory => 0,
+    }
+}
+
+/// The number that a fault of a whole query carries.
+fn find_place(fault: &FindFault) -> u64
+    ensures { result ≡ find_place fault.now }
+{
+    match fault {
+        FindFault::BadEscape { place } => *place as u64,
+        FindFault::NotUtf8 { option } => *option as u64,
+        FindFault::Repeated { option } => *option as u64,
+        FindFault::Disguised { option } => *option as u64,
+        FindFault::Memory => 0,
+    }
+}
+
 /// An answer of a fault's number and a line.
 fn numbered(fault: u32, line: u64) -> Answer
     ensures { result ≡ record empty_answer { fault = fault; number = line } }
@@ -142,6 +170,7 @@ impl Fault {
             Fault::Schema(_) => 16,
             Fault::Refused(refusal) => refusal_status(refusal),
             Fault::Query(_) => 20,
+            Fault::Whole(_) => 20,
             Fault::Json { .. } => 21,
             Fault::Row { .. } => 22,
             Fault::Evaluation { .. } => 23,
@@ -157,6 +186,7 @@ impl Fault {
             Fault::TooSmall { wanted } => measured(*wanted),
             Fault::Schema(fault) => numbered(u32::from(fault.number()), 0),
             Fault::Query(fault) => query_answer(fault),
+            Fault::Whole(fault) => numbered(find_number(fault), find_place(fault)),
             Fault::Refused(refusal) => refusal_answer(refusal),
             Fault::Json { line } => numbered(0, *line),
             Fault::LineTooLong { line } => numbered(0, *line),

@@ -2,25 +2,52 @@
 ghost use Rattle.std.specs.Prelude.{◌≡◌, MatchResult, string_bytes};
 ghost use Rattle.odata_checked_filter.specs.Filter.{IsFilter, filter_in};
 ghost use Rattle.odfilter_c.specs.FilterCalls.{IsCanonicalOf, IsExplanationOf, IsFilterIn, IsFilterMade, IsFilterOfQuery};
+ghost use Rattle.odata_filter.specs.RowAnswer.{IsPlanOfFilter};
+ghost use Rattle.odfilter_c.specs.HeldType.{IsPlanOfType};
 ghost use Rattle.odfilter_c.specs.FilterCalls.{IsNoFilter, IsNoQueryFilter, IsNoText, IsNotMade};
 
 use crate::fault::Fault;
 use crate::handle::{FilterHandle, Handle, TypeHandle};
-use csdl_schema::Schema;
+use edm_entities::RowPlan;
 use odata_filter::row_plan_of;
 use odata_text::{QueryFault, filter_of_query};
-use odata_typing::{StoredFilter, check_to_store};
+use odata_typing::{Checked, StoredFilter, check_to_store};
 use std::alloc::Global;
 use std::sync::Arc;
 
-/// A filter with its schema, and what its rows are read by.
-fn held_filter(alloc: Global, schema: &Arc<Schema>, filter: StoredFilter) -> Result<Handle, Fault>
-    requires { IsFilter (filter_in schema.now.value filter) }
-    ensures { MatchResult result (λ made. made ≡ Handle.Filter (filter_in schema.now.value filter))
+/// What rows of a filter are read by: the plan of its type where neither has anything expanded, else one of its own.
+fn plan_for(
+    alloc: Global,
+    shared: &Arc<RowPlan>,
+    checked: &Checked<'_>,
+) -> Result<Arc<RowPlan>, Fault>
+    requires { IsPlanOfType (record { schema = checked.now.schema; id = checked.now.filtered }) shared.now.value }
+    ensures { MatchResult result (λ plan. IsPlanOfFilter checked.now plan.value) (λ fault. fault ≡ Fault.Memory) }
+{
+    if shared.expansion.is_empty() && checked.expansion().is_empty() {
+        return match Arc::try_clone(shared) {
+            Ok(plan) => Ok(plan),
+            Err(_) => Err(Fault::Memory),
+        };
+    }
+    match Arc::new(alloc, row_plan_of(alloc, checked)) {
+        Ok(plan) => Ok(plan),
+        Err(_) => Err(Fault::Memory),
+    }
+}
+
+/// A filter of a type with its schema, and what its rows are read by.
+fn held_filter(alloc: Global, held: &TypeHandle, filter: StoredFilter) -> Result<Handle, Fault>
+    requires right { IsFilter (filter_in held.now.schema filter) }
+    requires filtered { filter.filtered ≡ held.now.id }
+    ensures { MatchResult result (λ made. made ≡ Handle.Filter (filter_in held.now.schema filter))
         (λ fault. fault ≡ Fault.Memory) }
 {
-    let plan = row_plan_of(alloc, &filter.with_schema(schema));
-    match Arc::try_clone(schema) {
+    let plan = match plan_for(alloc, &held.plan, &filter.with_schema(&held.schema)) {
+        Ok(plan) => plan,
+        Err(fault) => return Err(fault),
+    };
+    match Arc::try_clone(&held.schema) {
         Ok(schema) => Ok(Handle::Filter(FilterHandle {
             schema,
             filter,
@@ -35,7 +62,7 @@ fn filter_of_text(alloc: Global, held: &TypeHandle, text: &str) -> Result<Handle
     ensures { MatchResult result (IsFilterMade held.now text.now) (IsNotMade held.now text.now) }
 {
     match check_to_store(alloc, &held.schema, held.id, text) {
-        Ok(filter) => held_filter(alloc, &held.schema, filter),
+        Ok(filter) => held_filter(alloc, held, filter),
         Err(refusal) => Err(Fault::Refused(refusal)),
     }
 }
@@ -49,6 +76,16 @@ pub(crate) fn filter_of(alloc: Global, handle: &Handle, text: &[u8]) -> Result<H
             Ok(text) => filter_of_text(alloc, held, text),
             Err(_) => Err(Fault::NotUtf8),
         },
+        _ => Err(Fault::OtherKind),
+    }
+}
+
+/// The filter of a text, for entities of the type that a handle is.
+pub(crate) fn filter_for(alloc: Global, handle: &Handle, text: &str) -> Result<Handle, Fault>
+    ensures { MatchResult result (IsFilterIn handle.now text.now) (IsNoFilter handle.now text.now) }
+{
+    match handle {
+        Handle::Type(held) => filter_of_text(alloc, held, text),
         _ => Err(Fault::OtherKind),
     }
 }

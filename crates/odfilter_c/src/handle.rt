@@ -1,6 +1,4 @@
 //! What a handle stands for.
-ghost use Rattle.csdl_schema.specs.SchemaModel.{HoldsType, IsEntityAt};
-
 use csdl_schema::{Schema, TypeId};
 use edm_entities::{RowFault, RowPlan, RowReader};
 use edm_values::Moment;
@@ -23,21 +21,33 @@ pub struct SchemaHandle {
     pub(crate) schema: Arc<Schema>,
 }
 
-/// An entity type, with its schema.
+/// An entity type, with its schema, and what rows of it are read by where nothing is expanded, which its filters share.
 #[derive(Drop)]
 pub struct TypeHandle {
     pub(crate) schema: Arc<Schema>,
     pub(crate) id: TypeId,
-    ghost held: { HoldsType schema.value id },
-    ghost entity: { IsEntityAt schema.value id },
+    pub(crate) plan: Arc<RowPlan>,
 }
 
-/// A filter, with the schema that it was checked by, and what rows of its type are read by.
+impl Model for TypeHandle {
+    ghost use Rattle.odfilter_c.specs.HeldType.{EntityType};
+
+    ghost Value = { EntityType };
+
+    ghost view = { λ held. record { schema = held.schema.value; id = held.id } };
+
+    ghost use Rattle.odfilter_c.specs.HeldType.{IsHeldType};
+
+    ghost invariant = { λ held. IsHeldType (record { schema = held.schema.value; id = held.id }) held.plan.value };
+}
+
+/// A filter, with the schema that it was checked by, and what rows are read by: its type's plan, or one of its own where
+/// it navigates.
 #[derive(Drop)]
 pub struct FilterHandle {
     pub(crate) schema: Arc<Schema>,
     pub(crate) filter: StoredFilter,
-    pub(crate) plan: RowPlan,
+    pub(crate) plan: Arc<RowPlan>,
 }
 
 impl Model for FilterHandle {
@@ -56,7 +66,7 @@ impl Model for FilterHandle {
 
     ghost use Rattle.odfilter_c.specs.HeldFilter.{IsHeldFilter};
 
-    ghost invariant = { λ held. IsHeldFilter (filter_in held.schema.value held.filter) held.plan };
+    ghost invariant = { λ held. IsHeldFilter (filter_in held.schema.value held.filter) held.plan.value };
 }
 
 /// What lasts from row to row, of any filter.

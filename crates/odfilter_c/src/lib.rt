@@ -4,17 +4,22 @@
 
 mod c_types;
 mod calls;
+mod cost_calls;
 pub mod exports;
 mod fault;
 mod filter_calls;
+pub mod filter_exports;
 mod handle;
 mod judge_calls;
 mod line_calls;
 mod name_calls;
+mod null_calls;
 mod owned;
 mod raw;
 mod room;
 mod schema_calls;
+mod sentence_calls;
 mod telling;
+mod url_calls;
 
 pub use c_types::{Answer, Bytes, Room};

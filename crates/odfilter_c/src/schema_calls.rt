@@ -1,5 +1,6 @@
 //! A schema and its types.
 ghost use Rattle.std.specs.Prelude.{◌≡◌, MatchResult};
+ghost use Rattle.csdl_schema.specs.SchemaModel.{HoldsType, IsEntityAt};
 ghost use Rattle.odfilter_c.specs.SchemaCalls.{IsNoSchema, IsNoType, IsSchemaOf, IsTypeOf, first_name, second_name};
 ghost use Rattle.odfilter_c.specs.Tells.{TellsNames};
 
@@ -7,7 +8,8 @@ use crate::c_types::Answer;
 use crate::fault::Fault;
 use crate::handle::{Handle, SchemaHandle, TypeHandle};
 use crate::room::write_both;
-use csdl_schema::{Schema, SchemaFault};
+use csdl_schema::{Expansion, Schema, SchemaFault, TypeId};
+use edm_entities::RowPlan;
 use odata_filter::Numbered;
 use std::alloc::Global;
 use std::sync::Arc;
@@ -27,8 +29,27 @@ pub(crate) fn schema_of(alloc: Global, document: &[u8]) -> Result<Handle, Fault>
     }
 }
 
+/// An entity type with its schema, and a plan of its rows.
+fn type_handle(alloc: Global, schema: &Arc<Schema>, id: TypeId) -> Result<Handle, Fault>
+    requires held { HoldsType schema.now.value id }
+    requires entity { IsEntityAt schema.now.value id }
+    ensures { MatchResult result (λ made. made ≡ Handle.Type (record { schema = schema.now.value; id = id }))
+        (λ fault. fault ≡ Fault.Memory) }
+{
+    let Ok(plan) = Arc::new(
+        alloc,
+        RowPlan::new(alloc, schema, id, &Expansion::none(alloc)),
+    ) else {
+        return Err(Fault::Memory);
+    };
+    match Arc::try_clone(schema) {
+        Ok(schema) => Ok(Handle::Type(TypeHandle { schema, id, plan })),
+        Err(_) => Err(Fault::Memory),
+    }
+}
+
 /// The entity type of that name in a schema.
-fn type_in(held: &SchemaHandle, name: &str) -> Result<Handle, Fault>
+fn type_in(alloc: Global, held: &SchemaHandle, name: &str) -> Result<Handle, Fault>
     ensures { MatchResult result (IsTypeOf (Handle.Schema held.now) name.now)
         (IsNoType (Handle.Schema held.now) name.now) }
 {
@@ -38,19 +59,16 @@ fn type_in(held: &SchemaHandle, name: &str) -> Result<Handle, Fault>
     if !held.schema.is_entity(id) {
         return Err(Fault::UnknownType);
     }
-    match Arc::try_clone(&held.schema) {
-        Ok(schema) => Ok(Handle::Type(TypeHandle { schema, id })),
-        Err(_) => Err(Fault::Memory),
-    }
+    type_handle(alloc, &held.schema, id)
 }
 
 /// The entity type whose name the bytes spell.
-pub(crate) fn type_of(handle: &Handle, name: &[u8]) -> Result<Handle, Fault>
+pub(crate) fn type_of(alloc: Global, handle: &Handle, name: &[u8]) -> Result<Handle, Fault>
     ensures { MatchResult result (IsTypeOf handle.now name.now) (IsNoType handle.now name.now) }
 {
     match handle {
         Handle::Schema(held) => match str::from_utf8(name) {
-            Ok(name) => type_in(held, name),
+            Ok(name) => type_in(alloc, held, name),
             Err(_) => Err(Fault::NotUtf8),
         },
         _ => Err(Fault::OtherKind),

@@ -1,12 +1,15 @@
 -- `check` meets its contract: the addresses are tested one by one, and what was lent is handed to the call over references.
-use Rattle.odfilter_c.proofs.Steps.{ℕ, List, [], ◌∷◌, refl, lit<, w32, Bor, MutBor, proved, leaves, SProp, ent, id⊢, sem, Lft, ftrue, feq, fsep, fex, flft, Val, vint, vptr, vnull, fact, tables, WpFn, Ura, Logic, Memory, Routine, Calls, Loops, Fun, FmC, Triple, Contract, Item, ‵, raw, ◌⊛◌, some, later, prop, at_ret, Sq, ◌$◌, ◌∵◌, !, qed, move, keep, drop, use1, use2, split, join, fsplit, fjoin, fpack, feq_i, pick, await, by, enter, of_opd, lit, bin, addr, stop, fld, no_more, and_then, first, blocks, branches, skips, exec, returns, returns_within, agg, sub, whole, alloc_all, pass_all, free_all, look_at, get, get_in, through, sets, lands_last, env, u32, yes, uint_Makes, uint_Lawful, Typed, Is, shows, Ptr, RawPtr, block_ptr, null_ptr, ptr_val, Testable, tests_null, rawptr_vals, rawptr_Tells, rawptr_Lawful, slice_val, owns, types_at, plain, nothing, owned, heard, peeks, calls_at_last, lasts, triple_of, Stays, walk_of, stay_dropped, Goes-dropped, framed}
-use Rattle.odfilter_c.proofs.Types.{Global, GlobalRow, global_val, global_lowers, global_laws, Bytes, BytesRow, bytes_val, bytes_lowers, bytes_laws, Handle, Owned, Answer}
-use Rattle.odfilter_c.specs.Loans.{Loan, left_made, left_answer, holds}
+use Rattle.odfilter_c.proofs.Steps.{◌≡◌, ℕ, ◌<◌, ◌^◌, List, [], ◌∷◌, ◌++◌, refl, lit<, w32, w64, Bor, MutBor, proved, leaves, SProp, ent, id⊢, sem, Fml, Lft, Share, ftrue, feq, fsep, fex, flft, Val, vint, vptr, vnull, fact, tables, WpFn, Ura, Logic, Memory, Routine, Calls, Loops, Fun, FmC, Triple, Contract, Item, ‵, raw, ◌⊛◌, some, later, prop, at_ret, Sq, ◌$◌, ◌∵◌, !, qed, move, keep, drop, use1, use2, split, join, fsplit, fjoin, fpack, feq_i, pick, await, by, enter, of_opd, lit, bin, addr, stop, fld, no_more, and_then, first, blocks, branches, skips, exec, returns, returns_within, agg, sub, whole, alloc_all, pass_all, free_all, look_at, get, get_in, through, sets, lands_last, sets_last, any_q, after_seq, Wp, post, assign, place, rv_opd, copy, env, u32, yes, uint_Makes, uint_Lawful, uint_vals, uint_Tells, Typed, Is, shows, Ptr, RawPtr, block_ptr, null_ptr, ptr_val, Testable, tests_null, rawptr_vals, rawptr_Tells, rawptr_Lawful, slice_val, owns, types_at, plain, nothing, owned, heard, peeks, calls_at_last, lasts, on_entry, triple_of, Stays, walk_of, stay_dropped, Goes-dropped, framed, usize}
+use Rattle.odfilter_c.proofs.Types.{Global, GlobalRow, global_val, global_lowers, global_laws, Bytes, BytesRow, bytes_val, bytes_lowers, bytes_laws, Room, RoomRow, room_val, room_lowers, room_laws, Handle, HandleRow, Owned, OwnedRow, Answer, AnswerRow}
+use Rattle.odfilter_c.specs.Loans.{Loan, lent_fault, lent_handle, lent_judge, lent_bytes, lent_room, lent_made, lent_answer, left_judge, left_room, left_made, left_answer, unless_null, holds, of_optional, of_bytes}
 use Rattle.odfilter_c.specs.Exports.{lent_to_check, left_by_check}
 use Rattle.odfilter_c.specs.Tells.{ChecksText}
 use Rattle.odfilter_c.specs.contracts.calls.check as g
 use Rattle.odfilter_c.proofs.calls.check.Symbol.{name as #call}
-use Rattle.odfilter_c.proofs.calls.check.Met.{met}
+use Rattle.odfilter_c.proofs.calls.check.Met.{met as met}
+use Rattle.odfilter_c.specs.contracts.null_calls.check_at_null as g-1
+use Rattle.odfilter_c.proofs.null_calls.check_at_null.Symbol.{name as #call-1}
+use Rattle.odfilter_c.proofs.null_calls.check_at_null.Met.{met as met-1}
 use Rattle.odfilter_c.specs.contracts.exports.odfilter_check as f
 use Rattle.odfilter_c.proofs.exports.odfilter_check.Statement.{statement}
 use Rattle.odfilter_c.proofs.exports.odfilter_check.Code as code
@@ -15,11 +18,14 @@ abbrev stayed : Stays f.ended.signature.params f.ended.kept
 stayed = (stay_dropped _ yes, (stay_dropped _ yes, (stay_dropped _ yes, (stay_dropped _ yes, (stay_dropped _ yes, tt)))))
 
 module _ {M : Type 1} {𝓤 : Ura M} (𝓛 : Logic 𝓤) (at_mem : Memory → SProp 𝓤) (run : Routine → Fun 𝓤) (C : Calls 𝓤 𝓛.H) (Λ : Loops 𝓤 𝓛.H) (fm : FmC 𝓤 𝓛.H 𝓛.laws C)
-    (known : Triple 𝓤 (C #call) (triple_of 𝓛 g.signature (g.spec 𝓛 at_mem run))) (l : Loan) where
+    (known : Triple 𝓤 (C #call) (triple_of 𝓛 g.signature (g.spec 𝓛 at_mem run))) (known-1 : Triple 𝓤 (C #call-1) (triple_of 𝓛 g-1.signature (g-1.spec 𝓛 at_mem run))) (l : Loan) where
   open 𝓛 use {H}
 
   abbrev G : Contract 𝓤
   G = triple_of 𝓛 g.signature (g.spec 𝓛 at_mem run)
+
+  abbrev G-1 : Contract 𝓤
+  G-1 = triple_of 𝓛 g-1.signature (g-1.spec 𝓛 at_mem run)
 
   abbrev W : Contract 𝓤
   W = walk_of 𝓛 f.ended stayed (f.clauses 𝓛 at_mem run)
@@ -53,44 +59,65 @@ module _ {M : Type 1} {𝓤 : Ura M} (𝓛 : Logic 𝓤) (at_mem : Memory → SP
       sets ! (bin ! (get ! refl) (lit ! tt) (tests_null null_ptr may-given)) refl (tt, tt) $ first ! $ branches ! (get ! refl)
       (λ _. sets ! (of_opd ! (lit ! tt)) refl (tt, record { fits = lit< tt }) $ returns_within ! (Post alloc null_ptr (record { at = text-at; length = text-length }) made answer) refl (look_at ! 0 refl) $ free_all ! refl $ none alloc null_ptr (record { at = text-at; length = text-length }) made answer (id⊢ 𝓤 _))
       (λ wrong. absurd wrong))
-  runs alloc (block_ptr b0 o0) null_ptr text-length made answer fits-alloc fits-text may-given may-text may-made may-answer =
-      enter ! C Λ code.function (global_val alloc ∷ vptr b0 o0 ∷ bytes_val (record { at = null_ptr; length = text-length }) ∷ ptr_val made ∷ ptr_val answer ∷ []) _ $ alloc_all ! (λ c. pass_all ! refl (fits-alloc.0, ((good (block_ptr b0 o0)).0, (fits-text.0, ((good made).0, ((good answer).0, tt))))) $
+  runs alloc (block_ptr b0 o0) text-at text-length null_ptr answer fits-alloc fits-text may-given may-text may-made may-answer =
+      enter ! C Λ code.function (global_val alloc ∷ vptr b0 o0 ∷ bytes_val (record { at = text-at; length = text-length }) ∷ vnull ∷ ptr_val answer ∷ []) _ $ alloc_all ! (λ c. pass_all ! refl (fits-alloc.0, ((good (block_ptr b0 o0)).0, (fits-text.0, ((good null_ptr).0, ((good answer).0, tt))))) $
       sets ! (bin ! (get ! refl) (lit ! tt) (tests_null (block_ptr b0 o0) may-given)) refl (tt, tt) $ first ! $ branches ! (get ! refl)
-      (λ wrong. absurd wrong) (λ _. skips ! $ exec ! C Λ (env (code.function).locals c) code.Mir.t-3 (at_ret (env (code.function).locals c) (Post alloc (block_ptr b0 o0) (record { at = null_ptr; length = text-length }) made answer)) $
-      sets ! (bin ! (get_in ! (fld ! refl (stop !)) (sub ! 0 refl (whole !))) (lit ! tt) (tests_null null_ptr may-text)) refl (tt, tt) $ first ! $ branches ! (get ! refl)
-      (λ _. sets ! (of_opd ! (lit ! tt)) refl (tt, record { fits = lit< tt }) $ returns_within ! (Post alloc (block_ptr b0 o0) (record { at = null_ptr; length = text-length }) made answer) refl (look_at ! 0 refl) $ free_all ! refl $ none alloc (block_ptr b0 o0) (record { at = null_ptr; length = text-length }) made answer (id⊢ 𝓤 _))
-      (λ wrong. absurd wrong)))
-  runs alloc (block_ptr b0 o0) (block_ptr b1 o1) text-length null_ptr answer fits-alloc fits-text may-given may-text may-made may-answer =
-      enter ! C Λ code.function (global_val alloc ∷ vptr b0 o0 ∷ bytes_val (record { at = (block_ptr b1 o1); length = text-length }) ∷ vnull ∷ ptr_val answer ∷ []) _ $ alloc_all ! (λ c. pass_all ! refl (fits-alloc.0, ((good (block_ptr b0 o0)).0, (fits-text.0, ((good null_ptr).0, ((good answer).0, tt))))) $
-      sets ! (bin ! (get ! refl) (lit ! tt) (tests_null (block_ptr b0 o0) may-given)) refl (tt, tt) $ first ! $ branches ! (get ! refl)
-      (λ wrong. absurd wrong) (λ _. skips ! $ exec ! C Λ (env (code.function).locals c) code.Mir.t-3 (at_ret (env (code.function).locals c) (Post alloc (block_ptr b0 o0) (record { at = (block_ptr b1 o1); length = text-length }) null_ptr answer)) $
-      sets ! (bin ! (get_in ! (fld ! refl (stop !)) (sub ! 0 refl (whole !))) (lit ! tt) (tests_null (block_ptr b1 o1) may-text)) refl (tt, tt) $ first ! $ branches ! (get ! refl)
-      (λ wrong. absurd wrong) (λ _. skips ! $ exec ! C Λ (env (code.function).locals c) code.Mir.t-5 (at_ret (env (code.function).locals c) (Post alloc (block_ptr b0 o0) (record { at = (block_ptr b1 o1); length = text-length }) null_ptr answer)) $
+      (λ wrong. absurd wrong) (λ _. skips ! $ exec ! C Λ (env (code.function).locals c) code.Mir.t-3 (at_ret (env (code.function).locals c) (Post alloc (block_ptr b0 o0) (record { at = text-at; length = text-length }) null_ptr answer)) $
       sets ! (bin ! (get ! refl) (lit ! tt) (tests_null null_ptr may-made)) refl (tt, tt) $ first ! $ branches ! (get ! refl)
-      (λ _. sets ! (of_opd ! (lit ! tt)) refl (tt, record { fits = lit< tt }) $ returns_within ! (Post alloc (block_ptr b0 o0) (record { at = (block_ptr b1 o1); length = text-length }) null_ptr answer) refl (look_at ! 0 refl) $ free_all ! refl $ none alloc (block_ptr b0 o0) (record { at = (block_ptr b1 o1); length = text-length }) null_ptr answer (id⊢ 𝓤 _))
-      (λ wrong. absurd wrong))))
-  runs alloc (block_ptr b0 o0) (block_ptr b1 o1) text-length (block_ptr b2 o2) null_ptr fits-alloc fits-text may-given may-text may-made may-answer =
-      enter ! C Λ code.function (global_val alloc ∷ vptr b0 o0 ∷ bytes_val (record { at = (block_ptr b1 o1); length = text-length }) ∷ vptr b2 o2 ∷ vnull ∷ []) _ $ alloc_all ! (λ c. pass_all ! refl (fits-alloc.0, ((good (block_ptr b0 o0)).0, (fits-text.0, ((good (block_ptr b2 o2)).0, ((good null_ptr).0, tt))))) $
+      (λ _. sets ! (of_opd ! (lit ! tt)) refl (tt, record { fits = lit< tt }) $ returns_within ! (Post alloc (block_ptr b0 o0) (record { at = text-at; length = text-length }) null_ptr answer) refl (look_at ! 0 refl) $ free_all ! refl $ none alloc (block_ptr b0 o0) (record { at = text-at; length = text-length }) null_ptr answer (id⊢ 𝓤 _))
+      (λ wrong. absurd wrong)))
+  runs alloc (block_ptr b0 o0) text-at text-length (block_ptr b2 o2) null_ptr fits-alloc fits-text may-given may-text may-made may-answer =
+      enter ! C Λ code.function (global_val alloc ∷ vptr b0 o0 ∷ bytes_val (record { at = text-at; length = text-length }) ∷ vptr b2 o2 ∷ vnull ∷ []) _ $ alloc_all ! (λ c. pass_all ! refl (fits-alloc.0, ((good (block_ptr b0 o0)).0, (fits-text.0, ((good (block_ptr b2 o2)).0, ((good null_ptr).0, tt))))) $
       sets ! (bin ! (get ! refl) (lit ! tt) (tests_null (block_ptr b0 o0) may-given)) refl (tt, tt) $ first ! $ branches ! (get ! refl)
-      (λ wrong. absurd wrong) (λ _. skips ! $ exec ! C Λ (env (code.function).locals c) code.Mir.t-3 (at_ret (env (code.function).locals c) (Post alloc (block_ptr b0 o0) (record { at = (block_ptr b1 o1); length = text-length }) (block_ptr b2 o2) null_ptr)) $
-      sets ! (bin ! (get_in ! (fld ! refl (stop !)) (sub ! 0 refl (whole !))) (lit ! tt) (tests_null (block_ptr b1 o1) may-text)) refl (tt, tt) $ first ! $ branches ! (get ! refl)
-      (λ wrong. absurd wrong) (λ _. skips ! $ exec ! C Λ (env (code.function).locals c) code.Mir.t-5 (at_ret (env (code.function).locals c) (Post alloc (block_ptr b0 o0) (record { at = (block_ptr b1 o1); length = text-length }) (block_ptr b2 o2) null_ptr)) $
+      (λ wrong. absurd wrong) (λ _. skips ! $ exec ! C Λ (env (code.function).locals c) code.Mir.t-3 (at_ret (env (code.function).locals c) (Post alloc (block_ptr b0 o0) (record { at = text-at; length = text-length }) (block_ptr b2 o2) null_ptr)) $
       sets ! (bin ! (get ! refl) (lit ! tt) (tests_null (block_ptr b2 o2) may-made)) refl (tt, tt) $ first ! $ branches ! (get ! refl)
-      (λ wrong. absurd wrong) (λ _. skips ! $ exec ! C Λ (env (code.function).locals c) code.Mir.t-7 (at_ret (env (code.function).locals c) (Post alloc (block_ptr b0 o0) (record { at = (block_ptr b1 o1); length = text-length }) (block_ptr b2 o2) null_ptr)) $
+      (λ wrong. absurd wrong) (λ _. skips ! $ exec ! C Λ (env (code.function).locals c) code.Mir.t-5 (at_ret (env (code.function).locals c) (Post alloc (block_ptr b0 o0) (record { at = text-at; length = text-length }) (block_ptr b2 o2) null_ptr)) $
       sets ! (bin ! (get ! refl) (lit ! tt) (tests_null null_ptr may-answer)) refl (tt, tt) $ first ! $ branches ! (get ! refl)
-      (λ _. sets ! (of_opd ! (lit ! tt)) refl (tt, record { fits = lit< tt }) $ returns_within ! (Post alloc (block_ptr b0 o0) (record { at = (block_ptr b1 o1); length = text-length }) (block_ptr b2 o2) null_ptr) refl (look_at ! 0 refl) $ free_all ! refl $ none alloc (block_ptr b0 o0) (record { at = (block_ptr b1 o1); length = text-length }) (block_ptr b2 o2) null_ptr (id⊢ 𝓤 _))
-      (λ wrong. absurd wrong)))))
+      (λ _. sets ! (of_opd ! (lit ! tt)) refl (tt, record { fits = lit< tt }) $ returns_within ! (Post alloc (block_ptr b0 o0) (record { at = text-at; length = text-length }) (block_ptr b2 o2) null_ptr) refl (look_at ! 0 refl) $ free_all ! refl $ none alloc (block_ptr b0 o0) (record { at = text-at; length = text-length }) (block_ptr b2 o2) null_ptr (id⊢ 𝓤 _))
+      (λ wrong. absurd wrong))))
+  runs alloc (block_ptr b0 o0) null_ptr text-length (block_ptr b2 o2) (block_ptr b3 o3) fits-alloc fits-text may-given may-text may-made may-answer =
+      move ! (1 ∷ []) $ fsplit ! $ move ! (1 ∷ []) $ fsplit ! $ move ! (1 ∷ []) $ fsplit ! $ move ! (1 ∷ []) $ enter ! C Λ code.function (global_val alloc ∷ vptr b0 o0 ∷ bytes_val (record { at = null_ptr; length = text-length }) ∷ vptr b2 o2 ∷ vptr b3 o3 ∷ []) _ $ alloc_all ! (λ c. pass_all ! refl (fits-alloc.0, ((good (block_ptr b0 o0)).0, (fits-text.0, ((good (block_ptr b2 o2)).0, ((good (block_ptr b3 o3)).0, tt))))) $
+      sets ! (bin ! (get ! refl) (lit ! tt) (tests_null (block_ptr b0 o0) may-given)) refl (tt, tt) $ first ! $ branches ! (get ! refl)
+      (λ wrong. absurd wrong) (λ _. skips ! $ exec ! C Λ (env (code.function).locals c) code.Mir.t-3 (at_ret (env (code.function).locals c) (Post alloc (block_ptr b0 o0) (record { at = null_ptr; length = text-length }) (block_ptr b2 o2) (block_ptr b3 o3))) $
+      sets ! (bin ! (get ! refl) (lit ! tt) (tests_null (block_ptr b2 o2) may-made)) refl (tt, tt) $ first ! $ branches ! (get ! refl)
+      (λ wrong. absurd wrong) (λ _. skips ! $ exec ! C Λ (env (code.function).locals c) code.Mir.t-5 (at_ret (env (code.function).locals c) (Post alloc (block_ptr b0 o0) (record { at = null_ptr; length = text-length }) (block_ptr b2 o2) (block_ptr b3 o3))) $
+      sets ! (bin ! (get ! refl) (lit ! tt) (tests_null (block_ptr b3 o3) may-answer)) refl (tt, tt) $ first ! $ branches ! (get ! refl)
+      (λ wrong. absurd wrong) (λ _. skips ! $ exec ! C Λ (env (code.function).locals c) code.Mir.t-7 (at_ret (env (code.function).locals c) (Post alloc (block_ptr b0 o0) (record { at = null_ptr; length = text-length }) (block_ptr b2 o2) (block_ptr b3 o3))) $
+      sets ! (bin ! (get_in ! (fld ! refl (stop !)) (sub ! 0 refl (whole !))) (lit ! tt) (tests_null null_ptr may-text)) refl (tt, tt) $ first ! $ branches ! (get ! refl)
+      (λ _. first ! $ blocks ! $
+      sets ! (of_opd ! (get ! refl)) refl (tt, tt) $ sets ! (addr ! (through ! refl (stop !))) refl (tt, tt) $
+      sets ! (addr ! (through ! refl (stop !))) refl (tt, tt) $
+      sets ! (addr ! (through ! refl (stop !))) refl (tt, tt) $
+      move ! (2 ∷ []) $ drop ! $ nothing ! $ move ! (1 ∷ 0 ∷ []) $ fjoin ! $ move ! (1 ∷ 0 ∷ []) $ fjoin ! $ owned ! usize _ (uint_Makes 𝓛 w64) text-length _ (refl, fits-text.0.1.1.0.fits) $ fjoin ! $ move ! (1 ∷ 0 ∷ []) $ fjoin ! $ move ! (2 ∷ 0 ∷ []) $ fjoin ! $ nothing ! $ move ! (2 ∷ 0 ∷ []) $ join ! $ join ! $ nothing ! $ move ! (1 ∷ 0 ∷ []) $
+      let ref-given : Bor Handle = record { ref_ptr = (b0, o0); now = l.handle } in
+      let ref-made : MutBor Owned = record { ref_ptr = (b2, o2); ghost_name = l.made_name; now = l.made } in
+      let ref-answer : MutBor Answer = record { ref_ptr = (b3, o3); ghost_name = l.answer_name; now = l.answer } in
+      let κ : Lft = l.lifetime in let z : G-1.Ghost = (((κ, tt), (l.share, tt), tt, (alloc, (ref-given, (text-length, (ref-made, (ref-answer, tt))))), (global_val alloc ∷ [], (vptr b0 o0 ∷ [], (vint w64 text-length ∷ [], (vptr b2 o2 ∷ [], (vptr b3 o3 ∷ [], tt)))))), tt) in
+      use2 𝓛 (raw (G-1.pre z)) (id⊢ 𝓤 _) $
+      calls_at_last ! fm G-1 known-1 z (and_then ! (get ! refl) (and_then ! (get ! refl) (and_then ! (get_in ! (fld ! refl (stop !)) (sub ! 1 refl (whole !))) (and_then ! (get ! refl) (and_then ! (get ! refl) (no_more !)))))) (λ v.
+      use1 𝓛 (later (some (λ (x : ℕ). ((‵ (flft κ l.share) ⊛ ‵ ftrue) ⊛ ‵ (u32.own_val x (v ∷ []))) ⊛
+      some (λ (ws : Unit {0} × (Unit {0} × (Unit {0} × (Owned × (Answer × (Unit {0})))))). ‵ (lasts g-1.ended (κ, tt) z.0.3 ws) ⊛ raw (fact 𝓤 (of_bytes null_ptr text-length l.bytes ((ws.1.1.1.0 ≡ l.made) × ((ws.1.1.1.1.0 ≡ l.answer) × (x ≡ 1))) (λ bytes. ChecksText l.handle bytes ws.1.1.1.0 ws.1.1.1.1.0 x))))))) (id⊢ 𝓤 _) $
+      await ! tt $ pick ! (λ x. split ! $ move ! (1 ∷ []) $ pick ! (λ ws. split ! $ move ! (1 ∷ []) $ heard ! _ (λ tells.
+      fsplit ! $ drop ! $ fsplit ! $ drop ! $ fsplit ! $ drop ! $ fsplit ! $ move ! (1 ∷ []) $ fsplit ! $ move ! (1 ∷ []) $ drop ! $ move ! (2 ∷ []) $ split ! $ split ! $ move ! (2 ∷ []) $ peeks ! u32 (Is u32) (shows 𝓛 u32) x (v ∷ []) (λ is.
+      let fine = ((uint_Lawful 𝓛 w32).typed x _ is).0 in
+      lands_last ! refl fine $ exec ! C Λ (env (code.function).locals c) (assign (place 7 []) (rv_opd (copy (place 8 [])))) (any_q (after_seq 𝓤 H (Wp 𝓤 H C Λ (env (code.function).locals c) code.Mir.t-9 (post 𝓤 H (at_ret (env (code.function).locals c) (Post alloc (block_ptr b0 o0) (record { at = null_ptr; length = text-length }) (block_ptr b2 o2) (block_ptr b3 o3))))) (post 𝓤 H (at_ret (env (code.function).locals c) (Post alloc (block_ptr b0 o0) (record { at = null_ptr; length = text-length }) (block_ptr b2 o2) (block_ptr b3 o3)))))) $ sets_last ! (of_opd ! (get ! refl)) refl fine $
+      exec ! C Λ (env (code.function).locals c) code.Mir.t-9 (at_ret (env (code.function).locals c) (Post alloc (block_ptr b0 o0) (record { at = null_ptr; length = text-length }) (block_ptr b2 o2) (block_ptr b3 o3))) $
+      sets ! (of_opd ! (get ! refl)) refl fine $ returns ! (look_at ! 0 refl) $ free_all ! refl $ keep ! (3 ∷ 4 ∷ 0 ∷ 1 ∷ []) $
+      nothing ! $ fpack ! (of_bytes null_ptr text-length l.bytes ((ws.1.1.1.0 ≡ l.made) × ((ws.1.1.1.1.0 ≡ l.answer) × (x ≡ 1))) (λ bytes. ChecksText l.handle bytes ws.1.1.1.0 ws.1.1.1.1.0 x)) (λ _. ftrue) tells $ move ! (1 ∷ 0 ∷ []) $ fjoin ! $ move ! (1 ∷ 0 ∷ []) $ fjoin ! $
+      fpack ! Answer (λ answer'. fsep (left_made l (block_ptr b2 o2) ws.1.1.1.0) (fsep (left_answer l (block_ptr b3 o3) answer') (holds (of_bytes null_ptr text-length l.bytes ((ws.1.1.1.0 ≡ l.made) × ((answer' ≡ l.answer) × (x ≡ 1))) (λ bytes. ChecksText l.handle bytes ws.1.1.1.0 answer' x))))) ws.1.1.1.1.0 $
+      fpack ! Owned (λ made'. fex Answer (λ answer'. fsep (left_made l (block_ptr b2 o2) made') (fsep (left_answer l (block_ptr b3 o3) answer') (holds (of_bytes null_ptr text-length l.bytes ((made' ≡ l.made) × ((answer' ≡ l.answer) × (x ≡ 1))) (λ bytes. ChecksText l.handle bytes made' answer' x)))))) ws.1.1.1.0 $
+      move ! (2 ∷ 0 ∷ []) $ join ! $ move ! (1 ∷ 0 ∷ []) $ nothing ! $ nothing ! $ fjoin ! $ nothing ! $ fjoin ! $ nothing ! $ fjoin ! $ nothing ! $ fjoin ! $ nothing ! $ fjoin ! $ nothing ! $
+      by ! (leaves 𝓛 f.ended stayed (f.clauses 𝓛 at_mem run) (bound alloc (block_ptr b0 o0) (record { at = null_ptr; length = text-length }) (block_ptr b2 o2) (block_ptr b3 o3)) v x (tt, (tt, (tt, (tt, (tt, tt))))) (tt, (tt, (tt, (tt, (tt, tt)))))))))))) (λ wrong. absurd wrong)))))
   runs alloc (block_ptr b0 o0) (block_ptr b1 o1) text-length (block_ptr b2 o2) (block_ptr b3 o3) fits-alloc fits-text may-given may-text may-made may-answer =
       move ! (1 ∷ []) $ fsplit ! $ move ! (1 ∷ []) $ fsplit ! $ move ! (1 ∷ []) $ fsplit ! $ move ! (1 ∷ []) $ enter ! C Λ code.function (global_val alloc ∷ vptr b0 o0 ∷ bytes_val (record { at = (block_ptr b1 o1); length = text-length }) ∷ vptr b2 o2 ∷ vptr b3 o3 ∷ []) _ $ alloc_all ! (λ c. pass_all ! refl (fits-alloc.0, ((good (block_ptr b0 o0)).0, (fits-text.0, ((good (block_ptr b2 o2)).0, ((good (block_ptr b3 o3)).0, tt))))) $
       sets ! (bin ! (get ! refl) (lit ! tt) (tests_null (block_ptr b0 o0) may-given)) refl (tt, tt) $ first ! $ branches ! (get ! refl)
       (λ wrong. absurd wrong) (λ _. skips ! $ exec ! C Λ (env (code.function).locals c) code.Mir.t-3 (at_ret (env (code.function).locals c) (Post alloc (block_ptr b0 o0) (record { at = (block_ptr b1 o1); length = text-length }) (block_ptr b2 o2) (block_ptr b3 o3))) $
-      sets ! (bin ! (get_in ! (fld ! refl (stop !)) (sub ! 0 refl (whole !))) (lit ! tt) (tests_null (block_ptr b1 o1) may-text)) refl (tt, tt) $ first ! $ branches ! (get ! refl)
-      (λ wrong. absurd wrong) (λ _. skips ! $ exec ! C Λ (env (code.function).locals c) code.Mir.t-5 (at_ret (env (code.function).locals c) (Post alloc (block_ptr b0 o0) (record { at = (block_ptr b1 o1); length = text-length }) (block_ptr b2 o2) (block_ptr b3 o3))) $
       sets ! (bin ! (get ! refl) (lit ! tt) (tests_null (block_ptr b2 o2) may-made)) refl (tt, tt) $ first ! $ branches ! (get ! refl)
-      (λ wrong. absurd wrong) (λ _. skips ! $ exec ! C Λ (env (code.function).locals c) code.Mir.t-7 (at_ret (env (code.function).locals c) (Post alloc (block_ptr b0 o0) (record { at = (block_ptr b1 o1); length = text-length }) (block_ptr b2 o2) (block_ptr b3 o3))) $
+      (λ wrong. absurd wrong) (λ _. skips ! $ exec ! C Λ (env (code.function).locals c) code.Mir.t-5 (at_ret (env (code.function).locals c) (Post alloc (block_ptr b0 o0) (record { at = (block_ptr b1 o1); length = text-length }) (block_ptr b2 o2) (block_ptr b3 o3))) $
       sets ! (bin ! (get ! refl) (lit ! tt) (tests_null (block_ptr b3 o3) may-answer)) refl (tt, tt) $ first ! $ branches ! (get ! refl)
-      (λ wrong. absurd wrong) (λ _. skips ! $ exec ! C Λ (env (code.function).locals c) code.Mir.t-9 (at_ret (env (code.function).locals c) (Post alloc (block_ptr b0 o0) (record { at = (block_ptr b1 o1); length = text-length }) (block_ptr b2 o2) (block_ptr b3 o3))) $
-      first ! $ blocks ! $
+      (λ wrong. absurd wrong) (λ _. skips ! $ exec ! C Λ (env (code.function).locals c) code.Mir.t-7 (at_ret (env (code.function).locals c) (Post alloc (block_ptr b0 o0) (record { at = (block_ptr b1 o1); length = text-length }) (block_ptr b2 o2) (block_ptr b3 o3))) $
+      sets ! (bin ! (get_in ! (fld ! refl (stop !)) (sub ! 0 refl (whole !))) (lit ! tt) (tests_null (block_ptr b1 o1) may-text)) refl (tt, tt) $ first ! $ branches ! (get ! refl)
+      (λ wrong. absurd wrong) (λ _. first ! $ blocks ! $
       sets ! (of_opd ! (get ! refl)) refl (tt, tt) $ sets ! (addr ! (through ! refl (stop !))) refl (tt, tt) $
       sets ! (agg ! (and_then ! (get_in ! (fld ! refl (stop !)) (sub ! 0 refl (whole !))) (and_then ! (get_in ! (fld ! refl (stop !)) (sub ! 1 refl (whole !))) (no_more !)))) refl (tt, (tt, (fits-text.0.1.1.0, tt))) $
       sets ! (addr ! (through ! refl (stop !))) refl (tt, tt) $
@@ -104,15 +131,16 @@ module _ {M : Type 1} {𝓤 : Ura M} (𝓛 : Logic 𝓤) (at_mem : Memory → SP
       use2 𝓛 (raw (G.pre z)) (id⊢ 𝓤 _) $
       calls_at_last ! fm G known z (and_then ! (get ! refl) (and_then ! (get ! refl) (and_then ! (get ! refl) (and_then ! (get ! refl) (and_then ! (get ! refl) (no_more !)))))) (λ v.
       use1 𝓛 (later (some (λ (x : ℕ). ((‵ (flft κ l.share) ⊛ ‵ ftrue) ⊛ ‵ (u32.own_val x (v ∷ []))) ⊛
-      some (λ (ws : Unit {0} × (Unit {0} × (Unit {0} × (Owned × (Answer × (Unit {0})))))). ‵ (lasts g.ended (κ, tt) z.0.3 ws) ⊛ raw (fact 𝓤 (ChecksText l.handle l.bytes ws.1.1.1.0 ws.1.1.1.1.0 x)))))) (id⊢ 𝓤 _) $
+      some (λ (ws : Unit {0} × (Unit {0} × (Unit {0} × (Owned × (Answer × (Unit {0})))))). ‵ (lasts g.ended (κ, tt) z.0.3 ws) ⊛ raw (fact 𝓤 (of_bytes (block_ptr b1 o1) text-length l.bytes ((ws.1.1.1.0 ≡ l.made) × ((ws.1.1.1.1.0 ≡ l.answer) × (x ≡ 1))) (λ bytes. ChecksText l.handle bytes ws.1.1.1.0 ws.1.1.1.1.0 x))))))) (id⊢ 𝓤 _) $
       await ! tt $ pick ! (λ x. split ! $ move ! (1 ∷ []) $ pick ! (λ ws. split ! $ move ! (1 ∷ []) $ heard ! _ (λ tells.
       fsplit ! $ drop ! $ fsplit ! $ drop ! $ fsplit ! $ drop ! $ fsplit ! $ move ! (1 ∷ []) $ fsplit ! $ move ! (1 ∷ []) $ drop ! $ move ! (2 ∷ []) $ split ! $ split ! $ move ! (2 ∷ []) $ peeks ! u32 (Is u32) (shows 𝓛 u32) x (v ∷ []) (λ is.
       let fine = ((uint_Lawful 𝓛 w32).typed x _ is).0 in
-      lands_last ! refl fine $ exec ! C Λ (env (code.function).locals c) code.Mir.t-10 (at_ret (env (code.function).locals c) (Post alloc (block_ptr b0 o0) (record { at = (block_ptr b1 o1); length = text-length }) (block_ptr b2 o2) (block_ptr b3 o3))) $
+      lands_last ! refl fine $ exec ! C Λ (env (code.function).locals c) (assign (place 7 []) (rv_opd (copy (place 13 [])))) (any_q (after_seq 𝓤 H (Wp 𝓤 H C Λ (env (code.function).locals c) code.Mir.t-9 (post 𝓤 H (at_ret (env (code.function).locals c) (Post alloc (block_ptr b0 o0) (record { at = (block_ptr b1 o1); length = text-length }) (block_ptr b2 o2) (block_ptr b3 o3))))) (post 𝓤 H (at_ret (env (code.function).locals c) (Post alloc (block_ptr b0 o0) (record { at = (block_ptr b1 o1); length = text-length }) (block_ptr b2 o2) (block_ptr b3 o3)))))) $ sets_last ! (of_opd ! (get ! refl)) refl fine $
+      exec ! C Λ (env (code.function).locals c) code.Mir.t-9 (at_ret (env (code.function).locals c) (Post alloc (block_ptr b0 o0) (record { at = (block_ptr b1 o1); length = text-length }) (block_ptr b2 o2) (block_ptr b3 o3))) $
       sets ! (of_opd ! (get ! refl)) refl fine $ returns ! (look_at ! 0 refl) $ free_all ! refl $ keep ! (3 ∷ 4 ∷ 0 ∷ 1 ∷ []) $
-      nothing ! $ fpack ! (ChecksText l.handle l.bytes ws.1.1.1.0 ws.1.1.1.1.0 x) (λ _. ftrue) tells $ move ! (1 ∷ 0 ∷ []) $ fjoin ! $ move ! (1 ∷ 0 ∷ []) $ fjoin ! $
-      fpack ! Answer (λ answer'. fsep (left_made l (block_ptr b2 o2) ws.1.1.1.0) (fsep (left_answer l (block_ptr b3 o3) answer') (holds (ChecksText l.handle l.bytes ws.1.1.1.0 answer' x)))) ws.1.1.1.1.0 $
-      fpack ! Owned (λ made'. fex Answer (λ answer'. fsep (left_made l (block_ptr b2 o2) made') (fsep (left_answer l (block_ptr b3 o3) answer') (holds (ChecksText l.handle l.bytes made' answer' x))))) ws.1.1.1.0 $
+      nothing ! $ fpack ! (of_bytes (block_ptr b1 o1) text-length l.bytes ((ws.1.1.1.0 ≡ l.made) × ((ws.1.1.1.1.0 ≡ l.answer) × (x ≡ 1))) (λ bytes. ChecksText l.handle bytes ws.1.1.1.0 ws.1.1.1.1.0 x)) (λ _. ftrue) tells $ move ! (1 ∷ 0 ∷ []) $ fjoin ! $ move ! (1 ∷ 0 ∷ []) $ fjoin ! $
+      fpack ! Answer (λ answer'. fsep (left_made l (block_ptr b2 o2) ws.1.1.1.0) (fsep (left_answer l (block_ptr b3 o3) answer') (holds (of_bytes (block_ptr b1 o1) text-length l.bytes ((ws.1.1.1.0 ≡ l.made) × ((answer' ≡ l.answer) × (x ≡ 1))) (λ bytes. ChecksText l.handle bytes ws.1.1.1.0 answer' x))))) ws.1.1.1.1.0 $
+      fpack ! Owned (λ made'. fex Answer (λ answer'. fsep (left_made l (block_ptr b2 o2) made') (fsep (left_answer l (block_ptr b3 o3) answer') (holds (of_bytes (block_ptr b1 o1) text-length l.bytes ((made' ≡ l.made) × ((answer' ≡ l.answer) × (x ≡ 1))) (λ bytes. ChecksText l.handle bytes made' answer' x)))))) ws.1.1.1.0 $
       move ! (2 ∷ 0 ∷ []) $ join ! $ move ! (1 ∷ 0 ∷ []) $ nothing ! $ nothing ! $ fjoin ! $ nothing ! $ fjoin ! $ nothing ! $ fjoin ! $ nothing ! $ fjoin ! $ nothing ! $ fjoin ! $ nothing ! $
       by ! (leaves 𝓛 f.ended stayed (f.clauses 𝓛 at_mem run) (bound alloc (block_ptr b0 o0) (record { at = (block_ptr b1 o1); length = text-length }) (block_ptr b2 o2) (block_ptr b3 o3)) v x (tt, (tt, (tt, (tt, (tt, tt))))) (tt, (tt, (tt, (tt, (tt, tt))))))))))))))))
 
@@ -125,4 +153,4 @@ odfilter_check_spec 𝓤 𝓛 𝓜 𝓡 wired =
     qed 𝓛 ((‵ ftrue ⊛ ‵ (owns (types_at f.signature.params κs) a (global_val a.0 ∷ [], (rawptr_vals a.1.0, (bytes_val a.1.1.0 ∷ [], (rawptr_vals a.1.1.1.0, (rawptr_vals a.1.1.1.1.0, tt))))))) ∷ (raw (fact 𝓤 (Testable a.1.0 × Testable a.1.1.0.at × Testable a.1.1.1.0 × Testable a.1.1.1.1.0)) ⊛ (‵ (flft l.lifetime l.share) ⊛ ‵ (lent_to_check l a.1.0 a.1.1.0 a.1.1.1.0 a.1.1.1.1.0))) ∷ []) ∵
     split ! $ drop ! $ fsplit ! $ move ! (1 ∷ []) $ drop ! $ move ! (1 ∷ []) $
     split ! $ heard ! _ (λ may. split ! $
-    runs 𝓛 𝓜.mem 𝓡.returns 𝓣.C 𝓣.Λ (framed 𝓤 𝓛.H 𝓜 𝓣) (met 𝓤 𝓛 𝓜 𝓡 (code.calls-odfilter_c::calls::check 𝓡.env wired)) l a.0 a.1.0 a.1.1.0.at a.1.1.0.length a.1.1.1.0 a.1.1.1.1.0 ((global_laws.lawful 𝓛).typed a.0 _ are.0) ((bytes_laws.lawful 𝓛).typed a.1.1.0 _ are.1.1.0) may.0 may.1 may.2 may.3))
+    runs 𝓛 𝓜.mem 𝓡.returns 𝓣.C 𝓣.Λ (framed 𝓤 𝓛.H 𝓜 𝓣) (met 𝓤 𝓛 𝓜 𝓡 (code.calls-odfilter_c::calls::check 𝓡.env wired)) (met-1 𝓤 𝓛 𝓜 𝓡 (code.calls-odfilter_c::null_calls::check_at_null 𝓡.env wired)) l a.0 a.1.0 a.1.1.0.at a.1.1.0.length a.1.1.1.0 a.1.1.1.1.0 ((global_laws.lawful 𝓛).typed a.0 _ are.0) ((bytes_laws.lawful 𝓛).typed a.1.1.0 _ are.1.1.0) may.0 may.1 may.2 may.3))

@@ -1,12 +1,15 @@
 -- `filter_lines` meets its contract: the addresses are tested one by one, and what was lent is handed to the call over references.
-use Rattle.odfilter_c.proofs.Steps.{ℕ, List, [], ◌∷◌, refl, lit<, w32, Bor, MutBor, proved, leaves, SProp, ent, id⊢, sem, Lft, ftrue, feq, fsep, fex, flft, Val, vint, vptr, vnull, fact, tables, WpFn, Ura, Logic, Memory, Routine, Calls, Loops, Fun, FmC, Triple, Contract, Item, ‵, raw, ◌⊛◌, some, later, prop, at_ret, Sq, ◌$◌, ◌∵◌, !, qed, move, keep, drop, use1, use2, split, join, fsplit, fjoin, fpack, feq_i, pick, await, by, enter, of_opd, lit, bin, addr, stop, fld, no_more, and_then, first, blocks, branches, skips, exec, returns, returns_within, agg, sub, whole, alloc_all, pass_all, free_all, look_at, get, get_in, through, sets, lands_last, env, u32, yes, uint_Makes, uint_Lawful, Typed, Is, shows, Ptr, RawPtr, block_ptr, null_ptr, ptr_val, Testable, tests_null, rawptr_vals, rawptr_Tells, rawptr_Lawful, slice_val, plain, nothing, owned, heard, peeks, calls_at_last, lasts, on_entry, triple_of, Stays, walk_of, stay_dropped, Goes-dropped, framed}
-use Rattle.odfilter_c.proofs.Types.{Bytes, BytesRow, bytes_val, bytes_lowers, bytes_laws, Room, RoomRow, room_val, room_lowers, room_laws, Handle, Answer}
-use Rattle.odfilter_c.specs.Loans.{Loan, left_judge, left_room, left_answer, holds}
+use Rattle.odfilter_c.proofs.Steps.{◌≡◌, ℕ, ◌<◌, ◌^◌, List, [], ◌∷◌, ◌++◌, refl, lit<, w32, w64, Bor, MutBor, proved, leaves, SProp, ent, id⊢, sem, Fml, Lft, Share, ftrue, feq, fsep, fex, flft, Val, vint, vptr, vnull, fact, tables, WpFn, Ura, Logic, Memory, Routine, Calls, Loops, Fun, FmC, Triple, Contract, Item, ‵, raw, ◌⊛◌, some, later, prop, at_ret, Sq, ◌$◌, ◌∵◌, !, qed, move, keep, drop, use1, use2, split, join, fsplit, fjoin, fpack, feq_i, pick, await, by, enter, of_opd, lit, bin, addr, stop, fld, no_more, and_then, first, blocks, branches, skips, exec, returns, returns_within, agg, sub, whole, alloc_all, pass_all, free_all, look_at, get, get_in, through, sets, lands_last, sets_last, any_q, after_seq, Wp, post, assign, place, rv_opd, copy, env, u32, yes, uint_Makes, uint_Lawful, uint_vals, uint_Tells, Typed, Is, shows, Ptr, RawPtr, block_ptr, null_ptr, ptr_val, Testable, tests_null, rawptr_vals, rawptr_Tells, rawptr_Lawful, slice_val, owns, types_at, plain, nothing, owned, heard, peeks, calls_at_last, lasts, on_entry, triple_of, Stays, walk_of, stay_dropped, Goes-dropped, framed, usize}
+use Rattle.odfilter_c.proofs.Types.{Global, GlobalRow, global_val, global_lowers, global_laws, Bytes, BytesRow, bytes_val, bytes_lowers, bytes_laws, Room, RoomRow, room_val, room_lowers, room_laws, Handle, HandleRow, Owned, OwnedRow, Answer, AnswerRow}
+use Rattle.odfilter_c.specs.Loans.{Loan, lent_fault, lent_handle, lent_judge, lent_bytes, lent_room, lent_made, lent_answer, left_judge, left_room, left_made, left_answer, unless_null, holds, of_optional, of_bytes}
 use Rattle.odfilter_c.specs.Exports.{lent_to_filter_lines, left_by_filter_lines}
 use Rattle.odfilter_c.specs.RowTells.{FiltersLines}
 use Rattle.odfilter_c.specs.contracts.calls.filter_lines as g
 use Rattle.odfilter_c.proofs.calls.filter_lines.Symbol.{name as #call}
-use Rattle.odfilter_c.proofs.calls.filter_lines.Met.{met}
+use Rattle.odfilter_c.proofs.calls.filter_lines.Met.{met as met}
+use Rattle.odfilter_c.specs.contracts.null_calls.filter_lines_at_null as g-1
+use Rattle.odfilter_c.proofs.null_calls.filter_lines_at_null.Symbol.{name as #call-1}
+use Rattle.odfilter_c.proofs.null_calls.filter_lines_at_null.Met.{met as met-1}
 use Rattle.odfilter_c.specs.contracts.exports.odfilter_filter_lines as f
 use Rattle.odfilter_c.proofs.exports.odfilter_filter_lines.Statement.{statement}
 use Rattle.odfilter_c.proofs.exports.odfilter_filter_lines.Code as code
@@ -15,11 +18,14 @@ abbrev stayed : Stays f.ended.signature.params f.ended.kept
 stayed = (stay_dropped _ yes, (stay_dropped _ yes, (stay_dropped _ yes, (stay_dropped _ yes, (stay_dropped _ yes, tt)))))
 
 module _ {M : Type 1} {𝓤 : Ura M} (𝓛 : Logic 𝓤) (at_mem : Memory → SProp 𝓤) (run : Routine → Fun 𝓤) (C : Calls 𝓤 𝓛.H) (Λ : Loops 𝓤 𝓛.H) (fm : FmC 𝓤 𝓛.H 𝓛.laws C)
-    (known : Triple 𝓤 (C #call) (triple_of 𝓛 g.signature (g.spec 𝓛 at_mem run))) (l : Loan) where
+    (known : Triple 𝓤 (C #call) (triple_of 𝓛 g.signature (g.spec 𝓛 at_mem run))) (known-1 : Triple 𝓤 (C #call-1) (triple_of 𝓛 g-1.signature (g-1.spec 𝓛 at_mem run))) (l : Loan) where
   open 𝓛 use {H}
 
   abbrev G : Contract 𝓤
   G = triple_of 𝓛 g.signature (g.spec 𝓛 at_mem run)
+
+  abbrev G-1 : Contract 𝓤
+  G-1 = triple_of 𝓛 g-1.signature (g-1.spec 𝓛 at_mem run)
 
   abbrev W : Contract 𝓤
   W = walk_of 𝓛 f.ended stayed (f.clauses 𝓛 at_mem run)
@@ -60,52 +66,76 @@ module _ {M : Type 1} {𝓤 : Ura M} (𝓛 : Logic 𝓤) (at_mem : Memory → SP
       sets ! (bin ! (get ! refl) (lit ! tt) (tests_null null_ptr may-judge)) refl (tt, tt) $ first ! $ branches ! (get ! refl)
       (λ _. sets ! (of_opd ! (lit ! tt)) refl (tt, record { fits = lit< tt }) $ returns_within ! (Post (block_ptr b0 o0) null_ptr (record { at = rows-at; length = rows-length }) (record { at = kept-at; length = kept-length }) answer) refl (look_at ! 0 refl) $ free_all ! refl $ none (block_ptr b0 o0) null_ptr (record { at = rows-at; length = rows-length }) (record { at = kept-at; length = kept-length }) answer (id⊢ 𝓤 _))
       (λ wrong. absurd wrong)))
-  runs (block_ptr b0 o0) (block_ptr b1 o1) null_ptr rows-length kept-at kept-length answer fits-rows fits-kept may-filter may-judge may-rows may-kept may-answer =
-      enter ! C Λ code.function (vptr b0 o0 ∷ vptr b1 o1 ∷ bytes_val (record { at = null_ptr; length = rows-length }) ∷ room_val (record { at = kept-at; length = kept-length }) ∷ ptr_val answer ∷ []) _ $ alloc_all ! (λ c. pass_all ! refl ((good (block_ptr b0 o0)).0, ((good (block_ptr b1 o1)).0, (fits-rows.0, (fits-kept.0, ((good answer).0, tt))))) $
+  runs (block_ptr b0 o0) (block_ptr b1 o1) rows-at rows-length null_ptr kept-length answer fits-rows fits-kept may-filter may-judge may-rows may-kept may-answer =
+      enter ! C Λ code.function (vptr b0 o0 ∷ vptr b1 o1 ∷ bytes_val (record { at = rows-at; length = rows-length }) ∷ room_val (record { at = null_ptr; length = kept-length }) ∷ ptr_val answer ∷ []) _ $ alloc_all ! (λ c. pass_all ! refl ((good (block_ptr b0 o0)).0, ((good (block_ptr b1 o1)).0, (fits-rows.0, (fits-kept.0, ((good answer).0, tt))))) $
       sets ! (bin ! (get ! refl) (lit ! tt) (tests_null (block_ptr b0 o0) may-filter)) refl (tt, tt) $ first ! $ branches ! (get ! refl)
-      (λ wrong. absurd wrong) (λ _. skips ! $ exec ! C Λ (env (code.function).locals c) code.Mir.t-3 (at_ret (env (code.function).locals c) (Post (block_ptr b0 o0) (block_ptr b1 o1) (record { at = null_ptr; length = rows-length }) (record { at = kept-at; length = kept-length }) answer)) $
+      (λ wrong. absurd wrong) (λ _. skips ! $ exec ! C Λ (env (code.function).locals c) code.Mir.t-3 (at_ret (env (code.function).locals c) (Post (block_ptr b0 o0) (block_ptr b1 o1) (record { at = rows-at; length = rows-length }) (record { at = null_ptr; length = kept-length }) answer)) $
       sets ! (bin ! (get ! refl) (lit ! tt) (tests_null (block_ptr b1 o1) may-judge)) refl (tt, tt) $ first ! $ branches ! (get ! refl)
-      (λ wrong. absurd wrong) (λ _. skips ! $ exec ! C Λ (env (code.function).locals c) code.Mir.t-5 (at_ret (env (code.function).locals c) (Post (block_ptr b0 o0) (block_ptr b1 o1) (record { at = null_ptr; length = rows-length }) (record { at = kept-at; length = kept-length }) answer)) $
-      sets ! (bin ! (get_in ! (fld ! refl (stop !)) (sub ! 0 refl (whole !))) (lit ! tt) (tests_null null_ptr may-rows)) refl (tt, tt) $ first ! $ branches ! (get ! refl)
-      (λ _. sets ! (of_opd ! (lit ! tt)) refl (tt, record { fits = lit< tt }) $ returns_within ! (Post (block_ptr b0 o0) (block_ptr b1 o1) (record { at = null_ptr; length = rows-length }) (record { at = kept-at; length = kept-length }) answer) refl (look_at ! 0 refl) $ free_all ! refl $ none (block_ptr b0 o0) (block_ptr b1 o1) (record { at = null_ptr; length = rows-length }) (record { at = kept-at; length = kept-length }) answer (id⊢ 𝓤 _))
-      (λ wrong. absurd wrong))))
-  runs (block_ptr b0 o0) (block_ptr b1 o1) (block_ptr b2 o2) rows-length null_ptr kept-length answer fits-rows fits-kept may-filter may-judge may-rows may-kept may-answer =
-      enter ! C Λ code.function (vptr b0 o0 ∷ vptr b1 o1 ∷ bytes_val (record { at = (block_ptr b2 o2); length = rows-length }) ∷ room_val (record { at = null_ptr; length = kept-length }) ∷ ptr_val answer ∷ []) _ $ alloc_all ! (λ c. pass_all ! refl ((good (block_ptr b0 o0)).0, ((good (block_ptr b1 o1)).0, (fits-rows.0, (fits-kept.0, ((good answer).0, tt))))) $
-      sets ! (bin ! (get ! refl) (lit ! tt) (tests_null (block_ptr b0 o0) may-filter)) refl (tt, tt) $ first ! $ branches ! (get ! refl)
-      (λ wrong. absurd wrong) (λ _. skips ! $ exec ! C Λ (env (code.function).locals c) code.Mir.t-3 (at_ret (env (code.function).locals c) (Post (block_ptr b0 o0) (block_ptr b1 o1) (record { at = (block_ptr b2 o2); length = rows-length }) (record { at = null_ptr; length = kept-length }) answer)) $
-      sets ! (bin ! (get ! refl) (lit ! tt) (tests_null (block_ptr b1 o1) may-judge)) refl (tt, tt) $ first ! $ branches ! (get ! refl)
-      (λ wrong. absurd wrong) (λ _. skips ! $ exec ! C Λ (env (code.function).locals c) code.Mir.t-5 (at_ret (env (code.function).locals c) (Post (block_ptr b0 o0) (block_ptr b1 o1) (record { at = (block_ptr b2 o2); length = rows-length }) (record { at = null_ptr; length = kept-length }) answer)) $
-      sets ! (bin ! (get_in ! (fld ! refl (stop !)) (sub ! 0 refl (whole !))) (lit ! tt) (tests_null (block_ptr b2 o2) may-rows)) refl (tt, tt) $ first ! $ branches ! (get ! refl)
-      (λ wrong. absurd wrong) (λ _. skips ! $ exec ! C Λ (env (code.function).locals c) code.Mir.t-7 (at_ret (env (code.function).locals c) (Post (block_ptr b0 o0) (block_ptr b1 o1) (record { at = (block_ptr b2 o2); length = rows-length }) (record { at = null_ptr; length = kept-length }) answer)) $
+      (λ wrong. absurd wrong) (λ _. skips ! $ exec ! C Λ (env (code.function).locals c) code.Mir.t-5 (at_ret (env (code.function).locals c) (Post (block_ptr b0 o0) (block_ptr b1 o1) (record { at = rows-at; length = rows-length }) (record { at = null_ptr; length = kept-length }) answer)) $
       sets ! (bin ! (get_in ! (fld ! refl (stop !)) (sub ! 0 refl (whole !))) (lit ! tt) (tests_null null_ptr may-kept)) refl (tt, tt) $ first ! $ branches ! (get ! refl)
-      (λ _. sets ! (of_opd ! (lit ! tt)) refl (tt, record { fits = lit< tt }) $ returns_within ! (Post (block_ptr b0 o0) (block_ptr b1 o1) (record { at = (block_ptr b2 o2); length = rows-length }) (record { at = null_ptr; length = kept-length }) answer) refl (look_at ! 0 refl) $ free_all ! refl $ none (block_ptr b0 o0) (block_ptr b1 o1) (record { at = (block_ptr b2 o2); length = rows-length }) (record { at = null_ptr; length = kept-length }) answer (id⊢ 𝓤 _))
-      (λ wrong. absurd wrong)))))
-  runs (block_ptr b0 o0) (block_ptr b1 o1) (block_ptr b2 o2) rows-length (block_ptr b3 o3) kept-length null_ptr fits-rows fits-kept may-filter may-judge may-rows may-kept may-answer =
-      enter ! C Λ code.function (vptr b0 o0 ∷ vptr b1 o1 ∷ bytes_val (record { at = (block_ptr b2 o2); length = rows-length }) ∷ room_val (record { at = (block_ptr b3 o3); length = kept-length }) ∷ vnull ∷ []) _ $ alloc_all ! (λ c. pass_all ! refl ((good (block_ptr b0 o0)).0, ((good (block_ptr b1 o1)).0, (fits-rows.0, (fits-kept.0, ((good null_ptr).0, tt))))) $
+      (λ _. sets ! (of_opd ! (lit ! tt)) refl (tt, record { fits = lit< tt }) $ returns_within ! (Post (block_ptr b0 o0) (block_ptr b1 o1) (record { at = rows-at; length = rows-length }) (record { at = null_ptr; length = kept-length }) answer) refl (look_at ! 0 refl) $ free_all ! refl $ none (block_ptr b0 o0) (block_ptr b1 o1) (record { at = rows-at; length = rows-length }) (record { at = null_ptr; length = kept-length }) answer (id⊢ 𝓤 _))
+      (λ wrong. absurd wrong))))
+  runs (block_ptr b0 o0) (block_ptr b1 o1) rows-at rows-length (block_ptr b3 o3) kept-length null_ptr fits-rows fits-kept may-filter may-judge may-rows may-kept may-answer =
+      enter ! C Λ code.function (vptr b0 o0 ∷ vptr b1 o1 ∷ bytes_val (record { at = rows-at; length = rows-length }) ∷ room_val (record { at = (block_ptr b3 o3); length = kept-length }) ∷ vnull ∷ []) _ $ alloc_all ! (λ c. pass_all ! refl ((good (block_ptr b0 o0)).0, ((good (block_ptr b1 o1)).0, (fits-rows.0, (fits-kept.0, ((good null_ptr).0, tt))))) $
       sets ! (bin ! (get ! refl) (lit ! tt) (tests_null (block_ptr b0 o0) may-filter)) refl (tt, tt) $ first ! $ branches ! (get ! refl)
-      (λ wrong. absurd wrong) (λ _. skips ! $ exec ! C Λ (env (code.function).locals c) code.Mir.t-3 (at_ret (env (code.function).locals c) (Post (block_ptr b0 o0) (block_ptr b1 o1) (record { at = (block_ptr b2 o2); length = rows-length }) (record { at = (block_ptr b3 o3); length = kept-length }) null_ptr)) $
+      (λ wrong. absurd wrong) (λ _. skips ! $ exec ! C Λ (env (code.function).locals c) code.Mir.t-3 (at_ret (env (code.function).locals c) (Post (block_ptr b0 o0) (block_ptr b1 o1) (record { at = rows-at; length = rows-length }) (record { at = (block_ptr b3 o3); length = kept-length }) null_ptr)) $
       sets ! (bin ! (get ! refl) (lit ! tt) (tests_null (block_ptr b1 o1) may-judge)) refl (tt, tt) $ first ! $ branches ! (get ! refl)
-      (λ wrong. absurd wrong) (λ _. skips ! $ exec ! C Λ (env (code.function).locals c) code.Mir.t-5 (at_ret (env (code.function).locals c) (Post (block_ptr b0 o0) (block_ptr b1 o1) (record { at = (block_ptr b2 o2); length = rows-length }) (record { at = (block_ptr b3 o3); length = kept-length }) null_ptr)) $
-      sets ! (bin ! (get_in ! (fld ! refl (stop !)) (sub ! 0 refl (whole !))) (lit ! tt) (tests_null (block_ptr b2 o2) may-rows)) refl (tt, tt) $ first ! $ branches ! (get ! refl)
-      (λ wrong. absurd wrong) (λ _. skips ! $ exec ! C Λ (env (code.function).locals c) code.Mir.t-7 (at_ret (env (code.function).locals c) (Post (block_ptr b0 o0) (block_ptr b1 o1) (record { at = (block_ptr b2 o2); length = rows-length }) (record { at = (block_ptr b3 o3); length = kept-length }) null_ptr)) $
+      (λ wrong. absurd wrong) (λ _. skips ! $ exec ! C Λ (env (code.function).locals c) code.Mir.t-5 (at_ret (env (code.function).locals c) (Post (block_ptr b0 o0) (block_ptr b1 o1) (record { at = rows-at; length = rows-length }) (record { at = (block_ptr b3 o3); length = kept-length }) null_ptr)) $
       sets ! (bin ! (get_in ! (fld ! refl (stop !)) (sub ! 0 refl (whole !))) (lit ! tt) (tests_null (block_ptr b3 o3) may-kept)) refl (tt, tt) $ first ! $ branches ! (get ! refl)
-      (λ wrong. absurd wrong) (λ _. skips ! $ exec ! C Λ (env (code.function).locals c) code.Mir.t-9 (at_ret (env (code.function).locals c) (Post (block_ptr b0 o0) (block_ptr b1 o1) (record { at = (block_ptr b2 o2); length = rows-length }) (record { at = (block_ptr b3 o3); length = kept-length }) null_ptr)) $
+      (λ wrong. absurd wrong) (λ _. skips ! $ exec ! C Λ (env (code.function).locals c) code.Mir.t-7 (at_ret (env (code.function).locals c) (Post (block_ptr b0 o0) (block_ptr b1 o1) (record { at = rows-at; length = rows-length }) (record { at = (block_ptr b3 o3); length = kept-length }) null_ptr)) $
       sets ! (bin ! (get ! refl) (lit ! tt) (tests_null null_ptr may-answer)) refl (tt, tt) $ first ! $ branches ! (get ! refl)
-      (λ _. sets ! (of_opd ! (lit ! tt)) refl (tt, record { fits = lit< tt }) $ returns_within ! (Post (block_ptr b0 o0) (block_ptr b1 o1) (record { at = (block_ptr b2 o2); length = rows-length }) (record { at = (block_ptr b3 o3); length = kept-length }) null_ptr) refl (look_at ! 0 refl) $ free_all ! refl $ none (block_ptr b0 o0) (block_ptr b1 o1) (record { at = (block_ptr b2 o2); length = rows-length }) (record { at = (block_ptr b3 o3); length = kept-length }) null_ptr (id⊢ 𝓤 _))
-      (λ wrong. absurd wrong))))))
+      (λ _. sets ! (of_opd ! (lit ! tt)) refl (tt, record { fits = lit< tt }) $ returns_within ! (Post (block_ptr b0 o0) (block_ptr b1 o1) (record { at = rows-at; length = rows-length }) (record { at = (block_ptr b3 o3); length = kept-length }) null_ptr) refl (look_at ! 0 refl) $ free_all ! refl $ none (block_ptr b0 o0) (block_ptr b1 o1) (record { at = rows-at; length = rows-length }) (record { at = (block_ptr b3 o3); length = kept-length }) null_ptr (id⊢ 𝓤 _))
+      (λ wrong. absurd wrong)))))
+  runs (block_ptr b0 o0) (block_ptr b1 o1) null_ptr rows-length (block_ptr b3 o3) kept-length (block_ptr b4 o4) fits-rows fits-kept may-filter may-judge may-rows may-kept may-answer =
+      move ! (1 ∷ []) $ fsplit ! $ move ! (1 ∷ []) $ fsplit ! $ move ! (1 ∷ []) $ fsplit ! $ move ! (1 ∷ []) $ fsplit ! $ move ! (1 ∷ []) $ enter ! C Λ code.function (vptr b0 o0 ∷ vptr b1 o1 ∷ bytes_val (record { at = null_ptr; length = rows-length }) ∷ room_val (record { at = (block_ptr b3 o3); length = kept-length }) ∷ vptr b4 o4 ∷ []) _ $ alloc_all ! (λ c. pass_all ! refl ((good (block_ptr b0 o0)).0, ((good (block_ptr b1 o1)).0, (fits-rows.0, (fits-kept.0, ((good (block_ptr b4 o4)).0, tt))))) $
+      sets ! (bin ! (get ! refl) (lit ! tt) (tests_null (block_ptr b0 o0) may-filter)) refl (tt, tt) $ first ! $ branches ! (get ! refl)
+      (λ wrong. absurd wrong) (λ _. skips ! $ exec ! C Λ (env (code.function).locals c) code.Mir.t-3 (at_ret (env (code.function).locals c) (Post (block_ptr b0 o0) (block_ptr b1 o1) (record { at = null_ptr; length = rows-length }) (record { at = (block_ptr b3 o3); length = kept-length }) (block_ptr b4 o4))) $
+      sets ! (bin ! (get ! refl) (lit ! tt) (tests_null (block_ptr b1 o1) may-judge)) refl (tt, tt) $ first ! $ branches ! (get ! refl)
+      (λ wrong. absurd wrong) (λ _. skips ! $ exec ! C Λ (env (code.function).locals c) code.Mir.t-5 (at_ret (env (code.function).locals c) (Post (block_ptr b0 o0) (block_ptr b1 o1) (record { at = null_ptr; length = rows-length }) (record { at = (block_ptr b3 o3); length = kept-length }) (block_ptr b4 o4))) $
+      sets ! (bin ! (get_in ! (fld ! refl (stop !)) (sub ! 0 refl (whole !))) (lit ! tt) (tests_null (block_ptr b3 o3) may-kept)) refl (tt, tt) $ first ! $ branches ! (get ! refl)
+      (λ wrong. absurd wrong) (λ _. skips ! $ exec ! C Λ (env (code.function).locals c) code.Mir.t-7 (at_ret (env (code.function).locals c) (Post (block_ptr b0 o0) (block_ptr b1 o1) (record { at = null_ptr; length = rows-length }) (record { at = (block_ptr b3 o3); length = kept-length }) (block_ptr b4 o4))) $
+      sets ! (bin ! (get ! refl) (lit ! tt) (tests_null (block_ptr b4 o4) may-answer)) refl (tt, tt) $ first ! $ branches ! (get ! refl)
+      (λ wrong. absurd wrong) (λ _. skips ! $ exec ! C Λ (env (code.function).locals c) code.Mir.t-9 (at_ret (env (code.function).locals c) (Post (block_ptr b0 o0) (block_ptr b1 o1) (record { at = null_ptr; length = rows-length }) (record { at = (block_ptr b3 o3); length = kept-length }) (block_ptr b4 o4))) $
+      sets ! (bin ! (get_in ! (fld ! refl (stop !)) (sub ! 0 refl (whole !))) (lit ! tt) (tests_null null_ptr may-rows)) refl (tt, tt) $ first ! $ branches ! (get ! refl)
+      (λ _. first ! $ blocks ! $
+      sets ! (of_opd ! (get ! refl)) refl (tt, tt) $ sets ! (addr ! (through ! refl (stop !))) refl (tt, tt) $
+      sets ! (of_opd ! (get ! refl)) refl (tt, tt) $ sets ! (addr ! (through ! refl (stop !))) refl (tt, tt) $
+      sets ! (agg ! (and_then ! (get_in ! (fld ! refl (stop !)) (sub ! 0 refl (whole !))) (and_then ! (get_in ! (fld ! refl (stop !)) (sub ! 1 refl (whole !))) (no_more !)))) refl (tt, (tt, (fits-kept.0.1.1.0, tt))) $
+      sets ! (addr ! (through ! refl (stop !))) refl (tt, tt) $
+      move ! (2 ∷ []) $ drop ! $ nothing ! $ move ! (1 ∷ 0 ∷ []) $ fjoin ! $ move ! (1 ∷ 0 ∷ []) $ fjoin ! $ owned ! usize _ (uint_Makes 𝓛 w64) rows-length _ (refl, fits-rows.0.1.1.0.fits) $ fjoin ! $ move ! (1 ∷ 0 ∷ []) $ fjoin ! $ move ! (1 ∷ 0 ∷ []) $ fjoin ! $ nothing ! $ move ! (2 ∷ 0 ∷ []) $ join ! $ join ! $ nothing ! $ move ! (1 ∷ 0 ∷ []) $
+      let ref-filter : Bor Handle = record { ref_ptr = (b0, o0); now = l.handle } in
+      let ref-judge : MutBor Handle = record { ref_ptr = (b1, o1); ghost_name = l.judge_name; now = l.judge } in
+      let ref-kept : MutBor (List ℕ) = record { ref_ptr = (b3, o3); ghost_name = l.room_name; now = l.room } in
+      let ref-answer : MutBor Answer = record { ref_ptr = (b4, o4); ghost_name = l.answer_name; now = l.answer } in
+      let κ : Lft = l.lifetime in let z : G-1.Ghost = (((κ, tt), (l.share, tt), tt, (ref-filter, (ref-judge, (rows-length, (ref-kept, (ref-answer, tt))))), (vptr b0 o0 ∷ [], (vptr b1 o1 ∷ [], (vint w64 rows-length ∷ [], (slice_val (b3, o3) kept-length ∷ [], (vptr b4 o4 ∷ [], tt)))))), tt) in
+      use2 𝓛 (raw (G-1.pre z)) (id⊢ 𝓤 _) $
+      calls_at_last ! fm G-1 known-1 z (and_then ! (get ! refl) (and_then ! (get ! refl) (and_then ! (get_in ! (fld ! refl (stop !)) (sub ! 1 refl (whole !))) (and_then ! (get ! refl) (and_then ! (get ! refl) (no_more !)))))) (λ v.
+      use1 𝓛 (later (some (λ (x : ℕ). ((‵ (flft κ l.share) ⊛ ‵ ftrue) ⊛ ‵ (u32.own_val x (v ∷ []))) ⊛
+      some (λ (ws : Unit {0} × (Handle × (Unit {0} × ((List ℕ) × (Answer × (Unit {0})))))). ‵ (lasts g-1.ended (κ, tt) z.0.3 ws) ⊛ raw (fact 𝓤 (of_bytes null_ptr rows-length l.bytes ((ws.1.0 ≡ l.judge) × ((ws.1.1.1.0 ≡ l.room) × ((ws.1.1.1.1.0 ≡ l.answer) × (x ≡ 1)))) (λ bytes. FiltersLines l.handle l.judge ws.1.0 bytes l.room ws.1.1.1.0 ws.1.1.1.1.0 x))))))) (id⊢ 𝓤 _) $
+      await ! tt $ pick ! (λ x. split ! $ move ! (1 ∷ []) $ pick ! (λ ws. split ! $ move ! (1 ∷ []) $ heard ! _ (λ tells.
+      fsplit ! $ drop ! $ fsplit ! $ move ! (1 ∷ []) $ fsplit ! $ drop ! $ fsplit ! $ move ! (1 ∷ []) $ fsplit ! $ move ! (1 ∷ []) $ drop ! $ move ! (3 ∷ []) $ split ! $ split ! $ move ! (2 ∷ []) $ peeks ! u32 (Is u32) (shows 𝓛 u32) x (v ∷ []) (λ is.
+      let fine = ((uint_Lawful 𝓛 w32).typed x _ is).0 in
+      lands_last ! refl fine $ exec ! C Λ (env (code.function).locals c) (assign (place 7 []) (rv_opd (copy (place 8 [])))) (any_q (after_seq 𝓤 H (Wp 𝓤 H C Λ (env (code.function).locals c) code.Mir.t-11 (post 𝓤 H (at_ret (env (code.function).locals c) (Post (block_ptr b0 o0) (block_ptr b1 o1) (record { at = null_ptr; length = rows-length }) (record { at = (block_ptr b3 o3); length = kept-length }) (block_ptr b4 o4))))) (post 𝓤 H (at_ret (env (code.function).locals c) (Post (block_ptr b0 o0) (block_ptr b1 o1) (record { at = null_ptr; length = rows-length }) (record { at = (block_ptr b3 o3); length = kept-length }) (block_ptr b4 o4)))))) $ sets_last ! (of_opd ! (get ! refl)) refl fine $
+      exec ! C Λ (env (code.function).locals c) code.Mir.t-11 (at_ret (env (code.function).locals c) (Post (block_ptr b0 o0) (block_ptr b1 o1) (record { at = null_ptr; length = rows-length }) (record { at = (block_ptr b3 o3); length = kept-length }) (block_ptr b4 o4))) $
+      sets ! (of_opd ! (get ! refl)) refl fine $ returns ! (look_at ! 0 refl) $ free_all ! refl $ keep ! (3 ∷ 4 ∷ 5 ∷ 0 ∷ 1 ∷ []) $
+      nothing ! $ fpack ! (of_bytes null_ptr rows-length l.bytes ((ws.1.0 ≡ l.judge) × ((ws.1.1.1.0 ≡ l.room) × ((ws.1.1.1.1.0 ≡ l.answer) × (x ≡ 1)))) (λ bytes. FiltersLines l.handle l.judge ws.1.0 bytes l.room ws.1.1.1.0 ws.1.1.1.1.0 x)) (λ _. ftrue) tells $ move ! (1 ∷ 0 ∷ []) $ fjoin ! $ move ! (1 ∷ 0 ∷ []) $ fjoin ! $ move ! (1 ∷ 0 ∷ []) $ fjoin ! $
+      fpack ! Answer (λ answer'. fsep (left_judge l (block_ptr b1 o1) ws.1.0) (fsep (left_room l (record { at = (block_ptr b3 o3); length = kept-length }) ws.1.1.1.0) (fsep (left_answer l (block_ptr b4 o4) answer') (holds (of_bytes null_ptr rows-length l.bytes ((ws.1.0 ≡ l.judge) × ((ws.1.1.1.0 ≡ l.room) × ((answer' ≡ l.answer) × (x ≡ 1)))) (λ bytes. FiltersLines l.handle l.judge ws.1.0 bytes l.room ws.1.1.1.0 answer' x)))))) ws.1.1.1.1.0 $
+      fpack ! (List ℕ) (λ kept'. fex Answer (λ answer'. fsep (left_judge l (block_ptr b1 o1) ws.1.0) (fsep (left_room l (record { at = (block_ptr b3 o3); length = kept-length }) kept') (fsep (left_answer l (block_ptr b4 o4) answer') (holds (of_bytes null_ptr rows-length l.bytes ((ws.1.0 ≡ l.judge) × ((kept' ≡ l.room) × ((answer' ≡ l.answer) × (x ≡ 1)))) (λ bytes. FiltersLines l.handle l.judge ws.1.0 bytes l.room kept' answer' x))))))) ws.1.1.1.0 $
+      fpack ! Handle (λ judge'. fex (List ℕ) (λ kept'. fex Answer (λ answer'. fsep (left_judge l (block_ptr b1 o1) judge') (fsep (left_room l (record { at = (block_ptr b3 o3); length = kept-length }) kept') (fsep (left_answer l (block_ptr b4 o4) answer') (holds (of_bytes null_ptr rows-length l.bytes ((judge' ≡ l.judge) × ((kept' ≡ l.room) × ((answer' ≡ l.answer) × (x ≡ 1)))) (λ bytes. FiltersLines l.handle l.judge judge' bytes l.room kept' answer' x)))))))) ws.1.0 $
+      move ! (2 ∷ 0 ∷ []) $ join ! $ move ! (1 ∷ 0 ∷ []) $ nothing ! $ nothing ! $ fjoin ! $ nothing ! $ fjoin ! $ nothing ! $ fjoin ! $ nothing ! $ fjoin ! $ nothing ! $ fjoin ! $ nothing ! $
+      by ! (leaves 𝓛 f.ended stayed (f.clauses 𝓛 at_mem run) (bound (block_ptr b0 o0) (block_ptr b1 o1) (record { at = null_ptr; length = rows-length }) (record { at = (block_ptr b3 o3); length = kept-length }) (block_ptr b4 o4)) v x (tt, (tt, (tt, (tt, (tt, tt))))) (tt, (tt, (tt, (tt, (tt, tt)))))))))))) (λ wrong. absurd wrong))))))
   runs (block_ptr b0 o0) (block_ptr b1 o1) (block_ptr b2 o2) rows-length (block_ptr b3 o3) kept-length (block_ptr b4 o4) fits-rows fits-kept may-filter may-judge may-rows may-kept may-answer =
       move ! (1 ∷ []) $ fsplit ! $ move ! (1 ∷ []) $ fsplit ! $ move ! (1 ∷ []) $ fsplit ! $ move ! (1 ∷ []) $ fsplit ! $ move ! (1 ∷ []) $ enter ! C Λ code.function (vptr b0 o0 ∷ vptr b1 o1 ∷ bytes_val (record { at = (block_ptr b2 o2); length = rows-length }) ∷ room_val (record { at = (block_ptr b3 o3); length = kept-length }) ∷ vptr b4 o4 ∷ []) _ $ alloc_all ! (λ c. pass_all ! refl ((good (block_ptr b0 o0)).0, ((good (block_ptr b1 o1)).0, (fits-rows.0, (fits-kept.0, ((good (block_ptr b4 o4)).0, tt))))) $
       sets ! (bin ! (get ! refl) (lit ! tt) (tests_null (block_ptr b0 o0) may-filter)) refl (tt, tt) $ first ! $ branches ! (get ! refl)
       (λ wrong. absurd wrong) (λ _. skips ! $ exec ! C Λ (env (code.function).locals c) code.Mir.t-3 (at_ret (env (code.function).locals c) (Post (block_ptr b0 o0) (block_ptr b1 o1) (record { at = (block_ptr b2 o2); length = rows-length }) (record { at = (block_ptr b3 o3); length = kept-length }) (block_ptr b4 o4))) $
       sets ! (bin ! (get ! refl) (lit ! tt) (tests_null (block_ptr b1 o1) may-judge)) refl (tt, tt) $ first ! $ branches ! (get ! refl)
       (λ wrong. absurd wrong) (λ _. skips ! $ exec ! C Λ (env (code.function).locals c) code.Mir.t-5 (at_ret (env (code.function).locals c) (Post (block_ptr b0 o0) (block_ptr b1 o1) (record { at = (block_ptr b2 o2); length = rows-length }) (record { at = (block_ptr b3 o3); length = kept-length }) (block_ptr b4 o4))) $
-      sets ! (bin ! (get_in ! (fld ! refl (stop !)) (sub ! 0 refl (whole !))) (lit ! tt) (tests_null (block_ptr b2 o2) may-rows)) refl (tt, tt) $ first ! $ branches ! (get ! refl)
-      (λ wrong. absurd wrong) (λ _. skips ! $ exec ! C Λ (env (code.function).locals c) code.Mir.t-7 (at_ret (env (code.function).locals c) (Post (block_ptr b0 o0) (block_ptr b1 o1) (record { at = (block_ptr b2 o2); length = rows-length }) (record { at = (block_ptr b3 o3); length = kept-length }) (block_ptr b4 o4))) $
       sets ! (bin ! (get_in ! (fld ! refl (stop !)) (sub ! 0 refl (whole !))) (lit ! tt) (tests_null (block_ptr b3 o3) may-kept)) refl (tt, tt) $ first ! $ branches ! (get ! refl)
-      (λ wrong. absurd wrong) (λ _. skips ! $ exec ! C Λ (env (code.function).locals c) code.Mir.t-9 (at_ret (env (code.function).locals c) (Post (block_ptr b0 o0) (block_ptr b1 o1) (record { at = (block_ptr b2 o2); length = rows-length }) (record { at = (block_ptr b3 o3); length = kept-length }) (block_ptr b4 o4))) $
+      (λ wrong. absurd wrong) (λ _. skips ! $ exec ! C Λ (env (code.function).locals c) code.Mir.t-7 (at_ret (env (code.function).locals c) (Post (block_ptr b0 o0) (block_ptr b1 o1) (record { at = (block_ptr b2 o2); length = rows-length }) (record { at = (block_ptr b3 o3); length = kept-length }) (block_ptr b4 o4))) $
       sets ! (bin ! (get ! refl) (lit ! tt) (tests_null (block_ptr b4 o4) may-answer)) refl (tt, tt) $ first ! $ branches ! (get ! refl)
-      (λ wrong. absurd wrong) (λ _. skips ! $ exec ! C Λ (env (code.function).locals c) code.Mir.t-11 (at_ret (env (code.function).locals c) (Post (block_ptr b0 o0) (block_ptr b1 o1) (record { at = (block_ptr b2 o2); length = rows-length }) (record { at = (block_ptr b3 o3); length = kept-length }) (block_ptr b4 o4))) $
-      first ! $ blocks ! $
+      (λ wrong. absurd wrong) (λ _. skips ! $ exec ! C Λ (env (code.function).locals c) code.Mir.t-9 (at_ret (env (code.function).locals c) (Post (block_ptr b0 o0) (block_ptr b1 o1) (record { at = (block_ptr b2 o2); length = rows-length }) (record { at = (block_ptr b3 o3); length = kept-length }) (block_ptr b4 o4))) $
+      sets ! (bin ! (get_in ! (fld ! refl (stop !)) (sub ! 0 refl (whole !))) (lit ! tt) (tests_null (block_ptr b2 o2) may-rows)) refl (tt, tt) $ first ! $ branches ! (get ! refl)
+      (λ wrong. absurd wrong) (λ _. first ! $ blocks ! $
       sets ! (of_opd ! (get ! refl)) refl (tt, tt) $ sets ! (addr ! (through ! refl (stop !))) refl (tt, tt) $
       sets ! (of_opd ! (get ! refl)) refl (tt, tt) $ sets ! (addr ! (through ! refl (stop !))) refl (tt, tt) $
       sets ! (agg ! (and_then ! (get_in ! (fld ! refl (stop !)) (sub ! 0 refl (whole !))) (and_then ! (get_in ! (fld ! refl (stop !)) (sub ! 1 refl (whole !))) (no_more !)))) refl (tt, (tt, (fits-rows.0.1.1.0, tt))) $
@@ -121,16 +151,17 @@ module _ {M : Type 1} {𝓤 : Ura M} (𝓛 : Logic 𝓤) (at_mem : Memory → SP
       use2 𝓛 (raw (G.pre z)) (id⊢ 𝓤 _) $
       calls_at_last ! fm G known z (and_then ! (get ! refl) (and_then ! (get ! refl) (and_then ! (get ! refl) (and_then ! (get ! refl) (and_then ! (get ! refl) (no_more !)))))) (λ v.
       use1 𝓛 (later (some (λ (x : ℕ). ((‵ (flft κ l.share) ⊛ ‵ ftrue) ⊛ ‵ (u32.own_val x (v ∷ []))) ⊛
-      some (λ (ws : Unit {0} × (Handle × (Unit {0} × ((List ℕ) × (Answer × (Unit {0})))))). ‵ (lasts g.ended (κ, tt) z.0.3 ws) ⊛ raw (fact 𝓤 (FiltersLines l.handle l.judge ws.1.0 l.bytes l.room ws.1.1.1.0 ws.1.1.1.1.0 x)))))) (id⊢ 𝓤 _) $
+      some (λ (ws : Unit {0} × (Handle × (Unit {0} × ((List ℕ) × (Answer × (Unit {0})))))). ‵ (lasts g.ended (κ, tt) z.0.3 ws) ⊛ raw (fact 𝓤 (of_bytes (block_ptr b2 o2) rows-length l.bytes ((ws.1.0 ≡ l.judge) × ((ws.1.1.1.0 ≡ l.room) × ((ws.1.1.1.1.0 ≡ l.answer) × (x ≡ 1)))) (λ bytes. FiltersLines l.handle l.judge ws.1.0 bytes l.room ws.1.1.1.0 ws.1.1.1.1.0 x))))))) (id⊢ 𝓤 _) $
       await ! tt $ pick ! (λ x. split ! $ move ! (1 ∷ []) $ pick ! (λ ws. split ! $ move ! (1 ∷ []) $ heard ! _ (λ tells.
       fsplit ! $ drop ! $ fsplit ! $ move ! (1 ∷ []) $ fsplit ! $ drop ! $ fsplit ! $ move ! (1 ∷ []) $ fsplit ! $ move ! (1 ∷ []) $ drop ! $ move ! (3 ∷ []) $ split ! $ split ! $ move ! (2 ∷ []) $ peeks ! u32 (Is u32) (shows 𝓛 u32) x (v ∷ []) (λ is.
       let fine = ((uint_Lawful 𝓛 w32).typed x _ is).0 in
-      lands_last ! refl fine $ exec ! C Λ (env (code.function).locals c) code.Mir.t-12 (at_ret (env (code.function).locals c) (Post (block_ptr b0 o0) (block_ptr b1 o1) (record { at = (block_ptr b2 o2); length = rows-length }) (record { at = (block_ptr b3 o3); length = kept-length }) (block_ptr b4 o4))) $
+      lands_last ! refl fine $ exec ! C Λ (env (code.function).locals c) (assign (place 7 []) (rv_opd (copy (place 15 [])))) (any_q (after_seq 𝓤 H (Wp 𝓤 H C Λ (env (code.function).locals c) code.Mir.t-11 (post 𝓤 H (at_ret (env (code.function).locals c) (Post (block_ptr b0 o0) (block_ptr b1 o1) (record { at = (block_ptr b2 o2); length = rows-length }) (record { at = (block_ptr b3 o3); length = kept-length }) (block_ptr b4 o4))))) (post 𝓤 H (at_ret (env (code.function).locals c) (Post (block_ptr b0 o0) (block_ptr b1 o1) (record { at = (block_ptr b2 o2); length = rows-length }) (record { at = (block_ptr b3 o3); length = kept-length }) (block_ptr b4 o4)))))) $ sets_last ! (of_opd ! (get ! refl)) refl fine $
+      exec ! C Λ (env (code.function).locals c) code.Mir.t-11 (at_ret (env (code.function).locals c) (Post (block_ptr b0 o0) (block_ptr b1 o1) (record { at = (block_ptr b2 o2); length = rows-length }) (record { at = (block_ptr b3 o3); length = kept-length }) (block_ptr b4 o4))) $
       sets ! (of_opd ! (get ! refl)) refl fine $ returns ! (look_at ! 0 refl) $ free_all ! refl $ keep ! (3 ∷ 4 ∷ 5 ∷ 0 ∷ 1 ∷ []) $
-      nothing ! $ fpack ! (FiltersLines l.handle l.judge ws.1.0 l.bytes l.room ws.1.1.1.0 ws.1.1.1.1.0 x) (λ _. ftrue) tells $ move ! (1 ∷ 0 ∷ []) $ fjoin ! $ move ! (1 ∷ 0 ∷ []) $ fjoin ! $ move ! (1 ∷ 0 ∷ []) $ fjoin ! $
-      fpack ! Answer (λ answer'. fsep (left_judge l (block_ptr b1 o1) ws.1.0) (fsep (left_room l (record { at = (block_ptr b3 o3); length = kept-length }) ws.1.1.1.0) (fsep (left_answer l (block_ptr b4 o4) answer') (holds (FiltersLines l.handle l.judge ws.1.0 l.bytes l.room ws.1.1.1.0 answer' x))))) ws.1.1.1.1.0 $
-      fpack ! (List ℕ) (λ kept'. fex Answer (λ answer'. fsep (left_judge l (block_ptr b1 o1) ws.1.0) (fsep (left_room l (record { at = (block_ptr b3 o3); length = kept-length }) kept') (fsep (left_answer l (block_ptr b4 o4) answer') (holds (FiltersLines l.handle l.judge ws.1.0 l.bytes l.room kept' answer' x)))))) ws.1.1.1.0 $
-      fpack ! Handle (λ judge'. fex (List ℕ) (λ kept'. fex Answer (λ answer'. fsep (left_judge l (block_ptr b1 o1) judge') (fsep (left_room l (record { at = (block_ptr b3 o3); length = kept-length }) kept') (fsep (left_answer l (block_ptr b4 o4) answer') (holds (FiltersLines l.handle l.judge judge' l.bytes l.room kept' answer' x))))))) ws.1.0 $
+      nothing ! $ fpack ! (of_bytes (block_ptr b2 o2) rows-length l.bytes ((ws.1.0 ≡ l.judge) × ((ws.1.1.1.0 ≡ l.room) × ((ws.1.1.1.1.0 ≡ l.answer) × (x ≡ 1)))) (λ bytes. FiltersLines l.handle l.judge ws.1.0 bytes l.room ws.1.1.1.0 ws.1.1.1.1.0 x)) (λ _. ftrue) tells $ move ! (1 ∷ 0 ∷ []) $ fjoin ! $ move ! (1 ∷ 0 ∷ []) $ fjoin ! $ move ! (1 ∷ 0 ∷ []) $ fjoin ! $
+      fpack ! Answer (λ answer'. fsep (left_judge l (block_ptr b1 o1) ws.1.0) (fsep (left_room l (record { at = (block_ptr b3 o3); length = kept-length }) ws.1.1.1.0) (fsep (left_answer l (block_ptr b4 o4) answer') (holds (of_bytes (block_ptr b2 o2) rows-length l.bytes ((ws.1.0 ≡ l.judge) × ((ws.1.1.1.0 ≡ l.room) × ((answer' ≡ l.answer) × (x ≡ 1)))) (λ bytes. FiltersLines l.handle l.judge ws.1.0 bytes l.room ws.1.1.1.0 answer' x)))))) ws.1.1.1.1.0 $
+      fpack ! (List ℕ) (λ kept'. fex Answer (λ answer'. fsep (left_judge l (block_ptr b1 o1) ws.1.0) (fsep (left_room l (record { at = (block_ptr b3 o3); length = kept-length }) kept') (fsep (left_answer l (block_ptr b4 o4) answer') (holds (of_bytes (block_ptr b2 o2) rows-length l.bytes ((ws.1.0 ≡ l.judge) × ((kept' ≡ l.room) × ((answer' ≡ l.answer) × (x ≡ 1)))) (λ bytes. FiltersLines l.handle l.judge ws.1.0 bytes l.room kept' answer' x))))))) ws.1.1.1.0 $
+      fpack ! Handle (λ judge'. fex (List ℕ) (λ kept'. fex Answer (λ answer'. fsep (left_judge l (block_ptr b1 o1) judge') (fsep (left_room l (record { at = (block_ptr b3 o3); length = kept-length }) kept') (fsep (left_answer l (block_ptr b4 o4) answer') (holds (of_bytes (block_ptr b2 o2) rows-length l.bytes ((judge' ≡ l.judge) × ((kept' ≡ l.room) × ((answer' ≡ l.answer) × (x ≡ 1)))) (λ bytes. FiltersLines l.handle l.judge judge' bytes l.room kept' answer' x)))))))) ws.1.0 $
       move ! (2 ∷ 0 ∷ []) $ join ! $ move ! (1 ∷ 0 ∷ []) $ nothing ! $ nothing ! $ fjoin ! $ nothing ! $ fjoin ! $ nothing ! $ fjoin ! $ nothing ! $ fjoin ! $ nothing ! $ fjoin ! $ nothing ! $
       by ! (leaves 𝓛 f.ended stayed (f.clauses 𝓛 at_mem run) (bound (block_ptr b0 o0) (block_ptr b1 o1) (record { at = (block_ptr b2 o2); length = rows-length }) (record { at = (block_ptr b3 o3); length = kept-length }) (block_ptr b4 o4)) v x (tt, (tt, (tt, (tt, (tt, tt))))) (tt, (tt, (tt, (tt, (tt, tt)))))))))))))))))
 
@@ -143,4 +174,4 @@ odfilter_filter_lines_spec 𝓤 𝓛 𝓜 𝓡 wired =
     qed 𝓛 (raw (on_entry 𝓛 f.signature κs qs a (rawptr_vals a.0, (rawptr_vals a.1.0, (bytes_val a.1.1.0 ∷ [], (room_val a.1.1.1.0 ∷ [], (rawptr_vals a.1.1.1.1.0, tt)))))) ∷ (raw (fact 𝓤 (Testable a.0 × Testable a.1.0 × Testable a.1.1.0.at × Testable a.1.1.1.0.at × Testable a.1.1.1.1.0)) ⊛ (‵ (flft l.lifetime l.share) ⊛ ‵ (lent_to_filter_lines l a.0 a.1.0 a.1.1.0 a.1.1.1.0 a.1.1.1.1.0))) ∷ []) ∵
     drop ! $
     split ! $ heard ! _ (λ may. split ! $
-    runs 𝓛 𝓜.mem 𝓡.returns 𝓣.C 𝓣.Λ (framed 𝓤 𝓛.H 𝓜 𝓣) (met 𝓤 𝓛 𝓜 𝓡 (code.calls-odfilter_c::calls::filter_lines 𝓡.env wired)) l a.0 a.1.0 a.1.1.0.at a.1.1.0.length a.1.1.1.0.at a.1.1.1.0.length a.1.1.1.1.0 ((bytes_laws.lawful 𝓛).typed a.1.1.0 _ are.1.1.0) ((room_laws.lawful 𝓛).typed a.1.1.1.0 _ are.1.1.1.0) may.0 may.1 may.2 may.3 may.4))
+    runs 𝓛 𝓜.mem 𝓡.returns 𝓣.C 𝓣.Λ (framed 𝓤 𝓛.H 𝓜 𝓣) (met 𝓤 𝓛 𝓜 𝓡 (code.calls-odfilter_c::calls::filter_lines 𝓡.env wired)) (met-1 𝓤 𝓛 𝓜 𝓡 (code.calls-odfilter_c::null_calls::filter_lines_at_null 𝓡.env wired)) l a.0 a.1.0 a.1.1.0.at a.1.1.0.length a.1.1.1.0.at a.1.1.1.0.length a.1.1.1.1.0 ((bytes_laws.lawful 𝓛).typed a.1.1.0 _ are.1.1.0) ((room_laws.lawful 𝓛).typed a.1.1.1.0 _ are.1.1.1.0) may.0 may.1 may.2 may.3 may.4))

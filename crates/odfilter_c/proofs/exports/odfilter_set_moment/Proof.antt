@@ -1,12 +1,15 @@
 -- `set_moment` meets its contract: the addresses are tested one by one, and what was lent is handed to the call over references.
-use Rattle.odfilter_c.proofs.Steps.{ℕ, List, [], ◌∷◌, refl, lit<, w32, Bor, MutBor, proved, leaves, SProp, ent, id⊢, sem, Lft, ftrue, feq, fsep, flft, Val, vint, vptr, vnull, fact, tables, WpFn, Ura, Logic, Memory, Routine, Calls, Loops, Fun, FmC, Triple, Contract, Item, ‵, raw, ◌⊛◌, some, later, prop, at_ret, Sq, ◌$◌, ◌∵◌, !, qed, move, keep, drop, use1, use2, split, join, fsplit, fjoin, fpack, feq_i, pick, await, by, enter, of_opd, lit, bin, addr, stop, fld, no_more, and_then, first, blocks, branches, skips, exec, returns, returns_within, agg, sub, whole, alloc_all, pass_all, free_all, look_at, get, get_in, through, sets, lands_last, env, u32, yes, uint_Makes, uint_Lawful, Typed, Is, shows, Ptr, RawPtr, block_ptr, null_ptr, ptr_val, Testable, tests_null, rawptr_vals, rawptr_Tells, rawptr_Lawful, slice_val, plain, nothing, owned, heard, peeks, calls_at_last, lasts, on_entry, triple_of, Stays, walk_of, stay_dropped, Goes-dropped, framed}
-use Rattle.odfilter_c.proofs.Types.{Bytes, BytesRow, bytes_val, bytes_lowers, bytes_laws, Handle}
-use Rattle.odfilter_c.specs.Loans.{Loan, left_judge, holds}
+use Rattle.odfilter_c.proofs.Steps.{◌≡◌, ℕ, ◌<◌, ◌^◌, List, [], ◌∷◌, ◌++◌, refl, lit<, w32, w64, Bor, MutBor, proved, leaves, SProp, ent, id⊢, sem, Fml, Lft, Share, ftrue, feq, fsep, fex, flft, Val, vint, vptr, vnull, fact, tables, WpFn, Ura, Logic, Memory, Routine, Calls, Loops, Fun, FmC, Triple, Contract, Item, ‵, raw, ◌⊛◌, some, later, prop, at_ret, Sq, ◌$◌, ◌∵◌, !, qed, move, keep, drop, use1, use2, split, join, fsplit, fjoin, fpack, feq_i, pick, await, by, enter, of_opd, lit, bin, addr, stop, fld, no_more, and_then, first, blocks, branches, skips, exec, returns, returns_within, agg, sub, whole, alloc_all, pass_all, free_all, look_at, get, get_in, through, sets, lands_last, sets_last, any_q, after_seq, Wp, post, assign, place, rv_opd, copy, env, u32, yes, uint_Makes, uint_Lawful, uint_vals, uint_Tells, Typed, Is, shows, Ptr, RawPtr, block_ptr, null_ptr, ptr_val, Testable, tests_null, rawptr_vals, rawptr_Tells, rawptr_Lawful, slice_val, owns, types_at, plain, nothing, owned, heard, peeks, calls_at_last, lasts, on_entry, triple_of, Stays, walk_of, stay_dropped, Goes-dropped, framed, usize}
+use Rattle.odfilter_c.proofs.Types.{Global, GlobalRow, global_val, global_lowers, global_laws, Bytes, BytesRow, bytes_val, bytes_lowers, bytes_laws, Room, RoomRow, room_val, room_lowers, room_laws, Handle, HandleRow, Owned, OwnedRow, Answer, AnswerRow}
+use Rattle.odfilter_c.specs.Loans.{Loan, lent_fault, lent_handle, lent_judge, lent_bytes, lent_room, lent_made, lent_answer, left_judge, left_room, left_made, left_answer, unless_null, holds, of_optional, of_bytes}
 use Rattle.odfilter_c.specs.Exports.{lent_to_set_moment, left_by_set_moment}
 use Rattle.odfilter_c.specs.RowTells.{SetsMoment}
 use Rattle.odfilter_c.specs.contracts.calls.set_moment as g
 use Rattle.odfilter_c.proofs.calls.set_moment.Symbol.{name as #call}
-use Rattle.odfilter_c.proofs.calls.set_moment.Met.{met}
+use Rattle.odfilter_c.proofs.calls.set_moment.Met.{met as met}
+use Rattle.odfilter_c.specs.contracts.null_calls.set_moment_at_null as g-1
+use Rattle.odfilter_c.proofs.null_calls.set_moment_at_null.Symbol.{name as #call-1}
+use Rattle.odfilter_c.proofs.null_calls.set_moment_at_null.Met.{met as met-1}
 use Rattle.odfilter_c.specs.contracts.exports.odfilter_set_moment as f
 use Rattle.odfilter_c.proofs.exports.odfilter_set_moment.Statement.{statement}
 use Rattle.odfilter_c.proofs.exports.odfilter_set_moment.Code as code
@@ -15,11 +18,14 @@ abbrev stayed : Stays f.ended.signature.params f.ended.kept
 stayed = (stay_dropped _ yes, (stay_dropped _ yes, tt))
 
 module _ {M : Type 1} {𝓤 : Ura M} (𝓛 : Logic 𝓤) (at_mem : Memory → SProp 𝓤) (run : Routine → Fun 𝓤) (C : Calls 𝓤 𝓛.H) (Λ : Loops 𝓤 𝓛.H) (fm : FmC 𝓤 𝓛.H 𝓛.laws C)
-    (known : Triple 𝓤 (C #call) (triple_of 𝓛 g.signature (g.spec 𝓛 at_mem run))) (l : Loan) where
+    (known : Triple 𝓤 (C #call) (triple_of 𝓛 g.signature (g.spec 𝓛 at_mem run))) (known-1 : Triple 𝓤 (C #call-1) (triple_of 𝓛 g-1.signature (g-1.spec 𝓛 at_mem run))) (l : Loan) where
   open 𝓛 use {H}
 
   abbrev G : Contract 𝓤
   G = triple_of 𝓛 g.signature (g.spec 𝓛 at_mem run)
+
+  abbrev G-1 : Contract 𝓤
+  G-1 = triple_of 𝓛 g-1.signature (g-1.spec 𝓛 at_mem run)
 
   abbrev W : Contract 𝓤
   W = walk_of 𝓛 f.ended stayed (f.clauses 𝓛 at_mem run)
@@ -54,19 +60,35 @@ module _ {M : Type 1} {𝓤 : Ura M} (𝓛 : Logic 𝓤) (at_mem : Memory → SP
       (λ _. sets ! (of_opd ! (lit ! tt)) refl (tt, record { fits = lit< tt }) $ returns_within ! (Post null_ptr (record { at = moment-at; length = moment-length })) refl (look_at ! 0 refl) $ free_all ! refl $ none null_ptr (record { at = moment-at; length = moment-length }) (id⊢ 𝓤 _))
       (λ wrong. absurd wrong))
   runs (block_ptr b0 o0) null_ptr moment-length fits-moment may-judge may-moment =
-      enter ! C Λ code.function (vptr b0 o0 ∷ bytes_val (record { at = null_ptr; length = moment-length }) ∷ []) _ $ alloc_all ! (λ c. pass_all ! refl ((good (block_ptr b0 o0)).0, (fits-moment.0, tt)) $
+      move ! (1 ∷ []) $ fsplit ! $ move ! (1 ∷ []) $ enter ! C Λ code.function (vptr b0 o0 ∷ bytes_val (record { at = null_ptr; length = moment-length }) ∷ []) _ $ alloc_all ! (λ c. pass_all ! refl ((good (block_ptr b0 o0)).0, (fits-moment.0, tt)) $
       sets ! (bin ! (get ! refl) (lit ! tt) (tests_null (block_ptr b0 o0) may-judge)) refl (tt, tt) $ first ! $ branches ! (get ! refl)
       (λ wrong. absurd wrong) (λ _. skips ! $ exec ! C Λ (env (code.function).locals c) code.Mir.t-3 (at_ret (env (code.function).locals c) (Post (block_ptr b0 o0) (record { at = null_ptr; length = moment-length }))) $
       sets ! (bin ! (get_in ! (fld ! refl (stop !)) (sub ! 0 refl (whole !))) (lit ! tt) (tests_null null_ptr may-moment)) refl (tt, tt) $ first ! $ branches ! (get ! refl)
-      (λ _. sets ! (of_opd ! (lit ! tt)) refl (tt, record { fits = lit< tt }) $ returns_within ! (Post (block_ptr b0 o0) (record { at = null_ptr; length = moment-length })) refl (look_at ! 0 refl) $ free_all ! refl $ none (block_ptr b0 o0) (record { at = null_ptr; length = moment-length }) (id⊢ 𝓤 _))
-      (λ wrong. absurd wrong)))
+      (λ _. first ! $ blocks ! $
+      sets ! (of_opd ! (get ! refl)) refl (tt, tt) $ sets ! (addr ! (through ! refl (stop !))) refl (tt, tt) $
+      drop ! $ nothing ! $ owned ! usize _ (uint_Makes 𝓛 w64) moment-length _ (refl, fits-moment.0.1.1.0.fits) $ fjoin ! $ move ! (1 ∷ 0 ∷ []) $ fjoin ! $ nothing ! $ move ! (2 ∷ 0 ∷ []) $ join ! $ join ! $ nothing ! $ move ! (1 ∷ 0 ∷ []) $
+      let ref-judge : MutBor Handle = record { ref_ptr = (b0, o0); ghost_name = l.judge_name; now = l.judge } in
+      let κ : Lft = l.lifetime in let z : G-1.Ghost = (((κ, tt), (l.share, tt), tt, (ref-judge, (moment-length, tt)), (vptr b0 o0 ∷ [], (vint w64 moment-length ∷ [], tt))), tt) in
+      use2 𝓛 (raw (G-1.pre z)) (id⊢ 𝓤 _) $
+      calls_at_last ! fm G-1 known-1 z (and_then ! (get ! refl) (and_then ! (get_in ! (fld ! refl (stop !)) (sub ! 1 refl (whole !))) (no_more !))) (λ v.
+      use1 𝓛 (later (some (λ (x : ℕ). ((‵ (flft κ l.share) ⊛ ‵ ftrue) ⊛ ‵ (u32.own_val x (v ∷ []))) ⊛
+      some (λ (ws : Handle × (Unit {0} × (Unit {0}))). ‵ (lasts g-1.ended (κ, tt) z.0.3 ws) ⊛ raw (fact 𝓤 (of_bytes null_ptr moment-length l.bytes ((ws.0 ≡ l.judge) × (x ≡ 1)) (λ bytes. SetsMoment l.judge ws.0 bytes x))))))) (id⊢ 𝓤 _) $
+      await ! tt $ pick ! (λ x. split ! $ move ! (1 ∷ []) $ pick ! (λ ws. split ! $ move ! (1 ∷ []) $ heard ! _ (λ tells.
+      fsplit ! $ move ! (1 ∷ []) $ fsplit ! $ drop ! $ drop ! $ move ! (1 ∷ []) $ split ! $ split ! $ move ! (2 ∷ []) $ peeks ! u32 (Is u32) (shows 𝓛 u32) x (v ∷ []) (λ is.
+      let fine = ((uint_Lawful 𝓛 w32).typed x _ is).0 in
+      lands_last ! refl fine $ exec ! C Λ (env (code.function).locals c) (assign (place 4 []) (rv_opd (copy (place 5 [])))) (any_q (after_seq 𝓤 H (Wp 𝓤 H C Λ (env (code.function).locals c) code.Mir.t-5 (post 𝓤 H (at_ret (env (code.function).locals c) (Post (block_ptr b0 o0) (record { at = null_ptr; length = moment-length }))))) (post 𝓤 H (at_ret (env (code.function).locals c) (Post (block_ptr b0 o0) (record { at = null_ptr; length = moment-length })))))) $ sets_last ! (of_opd ! (get ! refl)) refl fine $
+      exec ! C Λ (env (code.function).locals c) code.Mir.t-5 (at_ret (env (code.function).locals c) (Post (block_ptr b0 o0) (record { at = null_ptr; length = moment-length }))) $
+      sets ! (of_opd ! (get ! refl)) refl fine $ returns ! (look_at ! 0 refl) $ free_all ! refl $ keep ! (3 ∷ 0 ∷ 1 ∷ []) $
+      nothing ! $ fpack ! (of_bytes null_ptr moment-length l.bytes ((ws.0 ≡ l.judge) × (x ≡ 1)) (λ bytes. SetsMoment l.judge ws.0 bytes x)) (λ _. ftrue) tells $ move ! (1 ∷ 0 ∷ []) $ fjoin ! $
+      fpack ! Handle (λ judge'. fsep (left_judge l (block_ptr b0 o0) judge') (holds (of_bytes null_ptr moment-length l.bytes ((judge' ≡ l.judge) × (x ≡ 1)) (λ bytes. SetsMoment l.judge judge' bytes x)))) ws.0 $
+      move ! (2 ∷ 0 ∷ []) $ join ! $ move ! (1 ∷ 0 ∷ []) $ nothing ! $ nothing ! $ fjoin ! $ nothing ! $ fjoin ! $ nothing ! $
+      by ! (leaves 𝓛 f.ended stayed (f.clauses 𝓛 at_mem run) (bound (block_ptr b0 o0) (record { at = null_ptr; length = moment-length })) v x (tt, (tt, tt)) (tt, (tt, tt))))))))) (λ wrong. absurd wrong)))
   runs (block_ptr b0 o0) (block_ptr b1 o1) moment-length fits-moment may-judge may-moment =
       move ! (1 ∷ []) $ fsplit ! $ move ! (1 ∷ []) $ enter ! C Λ code.function (vptr b0 o0 ∷ bytes_val (record { at = (block_ptr b1 o1); length = moment-length }) ∷ []) _ $ alloc_all ! (λ c. pass_all ! refl ((good (block_ptr b0 o0)).0, (fits-moment.0, tt)) $
       sets ! (bin ! (get ! refl) (lit ! tt) (tests_null (block_ptr b0 o0) may-judge)) refl (tt, tt) $ first ! $ branches ! (get ! refl)
       (λ wrong. absurd wrong) (λ _. skips ! $ exec ! C Λ (env (code.function).locals c) code.Mir.t-3 (at_ret (env (code.function).locals c) (Post (block_ptr b0 o0) (record { at = (block_ptr b1 o1); length = moment-length }))) $
       sets ! (bin ! (get_in ! (fld ! refl (stop !)) (sub ! 0 refl (whole !))) (lit ! tt) (tests_null (block_ptr b1 o1) may-moment)) refl (tt, tt) $ first ! $ branches ! (get ! refl)
-      (λ wrong. absurd wrong) (λ _. skips ! $ exec ! C Λ (env (code.function).locals c) code.Mir.t-5 (at_ret (env (code.function).locals c) (Post (block_ptr b0 o0) (record { at = (block_ptr b1 o1); length = moment-length }))) $
-      first ! $ blocks ! $
+      (λ wrong. absurd wrong) (λ _. first ! $ blocks ! $
       sets ! (of_opd ! (get ! refl)) refl (tt, tt) $ sets ! (addr ! (through ! refl (stop !))) refl (tt, tt) $
       sets ! (agg ! (and_then ! (get_in ! (fld ! refl (stop !)) (sub ! 0 refl (whole !))) (and_then ! (get_in ! (fld ! refl (stop !)) (sub ! 1 refl (whole !))) (no_more !)))) refl (tt, (tt, (fits-moment.0.1.1.0, tt))) $
       nothing ! $ move ! (1 ∷ 0 ∷ []) $ fjoin ! $ move ! (1 ∷ 0 ∷ []) $ fjoin ! $ nothing ! $ move ! (2 ∷ 0 ∷ []) $ join ! $ join ! $ nothing ! $ move ! (1 ∷ 0 ∷ []) $
@@ -76,14 +98,15 @@ module _ {M : Type 1} {𝓤 : Ura M} (𝓛 : Logic 𝓤) (at_mem : Memory → SP
       use2 𝓛 (raw (G.pre z)) (id⊢ 𝓤 _) $
       calls_at_last ! fm G known z (and_then ! (get ! refl) (and_then ! (get ! refl) (no_more !))) (λ v.
       use1 𝓛 (later (some (λ (x : ℕ). ((‵ (flft κ l.share) ⊛ ‵ ftrue) ⊛ ‵ (u32.own_val x (v ∷ []))) ⊛
-      some (λ (ws : Handle × (Unit {0} × (Unit {0}))). ‵ (lasts g.ended (κ, tt) z.0.3 ws) ⊛ raw (fact 𝓤 (SetsMoment l.judge ws.0 l.bytes x)))))) (id⊢ 𝓤 _) $
+      some (λ (ws : Handle × (Unit {0} × (Unit {0}))). ‵ (lasts g.ended (κ, tt) z.0.3 ws) ⊛ raw (fact 𝓤 (of_bytes (block_ptr b1 o1) moment-length l.bytes ((ws.0 ≡ l.judge) × (x ≡ 1)) (λ bytes. SetsMoment l.judge ws.0 bytes x))))))) (id⊢ 𝓤 _) $
       await ! tt $ pick ! (λ x. split ! $ move ! (1 ∷ []) $ pick ! (λ ws. split ! $ move ! (1 ∷ []) $ heard ! _ (λ tells.
       fsplit ! $ move ! (1 ∷ []) $ fsplit ! $ drop ! $ drop ! $ move ! (1 ∷ []) $ split ! $ split ! $ move ! (2 ∷ []) $ peeks ! u32 (Is u32) (shows 𝓛 u32) x (v ∷ []) (λ is.
       let fine = ((uint_Lawful 𝓛 w32).typed x _ is).0 in
-      lands_last ! refl fine $ exec ! C Λ (env (code.function).locals c) code.Mir.t-6 (at_ret (env (code.function).locals c) (Post (block_ptr b0 o0) (record { at = (block_ptr b1 o1); length = moment-length }))) $
+      lands_last ! refl fine $ exec ! C Λ (env (code.function).locals c) (assign (place 4 []) (rv_opd (copy (place 8 [])))) (any_q (after_seq 𝓤 H (Wp 𝓤 H C Λ (env (code.function).locals c) code.Mir.t-5 (post 𝓤 H (at_ret (env (code.function).locals c) (Post (block_ptr b0 o0) (record { at = (block_ptr b1 o1); length = moment-length }))))) (post 𝓤 H (at_ret (env (code.function).locals c) (Post (block_ptr b0 o0) (record { at = (block_ptr b1 o1); length = moment-length })))))) $ sets_last ! (of_opd ! (get ! refl)) refl fine $
+      exec ! C Λ (env (code.function).locals c) code.Mir.t-5 (at_ret (env (code.function).locals c) (Post (block_ptr b0 o0) (record { at = (block_ptr b1 o1); length = moment-length }))) $
       sets ! (of_opd ! (get ! refl)) refl fine $ returns ! (look_at ! 0 refl) $ free_all ! refl $ keep ! (3 ∷ 0 ∷ 1 ∷ []) $
-      nothing ! $ fpack ! (SetsMoment l.judge ws.0 l.bytes x) (λ _. ftrue) tells $ move ! (1 ∷ 0 ∷ []) $ fjoin ! $
-      fpack ! Handle (λ judge'. fsep (left_judge l (block_ptr b0 o0) judge') (holds (SetsMoment l.judge judge' l.bytes x))) ws.0 $
+      nothing ! $ fpack ! (of_bytes (block_ptr b1 o1) moment-length l.bytes ((ws.0 ≡ l.judge) × (x ≡ 1)) (λ bytes. SetsMoment l.judge ws.0 bytes x)) (λ _. ftrue) tells $ move ! (1 ∷ 0 ∷ []) $ fjoin ! $
+      fpack ! Handle (λ judge'. fsep (left_judge l (block_ptr b0 o0) judge') (holds (of_bytes (block_ptr b1 o1) moment-length l.bytes ((judge' ≡ l.judge) × (x ≡ 1)) (λ bytes. SetsMoment l.judge judge' bytes x)))) ws.0 $
       move ! (2 ∷ 0 ∷ []) $ join ! $ move ! (1 ∷ 0 ∷ []) $ nothing ! $ nothing ! $ fjoin ! $ nothing ! $ fjoin ! $ nothing ! $
       by ! (leaves 𝓛 f.ended stayed (f.clauses 𝓛 at_mem run) (bound (block_ptr b0 o0) (record { at = (block_ptr b1 o1); length = moment-length })) v x (tt, (tt, tt)) (tt, (tt, tt)))))))))))
 
@@ -96,4 +119,4 @@ odfilter_set_moment_spec 𝓤 𝓛 𝓜 𝓡 wired =
     qed 𝓛 (raw (on_entry 𝓛 f.signature κs qs a (rawptr_vals a.0, (bytes_val a.1.0 ∷ [], tt))) ∷ (raw (fact 𝓤 (Testable a.0 × Testable a.1.0.at)) ⊛ (‵ (flft l.lifetime l.share) ⊛ ‵ (lent_to_set_moment l a.0 a.1.0))) ∷ []) ∵
     drop ! $
     split ! $ heard ! _ (λ may. split ! $
-    runs 𝓛 𝓜.mem 𝓡.returns 𝓣.C 𝓣.Λ (framed 𝓤 𝓛.H 𝓜 𝓣) (met 𝓤 𝓛 𝓜 𝓡 (code.calls-odfilter_c::calls::set_moment 𝓡.env wired)) l a.0 a.1.0.at a.1.0.length ((bytes_laws.lawful 𝓛).typed a.1.0 _ are.1.0) may.0 may.1))
+    runs 𝓛 𝓜.mem 𝓡.returns 𝓣.C 𝓣.Λ (framed 𝓤 𝓛.H 𝓜 𝓣) (met 𝓤 𝓛 𝓜 𝓡 (code.calls-odfilter_c::calls::set_moment 𝓡.env wired)) (met-1 𝓤 𝓛 𝓜 𝓡 (code.calls-odfilter_c::null_calls::set_moment_at_null 𝓡.env wired)) l a.0 a.1.0.at a.1.0.length ((bytes_laws.lawful 𝓛).typed a.1.0 _ are.1.0) may.0 may.1))

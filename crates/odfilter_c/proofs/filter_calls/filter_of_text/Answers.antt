@@ -1,12 +1,11 @@
-use Rattle.std.proofs.Common.{◌≡◌, subst}
-use Rattle.csdl_schema.specs.SchemaModel.{SchemaModel, slots_of, type_name_at}
-use Rattle.odata_expression_types.specs.HasTyping.{HasNoTyping, IsRefusal, UnlessMemory}
+use Rattle.std.proofs.Common.{◌≡◌, ◌∙◌, ap, subst}
+use Rattle.csdl_schema.specs.SchemaModel.{SchemaModel}
+use Rattle.odfilter_c.specs.FilterCalls.{IsRefused}
+use Rattle.odfilter_c.specs.HeldType.{EntityType}
 use Rattle.odfilter_c.proofs.filter_calls.filter_of_text.Goals as goal
 
 pub returns-in-Err : goal.returns-in-Err
 returns-in-Err c =
-    let id = c.args.held.now.id in let text = c.args.text.now in let why = c.in-Err.refusal in
-    let Says : SchemaModel → Type 0 = λ schema. UnlessMemory why (IsRefusal (slots_of schema) (type_name_at schema id) text why)
-    × UnlessMemory why (HasNoTyping (slots_of schema) (type_name_at schema id) text) in
-    let same : c.deref.result.now ≡ c.args.held.now.schema.value = c.deref.ensures in
-    subst Says same (c.in-Err.ensures.refusal, c.in-Err.ensures.none)
+    let type_in : SchemaModel → EntityType = λ schema. record { schema = schema; id = c.held.inside.id } in
+    let same : type_in c.deref.result.now ≡ c.args.held.now = ap type_in c.deref.ensures ∙ c.held.view_is in
+    subst (λ (type : EntityType). IsRefused type c.args.text.now c.in-Err.refusal) same (c.in-Err.ensures.refusal, c.in-Err.ensures.none)

@@ -1,15 +1,15 @@
 -- `explain` meets its contract: the addresses are tested one by one, and what was lent is handed to the call over references.
-use Rattle.odfilter_c.proofs.Steps.{ℕ, List, [], ◌∷◌, refl, lit<, w32, Bor, MutBor, proved, leaves, SProp, ent, id⊢, sem, Lft, ftrue, feq, fsep, fex, flft, Val, vint, vptr, vnull, fact, tables, WpFn, Ura, Logic, Memory, Routine, Calls, Loops, Fun, FmC, Triple, Contract, Item, ‵, raw, ◌⊛◌, some, later, prop, at_ret, Sq, ◌$◌, ◌∵◌, !, qed, move, keep, drop, use1, use2, split, join, fsplit, fjoin, fpack, feq_i, pick, await, by, enter, of_opd, lit, bin, addr, stop, fld, no_more, and_then, first, blocks, branches, skips, exec, returns, returns_within, agg, sub, whole, alloc_all, pass_all, free_all, look_at, get, get_in, through, sets, lands_last, env, u32, yes, uint_Makes, uint_Lawful, Typed, Is, shows, Ptr, RawPtr, block_ptr, null_ptr, ptr_val, Testable, tests_null, rawptr_vals, rawptr_Tells, rawptr_Lawful, slice_val, owns, types_at, plain, nothing, owned, heard, peeks, calls_at_last, lasts, triple_of, Stays, walk_of, stay_dropped, Goes-dropped, framed}
-use Rattle.odfilter_c.proofs.Types.{Global, GlobalRow, global_val, global_lowers, global_laws, Room, RoomRow, room_val, room_lowers, room_laws, Handle, Answer}
-use Rattle.odfilter_c.specs.Loans.{Loan, left_room, left_answer, holds}
-use Rattle.odfilter_c.specs.Exports.{lent_to_explain, left_by_explain}
+use Rattle.odfilter_c.proofs.Steps.{◌≡◌, ℕ, ◌<◌, ◌^◌, List, [], ◌∷◌, ◌++◌, refl, lit<, w32, w64, Bor, MutBor, proved, leaves, SProp, ent, id⊢, sem, Fml, Lft, Share, ftrue, feq, fsep, fex, flft, Val, vint, vptr, vnull, fact, tables, WpFn, Ura, Logic, Memory, Routine, Calls, Loops, Fun, FmC, Triple, Contract, Item, ‵, raw, ◌⊛◌, some, later, prop, at_ret, Sq, ◌$◌, ◌∵◌, !, qed, move, keep, drop, use1, use2, split, join, fsplit, fjoin, fpack, feq_i, pick, await, by, enter, of_opd, lit, bin, addr, stop, fld, no_more, and_then, first, blocks, branches, skips, exec, returns, returns_within, agg, sub, whole, alloc_all, pass_all, free_all, look_at, get, get_in, through, sets, lands_last, sets_last, any_q, after_seq, Wp, post, assign, place, rv_opd, copy, env, u32, yes, uint_Makes, uint_Lawful, uint_vals, uint_Tells, Typed, Is, shows, Ptr, RawPtr, block_ptr, null_ptr, ptr_val, Testable, tests_null, rawptr_vals, rawptr_Tells, rawptr_Lawful, slice_val, owns, types_at, plain, nothing, owned, heard, peeks, calls_at_last, lasts, on_entry, triple_of, Stays, walk_of, stay_dropped, Goes-dropped, framed, usize}
+use Rattle.odfilter_c.proofs.Types.{Global, GlobalRow, global_val, global_lowers, global_laws, Bytes, BytesRow, bytes_val, bytes_lowers, bytes_laws, Room, RoomRow, room_val, room_lowers, room_laws, Handle, HandleRow, Owned, OwnedRow, Answer, AnswerRow}
+use Rattle.odfilter_c.specs.Loans.{Loan, lent_fault, lent_handle, lent_judge, lent_bytes, lent_room, lent_made, lent_answer, left_judge, left_room, left_made, left_answer, unless_null, holds, of_optional, of_bytes}
+use Rattle.odfilter_c.specs.FilterExports.{lent_to_explain, left_by_explain}
 use Rattle.odfilter_c.specs.Tells.{TellsNodes}
 use Rattle.odfilter_c.specs.contracts.calls.explain as g
 use Rattle.odfilter_c.proofs.calls.explain.Symbol.{name as #call}
-use Rattle.odfilter_c.proofs.calls.explain.Met.{met}
-use Rattle.odfilter_c.specs.contracts.exports.odfilter_explain as f
-use Rattle.odfilter_c.proofs.exports.odfilter_explain.Statement.{statement}
-use Rattle.odfilter_c.proofs.exports.odfilter_explain.Code as code
+use Rattle.odfilter_c.proofs.calls.explain.Met.{met as met}
+use Rattle.odfilter_c.specs.contracts.filter_exports.odfilter_explain as f
+use Rattle.odfilter_c.proofs.filter_exports.odfilter_explain.Statement.{statement}
+use Rattle.odfilter_c.proofs.filter_exports.odfilter_explain.Code as code
 
 abbrev stayed : Stays f.ended.signature.params f.ended.kept
 stayed = (stay_dropped _ yes, (stay_dropped _ yes, (stay_dropped _ yes, (stay_dropped _ yes, tt))))

@@ -1,0 +1,25 @@
+/// What is at fault, and so which faults a number counts: those of `SchemaFault`, `QueryFault` (and 5 for `Disguised`
+/// of `FindFault`), `TextFault`, `SyntaxFault`, `TypeFaultCode`, `RowFault`, `EvalFault`, each from 1 in the order of
+/// its enum; of `Json` and those after it the number is 0.
+#[derive(Clone, Copy, Debug, PartialEq, Eq)]
+pub enum FaultClass {
+    Schema,
+    Query,
+    Text,
+    Syntax,
+    Typing,
+    Row,
+    Evaluation,
+    /// A row that is not JSON in UTF-8.
+    Json,
+    /// A line that is too long.
+    Line,
+    /// A name that is no entity type's.
+    UnknownType,
+    /// A query without a filter.
+    NoFilter,
+    /// A filter that calls `now`, and no moment for it.
+    MomentNeeded,
+    /// A text that is no moment.
+    NotAMoment,
+}

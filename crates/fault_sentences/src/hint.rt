@@ -1,0 +1,181 @@
+ghost use Rattle.std.specs.Prelude.{◌≡◌, ◌-◌, ◌<◌, ◌==◌, drop, length, slice_index, take};
+ghost use Rattle.fault_sentences.specs.Hints.{begins_date_time, begins_number, character_hint, hint_of, is_symbol};
+ghost use Rattle.fault_sentences.specs.Hints.{is_typed_literal, syntax_hint, text_hint, typing_hint};
+
+use super::fault_class::FaultClass;
+use super::report::Report;
+
+/// What was meant, where a filter's text shows it.
+#[derive(Clone, Copy, Debug, PartialEq, Eq)]
+pub enum Hint {
+    /// A `+` for a space.
+    Plus,
+    /// `&&`, `||`, `==` and the like for words.
+    Symbol,
+    /// A `"` around a text.
+    DoubleQuote,
+    /// A `%`: the text has escapes.
+    EscapedTwice,
+    /// An apostrophe or an unescaped `&` in a text.
+    Apostrophe,
+    /// A number with a fraction or an exponent.
+    Fraction,
+    /// A date and time without `Z` or an offset.
+    Offset,
+    /// `datetime'..'`, `guid'..'` and the like.
+    TypedLiteral,
+    /// `substringof` of OData 2.
+    Substring,
+    /// A cast to another type.
+    Cast,
+}
+
+/// Whether this byte, which is not 0, stands at the place.
+fn is_byte_at(bytes: &[u8], place: usize, byte: u8) -> bool
+    requires { 0 < byte }
+    ensures { result ≡ (slice_index bytes.now place == byte) }
+{
+    match bytes.get(place) {
+        Some(found) => *found == byte,
+        None => false,
+    }
+}
+
+fn begins_date_time(at: &[u8]) -> bool
+    ensures { result ≡ begins_date_time at.now }
+{
+    is_byte_at(at, 4, b'-')
+        && is_byte_at(at, 7, b'-')
+        && (is_byte_at(at, 10, b'T') || is_byte_at(at, 10, b't'))
+}
+
+fn is_symbol(byte: u8) -> bool
+    ensures { result ≡ is_symbol byte }
+{
+    byte == b'!' || byte == b'&' || byte == b'<' || byte == b'=' || byte == b'>' || byte == b'|'
+}
+
+/// The first byte, or 0 if there is none.
+fn first_byte(bytes: &[u8]) -> u8
+    ensures { result ≡ slice_index bytes.now 0 }
+{
+    match bytes.first() {
+        Some(byte) => *byte,
+        None => 0,
+    }
+}
+
+/// The last byte, or 0 if there is none.
+fn last_byte(bytes: &[u8]) -> u8
+    ensures { result ≡ slice_index bytes.now (length bytes.now - 1) }
+{
+    match bytes.last() {
+        Some(byte) => *byte,
+        None => 0,
+    }
+}
+
+fn begins_number(at: &[u8]) -> bool
+    ensures { result ≡ begins_number at.now }
+{
+    first_byte(at).is_ascii_digit() && !is_byte_at(at, 2, b':')
+}
+
+fn is_typed_literal(before: &[u8], at: &[u8]) -> bool
+    ensures { result ≡ is_typed_literal before.now at.now }
+{
+    is_byte_at(at, 0, b'\'') && last_byte(before).is_ascii_alphabetic()
+}
+
+fn character_hint(byte: u8) -> Option<Hint>
+    ensures { result ≡ character_hint byte }
+{
+    if byte == b'+' {
+        Some(Hint::Plus)
+    } else if byte == b'"' {
+        Some(Hint::DoubleQuote)
+    } else if byte == b'%' {
+        Some(Hint::EscapedTwice)
+    } else if is_symbol(byte) {
+        Some(Hint::Symbol)
+    } else {
+        None
+    }
+}
+
+fn text_hint(number: u8, at: &[u8]) -> Option<Hint>
+    ensures { result ≡ text_hint number at.now }
+{
+    if number == 1 {
+        character_hint(first_byte(at))
+    } else if number == 2 {
+        Some(Hint::Apostrophe)
+    } else if number == 3 && begins_number(at) {
+        Some(Hint::Fraction)
+    } else if number == 4 && begins_date_time(at) {
+        Some(Hint::Offset)
+    } else {
+        None
+    }
+}
+
+fn syntax_hint(number: u8, before: &[u8], at: &[u8]) -> Option<Hint>
+    ensures { result ≡ syntax_hint number before.now at.now }
+{
+    if number == 1 && is_typed_literal(before, at) {
+        Some(Hint::TypedLiteral)
+    } else {
+        None
+    }
+}
+
+/// The first bytes of that number, or all if there are fewer.
+fn front(bytes: &[u8], size: usize) -> &[u8]
+    ensures { result.now ≡ take size bytes.now }
+{
+    if size < bytes.len() {
+        &bytes[..size]
+    } else {
+        bytes
+    }
+}
+
+/// What follows the first bytes of that number.
+fn rest(bytes: &[u8], size: usize) -> &[u8]
+    ensures { result.now ≡ drop size bytes.now }
+{
+    if size < bytes.len() {
+        &bytes[size..]
+    } else {
+        &[]
+    }
+}
+
+fn typing_hint(number: u8, at: &[u8], size: usize) -> Option<Hint>
+    ensures { result ≡ typing_hint number at.now size }
+{
+    if number == 1 && front(at, size).contains(&b'.') {
+        Some(Hint::Cast)
+    } else if number == 2 && front(at, 12).eq_ignore_ascii_case(b"substringof(") {
+        Some(Hint::Substring)
+    } else {
+        None
+    }
+}
+
+/// What was meant, where the text of a filter at fault shows it by one of the patterns.
+pub fn hint_about(report: &Report<'_>) -> Option<Hint>
+    ensures { result ≡ hint_of report.now.class report.now.number (take report.now.span.start report.now.text.now)
+        (drop report.now.span.start report.now.text.now) (report.now.span.stop - report.now.span.start) }
+{
+    let bytes = report.text.as_bytes();
+    let before = front(bytes, report.span.start);
+    let at = rest(bytes, report.span.start);
+    let size = report.span.stop.saturating_sub(report.span.start);
+    match report.class {
+        FaultClass::Text => text_hint(report.number, at),
+        FaultClass::Syntax => syntax_hint(report.number, before, at),
+        FaultClass::Typing => typing_hint(report.number, at, size),
+        _ => None,
+    }
+}
