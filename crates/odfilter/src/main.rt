@@ -12,6 +12,9 @@ use std::{env, io};
 /// More of a schema file than this is of no use: one byte past the largest document.
 const SCHEMA_BYTES: u64 = 1_048_577;
 
+/// How much stack is taken before anything is allocated.
+const STACK_BYTES: usize = 196_608;
+
 /// Tells a line on standard error. The status was decided before, so it stands where standard error fails.
 fn tell<D: Display + Drop>(rt: &HostRuntime, line: D, status: u8) -> u8 {
     let _ = eprintln!(rt; "{line}");
@@ -84,7 +87,17 @@ fn status(rt: &HostRuntime) -> io::Result<u8> {
     })
 }
 
+/// Takes the stack of a run over short texts while there is memory for it, and gives its last byte. A stack that cannot
+/// grow once allocations have taken what a process may have would end the run by a signal, where it has to end with a
+/// status.
+#[inline(never)]
+fn taken_stack() -> u8 {
+    let stack = [0u8; STACK_BYTES];
+    stack[STACK_BYTES - 1]
+}
+
 fn main(rt: HostRuntime) -> ExitCode {
+    let _ = taken_stack();
     ExitCode::from(match status(&rt) {
         Ok(status) => status,
         Err(error) if error.kind() == ErrorKind::OutOfMemory => tell_memory(&rt),
