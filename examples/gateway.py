@@ -1,37 +1,66 @@
 #!/usr/bin/env python3
-"""A gateway before a service of OData: `gateway.py SCHEMA TYPE BACKEND [PORT]`.
+"""A gateway before a service of OData: `gateway.py SCHEMA TYPE BACKEND [PORT [OPTION ..]]`.
 
-It takes GET for entities of one type. A bad `$filter` is answered by 400, with a caret under its place; a good one goes
-on to BACKEND (as http://localhost:8000) by its canonical text. odfilter.py is on PYTHONPATH, the library beside it.
+It takes GET for entities of one type. A query goes on to BACKEND (as http://localhost:8000) if its filter is accepted
+and its other options are the standard's or one of OPTION; its canonical text takes the place of the filter's value, and
+all else stays. Any other query is answered by 400 and the standard's error body, with a caret under the fault.
+The module odfilter is installed, or on PYTHONPATH.
 """
+import json
 import sys
 from http.server import BaseHTTPRequestHandler, ThreadingHTTPServer
 from urllib import error, parse, request
 
 import odfilter
 
+# the options of the standard, which may be written without their `$` and in any case
+SYSTEM_OPTIONS = frozenset(
+    "apply compute count deltatoken expand filter format id index orderby schemaversion search select skip skiptoken "
+    "top".split()
+)
 
-def is_filter(option):
-    return parse.unquote(option.partition("=")[0]).lower() in ("filter", "$filter")
+
+def body_of(code, message, **more):
+    """The standard's error body."""
+    return json.dumps({"error": {"code": code, "message": message, **more}}, ensure_ascii=False).encode()
+
+
+def body_of_refusal(refused):
+    """That of a refused filter or query, with where the fault is as its inner error."""
+    if isinstance(refused, odfilter.Refused):
+        inner = {"span": [refused.start, refused.stop], "pointer": refused.pointed()}
+    else:
+        inner = {"byte" if refused.name == "BadEscape" else "option": refused.number}
+    return body_of(refused.name, str(refused), target="$filter", innererror=inner)
 
 
 class Gateway(BaseHTTPRequestHandler):
     of_type = backend = None
+    options = frozenset()
 
     def do_GET(self):  # pylint: disable=invalid-name
-        path, _, query = self.path.partition("?")
-        if self.path[0] != "/" or "#" in self.path or not (self.path.isascii() and self.path.isprintable()):
-            return self.answer(400, b"this is no path\n")
+        path, mark, query = self.path.partition("?")
+        if self.path[0] != "/" or "#" in self.path or not all("!" <= it <= "~" for it in self.path):
+            return self.answer(400, body_of("BadPath", "The path of a request begins with '/' and is ASCII."))
         try:
-            with self.of_type.check_query(query) as checked:
-                good = f"$filter={parse.quote(checked.canonical)}"
-            return self.pass_on(f"{path}?{'&'.join(good if is_filter(it) else it for it in query.split('&'))}")
+            with self.of_type.check_url(query) as checked:
+                value = checked.value
+                query = query[: value.start] + parse.quote(checked.canonical) + query[value.stop :]
         except odfilter.NoFilter:
-            return self.pass_on(self.path)
-        except odfilter.Refused as refused:
-            return self.answer(400, f"{refused}\n{refused.pointed()}\n".encode())
-        except odfilter.QueryRefused as refused:
-            return self.answer(400, f"{refused}\n".encode())
+            pass
+        except (odfilter.Refused, odfilter.QueryRefused) as refused:
+            return self.answer(400, body_of_refusal(refused))
+        unknown = next((name for name in map(self.unknown_name, query.split("&")) if name is not None), None)
+        if unknown is not None:
+            message = f"The query option '{unknown}' is not known here."
+            return self.answer(400, body_of("UnknownOption", message, target=unknown))
+        return self.pass_on(path + mark + query)
+
+    def unknown_name(self, piece):
+        """The name of an option that is neither the standard's nor the owner's; an empty piece is no option."""
+        name = parse.unquote(piece.partition("=")[0])
+        is_system = name.isascii() and name.lower().removeprefix("$") in SYSTEM_OPTIONS
+        return None if not piece or is_system or name in self.options else name
 
     def pass_on(self, target):
         try:
@@ -39,11 +68,11 @@ class Gateway(BaseHTTPRequestHandler):
         except error.HTTPError as refused:
             got = refused
         except OSError:
-            return self.answer(502, b"the backend does not answer\n")
+            return self.answer(502, body_of("NoBackend", "The backend does not answer."))
         with got:
             return self.answer(got.status, got.read(), got.headers.get("Content-Type", "application/json"))
 
-    def answer(self, status, body, kind="text/plain; charset=utf-8"):
+    def answer(self, status, body, kind="application/json"):
         self.send_response(status)
         self.send_header("Content-Type", kind)
         self.send_header("Content-Length", str(len(body)))
@@ -55,6 +84,7 @@ if __name__ == "__main__":
     with open(sys.argv[1], "rb") as document:
         Gateway.of_type = odfilter.Schema(document.read()).type(sys.argv[2])
     Gateway.backend, port = sys.argv[3].rstrip("/"), int((sys.argv[4:] or [8080])[0])
+    Gateway.options = frozenset(sys.argv[5:])
     with ThreadingHTTPServer(("127.0.0.1", port), Gateway) as server:
         print(f"http://127.0.0.1:{server.server_port}", flush=True)
         server.serve_forever()

@@ -11,7 +11,7 @@ then `FILE: row 3 Missing Active` is told, with the line in that file. The statu
 A worker that dies loses nothing and doubles nothing: its blocks are judged again, and each is written once. One that
 joins takes part. With none left the run waits for the next.
 
-On each machine: `apt-get install python3-distributed`, a folder with odfilter.py and libodfilter.so, as /opt/odfilter,
+On each machine: `apt-get install python3-distributed`, a folder with bindings/python/odfilter and libodfilter.so, as /opt/odfilter,
 and the rows by the same path. Then, with one thread for each core of the workers:
 
     dask-scheduler --port 8786                                                   # on one of them
@@ -217,7 +217,8 @@ def main():
         line, status = stop, stop.status
     except Exception as fault:  # pylint: disable=broad-except
         status = next((status for status, kinds in STATUSES.items() if isinstance(fault, kinds)), 5)
-        line = fault if isinstance(fault, odfilter.Error) else f"{type(fault).__name__}: {fault}"
+        is_own = isinstance(fault, odfilter.Error)
+        line = fault.program_line or fault if is_own else f"{type(fault).__name__}: {fault}"
     print("memory" if status == 6 else line, file=sys.stderr)
     return status
 

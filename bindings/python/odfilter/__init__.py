@@ -8,18 +8,19 @@
             judge.verdict(b'{"ID":1,"Name":"a","Active":true}')  # True; False or None (null) of other rows
             judge.filter_lines(rows).text                        # of rows, one a line, those that are kept
         item.check("Active and Foo eq 1")                        # raises Refused
-        item.check_query("$filter=ID%20eq%201&x=1")              # a URL's query, behind the `?`
+        item.check_url("$top=5&$filter=ID%20eq%201")             # a URL's whole query, after the `?`
 
     try:
         ..
     except odfilter.Refused as refused:
-        print(refused)                        # refused UnknownProperty 11..14
+        print(refused)                        # a sentence: Type 'Mini.Item' has no property 'Foo'.
         print(refused.start, refused.stop)    # 11 14, in bytes
-        print(refused.pointed())              # the filter, and carets below its place
+        print(refused.pointed())              # the filter, with carets below that span
 
 A schema is read once, a filter checked once, and then row after row judged. What is refused or at fault is an
-exception, each an `Error`; its text is the line that the program `odfilter` prints for it. Where memory is refused it
-is Python's MemoryError. Texts are str; rows and documents are bytes, or str, which stands for its UTF-8.
+exception, each an `Error`; its text is a sentence, and `program_line` the line that the program `odfilter` prints for
+it. Running out of memory is Python's MemoryError. Texts are str; rows and documents are bytes, or str, which stands for
+its UTF-8.
 
 Each object holds something of the library and gives it back by `close()`, at the end of `with`, or when it is
 collected. They may be closed in any order: each keeps what it needs. Schemas, types and filters may be used from
@@ -28,23 +29,29 @@ threads run while a call does. The deepest filters want 6 MiB of a thread's stac
 sets less (threading.stack_size) has to refuse long filters first.
 
 The library is found by an argument, `Schema(document, odfilter.Library("/path/libodfilter.so"))`, else by the variable
-ODFILTER_LIBRARY, else beside this file, as libodfilter.so.
+ODFILTER_LIBRARY, else as libodfilter.so in the folder of this module, or in the one that holds that.
 """
 from __future__ import annotations
 
 import ctypes
 import functools
+import mmap
 import os
 import threading
 from typing import Any, Callable, NamedTuple, Optional, TypeVar, Union
 from urllib.parse import unquote_to_bytes
 
+from ._errors import Closed, Error, LibraryNotFound, MomentNeeded, NoFilter, NotAMoment, NotUtf8, QueryRefused
+from ._errors import Refused, RowFault, SchemaFault, UnknownType
+from ._files import FileOrPath, Tally, filter_file
+
 __all__ = [
     "Closed", "Error", "Filter", "Judge", "Kept", "Library", "LibraryNotFound", "MomentNeeded", "NoFilter",
-    "NotAMoment", "NotUtf8", "QueryRefused", "Refused", "RowFault", "Schema", "SchemaFault", "Type", "UnknownType",
+    "NotAMoment", "NotUtf8", "QueryRefused", "Refused", "RowFault", "Schema", "SchemaFault", "Tally", "Type",
+    "UnknownType",
 ]
 
-BytesOrText = Union[bytes, str]
+BytesOrText = Union[bytes, bytearray, memoryview, mmap.mmap, str]
 
 # the statuses of odfilter.h
 OK, NULL, OTHER_KIND, NOT_UTF8, TOO_SMALL, MEMORY, UNKNOWN_TYPE, NO_FILTER, MOMENT_NEEDED, NOT_A_MOMENT = range(10)
@@ -57,134 +64,6 @@ FALSE, TRUE, NO_TRUTH_VALUE = range(3)
 _NAMES_OF = (0, 0, 0, 0, 1, 2, 1, 1, 2, 2, 0)
 _KINDS = {TEXT_FAULT: "text", SYNTAX_FAULT: "syntax", TYPE_FAULT: "type"}
 _VERDICTS = {FALSE: False, TRUE: True, NO_TRUTH_VALUE: None}
-
-
-class Error(Exception):
-    """What this module raises. Its text is the line that the program prints."""
-
-
-class LibraryNotFound(Error, OSError):
-    """There is no library where it was looked for, or it is another one."""
-
-    def __str__(self) -> str:
-        return str(self.args[0])
-
-
-class Closed(Error, ValueError):
-    """What was asked has been closed."""
-
-    def __str__(self) -> str:
-        return f"the {self.args[0]} is closed"
-
-
-class NotUtf8(Error, ValueError):
-    """A text has a surrogate by itself, and so no UTF-8."""
-
-    def __str__(self) -> str:
-        return "not UTF-8"
-
-
-class SchemaFault(Error):
-    """A document is no schema: the fault's `name`, and the `names` that it carries, none to two."""
-
-    def __init__(self, name: str, names: tuple[str, ...]) -> None:
-        super().__init__(name, names)
-        self.name, self.names = name, names
-
-    def __str__(self) -> str:
-        return " ".join(["schema", self.name, *self.names])
-
-
-class UnknownType(Error):
-    """A schema has no entity type of that `name`."""
-
-    def __init__(self, name: str) -> None:
-        super().__init__(name)
-        self.name = name
-
-    def __str__(self) -> str:
-        return f"schema UnknownType {self.name}"
-
-
-class Refused(Error):
-    """A filter is refused.
-
-    `kind` is "text", "syntax" or "type", by what it has not; `name` is the fault's; `start` and `stop` are its place in
-    the UTF-8 of the filter's `text`: its first byte, from 0, and the one behind its last.
-    """
-
-    def __init__(self, kind: str, name: str, start: int, stop: int, text: str) -> None:
-        super().__init__(kind, name, start, stop, text)
-        self.kind, self.name, self.start, self.stop, self.text = kind, name, start, stop, text
-
-    def __str__(self) -> str:
-        return f"refused {self.name} {self.start}..{self.stop}"
-
-    def pointed(self) -> str:
-        """The text of the filter, and below it a caret under each character of the place, one at least.
-
-        What is not printable, as a line feed, stands there as U+FFFD.
-        """
-        text = self.text.encode()
-        before, within = len(text[: self.start].decode()), len(text[self.start : self.stop].decode())
-        shown = "".join(it if it.isprintable() else "\N{REPLACEMENT CHARACTER}" for it in self.text)
-        return f"{shown}\n{' ' * before}{'^' * max(within, 1)}"
-
-
-class QueryRefused(Error):
-    """A query is refused: the fault's `name`, and its `number`: of BadEscape the byte of the `%`, else the option.
-
-    Both are counted from 0, options that are empty too.
-    """
-
-    def __init__(self, name: str, number: int) -> None:
-        super().__init__(name, number)
-        self.name, self.number = name, number
-
-    def __str__(self) -> str:
-        return f"refused query {self.name} {self.number}"
-
-
-class NoFilter(Error):
-    """No option of a query is the filter."""
-
-    def __str__(self) -> str:
-        return "usage no filter option"
-
-
-class NotAMoment(Error, ValueError):
-    """A text spells no moment."""
-
-    def __str__(self) -> str:
-        return "usage now is not a moment"
-
-
-class MomentNeeded(Error):
-    """A filter calls now(), and its judge was made without a moment."""
-
-    def __str__(self) -> str:
-        return "usage now is needed"
-
-
-class RowFault(Error):
-    """A row has no verdict.
-
-    `name` is the fault's, `path` leads from the row to the value at fault, as "Parts/0/Qty", and is empty where there
-    is none. Of `filter_lines`, `line` is the line at fault, from 1, and `kept` what is kept of the lines before that;
-    of a row by itself `line` is 1 and `kept` is empty.
-    """
-
-    def __init__(self, name: str, path: str = "", line: int = 1, kept: bytes = b"") -> None:
-        super().__init__(name, path, line, kept)
-        self.name, self.path, self.line, self.kept = name, path, line, kept
-
-    @property
-    def told(self) -> str:
-        """The name, and the path where there is one."""
-        return f"{self.name} {self.path}" if self.path else self.name
-
-    def __str__(self) -> str:
-        return f"row {self.line} {self.told}"
 
 
 class Kept(NamedTuple):
@@ -201,6 +80,26 @@ class _Bytes(ctypes.Structure):
     _fields_ = [("at", ctypes.c_char_p), ("length", ctypes.c_size_t)]
 
 
+class _Buffer(ctypes.Structure):
+    """Where the bytes of a Python object are: the interpreter's own Py_buffer."""
+
+    _fields_ = [("at", ctypes.c_void_p), ("owner", ctypes.c_void_p), ("length", ctypes.c_ssize_t)]
+    _fields_ += [("item_size", ctypes.c_ssize_t), ("readonly", ctypes.c_int), ("ndim", ctypes.c_int)]
+    _fields_ += [(name, ctypes.c_void_p) for name in ("format", "shape", "strides", "suboffsets", "internal")]
+
+
+class _BufferBytes(_Bytes):
+    """The bytes of a bytearray, a memoryview or an mmap, which stay where they are as long as this is held."""
+
+    def __init__(self, given: Any) -> None:
+        self._buffer = _Buffer()
+        ctypes.pythonapi.PyObject_GetBuffer(ctypes.py_object(given), ctypes.byref(self._buffer), 0)
+        super().__init__(ctypes.c_char_p(self._buffer.at), self._buffer.length)
+
+    def __del__(self, release: Any = ctypes.pythonapi.PyBuffer_Release, byref: Any = ctypes.byref) -> None:
+        release(byref(self._buffer))
+
+
 class _Room(ctypes.Structure):
     """Room that a call writes a text into."""
 
@@ -213,8 +112,11 @@ class _Answer(ctypes.Structure):
     _fields_ = [("fault", ctypes.c_uint32), ("verdict", ctypes.c_uint32), ("start", ctypes.c_size_t)]
     _fields_ += [("stop", ctypes.c_size_t), ("number", ctypes.c_uint64), ("length", ctypes.c_size_t)]
     _fields_ += [("first", ctypes.c_size_t), ("rows", ctypes.c_uint64), ("kept", ctypes.c_uint64)]
+    _fields_ += [("piece_start", ctypes.c_size_t), ("piece_stop", ctypes.c_size_t)]
+    _fields_ += [("value_start", ctypes.c_size_t), ("value_stop", ctypes.c_size_t)]
 
 
+_AnError = TypeVar("_AnError", bound=Error)
 _HANDLE, _PLACE, _ANSWER = ctypes.c_void_p, ctypes.POINTER(ctypes.c_void_p), ctypes.POINTER(_Answer)
 _NUMBER = ctypes.c_uint32
 # the calls of odfilter.h, without odfilter_: what each is given
@@ -223,9 +125,13 @@ _CALLS: dict[str, list[Any]] = {
     "find_type": [_HANDLE, _Bytes, _PLACE],
     "check": [_HANDLE, _Bytes, _PLACE, _ANSWER],
     "check_query": [_HANDLE, _Bytes, _PLACE, _ANSWER],
+    "check_url": [_HANDLE, _Bytes, _Room, _PLACE, _ANSWER],
     "canonical": [_HANDLE, _Room, _ANSWER],
     "explain": [_HANDLE, _Room, _ANSWER],
     "needs_moment": [_HANDLE, _ANSWER],
+    "lambda_depth": [_HANDLE, _ANSWER],
+    "node_count": [_HANDLE, _ANSWER],
+    "property_paths": [_HANDLE, _Room, _ANSWER],
     "new_judge": [_PLACE],
     "set_moment": [_HANDLE, _Bytes],
     "judge": [_HANDLE, _HANDLE, _Bytes, _ANSWER],
@@ -235,6 +141,7 @@ _CALLS: dict[str, list[Any]] = {
     "version": [_Room, _ANSWER],
     "status_name": [_NUMBER, _Room, _ANSWER],
     "fault_name": [_NUMBER, _NUMBER, _Room, _ANSWER],
+    "fault_text": [_HANDLE, _NUMBER, _Bytes, _Room, _ANSWER, _ANSWER],
 }
 
 
@@ -242,8 +149,7 @@ class Library:
     """The C library: that of a path, else that of the variable ODFILTER_LIBRARY, else the one beside this module."""
 
     def __init__(self, path: Optional[Union[str, os.PathLike[str]]] = None) -> None:
-        beside = os.path.join(os.path.dirname(os.path.realpath(__file__)), "libodfilter.so")
-        self.path = os.fspath(path or os.environ.get("ODFILTER_LIBRARY") or beside)
+        self.path = os.fspath(path or os.environ.get("ODFILTER_LIBRARY") or _beside())
         try:
             loaded = ctypes.CDLL(self.path)
             self._calls = {name: getattr(loaded, f"odfilter_{name}") for name in _CALLS}
@@ -272,12 +178,19 @@ class Library:
             raise Error(f"odfilter_{name}: {self._text('status_name', status)}")
         return status
 
-    def _text(self, name: str, *given: Any) -> str:
-        """The text that a call writes."""
+    def _number(self, name: str, handle: ctypes.c_void_p) -> int:
+        """The number that a call answers of a handle."""
+        answer = _Answer()
+        self._call(name, handle, ctypes.byref(answer))
+        number: int = answer.number
+        return number
+
+    def _text(self, name: str, *given: Any, about: tuple[Any, ...] = ()) -> str:
+        """The text that a call writes; `about` is what it is given after the buffer."""
         size = 256
         while True:
             (room, lent), answer = _room_of(size), _Answer()
-            if self._call(name, *given, lent, ctypes.byref(answer)) != TOO_SMALL:
+            if self._call(name, *given, lent, *about, ctypes.byref(answer)) != TOO_SMALL:
                 return room[: answer.length].decode()
             size = answer.length
 
@@ -286,11 +199,24 @@ class Library:
             return "Json" if status == JSON_FAULT else "LineTooLong"
         return self._text("fault_name", status, fault)
 
+    def _worded(self, error: _AnError, status: int, answer: _Answer, about: BytesOrText, of: Any = None) -> _AnError:
+        """An error with its sentence: `about` is the text at fault, `of` the handle of the type, where there is one."""
+        lent = _lent(about, "a text")
+        error.sentence = self._text("fault_text", of, status, lent, about=(ctypes.byref(answer),))
+        return error
+
 
 def _room_of(size: int) -> tuple[bytearray, _Room]:
     """Bytes of our own, and them as room, which is lent no longer than they are held."""
     room = bytearray(max(size, 1))
     return room, _Room(ctypes.addressof(ctypes.c_char.from_buffer(room)), size)
+
+
+def _beside() -> str:
+    """Where the library is beside this module: in its folder, or in the one that holds that."""
+    folder = os.path.dirname(os.path.realpath(__file__))
+    paths = [os.path.join(it, "libodfilter.so") for it in (folder, os.path.dirname(folder))]
+    return next((path for path in paths if os.path.exists(path)), paths[0])
 
 
 @functools.lru_cache(maxsize=None)
@@ -352,7 +278,8 @@ class Schema(_Held):
             if self._owned.status == OK:
                 break
             if answer.length <= size:
-                raise SchemaFault(library._fault(SCHEMA_FAULT, answer.fault), _names_in(room, answer))
+                fault = SchemaFault(library._fault(SCHEMA_FAULT, answer.fault), _names_in(room, answer))
+                raise library._worded(fault, SCHEMA_FAULT, answer, "".join(fault.names))
             size = answer.length
 
     def type(self, name: str) -> Type:
@@ -367,34 +294,63 @@ class Type(_Held):
         owner = schema._open()
         self._owned = _Owned(owner.library, "find_type", (owner.handle, _lent_text(name, "a type's name")))
         if self._owned.status == UNKNOWN_TYPE:
-            raise UnknownType(name)
+            raise owner.library._worded(UnknownType(name), UNKNOWN_TYPE, _Answer(), name)
 
     def check(self, text: str) -> Filter:
         """The filter of that text. Raises Refused."""
-        return Filter(self, "check", _lent_text(text, "a filter"), lambda: text)
+        return Filter(self, "check", text, (_lent_text(text, "a filter"),), lambda _: text)
 
     def check_query(self, query: BytesOrText) -> Filter:
-        """The filter of a query string, as it stands in a URL behind the `?`.
+        """The filter of a query string, as it stands in a URL behind the `?`, with no other option of the standard's.
 
         Raises Refused, QueryRefused, NoFilter.
         """
-        return Filter(self, "check_query", _lent(query, "a query"), lambda: _filter_text(query))
+        return Filter(self, "check_query", query, (_lent(query, "a query"),), lambda _: _filter_text(query))
+
+    def check_url(self, query: BytesOrText) -> Filter:
+        """The filter of a whole query string, as it stands in a URL after the `?`, among any other options.
+
+        Raises Refused, QueryRefused, NoFilter.
+        """
+        lent = _lent(query, "a query")
+        room, text = _room_of(lent.length)
+        return Filter(self, "check_url", query, (lent, text), lambda answer: room[: answer.length].decode())
+
+
+def _place_in_query(found: Union[Filter, Refused], call: str, answer: _Answer) -> None:
+    """Says where what `check_url` found stands in the query."""
+    if call == "check_url":
+        found.piece = range(answer.piece_start, answer.piece_stop)
+        found.value = range(answer.value_start, answer.value_stop)
 
 
 class Filter(_Held):
-    """A checked filter, which keeps its type: `Type.check` and `Type.check_query` make it."""
+    """A checked filter, which keeps its type: `Type.check`, `Type.check_query` and `Type.check_url` make it.
 
-    def __init__(self, of_type: Type, call: str, lent: _Bytes, text: Callable[[], str]) -> None:
+    `text` is its text, decoded where it stood in a query. Of `check_url`, `piece` is the range of bytes of the query
+    that the filter's option takes, name and value, and `value` that of its value, into which another may be put.
+    """
+
+    piece: Optional[range] = None
+    value: Optional[range] = None
+
+    def __init__(
+        self, of_type: Type, call: str, given: BytesOrText, lent: tuple[Any, ...], text: Callable[[_Answer], str]
+    ) -> None:
         owner, answer = of_type._open(), _Answer()
-        self._owned = _Owned(owner.library, call, (owner.handle, lent), ctypes.byref(answer))
-        status = self._owned.status
+        self._owned = _Owned(owner.library, call, (owner.handle, *lent), ctypes.byref(answer))
+        library, status = owner.library, self._owned.status
         if status == NO_FILTER:
-            raise NoFilter()
+            raise library._worded(NoFilter(), status, answer, given)
+        name = library._fault(status, answer.fault) if status != OK else ""
         if status == QUERY_FAULT:
-            raise QueryRefused(owner.library._fault(status, answer.fault), answer.number)
+            raise library._worded(QueryRefused(name, answer.number), status, answer, given)
+        self.text = text(answer)
         if status != OK:
-            name = owner.library._fault(status, answer.fault)
-            raise Refused(_KINDS[status], name, answer.start, answer.stop, text())
+            refused = Refused(_KINDS[status], name, answer.start, answer.stop, self.text)
+            _place_in_query(refused, call, answer)
+            raise library._worded(refused, status, answer, self.text, owner.handle)
+        _place_in_query(self, call, answer)
 
     @property
     def canonical(self) -> str:
@@ -411,9 +367,26 @@ class Filter(_Held):
     @property
     def needs_moment(self) -> bool:
         """Whether the filter calls now(), so that a judge needs a moment."""
-        owned, answer = self._open(), _Answer()
-        owned.library._call("needs_moment", owned.handle, ctypes.byref(answer))
-        return bool(answer.number)
+        owned = self._open()
+        return bool(owned.library._number("needs_moment", owned.handle))
+
+    @property
+    def lambda_depth(self) -> int:
+        """How many any() and all() stand in one another, at most; 0 where there is none."""
+        owned = self._open()
+        return owned.library._number("lambda_depth", owned.handle)
+
+    @property
+    def node_count(self) -> int:
+        """How many nodes the filter has: operators, calls, literals and names."""
+        owned = self._open()
+        return owned.library._number("node_count", owned.handle)
+
+    @property
+    def property_paths(self) -> list[str]:
+        """The property paths that the filter reads, each once and in order: "Name", "Home/City", "Parts/Qty"."""
+        owned = self._open()
+        return owned.library._text("property_paths", owned.handle).splitlines()
 
     def judge(self, now: Optional[str] = None) -> Judge:
         """A judge by this filter; `now` is the moment that now() stands for. Raises NotAMoment."""
@@ -428,7 +401,7 @@ class Judge(_Held):
         library = self._filter.library
         owned = _Owned(library, "new_judge", ())
         if now is not None and library._call("set_moment", owned.handle, _lent_text(now, "a moment")) != OK:
-            raise NotAMoment()
+            raise library._worded(NotAMoment(), NOT_A_MOMENT, _Answer(), now)
         self._owned = owned
 
     def verdict(self, row: BytesOrText) -> Optional[bool]:
@@ -440,8 +413,24 @@ class Judge(_Held):
         with self._one_call:
             status = owned.library._call("judge", self._filter.handle, owned.handle, lent, ctypes.byref(answer))
             if status != OK:
-                raise self._fault(owned, status, answer.fault)
+                raise self._fault(owned, status, answer)
         return _VERDICTS[answer.verdict]
+
+    def filter_file(
+        self,
+        rows: FileOrPath,
+        out: FileOrPath,
+        on_fault: Optional[Callable[[RowFault, bytes], Any]] = None,
+        progress: Optional[Callable[[Tally], Any]] = None,
+    ) -> Tally:
+        """Writes the lines of a file on which the filter is true to another; each is a path or a binary file.
+
+        The first line at fault raises RowFault, after what is kept before it has been written. With `on_fault` the run
+        goes on after that line: it calls `on_fault(fault, line)`, where `fault.line` counts the lines of the file from
+        1, and a line of more than 1,048,576 bytes is cut to one more than these. `progress(tally)` is called after each
+        piece of about 1 MiB. What either raises ends the run.
+        """
+        return filter_file(self, rows, out, on_fault, progress)
 
     def filter_lines(self, rows: BytesOrText) -> Kept:
         """Of rows, one JSON object a line, those on which the filter is true, unchanged and each with a line feed.
@@ -456,19 +445,21 @@ class Judge(_Held):
             status = owned.library._call("filter_lines", *handles, lent, kept, ctypes.byref(answer))
             text = bytes(memoryview(room)[: answer.length])
             if status != OK:
-                raise self._fault(owned, status, answer.fault, answer.number, text)
+                raise self._fault(owned, status, answer, answer.number, text)
         return Kept(text, answer.rows, answer.kept)
 
-    def _fault(self, owned: _Owned, status: int, fault: int, line: int = 1, kept: bytes = b"") -> Error:
+    def _fault(self, owned: _Owned, status: int, answer: _Answer, line: int = 1, kept: bytes = b"") -> Error:
+        library = owned.library
         if status == MOMENT_NEEDED:
-            return MomentNeeded()
-        path = owned.library._text("path", owned.handle) if status == ROW_FAULT else ""
-        return RowFault(owned.library._fault(status, fault), path, line, kept)
+            return library._worded(MomentNeeded(), status, answer, "")
+        path = library._text("path", owned.handle) if status == ROW_FAULT else ""
+        fault = RowFault(library._fault(status, answer.fault), path, line, kept)
+        return library._worded(fault, status, answer, path)
 
 
 def _filter_text(query: BytesOrText) -> str:
     """The decoded text of the option `filter` or `$filter` of a query; the empty one where there is none."""
-    for option in (query.encode() if isinstance(query, str) else query).split(b"&"):
+    for option in (query.encode() if isinstance(query, str) else bytes(query)).split(b"&"):
         name, _, text = option.partition(b"=")
         if unquote_to_bytes(name).lower() in (b"filter", b"$filter"):
             return unquote_to_bytes(text).decode()
@@ -485,9 +476,13 @@ def _lent(given: BytesOrText, what: str) -> _Bytes:
     """Bytes as they are lent to a call; a str stands for its UTF-8."""
     if isinstance(given, str):
         given = given.encode("utf-8", "surrogatepass")
-    if not isinstance(given, bytes):
-        raise TypeError(f"{what} is bytes or a str, not {type(given).__name__}")
-    return _Bytes(given, len(given))
+    if isinstance(given, bytes):
+        return _Bytes(given, len(given))
+    if isinstance(given, (bytearray, memoryview, mmap.mmap)) and len(given) > 0:
+        return _BufferBytes(given)
+    if isinstance(given, (bytearray, memoryview)):
+        return _Bytes(b"", 0)
+    raise TypeError(f"{what} is bytes or a str, not {type(given).__name__}")
 
 
 def _lent_text(given: str, what: str) -> _Bytes:
