@@ -1,0 +1,212 @@
+#!/usr/bin/env python3
+"""A page on which filters are tried: `try_page.py [PORT]`, then open the address that it prints.
+
+It serves one page on loopback, try_page.html, which takes nothing from elsewhere: a schema, a type, a filter and rows,
+and as one types the answer. The module odfilter is installed, or on PYTHONPATH. State is in the page's URL, after the
+`#`, which no browser sends: a link shows a colleague the same, on a page of their own.
+"""
+import functools
+import json
+import secrets
+import sys
+import threading
+from http.server import BaseHTTPRequestHandler, ThreadingHTTPServer
+from os.path import dirname, join, realpath
+
+import odfilter
+
+BODY_LIMIT = 1 << 24  # bytes of one question
+LINE_LIMIT = 1 << 20  # bytes of a row, as `odfilter filter` has it
+STACK = 1 << 24  # bytes for a thread: the deepest filters want 6 MiB
+HOSTS = ("127.0.0.1", "localhost")
+POLICY = "default-src 'none'; script-src 'nonce-{0}'; style-src 'nonce-{0}'; connect-src 'self'; img-src data:; "
+POLICY += "base-uri 'none'; form-action 'none'; frame-ancestors 'none'; require-trusted-types-for 'script'"
+
+SHOP = """{
+  "$Version": "4.01",
+  "Shop": {
+    "$Alias": "S",
+    "Color": {"$Kind": "EnumType", "$IsFlags": true, "Red": 1, "Green": 2, "Blue": 4},
+    "Part": {"$Kind": "ComplexType", "Name": {}, "Qty": {"$Type": "Edm.Int32"}},
+    "Maker": {"$Kind": "EntityType", "$Key": ["Name"], "Name": {}, "Country": {"$Nullable": true}},
+    "Product": {
+      "$Kind": "EntityType",
+      "$Key": ["ID"],
+      "ID": {"$Type": "Edm.Int32"},
+      "Name": {},
+      "Rating": {"$Type": "Edm.Int16", "$Nullable": true},
+      "Released": {"$Type": "Edm.Date", "$Nullable": true},
+      "Color": {"$Type": "S.Color"},
+      "Tags": {"$Collection": true},
+      "Price": {"$Type": "Edm.Decimal"},
+      "Parts": {"$Type": "Shop.Part", "$Collection": true},
+      "Maker": {"$Kind": "NavigationProperty", "$Type": "Shop.Maker", "$Nullable": true}
+    }
+  }
+}
+"""
+ROWS = [
+    {"ID": 1, "Name": "Lamp", "Rating": 5, "Released": "2024-02-29", "Color": "Red, Blue", "Tags": ["home", "light"],
+     "Price": 19.5, "Parts": [{"Name": "bulb", "Qty": 1}, {"Name": "screw", "Qty": 4}]},
+    {"ID": 2, "Name": "Chair", "Rating": 3, "Released": "2021-06-01", "Color": "Green", "Tags": ["home"],
+     "Price": 49, "Parts": [{"Name": "leg", "Qty": 4}]},
+    {"ID": 3, "Name": "O'Neil's clock", "Rating": None, "Color": "Blue", "Tags": [], "Price": 80, "Parts": []},
+    {"ID": 4, "Name": "Caf\u00e9 table", "Rating": 4, "Released": "2025-11-02", "Color": "Red",
+     "Tags": ["home", "sale"], "Price": 120, "Parts": [{"Name": "leg", "Qty": 3}, {"Name": "top", "Qty": 1}]},
+]
+MAKERS = [{"Name": "Lux", "Country": "NO"}, {"Name": "Oak", "Country": None}]
+MADE = [{**row, "Maker": maker} for row, maker in zip(ROWS, MAKERS)]
+
+
+def lines_of(rows):
+    return "".join(json.dumps(row, ensure_ascii=False) + "\n" for row in rows)
+
+
+# what the page offers: a name, a filter, and the rows where they are others
+EXAMPLES = [
+    ("Ratings and names", "Rating ge 4 and contains(Name,'a')", ROWS),
+    ("Null is no number", "not (Rating gt 3) or Rating eq null", ROWS),
+    ("Any part, all tags", "Parts/any(p:p/Qty gt 3) and Tags/all(t:t ne 'sale')", ROWS),
+    ("Colours that are flags", "Color has Shop.Color'Red' and Color ne 'Red'", ROWS),
+    ("Dates and now()", "Released lt date(now()) and year(Released) add 2 ge 2024", ROWS),
+    ("Over to the maker", "Maker/Country eq 'NO' or startswith(Maker/Name,'O')", MADE),
+    ("Faulty rows", "Rating mul 8191 gt 0", [*ROWS, {"ID": "5"}, {**ROWS[0], "Parts": [{"Name": "nut"}]}]),
+    ("Refused: an unknown property", "Rating ge 4 and Weight lt 10", ROWS),
+    ("Refused: types that do not fit", "Name eq 'Lamp' and Rating eq 'high'", ROWS),
+    ("Refused: a type that is left out", "Price lt 100", ROWS),
+]
+
+
+@functools.lru_cache(maxsize=4)
+def schema_of(text):
+    """A schema, and the names of its entity types."""
+    schema, names = odfilter.Schema(text), []
+    for namespace, types in json.loads(text).items():
+        if not namespace.startswith("$") and "@" not in namespace:
+            made = [(name, it) for name, it in types.items() if isinstance(it, dict) and not name.startswith("$")]
+            names += [f"{namespace}.{name}" for name, it in made if it.get("$Kind") == "EntityType"]
+    return schema, names
+
+
+def shown_fault(fault):
+    """A fault as the page shows it: its sentence, and the program's line for it where that says something else."""
+    sentence, line = str(fault), getattr(fault, "program_line", "")
+    return {"sentence": sentence, "line": "" if line == sentence else line}
+
+
+def offsets(text):
+    """The offset in UTF-16, as a script counts, of each byte at which a character begins, and of the end."""
+    found, bytes_before, units_before = {}, 0, 0
+    for character in text:
+        found[bytes_before] = units_before
+        bytes_before += len(character.encode("utf-8", "surrogatepass"))
+        units_before += 1 + (ord(character) > 0xFFFF)
+    return {**found, bytes_before: units_before}
+
+
+def tree_of(explanation, places):
+    """The nodes of an explanation: of each its depth, start, stop, label, type, and its span in bytes."""
+    for line in explanation.splitlines():
+        inner = line.lstrip(" ")
+        span, _, rest = inner.partition(" ")
+        start, stop = map(int, span.split(".."))
+        label, _, kind = rest.rpartition(" ")
+        yield [(len(line) - len(inner)) // 2, places[start], places[stop], label, kind, span]
+
+
+def verdict_of(judge, line):
+    if len(line) > LINE_LIMIT:
+        return {"fault": "LineTooLong", "path": "", "sentence": "LineTooLong"}
+    try:
+        return {True: "true", False: "false", None: "null"}[judge.verdict(line)]
+    except odfilter.RowFault as fault:
+        return {"fault": fault.name, "path": fault.path, "sentence": str(fault)}
+
+
+def judged(accepted, asked):
+    """Of each line with a row its number, from 0, and its verdict; nothing where the moment is at fault."""
+    try:
+        judge = accepted.judge(asked["now"] if accepted.needs_moment else None)
+        lines = enumerate(asked["rows"].encode("utf-8", "surrogatepass").split(b"\n"))
+        return {"rows": [[number, verdict_of(judge, line)] for number, line in lines if line.strip(b" \t\r")]}
+    except (odfilter.NotAMoment, odfilter.NotUtf8) as fault:
+        return {"moment": shown_fault(fault)}
+
+
+def answer(asked):
+    """What the page shows of a question."""
+    try:
+        schema, names = schema_of(asked["schema"])
+    except (odfilter.SchemaFault, odfilter.NotUtf8) as fault:
+        is_xml = asked["schema"].lstrip("\ufeff \t\r\n").startswith("<")
+        hint = "This is XML: recipes/csdl_json.py makes a schema of it." if is_xml else ""
+        return {"schema": {**shown_fault(fault), "hint": hint}}
+    shown = {"types": names}
+    try:
+        of_type = schema.type(asked["type"] or (names or [""])[0])
+    except odfilter.Error as fault:
+        return {**shown, "type": shown_fault(fault)}
+    try:
+        accepted, places = of_type.check(asked["filter"]), offsets(asked["filter"])
+    except odfilter.Refused as fault:
+        places = offsets(asked["filter"])
+        span = {"name": fault.name, "start": places[fault.start], "stop": places[fault.stop]}
+        return {**shown, "refused": {**shown_fault(fault), **span}}
+    except odfilter.Error as fault:
+        return {**shown, "refused": {**shown_fault(fault), "name": type(fault).__name__, "start": 0, "stop": 0}}
+    tree = list(tree_of(accepted.explanation, places))
+    return {**shown, "canonical": accepted.canonical, "tree": tree, **judged(accepted, asked)}
+
+
+class Page(BaseHTTPRequestHandler):
+    protocol_version = "HTTP/1.1"
+
+    def is_ours(self):
+        """Whether the page itself asks: another site's would name another host, or may not send JSON unasked."""
+        return self.headers.get("Host", "").rpartition(":")[0] in HOSTS
+
+    def do_GET(self):  # pylint: disable=invalid-name
+        if not self.is_ours() or self.path.partition("?")[0] != "/":
+            return self.send(404, "text/plain", b"not here\n")
+        nonce = secrets.token_urlsafe(16)
+        with open(join(dirname(realpath(__file__)), "try_page.html"), encoding="utf-8") as file:
+            page = file.read().replace("NONCE", nonce)
+        examples = [{"name": name, "filter": text, "rows": lines_of(rows)} for name, text, rows in EXAMPLES]
+        start = {"schema": SHOP, "type": "Shop.Product", "examples": examples}
+        page = page.replace("EXAMPLES", json.dumps(start).replace("<", "\\u003c"))
+        return self.send(200, "text/html; charset=utf-8", page.encode(), POLICY.format(nonce))
+
+    def do_POST(self):  # pylint: disable=invalid-name
+        size = self.headers.get("Content-Length", "")
+        is_json = self.headers.get("Content-Type", "") == "application/json"
+        if not (self.is_ours() and is_json and self.path == "/try" and size.isdecimal() and int(size) <= BODY_LIMIT):
+            self.close_connection = True
+            return self.send(400, "text/plain", b"no question\n")
+        try:
+            asked = json.loads(self.rfile.read(int(size)))
+            body = json.dumps(answer({name: str(asked[name]) for name in ("schema", "type", "filter", "rows", "now")}))
+        except (ValueError, TypeError, KeyError, RecursionError):
+            return self.send(400, "text/plain", b"no question\n")
+        return self.send(200, "application/json", body.encode())
+
+    def send(self, status, kind, body, policy="default-src 'none'"):
+        self.send_response(status)
+        for name, value in [("Content-Type", kind), ("Content-Length", str(len(body))), ("Cache-Control", "no-store"),
+                            ("Content-Security-Policy", policy), ("X-Content-Type-Options", "nosniff"),
+                            ("Referrer-Policy", "no-referrer")]:
+            self.send_header(name, value)
+        self.end_headers()
+        self.wfile.write(body)
+
+    def log_message(self, *_):  # pylint: disable=arguments-differ
+        pass
+
+
+if __name__ == "__main__":
+    threading.stack_size(STACK)
+    with ThreadingHTTPServer(("127.0.0.1", int((sys.argv[1:] or [8765])[0])), Page) as server:
+        print(f"http://127.0.0.1:{server.server_port}", flush=True)
+        try:
+            server.serve_forever()
+        except KeyboardInterrupt:
+            pass
