@@ -1,11 +1,12 @@
-"""The suite of cases (crates/conformance/data) as questions to a client of the C library, and what it answers beside
-what is wanted.
+"""The suite of cases (crates/conformance/data) and the whole queries of url_cases as questions to a client of the C
+library, and what it answers beside what is wanted.
 
 A client is a program that is given a file of questions and writes an answer to each, one behind another. Both are
 netstrings, `5:hello,`. A question is a word and what stands behind it in QUESTIONS. A client holds one schema, one type
 and one filter at a time, the last that were asked for; where one of them was refused, what needs it is answered by
 `nothing`.
 """
+import url_cases
 from suite_cases import DATA, UNASKED, LeftOut, answers, bytes_of, cases, differs, document_of, stored
 
 __all__ = ["DATA", "QUESTIONS", "Suite"]
@@ -15,6 +16,7 @@ QUESTIONS = {
     "type": "a name: `found` or `unknown`",
     "filter": "a text: `accepted`, or `refused OperandTypes 0..9`",
     "query": "a query string: the same, or `refused query Repeated 1`, or `no filter`",
+    "url": "a whole query: as of a query; where the filter was found, two further lines (url_cases.answer_wanted)",
     "canonical": "nothing: the filter's canonical text",
     "explain": "nothing: its explanation",
     "row": "a row's bytes and a moment or nothing: `true`, `false`, `null`, or the fault's name and its path",
@@ -86,6 +88,13 @@ class Questions:
     def hold_query(self, query):
         self.held.pop("filter", None)
         return self.ask("query", query)
+
+    def of_url(self, case):
+        """What is found in a whole query."""
+        self.hold_type(url_cases.document_of(case), case["type"])
+        self.held.pop("filter", None)
+        asked = self.ask("url", case["query"])
+        return Later(lambda told: told[asked])
 
     def now(self):
         return self.case.get("now", "").encode()
@@ -180,6 +189,9 @@ class Suite:
         self.left_out = []
         for place, case in cases():
             self.take_down(place, case)
+        for case in url_cases.cases():
+            wanted, got = url_cases.answer_wanted(case), self.questions.of_url(case)
+            self.wanted.append((f"url_cases {case['name']}", case["query"], wanted, got))
 
     def take_down(self, place, case):
         """A case's questions; one of which some cannot be asked is left out with these alone."""

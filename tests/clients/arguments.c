@@ -9,7 +9,7 @@ static const odfilter_room no_room = {NULL, 0}, no_room_of_length = {NULL, 64};
 /* a handle of each kind, in this order */
 enum kind { SCHEMA, TYPE, FILTER_KIND, JUDGE, KINDS };
 static odfilter_handle *handles[KINDS];
-static char names[64];
+static char names[512];
 static const odfilter_room room = {names, sizeof names};
 static odfilter_answer answer;
 
@@ -40,8 +40,6 @@ static void nulls_that_make_handles(void)
 {
     odfilter_bytes document = bytes_of(DOCUMENT), name = bytes_of("Mini.Item"), text = bytes_of(FILTER);
     odfilter_handle **at = place();
-    is_null("read_schema: no document", odfilter_read_schema(no_bytes, room, at, told()), 1, at);
-    at = place();
     is_null("read_schema: no document of a length", odfilter_read_schema(no_bytes_of_length, room, at, told()), 1, at);
     at = place();
     is_null("read_schema: no room", odfilter_read_schema(document, no_room, at, told()), 1, at);
@@ -51,7 +49,7 @@ static void nulls_that_make_handles(void)
     at = place();
     is_null("find_type: no schema", odfilter_find_type(NULL, name, at), 0, at);
     at = place();
-    is_null("find_type: no name", odfilter_find_type(handles[SCHEMA], no_bytes, at), 0, at);
+    is_null("find_type: no name", odfilter_find_type(handles[SCHEMA], no_bytes_of_length, at), 0, at);
     is_null("find_type: no place", odfilter_find_type(handles[SCHEMA], name, NULL), 0, NULL);
     is_null("new_judge: no place", odfilter_new_judge(NULL), 0, NULL);
     drop(document);
@@ -70,8 +68,6 @@ static void nulls_of_checks(void)
         at = place();
         is_null("check: no type", calls[number](NULL, text, at, told()), 1, at);
         at = place();
-        is_null("check: no text", calls[number](handles[TYPE], no_bytes, at, told()), 1, at);
-        at = place();
         is_null("check: no text of a length", calls[number](handles[TYPE], no_bytes_of_length, at, told()), 1, at);
         is_null("check: no place", calls[number](handles[TYPE], text, NULL, told()), 1, NULL);
         at = place();
@@ -83,9 +79,10 @@ static void nulls_of_checks(void)
 static void nulls_of_texts(void)
 {
     uint32_t (*const calls[])(const odfilter_handle *, odfilter_room,
-                              odfilter_answer *) = {odfilter_canonical, odfilter_explain, odfilter_path};
+                              odfilter_answer *) = {odfilter_canonical, odfilter_explain, odfilter_path,
+                                                    odfilter_property_paths};
     size_t number;
-    for (number = 0; number < 3; number++) {
+    for (number = 0; number < 4; number++) {
         odfilter_handle *handle = handles[number == 2 ? JUDGE : FILTER_KIND];
         is_null("text: no handle", calls[number](NULL, room, told()), 1, NULL);
         is_null("text: no room", calls[number](handle, no_room, told()), 1, NULL);
@@ -98,8 +95,36 @@ static void nulls_of_texts(void)
     is_null("status_name: no answer", odfilter_status_name(1, room, NULL), 0, NULL);
     is_null("fault_name: no room", odfilter_fault_name(ODFILTER_EVAL_FAULT, 1, no_room, told()), 1, NULL);
     is_null("fault_name: no answer", odfilter_fault_name(ODFILTER_EVAL_FAULT, 1, room, NULL), 0, NULL);
+    is_null("node_count: no filter", odfilter_node_count(NULL, told()), 1, NULL);
+    is_null("node_count: no answer", odfilter_node_count(handles[FILTER_KIND], NULL), 0, NULL);
+    is_null("lambda_depth: no filter", odfilter_lambda_depth(NULL, told()), 1, NULL);
+    is_null("lambda_depth: no answer", odfilter_lambda_depth(handles[FILTER_KIND], NULL), 0, NULL);
     is_null("needs_moment: no filter", odfilter_needs_moment(NULL, told()), 1, NULL);
     is_null("needs_moment: no answer", odfilter_needs_moment(handles[FILTER_KIND], NULL), 0, NULL);
+}
+
+static void nulls_of_urls(void)
+{
+    odfilter_bytes query = bytes_of("$filter=true");
+    odfilter_answer fault = {0};
+    odfilter_handle **at = place();
+    is_null("check_url: no type", odfilter_check_url(NULL, query, room, at, told()), 1, at);
+    at = place();
+    is_null("check_url: no query of a length", odfilter_check_url(handles[TYPE], no_bytes_of_length, room, at, told()),
+            1, at);
+    at = place();
+    is_null("check_url: no room", odfilter_check_url(handles[TYPE], query, no_room, at, told()), 1, at);
+    is_null("check_url: no place", odfilter_check_url(handles[TYPE], query, room, NULL, told()), 1, NULL);
+    at = place();
+    is_null("check_url: no answer", odfilter_check_url(handles[TYPE], query, room, at, NULL), 0, at);
+    is_null("fault_text: no fault", odfilter_fault_text(handles[TYPE], 19, query, room, NULL, told()), 1, NULL);
+    is_null("fault_text: no text of a length",
+            odfilter_fault_text(handles[TYPE], 19, no_bytes_of_length, room, &fault, told()), 1, NULL);
+    is_null("fault_text: no text of a length, no type",
+            odfilter_fault_text(NULL, 19, no_bytes_of_length, room, &fault, told()), 1, NULL);
+    is_null("fault_text: no room", odfilter_fault_text(NULL, 19, query, no_room, &fault, told()), 1, NULL);
+    is_null("fault_text: no answer", odfilter_fault_text(NULL, 19, query, room, &fault, NULL), 0, NULL);
+    drop(query);
 }
 
 static void nulls_of_rows(void)
@@ -109,16 +134,16 @@ static void nulls_of_rows(void)
     odfilter_room kept = {block(row.length + 1), row.length + 1};
     is_null("judge: no filter", odfilter_judge(NULL, judge, row, told()), 1, NULL);
     is_null("judge: no judge", odfilter_judge(filter, NULL, row, told()), 1, NULL);
-    is_null("judge: no row", odfilter_judge(filter, judge, no_bytes, told()), 1, NULL);
+    is_null("judge: no row", odfilter_judge(filter, judge, no_bytes_of_length, told()), 1, NULL);
     is_null("judge: no row of a length", odfilter_judge(filter, judge, no_bytes_of_length, told()), 1, NULL);
     is_null("judge: no answer", odfilter_judge(filter, judge, row, NULL), 0, NULL);
     is_null("filter_lines: no filter", odfilter_filter_lines(NULL, judge, row, kept, told()), 1, NULL);
     is_null("filter_lines: no judge", odfilter_filter_lines(filter, NULL, row, kept, told()), 1, NULL);
-    is_null("filter_lines: no rows", odfilter_filter_lines(filter, judge, no_bytes, kept, told()), 1, NULL);
+    is_null("filter_lines: no rows", odfilter_filter_lines(filter, judge, no_bytes_of_length, kept, told()), 1, NULL);
     is_null("filter_lines: no room", odfilter_filter_lines(filter, judge, row, no_room_of_length, told()), 1, NULL);
     is_null("filter_lines: no answer", odfilter_filter_lines(filter, judge, row, kept, NULL), 0, NULL);
     is_null("set_moment: no judge", odfilter_set_moment(NULL, row), 0, NULL);
-    is_null("set_moment: no moment", odfilter_set_moment(judge, no_bytes), 0, NULL);
+    is_null("set_moment: no moment", odfilter_set_moment(judge, no_bytes_of_length), 0, NULL);
     is_null("free: no place", odfilter_free(NULL), 0, NULL);
     drop(row);
     free(kept.at);
@@ -130,7 +155,9 @@ static void other_kinds(void)
     odfilter_bytes text = bytes_of("true"), row = bytes_of(ROW);
     odfilter_room kept = {block(row.length + 1), row.length + 1};
     odfilter_handle **at, *filter = handles[FILTER_KIND], *judge = handles[JUDGE];
+    odfilter_answer syntax = {0};
     int kind;
+    syntax.fault = ODFILTER_SYNTAX_UNEXPECTED;
     for (kind = 0; kind < KINDS; kind++) {
         odfilter_handle *other = handles[kind];
         uint32_t status = ODFILTER_OTHER_KIND;
@@ -141,6 +168,15 @@ static void other_kinds(void)
         at = place();
         check("check_query: no type",
               kind == TYPE || (odfilter_check_query(other, text, at, told()) == status && !*at));
+        at = place();
+        check("check_url: no type",
+              kind == TYPE || (odfilter_check_url(other, text, room, at, told()) == status && !*at));
+        check("fault_text: no type",
+              kind == TYPE || odfilter_fault_text(other, 18, text, room, &syntax, told()) == status);
+        check("node_count: no filter", kind == FILTER_KIND || odfilter_node_count(other, told()) == status);
+        check("lambda_depth: no filter", kind == FILTER_KIND || odfilter_lambda_depth(other, told()) == status);
+        check("property_paths: no filter",
+              kind == FILTER_KIND || odfilter_property_paths(other, room, told()) == status);
         check("canonical: no filter", kind == FILTER_KIND || odfilter_canonical(other, room, told()) == status);
         check("explain: no filter", kind == FILTER_KIND || odfilter_explain(other, room, told()) == status);
         check("needs_moment: no filter", kind == FILTER_KIND || odfilter_needs_moment(other, told()) == status);
@@ -159,9 +195,9 @@ static void other_kinds(void)
     free(kept.at);
 }
 
-static void empty_texts(void)
+/* an empty text, at an address or at none */
+static void empty_texts(odfilter_bytes empty)
 {
-    odfilter_bytes empty = {block(0), 0};
     odfilter_room kept = {block(1), 1};
     odfilter_handle **at = place();
     odfilter_answer wanted = nothing;
@@ -182,7 +218,14 @@ static void empty_texts(void)
     check("no lines", odfilter_filter_lines(handles[FILTER_KIND], handles[JUDGE], empty, kept, told()) == ODFILTER_OK);
     check("of no lines nothing is told", is_answer(answer, nothing));
     check("an empty moment", odfilter_set_moment(handles[JUDGE], empty) == ODFILTER_NOT_A_MOMENT);
-    free((char *)empty.at);
+    at = place();
+    check("an empty whole query",
+          odfilter_check_url(handles[TYPE], empty, room, at, told()) == ODFILTER_NO_FILTER && !*at);
+    check("of an empty whole query nothing is told", is_answer(answer, nothing));
+    wanted = nothing;
+    wanted.fault = ODFILTER_EVAL_OVERFLOW;
+    check("a sentence about an empty text",
+          odfilter_fault_text(handles[TYPE], ODFILTER_EVAL_FAULT, empty, room, &wanted, told()) == ODFILTER_OK);
     free(kept.at);
 }
 
@@ -214,6 +257,7 @@ static void bytes_that_are_no_utf8(void)
 int main(void)
 {
     int kind;
+    odfilter_bytes empty = {block(0), 0};
     handles[SCHEMA] = schema_of(DOCUMENT);
     handles[TYPE] = type_of(handles[SCHEMA], "Mini.Item");
     handles[FILTER_KIND] = filter_of(handles[TYPE], FILTER);
@@ -221,9 +265,12 @@ int main(void)
     nulls_that_make_handles();
     nulls_of_checks();
     nulls_of_texts();
+    nulls_of_urls();
     nulls_of_rows();
     other_kinds();
-    empty_texts();
+    empty_texts(empty);
+    empty_texts(no_bytes);
+    drop(empty);
     bytes_that_are_no_utf8();
     check("the filter and the judge are as they were", is_kept(handles[FILTER_KIND], handles[JUDGE], ROW));
     check("and keep no other row", !is_kept(handles[FILTER_KIND], handles[JUDGE], OTHER_ROW));

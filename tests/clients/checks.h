@@ -69,7 +69,9 @@ static inline int is_answer(odfilter_answer got, odfilter_answer wanted)
 {
     return got.fault == wanted.fault && got.verdict == wanted.verdict && got.start == wanted.start &&
            got.stop == wanted.stop && got.number == wanted.number && got.length == wanted.length &&
-           got.first == wanted.first && got.rows == wanted.rows && got.kept == wanted.kept;
+           got.first == wanted.first && got.rows == wanted.rows && got.kept == wanted.kept &&
+           got.piece_start == wanted.piece_start && got.piece_stop == wanted.piece_stop &&
+           got.value_start == wanted.value_start && got.value_stop == wanted.value_stop;
 }
 
 static inline odfilter_handle *schema_of(const char *document)

@@ -65,6 +65,31 @@ static uint32_t call_explain(void)
     return odfilter_explain(filter, room, &answer);
 }
 
+/* where the filter was found before memory ran out, it is reported */
+static uint32_t call_check_url(void)
+{
+    static const odfilter_answer nothing;
+    uint32_t status = odfilter_check_url(type, query, room, &made, &answer);
+    if (status == ODFILTER_MEMORY && answer.length) {
+        check("the filter that was found", answer.value_start == 8 && answer.value_stop == query.length);
+        answer = nothing;
+    }
+    return status;
+}
+
+static uint32_t call_property_paths(void)
+{
+    return odfilter_property_paths(filter, room, &answer);
+}
+
+static uint32_t call_fault_text(void)
+{
+    odfilter_answer fault = {0};
+    fault.fault = ODFILTER_TYPE_UNKNOWN_PROPERTY;
+    fault.stop = 3;
+    return odfilter_fault_text(type, ODFILTER_TYPE_FAULT, text, room, &fault, &answer);
+}
+
 static uint32_t call_new_judge(void)
 {
     return odfilter_new_judge(&made);
@@ -212,6 +237,9 @@ int main(void)
     refuse_each("find_type", call_find_type, is_type);
     refuse_each("check", call_check, is_filter);
     refuse_each("check_query", call_check_query, is_filter);
+    refuse_each("check_url", call_check_url, is_filter);
+    refuse_each("property_paths", call_property_paths, NULL);
+    refuse_each("fault_text", call_fault_text, NULL);
     refuse_each("canonical", call_canonical, NULL);
     refuse_each("explain", call_explain, NULL);
     refuse_each("new_judge", call_new_judge, is_judge);

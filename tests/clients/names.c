@@ -1,4 +1,4 @@
-/* The names of all statuses and faults, and that no other number has one. */
+/* The names of all statuses and faults, and sentences about faults, and that no other number has one. */
 #include "checks.h"
 
 static const char *const status_names[] = {
@@ -73,6 +73,7 @@ static const char *const fault_names[][14] = {
             [ODFILTER_QUERY_NOT_UTF8] = "NotUtf8",
             [ODFILTER_QUERY_REPEATED] = "Repeated",
             [ODFILTER_QUERY_OTHER_OPTION] = "OtherOption",
+            [ODFILTER_QUERY_DISGUISED] = "Disguised",
         },
     [ODFILTER_ROW_FAULT] =
         {
@@ -123,22 +124,87 @@ static void fault_at(uint32_t status, uint32_t fault)
     check("the name of a fault", is_named(told, at, answer, is_known ? fault_names[status][fault] : NULL));
 }
 
+/* a sentence about a fault, with a type and without, and in a buffer that is a byte too small */
+static void sentence_at(const odfilter_handle *type, uint32_t status, uint32_t fault)
+{
+    char at[2048];
+    odfilter_room room = {at, sizeof at};
+    odfilter_answer about = {0}, answer = unwritten(), none = {0}, wanted = {0};
+    odfilter_bytes text = bytes_of("Foo eq 1");
+    int is_known = status < sizeof fault_names / sizeof *fault_names && fault < FAULTS && fault_names[status][fault];
+    uint32_t told;
+    about.fault = fault;
+    about.stop = 3;
+    is_known |= !fault && (status == ODFILTER_JSON_FAULT || status == ODFILTER_LINE_TOO_LONG ||
+                           (status >= ODFILTER_UNKNOWN_TYPE && status <= ODFILTER_NOT_A_MOMENT));
+    told = odfilter_fault_text(type, status, text, room, &about, &answer);
+    check("a sentence", told == (is_known ? ODFILTER_OK : ODFILTER_UNKNOWN_NUMBER));
+    wanted.length = answer.length;
+    check("a sentence's answer", is_answer(answer, is_known ? wanted : none));
+    check("a sentence ends", !is_known || (answer.length && answer.length <= sizeof at));
+    if (is_known) {
+        room.length = answer.length - 1;
+        told = odfilter_fault_text(type, status, text, room, &about, &answer);
+        check("a sentence in a small buffer", told == ODFILTER_TOO_SMALL && is_answer(answer, wanted));
+    }
+    drop(text);
+}
+
+/* the type and the name in question are in it */
+static void sentence_of_a_filter(const odfilter_handle *type)
+{
+    char at[2048];
+    odfilter_room room = {at, sizeof at - 1};
+    odfilter_answer refusal, answer;
+    odfilter_handle *filter = NULL;
+    odfilter_bytes text = bytes_of("Foo eq 1");
+    check("a refused filter", odfilter_check(type, text, &filter, &refusal) == ODFILTER_TYPE_FAULT);
+    check("its sentence",
+          odfilter_fault_text(type, ODFILTER_TYPE_FAULT, text, room, &refusal, &answer) == ODFILTER_OK);
+    at[answer.length] = 0;
+    check("its sentence names the type and the property", strstr(at, "Mini.Item") && strstr(at, "Foo"));
+    drop(text);
+}
+
+static void texts_that_are_no_utf8(const odfilter_handle *type)
+{
+    char at[2048];
+    odfilter_room room = {at, sizeof at};
+    odfilter_answer about = {0}, answer, none = {0};
+    odfilter_bytes text = bytes_of("\xff");
+    about.fault = 1;
+    check("a text that is no UTF-8",
+          odfilter_fault_text(type, ODFILTER_SYNTAX_FAULT, text, room, &about, &answer) == ODFILTER_NOT_UTF8);
+    check("of it nothing is reported", is_answer(answer, none));
+    check("a query that is no UTF-8",
+          odfilter_fault_text(type, ODFILTER_QUERY_FAULT, text, room, &about, &answer) == ODFILTER_OK);
+    drop(text);
+}
+
 int main(void)
 {
+    odfilter_handle *schema = schema_of(DOCUMENT), *type = type_of(schema, "Mini.Item");
     static const uint32_t far[] = {UINT32_C(0x100), UINT32_C(0x10000), UINT32_C(0x7fffffff), UINT32_MAX};
     uint32_t status, fault;
     size_t number;
     for (status = 0; status < 40; status++) {
         status_at(status);
-        for (fault = 0; fault < 40; fault++)
+        for (fault = 0; fault < 40; fault++) {
             fault_at(status, fault);
+            sentence_at(type, status, fault);
+            sentence_at(NULL, status, fault);
+        }
         for (number = 0; number < 4; number++)
-            fault_at(status, far[number] + 1);
+            fault_at(status, far[number] + 1), sentence_at(type, status, far[number] + 1);
     }
     for (number = 0; number < 4; number++) {
         status_at(far[number]);
         status_at(far[number] + 1);
         fault_at(far[number] + ODFILTER_EVAL_FAULT, ODFILTER_EVAL_OVERFLOW);
     }
+    sentence_of_a_filter(type);
+    texts_that_are_no_utf8(type);
+    odfilter_free(&type);
+    odfilter_free(&schema);
     return end();
 }

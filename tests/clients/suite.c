@@ -199,6 +199,37 @@ static void answer_query(struct held *held, const odfilter_bytes *given, struct 
     add_checked(to, odfilter_check_query(held->type, given[0], &held->filter, &answer), &answer);
 }
 
+/* where the filter's option and its value stand in a whole query, and the filter's text, each on a line */
+static void add_found(struct text *to, const odfilter_answer *answer, odfilter_room text)
+{
+    const size_t places[] = {answer->piece_start, answer->piece_stop, answer->value_start, answer->value_stop};
+    size_t number;
+    for (number = 0; number < 4; number++) {
+        add_word(to, number ? " " : "\n");
+        add_number(to, places[number]);
+    }
+    add_word(to, "\n");
+    add(to, text.at, text.length);
+}
+
+static void answer_url(struct held *held, const odfilter_bytes *given, struct text *to)
+{
+    odfilter_answer answer = {0};
+    odfilter_room text = {block(0), 0};
+    uint32_t status;
+    odfilter_free(&held->filter);
+    odfilter_check_url(held->type, given[0], text, &held->filter, &answer);
+    odfilter_free(&held->filter);
+    free(text.at);
+    text.at = block(answer.length);
+    text.length = answer.length;
+    status = odfilter_check_url(held->type, given[0], text, &held->filter, &answer);
+    add_checked(to, status, &answer);
+    if (answer.piece_stop)
+        add_found(to, &answer, text);
+    free(text.at);
+}
+
 static void answer_canonical(struct held *held, const odfilter_bytes *given, struct text *to)
 {
     (void)given;
@@ -330,7 +361,7 @@ static const struct question {
 } questions[] = {
     {"schema", 1, answer_schema}, {"type", 1, answer_type},           {"filter", 1, answer_filter},
     {"query", 1, answer_query},   {"canonical", 0, answer_canonical}, {"explain", 0, answer_explain},
-    {"row", 2, answer_row},       {"lines", 2, answer_lines},
+    {"row", 2, answer_row},       {"lines", 2, answer_lines},         {"url", 1, answer_url},
 };
 
 /* the next netstring of a file, in a block of its own, or no address at the file's end */

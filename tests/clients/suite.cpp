@@ -115,6 +115,8 @@ class client
             return checked(odfilter_check, given[0].bytes());
         if (word == "query")
             return checked(odfilter_check_query, given[0].bytes());
+        if (word == "url")
+            return found_in(given[0].bytes());
         if (word == "canonical")
             return text_of(odfilter_canonical, filter);
         if (word == "explain")
@@ -182,10 +184,32 @@ class client
         }
     }
 
+    /* the filter of a whole query, where its option and its value stand, and its text, for which there is just room */
+    std::string found_in(odfilter_bytes query)
+    {
+        odfilter_answer told{};
+        char none;
+        odfilter_check_url(type.get(), query, {&none, 0}, filter.place(), &told);
+        std::string text(told.length, '?');
+        uint32_t status = odfilter_check_url(type.get(), query, {text.data(), text.size()}, filter.place(), &told);
+        std::string said = outcome(status, told);
+        if (told.piece_stop == 0)
+            return said;
+        said += '\n' + std::to_string(told.piece_start) + ' ' + std::to_string(told.piece_stop);
+        said += ' ' + std::to_string(told.value_start) + ' ' + std::to_string(told.value_stop);
+        return said + '\n' + text;
+    }
+
     std::string checked(checker call, odfilter_bytes text)
     {
         odfilter_answer told;
-        switch (uint32_t status = call(type.get(), text, filter.place(), &told)) {
+        uint32_t status = call(type.get(), text, filter.place(), &told);
+        return outcome(status, told);
+    }
+
+    static std::string outcome(uint32_t status, const odfilter_answer &told)
+    {
+        switch (status) {
         case ODFILTER_OK:
             return "accepted";
         case ODFILTER_NULL:

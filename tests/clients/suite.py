@@ -14,7 +14,7 @@ GIVEN = {word: 2 if word in ("row", "lines") else 0 if word in ("canonical", "ex
 VERDICTS = {True: "true", False: "false", None: "null"}
 # what is held, each made of the one before; and what answers a question, where that is not the filter
 HELD = ("schema", "type", "filter")
-ASKED = {"schema": None, "type": "schema", "filter": "type", "query": "type"}
+ASKED = {"schema": None, "type": "schema", "filter": "type", "query": "type", "url": "type"}
 
 
 class Client:
@@ -40,7 +40,7 @@ class Client:
         try:
             self.hold("schema", lambda: odfilter.Schema(document))
         except odfilter.SchemaFault as fault:
-            return str(fault).removeprefix("schema ")
+            return fault.program_line.removeprefix("schema ")
         return "accepted"
 
     def type(self, name):
@@ -54,7 +54,7 @@ class Client:
         try:
             self.hold("filter", make)
         except (odfilter.Refused, odfilter.QueryRefused) as refused:
-            return str(refused)
+            return refused.program_line
         except odfilter.NoFilter:
             return "no filter"
         return "accepted"
@@ -64,6 +64,24 @@ class Client:
 
     def query(self, query):
         return self.checked(lambda: self.held["type"].check_query(query))
+
+    def url(self, query):
+        found = None
+
+        def check():
+            nonlocal found
+            try:
+                found = self.held["type"].check_url(query)
+            except odfilter.Refused as refused:
+                found = refused
+                raise
+            return found
+
+        outcome = self.checked(check)
+        if found is None:
+            return outcome
+        places = [found.piece.start, found.piece.stop, found.value.start, found.value.stop]
+        return "\n".join([outcome, " ".join(map(str, places)), found.text])
 
     def canonical(self):
         return self.held["filter"].canonical
@@ -86,7 +104,7 @@ class Client:
         try:
             return "\n" + self.judge(moment).filter_lines(rows).text.decode()
         except odfilter.RowFault as fault:
-            return f"{fault}\n{fault.kept.decode()}"
+            return f"{fault.program_line}\n{fault.kept.decode()}"
 
 
 def main(path, *more):

@@ -39,6 +39,10 @@ mod odfilter {
         pub first: usize,
         pub rows: u64,
         pub kept: u64,
+        pub piece_start: usize,
+        pub piece_stop: usize,
+        pub value_start: usize,
+        pub value_stop: usize,
     }
 
     pub const OK: u32 = 0;
@@ -77,6 +81,13 @@ mod odfilter {
         pub fn odfilter_check_query(
             of: *const Handle,
             query: Bytes,
+            filter: *mut *mut Handle,
+            answer: *mut Answer,
+        ) -> u32;
+        pub fn odfilter_check_url(
+            of: *const Handle,
+            query: Bytes,
+            text: Room,
             filter: *mut *mut Handle,
             answer: *mut Answer,
         ) -> u32;
@@ -169,6 +180,20 @@ fn names_of(fault: u32) -> usize {
     }
 }
 
+/// What is said of a check.
+fn outcome(status: u32, answer: &c::Answer) -> String {
+    match status {
+        c::OK => "accepted".into(),
+        c::NULL => "nothing".into(),
+        c::NO_FILTER => "no filter".into(),
+        c::QUERY_FAULT => format!("refused query {} {}", fault_name(c::QUERY_FAULT, answer.fault), answer.number),
+        c::TEXT_FAULT | c::SYNTAX_FAULT | c::TYPE_FAULT => {
+            format!("refused {} {}..{}", fault_name(status, answer.fault), answer.start, answer.stop)
+        }
+        status => give_up(&format!("no check: {}", status)),
+    }
+}
+
 /// What is held from question to question.
 struct Client {
     schema: Handle,
@@ -185,6 +210,7 @@ impl Client {
             (b"type", [name]) => self.find_type(name).into(),
             (b"filter", [text]) => self.check(c::odfilter_check, text).into_bytes(),
             (b"query", [text]) => self.check(c::odfilter_check_query, text).into_bytes(),
+            (b"url", [query]) => self.find(query),
             (b"canonical", []) => text_of(c::odfilter_canonical, &self.filter),
             (b"explain", []) => text_of(c::odfilter_explain, &self.filter),
             (b"row", [row, moment]) => self.judge(row, moment),
@@ -228,16 +254,26 @@ impl Client {
 
     fn check(&mut self, call: c::Checker, text: &[u8]) -> String {
         let mut answer = c::Answer::default();
-        match unsafe { call(self.named.0, bytes(text), self.filter.place(), &mut answer) } {
-            c::OK => "accepted".into(),
-            c::NULL => "nothing".into(),
-            c::NO_FILTER => "no filter".into(),
-            c::QUERY_FAULT => format!("refused query {} {}", fault_name(c::QUERY_FAULT, answer.fault), answer.number),
-            status @ (c::TEXT_FAULT | c::SYNTAX_FAULT | c::TYPE_FAULT) => {
-                format!("refused {} {}..{}", fault_name(status, answer.fault), answer.start, answer.stop)
-            }
-            status => give_up(&format!("no check: {}", status)),
+        let status = unsafe { call(self.named.0, bytes(text), self.filter.place(), &mut answer) };
+        outcome(status, &answer)
+    }
+
+    /// The filter of a whole query, where its option and its value stand, and its text, for which there is just room.
+    fn find(&mut self, query: &[u8]) -> Vec<u8> {
+        let (mut answer, named) = (c::Answer::default(), self.named.0);
+        let place = self.filter.place();
+        unsafe { c::odfilter_check_url(named, bytes(query), room(&mut []), place, &mut answer) };
+        let mut text = vec![0u8; answer.length].into_boxed_slice();
+        let place = self.filter.place();
+        let status = unsafe { c::odfilter_check_url(named, bytes(query), room(&mut text), place, &mut answer) };
+        let mut said = outcome(status, &answer);
+        if answer.piece_stop > 0 {
+            said += &format!("\n{} {} ", answer.piece_start, answer.piece_stop);
+            said += &format!("{} {}\n", answer.value_start, answer.value_stop);
         }
+        let mut said = said.into_bytes();
+        said.extend_from_slice(&text);
+        said
     }
 
     /// The judge, with that moment, or a new one without any.
