@@ -8,3 +8,4 @@ pub mod Depth
 pub mod Tails
 pub mod Loop
 pub mod Fronts
+pub mod WordLengths

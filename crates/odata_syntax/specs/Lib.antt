@@ -5,10 +5,13 @@ pub use Rattle.odata_text.specs.TokenSequence
 pub use Rattle.odata_text.specs.Tokens
 pub mod Tree
 pub mod TreeView
+pub mod PostOrder
+pub mod Places
 pub mod Lexeme
 pub mod Grammar
 pub mod Front
 pub mod Parse
+pub mod TextTree
 pub mod Spans
 pub mod NormalForm
 pub mod CanonicalText

@@ -7,19 +7,23 @@ pub mod level;
 mod node;
 mod normal_form;
 mod parser;
+mod places;
 mod printer;
 mod syntax_fault;
 mod syntax_laws;
+mod syntax_list;
 
 pub use canonical_laws::{canonical_texts_read_back, one_canonical_text, texts_tell_normal_forms};
 pub use expr::Expr;
 pub use level::operator_level;
 pub use node::{BinaryOperator, LiteralKind, Node, Quantifier};
 pub use normal_form::normal;
-pub use parser::parse;
+pub use parser::{TextOrSyntaxFault, parse, parse_text};
+pub use places::{NO_NODE, Place};
 pub use printer::{operator_word, print, write_literal};
 pub use syntax_fault::SyntaxFault;
 pub use syntax_laws::{
     children_apart, faults_have_no_tree, first_run_parses, name_eq_is_unended, node_spans,
     one_fault, one_tree, spans_apart, spans_hold, spans_take_bytes, too_deep_opens, tree_spans,
 };
+pub use syntax_list::{SyntaxKind, SyntaxList, SyntaxNode};

@@ -128,7 +128,7 @@ pub enum Node {
 impl Node {
     ghost use Rattle.std.specs.Prelude.{◌≡◌};
     ghost use Rattle.odata_syntax.specs.TreeView.{tree_of};
-    ghost use Rattle.odata_syntax.specs.Tree.{node, shape_of, start_of, stop_of};
+    ghost use Rattle.odata_syntax.specs.Tree.{start_of, stop_of};
 
     /// Where the node stands in the text.
     pub fn span(&self) -> Span
@@ -150,56 +150,6 @@ impl Node {
             Node::Call { span, .. } => *span,
             Node::Any { span, .. } => *span,
             Node::All { span, .. } => *span,
-        }
-    }
-
-    /// The same node at another place.
-    pub(crate) fn spanned(self, span: Span) -> Node
-        ensures { tree_of result ≡ node span.start span.stop (shape_of (tree_of self)) }
-    {
-        match self {
-            Node::Lit { kind, text, .. } => Node::Lit { span, kind, text },
-            Node::It { .. } => Node::It { span },
-            Node::Name { name, .. } => Node::Name { span, name },
-            Node::Member { base, name, .. } => Node::Member { span, base, name },
-            Node::Count { base, .. } => Node::Count { span, base },
-            Node::Neg { operand, .. } => Node::Neg { span, operand },
-            Node::Not { operand, .. } => Node::Not { span, operand },
-            Node::Has { left, right, .. } => Node::Has { span, left, right },
-            Node::InList { left, items, .. } => Node::InList { span, left, items },
-            Node::InPath { left, path, .. } => Node::InPath { span, left, path },
-            Node::Any { base, lambda, .. } => Node::Any { span, base, lambda },
-            Node::Binary {
-                operator,
-                left,
-                right,
-                ..
-            } => Node::Binary {
-                span,
-                operator,
-                left,
-                right,
-            },
-            Node::Call {
-                name,
-                arguments,
-                ..
-            } => Node::Call {
-                span,
-                name,
-                arguments,
-            },
-            Node::All {
-                base,
-                variable,
-                body,
-                ..
-            } => Node::All {
-                span,
-                base,
-                variable,
-                body,
-            },
         }
     }
 }

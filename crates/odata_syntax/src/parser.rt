@@ -1,5 +1,6 @@
 //! From tokens to a tree (OData URL Conventions 4.01, section 5.1.1; OData ABNF 4.01, section 4). A machine takes token
-//! after token: it keeps what waits for the operand that is being read, and what it expects next.
+//! after token: it keeps what waits for the operand that is being read, and what it expects next, and puts each node
+//! into one list as soon as its children are in it.
 ghost use Rattle.std.specs.Prelude.{◌≡◌, ◌≢◌, ◌≤◌, Some, IfOk, IfErr, if◌then◌else◌};
 ghost use Rattle.odata_syntax.specs.declared.syntax_fault.SyntaxFault.{SyntaxFault};
 ghost use Rattle.odata_syntax.specs.Tree.{Tree};
@@ -9,11 +10,15 @@ ghost use Rattle.odata_text.specs.TokenSequence.{AreTextTokens};
 ghost use Rattle.odata_syntax.specs.Front.{IsShallow, opens, closes};
 ghost use Rattle.odata_syntax.specs.Grammar.{or_level, Derives};
 ghost use Rattle.odata_syntax.specs.Parse.{IsParse, HasNoParse, IsSyntaxFault};
+ghost use Rattle.odata_syntax.specs.PostOrder.{IsWholeTree, last_tree, trees_in};
+ghost use Rattle.odata_syntax.specs.private.Forests.{token_texts};
+ghost use Rattle.odata_syntax.specs.private.ListSteps.{IsSteadyState};
 ghost use Rattle.odata_syntax.specs.private.Machine.{run, start};
 ghost use Rattle.odata_syntax.specs.private.MachineView.{machine_of};
 ghost use Rattle.odata_syntax.specs.private.Stops.{RefusesOneOf};
 
 mod bracket;
+mod expr_of_list;
 mod frames;
 mod lambda;
 mod operand;
@@ -21,15 +26,22 @@ mod operator;
 mod path;
 mod state;
 mod step;
+mod text_parser;
 mod word;
 
-use crate::parser::state::State;
+use crate::parser::expr_of_list::root_of_list;
+use crate::parser::state::{Piece, State, Step};
+use crate::syntax_list::SyntaxNode;
 use crate::{Expr, SyntaxFault};
-use odata_text::{Token, TokenKind};
+use odata_text::{Span, Token, TokenKind};
 use std::alloc::Global;
+pub use text_parser::{TextOrSyntaxFault, parse_text};
 
 /// No more parentheses may be open at once.
 const DEPTH_LIMIT: usize = 64;
+
+/// No list begins with more room, in nodes.
+const ROOM_LIMIT: usize = 1024;
 
 /// The tree of the tokens of one text. `len` is the length of the text in bytes.
 ///
@@ -45,29 +57,84 @@ pub fn parse(alloc: Global, tokens: &[Token<'_>], len: usize) -> Result<Expr, Sy
         fault ≢ SyntaxFault.Memory → IsSyntaxFault (token_models tokens.now) len fault) }
     ensures none { IfErr result (λ fault. fault ≢ SyntaxFault.Memory → HasNoParse (token_models tokens.now)) }
 {
-    let state = take_all(alloc, tokens)?;
-    let root = step::finish(alloc, state, len)?;
+    let nodes = nodes_of_tokens(alloc, tokens, len)?;
+    let root = root_of_list(alloc, nodes.as_slice(), tokens)?;
     Ok(Expr::new(root))
 }
 
-/// The machine behind all tokens.
-fn take_all(alloc: Global, tokens: &[Token<'_>]) -> Result<State, SyntaxFault>
-    ensures taken { IfOk result (λ state. run (token_models tokens.now) start ≡ Some (machine_of state)) }
+/// The nodes of the tokens of one text, which name their texts by the numbers of the tokens.
+fn nodes_of_tokens(
+    alloc: Global,
+    tokens: &[Token<'_>],
+    len: usize,
+) -> Result<Vec<SyntaxNode>, SyntaxFault>
+    ensures parsed { IfOk result (λ nodes.
+        IsParse (token_models tokens.now) (last_tree (trees_in (token_texts tokens.now) nodes.items))) }
+    ensures only { IfOk result (λ nodes. (tree : Tree) → Derives or_level (token_models tokens.now) tree
+        → tree ≡ last_tree (trees_in (token_texts tokens.now) nodes.items)) }
+    ensures whole { IfOk result (λ nodes. IsWholeTree nodes.items) }
+    ensures fault { IfErr result (λ fault.
+        fault ≢ SyntaxFault.Memory → IsSyntaxFault (token_models tokens.now) len fault) }
+    ensures none { IfErr result (λ fault. fault ≢ SyntaxFault.Memory → HasNoParse (token_models tokens.now)) }
+{
+    let mut state = State::new(alloc, tokens.len().min(ROOM_LIMIT))?;
+    match take_all(&mut state, tokens) {
+        Ok(()) => {}
+        Err(fault) => return Err(fault),
+    }
+    match state.finish() {
+        Step::Taken => Ok(state.nodes),
+        Step::Refused => Err(unended(len)),
+        Step::OutOfMemory => Err(SyntaxFault::Memory),
+    }
+}
+
+/// Takes all tokens.
+fn take_all(state: &mut State, tokens: &[Token<'_>]) -> Result<(), SyntaxFault>
+    requires steady { IsSteadyState state.old }
+    requires begun { machine_of (token_texts tokens.now) state.old ≡ start }
+    ensures taken { IfOk result (λ _.
+        run (token_models tokens.now) start ≡ Some (machine_of (token_texts tokens.now) state.new)) }
+    ensures steady { IfOk result (λ _. IsSteadyState state.new) }
     ensures shallow { IfOk result (λ _. IsShallow (token_models tokens.now)) }
     ensures refused { IfErr result (RefusesOneOf (token_models tokens.now)) }
 {
-    let mut state = State::new(alloc);
     let mut opens = 0;
     let mut closes = 0;
+    let mut number = 0;
     for token in tokens {
-        state = step::step(alloc, state, token)?;
+        let piece = Piece {
+            token: *token,
+            text: Span {
+                start: number,
+                stop: number,
+            },
+        };
+        match state.step(&piece) {
+            Step::Taken => {}
+            Step::Refused => return Err(SyntaxFault::Unexpected { span: token.span }),
+            Step::OutOfMemory => return Err(SyntaxFault::Memory),
+        }
+        number += 1;
         opens += open_count(token.kind);
         closes += close_count(token.kind);
         if opens > closes + DEPTH_LIMIT {
             return Err(SyntaxFault::TooDeep { span: token.span });
         }
     }
-    Ok(state)
+    Ok(())
+}
+
+/// One more token is wanted after a text of `len` bytes.
+fn unended(len: usize) -> SyntaxFault
+    ensures { result ≡ SyntaxFault.Unexpected (record { start = len; stop = len }) }
+{
+    SyntaxFault::Unexpected {
+        span: Span {
+            start: len,
+            stop: len,
+        },
+    }
 }
 
 /// How many parentheses a token opens.

@@ -1,5 +1,5 @@
 //! Laws of the grammar (OData URL Conventions 4.01, section 5.1.1). Each function is one; its body is empty.
-ghost use Rattle.std.specs.Prelude.{◌≡◌, ◌<◌, ◌+◌, ◌⊎◌, ℕ, true, List, Contains};
+ghost use Rattle.std.specs.Prelude.{◌≡◌, ◌<◌, ◌≤◌, ◌+◌, ◌⊎◌, ℕ, true, List, ◌∷◌, ◌++◌, Contains};
 ghost use Rattle.odata_syntax.specs.declared.syntax_fault.SyntaxFault.{SyntaxFault};
 ghost use Rattle.odata_text.specs.TokenModel.{TokenModel};
 ghost use Rattle.odata_text.specs.declared.span.Span.{Span};
@@ -39,11 +39,14 @@ pub fn spans_apart()
         → ¬ IsWithin node other → ¬ IsWithin other node → SharesNoByte node other }
 {}
 
-/// Two children of a node are one tree, or they share no byte.
+/// Two children of a node are one tree, or they share no byte; each stops before the next ones start.
 pub fn children_apart()
-    ensures { (tree node child other : Tree) → IsExpression tree → IsWithin node tree
+    ensures apart { (tree node child other : Tree) → IsExpression tree → IsWithin node tree
         → Contains (children_of (shape_of node)) child → Contains (children_of (shape_of node)) other
         → (child ≡ other) ⊎ SharesNoByte child other }
+    ensures order { (tree node child other : Tree) (before after : List Tree) → IsExpression tree → IsWithin node tree
+        → children_of (shape_of node) ≡ before ++ (child ∷ after) → Contains after other
+        → stop_of child ≤ start_of other }
 {}
 
 /// Each node of an expression takes a byte or more.

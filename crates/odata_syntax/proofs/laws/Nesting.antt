@@ -346,3 +346,36 @@ pub expression_children : (tree parent a b : Tree) → IsExpression tree → IsW
 unfolding Apart
 expression_children tree parent a b e w c d =
     two_apart (nested_children (held w (expression_nested tree e)).nests) a b (among (children_of (shape_of parent)) a c) (among (children_of (shape_of parent)) b d)
+
+none_split : (before : List Tree) (x : Tree) (after : List Tree) → ¬ ([] ≡ before ++ (x ∷ after))
+none_split [] x after same = cc
+none_split (b ∷ before) x after same = cc
+
+-- trees one behind another: each stops before those behind it start
+later_behind :
+    {from to : ℕ} {trees : List Tree}
+    → AreNested from to trees
+    → (before : List Tree) (x : Tree) (after : List Tree) (y : Tree)
+    → trees ≡ before ++ (x ∷ after)
+    → IsAmong y after
+    → stop_of x ≤ start_of y
+later_behind (no_more le) before x after y split h = absurd (none_split before x after split)
+later_behind {to = to} (one_more {tree = tree} {more = more} le n later) [] x after y split h =
+    let same : tree ≡ x = cc in
+    let rest : more ≡ after = cc in
+    let behind : stop_of tree ≤ start_of y =
+    behind_all (stop_of tree) to more y (nested_all later) (subst (λ (ts : List Tree). IsAmong y ts) (sym rest) h) in
+    subst (λ (t : Tree). stop_of t ≤ start_of y) same behind
+later_behind (one_more {tree = tree} {more = more} le n later) (b ∷ before) x after y split h =
+    let rest : more ≡ before ++ (x ∷ after) = cc in
+    later_behind later before x after y rest h
+
+pub expression_in_order :
+    (tree parent a b : Tree) (before after : List Tree)
+    → IsExpression tree
+    → IsWithin parent tree
+    → children_of (shape_of parent) ≡ before ++ (a ∷ after)
+    → Contains after b
+    → stop_of a ≤ start_of b
+expression_in_order tree parent a b before after e w split c =
+    later_behind (nested_children (held w (expression_nested tree e)).nests) before a after b split (among after b c)

@@ -32,7 +32,7 @@ at_most_one true = omega arith
 at_most_one false = omega arith
 
 -- a `)` and a `(` are not one token
-room : (b c : Bool) (opened closed : ℕ) → opened ≤ closed + depth_limit → opened + cond b 1 0 ≤ (closed + cond c 1 0) + depth_limit → (b ≡ true → c ≡ false) → opened + cond b 1 0 ≤ closed + depth_limit
+pub room : (b c : Bool) (opened closed : ℕ) → opened ≤ closed + depth_limit → opened + cond b 1 0 ≤ (closed + cond c 1 0) + depth_limit → (b ≡ true → c ≡ false) → opened + cond b 1 0 ≤ closed + depth_limit
 room true true opened closed h k apart = let no_such = apart refl in absurd (cc)
 room true false opened closed h k apart = omega arith
 room false c opened closed h k apart = omega arith
@@ -77,7 +77,7 @@ stuck_at ts i d m (SyntaxFault.TooDeep span) h so_far shallow refused = absurd r
 stuck_at ts i d m SyntaxFault.Memory h so_far shallow refused = tt
 
 -- the limit is passed by a `(` alone, and by one
-one_too_many : (b c : Bool) (opened closed : ℕ) → opened ≤ closed + depth_limit → (closed + cond c 1 0) + depth_limit < opened + cond b 1 0 → (b ≡ true) × (opened ≡ closed + depth_limit)
+pub one_too_many : (b c : Bool) (opened closed : ℕ) → opened ≤ closed + depth_limit → (closed + cond c 1 0) + depth_limit < opened + cond b 1 0 → (b ≡ true) × (opened ≡ closed + depth_limit)
 one_too_many true true opened closed h k = absurd (omega arith)
 one_too_many true false opened closed h k = (refl, omega arith)
 one_too_many false true opened closed h k = absurd (omega arith)

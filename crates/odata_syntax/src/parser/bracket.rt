@@ -1,244 +1,152 @@
-ghost use Rattle.std.specs.Prelude.{◌≡◌, ◌∷◌, ℕ, None, Some, IfOk, IfErr, IfSome, IfNone, string_bytes, MatchOption};
-ghost use Rattle.odata_text.specs.TokenModel.{token_model};
-ghost use Rattle.odata_syntax.specs.declared.parser.operand.Start.{Start};
-ghost use Rattle.odata_syntax.specs.TreeView.{tree_of};
-ghost use Rattle.odata_syntax.specs.Tree.{node, lambda as lambda_shape};
-ghost use Rattle.odata_syntax.specs.private.Machine.{operation, in_behind, enclosure, group_from, open_at, take_start};
-ghost use Rattle.odata_syntax.specs.private.Machine.{close_at, comma_at, empty_tree, enclosure_tree, closed as closed_at, operand};
-ghost use Rattle.odata_syntax.specs.private.Machine.{machine_at};
-ghost use Rattle.odata_syntax.specs.private.MachineView.{enclosure_of, machine_of, stack_of, Refuses};
+//! Parentheses and commas.
+ghost use Rattle.std.specs.Prelude.{◌≡◌, ◌<◌, ◌+◌, ◌∷◌, ◌++◌, [], length};
+ghost use Rattle.odata_syntax.specs.Tree.{node, shape_of};
+ghost use Rattle.odata_syntax.specs.PostOrder.{Texts, trees_before, trees_in};
+ghost use Rattle.odata_syntax.specs.private.Machine.{close_at, close_empty as machine_close_empty, comma_at};
+ghost use Rattle.odata_syntax.specs.private.MachineView.{machine_of};
+ghost use Rattle.odata_syntax.specs.private.ListSteps.{HasRead, IfTaken, IsExpecting, IsNotRefused};
+ghost use Rattle.odata_syntax.specs.private.ListSteps.{IsSteadyState, IsStepTo};
+ghost use Rattle.odata_syntax.specs.private.ListSteps.{read_tree, waiting_behind, waiting_now};
 
-use crate::parser::state::{Bracket, Frame, Pending, Stage, State};
-use crate::{Node, Quantifier, SyntaxFault};
-use odata_text::{Span, Token};
-use std::alloc::{AllocError, Global};
+use crate::parser::state::{Bracket, Frame, NO_TEXT, Stage, State, Step};
+use crate::syntax_list::{SyntaxKind, SyntaxNode};
+use odata_text::Span;
 
-/// `(` where an operand is expected: of the list of an `in`, else of a group.
-pub fn open(alloc: Global, mut frames: Vec<Frame>, token: &Token<'_>) -> Result<State, SyntaxFault>
-    ensures taken { IfOk result (λ next. take_start (stack_of frames.items) (token_model token.now)
-        (Some Start.Open) ≡ Some (machine_of next)) }
-    ensures refused { IfErr result (Refuses (take_start (stack_of frames.items) (token_model token.now)
-        (Some Start.Open)) (token_model token.now)) }
-{
-    let bracket = match pop_in(&mut frames) {
-        Some(left) => Bracket::List {
-            left,
-            items: Vec::new(alloc),
-        },
-        None => Bracket::Group {
-            start: token.span.start,
-        },
-    };
-    Ok(wait_within(frames, bracket)?)
-}
-
-/// The operand before an `in` that waits innermost.
-fn pop_in(frames: &mut Vec<Frame>) -> Option<Box<Node>>
-    ensures popped { IfSome result (λ left.
-        stack_of frames.old.items ≡ operation (in_behind (tree_of left.value)) ∷ stack_of frames.new.items) }
-    ensures unchanged { IfNone result (stack_of frames.new.items ≡ stack_of frames.old.items) }
-    ensures other { IfNone result ((start : ℕ) → open_at (stack_of frames.old.items) start
-        ≡ enclosure (group_from start) ∷ stack_of frames.old.items) }
-{
-    match frames.last() {
-        Some(Frame::Pending(Pending::In { .. })) => match frames.pop() {
-            Some(Frame::Pending(Pending::In { left })) => Some(left),
-            _ => unreachable!(),
-        },
-        _ => None,
-    }
-}
-
-/// One more parenthesis is open.
-pub fn wait_within(mut frames: Vec<Frame>, bracket: Bracket) -> Result<State, AllocError>
-    ensures { IfOk result (λ state.
-        machine_of state ≡ machine_at (enclosure (enclosure_of bracket) ∷ stack_of frames.items) operand) }
-{
-    frames.push(Frame::Open(bracket))?;
-    let stage = Stage::Operand;
-    Ok(State { frames, stage })
-}
-
-/// `)` where an operand is expected: the end of a list or a call that holds nothing.
-pub fn close_empty(
-    alloc: Global,
-    mut frames: Vec<Frame>,
-    token: &Token<'_>,
-) -> Result<State, SyntaxFault>
-    ensures taken { IfOk result (λ next. take_start (stack_of frames.items) (token_model token.now)
-        (Some Start.Close) ≡ Some (machine_of next)) }
-    ensures refused { IfErr result (Refuses (take_start (stack_of frames.items) (token_model token.now)
-        (Some Start.Close)) (token_model token.now)) }
-{
-    match frames.pop() {
-        Some(Frame::Open(bracket)) => match end_empty(bracket, token.span.stop) {
-            Some(node) => Ok(closed(alloc, frames, node)?),
-            None => Err(SyntaxFault::Unexpected { span: token.span }),
-        },
-        Some(Frame::Pending(_)) | None => Err(SyntaxFault::Unexpected { span: token.span }),
-    }
-}
-
-/// The node of a list or a call that holds nothing.
-fn end_empty(bracket: Bracket, stop: usize) -> Option<Node>
-    ensures { MatchOption result (empty_tree (enclosure_of bracket) stop ≡ None)
-        (λ whole. empty_tree (enclosure_of bracket) stop ≡ Some (tree_of whole)) }
-{
-    match bracket {
-        Bracket::List { left, items } => {
-            if !items.is_empty() {
-                return None;
+impl State {
+    /// `)` where an operand is expected: the end of a list or a call that holds nothing.
+    pub(crate) fn close_empty(&mut self, stop: usize) -> Step
+        requires { IsExpecting self.old.frames.items self.old.nodes.items }
+        ensures step { (texts : Texts) →
+            IsStepTo result (machine_close_empty (waiting_now texts self.old) stop) (machine_of texts self.new) }
+        ensures steady { IfTaken result (IsSteadyState self.new) }
+    {
+        match self.frames.pop() {
+            Some(Frame::Open(Bracket::List { start, count })) => {
+                if count > 0 {
+                    return Step::Refused;
+                }
+                self.put_closed(SyntaxKind::InList, Span { start, stop }, NO_TEXT, 0)
             }
-            let start = left.span().start;
-            let span = Span { start, stop };
-            Some(Node::InList { span, left, items })
-        }
-        Bracket::Call {
-            start,
-            name,
-            arguments,
-        } => {
-            if !arguments.is_empty() {
-                return None;
+            Some(Frame::Open(Bracket::Call { start, name, count })) => {
+                if count > 0 {
+                    return Step::Refused;
+                }
+                self.put_closed(SyntaxKind::Call, Span { start, stop }, name, 0)
             }
-            let span = Span { start, stop };
-            Some(Node::Call {
-                span,
-                name,
-                arguments,
-            })
-        }
-        Bracket::Group { .. } | Bracket::Body { .. } => None,
-    }
-}
-
-/// `)` behind an operand that nothing holds but a parenthesis.
-pub fn close(
-    alloc: Global,
-    mut frames: Vec<Frame>,
-    read: Box<Node>,
-    token: &Token<'_>,
-) -> Result<State, SyntaxFault>
-    ensures taken { IfOk result (λ next.
-        close_at (stack_of frames.items) (tree_of read.value) token.now.span.stop ≡ Some (machine_of next)) }
-    ensures refused { IfErr result (Refuses
-        (close_at (stack_of frames.items) (tree_of read.value) token.now.span.stop) (token_model token.now)) }
-{
-    match frames.pop() {
-        Some(Frame::Open(bracket)) => {
-            let node = end(bracket, read, token.span.stop)?;
-            Ok(closed(alloc, frames, node)?)
-        }
-        Some(Frame::Pending(_)) | None => Err(SyntaxFault::Unexpected { span: token.span }),
-    }
-}
-
-/// The node that ends with the `)` of a parenthesis.
-fn end(bracket: Bracket, read: Box<Node>, stop: usize) -> Result<Node, AllocError>
-    ensures { IfOk result (λ whole.
-        tree_of whole ≡ enclosure_tree (enclosure_of bracket) (tree_of read.value) stop) }
-{
-    match bracket {
-        Bracket::Group { start } => Ok(Box::into_inner(read).spanned(Span { start, stop })),
-        Bracket::List { left, mut items } => {
-            let start = left.span().start;
-            let span = Span { start, stop };
-            items.push(Box::into_inner(read))?;
-            Ok(Node::InList { span, left, items })
-        }
-        Bracket::Call {
-            start,
-            name,
-            mut arguments,
-        } => {
-            let span = Span { start, stop };
-            arguments.push(Box::into_inner(read))?;
-            Ok(Node::Call {
-                span,
-                name,
-                arguments,
-            })
-        }
-        Bracket::Body {
-            quantifier,
-            base,
-            variable,
-        } => {
-            let start = base.span().start;
-            let span = Span { start, stop };
-            Ok(lambda(quantifier, span, base, variable, read))
+            Some(Frame::Open(Bracket::Group { .. })) => Step::Refused,
+            Some(Frame::Open(Bracket::Body { .. })) => Step::Refused,
+            Some(Frame::Pending(_)) => Step::Refused,
+            None => Step::Refused,
         }
     }
-}
 
-/// The node of a lambda expression.
-fn lambda(
-    quantifier: Quantifier,
-    span: Span,
-    base: Box<Node>,
-    variable: String,
-    body: Box<Node>,
-) -> Node
-    ensures { tree_of result ≡ node span.start span.stop
-        (lambda_shape quantifier (tree_of base.value) (string_bytes variable) (tree_of body.value)) }
-{
-    match quantifier {
-        Quantifier::Any => Node::Any {
-            span,
-            base,
-            lambda: Some((variable, body)),
-        },
-        Quantifier::All => Node::All {
-            span,
-            base,
-            variable,
-            body,
-        },
-    }
-}
-
-/// A comma behind an item of a list or a call.
-pub fn separate(
-    mut frames: Vec<Frame>,
-    read: Box<Node>,
-    token: &Token<'_>,
-) -> Result<State, SyntaxFault>
-    ensures taken { IfOk result (λ next.
-        comma_at (stack_of frames.items) (tree_of read.value) ≡ Some (machine_of next)) }
-    ensures refused { IfErr result (Refuses
-        (comma_at (stack_of frames.items) (tree_of read.value)) (token_model token.now)) }
-{
-    match frames.pop() {
-        Some(Frame::Open(Bracket::List { left, mut items })) => {
-            items.push(Box::into_inner(read))?;
-            Ok(wait_within(frames, Bracket::List { left, items })?)
-        }
-        Some(
-            Frame::Open(
-                Bracket::Call {
-                    start,
-                    name,
-                    mut arguments,
-                },
+    /// `)` after an operand that nothing holds but a parenthesis.
+    pub(crate) fn close(&mut self, stop: usize) -> Step
+        requires { HasRead self.old.frames.items self.old.nodes.items }
+        ensures step { (texts : Texts) → IsStepTo result
+            (close_at (waiting_behind texts self.old) (read_tree texts self.old) stop) (machine_of texts self.new) }
+        ensures steady { IfTaken result (IsSteadyState self.new) }
+    {
+        match self.frames.pop() {
+            Some(Frame::Open(Bracket::Group { start })) => self.regroup(Span { start, stop }),
+            Some(Frame::Open(Bracket::List { start, count })) => {
+                let count = self.one_more(count);
+                self.put_closed(SyntaxKind::InList, Span { start, stop }, NO_TEXT, count)
+            }
+            Some(Frame::Open(Bracket::Call { start, name, count })) => {
+                let count = self.one_more(count);
+                self.put_closed(SyntaxKind::Call, Span { start, stop }, name, count)
+            }
+            Some(
+                Frame::Open(
+                    Bracket::Body {
+                        quantifier,
+                        start,
+                        variable,
+                    },
+                ),
+            ) => self.put_closed(
+                SyntaxKind::Lambda(quantifier),
+                Span { start, stop },
+                variable,
+                0,
             ),
-        ) => {
-            arguments.push(Box::into_inner(read))?;
-            let bracket = Bracket::Call {
-                start,
-                name,
-                arguments,
-            };
-            Ok(wait_within(frames, bracket)?)
+            _ => Step::Refused,
         }
-        _ => Err(SyntaxFault::Unexpected { span: token.span }),
     }
-}
 
-/// Behind an operand that is whole.
-pub fn closed(alloc: Global, frames: Vec<Frame>, node: Node) -> Result<State, AllocError>
-    ensures { IfOk result (λ state.
-        machine_of state ≡ machine_at (stack_of frames.items) (closed_at (tree_of node))) }
-{
-    let stage = Stage::Closed(Box::new(alloc, node)?);
-    Ok(State { frames, stage })
+    /// The number of items with one more, of which there are fewer than nodes.
+    #[inline(always)]
+    fn one_more(&self, count: usize) -> usize
+        requires { count < length self.now.nodes.items }
+        ensures { result ≡ count + 1 }
+    {
+        let limit = self.nodes.len();
+        if count < limit {
+            count + 1
+        } else {
+            unreachable!()
+        }
+    }
+
+    /// The operand that has been read stands from its parenthesis to this one.
+    #[inline(always)]
+    fn regroup(&mut self, span: Span) -> Step
+        requires { HasRead self.old.frames.items self.old.nodes.items }
+        ensures grouped { (texts : Texts) → IfTaken result (trees_in texts self.new.nodes.items
+            ≡ node span.start span.stop (shape_of (read_tree texts self.old))
+            ∷ trees_before (trees_in texts self.old.nodes.items)) }
+        ensures read { IfTaken result (HasRead self.new.frames.items self.new.nodes.items) }
+        ensures frames { self.new.frames ≡ self.old.frames }
+        ensures stage { self.new.stage ≡ Stage.Closed }
+        ensures taken { IsNotRefused result }
+    {
+        self.stage = Stage::Closed;
+        match self.nodes.pop() {
+            Some(node) => self.put(SyntaxNode {
+                kind: node.kind,
+                span,
+                text: node.text,
+                count: node.count,
+            }),
+            None => unreachable!(),
+        }
+    }
+
+    /// Puts the node of what ends here, after its children.
+    fn put_closed(&mut self, kind: SyntaxKind, span: Span, text: Span, count: usize) -> Step
+        ensures put { IfTaken result (self.new.nodes.items ≡ self.old.nodes.items
+            ++ (record { kind = kind; span = span; text = text; count = count }) ∷ []) }
+        ensures frames { self.new.frames ≡ self.old.frames }
+        ensures stage { self.new.stage ≡ Stage.Closed }
+        ensures taken { IsNotRefused result }
+    {
+        self.stage = Stage::Closed;
+        self.put(SyntaxNode {
+            kind,
+            span,
+            text,
+            count,
+        })
+    }
+
+    /// A comma after an item of a list or a call.
+    pub(crate) fn separate(&mut self) -> Step
+        requires { HasRead self.old.frames.items self.old.nodes.items }
+        ensures step { (texts : Texts) → IsStepTo result
+            (comma_at (waiting_behind texts self.old) (read_tree texts self.old)) (machine_of texts self.new) }
+        ensures steady { IfTaken result (IsSteadyState self.new) }
+    {
+        match self.frames.pop() {
+            Some(Frame::Open(Bracket::List { start, count })) => {
+                let count = self.one_more(count);
+                self.wait(Frame::Open(Bracket::List { start, count }))
+            }
+            Some(Frame::Open(Bracket::Call { start, name, count })) => {
+                let count = self.one_more(count);
+                self.wait(Frame::Open(Bracket::Call { start, name, count }))
+            }
+            _ => Step::Refused,
+        }
+    }
 }

@@ -1,20 +1,20 @@
-ghost use Rattle.std.specs.Prelude.{◌≡◌, Some, IfOk, IfErr};
-ghost use Rattle.odata_syntax.specs.TreeView.{tree_of};
+//! Tokens after an operand.
+ghost use Rattle.std.specs.Prelude.{◌≡◌, ◌∷◌, [], ℕ};
+ghost use Rattle.std.specs.Char.{to_ascii_lowercase};
 ghost use Rattle.odata_text.specs.TokenModel.{token_model};
+ghost use Rattle.odata_syntax.specs.PostOrder.{Texts};
 ghost use Rattle.odata_syntax.specs.private.Machine.{word_next as machine_word, next_of_kind, next_level};
 ghost use Rattle.odata_syntax.specs.private.Machine.{take_next as machine_take_next};
-ghost use Rattle.odata_syntax.specs.private.MachineView.{machine_of, stack_of, Refuses};
+ghost use Rattle.odata_syntax.specs.private.MachineView.{machine_of};
+ghost use Rattle.odata_syntax.specs.private.ListSteps.{HasRead, IfTaken, IsSteadyState, IsStepTo};
+ghost use Rattle.odata_syntax.specs.private.ListSteps.{read_tree, waiting_behind};
 
+use crate::BinaryOperator;
 use crate::level::{self, operator_level};
-use crate::parser::bracket::{close, separate};
-use crate::parser::frames::{reduce, wait_for};
-use crate::parser::state::{Frame, Pending, State};
-use crate::parser::word::is_word;
-use crate::{BinaryOperator, Node, SyntaxFault};
-use odata_text::{Token, TokenKind};
-use std::alloc::Global;
+use crate::parser::state::{Frame, Pending, Piece, State, Step};
+use odata_text::TokenKind;
 
-/// What a token says behind an operand.
+/// What a token says after an operand.
 #[derive(Clone, Copy, Debug, PartialEq, Eq)]
 pub enum Next {
     Operator(BinaryOperator),
@@ -24,43 +24,13 @@ pub enum Next {
     Comma,
 }
 
-/// Takes a token behind the operand `read`.
-pub fn take_next(
-    alloc: Global,
-    mut frames: Vec<Frame>,
-    read: Box<Node>,
-    token: &Token<'_>,
-) -> Result<State, SyntaxFault>
-    ensures taken { IfOk result (λ state. machine_take_next (stack_of frames.items) (tree_of read.value)
-        token.now.span.stop (next_of_kind token.now.kind token.now.text.now) ≡ Some (machine_of state)) }
-    ensures refused { IfErr result (Refuses (machine_take_next (stack_of frames.items) (tree_of read.value)
-        token.now.span.stop (next_of_kind token.now.kind token.now.text.now)) (token_model token.now)) }
-{
-    let Some(next) = read_next(token) else {
-        return Err(SyntaxFault::Unexpected { span: token.span });
-    };
-    let read = reduce(alloc, &mut frames, level_of_next(next), read)?;
-    match next {
-        Next::Operator(operator) => Ok(wait_for(
-            frames,
-            Pending::Binary {
-                operator,
-                left: read,
-            },
-        )?),
-        Next::Has => Ok(wait_for(frames, Pending::Has { left: read })?),
-        Next::In => Ok(wait_for(frames, Pending::In { left: read })?),
-        Next::Close => close(alloc, frames, read, token),
-        Next::Comma => separate(frames, read, token),
-    }
-}
-
 /// What a token says.
-fn read_next(token: &Token<'_>) -> Option<Next>
-    ensures { result ≡ next_of_kind token.now.kind token.now.text.now }
+#[inline(always)]
+fn read_next(piece: &Piece<'_>) -> Option<Next>
+    ensures { result ≡ next_of_kind piece.now.token.kind piece.now.token.text.now }
 {
-    match token.kind {
-        TokenKind::Word => word_next(token.text),
+    match piece.token.kind {
+        TokenKind::Word => word_next(piece.token.text.as_bytes()),
         TokenKind::Close => Some(Next::Close),
         TokenKind::Comma => Some(Next::Comma),
         _ => None,
@@ -68,46 +38,62 @@ fn read_next(token: &Token<'_>) -> Option<Next>
 }
 
 /// What a word says.
-#[tactic(auto, unfolding(crate::specs::private::Machine::word_next))]
-fn word_next(text: &str) -> Option<Next>
-    ensures { result ≡ machine_word text.now }
+#[inline(always)]
+fn word_next(word: &[u8]) -> Option<Next>
+    ensures { result ≡ machine_word word.now }
 {
-    if is_word(text, "or") {
-        Some(Next::Operator(BinaryOperator::Or))
-    } else if is_word(text, "and") {
-        Some(Next::Operator(BinaryOperator::And))
-    } else if is_word(text, "eq") {
-        Some(Next::Operator(BinaryOperator::Eq))
-    } else if is_word(text, "ne") {
-        Some(Next::Operator(BinaryOperator::Ne))
-    } else if is_word(text, "gt") {
-        Some(Next::Operator(BinaryOperator::Gt))
-    } else if is_word(text, "ge") {
-        Some(Next::Operator(BinaryOperator::Ge))
-    } else if is_word(text, "lt") {
-        Some(Next::Operator(BinaryOperator::Lt))
-    } else if is_word(text, "le") {
-        Some(Next::Operator(BinaryOperator::Le))
-    } else if is_word(text, "add") {
-        Some(Next::Operator(BinaryOperator::Add))
-    } else if is_word(text, "sub") {
-        Some(Next::Operator(BinaryOperator::Sub))
-    } else if is_word(text, "mul") {
-        Some(Next::Operator(BinaryOperator::Mul))
-    } else if is_word(text, "div") {
-        Some(Next::Operator(BinaryOperator::Div))
-    } else if is_word(text, "mod") {
-        Some(Next::Operator(BinaryOperator::Mod))
-    } else if is_word(text, "has") {
-        Some(Next::Has)
-    } else if is_word(text, "in") {
-        Some(Next::In)
-    } else {
-        None
+    match word {
+        [a, b] => two_letters(a.to_ascii_lowercase(), b.to_ascii_lowercase()),
+        [a, b, c] => three_letters(
+            a.to_ascii_lowercase(),
+            b.to_ascii_lowercase(),
+            c.to_ascii_lowercase(),
+        ),
+        _ => None,
+    }
+}
+
+/// What a word of two lower-case letters says.
+#[tactic(auto, unfolding(crate::specs::private::Machine::word_next))]
+#[inline(always)]
+fn two_letters(a: u8, b: u8) -> Option<Next>
+    ensures { (x y : ℕ) → a ≡ to_ascii_lowercase x → b ≡ to_ascii_lowercase y
+        → result ≡ machine_word (x ∷ y ∷ []) }
+{
+    match (a, b) {
+        (b'o', b'r') => Some(Next::Operator(BinaryOperator::Or)),
+        (b'e', b'q') => Some(Next::Operator(BinaryOperator::Eq)),
+        (b'n', b'e') => Some(Next::Operator(BinaryOperator::Ne)),
+        (b'g', b't') => Some(Next::Operator(BinaryOperator::Gt)),
+        (b'g', b'e') => Some(Next::Operator(BinaryOperator::Ge)),
+        (b'l', b't') => Some(Next::Operator(BinaryOperator::Lt)),
+        (b'l', b'e') => Some(Next::Operator(BinaryOperator::Le)),
+        (b'i', b'n') => Some(Next::In),
+        _ => None,
+    }
+}
+
+/// What a word of three lower-case letters says.
+#[tactic(auto, unfolding(crate::specs::private::Machine::word_next))]
+#[inline(always)]
+fn three_letters(a: u8, b: u8, c: u8) -> Option<Next>
+    ensures { (x y z : ℕ) → a ≡ to_ascii_lowercase x → b ≡ to_ascii_lowercase y → c ≡ to_ascii_lowercase z
+        → result ≡ machine_word (x ∷ y ∷ z ∷ []) }
+{
+    match (a, b, c) {
+        (b'a', b'n', b'd') => Some(Next::Operator(BinaryOperator::And)),
+        (b'a', b'd', b'd') => Some(Next::Operator(BinaryOperator::Add)),
+        (b's', b'u', b'b') => Some(Next::Operator(BinaryOperator::Sub)),
+        (b'm', b'u', b'l') => Some(Next::Operator(BinaryOperator::Mul)),
+        (b'm', b'o', b'd') => Some(Next::Operator(BinaryOperator::Mod)),
+        (b'd', b'i', b'v') => Some(Next::Operator(BinaryOperator::Div)),
+        (b'h', b'a', b's') => Some(Next::Has),
+        _ => None,
     }
 }
 
 /// How tightly it binds.
+#[inline(always)]
 fn level_of_next(next: Next) -> u8
     ensures { result ≡ next_level next }
 {
@@ -115,5 +101,35 @@ fn level_of_next(next: Next) -> u8
         Next::Operator(operator) => operator_level(operator),
         Next::Has | Next::In => level::PRIMARY,
         Next::Close | Next::Comma => level::OR,
+    }
+}
+
+impl State {
+    /// Takes a token after an operand.
+    #[inline(always)]
+    pub(crate) fn take_next(&mut self, piece: &Piece<'_>) -> Step
+        requires { HasRead self.old.frames.items self.old.nodes.items }
+        ensures step { (texts : Texts) → IsStepTo result (machine_take_next (waiting_behind texts self.old)
+            (read_tree texts self.old) piece.now.token.span.stop
+            (next_of_kind piece.now.token.kind piece.now.token.text.now)) (machine_of texts self.new) }
+        ensures steady { IfTaken result (IsSteadyState self.new) }
+    {
+        let Some(next) = read_next(piece) else {
+            return Step::Refused;
+        };
+        match self.reduce(level_of_next(next)) {
+            Step::Taken => {}
+            other => return other,
+        }
+        let start = self.read().start;
+        match next {
+            Next::Operator(operator) => {
+                self.wait(Frame::Pending(Pending::Binary { operator, start }))
+            }
+            Next::Has => self.wait(Frame::Pending(Pending::Has { start })),
+            Next::In => self.wait(Frame::Pending(Pending::In { start })),
+            Next::Close => self.close(piece.token.span.stop),
+            Next::Comma => self.separate(),
+        }
     }
 }

@@ -1,122 +1,206 @@
-ghost use Rattle.std.specs.Prelude.{◌≡◌};
-ghost use Rattle.odata_syntax.specs.private.Machine.{start};
+//! The machine: what waits, what is expected next, and the nodes so far.
+ghost use Rattle.std.specs.Prelude.{◌≡◌, ◌∷◌, ◌++◌, [], IfOk};
+ghost use Rattle.odata_syntax.specs.Tree.{start_of, stop_of};
+ghost use Rattle.odata_syntax.specs.PostOrder.{Texts};
+ghost use Rattle.odata_syntax.specs.private.Machine.{start as machine_start};
 ghost use Rattle.odata_syntax.specs.private.MachineView.{machine_of};
+ghost use Rattle.odata_syntax.specs.private.ListSteps.{HasRead, IfTaken, IsNotRefused, IsSteadyState, read_tree};
 
-use crate::{BinaryOperator, Node, Quantifier};
-use odata_text::Span;
-use std::alloc::Global;
+use crate::syntax_list::{SyntaxKind, SyntaxNode};
+use crate::{BinaryOperator, Quantifier};
+use odata_text::{Span, Token};
+use std::alloc::{AllocError, Global};
 
-/// An operation that waits for its last operand.
-#[derive(Debug, Drop)]
-pub enum Pending {
-    /// An operator with the operand before it.
+/// An operation that waits for its last operand, with where the operand before it starts.
+#[derive(Clone, Copy, Debug)]
+pub(crate) enum Pending {
+    /// An operator.
     Binary {
         operator: BinaryOperator,
-        left: Box<Node>,
+        start: usize,
     },
-    /// `has` with the operand before it.
     Has {
-        left: Box<Node>,
+        start: usize,
     },
-    /// `in` with the operand before it: a path may follow, or `(` and a list.
+    /// `in`: a path may follow, or `(` and a list.
     In {
-        left: Box<Node>,
+        start: usize,
     },
-    /// `-`, by the place where it starts.
+    /// `-`, from its start.
     Minus {
         start: usize,
     },
-    /// `not`, by the place where it starts.
+    /// `not`, from its start.
     Not {
         start: usize,
     },
 }
 
-/// An open parenthesis with what stands before it.
-#[derive(Debug, Drop)]
-pub enum Bracket {
-    /// Of a group, by the place where it starts.
+/// An open parenthesis.
+#[derive(Clone, Copy, Debug)]
+pub(crate) enum Bracket {
+    /// Of a group, from its start.
     Group {
         start: usize,
     },
-    /// Of the list of an `in`, with the items so far.
+    /// Of the list of an `in`, with the number of items so far.
     List {
-        left: Box<Node>,
-        items: Vec<Node>,
+        start: usize,
+        count: usize,
     },
-    /// Of a call, with the arguments so far. The name is in lower case.
+    /// Of a call, with the number of arguments so far.
     Call {
         start: usize,
-        name: String,
-        arguments: Vec<Node>,
+        name: Span,
+        count: usize,
     },
-    /// Of a lambda expression.
+    /// Of a lambda expression, from the start of its base.
     Body {
         quantifier: Quantifier,
-        base: Box<Node>,
-        variable: String,
+        start: usize,
+        variable: Span,
     },
 }
 
 /// What waits for the operand that is being read.
-#[derive(Debug, Drop)]
-pub enum Frame {
+#[derive(Clone, Copy, Debug)]
+pub(crate) enum Frame {
     Pending(Pending),
     Open(Bracket),
 }
 
-/// What may come next.
-#[derive(Debug, Drop)]
-pub enum Stage {
+/// What may come next. The operand that has been read is the last tree of the list.
+#[derive(Clone, Copy, Debug)]
+pub(crate) enum Stage {
     /// An operand, or the `)` of a list or a call that holds nothing.
     Operand,
-    /// Behind this operand: an operator, `has`, `in`, a comma, a `)` or the end.
-    Closed(Box<Node>),
+    /// After an operand: an operator, `has`, `in`, a comma, a `)` or the end.
+    Closed,
     /// The same, or a `/` that goes on with this path.
-    Path(Box<Node>),
-    /// The same, or the `(` of a call of this name.
+    Path,
+    /// The same, or the `(` of a call of this name. No node of it is in the list.
     NameOrCall {
         span: Span,
-        name: String,
+        name: Span,
     },
-    /// Behind a `/`: a segment.
-    Segment(Box<Node>),
-    /// Behind `any` or `all`, as written, which ends at `stop`: what may stand behind a path, or the `(` of a lambda
-    /// expression.
+    /// After a `/`: a segment.
+    Segment,
+    /// After `any` or `all`, which ends at `stop`: what may stand after a path, or the `(` of a lambda expression.
     MemberOrLambda {
         quantifier: Quantifier,
-        base: Box<Node>,
         stop: usize,
-        name: String,
+        name: Span,
     },
-    /// Behind that `(`: a variable, or `)` for `any`.
+    /// After that `(`: a variable, or `)` for `any`.
     Variable {
         quantifier: Quantifier,
-        base: Box<Node>,
     },
-    /// Behind the variable: a colon.
+    /// After the variable: a colon.
     Colon {
         quantifier: Quantifier,
-        base: Box<Node>,
-        variable: String,
+        variable: Span,
     },
 }
 
+/// What became of a token.
+#[derive(Clone, Copy, Debug, PartialEq, Eq)]
+pub(crate) enum Step {
+    Taken,
+    /// It cannot stand here.
+    Refused,
+    OutOfMemory,
+}
+
+/// A token, and where the caller finds its text.
+#[derive(Clone, Copy)]
+pub(crate) struct Piece<'t> {
+    pub(crate) token: Token<'t>,
+    pub(crate) text: Span,
+}
+
+/// A node without a text.
+pub(crate) const NO_TEXT: Span = Span { start: 0, stop: 0 };
+
+/// Room for frames at the start, which seldom grows.
+const FRAME_ROOM: usize = 8;
+
 /// The machine between two tokens. The last frame is the innermost.
-#[derive(Debug, Drop)]
-pub struct State {
-    pub frames: Vec<Frame>,
-    pub stage: Stage,
+#[derive(Drop)]
+pub(crate) struct State {
+    pub(crate) nodes: Vec<SyntaxNode>,
+    pub(crate) frames: Vec<Frame>,
+    pub(crate) stage: Stage,
 }
 
 impl State {
-    /// The machine before the first token.
-    pub fn new(alloc: Global) -> State
-        ensures { machine_of result ≡ start }
+    /// The machine before the first token, with room for some nodes.
+    pub(crate) fn new(alloc: Global, room: usize) -> Result<State, AllocError>
+        ensures start { (texts : Texts) → IfOk result (λ state. machine_of texts state ≡ machine_start) }
+        ensures steady { IfOk result IsSteadyState }
     {
-        State {
-            frames: Vec::new(alloc),
+        Ok(State {
+            nodes: Vec::with_capacity(alloc, room)?,
+            frames: Vec::with_capacity(alloc, FRAME_ROOM)?,
             stage: Stage::Operand,
+        })
+    }
+
+    /// Where the operand that has been read stands; at the start where there is none.
+    #[inline(always)]
+    pub(crate) fn read(&self) -> Span
+        ensures starts { (texts : Texts) → start_of (read_tree texts self.now) ≡ result.start }
+        ensures stops { (texts : Texts) → stop_of (read_tree texts self.now) ≡ result.stop }
+    {
+        match self.nodes.last() {
+            Some(node) => node.span,
+            None => NO_TEXT,
+        }
+    }
+
+    /// Puts a node without children after the others.
+    #[inline(always)]
+    pub(crate) fn put_leaf(&mut self, kind: SyntaxKind, span: Span, text: Span, next: Stage) -> Step
+        ensures put { IfTaken result (self.new.nodes.items ≡ self.old.nodes.items
+            ++ (record { kind = kind; span = span; text = text; count = 0 }) ∷ []) }
+        ensures taken { IsNotRefused result }
+        ensures frames { self.new.frames ≡ self.old.frames }
+        ensures stage { self.new.stage ≡ next }
+    {
+        self.stage = next;
+        self.put(SyntaxNode {
+            kind,
+            span,
+            text,
+            count: 0,
+        })
+    }
+
+    /// Puts a node after its children.
+    #[inline(always)]
+    pub(crate) fn put(&mut self, node: SyntaxNode) -> Step
+        ensures put { IfTaken result (self.new.nodes.items ≡ self.old.nodes.items ++ node ∷ []) }
+        ensures frames { self.new.frames ≡ self.old.frames }
+        ensures stage { self.new.stage ≡ self.old.stage }
+        ensures taken { IsNotRefused result }
+    {
+        match self.nodes.push(node) {
+            Ok(()) => Step::Taken,
+            Err(_) => Step::OutOfMemory,
+        }
+    }
+
+    /// One more operation waits, or one more parenthesis is open.
+    #[inline(always)]
+    pub(crate) fn wait(&mut self, frame: Frame) -> Step
+        ensures waits { IfTaken result (self.new.frames.items ≡ self.old.frames.items ++ frame ∷ []) }
+        ensures nodes { self.new.nodes ≡ self.old.nodes }
+        ensures stage { self.new.stage ≡ Stage.Operand }
+        ensures taken { IsNotRefused result }
+    {
+        self.stage = Stage::Operand;
+        match self.frames.push(frame) {
+            Ok(()) => Step::Taken,
+            Err(_) => Step::OutOfMemory,
         }
     }
 }

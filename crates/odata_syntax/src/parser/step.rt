@@ -1,110 +1,94 @@
-ghost use Rattle.std.specs.Prelude.{◌≡◌, Some, IfOk, IfErr};
+//! The machine's steps.
+ghost use Rattle.std.specs.Prelude.{◌≡◌};
 ghost use Rattle.odata_text.specs.TokenModel.{token_model};
-ghost use Rattle.odata_syntax.specs.TreeView.{tree_of};
 ghost use Rattle.odata_syntax.specs.Grammar.{or_level};
-ghost use Rattle.odata_syntax.specs.declared.syntax_fault.SyntaxFault.{SyntaxFault};
+ghost use Rattle.odata_syntax.specs.PostOrder.{IsWholeTree, Texts};
 ghost use Rattle.odata_syntax.specs.private.Machine.{step as machine_step, finish as machine_finish};
 ghost use Rattle.odata_syntax.specs.private.Machine.{reduce as machine_reduce, finish_reduced};
-ghost use Rattle.odata_syntax.specs.private.MachineView.{machine_of, stack_of, Refuses, RefusesEnd};
+ghost use Rattle.odata_syntax.specs.private.MachineView.{machine_of};
+ghost use Rattle.odata_syntax.specs.private.ListSteps.{HasRead, IfTaken, IsEndOf, IsSteadyState, IsStepTo};
+ghost use Rattle.odata_syntax.specs.private.ListSteps.{read_tree, waiting_behind};
 
-use crate::parser::frames::reduce;
-use crate::parser::lambda::{take_behind_word, take_colon, take_variable};
-use crate::parser::operand::take_operand;
-use crate::parser::operator::take_next;
-use crate::parser::path::{take_behind_name, take_behind_path, take_segment};
-use crate::parser::state::{Frame, Stage, State};
-use crate::{Node, SyntaxFault, level};
-use odata_text::{Span, Token};
-use std::alloc::{AllocError, Global};
+use crate::level;
+use crate::parser::state::{Piece, Stage, State, Step};
+use crate::syntax_list::SyntaxKind;
 
-/// The machine behind one more token.
-pub fn step(alloc: Global, state: State, token: &Token<'_>) -> Result<State, SyntaxFault>
-    ensures taken { IfOk result (λ next.
-        machine_step (machine_of state) (token_model token.now) ≡ Some (machine_of next)) }
-    ensures refused { IfErr result
-        (Refuses (machine_step (machine_of state) (token_model token.now)) (token_model token.now)) }
-{
-    let State { frames, stage } = state;
-    match stage {
-        Stage::Operand => take_operand(alloc, frames, token),
-        Stage::Closed(read) => take_next(alloc, frames, read, token),
-        Stage::Path(read) => take_behind_path(alloc, frames, read, token),
-        Stage::NameOrCall { span, name } => take_behind_name(alloc, frames, span, name, token),
-        Stage::Segment(base) => take_segment(alloc, frames, base, token),
-        Stage::MemberOrLambda {
-            quantifier,
-            base,
-            stop,
-            name,
-        } => take_behind_word(alloc, frames, quantifier, base, stop, name, token),
-        Stage::Variable { quantifier, base } => {
-            take_variable(alloc, frames, quantifier, base, token)
-        }
-        Stage::Colon {
-            quantifier,
-            base,
-            variable,
-        } => take_colon(frames, quantifier, base, variable, token),
-    }
-}
-
-/// The tree behind the last token of a text of `len` bytes.
-pub fn finish(alloc: Global, state: State, len: usize) -> Result<Box<Node>, SyntaxFault>
-    ensures ended { IfOk result (λ root. machine_finish (machine_of state) ≡ Some (tree_of root.value)) }
-    ensures refused { IfErr result (RefusesEnd (machine_finish (machine_of state)) len) }
-{
-    let State { frames, stage } = state;
-    match stage {
-        Stage::Closed(read) | Stage::Path(read) => end(alloc, frames, read, len),
-        Stage::NameOrCall { span, name } => {
-            let read = Box::new(alloc, Node::Name { span, name })?;
-            end(alloc, frames, read, len)
-        }
-        Stage::MemberOrLambda {
-            base,
-            stop,
-            name,
-            ..
-        } => {
-            let start = base.span().start;
-            let span = Span { start, stop };
-            let read = Box::new(alloc, Node::Member { span, base, name })?;
-            end(alloc, frames, read, len)
-        }
-        Stage::Operand | Stage::Segment(_) | Stage::Variable { .. } | Stage::Colon { .. } => {
-            Err(unended(len))
+impl State {
+    /// Takes one more token.
+    #[inline(always)]
+    pub(crate) fn step(&mut self, piece: &Piece<'_>) -> Step
+        requires { IsSteadyState self.old }
+        ensures step { (texts : Texts) → texts piece.now.text ≡ piece.now.token.text.now
+            → IsStepTo result (machine_step (machine_of texts self.old) (token_model piece.now.token))
+            (machine_of texts self.new) }
+        ensures steady { IfTaken result (IsSteadyState self.new) }
+    {
+        match self.stage {
+            Stage::Operand => self.take_operand(piece),
+            Stage::Closed => self.take_next(piece),
+            Stage::Path => self.take_after_path(piece),
+            Stage::NameOrCall { span, name } => self.take_after_name(span, name, piece),
+            Stage::Segment => self.take_segment(piece),
+            Stage::MemberOrLambda {
+                quantifier,
+                stop,
+                name,
+            } => self.take_after_word(quantifier, stop, name, piece),
+            Stage::Variable { quantifier } => self.take_variable(quantifier, piece),
+            Stage::Colon {
+                quantifier,
+                variable,
+            } => self.take_colon(quantifier, variable, piece),
         }
     }
-}
 
-/// The tree that the last operand grows to, if no parenthesis is open.
-fn end(
-    alloc: Global,
-    mut frames: Vec<Frame>,
-    read: Box<Node>,
-    len: usize,
-) -> Result<Box<Node>, SyntaxFault>
-    ensures ended { IfOk result (λ root. finish_reduced (machine_reduce or_level (stack_of frames.items)
-        (tree_of read.value)) ≡ Some (tree_of root.value)) }
-    ensures refused { IfErr result (RefusesEnd (finish_reduced (machine_reduce or_level (stack_of frames.items)
-        (tree_of read.value))) len) }
-{
-    let root = reduce(alloc, &mut frames, level::OR, read)?;
-    if frames.is_empty() {
-        Ok(root)
-    } else {
-        Err(unended(len))
+    /// Ends after the last token: the list is then that of the whole tree.
+    pub(crate) fn finish(&mut self) -> Step
+        requires { IsSteadyState self.old }
+        ensures ended { (texts : Texts) →
+            IsEndOf result (machine_finish (machine_of texts self.old)) (read_tree texts self.new) }
+        ensures whole { IfTaken result (IsWholeTree self.new.nodes.items) }
+    {
+        match self.stage {
+            Stage::Closed => self.end(),
+            Stage::Path => self.end(),
+            Stage::NameOrCall { span, name } => {
+                match self.put_leaf(SyntaxKind::Name, span, name, Stage::Path) {
+                    Step::Taken => self.end(),
+                    other => other,
+                }
+            }
+            Stage::MemberOrLambda { stop, name, .. } => match self.put_step(
+                SyntaxKind::Member,
+                stop,
+                name,
+                Stage::Path,
+            ) {
+                Step::Taken => self.end(),
+                other => other,
+            },
+            Stage::Operand => Step::Refused,
+            Stage::Segment => Step::Refused,
+            Stage::Variable { .. } => Step::Refused,
+            Stage::Colon { .. } => Step::Refused,
+        }
     }
-}
 
-/// One more token is wanted behind a text of `len` bytes.
-fn unended(len: usize) -> SyntaxFault
-    ensures { result ≡ SyntaxFault.Unexpected (record { start = len; stop = len }) }
-{
-    SyntaxFault::Unexpected {
-        span: Span {
-            start: len,
-            stop: len,
-        },
+    /// Grows the last operand to the whole tree, if no parenthesis is open.
+    fn end(&mut self) -> Step
+        requires { HasRead self.old.frames.items self.old.nodes.items }
+        ensures ended { (texts : Texts) → IsEndOf result (finish_reduced
+            (machine_reduce or_level (waiting_behind texts self.old) (read_tree texts self.old)))
+            (read_tree texts self.new) }
+        ensures whole { IfTaken result (IsWholeTree self.new.nodes.items) }
+    {
+        match self.reduce(level::OR) {
+            Step::Taken => if self.frames.is_empty() {
+                Step::Taken
+            } else {
+                Step::Refused
+            },
+            other => other,
+        }
     }
 }

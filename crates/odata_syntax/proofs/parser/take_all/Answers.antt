@@ -1,20 +1,48 @@
-use Rattle.std.proofs.Common.{arith}
-use Rattle.std.proofs.lemmas.Result.{err_from_is_err_and}
+use Rattle.std.proofs.Common.{◌≡◌, refl, ap, ◌∙◌, ℕ, ◌<◌, List, length, get_or, slice_get, arith}
+use Rattle.std.proofs.lemmas.Option.{slice_get-get_or}
+use Rattle.odata_text.specs.declared.token.Token.{Token}
 use Rattle.odata_syntax.proofs.machine.Loop.{loop_more, loop_overfull, stuck_at}
+use Rattle.odata_syntax.specs.declared.syntax_fault.SyntaxFault.{SyntaxFault}
+use Rattle.odata_syntax.specs.private.Forests.{text_of_token, token_texts}
 use Rattle.odata_syntax.specs.private.MachineView.{machine_of}
 use Rattle.odata_syntax.proofs.parser.take_all.Goals as goal
 
-pub returns-in_err-state-clause-refused : goal.returns-in_err-state-clause-refused
-returns-in_err-state-clause-refused c =
-    let p = err_from_is_err_and c.from_residual.result c.from_residual.ensures.1 in
-    rw (p.1, p.2) (stuck_at c.args.tokens.now c.loop-token.token-index _ (machine_of c.loop-token.state) c.in_err-state.field-0.0 (omega arith) c.loop-token.invariant.taken c.loop-token.invariant.shallow c.in_err-state.ensures.refused)
+-- a token's text is found by its number
+named_at : (tokens : List Token) (number index : ℕ) (d : Token) → index < length tokens → number ≡ index → text_of_token (slice_get tokens number) ≡ (get_or tokens index d).text.now
+named_at tokens number index d inside same =
+    ap (λ k. text_of_token (slice_get tokens k)) same ∙ ap text_of_token (slice_get-get_or tokens index d inside)
+
+pub returns-in-Refused-clause-refused : goal.returns-in-Refused-clause-refused
+returns-in-Refused-clause-refused c =
+    let i = c.loop-token.invariant in
+    let texts = token_texts c.args.tokens.now in
+    let named = named_at c.args.tokens.now c.loop-token.number c.loop-token.token-index _ (omega arith) i.number in
+    stuck_at c.args.tokens.now c.loop-token.token-index _ (machine_of texts c.loop-token.state) (SyntaxFault.Unexpected _) (omega arith) i.taken i.shallow
+    (record { start_is = refl; stop_is = refl }, c.in-Refused.ensures.step texts named)
 
 pub returns-then-opens-closes-clause-refused : goal.returns-then-opens-closes-clause-refused
 returns-then-opens-closes-clause-refused c =
     let i = c.loop-token.invariant in
-    loop_overfull c.args.tokens.now c.loop-token.token-index _ (machine_of c.loop-token.state) (machine_of c.in_ok-state.state) c.loop-token.opens c.loop-token.closes c.open_count-opens.result c.close_count-closes.result (omega arith) i.taken i.shallow i.opened i.closed c.in_ok-state.ensures.taken c.open_count-opens.ensures.count c.close_count-closes.ensures.count c.if-opens-closes.true
+    let texts = token_texts c.args.tokens.now in
+    let named = named_at c.args.tokens.now c.loop-token.number c.loop-token.token-index _ (omega arith) i.number in
+    loop_overfull c.args.tokens.now c.loop-token.token-index _ (machine_of texts c.loop-token.state) (machine_of texts c.step.new.self) c.loop-token.opens c.loop-token.closes c.open_count-opens.result c.close_count-closes.result
+    (omega arith) i.taken i.shallow i.opened i.closed (c.in-Taken.ensures.step texts named) c.open_count-opens.ensures.count c.close_count-closes.ensures.count c.if-opens-closes.true
 
 pub loop-token-preserved : goal.loop-token-preserved
 loop-token-preserved c =
     let i = c.loop-token.invariant in
-    loop_more c.args.tokens.now c.loop-token.token-index _ (machine_of c.loop-token.state) (machine_of c.in_ok-state.state) c.loop-token.opens c.loop-token.closes c.open_count-opens.result c.close_count-closes.result (omega arith) i.taken i.shallow i.opened i.closed i.opens_within i.closes_within c.in_ok-state.ensures.taken c.open_count-opens.ensures.count c.close_count-closes.ensures.count c.open_count-opens.ensures.one c.close_count-closes.ensures.one c.if-opens-closes.false
+    let texts = token_texts c.args.tokens.now in
+    let named = named_at c.args.tokens.now c.loop-token.number c.loop-token.token-index _ (omega arith) i.number in
+    let more = loop_more c.args.tokens.now c.loop-token.token-index _ (machine_of texts c.loop-token.state) (machine_of texts c.step.new.self) c.loop-token.opens c.loop-token.closes c.open_count-opens.result c.close_count-closes.result
+    (omega arith) i.taken i.shallow i.opened i.closed i.opens_within i.closes_within (c.in-Taken.ensures.step texts named) c.open_count-opens.ensures.count c.close_count-closes.ensures.count
+    c.open_count-opens.ensures.one c.close_count-closes.ensures.one c.if-opens-closes.false in
+    record {
+      steady = c.in-Taken.ensures.steady;
+      number = omega (arith, i.number);
+      taken = more.taken;
+      shallow = more.shallow;
+      opened = more.opened;
+      closed = more.closed;
+      opens_within = more.opens_within;
+      closes_within = more.closes_within;
+    }

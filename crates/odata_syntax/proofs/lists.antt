@@ -1,0 +1,10 @@
+pub mod Pushed
+pub mod Last
+pub mod Held
+pub mod Counts
+pub mod Brackets
+pub mod Empty
+pub mod Opens
+pub mod Reduced
+pub mod Boxes
+pub mod Fronts

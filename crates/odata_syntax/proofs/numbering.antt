@@ -1,0 +1,6 @@
+pub mod Writes
+pub mod Tiles
+pub mod Growth
+pub mod Growing
+pub mod Numbers
+pub mod Placed

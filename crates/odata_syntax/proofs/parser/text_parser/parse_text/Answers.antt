@@ -1,0 +1,44 @@
+use Rattle.std.proofs.Common.{◌≡◌, ℕ, List, subst}
+use Rattle.odata_syntax.specs.TextTree.{text_in}
+use Rattle.odata_syntax.specs.private.TextRun.{StopsText, TakesText}
+use Rattle.odata_syntax.proofs.text_trees.Parsed.{IsOneReading, IsTaken, parsed_only, parsed_ranges, parsed_tree, stops_fault, stops_none, unended_no_tree, unended_text}
+use Rattle.odata_syntax.proofs.parser.text_parser.parse_text.Goals as goal
+
+pub returns-in-Err-take_text-clause-fault : goal.returns-in-Err-take_text-clause-fault
+returns-in-Err-take_text-clause-fault c =
+    stops_fault c.args.text.now c.in-Err-take_text.fault (subst (λ (t : List ℕ). StopsText t c.in-Err-take_text.fault) c.in-Ok.ensures.text c.in-Err-take_text.ensures.stops)
+
+pub returns-in-Err-take_text-clause-none : goal.returns-in-Err-take_text-clause-none
+returns-in-Err-take_text-clause-none c =
+    let one : IsOneReading c.args.text.now = record { list = c.one_reading.ensures.list c.args.text.now; not_both = c.one_reading.ensures.not_both c.args.text.now } in
+    stops_none c.args.text.now c.in-Err-take_text.fault one (subst (λ (t : List ℕ). StopsText t c.in-Err-take_text.fault) c.in-Ok.ensures.text c.in-Err-take_text.ensures.stops)
+
+pub returns-in-Refused-clause-fault : goal.returns-in-Refused-clause-fault
+returns-in-Refused-clause-fault c =
+    let takes : TakesText c.args.text.now c.take_text.new.state = subst (λ (t : List ℕ). TakesText t c.take_text.new.state) c.in-Ok.ensures.text c.in-Ok-take_text.ensures.taken in
+    rw c.unended.ensures (unended_text c.args.text.now c.take_text.new.state takes (c.in-Refused.ensures.ended (text_in c.args.text.now)))
+
+pub returns-in-Refused-clause-none : goal.returns-in-Refused-clause-none
+returns-in-Refused-clause-none c =
+    let one : IsOneReading c.args.text.now = record { list = c.one_reading.ensures.list c.args.text.now; not_both = c.one_reading.ensures.not_both c.args.text.now } in
+    let takes : TakesText c.args.text.now c.take_text.new.state = subst (λ (t : List ℕ). TakesText t c.take_text.new.state) c.in-Ok.ensures.text c.in-Ok-take_text.ensures.taken in
+    λ known. unended_no_tree c.args.text.now c.take_text.new.state one takes (c.in-Refused.ensures.ended (text_in c.args.text.now))
+
+pub returns-in-Ok-places_of-clause-tree : goal.returns-in-Ok-places_of-clause-tree
+returns-in-Ok-places_of-clause-tree c =
+    let takes : TakesText c.args.text.now c.take_text.new.state = subst (λ (t : List ℕ). TakesText t c.take_text.new.state) c.in-Ok.ensures.text c.in-Ok-take_text.ensures.taken in
+    let taken : IsTaken c.args.text.now c.take_text.new.state c.finish.new.self = record { takes = takes; ends = c.in-Taken.ensures.ended } in
+    parsed_tree c.args.text.now c.take_text.new.state c.finish.new.self taken
+
+pub returns-in-Ok-places_of-clause-only : goal.returns-in-Ok-places_of-clause-only
+returns-in-Ok-places_of-clause-only c =
+    let one : IsOneReading c.args.text.now = record { list = c.one_reading.ensures.list c.args.text.now; not_both = c.one_reading.ensures.not_both c.args.text.now } in
+    let takes : TakesText c.args.text.now c.take_text.new.state = subst (λ (t : List ℕ). TakesText t c.take_text.new.state) c.in-Ok.ensures.text c.in-Ok-take_text.ensures.taken in
+    let taken : IsTaken c.args.text.now c.take_text.new.state c.finish.new.self = record { takes = takes; ends = c.in-Taken.ensures.ended } in
+    parsed_only c.args.text.now c.take_text.new.state c.finish.new.self one taken
+
+pub returns-in-Ok-places_of-clause-ranges : goal.returns-in-Ok-places_of-clause-ranges
+returns-in-Ok-places_of-clause-ranges c =
+    let takes : TakesText c.args.text.now c.take_text.new.state = subst (λ (t : List ℕ). TakesText t c.take_text.new.state) c.in-Ok.ensures.text c.in-Ok-take_text.ensures.taken in
+    let taken : IsTaken c.args.text.now c.take_text.new.state c.finish.new.self = record { takes = takes; ends = c.in-Taken.ensures.ended } in
+    parsed_ranges c.args.text.now c.take_text.new.state c.finish.new.self taken c.in-Taken.ensures.whole
