@@ -1,8 +1,8 @@
 -- A list of nodes and the tree that it stands for.
 pub mod Alone
+pub mod Changes
 pub mod Children
 pub mod Forests
-pub mod Growth
 pub mod Nodes
 pub mod Numbered
 pub mod Parts

@@ -7,6 +7,7 @@ pub mod Lines
 pub mod Heads
 pub mod Onward
 pub mod Kinds
+pub mod StepRows
 pub mod Paths
 pub mod Operators
 pub mod Bodies

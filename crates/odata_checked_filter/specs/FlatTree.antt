@@ -7,11 +7,12 @@ use Rattle.odata_checked_filter.specs.declared.checked_node.CheckedNode.{Checked
 use Rattle.odata_checked_filter.specs.declared.checked_node.NodeKind.{NodeKind}
 
 -- the nodes, the values of their literals, and a text beside each node: a literal's spelling, a name (of a lambda operator
--- that of its variable), else nothing
+-- that of its variable), else nothing; and the text of the filter, of which these are parts
 pub record FlatTree : Type 0 where
   pub nodes : List CheckedNode
   pub values : List Value
   pub texts : List (List ℕ)
+  pub source : List ℕ
 
 -- what a node is, by its kind, its text and its children; what is of no form counts as a name
 abbrev pub shape_of_kind : NodeKind → List ℕ → List Tree → Shape

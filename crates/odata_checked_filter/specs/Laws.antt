@@ -1,5 +1,5 @@
 -- What follows from the definitions of a list of nodes alone, and an example that shows that they mean something.
-use Rattle.std.specs.Prelude.{◌≡◌, ◌≢◌, ◌↔◌, ℕ, ◌+◌, pos, List, [], ◌∷◌, Contains, codes, length, map, nat_eq}
+use Rattle.std.specs.Prelude.{◌≡◌, ◌≢◌, ◌↔◌, ◌⊎◌, ◌<◌, ◌≤◌, ℕ, ◌+◌, pos, List, [], ◌∷◌, Contains, codes, length, map, nat_eq}
 use Rattle.std.specs.Cmp.Lexicographic.{pointwise}
 use Rattle.std.specs.List.{IsDistinct}
 use Rattle.edm_values.specs.declared.primitive.PrimitiveType.{PrimitiveType}
@@ -19,7 +19,7 @@ use Rattle.csdl_schema.specs.ExprType.{ExprType}
 use Rattle.odata_checked_filter.specs.Filter.{Filter, IsTypeAt}
 use Rattle.odata_checked_filter.specs.NameKinds.{IsSlotAt}
 use Rattle.odata_checked_filter.specs.FlatTree.{FlatTree, tree_of_nodes}
-use Rattle.odata_checked_filter.specs.ListGrowth.{IsGrownBy, IsKept, IsOpened, node_put, with_node}
+use Rattle.odata_checked_filter.specs.ListChanges.{IsKeptOutside, node_put}
 use Rattle.odata_checked_filter.specs.PropertyPaths.{node_paths, path_text, property_paths}
 use Rattle.odata_checked_filter.specs.Stands.{ChildrenStand, IsKindOf, Stands, text_of_shape}
 
@@ -53,46 +53,40 @@ item_list =
           ∷ [];
       values = Value.Int (pos 1) ∷ [];
       texts = [] ∷ codes "Active" ∷ [] ∷ codes "ID" ∷ codes "1" ∷ [];
+      source = codes "Active and ID eq 1";
     }
 
 -- the list of `Active and ID eq 1` is read as its tree
 abbrev pub ItemListStands : Type 0
 ItemListStands = tree_of_nodes item_list ≡ active_and_id
 
--- what stands for a tree stands for it still where the list has only grown
+-- what stands for a tree outside the places where a list has changed stands for it still
 abbrev pub KeptStands : Type 0
 KeptStands =
-    (schema : SchemaModel) (n : ℕ) (scope : Scope) (old new : FlatTree) (i j : ℕ) (tree : Tree)
-    → IsKept old new
-    → Stands schema n scope old i j tree
-    → Stands schema n scope new i j tree
+    (schema : SchemaModel) (n : ℕ) (scope : Scope) (old new : FlatTree) (i j from to : ℕ) (tree : Tree)
+    → IsKeptOutside i j old new
+    → (to ≤ i) ⊎ (j ≤ from)
+    → Stands schema n scope old from to tree
+    → Stands schema n scope new from to tree
 
--- a node without children that is put behind a list stands there for its tree
-abbrev pub PushedStands : Type 0
-PushedStands =
-    (schema : SchemaModel) (n : ℕ) (scope : Scope) (list : FlatTree) (added : CheckedNode) (shape : Shape)
+-- where a node is put, the list changes in that place alone
+abbrev pub PutChanges : Type 0
+PutChanges =
+    (list : FlatTree) (place : ℕ) (put : CheckedNode) (text : List ℕ)
+    → IsKeptOutside place (place + 1) list (node_put list place put text)
+
+-- a node that is put before what stands for its children stands there for its tree
+abbrev pub PutStands : Type 0
+PutStands =
+    (schema : SchemaModel) (n : ℕ) (scope : Scope) (list : FlatTree) (place : ℕ) (put : CheckedNode) (shape : Shape)
+    → place < length list.nodes
     → length list.texts ≡ length list.nodes
-    → added.stop ≡ length list.nodes + 1
-    → IsKindOf list.values (slots_of schema) (type_name_at schema n) scope shape added.kind
-    → Typed (slots_of schema) (type_name_at schema n) scope (node added.span.start added.span.stop shape)
-    (expr_type schema added.edm_type)
-    → ((new : FlatTree) (i : ℕ) → ChildrenStand schema n scope new i i shape)
-    → IsGrownBy schema n scope list (node added.span.start added.span.stop shape)
-    (with_node list added (text_of_shape shape))
-
--- a node that was opened, and is put in its place once its children stand behind it, stands there for its tree
-abbrev pub ClosedStands : Type 0
-ClosedStands =
-    (schema : SchemaModel) (n : ℕ) (scope : Scope) (start opened last : FlatTree) (place : ℕ) (put : CheckedNode)
-    (shape : Shape)
-    → IsOpened start place (text_of_shape shape) opened
-    → IsKept opened last
-    → put.stop ≡ length last.nodes
-    → IsKindOf last.values (slots_of schema) (type_name_at schema n) scope shape put.kind
+    → IsKindOf list.values (slots_of schema) (type_name_at schema n) scope shape put.kind
     → Typed (slots_of schema) (type_name_at schema n) scope (node put.span.start put.span.stop shape)
     (expr_type schema put.edm_type)
-    → ChildrenStand schema n scope last (place + 1) (length last.nodes) shape
-    → IsGrownBy schema n scope start (node put.span.start put.span.stop shape) (node_put last place put)
+    → ChildrenStand schema n scope list (place + 1) put.stop shape
+    → Stands schema n scope (node_put list place put (text_of_shape shape)) place put.stop
+    (node put.span.start put.span.stop shape)
 
 -- a number of a filter is that of a node of one type
 abbrev pub OneTypeAt : Type 0

@@ -22,7 +22,7 @@ pub use Rattle.odata_text.specs.Tokens
 pub mod FlatTree
 pub mod Levels
 pub mod Stands
-pub mod ListGrowth
+pub mod ListChanges
 pub mod ScopedNodes
 pub mod NodeScopes
 pub mod StoredParts

@@ -6,4 +6,6 @@ pub mod KeptLists
 pub mod KindTexts
 pub mod LambdaLines
 pub mod NeededWalk
+pub mod NodeRanges
+pub mod PathSteps
 pub mod PathWalk

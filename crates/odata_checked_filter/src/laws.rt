@@ -1,7 +1,7 @@
 ghost use Rattle.odata_checked_filter.specs.CanonicalFilters.{AreCoveredAlike, ExpandTheSame, HaveAsManyNodes};
 ghost use Rattle.odata_checked_filter.specs.CanonicalFilters.{HaveOneTypeAt, HaveSameTypesAt, OfCanonicalTexts};
-ghost use Rattle.odata_checked_filter.specs.Laws.{ClosedStands, ItemListStands, KeptStands, OneSlotAt, OneTree};
-ghost use Rattle.odata_checked_filter.specs.Laws.{OneTypeAt, PathsOfNodes, PathsOnce, PushedStands};
+ghost use Rattle.odata_checked_filter.specs.Laws.{ItemListStands, KeptStands, OneSlotAt, OneTree, OneTypeAt};
+ghost use Rattle.odata_checked_filter.specs.Laws.{PathsOfNodes, PathsOnce, PutChanges, PutStands};
 
 use odata_expression_types::{
     canonical_texts_keep_types, canonical_texts_need_the_same, normal_forms_keep_types,
@@ -19,12 +19,12 @@ pub fn a_list_is_read_as_its_tree()
     ensures { ItemListStands }
 {}
 
-/// A law: a node that is put behind a list, or in its place before its children, stands for its tree there, and what stood
-/// in the list stands there still.
+/// A law: a node that is put in its place before its children stands for its tree there, and what stands elsewhere in the
+/// list stands there still.
 pub fn nodes_stand_where_they_are_put()
     ensures kept { KeptStands }
-    ensures pushed { PushedStands }
-    ensures closed { ClosedStands }
+    ensures changes { PutChanges }
+    ensures put { PutStands }
 {}
 
 /// A law: a node's number has one type and one slot at most.

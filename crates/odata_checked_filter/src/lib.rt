@@ -14,6 +14,7 @@ mod lambda_depth;
 mod laws;
 mod needed_paths;
 mod node_list;
+mod path_steps;
 mod property_paths;
 mod stored_filter;
 

@@ -9,14 +9,17 @@ ghost use Rattle.odata_expression_types.specs.Typed.{Scope};
 ghost use Rattle.odata_checked_filter.specs.Filter.{HasNeededPaths};
 ghost use Rattle.odata_checked_filter.specs.FlatTree.{tree_of_nodes};
 ghost use Rattle.odata_checked_filter.specs.Stands.{Stands};
-ghost use Rattle.odata_checked_filter.specs.private.NeededWalk.{ArePlacesOf, AreTreesThere, IsLambdaOf, IsLambdaThere};
-ghost use Rattle.odata_checked_filter.specs.private.NeededWalk.{IsNodeAtLevel, IsPathEnd, IsPutFrom, IsTargetAt};
+ghost use Rattle.odata_checked_filter.specs.private.NeededWalk.{ArePlacesOf, AreTreesThere, HasTypedTree, IsLambdaOf};
+ghost use Rattle.odata_checked_filter.specs.private.NeededWalk.{IsLambdaThere, IsNodeAtLevel, IsPathEnd, IsPutFrom};
+ghost use Rattle.odata_checked_filter.specs.private.NeededWalk.{IsStepOn, IsTargetAt};
 ghost use Rattle.odata_checked_filter.specs.private.NeededWalk.{IsTreeThere, IsWithoutTarget, LambdaNeeds};
 ghost use Rattle.odata_checked_filter.specs.private.NeededWalk.{LeadThere, NeedsAmong};
 ghost use Rattle.odata_checked_filter.specs.private.NeededWalk.{Puts, StandInLine, need_class, node_of_level, nodes_in, root_there, slots_there};
+ghost use Rattle.odata_checked_filter.specs.private.PathSteps.{IsStepAt};
 
 use super::checked_node::NodeKind;
 use super::node_list::NodeList;
+use super::path_steps::path_base;
 use csdl_schema::{Expansion, Schema, TypeId};
 use odata_expression_types::trees_have_one_type;
 use odata_signatures::{EdmType, ValueType};
@@ -220,7 +223,7 @@ fn has_no_target(scene: &ListScene<'_>, kind: NodeKind) -> bool
     }
 }
 
-/// Puts what a path of steps needs into the set, and answers where it ends.
+/// Puts what a path of steps needs into the set, and answers where it ends. Its steps are taken from the first one on.
 fn expand_path(
     scene: &ListScene<'_>,
     place: usize,
@@ -235,18 +238,38 @@ fn expand_path(
         expansion.new place tree) }
 {
     trees_have_one_type();
+    let bottom = path_base(scene.list, place);
+    let mut end = expand_base(scene, bottom, variables, expansion)?;
+    let mut at = bottom;
+    while place < at {
+        at -= 1;
+        let target = step_target(scene, at);
+        let node = step_to(target, scene.list.text(at), end.node, expansion)?;
+        end = PathEnd {
+            node,
+            base: end.base,
+        };
+    }
+    Ok(end)
+}
+
+/// The same of what a path begins with.
+fn expand_base(
+    scene: &ListScene<'_>,
+    place: usize,
+    variables: &VariableNodes<'_>,
+    expansion: &mut Expansion,
+) -> Result<PathEnd, AllocError>
+    requires stands { IsTreeThere scene.now expansion.old (nodes_in variables.now) place }
+    requires base { ¬ IsStepAt scene.now.list.now place }
+    ensures { (scope : Scope) (paths : VariablePaths) (stop : ℕ) (tree : Tree)
+        → Stands scene.now.schema.now scene.now.filtered_type scope scene.now.list.now place stop tree
+        → LeadThere expansion.old scope paths (nodes_in variables.now)
+        → IfOk result (IsPathEnd (slots_there scene.now) (root_there scene.now) scope paths expansion.old
+        expansion.new place tree) }
+{
     let name = scene.list.text(place);
     match scene.list.node(place).kind {
-        NodeKind::Member { slot } => {
-            let before = expand_path(scene, place + 1, variables, expansion)?;
-            let base = scene.list.node(place + 1);
-            let target = target_at(scene.schema, &base.edm_type, slot);
-            let node = step_to(target, name, before.node, expansion)?;
-            Ok(PathEnd {
-                node,
-                base: before.base,
-            })
-        }
         NodeKind::Property { slot } => {
             let target = scene.schema.property(scene.filtered_type, slot).target();
             let node = step_to(target, name, 0, expansion)?;
@@ -260,6 +283,22 @@ fn expand_path(
             node: 0,
             base: place,
         }),
+    }
+}
+
+/// The target of a step of a path.
+fn step_target(scene: &ListScene<'_>, place: usize) -> Option<TypeId>
+    requires stands { HasTypedTree scene.now place }
+    requires step { IsStepAt scene.now.list.now place }
+    ensures { (slot id : ℕ) → IsStepOn scene.now.list.now place slot id → IsTargetAt scene.now.schema.now id slot result }
+{
+    trees_have_one_type();
+    match scene.list.node(place).kind {
+        NodeKind::Member { slot } => {
+            let base = scene.list.node(place + 1);
+            target_at(scene.schema, &base.edm_type, slot)
+        }
+        _ => unreachable!(),
     }
 }
 

@@ -1,5 +1,6 @@
-ghost use Rattle.std.specs.Prelude.{◌≡◌, ◌<◌, ◌+◌, [], Some, length, slice_get, string_bytes, OnOk, OnErr};
-ghost use Rattle.odata_checked_filter.specs.ListGrowth.{with_node, with_value, node_put};
+ghost use Rattle.std.specs.Prelude.{◌≡◌, ◌<◌, [], Some, length, slice_get, IfOk, OnOk, OnErr};
+ghost use Rattle.odata_syntax.specs.TextTree.{IsTextRange, text_in};
+ghost use Rattle.odata_checked_filter.specs.ListChanges.{node_put, with_value};
 
 use super::checked_node::{CheckedNode, NodeKind};
 use edm_values::Value;
@@ -9,20 +10,35 @@ use std::alloc::{AllocError, Global};
 use std::marker::Model;
 
 /// Nodes in pre-order, with the values of their literals, and a text beside each node: a literal's spelling, a name, of
-/// a lambda operator the name of its range variable, and nothing for other operators.
+/// a lambda operator the name of its range variable, and nothing for other operators. The texts are ranges of one copy
+/// of the filter's text.
 #[derive(Drop)]
 pub struct NodeList {
     nodes: Vec<CheckedNode>,
     values: Vec<Value>,
-    texts: Vec<String>,
+    texts: Vec<Span>,
+    source: String,
 }
+
+/// What stands in a place of the list before its node is put there.
+const NOTHING_YET: CheckedNode = CheckedNode {
+    kind: NodeKind::It,
+    span: NOWHERE,
+    edm_type: EdmType::Null,
+    stop: 0,
+};
+
+/// The range without bytes at the start.
+const NOWHERE: Span = Span { start: 0, stop: 0 };
 
 impl Model for NodeList {
     ghost use Rattle.odata_checked_filter.specs.FlatTree.{FlatTree};
+    ghost use Rattle.odata_syntax.specs.TextTree.{text_in};
+    ghost use Rattle.odata_checked_filter.specs.private.NodeRanges.{AreRanges};
     ghost use Rattle.odata_checked_filter.specs.contracts.checked_node.CheckedNode as checked_node;
     ghost use Rattle.edm_values.specs.contracts.value.Value as value;
     ghost use Rattle.std.specs.Coded.{codes};
-    ghost use Rattle.std.specs.Prelude.{◌≡◌, length, map, string_bytes};
+    ghost use Rattle.std.specs.Prelude.{map, string_bytes};
 
     ghost Value = { FlatTree };
 
@@ -31,22 +47,27 @@ impl Model for NodeList {
     ghost view = { λ l. record {
       nodes = l.nodes.items;
       values = l.values.items;
-      texts = map string_bytes l.texts.items;
+      texts = map (text_in (string_bytes l.source)) l.texts.items;
+      source = string_bytes l.source;
     } };
 
-    ghost invariant = { λ l. length l.nodes.items ≡ length l.texts.items };
+    ghost invariant = { λ l. AreRanges l.nodes.items l.texts.items (string_bytes l.source) };
 }
 
 impl NodeList {
-    /// A list without nodes.
-    pub fn new(alloc: Global) -> NodeList
-        ensures { result ≡ record { nodes = []; values = []; texts = [] } }
+    /// A list of so many nodes, each still to be put in its place, whose texts are ranges of `source`.
+    pub fn new(alloc: Global, source: &str, count: usize) -> Result<NodeList, AllocError>
+        ensures count { IfOk result (λ list. length list.nodes ≡ count) }
+        ensures beside { IfOk result (λ list. length list.texts ≡ count) }
+        ensures values { IfOk result (λ list. list.values ≡ []) }
+        ensures source { IfOk result (λ list. list.source ≡ source.now) }
     {
-        NodeList {
-            nodes: Vec::new(alloc),
+        Ok(NodeList {
+            nodes: Vec::from_elem(alloc, NOTHING_YET, count)?,
             values: Vec::new(alloc),
-            texts: Vec::new(alloc),
-        }
+            texts: Vec::from_elem(alloc, NOWHERE, count)?,
+            source: String::from_str(alloc, source)?,
+        })
     }
 
     /// The nodes.
@@ -70,7 +91,8 @@ impl NodeList {
         requires { place < length self.now.nodes }
         ensures { slice_get self.now.texts place ≡ Some result.now }
     {
-        self.texts[place].as_str()
+        let range = self.texts[place];
+        &self.source[range.start..range.stop]
     }
 
     /// The values of its literals.
@@ -80,7 +102,7 @@ impl NodeList {
         self.values.as_slice()
     }
 
-    /// Puts a value behind the others.
+    /// Puts a value after the others.
     pub fn push_value(&mut self, value: Value) -> Result<(), AllocError>
         ensures ok { OnOk result (self.new ≡ with_value self.old value) }
         ensures err { OnErr result (self.new ≡ self.old) }
@@ -91,52 +113,24 @@ impl NodeList {
         }
     }
 
-    /// Puts a node without children behind the others, and its text.
-    pub fn push(
-        &mut self,
-        kind: NodeKind,
-        span: Span,
-        edm_type: &EdmType,
-        text: String,
-    ) -> Result<(), AllocError>
-        ensures ok { OnOk result (self.new ≡ with_node self.old
-            (record { kind = kind; span = span; edm_type = edm_type.now; stop = length self.old.nodes + 1 })
-            (string_bytes text)) }
-        ensures beside { length self.old.texts ≡ length self.old.nodes }
-        ensures err { OnErr result (self.new ≡ self.old) }
+    /// Puts a node in its place, with the range of its text.
+    #[inline(always)]
+    pub fn put(&mut self, place: usize, node: CheckedNode, text: Span)
+        requires place { place < length self.old.nodes }
+        requires text { IsTextRange self.old.source text }
+        ensures { self.new ≡ node_put self.old place node (text_in self.old.source text) }
     {
-        let stop = self.nodes.len() + 1;
-        match self.texts.push(text) {
-            Ok(()) => {}
-            Err(refused) => return Err(refused.into()),
-        }
-        let node = CheckedNode {
-            kind,
-            span,
-            edm_type: *edm_type,
-            stop,
-        };
-        match self.nodes.push(node) {
-            Ok(()) => Ok(()),
-            Err(refused) => {
-                self.texts.pop();
-                Err(refused.into())
-            }
-        }
+        self.nodes[place] = node;
+        self.texts[place] = text;
     }
 
-    /// Puts a node in the place of another, as the parent of all behind that.
-    pub fn close(&mut self, place: usize, kind: NodeKind, span: Span, edm_type: &EdmType)
+    /// Puts a node in its place, without a text.
+    #[inline(always)]
+    pub fn put_nameless(&mut self, place: usize, node: CheckedNode)
         requires { place < length self.old.nodes }
-        ensures { self.new ≡ node_put self.old place
-            (record { kind = kind; span = span; edm_type = edm_type.now; stop = length self.old.nodes }) }
+        ensures { self.new ≡ node_put self.old place node [] }
     {
-        let stop = self.nodes.len();
-        self.nodes[place] = CheckedNode {
-            kind,
-            span,
-            edm_type: *edm_type,
-            stop,
-        };
+        self.nodes[place] = node;
+        self.texts[place] = NOWHERE;
     }
 }

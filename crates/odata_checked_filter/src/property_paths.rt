@@ -9,12 +9,14 @@ ghost use Rattle.odata_expression_types.specs.NeededPaths.{VariablePaths, path_o
 ghost use Rattle.odata_expression_types.specs.Typed.{Scope};
 ghost use Rattle.odata_checked_filter.specs.PropertyPaths.{path_text, property_paths, with_step};
 ghost use Rattle.odata_checked_filter.specs.private.LambdaLines.{AreInLine, IsLine, StandsBetween};
+ghost use Rattle.odata_checked_filter.specs.private.PathSteps.{IsStepAt};
 ghost use Rattle.odata_checked_filter.specs.private.PathWalk.{AreBound, HasTree, bound_in, text_named};
 ghost use Rattle.odata_checked_filter.specs.private.PathWalk.{texts_among, with_texts};
 
 use super::checked_node::NodeKind;
 use super::lambda_depth::is_lambda;
 use super::node_list::NodeList;
+use super::path_steps::path_base;
 use std::alloc::{AllocError, Global};
 
 /// A list, and the allocator of the texts that are made of it.
@@ -91,13 +93,31 @@ fn path_at(
         → AreBound scope paths (bound_in variables.now)
         → IfOk result (λ text. string_bytes text ≡ path_text (path_of scope paths tree)) }
 {
+    let bottom = path_base(scene.list, place);
+    let mut text = base_text(scene, bottom, variables)?;
+    let mut at = bottom;
+    while place < at {
+        at -= 1;
+        put_step(&mut text, scene.list.text(at))?;
+    }
+    Ok(text)
+}
+
+/// The same of what a path begins with.
+fn base_text(
+    scene: &PathScene<'_>,
+    place: usize,
+    variables: &Variables<'_>,
+) -> Result<String, AllocError>
+    requires stands { HasTree scene.now.list.now place }
+    requires base { ¬ IsStepAt scene.now.list.now place }
+    ensures { (scope : Scope) (paths : VariablePaths) (stop : ℕ) (tree : Tree)
+        → StandsBetween scene.now.list.now place stop tree
+        → AreBound scope paths (bound_in variables.now)
+        → IfOk result (λ text. string_bytes text ≡ path_text (path_of scope paths tree)) }
+{
     let name = scene.list.text(place);
     match scene.list.node(place).kind {
-        NodeKind::Member { .. } => {
-            let mut text = path_at(scene, place + 1, variables)?;
-            put_step(&mut text, name)?;
-            Ok(text)
-        }
         NodeKind::Property { .. } => name_path(scene.alloc, name, variables),
         NodeKind::Variable { .. } => name_path(scene.alloc, name, variables),
         _ => Ok(String::new(scene.alloc)),

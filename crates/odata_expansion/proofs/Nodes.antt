@@ -1,5 +1,5 @@
 -- Nodes of an expansion, and the paths that lead to them.
-use Rattle.std.proofs.Common.{◌≡◌, ℕ, zero, suc, ◌+◌, ◌-◌, ◌<◌, ◌≤◌, List, [], ◌∷◌, ◌++◌, Bool, true, false, true≢false, ◌&&◌, cond, Option, Some, None, option_map, map, length, get_or, slice_get, nat_eq, nat_lt, ltb-true, ltb-false, refl, sym, ap, ◌∙◌, subst, arith, eqb-true, append-nil}
+use Rattle.std.proofs.Common.{◌≡◌, ℕ, zero, suc, ◌+◌, ◌-◌, ◌<◌, ◌≤◌, ◌⊎◌, ◌↔◌, List, [], ◌∷◌, ◌++◌, Bool, true, false, true≢false, ◌&&◌, cond, Option, Some, None, inl, inr, option_map, map, length, get_or, slice_get, nat_eq, nat_lt, ltb-true, ltb-false, refl, sym, ap, ◌∙◌, subst, arith, eqb-true, append-nil}
 use Rattle.std.proofs.lemmas.Option.{slice_get-map, slice_get_read}
 use Rattle.std.specs.Cmp.Lexicographic.{pointwise, bytes_decides, pointwise_decides}
 use Rattle.odata_expansion.specs.PathSet.{PropertyPath, Covers, is_path}
@@ -169,33 +169,6 @@ next_on steps o names name is =
 pub step_got : (steps : List Step) (k : ℕ) (step : Step) → k < length steps → step ≡ get_or steps k step → slice_get (map step_model steps) k ≡ Some (step_model step)
 step_got steps k step within is = slice_get-map step_model steps k ∙ ap (option_map step_model) (slice_get_read steps (length steps) k step refl within is)
 
--- the start has the empty path alone
-pub start_back : (other own : List StepModel) (node : ℕ) → node ≡ 0 → (names : PropertyPath) → LeadsBack other names node → Some 0 ≡ node_at own (Some 0) (onto names [])
-start_back other own node start [] back = refl
-start_back other own node start (name ∷ names) back = let none : 0 ≡ suc back.k = sym start ∙ back.leads in absurd (cc)
-
--- the path of a node is that of the node that its step starts from, and the step's name
-pub node_back : (other own : List StepModel) (node k : ℕ) (step : StepModel) (before : Option ℕ) → node ≡ suc k → slice_get other k ≡ Some step
-    → ((names : PropertyPath) → LeadsBack other names step.before → before ≡ node_at own (Some 0) (onto names []))
-    → (names : PropertyPath) → LeadsBack other names node → node_at own before (step.name ∷ []) ≡ node_at own (Some 0) (onto names [])
-node_back other own node k step before is at rest [] back = let none : 0 ≡ suc k = sym back ∙ is in absurd (cc)
-node_back other own node k step before is at rest (name ∷ names) back =
-    let indexes : suc back.k ≡ suc k = sym back.leads ∙ is in
-    let index : back.k ≡ k = cc in
-    let both : Some back.step ≡ Some step = sym back.stands_at ∙ ap (slice_get other) index ∙ at in
-    let same : back.step ≡ step = cc in
-    let named : step.name ≡ name = ap (λ s. s.name) (sym same) ∙ back.named in
-    ap (λ n. node_at own before (n ∷ [])) named ∙ next_on own before names name (rest names (subst (λ (s : StepModel). LeadsBack other names s.before) same back.before))
-
--- a node past the steps has no path
-pub nowhere_back : (other own : List StepModel) (node : ℕ) → (node ≡ 0 → ⊥) → length other ≤ node - 1 → (names : PropertyPath) → LeadsBack other names node
-    → None ≡ node_at own (Some 0) (onto names [])
-nowhere_back other own node some past [] back = absurd (some back)
-nowhere_back other own node some past (name ∷ names) back =
-    let there = within_list other back.k back.step back.stands_at in
-    let leads : node ≡ suc back.k = back.leads in
-    absurd (omega arith)
-
 -- a path is in the set if its node is needed
 pub path_needed : (own : List StepModel) (o : Option ℕ) (path : PropertyPath) → o ≡ node_at own (Some 0) path → needed_if own o ≡ paths_in own path
 path_needed own o path is = ap (needed_if own) is ∙ sym (paths_by_node own (Some 0) path)
@@ -262,3 +235,110 @@ leads_within steps (Some start) (name ∷ path) node within leads =
 
 pub reached_within : (steps : List StepModel) (path : PropertyPath) (node : ℕ) → LeadsTo steps path node → node ≤ length steps
 reached_within steps path node leads = leads_within steps (Some 0) path node (λ start is. let same : 0 ≡ start = cc in subst (λ n. n ≤ length steps) same (omega arith)) leads
+
+-- ---- paths that lead back in both
+
+-- names that lead back from a node lead to it
+pub back_leads : (steps : List StepModel) → AreSteps steps → (names : PropertyPath) (node : ℕ) → LeadsBack steps names node → node_at steps (Some 0) (onto names []) ≡ Some node
+back_leads steps kept [] node back = ap Some (sym back)
+back_leads steps kept (name ∷ names) node back =
+    let before : node_at steps (Some 0) (onto names []) ≡ Some back.step.before = back_leads steps kept names back.step.before back.before in
+    let leads : next_node steps back.step.before name ≡ Some (suc back.k) =
+    subst (λ (n : List ℕ). next_node steps back.step.before n ≡ Some (suc back.k)) back.named (kept.found back.k back.step back.stands_at) in
+    sym (next_on steps (Some back.step.before) names name (sym before)) ∙ node_at-end steps (next_node steps back.step.before name) ∙ leads ∙ ap Some (sym back.leads)
+
+-- names and what is left of them lead back from nodes of the one steps just where they do from nodes of the other
+pub record IsBeside (own other : List StepModel) (names : PropertyPath) (own_node node beside : ℕ) : Type 0 where
+  pub rest : PropertyPath
+  pub back : LeadsBack other rest beside
+  pub same : LeadsBack own names own_node ↔ LeadsBack own rest node
+
+-- no names lead back from the start
+pub nothing_back : (steps : List StepModel) (rest : PropertyPath) (node : ℕ) → node ≡ 0 → LeadsBack steps rest node → rest ≡ []
+nothing_back steps [] node start back = refl
+nothing_back steps (name ∷ rest) node start back = let none : 0 ≡ suc back.k = sym start ∙ back.leads in absurd (cc)
+
+-- a step back in both
+module _ (own other : List StepModel) (names : PropertyPath) (own_node node beside k j : ℕ) (step other_step : StepModel) where
+  -- the first name is that of the step
+  record IsStepBack (steps : List StepModel) (rest : PropertyPath) (taken : StepModel) : Type 0 where
+    pub left : PropertyPath
+    pub is : rest ≡ taken.name ∷ left
+    pub before : LeadsBack steps left taken.before
+
+  step_back : (steps : List StepModel) (i at : ℕ) (taken : StepModel) (rest : PropertyPath) → at ≡ suc i → slice_get steps i ≡ Some taken → LeadsBack steps rest at → IsStepBack steps rest taken
+  step_back steps i at taken [] is found back = let none : 0 ≡ suc i = sym back ∙ is in absurd (cc)
+  step_back steps i at taken (name ∷ rest) is found back =
+      let indexes : suc back.k ≡ suc i = sym back.leads ∙ is in
+      let index : back.k ≡ i = cc in
+      let both : Some back.step ≡ Some taken = sym back.stands_at ∙ ap (slice_get steps) index ∙ found in
+      let same : back.step ≡ taken = cc in
+      let named : name ≡ taken.name = sym back.named ∙ ap (λ s. s.name) same in
+      record { left = rest; is = ap (λ n. n ∷ rest) named; before = subst (λ (s : StepModel). LeadsBack steps rest s.before) same back.before }
+
+  -- where the names of the steps differ the other's path does not lead back
+  pub apart_back : IsBeside own other names own_node node beside → node ≡ suc k → slice_get own k ≡ Some step → beside ≡ suc j → slice_get other j ≡ Some other_step
+      → (step.name ≡ other_step.name → ⊥) → LeadsBack own names own_node → ⊥
+  apart_back at is found other_is other_found differ back =
+      let there = step_back other j beside other_step at.rest other_is other_found at.back in
+      let here = step_back own k node step at.rest is found (at.same.0 back) in
+      let lists : step.name ∷ here.left ≡ other_step.name ∷ there.left = sym here.is ∙ there.is in
+      let same : step.name ≡ other_step.name = cc in
+      differ same
+
+  -- where they are the same what is left leads back from the nodes that the steps start from
+  pub both_back : IsBeside own other names own_node node beside → node ≡ suc k → slice_get own k ≡ Some step → beside ≡ suc j → slice_get other j ≡ Some other_step
+      → step.name ≡ other_step.name → IsBeside own other names own_node step.before other_step.before
+  both_back at is found other_is other_found named =
+      let there = step_back other j beside other_step at.rest other_is other_found at.back in
+      let onward : LeadsBack own names own_node → LeadsBack own there.left step.before = λ back.
+      let here = step_back own k node step at.rest is found (at.same.0 back) in
+      let lists : step.name ∷ here.left ≡ other_step.name ∷ there.left = sym here.is ∙ there.is in
+      let same : here.left ≡ there.left = cc in
+      subst (λ (left : PropertyPath). LeadsBack own left step.before) same here.before in
+      let backward : LeadsBack own there.left step.before → LeadsBack own names own_node = λ before.
+      let whole : LeadsBack own (step.name ∷ there.left) node = record { k = k; step = step; stands_at = found; leads = is; named = refl; before = before } in
+      let rest : step.name ∷ there.left ≡ at.rest = ap (λ n. n ∷ there.left) named ∙ sym there.is in
+      at.same.1 (subst (λ (left : PropertyPath). LeadsBack own left node) rest whole) in
+      record { rest = there.left; back = there.before; same = (onward, backward) }
+
+-- at the start of either the paths are the same where both are there
+pub ended_back : (own other : List StepModel) (names : PropertyPath) (own_node node beside : ℕ) → IsBeside own other names own_node node beside
+    → (node ≡ 0) ⊎ (beside ≡ 0) → (node ≡ beside) ↔ LeadsBack own names own_node
+ended_back own other names own_node node beside at start =
+    let to : node ≡ beside → LeadsBack own names own_node = λ same.
+    let zero_too : beside ≡ 0 = elim start [ inl here ↦ sym same ∙ here | inr there ↦ there ] in
+    let none = nothing_back other at.rest beside zero_too at.back in
+    at.same.1 (subst (λ (rest : PropertyPath). LeadsBack own rest node) (sym none) (same ∙ zero_too)) in
+    let from : LeadsBack own names own_node → node ≡ beside = λ back. elim start [
+      | inl here ↦
+          let none = nothing_back own at.rest node here (at.same.0 back) in
+          here ∙ sym (subst (λ (rest : PropertyPath). LeadsBack other rest beside) none at.back)
+      | inr there ↦
+          let none = nothing_back other at.rest beside there at.back in
+          subst (λ (rest : PropertyPath). LeadsBack own rest node) none (at.same.0 back) ∙ sym there
+    ] in
+    (to, from)
+
+-- ---- a path among the steps of another set
+
+-- a needed node that has the path puts it into the set
+pub found_path : (own : List StepModel) → AreSteps own → (names : PropertyPath) (node : ℕ) → is_needed_at own node ≡ true → LeadsBack own names node → true ≡ paths_in own (onto names [])
+found_path own kept names node needed back =
+    sym needed ∙ path_needed own (Some node) (onto names []) (sym (back_leads own kept names node back))
+
+-- where no needed node has it, the path is not in the set
+pub missed_path : (own : List StepModel) (names : PropertyPath) → ((k : ℕ) → k < length own → is_needed_at own (suc k) ≡ true → LeadsBack own names (suc k) → ⊥) → false ≡ paths_in own (onto names [])
+missed_path own names none = by (node_at own (Some 0) (onto names [])) refl
+  where
+    off : (b : Bool) → (b ≡ true → ⊥) → false ≡ b
+    off true is = absurd (is refl)
+    off false is = refl
+
+    by : (o : Option ℕ) → node_at own (Some 0) (onto names []) ≡ o → false ≡ paths_in own (onto names [])
+    by None is = path_needed own None (onto names []) (sym is)
+    by (Some zero) is = path_needed own (Some 0) (onto names []) (sym is)
+    by (Some (suc k)) is =
+        let within : suc k ≤ length own = reached_within own (onto names []) (suc k) is in
+        let back : LeadsBack own names (suc k) = subst (λ (n : PropertyPath). LeadsBack own n (suc k)) (onto_back names) (path_leads_back own (onto names []) (suc k) is) in
+        off (is_needed_at own (suc k)) (λ needed. none k (omega (arith, within)) needed back) ∙ path_needed own (Some (suc k)) (onto names []) (sym is)

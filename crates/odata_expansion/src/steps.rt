@@ -1,8 +1,9 @@
 //! Steps between the nodes of an expansion, one behind another. Node 0 is the start, and the step at an index leads to the
 //! node with the next number.
-ghost use Rattle.std.specs.Prelude.{◌≡◌, ◌↔◌, [], Some, true, false, map, IfOk, IsTrue};
+ghost use Rattle.std.specs.Prelude.{◌≡◌, ◌≤◌, ◌↔◌, [], true, false, length, map, nat_eq, IfOk, IsTrue};
+ghost use Rattle.std.specs.Cmp.Lexicographic.{pointwise};
 ghost use Rattle.odata_expansion.specs.PathSet.{PropertyPath, Covers};
-ghost use Rattle.odata_expansion.specs.ExpansionView.{goes_on, is_needed_at, next_node, paths_in, node_at};
+ghost use Rattle.odata_expansion.specs.ExpansionView.{goes_on, is_needed_at, next_node, paths_in};
 ghost use Rattle.odata_expansion.specs.private.StepView.{AreSteps, LeadsBack, onto, step_model};
 
 use std::alloc::{AllocError, Global};
@@ -46,39 +47,55 @@ pub(crate) fn is_marked(steps: &[Step], node: usize) -> bool
     }
 }
 
-/// The node among some steps that has the path of a node among others.
-fn node_of(own: &[Step], other: &[Step], node: usize) -> Option<usize>
-    requires { AreSteps (map step_model other.now) }
-    ensures { (names : PropertyPath) → LeadsBack (map step_model other.now) names node
-        → result ≡ node_at (map step_model own.now) (Some 0) (onto names []) }
+fn are_same_names(step: &Step, other: &Step) -> bool
+    ensures { result ≡ pointwise nat_eq (step_model step.now).name (step_model other.now).name }
 {
-    if node == 0 {
-        return Some(0);
+    step.name.as_str() == other.name.as_str()
+}
+
+/// Whether a node has the path of a node among other steps. Both are followed back to the start.
+fn is_same_path(own: &[Step], own_node: usize, other: &[Step], other_node: usize) -> bool
+    requires own { AreSteps (map step_model own.now) }
+    requires other { AreSteps (map step_model other.now) }
+    requires own_node { own_node ≤ length own.now }
+    requires other_node { other_node ≤ length other.now }
+    ensures { (names : PropertyPath) → LeadsBack (map step_model other.now) names other_node
+        → IsTrue result ↔ LeadsBack (map step_model own.now) names own_node }
+{
+    let mut node = own_node;
+    let mut beside = other_node;
+    while node > 0 && beside > 0 {
+        let (step, other_step) = (&own[node - 1], &other[beside - 1]);
+        if !are_same_names(step, other_step) {
+            return false;
+        }
+        node = step.before;
+        beside = other_step.before;
     }
-    match other.get(node - 1) {
-        Some(step) => match node_of(own, other, step.before) {
-            Some(before) => next_of(own, before, step.name.as_str()),
-            None => None,
-        },
-        None => None,
-    }
+    node == beside
 }
 
 /// Whether the path of a node among other steps is in the set.
 fn has_path_to(own: &[Step], other: &[Step], node: usize) -> bool
-    requires { AreSteps (map step_model other.now) }
+    requires own { AreSteps (map step_model own.now) }
+    requires other { AreSteps (map step_model other.now) }
+    requires node { node ≤ length other.now }
     ensures { (names : PropertyPath) → LeadsBack (map step_model other.now) names node
         → result ≡ paths_in (map step_model own.now) (onto names []) }
 {
-    match node_of(own, other, node) {
-        Some(found) => is_marked(own, found),
-        None => false,
+    for index in 0..own.len() {
+        if is_marked(own, index + 1) && is_same_path(own, index + 1, other, node) {
+            return true;
+        }
     }
+    false
 }
 
 /// Whether the path of a node among other steps is in the set, if it is in theirs.
 fn is_covered(own: &[Step], other: &[Step], node: usize) -> bool
-    requires { AreSteps (map step_model other.now) }
+    requires own { AreSteps (map step_model own.now) }
+    requires other { AreSteps (map step_model other.now) }
+    requires node { node ≤ length other.now }
     ensures needed { is_needed_at (map step_model other.now) node ≡ true → (names : PropertyPath)
         → LeadsBack (map step_model other.now) names node → result ≡ paths_in (map step_model own.now) (onto names []) }
     ensures other { is_needed_at (map step_model other.now) node ≡ false → result ≡ true }
@@ -92,7 +109,8 @@ fn is_covered(own: &[Step], other: &[Step], node: usize) -> bool
 
 /// Whether each path of the other steps' set is in that of these.
 pub(crate) fn covers(own: &[Step], other: &[Step]) -> bool
-    requires { AreSteps (map step_model other.now) }
+    requires own { AreSteps (map step_model own.now) }
+    requires other { AreSteps (map step_model other.now) }
     ensures { IsTrue result ↔ Covers (paths_in (map step_model own.now)) (paths_in (map step_model other.now)) }
 {
     for index in 0..other.len() {

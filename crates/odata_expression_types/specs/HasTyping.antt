@@ -1,10 +1,8 @@
 -- Which texts are filters, and why others are not (OData URL Conventions 4.01, section 5.1.1).
 use Rattle.std.specs.Prelude.{ℕ, List, [], length}
-use Rattle.odata_syntax.specs.Parse.{IsParse, IsSyntaxFault}
-use Rattle.odata_text.specs.TokenModel.{TokenModel}
-use Rattle.odata_text.specs.Tokens.{IsTokenList, IsTextFault}
+pub use Rattle.odata_syntax.specs.TextTree.{HasTree, HasSyntaxFault}
+use Rattle.odata_text.specs.Tokens.{IsTextFault}
 use Rattle.odata_syntax.specs.Tree.{Tree}
-use Rattle.odata_syntax.specs.declared.syntax_fault.SyntaxFault.{SyntaxFault}
 use Rattle.csdl_schema.specs.ExprType.{ExprType}
 use Rattle.csdl_schema.specs.SchemaModel.{Slots}
 use Rattle.odata_expression_types.specs.declared.refusal.Refusal.{Refusal}
@@ -12,12 +10,6 @@ use Rattle.odata_expression_types.specs.declared.refusal.TypeFault.{TypeFault}
 use Rattle.odata_signatures.specs.ExprTypes.{IsBooleanOrNull}
 use Rattle.odata_expression_types.specs.FirstUntypable.{IsTypeFault}
 use Rattle.odata_expression_types.specs.Typed.{Typed}
-
--- the text has tokens, and these are the tree
-pub record HasTree (text : List ℕ) (tree : Tree) : Type 0 where
-  pub models : List TokenModel
-  pub tokens : IsTokenList text models
-  pub parse : IsParse models tree
 
 -- the text is a filter of the type root: its tree has type Boolean or Null
 pub record HasTyping (slots : Slots) (root : List ℕ) (text : List ℕ) (tree : Tree) : Type 0 where
@@ -28,12 +20,6 @@ pub record HasTyping (slots : Slots) (root : List ℕ) (text : List ℕ) (tree :
 
 abbrev pub HasNoTyping : Slots → List ℕ → List ℕ → Type 0
 HasNoTyping slots root text = (tree : Tree) → ¬ HasTyping slots root text tree
-
--- the text has tokens, and these have the fault
-pub record HasSyntaxFault (text : List ℕ) (fault : SyntaxFault) : Type 0 where
-  pub models : List TokenModel
-  pub tokens : IsTokenList text models
-  pub fault_of : IsSyntaxFault models (length text) fault
 
 -- the text has a tree, and this has the fault
 pub record HasTypeFault (slots : Slots) (root : List ℕ) (text : List ℕ) (fault : TypeFault) : Type 0 where

@@ -31,6 +31,7 @@ pub use Rattle.odata_syntax.specs.FirstRun
 pub use Rattle.odata_syntax.specs.NormalForm
 pub use Rattle.odata_syntax.specs.Parse
 pub use Rattle.odata_syntax.specs.Spans
+pub use Rattle.odata_syntax.specs.TextTree
 pub use Rattle.odata_syntax.specs.Tree
 pub use Rattle.odata_text.specs.LiteralSpelling
 pub use Rattle.odata_text.specs.TokenModel

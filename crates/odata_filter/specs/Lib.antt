@@ -9,6 +9,7 @@ pub use Rattle.odata_text.specs.Query
 pub use Rattle.odata_text.specs.Tokens
 pub use Rattle.odata_syntax.specs.CanonicalText
 pub use Rattle.odata_syntax.specs.Parse
+pub use Rattle.odata_syntax.specs.TextTree
 pub use Rattle.odata_syntax.specs.Tree
 pub use Rattle.odata_syntax.specs.TreeView
 pub use Rattle.clap.specs.Words as ClapWords

@@ -1,4 +1,5 @@
 -- Which types operators make.
+pub mod Items
 pub mod OneEnumeration
 pub mod Operators
 pub mod Quoted

@@ -1,5 +1,6 @@
 //! Which type a call has.
 ghost use Rattle.std.specs.Prelude.{IfErr, IfOk, map};
+ghost use Rattle.std.specs.Str.{str_to_ascii_lowercase};
 ghost use Rattle.csdl_schema.specs.ExprType.{ExprType};
 ghost use Rattle.csdl_schema.specs.SchemaModel.{SchemaModel};
 ghost use Rattle.odata_signatures.specs.Functions.{IsNamed};
@@ -27,15 +28,16 @@ pub struct TypedCall {
 
 ghost use Rattle.odata_signatures.specs.CallTyped.{CallReason, CallTyped, FunctionTyped};
 
-/// The call of that name, in lower case, with arguments of these types; or the first reason why it has no type.
+/// The call of that name, in any ASCII case, with arguments of these types; or the first reason why it has no type.
 pub fn judged_call(name: &str, types: &[EdmType]) -> Result<TypedCall, CallFault>
-    ensures named { IfOk result (λ call. IsNamed call.function name.now) }
+    ensures named { IfOk result (λ call. IsNamed call.function (str_to_ascii_lowercase name.now)) }
     ensures typed { (schema : SchemaModel) → IfOk result (λ call. FunctionTyped call.function
         (map (expr_type schema) types.now) (expr_type schema call.edm_type)) }
     ensures there { (schema : SchemaModel) → IfOk result (λ call. IsTypeThere schema call.edm_type) }
     ensures none { (schema : SchemaModel) → IfErr result (λ fault.
-        (type : ExprType) → ¬ CallTyped name.now (map (expr_type schema) types.now) type) }
-    ensures reason { (schema : SchemaModel) → IfErr result (CallReason name.now (map (expr_type schema) types.now)) }
+        (type : ExprType) → ¬ CallTyped (str_to_ascii_lowercase name.now) (map (expr_type schema) types.now) type) }
+    ensures reason { (schema : SchemaModel) → IfErr result
+        (CallReason (str_to_ascii_lowercase name.now) (map (expr_type schema) types.now)) }
 {
     let Some(function) = function_named(name) else {
         return Err(CallFault::UnknownFunction);

@@ -1,5 +1,6 @@
 //! The functions that a filter may call, and the table of what they take and give.
 ghost use Rattle.std.specs.Prelude.{◌≡◌, IfSome, IfNone};
+ghost use Rattle.std.specs.Str.{str_to_ascii_lowercase};
 
 use super::argument_kind::ArgumentKind;
 use edm_values::Prim;
@@ -135,13 +136,14 @@ fn row(
     }
 }
 
-/// The function of that name, which is looked for as it is written: the parser puts names in lower case.
+/// The function of that name, in any ASCII case.
+#[tactic(auto, using(crate::proofs::functions::Names::named_lower, crate::proofs::functions::Names::lower_named))]
 pub fn function_named(name: &str) -> Option<Function>
-    ensures some { IfSome result (λ function. IsNamed function name.now) }
-    ensures none { IfNone result ((function : Function) → ¬ IsNamed function name.now) }
+    ensures some { IfSome result (λ function. IsNamed function (str_to_ascii_lowercase name.now)) }
+    ensures none { IfNone result ((function : Function) → ¬ IsNamed function (str_to_ascii_lowercase name.now)) }
 {
     for function in FUNCTIONS {
-        if function.name() == name {
+        if function.name().eq_ignore_ascii_case(name) {
             return Some(function);
         }
     }

@@ -61,9 +61,10 @@ fn are_comparable_items(schema: &Schema, left: &EdmType, items: &[EdmType]) -> b
     ensures { IsTrue result ↔ AllByRecursion (AreComparable (expr_type schema.now left.now))
         (map (expr_type schema.now) items.now) }
 {
-    match items {
-        [] => true,
-        [item, items @ ..] => are_comparable(schema, left, item)
-            && are_comparable_items(schema, left, items),
+    for index in 0..items.len() {
+        if !are_comparable(schema, left, &items[index]) {
+            return false;
+        }
     }
+    true
 }

@@ -1,3 +1,2 @@
--- What the walk over the arguments of a call answers.
-pub mod Items
-pub mod Walking
+-- Arguments of a call.
+pub mod FewArguments

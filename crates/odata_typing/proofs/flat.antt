@@ -1,2 +1,4 @@
--- What is put behind the list stands there for its tree.
+-- What stands in the list for a tree.
 pub mod Closing
+pub mod Idle
+pub mod Kept

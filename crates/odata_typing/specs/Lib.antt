@@ -48,6 +48,7 @@ pub use Rattle.odata_syntax.specs.CanonicalText
 pub use Rattle.odata_syntax.specs.FirstRun
 pub use Rattle.odata_syntax.specs.Parse
 pub use Rattle.odata_syntax.specs.Spans
+pub use Rattle.odata_syntax.specs.TextTree
 pub use Rattle.odata_syntax.specs.Tree
 pub use Rattle.odata_syntax.specs.TreeView
 pub use Rattle.odata_text.specs.TokenModel

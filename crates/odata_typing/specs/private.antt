@@ -1,13 +1,13 @@
 -- Definitions that private clauses alone cite.
 pub mod Answer
-pub mod Arguments
-pub mod Begun
-pub mod EarlierFault
 pub mod Forms
 pub mod Items
-pub mod Judged
+pub mod Judging
 pub mod Lambda
 pub mod LawsBelow
 pub mod Pairing
-pub mod StepFound
+pub mod Rows
+pub mod Settings
+pub mod SpanLaws
 pub mod Variables
+pub mod Walks

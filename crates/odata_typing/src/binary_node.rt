@@ -1,33 +1,30 @@
 //! Nodes between two operands: operators, `has`, and `in` before a path.
-ghost use Rattle.std.specs.Prelude.{◌≡◌, ◌<◌, ◌≤◌, [], ℕ, length, IfOk, IfSome, IfNone};
-ghost use Rattle.odata_syntax.specs.Tree.{Tree, node};
-ghost use Rattle.odata_syntax.specs.TreeView.{tree_of};
+ghost use Rattle.std.specs.Prelude.{◌≡◌, ◌∷◌, ℕ, [], IfNone, IfSome, IsTrue, List, Option};
+ghost use Rattle.odata_syntax.specs.Tree.{Tree, binary};
 ghost use Rattle.csdl_schema.specs.ExprType.{ExprType};
-ghost use Rattle.csdl_schema.specs.SchemaModel.{SchemaModel, slots_of};
-ghost use Rattle.odata_expression_types.specs.Typed.{Scope};
-ghost use Rattle.odata_expression_types.specs.Sides.{side_of};
+ghost use Rattle.csdl_schema.specs.SchemaModel.{SchemaModel};
+ghost use Rattle.odata_signatures.specs.CollectionTyped.{IsCollection};
+ghost use Rattle.odata_signatures.specs.ExprTypes.{IsBooleanOrNull, boolean_type};
+ghost use Rattle.odata_signatures.specs.OperatorClass.{class_of};
+ghost use Rattle.odata_signatures.specs.OperatorTyped.{ClassTyped};
 ghost use Rattle.odata_signatures.specs.QuotedNumber.{IsReadBeside};
+ghost use Rattle.odata_signatures.specs.Side.{quoting};
 ghost use Rattle.odata_signatures.specs.TypeThere.{IsTypeThere};
 ghost use Rattle.odata_signatures.specs.TypeView.{expr_type};
-ghost use Rattle.odata_checked_filter.specs.FlatTree.{FlatTree};
-ghost use Rattle.odata_checked_filter.specs.ListGrowth.{IsOpened};
-ghost use Rattle.odata_typing.specs.private.Answer.{Answers, IsAnswer, IsWalked};
-ghost use Rattle.odata_typing.specs.private.Variables.{AreThere};
+ghost use Rattle.odata_typing.specs.private.Items.{IsUnreadLeft};
+ghost use Rattle.odata_typing.specs.private.Judging.{AreChildren, IsNodeJudged};
+ghost use Rattle.odata_typing.specs.private.Settings.{IsNodeReady};
 
 use super::laws_below::laws_below;
-use super::left_operand::Begun;
-use super::node::checked_tree;
-use super::opened_node::Opened;
 use super::pairing::{Paired, Pairing, pairing_of};
-use super::quotes::{Quotes, quoted_of};
-use super::setting::Setting;
-use super::untyped::{Untyped, earlier};
+use super::setting::{Judged, Setting};
+use super::walk::Walk;
 use csdl_schema::Schema;
 use edm_values::Value;
-use odata_checked_filter::{NodeKind, NodeList};
-use odata_expression_types::{TypeFault, TypeFaultCode};
-use odata_signatures::{BOOLEAN, EdmType, has_type, in_path_type, made_type};
-use odata_syntax::{BinaryOperator, Node};
+use odata_checked_filter::NodeKind;
+use odata_expression_types::TypeFaultCode;
+use odata_signatures::{BOOLEAN, EdmType, ValueType, has_type, in_path_type, made_type};
+use odata_syntax::BinaryOperator;
 
 /// What stands between the two operands.
 #[derive(Clone, Copy)]
@@ -37,205 +34,144 @@ pub(crate) enum Infix {
     InPath,
 }
 
-/// What was answered of the two operands, and what they quote.
-#[derive(Clone, Copy)]
-pub(crate) struct Operands<'n> {
-    pub(crate) left: Result<EdmType, Untyped>,
-    pub(crate) right: Result<EdmType, Untyped>,
-    pub(crate) quotes: Quotes<'n>,
-}
-
 /// The types of the two operands, and what they quote.
 #[derive(Clone, Copy)]
 pub(crate) struct OperandTypes<'n> {
     pub(crate) left: EdmType,
     pub(crate) right: EdmType,
-    pub(crate) quotes: Quotes<'n>,
+    pub(crate) left_quoted: Option<&'n str>,
+    pub(crate) right_quoted: Option<&'n str>,
 }
 
-ghost use Rattle.odata_typing.specs.private.Begun.{IsBegun, IsPlaced};
 ghost use Rattle.odata_typing.specs.private.Forms.{InfixByTypes, InfixReason, infix_kind, infix_shape};
-ghost use Rattle.odata_typing.specs.private.Pairing.{AreQuotes, IsOfRight, IsPairedIn, OneIsRead, left_side, paired_kind, right_side};
+ghost use Rattle.odata_typing.specs.private.Pairing.{OneIsRead, paired_kind};
 
-/// The nodes of the right operand behind those of the left, and the node of both.
-#[cycle(typing)]
-pub(crate) fn checked_right(
+/// An operator between its operands.
+#[inline(always)]
+pub(crate) fn checked_operator(
     setting: &Setting<'_>,
-    form: Infix,
-    begun: Begun,
-    right: &Node,
-    list: &mut NodeList,
-) -> Result<EdmType, Untyped>
-    requires form { IsOfRight form }
-    requires variables { AreThere setting.now.schema.now setting.now.variables.now }
-    requires placed { IsPlaced setting.now.schema.now list.old begun }
-    ensures answer { (old : FlatTree) (l : Tree)
-        → IsBegun setting.now old l list.old begun
-        → Answers setting.now old (node begun.opened.span.start begun.opened.span.stop
-        (infix_shape form l (tree_of right.now))) list.new result }
-    ensures there { IfOk result (IsTypeThere setting.now.schema.now) }
-    ensures grown { length list.old.nodes ≤ length list.new.nodes }
-{
-    let Begun { opened, left } = begun;
-    let quotes = Quotes {
-        left: None,
-        right: quoted_of(right),
-    };
-    let right = checked_tree(setting, right, list);
-    let operands = Operands {
-        left,
-        right,
-        quotes,
-    };
-    close_infix(setting.schema, opened, form, operands, list)
-}
-
-/// The node between two operands, from what was answered of them.
-pub(crate) fn close_infix(
-    schema: &Schema,
-    opened: Opened,
-    form: Infix,
-    operands: Operands<'_>,
-    list: &mut NodeList,
-) -> Result<EdmType, Untyped>
-    requires place { opened.place < length list.old.nodes }
-    requires left { IfOk operands.left (IsTypeThere schema.now) }
-    requires right { IfOk operands.right (IsTypeThere schema.now) }
-    ensures answer { (n : ℕ) (scope : Scope) (l r : Tree) (start before between : FlatTree)
-        → AreQuotes form l r operands.entry.quotes
-        → IsOpened start opened.place [] before
-        → IsAnswer schema.now n scope before l between operands.entry.left
-        → IsAnswer schema.now n scope between r list.old operands.entry.right
-        → IsAnswer schema.now n scope start (node opened.span.start opened.span.stop (infix_shape form l r))
-        list.new result }
-    ensures there { IfOk result (IsTypeThere schema.now) }
-    ensures grown { length list.old.nodes ≤ length list.new.nodes }
+    judged: &Judged<'_>,
+    operator: BinaryOperator,
+    walk: &mut Walk,
+) -> bool
+    requires ready { IsNodeReady setting.now walk.old judged.now }
+    requires operands { (l : Tree) × (r : Tree) × AreChildren setting.now walk.old judged.now (l ∷ r ∷ []) }
+    ensures { (l r : Tree) → AreChildren setting.now walk.old judged.now (l ∷ r ∷ [])
+        → IsNodeJudged setting.now judged.now (binary operator l r) walk.old walk.new result }
 {
     laws_below();
-    let Operands {
-        left,
-        right,
-        quotes,
-    } = operands;
-    match left {
-        Ok(left) => match right {
-            Ok(right) => {
-                let types = OperandTypes {
-                    left,
-                    right,
-                    quotes,
-                };
-                close_pair(schema, opened, form, &types, list)
-            }
-            Err(behind) => Err(behind),
-        },
-        Err(before) => match right {
-            Ok(_) => Err(before),
-            Err(behind) => Err(earlier(before, behind)),
-        },
+    let left = judged.number + 1;
+    let left_type = walk.type_at(left);
+    let right_type = walk.type_at(walk.stop_at(left));
+    if may_be_read(operator, &left_type, &right_type) {
+        return checked_infix(setting, judged, Infix::Operator(operator), walk);
+    }
+    let edm_type = operator_type(setting.schema, operator, &left_type, &right_type);
+    let kind = NodeKind::Binary { operator };
+    walk.put_typed(judged, kind, edm_type, TypeFaultCode::OperandTypes)
+}
+
+/// Whether one of two operands of these types may be a String literal that is read beside the other.
+#[inline(always)]
+fn may_be_read(operator: BinaryOperator, left: &EdmType, right: &EdmType) -> bool
+    ensures { (schema : SchemaModel) (l r : Option (List ℕ)) → ¬ IsTrue result
+        → ¬ OneIsRead IsReadBeside (Infix.Operator operator) (quoting l (expr_type schema left.now))
+        (quoting r (expr_type schema right.now)) }
+{
+    match operator {
+        BinaryOperator::Eq | BinaryOperator::Ne => is_enumeration(left) || is_enumeration(right),
+        _ => false,
     }
 }
 
-/// The node between operands of these types.
-fn close_pair(
+/// The type between operands of these types, by the types alone. `None` where they may not stand there.
+#[inline(always)]
+fn operator_type(
     schema: &Schema,
-    opened: Opened,
-    form: Infix,
-    types: &OperandTypes<'_>,
-    list: &mut NodeList,
-) -> Result<EdmType, Untyped>
-    requires place { opened.place < length list.old.nodes }
-    requires left { IsTypeThere schema.now types.now.left }
-    requires right { IsTypeThere schema.now types.now.right }
-    ensures answer { (n : ℕ) (scope : Scope) (l r : Tree) (start before between : FlatTree)
-        → AreQuotes form l r types.now.quotes
-        → IsOpened start opened.place [] before
-        → IsWalked schema.now n scope before l between types.now.left
-        → IsWalked schema.now n scope between r list.old types.now.right
-        → IsAnswer schema.now n scope start (node opened.span.start opened.span.stop (infix_shape form l r))
-        list.new result }
-    ensures there { IfOk result (IsTypeThere schema.now) }
-    ensures grown { length list.old.nodes ≤ length list.new.nodes }
+    operator: BinaryOperator,
+    left: &EdmType,
+    right: &EdmType,
+) -> Option<EdmType>
+    requires left { IsTypeThere schema.now left.now }
+    requires right { IsTypeThere schema.now right.now }
+    ensures typed { IfSome result (λ t. ClassTyped (class_of operator)
+        (expr_type schema.now left.now) (expr_type schema.now right.now) (expr_type schema.now t)) }
+    ensures there { IfSome result (IsTypeThere schema.now) }
+    ensures none { IfNone result ((type : ExprType) → ¬ ClassTyped (class_of operator)
+        (expr_type schema.now left.now) (expr_type schema.now right.now) type) }
 {
-    laws_below();
-    match pairing_of(schema, form, types) {
-        Pairing::Unread => close_unread(schema, opened, form, types, list),
-        Pairing::Number(paired, number) => close_paired(opened, paired, number, list),
-        Pairing::Unknown => Err(Untyped::Fault(TypeFault {
-            code: TypeFaultCode::UnknownEnum,
-            span: opened.span,
-        })),
+    match operator {
+        BinaryOperator::And => connective_type(left, right),
+        BinaryOperator::Or => connective_type(left, right),
+        _ => made_type(schema, operator, left, right),
     }
 }
 
-/// The node between operands of these types, neither of which is read.
-fn close_unread(
-    schema: &Schema,
-    opened: Opened,
+/// The type of `and` and of `or`.
+#[inline(always)]
+fn connective_type(left: &EdmType, right: &EdmType) -> Option<EdmType>
+    ensures typed { (schema : SchemaModel) → IfSome result (λ t. IsBooleanOrNull (expr_type schema left.now)
+        × IsBooleanOrNull (expr_type schema right.now) × (expr_type schema t ≡ boolean_type)) }
+    ensures there { (schema : SchemaModel) → IfSome result (IsTypeThere schema) }
+    ensures none { (schema : SchemaModel) → IfNone result
+        (¬ (IsBooleanOrNull (expr_type schema left.now) × IsBooleanOrNull (expr_type schema right.now))) }
+{
+    if left.is_truth() && right.is_truth() {
+        Some(BOOLEAN)
+    } else {
+        None
+    }
+}
+
+/// Whether something is one value of an enumeration.
+#[inline(always)]
+pub(crate) fn is_enumeration(edm_type: &EdmType) -> bool
+    ensures single { (schema : SchemaModel) → IsTrue result → ¬ IsCollection (expr_type schema edm_type.now) }
+    ensures unread { (schema : SchemaModel) → ¬ IsTrue result → IsUnreadLeft (expr_type schema edm_type.now) }
+{
+    match edm_type {
+        EdmType::Single(ValueType::Enum(_)) => true,
+        EdmType::Single(ValueType::Prim(_)) => false,
+        EdmType::Single(ValueType::Structured(_)) => false,
+        EdmType::Null => false,
+        EdmType::Collection(_) => false,
+    }
+}
+
+/// The node between two operands, of which one may be a String literal that is read as an enumeration's.
+#[inline(never)]
+pub(crate) fn checked_infix(
+    setting: &Setting<'_>,
+    judged: &Judged<'_>,
     form: Infix,
-    types: &OperandTypes<'_>,
-    list: &mut NodeList,
-) -> Result<EdmType, Untyped>
-    requires place { opened.place < length list.old.nodes }
-    requires left { IsTypeThere schema.now types.now.left }
-    requires right { IsTypeThere schema.now types.now.right }
-    ensures answer { (n : ℕ) (scope : Scope) (l r : Tree) (start before between : FlatTree)
-        → AreQuotes form l r types.now.quotes
-        → ¬ OneIsRead IsReadBeside form (left_side schema.now types.now) (right_side schema.now types.now)
-        → IsOpened start opened.place [] before
-        → IsWalked schema.now n scope before l between types.now.left
-        → IsWalked schema.now n scope between r list.old types.now.right
-        → IsAnswer schema.now n scope start (node opened.span.start opened.span.stop (infix_shape form l r))
-        list.new result }
-    ensures there { IfOk result (IsTypeThere schema.now) }
-    ensures grown { length list.old.nodes ≤ length list.new.nodes }
+    walk: &mut Walk,
+) -> bool
+    requires ready { IsNodeReady setting.now walk.old judged.now }
+    requires operands { (l : Tree) × (r : Tree) × AreChildren setting.now walk.old judged.now (l ∷ r ∷ []) }
+    ensures { (l r : Tree) → AreChildren setting.now walk.old judged.now (l ∷ r ∷ [])
+        → IsNodeJudged setting.now judged.now (infix_shape form l r) walk.old walk.new result }
 {
     laws_below();
-    match infix_type(schema, form, &types.left, &types.right) {
-        Some(edm_type) => {
-            list.close(opened.place, kind_of(form), opened.span, &edm_type);
-            Ok(edm_type)
+    let left = judged.number + 1;
+    let right = walk.stop_at(left);
+    let types = OperandTypes {
+        left: walk.type_at(left),
+        right: walk.type_at(right),
+        left_quoted: walk.quoted_at(left),
+        right_quoted: walk.quoted_at(right),
+    };
+    let pairing = pairing_of(setting.schema, form, &types);
+    let edm_type = infix_type(setting.schema, form, &types);
+    let code = reason_of(form, &types.right);
+    match pairing {
+        Pairing::Unread => walk.put_typed(judged, kind_of(form), edm_type, code),
+        Pairing::Number(paired, number) => {
+            let value = walk.list.values().len();
+            walk.push_value(Value::Enum(number))
+                && walk.put_nameless(judged, paired_kind(paired, value), &BOOLEAN)
         }
-        None => Err(Untyped::Fault(TypeFault {
-            code: reason_of(form, &types.right),
-            span: opened.span,
-        })),
+        Pairing::Unknown => walk.refuse(judged.node.span, TypeFaultCode::UnknownEnum),
     }
-}
-
-/// The node between operands of which one is read as that number.
-fn close_paired(
-    opened: Opened,
-    paired: Paired,
-    number: i64,
-    list: &mut NodeList,
-) -> Result<EdmType, Untyped>
-    requires { opened.place < length list.old.nodes }
-    ensures answer { (schema : SchemaModel) (n : ℕ) (scope : Scope) (form : Infix) (l r : Tree)
-        (start before between : FlatTree) (left right : EdmType)
-        → IsPairedIn (slots_of schema) form paired (side_of l (expr_type schema left))
-        (side_of r (expr_type schema right)) number
-        → IsOpened start opened.place [] before
-        → IsWalked schema n scope before l between left
-        → IsWalked schema n scope between r list.old right
-        → IsAnswer schema n scope start (node opened.span.start opened.span.stop (infix_shape form l r))
-        list.new result }
-    ensures there { (schema : SchemaModel) → IfOk result (IsTypeThere schema) }
-    ensures grown { length list.old.nodes ≤ length list.new.nodes }
-{
-    laws_below();
-    let place = list.values().len();
-    match list.push_value(Value::Enum(number)) {
-        Ok(()) => {}
-        Err(_) => return Err(Untyped::Memory),
-    }
-    list.close(
-        opened.place,
-        paired_kind(paired, place),
-        opened.span,
-        &BOOLEAN,
-    );
-    Ok(BOOLEAN)
 }
 
 fn paired_kind(paired: Paired, number: usize) -> NodeKind
@@ -249,19 +185,19 @@ fn paired_kind(paired: Paired, number: usize) -> NodeKind
 }
 
 /// The type between operands of these types, by the types alone. `None` where they may not stand there.
-fn infix_type(schema: &Schema, form: Infix, left: &EdmType, right: &EdmType) -> Option<EdmType>
-    requires left { IsTypeThere schema.now left.now }
-    requires right { IsTypeThere schema.now right.now }
+fn infix_type(schema: &Schema, form: Infix, types: &OperandTypes<'_>) -> Option<EdmType>
+    requires left { IsTypeThere schema.now types.now.left }
+    requires right { IsTypeThere schema.now types.now.right }
     ensures typed { IfSome result (λ t. InfixByTypes form
-        (expr_type schema.now left.now) (expr_type schema.now right.now) (expr_type schema.now t)) }
+        (expr_type schema.now types.now.left) (expr_type schema.now types.now.right) (expr_type schema.now t)) }
     ensures there { IfSome result (IsTypeThere schema.now) }
     ensures none { IfNone result ((type : ExprType) → ¬ InfixByTypes form
-        (expr_type schema.now left.now) (expr_type schema.now right.now) type) }
+        (expr_type schema.now types.now.left) (expr_type schema.now types.now.right) type) }
 {
     match form {
-        Infix::Operator(operator) => made_type(schema, operator, left, right),
-        Infix::Has => has_type(schema, left, right),
-        Infix::InPath => in_path_type(schema, left, right),
+        Infix::Operator(operator) => made_type(schema, operator, &types.left, &types.right),
+        Infix::Has => has_type(schema, &types.left, &types.right),
+        Infix::InPath => in_path_type(schema, &types.left, &types.right),
     }
 }
 
@@ -275,7 +211,7 @@ fn kind_of(form: Infix) -> NodeKind
     }
 }
 
-/// Why operands may not stand there, of which the right one has this type: a path behind `in` has to lead to a
+/// Why operands may not stand there, of which the right one has this type: a path after `in` has to lead to a
 /// collection.
 fn reason_of(form: Infix, right: &EdmType) -> TypeFaultCode
     ensures { (schema : SchemaModel) → InfixReason form (expr_type schema right.now) result }

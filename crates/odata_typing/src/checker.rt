@@ -1,26 +1,31 @@
-ghost use Rattle.std.specs.Prelude.{◌≡◌, ℕ, List, [], length, IfOk, IfErr};
-ghost use Rattle.odata_syntax.specs.Tree.{Tree};
-ghost use Rattle.odata_syntax.specs.TreeView.{tree_of};
-ghost use Rattle.csdl_schema.specs.ExpansionView.{StepModel};
-ghost use Rattle.csdl_schema.specs.SchemaModel.{Slots, HoldsType, slots_of, type_name_at};
-ghost use Rattle.odata_checked_filter.specs.FlatTree.{tree_of_nodes};
-ghost use Rattle.odata_typing.specs.private.Answer.{HasNoTree, IsSyntaxRefusal, IsTextRefusal};
+ghost use Rattle.std.specs.Prelude.{◌≡◌, ◌<◌, ℕ, List, [], Some, false, length, slice_get, IfOk, IfErr};
+ghost use Rattle.csdl_schema.specs.ExpansionView.{StepModel, paths_in};
+ghost use Rattle.csdl_schema.specs.PathSet.{PropertyPath};
+ghost use Rattle.csdl_schema.specs.SchemaModel.{HoldsType, SchemaModel, slots_of, type_name_at};
+ghost use Rattle.odata_signatures.specs.ExprTypes.{IsBooleanOrNull};
+ghost use Rattle.odata_signatures.specs.TypeView.{expr_type};
 ghost use Rattle.odata_checked_filter.specs.Filter.{HasNeededPaths, IsFilter, filter_in, filter_of, tree_of_filter};
+ghost use Rattle.odata_checked_filter.specs.FlatTree.{tree_of_nodes};
 ghost use Rattle.odata_checked_filter.specs.Stands.{Stands};
-ghost use Rattle.odata_expression_types.specs.HasTyping.{HasTree, HasTyping, HasNoTyping, IsRefusal, UnlessMemory};
+ghost use Rattle.odata_expression_types.specs.HasTyping.{HasNoTyping, HasTyping, IsRefusal, UnlessMemory};
+ghost use Rattle.odata_typing.specs.private.Answer.{IsTypeRefusal, refusal_of};
+ghost use Rattle.odata_typing.specs.private.Judging.{IsStanding};
+ghost use Rattle.odata_typing.specs.private.Settings.{IsReady, IsSetting, whole_tree};
+ghost use Rattle.odata_typing.specs.private.Variables.{scope_of};
+ghost use Rattle.odata_typing.specs.private.Walks.{walk_over};
 
 use super::laws_below::laws_below;
-use super::node::checked_tree;
+use super::node::checked_nodes;
 use super::setting::Setting;
-use super::untyped::Untyped;
 use super::variables::Variables;
+use super::walk::Walk;
 use csdl_schema::{Expansion, Schema, TypeId};
 use odata_checked_filter::{
-    Checked, NodeList, StoredFilter, a_list_stands_for_one_tree, expansion_of,
+    Checked, CheckedNode, NodeList, StoredFilter, a_list_stands_for_one_tree, expansion_of,
 };
 use odata_expression_types::{Refusal, TypeFault, TypeFaultCode, texts_have_few_nodes};
-use odata_syntax::{Expr, SyntaxFault, parse};
-use odata_text::{Span, TextFault, tokens, tokens_are_spelled};
+use odata_syntax::{SyntaxFault, TextOrSyntaxFault, parse_text};
+use odata_text::{Span, TextFault, tokens_are_spelled};
 use std::alloc::Global;
 
 /// The text as a filter of the entities of a type, which the schema holds.
@@ -89,31 +94,37 @@ fn checked_parts(
     ensures none { IfErr result (λ r. UnlessMemory r
         (HasNoTyping (slots_of schema.now) (type_name_at schema.now filtered_type) text.now)) }
 {
-    let list = match checked_list(alloc, schema, filtered_type, text) {
-        Ok(list) => list,
+    let walk = match checked_walk(alloc, schema, filtered_type, text) {
+        Ok(walk) => walk,
         Err(refusal) => return Err(refusal),
     };
-    match expansion_of(alloc, schema, filtered_type, &list) {
-        Ok(expansion) => Ok((list, expansion)),
+    if !walk.navigates {
+        return Ok((walk.list, Expansion::none(alloc)));
+    }
+    match expansion_of(alloc, schema, filtered_type, &walk.list) {
+        Ok(expansion) => Ok((walk.list, expansion)),
         Err(_) => Err(Refusal::Memory),
     }
 }
 
-/// The list of a filter's nodes.
-fn checked_list(
+/// The walk over a filter's nodes.
+fn checked_walk(
     alloc: Global,
     schema: &Schema,
     filtered_type: TypeId,
     text: &str,
-) -> Result<NodeList, Refusal>
+) -> Result<Walk, Refusal>
     requires { HoldsType schema.now filtered_type }
-    ensures stands { IfOk result (λ list.
-        Stands schema.now filtered_type [] list 0 (length list.nodes) (tree_of_nodes list)) }
-    ensures filter { IfOk result (λ list. (expansion : List StepModel)
-        → HasNeededPaths schema.now filtered_type list expansion
-        → IsFilter (filter_of schema.now filtered_type list expansion)) }
-    ensures typing { IfOk result (λ list. HasTyping (slots_of schema.now) (type_name_at schema.now filtered_type)
-        text.now (tree_of_nodes list)) }
+    ensures stands { IfOk result (λ walk.
+        Stands schema.now filtered_type [] walk.list 0 (length walk.list.nodes) (tree_of_nodes walk.list)) }
+    ensures filter { IfOk result (λ walk. (expansion : List StepModel)
+        → HasNeededPaths schema.now filtered_type walk.list expansion
+        → IsFilter (filter_of schema.now filtered_type walk.list expansion)) }
+    ensures idle { IfOk result (λ walk. (expansion : List StepModel) → walk.navigates ≡ false
+        → ((path : PropertyPath) → paths_in expansion path ≡ false)
+        → HasNeededPaths schema.now filtered_type walk.list expansion) }
+    ensures typing { IfOk result (λ walk. HasTyping (slots_of schema.now) (type_name_at schema.now filtered_type)
+        text.now (tree_of_nodes walk.list)) }
     ensures refusal { IfErr result (λ r. UnlessMemory r
         (IsRefusal (slots_of schema.now) (type_name_at schema.now filtered_type) text.now r)) }
     ensures none { IfErr result (λ r. UnlessMemory r
@@ -122,26 +133,70 @@ fn checked_list(
     laws_below();
     a_list_stands_for_one_tree();
     texts_have_few_nodes();
-    let expr = match tree_of_text(alloc, text) {
-        Ok(expr) => expr,
-        Err(refusal) => return Err(refusal),
+    tokens_are_spelled();
+    let syntax = match parse_text(alloc, text) {
+        Ok(syntax) => syntax,
+        Err(fault) => return Err(refusal_of(fault)),
     };
-    let mut list = NodeList::new(alloc);
-    let variables = Variables::Empty;
+    let list = match NodeList::new(alloc, text, syntax.nodes().len()) {
+        Ok(list) => list,
+        Err(_) => return Err(Refusal::Memory),
+    };
     let setting = Setting {
         alloc,
         schema,
         filtered_type,
-        variables: &variables,
+        variables: &Variables::Empty,
+        text,
+        nodes: syntax.nodes(),
+        places: syntax.places(),
     };
-    match checked_tree(&setting, expr.root(), &mut list) {
-        Ok(edm_type) => if edm_type.is_truth() {
-            Ok(list)
-        } else {
-            Err(Refusal::Typing(not_boolean(text.len())))
-        },
-        Err(Untyped::Fault(fault)) => Err(Refusal::Typing(fault)),
-        Err(Untyped::Memory) => Err(Refusal::Memory),
+    judged_nodes(&setting, list)
+}
+
+/// The walk over all nodes of a setting without variables, which puts them into the list.
+fn judged_nodes(setting: &Setting<'_>, list: NodeList) -> Result<Walk, Refusal>
+    requires setting { IsSetting setting.now }
+    requires ready { IsReady setting.now (walk_over list) }
+    requires scope { scope_of setting.now ≡ [] }
+    ensures stands { IfOk result (λ walk. IsStanding setting.now.schema.now setting.now.filtered_type [] walk
+        0 (length walk.list.nodes) (whole_tree setting.now)) }
+    ensures truth { IfOk result (λ walk. (found : CheckedNode) → slice_get walk.list.nodes 0 ≡ Some found
+        → IsBooleanOrNull (expr_type setting.now.schema.now found.edm_type)) }
+    ensures fault { IfErr result (IsTypeRefusal (slots_of setting.now.schema.now)
+        (type_name_at setting.now.schema.now setting.now.filtered_type) (whole_tree setting.now)
+        (length setting.now.text.now)) }
+{
+    let mut walk = Walk {
+        list,
+        fault: None,
+        navigates: false,
+    };
+    if checked_nodes(setting, 0, setting.nodes.len(), &mut walk) {
+        judged_whole(walk, setting.text.len())
+    } else {
+        match walk.fault {
+            Some(fault) => Err(Refusal::Typing(fault)),
+            None => Err(Refusal::Memory),
+        }
+    }
+}
+
+/// The walk over a text of that length, unless that is of another type than true or false.
+fn judged_whole(walk: Walk, len: usize) -> Result<Walk, Refusal>
+    requires { 0 < length walk.list.nodes }
+    ensures same { IfOk result (λ judged. judged ≡ walk) }
+    ensures truth { (schema : SchemaModel) (found : CheckedNode) → slice_get walk.list.nodes 0 ≡ Some found
+        → IfOk result (λ judged. IsBooleanOrNull (expr_type schema found.edm_type)) }
+    ensures refusal { IfErr result (λ refusal. refusal ≡ Refusal.Typing
+        (record { code = TypeFaultCode.NotBoolean; span = record { start = 0; stop = len } })) }
+    ensures other { (schema : SchemaModel) (found : CheckedNode) → slice_get walk.list.nodes 0 ≡ Some found
+        → IfErr result (λ refusal. ¬ IsBooleanOrNull (expr_type schema found.edm_type)) }
+{
+    if walk.type_at(0).is_truth() {
+        Ok(walk)
+    } else {
+        Err(Refusal::Typing(not_boolean(len)))
     }
 }
 
@@ -158,43 +213,14 @@ fn not_boolean(len: usize) -> TypeFault
     }
 }
 
-/// The tree of the text, or why it has none.
-fn tree_of_text(alloc: Global, text: &str) -> Result<Expr, Refusal>
-    ensures tree { IfOk result (λ e. HasTree text.now (tree_of e)) }
-    ensures only { IfOk result (λ e. (tree : Tree) → HasTree text.now tree → tree ≡ tree_of e) }
-    ensures refusal { (slots : Slots) (root : List ℕ) → IfErr result
-        (λ r. UnlessMemory r (IsRefusal slots root text.now r)) }
-    ensures none { IfErr result (λ r. UnlessMemory r (HasNoTree text.now)) }
-{
-    let tokens = match tokens(alloc, text) {
-        Ok(tokens) => tokens,
-        Err(fault) => return Err(text_refusal(fault)),
-    };
-    tokens_are_spelled();
-    match parse(alloc, tokens.as_slice(), text.len()) {
-        Ok(expr) => Ok(expr),
-        Err(fault) => Err(syntax_refusal(fault)),
-    }
-}
-
-fn text_refusal(fault: TextFault) -> Refusal
-    ensures { IsTextRefusal fault result }
+/// Why a text has no tree, as a refusal.
+fn refusal_of(fault: TextOrSyntaxFault) -> Refusal
+    ensures { result ≡ refusal_of fault }
 {
     match fault {
-        TextFault::Memory => Refusal::Memory,
-        TextFault::BadCharacter { .. }
-        | TextFault::UnclosedString { .. }
-        | TextFault::LeftOutLiteral { .. }
-        | TextFault::RunOn { .. }
-        | TextFault::TooLong { .. } => Refusal::Text(fault),
-    }
-}
-
-fn syntax_refusal(fault: SyntaxFault) -> Refusal
-    ensures { IsSyntaxRefusal fault result }
-{
-    match fault {
-        SyntaxFault::Memory => Refusal::Memory,
-        SyntaxFault::Unexpected { .. } | SyntaxFault::TooDeep { .. } => Refusal::Syntax(fault),
+        TextOrSyntaxFault::Text(TextFault::Memory) => Refusal::Memory,
+        TextOrSyntaxFault::Syntax(SyntaxFault::Memory) => Refusal::Memory,
+        TextOrSyntaxFault::Text(fault) => Refusal::Text(fault),
+        TextOrSyntaxFault::Syntax(fault) => Refusal::Syntax(fault),
     }
 }

@@ -1,203 +1,164 @@
 //! Nodes of `in` before a list.
-ghost use Rattle.std.specs.Prelude.{◌≡◌, ◌<◌, ◌≤◌, ℕ, [], length, map, IfNone, IfOk};
-ghost use Rattle.std.specs.List.{AllByRecursion};
-ghost use Rattle.odata_syntax.specs.Tree.{Tree, node, in_list, trees_of_list};
-ghost use Rattle.odata_syntax.specs.TreeView.{tree_of, trees_of};
-ghost use Rattle.odata_signatures.specs.CollectionTyped.{IsCollection};
+ghost use Rattle.std.specs.Prelude.{◌≡◌, ◌<◌, ◌↔◌, ◌∷◌, IsTrue, List, [], Some, length, slice_get};
+ghost use Rattle.odata_syntax.specs.Tree.{Tree, in_list, trees_of_list};
+ghost use Rattle.csdl_schema.specs.SchemaModel.{slots_of};
+ghost use Rattle.odata_signatures.specs.Side.{quoting};
 ghost use Rattle.odata_signatures.specs.TypeThere.{IsTypeThere};
 ghost use Rattle.odata_signatures.specs.TypeView.{expr_type};
-ghost use Rattle.odata_expression_types.specs.Typed.{Scope};
-ghost use Rattle.odata_checked_filter.specs.FlatTree.{FlatTree};
-ghost use Rattle.odata_checked_filter.specs.ListGrowth.{IsOpened};
-ghost use Rattle.odata_typing.specs.private.Answer.{Answers, IsAnswer, IsWalked};
-ghost use Rattle.odata_typing.specs.private.Arguments.{AreAnswered, AreWalked};
-ghost use Rattle.odata_typing.specs.private.Begun.{IsBegun, IsPlaced};
-ghost use Rattle.odata_typing.specs.private.Variables.{AreThere};
+ghost use Rattle.odata_typing.specs.private.Judging.{AreChildren, IsNodeJudged};
+ghost use Rattle.odata_typing.specs.private.Rows.{AreInRow, AreTypesThere, quoted_in, row_sides};
+ghost use Rattle.odata_typing.specs.private.Settings.{IsNodeReady};
 
-use super::argument_types::ArgumentTypes;
-use super::call_node::checked_arguments;
-use super::item_numbers::{ItemsFit, put_items};
+use super::binary_node::is_enumeration;
 use super::laws_below::laws_below;
-use super::left_operand::Begun;
-use super::opened_node::Opened;
-use super::setting::Setting;
-use super::untyped::{Untyped, earlier};
+use super::setting::{Judged, Setting};
+use super::walk::Walk;
 use csdl_schema::Schema;
-use odata_checked_filter::{NodeKind, NodeList};
-use odata_expression_types::{TypeFault, TypeFaultCode};
-use odata_signatures::{BOOLEAN, EdmType, ValueType, in_list_type};
-use odata_syntax::Node;
+use edm_values::Value;
+use odata_checked_filter::{CheckedNode, NodeKind};
+use odata_expression_types::TypeFaultCode;
+use odata_signatures::{BOOLEAN, Beside, EdmType, are_comparable, number_beside};
 
-/// The items of a list, with their types.
+/// Whether items may stand after the operand.
 #[derive(Clone, Copy)]
-pub(crate) struct Items<'n> {
-    pub(crate) nodes: &'n [Node],
-    pub(crate) types: &'n [EdmType],
+enum ItemsFit {
+    /// Each may.
+    All,
+    /// One may not, by its type.
+    Refused,
+    /// One is read and stands for no number.
+    Unknown,
+    OutOfMemory,
 }
 
-ghost use Rattle.odata_typing.specs.private.Items.{IsUnreadLeft};
+ghost use Rattle.odata_typing.specs.private.Items.{AreItemsFit, AreItemsPut, AreListFit, IsUnreadLeft, IsValueIfFit, worse_fit};
+ghost use Rattle.odata_typing.specs.private.Walks.{list_put};
 
-/// The nodes of the items behind those of the left operand, and the node of `in`.
-#[cycle(typing)]
-pub(crate) fn checked_in_list(
-    setting: &Setting<'_>,
-    begun: Begun,
-    items: &[Node],
-    list: &mut NodeList,
-) -> Result<EdmType, Untyped>
-    requires variables { AreThere setting.now.schema.now setting.now.variables.now }
-    requires placed { IsPlaced setting.now.schema.now list.old begun }
-    ensures answer { (old : FlatTree) (l : Tree)
-        → IsBegun setting.now old l list.old begun
-        → Answers setting.now old (node begun.opened.span.start begun.opened.span.stop
-        (in_list l (trees_of items.now))) list.new result }
-    ensures there { IfOk result (IsTypeThere setting.now.schema.now) }
-    ensures grown { length list.old.nodes ≤ length list.new.nodes }
-{
-    let mut types = ArgumentTypes::new(setting.alloc);
-    let told = checked_arguments(setting, items, &mut types, list);
-    let items = Items {
-        nodes: items,
-        types: types.as_slice(),
-    };
-    close_items(setting, begun, &items, told, list)
-}
-
-/// The node of `in`, from what was answered of the left operand and of the items.
-fn close_items(
-    setting: &Setting<'_>,
-    begun: Begun,
-    items: &Items<'_>,
-    told: Option<Untyped>,
-    list: &mut NodeList,
-) -> Result<EdmType, Untyped>
-    requires placed { IsPlaced setting.now.schema.now list.old begun }
-    requires items { IfNone told (AllByRecursion (IsTypeThere setting.now.schema.now) items.now.types.now) }
-    ensures answer { (old : FlatTree) (l : Tree) (between : FlatTree)
-        → IsBegun setting.now old l between begun
-        → AreAnswered setting.now between (map tree_of items.now.nodes.now) list.old items.now.types.now told
-        → Answers setting.now old (node begun.opened.span.start begun.opened.span.stop
-        (in_list l (trees_of_list (map tree_of items.now.nodes.now)))) list.new result }
-    ensures there { IfOk result (IsTypeThere setting.now.schema.now) }
-    ensures grown { length list.old.nodes ≤ length list.new.nodes }
+/// The node between its operand and its items.
+#[inline(never)]
+pub(crate) fn checked_in_list(setting: &Setting<'_>, judged: &Judged<'_>, walk: &mut Walk) -> bool
+    requires ready { IsNodeReady setting.now walk.old judged.now }
+    requires children { (l : Tree) × (items : List Tree) × AreChildren setting.now walk.old judged.now (l ∷ items) }
+    ensures { (l : Tree) (items : List Tree) → AreChildren setting.now walk.old judged.now (l ∷ items)
+        → IsNodeJudged setting.now judged.now (in_list l (trees_of_list items)) walk.old walk.new result }
 {
     laws_below();
-    let Begun { opened, left } = begun;
-    match left {
-        Ok(left) => match told {
-            None => close_in_list(setting.schema, opened, &left, items, list),
-            Some(behind) => Err(behind),
-        },
-        Err(before) => match told {
-            None => Err(before),
-            Some(behind) => Err(earlier(before, behind)),
-        },
+    let left = judged.number + 1;
+    let items = walk.stop_at(left);
+    let left_type = walk.type_at(left);
+    if is_enumeration(&left_type) {
+        let numbers = walk.list.values().len();
+        let fit = put_items(setting.schema, &left_type, items, judged.stop, walk);
+        put_list(judged, NodeKind::PairedList { numbers }, fit, walk)
+    } else {
+        let fit = fit_of(setting.schema, &left_type, items, judged.stop, walk);
+        put_list(judged, NodeKind::InList, fit, walk)
     }
 }
 
-/// `in` between an operand of that type and these items.
-fn close_in_list(
-    schema: &Schema,
-    opened: Opened,
-    left: &EdmType,
-    items: &Items<'_>,
-    list: &mut NodeList,
-) -> Result<EdmType, Untyped>
-    requires place { opened.place < length list.old.nodes }
-    requires left { IsTypeThere schema.now left.now }
-    requires items { AllByRecursion (IsTypeThere schema.now) items.now.types.now }
-    ensures answer { (n : ℕ) (scope : Scope) (l : Tree) (old before between : FlatTree)
-        → IsOpened old opened.place [] before
-        → IsWalked schema.now n scope before l between left.now
-        → AreWalked schema.now n scope between (map tree_of items.now.nodes.now) list.old items.now.types.now
-        → IsAnswer schema.now n scope old (node opened.span.start opened.span.stop
-        (in_list l (trees_of_list (map tree_of items.now.nodes.now)))) list.new result }
-    ensures there { IfOk result (IsTypeThere schema.now) }
-    ensures grown { length list.old.nodes ≤ length list.new.nodes }
+/// The node of that kind where its items fit.
+fn put_list(judged: &Judged<'_>, kind: NodeKind, fit: ItemsFit, walk: &mut Walk) -> bool
+    requires { judged.now.number < length walk.old.list.nodes }
+    ensures goes_on { IsTrue result ↔ (fit ≡ ItemsFit.All) }
+    ensures put { walk.new ≡ list_put walk.old judged.now kind fit }
 {
-    match left {
-        EdmType::Single(ValueType::Enum(_)) => close_numbered(schema, opened, left, items, list),
-        EdmType::Single(ValueType::Prim(_)) => close_unnumbered(schema, opened, left, items, list),
-        EdmType::Single(ValueType::Structured(_)) => {
-            close_unnumbered(schema, opened, left, items, list)
-        }
-        EdmType::Null => close_unnumbered(schema, opened, left, items, list),
-        EdmType::Collection(_) => close_unnumbered(schema, opened, left, items, list),
+    match fit {
+        ItemsFit::All => walk.put_nameless(judged, kind, &BOOLEAN),
+        ItemsFit::Refused => walk.refuse(judged.node.span, TypeFaultCode::OperandTypes),
+        ItemsFit::Unknown => walk.refuse(judged.node.span, TypeFaultCode::UnknownEnum),
+        ItemsFit::OutOfMemory => false,
     }
 }
 
-/// The same where the type is that of an enumeration.
-fn close_numbered(
-    schema: &Schema,
-    opened: Opened,
-    left: &EdmType,
-    items: &Items<'_>,
-    list: &mut NodeList,
-) -> Result<EdmType, Untyped>
-    requires place { opened.place < length list.old.nodes }
+/// Whether the items from a place up to `stop` may stand after an operand of no enumeration, by their types.
+fn fit_of(schema: &Schema, left: &EdmType, items: usize, stop: usize, walk: &Walk) -> ItemsFit
     requires left { IsTypeThere schema.now left.now }
-    requires items { AllByRecursion (IsTypeThere schema.now) items.now.types.now }
-    requires single { ¬ IsCollection (expr_type schema.now left.now) }
-    ensures answer { (n : ℕ) (scope : Scope) (l : Tree) (old before between : FlatTree)
-        → IsOpened old opened.place [] before
-        → IsWalked schema.now n scope before l between left.now
-        → AreWalked schema.now n scope between (map tree_of items.now.nodes.now) list.old items.now.types.now
-        → IsAnswer schema.now n scope old (node opened.span.start opened.span.stop
-        (in_list l (trees_of_list (map tree_of items.now.nodes.now)))) list.new result }
-    ensures there { IfOk result (IsTypeThere schema.now) }
-    ensures grown { length list.old.nodes ≤ length list.new.nodes }
-{
-    laws_below();
-    let numbers = list.values().len();
-    match put_items(schema, left, items.types, items.nodes, list) {
-        Ok(ItemsFit::All) => {
-            let kind = NodeKind::PairedList { numbers };
-            list.close(opened.place, kind, opened.span, &BOOLEAN);
-            Ok(BOOLEAN)
-        }
-        Ok(ItemsFit::Refused) => Err(refused(opened, TypeFaultCode::OperandTypes)),
-        Ok(ItemsFit::Unknown) => Err(refused(opened, TypeFaultCode::UnknownEnum)),
-        Err(_) => Err(Untyped::Memory),
-    }
-}
-
-/// The same where it is that of no enumeration, so that no item is read.
-fn close_unnumbered(
-    schema: &Schema,
-    opened: Opened,
-    left: &EdmType,
-    items: &Items<'_>,
-    list: &mut NodeList,
-) -> Result<EdmType, Untyped>
-    requires place { opened.place < length list.old.nodes }
-    requires left { IsTypeThere schema.now left.now }
-    requires items { AllByRecursion (IsTypeThere schema.now) items.now.types.now }
     requires unread { IsUnreadLeft (expr_type schema.now left.now) }
-    ensures answer { (n : ℕ) (scope : Scope) (l : Tree) (old before between : FlatTree)
-        → IsOpened old opened.place [] before
-        → IsWalked schema.now n scope before l between left.now
-        → AreWalked schema.now n scope between (map tree_of items.now.nodes.now) list.old items.now.types.now
-        → IsAnswer schema.now n scope old (node opened.span.start opened.span.stop
-        (in_list l (trees_of_list (map tree_of items.now.nodes.now)))) list.new result }
-    ensures there { IfOk result (IsTypeThere schema.now) }
-    ensures grown { length list.old.nodes ≤ length list.new.nodes }
+    requires items { (row : List CheckedNode) × AreInRow walk.now.list.nodes row items stop
+        × AreTypesThere schema.now row }
+    ensures { (row : List CheckedNode) → AreInRow walk.now.list.nodes row items stop → AreListFit (slots_of schema.now)
+        (expr_type schema.now left.now) (row_sides schema.now walk.now.list items row) result }
 {
-    laws_below();
-    match in_list_type(schema, left, items.types) {
-        Some(edm_type) => {
-            list.close(opened.place, NodeKind::InList, opened.span, &edm_type);
-            Ok(edm_type)
+    if left.is_collection() {
+        return ItemsFit::Refused;
+    }
+    let mut item = items;
+    while item < stop {
+        if !are_comparable(schema, left, &walk.type_at(item)) {
+            return ItemsFit::Refused;
         }
-        None => Err(refused(opened, TypeFaultCode::OperandTypes)),
+        item = walk.stop_at(item);
+    }
+    ItemsFit::All
+}
+
+/// Puts a value for each item after the others: its number where it is read, else null.
+fn put_items(
+    schema: &Schema,
+    left: &EdmType,
+    items: usize,
+    stop: usize,
+    walk: &mut Walk,
+) -> ItemsFit
+    requires left { IsTypeThere schema.now left.now }
+    requires items { (row : List CheckedNode) × AreInRow walk.old.list.nodes row items stop
+        × AreTypesThere schema.now row }
+    ensures fit { (row : List CheckedNode) → AreInRow walk.old.list.nodes row items stop → AreItemsFit
+        (slots_of schema.now) (expr_type schema.now left.now) (row_sides schema.now walk.old.list items row) result }
+    ensures put { (row : List CheckedNode) → AreInRow walk.old.list.nodes row items stop → AreItemsPut
+        (slots_of schema.now) (expr_type schema.now left.now) (row_sides schema.now walk.old.list items row)
+        walk.old.list walk.new.list result }
+    ensures walk { walk.new ≡ record walk.old { list = walk.new.list } }
+    ensures nodes { walk.new.list.nodes ≡ walk.old.list.nodes }
+{
+    let mut fit = ItemsFit::All;
+    let mut item = items;
+    while item < stop {
+        let (value, own) = item_value(schema, left, item, walk);
+        if !walk.push_value(value) {
+            return ItemsFit::OutOfMemory;
+        }
+        fit = worse(fit, own);
+        item = walk.stop_at(item);
+    }
+    fit
+}
+
+/// The value of one item, and whether it may stand there.
+fn item_value(schema: &Schema, left: &EdmType, item: usize, walk: &Walk) -> (Value, ItemsFit)
+    requires left { IsTypeThere schema.now left.now }
+    requires item { (found : CheckedNode) × (slice_get walk.now.list.nodes item ≡ Some found)
+        × IsTypeThere schema.now found.edm_type }
+    ensures value { (found : CheckedNode) → slice_get walk.now.list.nodes item ≡ Some found → IsValueIfFit
+        (slots_of schema.now) (expr_type schema.now left.now)
+        (quoting (quoted_in walk.now.list item found) (expr_type schema.now found.edm_type)) result.0 result.1 }
+    ensures fit { (found : CheckedNode) → slice_get walk.now.list.nodes item ≡ Some found → AreItemsFit
+        (slots_of schema.now) (expr_type schema.now left.now)
+        (quoting (quoted_in walk.now.list item found) (expr_type schema.now found.edm_type) ∷ []) result.1 }
+{
+    match number_beside(schema, left, walk.quoted_at(item)) {
+        Beside::Number(number) => (Value::Enum(number), ItemsFit::All),
+        Beside::Unknown => (Value::Null, ItemsFit::Unknown),
+        Beside::Unread => {
+            if are_comparable(schema, left, &walk.type_at(item)) {
+                (Value::Null, ItemsFit::All)
+            } else {
+                (Value::Null, ItemsFit::Refused)
+            }
+        }
     }
 }
 
-/// That reason, for which the node itself has no type.
-fn refused(opened: Opened, code: TypeFaultCode) -> Untyped
-    ensures { result ≡ Untyped.Fault (record { code = code; span = opened.span }) }
+/// What two parts of a list together are.
+fn worse(first: ItemsFit, rest: ItemsFit) -> ItemsFit
+    ensures { result ≡ worse_fit first rest }
 {
-    Untyped::Fault(TypeFault {
-        code,
-        span: opened.span,
-    })
+    match first {
+        ItemsFit::All => rest,
+        ItemsFit::Refused => match rest {
+            ItemsFit::All => ItemsFit::Refused,
+            _ => rest,
+        },
+        ItemsFit::Unknown | ItemsFit::OutOfMemory => first,
+    }
 }

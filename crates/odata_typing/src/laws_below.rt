@@ -5,6 +5,7 @@ use odata_expression_types::{
     children_come_first, quoting_trees_are_texts, trees_have_one_type, typed_trees_are_clear,
 };
 use odata_signatures::unread_operands_go_by_types;
+use odata_syntax::{children_apart, spans_hold, spans_take_bytes};
 
 /// The laws on which the walk over a tree rests, in one.
 pub(crate) fn laws_below()
@@ -16,4 +17,7 @@ pub(crate) fn laws_below()
     nodes_stand_where_they_are_put();
     unread_operands_go_by_types();
     quoting_trees_are_texts();
+    spans_take_bytes();
+    spans_hold();
+    children_apart();
 }

@@ -2,28 +2,22 @@
 //! Conventions 4.01, section 5.1.1).
 #![tactic(auto)]
 
-mod argument_types;
 mod binary_node;
 mod call_node;
 mod checker;
 mod enumeration_literal;
 mod in_list;
-mod item_numbers;
 mod lambda;
 mod laws_below;
-mod left_operand;
 mod literal;
 mod node;
-mod opened_node;
 mod pairing;
-mod path_node;
 mod property;
-mod quotes;
 mod reading;
 mod setting;
 mod unary_node;
-mod untyped;
 mod variables;
+mod walk;
 
 pub use checker::{check, check_to_store};
 pub use odata_checked_filter::{

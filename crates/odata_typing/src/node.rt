@@ -1,177 +1,95 @@
-ghost use Rattle.std.specs.Prelude.{◌≤◌, length, IfOk};
-ghost use Rattle.odata_syntax.specs.Tree.{shape_of};
-ghost use Rattle.odata_syntax.specs.TreeView.{tree_of};
-ghost use Rattle.odata_signatures.specs.TypeThere.{IsTypeThere};
-ghost use Rattle.odata_typing.specs.private.Answer.{Answers};
-ghost use Rattle.odata_typing.specs.private.Judged.{IsLambdaOperator, IsMembership};
-ghost use Rattle.odata_typing.specs.private.Variables.{AreThere};
+//! The walk over the list of a filter's nodes: each is judged after its children.
+ghost use Rattle.std.specs.Prelude.{◌≡◌, ◌≢◌, ◌+◌, ◌-◌, List};
+ghost use Rattle.odata_syntax.specs.Places.{number_at, stop_at};
+ghost use Rattle.odata_syntax.specs.PostOrder.{shape_over};
+ghost use Rattle.odata_syntax.specs.TextTree.{HasText, IsTextRange};
+ghost use Rattle.odata_syntax.specs.Tree.{Tree, it};
+ghost use Rattle.odata_typing.specs.private.Judging.{AreLastTrees, IsNodeJudged, IsTreeJudged};
+ghost use Rattle.odata_typing.specs.private.Settings.{IsNodeReady, IsReady, IsRun, IsSetting, name_of, run_tree};
 
-use super::binary_node::{Infix, Operands, checked_right, close_infix};
+use super::binary_node::{Infix, checked_infix, checked_operator};
 use super::call_node::checked_call;
 use super::in_list::checked_in_list;
-use super::lambda::{Lambda, checked_base, checked_body};
-use super::left_operand::checked_left;
+use super::lambda::checked_lambda;
+use super::laws_below::laws_below;
 use super::literal::checked_literal;
-use super::opened_node::open_node;
-use super::path_node::{checked_it, checked_member};
-use super::property::checked_name;
-use super::quotes::{Quotes, quoted_of};
-use super::setting::Setting;
+use super::property::{checked_member, checked_name};
+use super::setting::{Judged, Setting};
 use super::unary_node::{Unary, checked_unary};
-use super::untyped::Untyped;
-use odata_checked_filter::{NodeKind, NodeList};
-use odata_signatures::EdmType;
-use odata_syntax::{Node, Quantifier};
+use super::walk::Walk;
+use odata_checked_filter::NodeKind;
+use odata_signatures::{EdmType, ValueType};
+use odata_syntax::{NO_NODE, Quantifier, SyntaxKind};
 
-/// Puts the nodes of the tree behind those of the list, with types, values and slots, and answers the tree's type; or
-/// its first untypable node.
+/// Judges the nodes from `from` up to `stop`, which are whole trees, and puts them in their places.
 #[cycle(typing)]
-pub(crate) fn checked_tree(
+pub(crate) fn checked_nodes(
     setting: &Setting<'_>,
-    node: &Node,
-    list: &mut NodeList,
-) -> Result<EdmType, Untyped>
-    requires { AreThere setting.now.schema.now setting.now.variables.now }
-    ensures answer { Answers setting.now list.old (tree_of node.now) list.new result }
-    ensures there { IfOk result (IsTypeThere setting.now.schema.now) }
-    ensures grown { length list.old.nodes ≤ length list.new.nodes }
+    from: usize,
+    stop: usize,
+    walk: &mut Walk,
+) -> bool
+    requires setting { IsSetting setting.now }
+    requires ready { IsReady setting.now walk.old }
+    requires run { IsRun setting.now from stop }
+    ensures { IsTreeJudged setting.now (number_at setting.now.places.now (stop - 1))
+        (stop_at setting.now.places.now (stop - 1)) (run_tree setting.now from stop) walk.old walk.new result }
 {
-    match node {
-        Node::Lit { span, kind, text } => {
-            checked_literal(setting, *span, *kind, text.as_str(), list)
+    laws_below();
+    let mut index = from;
+    while index < stop {
+        let lambda = setting.places[index].lambda;
+        if lambda != NO_NODE && index != from {
+            if !checked_lambda(setting, index, lambda, walk) {
+                return false;
+            }
+            index = lambda + 1;
+        } else {
+            if !checked_node(setting, &setting.node_at(index), walk) {
+                return false;
+            }
+            index += 1;
         }
-        Node::It { span } => checked_it(setting, *span, list),
-        Node::Name { span, name } => checked_name(setting, *span, name.as_str(), list),
-        Node::Member { span, base, name } => {
-            checked_member(setting, *span, base, name.as_str(), list)
-        }
-        Node::Neg { span, operand } => {
-            checked_unary(setting, *span, Unary::Negation, operand, list)
-        }
-        Node::Not { span, operand } => checked_unary(setting, *span, Unary::Not, operand, list),
-        Node::Count { span, base } => checked_unary(setting, *span, Unary::Count, base, list),
-        Node::Binary {
-            span,
-            operator,
-            left,
-            right,
-        } => {
-            let kind = NodeKind::Binary {
-                operator: *operator,
-            };
-            let opened = match open_node(*span, kind, String::new(setting.alloc), list) {
-                Ok(opened) => opened,
-                Err(untyped) => return Err(untyped),
-            };
-            let quotes = Quotes {
-                left: quoted_of(left),
-                right: quoted_of(right),
-            };
-            let left = checked_tree(setting, left, list);
-            let right = checked_tree(setting, right, list);
-            let form = Infix::Operator(*operator);
-            let operands = Operands {
-                left,
-                right,
-                quotes,
-            };
-            close_infix(setting.schema, opened, form, operands, list)
-        }
-        Node::Call {
-            span,
-            name,
-            arguments,
-        } => checked_call(setting, *span, name.as_str(), arguments, list),
-        Node::Has { .. } | Node::InList { .. } | Node::InPath { .. } => {
-            checked_membership(setting, node, list)
-        }
-        Node::Any { .. } | Node::All { .. } => checked_lambda_operator(setting, node, list),
+    }
+    true
+}
+
+/// Judges a node whose children have been judged, and which is no lambda operator's with a body.
+#[inline(always)]
+fn checked_node(setting: &Setting<'_>, judged: &Judged<'_>, walk: &mut Walk) -> bool
+    requires ready { IsNodeReady setting.now walk.old judged.now }
+    requires text { HasText judged.now.node.now.kind → IsTextRange setting.now.text.now judged.now.node.now.text }
+    requires kind { (quantifier : Quantifier) → judged.now.node.now.kind ≢ SyntaxKind.Lambda quantifier }
+    requires children { (trees : List Tree) × AreLastTrees setting.now walk.old judged.now trees }
+    ensures { (trees : List Tree) → AreLastTrees setting.now walk.old judged.now trees
+        → IsNodeJudged setting.now judged.now (shape_over judged.now.node.now.kind (name_of setting.now judged.now)
+        judged.now.node.now.count trees) walk.old walk.new result }
+{
+    match judged.node.kind {
+        SyntaxKind::Lit(kind) => checked_literal(setting, judged, kind, walk),
+        SyntaxKind::It => checked_it(setting, judged, walk),
+        SyntaxKind::Name => checked_name(setting, judged, walk),
+        SyntaxKind::Member => checked_member(setting, judged, walk),
+        SyntaxKind::Binary(operator) => checked_operator(setting, judged, operator, walk),
+        SyntaxKind::Neg => checked_unary(setting, judged, Unary::Negation, walk),
+        SyntaxKind::Not => checked_unary(setting, judged, Unary::Not, walk),
+        SyntaxKind::Count => checked_unary(setting, judged, Unary::Count, walk),
+        SyntaxKind::AnyItem => checked_unary(setting, judged, Unary::AnyItem, walk),
+        SyntaxKind::Has => checked_infix(setting, judged, Infix::Has, walk),
+        SyntaxKind::InPath => checked_infix(setting, judged, Infix::InPath, walk),
+        SyntaxKind::InList => checked_in_list(setting, judged, walk),
+        SyntaxKind::Call => checked_call(setting, judged, walk),
+        SyntaxKind::Lambda(_) => unreachable!(),
     }
 }
 
-/// The same of `has` and of `in`.
-#[cycle(typing)]
-#[inline(never)]
-fn checked_membership(
-    setting: &Setting<'_>,
-    node: &Node,
-    list: &mut NodeList,
-) -> Result<EdmType, Untyped>
-    requires form { IsMembership (shape_of (tree_of node.now)) }
-    requires variables { AreThere setting.now.schema.now setting.now.variables.now }
-    ensures answer { Answers setting.now list.old (tree_of node.now) list.new result }
-    ensures there { IfOk result (IsTypeThere setting.now.schema.now) }
-    ensures grown { length list.old.nodes ≤ length list.new.nodes }
+/// `$it`, of the filtered type.
+fn checked_it(setting: &Setting<'_>, judged: &Judged<'_>, walk: &mut Walk) -> bool
+    requires ready { IsNodeReady setting.now walk.old judged.now }
+    requires leaf { judged.now.stop ≡ judged.now.number + 1 }
+    ensures { IsNodeJudged setting.now judged.now it walk.old walk.new result }
 {
-    match node {
-        Node::Lit { .. } | Node::It { .. } | Node::Name { .. } => unreachable!(),
-        Node::Member { .. } | Node::Count { .. } => unreachable!(),
-        Node::Neg { .. } | Node::Not { .. } | Node::Binary { .. } => unreachable!(),
-        Node::Call { .. } | Node::Any { .. } | Node::All { .. } => unreachable!(),
-        Node::Has { span, left, right } => match checked_left(setting, *span, left, list) {
-            Ok(begun) => checked_right(setting, Infix::Has, begun, right, list),
-            Err(untyped) => Err(untyped),
-        },
-        Node::InPath { span, left, path } => match checked_left(setting, *span, left, list) {
-            Ok(begun) => checked_right(setting, Infix::InPath, begun, path, list),
-            Err(untyped) => Err(untyped),
-        },
-        Node::InList { span, left, items } => match checked_left(setting, *span, left, list) {
-            Ok(begun) => checked_in_list(setting, begun, items, list),
-            Err(untyped) => Err(untyped),
-        },
-    }
-}
-
-/// The same of the lambda operators.
-#[cycle(typing)]
-#[inline(never)]
-fn checked_lambda_operator(
-    setting: &Setting<'_>,
-    node: &Node,
-    list: &mut NodeList,
-) -> Result<EdmType, Untyped>
-    requires form { IsLambdaOperator (shape_of (tree_of node.now)) }
-    requires variables { AreThere setting.now.schema.now setting.now.variables.now }
-    ensures answer { Answers setting.now list.old (tree_of node.now) list.new result }
-    ensures there { IfOk result (IsTypeThere setting.now.schema.now) }
-    ensures grown { length list.old.nodes ≤ length list.new.nodes }
-{
-    match node {
-        Node::Lit { .. } | Node::It { .. } | Node::Name { .. } => unreachable!(),
-        Node::Member { .. } | Node::Count { .. } => unreachable!(),
-        Node::Neg { .. } | Node::Not { .. } | Node::Binary { .. } => unreachable!(),
-        Node::Call { .. } | Node::Has { .. } => unreachable!(),
-        Node::InList { .. } | Node::InPath { .. } => unreachable!(),
-        Node::Any { span, base, lambda } => match lambda {
-            None => checked_unary(setting, *span, Unary::AnyItem, base, list),
-            Some((variable, body)) => {
-                let any = Lambda {
-                    span: *span,
-                    quantifier: Quantifier::Any,
-                    variable: variable.as_str(),
-                };
-                match checked_base(setting, &any, base, list) {
-                    Ok(binding) => checked_body(setting, &any, binding, body, list),
-                    Err(untyped) => Err(untyped),
-                }
-            }
-        },
-        Node::All {
-            span,
-            base,
-            variable,
-            body,
-        } => {
-            let all = Lambda {
-                span: *span,
-                quantifier: Quantifier::All,
-                variable: variable.as_str(),
-            };
-            match checked_base(setting, &all, base, list) {
-                Ok(binding) => checked_body(setting, &all, binding, body, list),
-                Err(untyped) => Err(untyped),
-            }
-        }
-    }
+    laws_below();
+    let edm_type = EdmType::Single(ValueType::Structured(setting.filtered_type));
+    walk.put_nameless(judged, NodeKind::It, &edm_type)
 }

@@ -43,7 +43,7 @@ pub(crate) fn pairing_of(schema: &Schema, form: Infix, operands: &OperandTypes<'
             BinaryOperator::Mul | BinaryOperator::Div => Pairing::Unread,
             BinaryOperator::Mod => Pairing::Unread,
         },
-        Infix::Has => match number_beside(schema, &operands.left, operands.quotes.right) {
+        Infix::Has => match number_beside(schema, &operands.left, operands.right_quoted) {
             Beside::Unread => Pairing::Unread,
             Beside::Number(number) => Pairing::Number(Paired::Has, number),
             Beside::Unknown => Pairing::Unknown,
@@ -62,10 +62,10 @@ fn operator_pairing(
     ensures { IsPairing (slots_of schema.now) (Infix.Operator operator) (left_side schema.now operands.now)
         (right_side schema.now operands.now) result }
 {
-    match number_beside(schema, &operands.left, operands.quotes.right) {
+    match number_beside(schema, &operands.left, operands.right_quoted) {
         Beside::Number(number) => Pairing::Number(Paired::Right(operator), number),
         Beside::Unknown => Pairing::Unknown,
-        Beside::Unread => match number_beside(schema, &operands.right, operands.quotes.left) {
+        Beside::Unread => match number_beside(schema, &operands.right, operands.left_quoted) {
             Beside::Unread => Pairing::Unread,
             Beside::Number(number) => Pairing::Number(Paired::Left(operator), number),
             Beside::Unknown => Pairing::Unknown,

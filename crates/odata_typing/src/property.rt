@@ -1,167 +1,155 @@
 //! Names: range variables, and properties with their slots and their types, or why they have none.
-ghost use Rattle.std.specs.Prelude.{◌≡◌, ◌≤◌, ℕ, [], Some, length, IfOk, IfErr};
-ghost use Rattle.odata_syntax.specs.Tree.{node, name};
+ghost use Rattle.std.specs.Prelude.{◌≡◌, ◌≢◌, ◌+◌, ◌∷◌, ℕ, [], Some, false, IfNone, IfSome, IsSomeAnd, OnSome};
+ghost use Rattle.odata_syntax.specs.TextTree.{IsTextRange};
+ghost use Rattle.odata_syntax.specs.Tree.{Tree, member, name};
 ghost use Rattle.csdl_schema.specs.ExprType.{ExprType};
 ghost use Rattle.csdl_schema.specs.PropertyView.{PointsWithin, property_type};
-ghost use Rattle.csdl_schema.specs.SchemaModel.{SchemaModel, properties_at, slot_named, slots_of, type_name_at};
+ghost use Rattle.csdl_schema.specs.SchemaModel.{SchemaModel, properties_at, slot_named};
 ghost use Rattle.odata_signatures.specs.TypeThere.{IsTypeThere};
-ghost use Rattle.odata_typing.specs.private.Answer.{Answers, IsAnswer};
-ghost use Rattle.odata_expression_types.specs.FirstUntypable.{NameReason, PropertyReason};
 ghost use Rattle.odata_signatures.specs.TypeView.{expr_type};
-ghost use Rattle.odata_expression_types.specs.Typed.{NameTyped, PropertyTyped, Scope, named_type};
-ghost use Rattle.odata_checked_filter.specs.Stands.{IsNameNode, variable_names};
-ghost use Rattle.odata_typing.specs.private.Variables.{AreThere, IsUnbound, scope_of};
+ghost use Rattle.odata_expression_types.specs.FirstUntypable.{NameReason, PropertyReason};
+ghost use Rattle.odata_expression_types.specs.NeededPaths.{Navigates};
+ghost use Rattle.odata_expression_types.specs.Typed.{PropertyTyped, named_type};
+ghost use Rattle.odata_typing.specs.private.Judging.{AreChildren, IsNodeJudged};
+ghost use Rattle.odata_typing.specs.private.Settings.{IsNodeReady, name_of};
 
 use super::laws_below::laws_below;
-use super::setting::Setting;
-use super::untyped::Untyped;
+use super::setting::{Judged, Setting};
 use super::variables::variable_named;
-use csdl_schema::{Property, PropertyKind, Schema, TypeId};
-use odata_checked_filter::{NodeKind, NodeList};
-use odata_expression_types::{TypeFault, TypeFaultCode};
+use super::walk::Walk;
+use csdl_schema::{Property, PropertyKind, TypeId};
+use odata_checked_filter::NodeKind;
+use odata_expression_types::TypeFaultCode;
 use odata_signatures::{EdmType, ValueType};
-use odata_text::Span;
-use std::alloc::Global;
 
-/// A property that a filter may name, by its slot.
-#[derive(Clone, Copy)]
-pub(crate) struct NamedProperty {
-    pub(crate) slot: usize,
-    pub(crate) edm_type: EdmType,
-}
-
-/// Puts the node of the variable of that name behind the others, or where there is none that of the property of the
-/// filtered type, and answers its type.
-pub(crate) fn checked_name(
-    setting: &Setting<'_>,
-    span: Span,
-    asked: &str,
-    list: &mut NodeList,
-) -> Result<EdmType, Untyped>
-    requires { AreThere setting.now.schema.now setting.now.variables.now }
-    ensures answer { Answers setting.now list.old
-        (node span.start span.stop (name asked.now)) list.new result }
-    ensures there { IfOk result (IsTypeThere setting.now.schema.now) }
-    ensures grown { length list.old.nodes ≤ length list.new.nodes }
-{
-    match variable_named(setting.variables, asked) {
-        Ok(Some(variable)) => {
-            let node = NamedNode {
-                kind: NodeKind::Variable {
-                    level: variable.level,
-                },
-                edm_type: variable.edm_type,
-            };
-            push_name(setting.alloc, span, asked, node, list)
-        }
-        Ok(None) => checked_property(setting, span, asked, list),
-        Err(untyped) => Err(untyped),
-    }
-}
-
-/// The same of a name that is no variable's.
-fn checked_property(
-    setting: &Setting<'_>,
-    span: Span,
-    asked: &str,
-    list: &mut NodeList,
-) -> Result<EdmType, Untyped>
-    ensures answer { IsUnbound (scope_of setting.now) asked.now
-        → Answers setting.now list.old (node span.start span.stop (name asked.now)) list.new result }
-    ensures there { IfOk result (IsTypeThere setting.now.schema.now) }
-    ensures grown { length list.old.nodes ≤ length list.new.nodes }
+/// Puts the node of the variable of that name in its place, or where there is none that of the property of the filtered
+/// type.
+#[inline(never)]
+pub(crate) fn checked_name(setting: &Setting<'_>, judged: &Judged<'_>, walk: &mut Walk) -> bool
+    requires ready { IsNodeReady setting.now walk.old judged.now }
+    requires text { IsTextRange setting.now.text.now judged.now.node.now.text }
+    requires leaf { judged.now.stop ≡ judged.now.number + 1 }
+    ensures { IsNodeJudged setting.now judged.now (name (name_of setting.now judged.now)) walk.old walk.new result }
 {
     laws_below();
-    match property_named(setting.schema, setting.filtered_type, asked) {
-        Ok(property) => {
-            let node = NamedNode {
-                kind: NodeKind::Property {
-                    slot: property.slot,
-                },
-                edm_type: property.edm_type,
-            };
-            push_name(setting.alloc, span, asked, node, list)
-        }
-        Err(code) => Err(Untyped::Fault(TypeFault { code, span })),
-    }
-}
-
-/// What the node of a name is.
-#[derive(Clone, Copy)]
-struct NamedNode {
-    kind: NodeKind,
-    edm_type: EdmType,
-}
-
-/// The node of a name that stands for something.
-fn push_name(
-    alloc: Global,
-    span: Span,
-    asked: &str,
-    named: NamedNode,
-    list: &mut NodeList,
-) -> Result<EdmType, Untyped>
-    ensures answer { (schema : SchemaModel) (n : ℕ) (scope : Scope)
-        → IsNameNode (properties_at schema n) (variable_names scope) asked.now named.kind
-        → NameTyped (slots_of schema) (type_name_at schema n) scope asked.now (expr_type schema named.edm_type)
-        → IsAnswer schema n scope list.old (node span.start span.stop (name asked.now)) list.new result }
-    ensures edm_type { IfOk result (λ t. t ≡ named.edm_type) }
-    ensures grown { length list.old.nodes ≤ length list.new.nodes }
-{
-    laws_below();
-    let text = match String::from_str(alloc, asked) {
-        Ok(text) => text,
-        Err(_) => return Err(Untyped::Memory),
-    };
-    match list.push(named.kind, span, &named.edm_type, text) {
-        Ok(()) => Ok(named.edm_type),
-        Err(_) => Err(Untyped::Memory),
-    }
-}
-
-/// The property of that name of a type, or why it has no type itself.
-pub(crate) fn property_named(
-    schema: &Schema,
-    owner: TypeId,
-    asked: &str,
-) -> Result<NamedProperty, TypeFaultCode>
-    ensures slot { IfOk result (λ p. slot_named (properties_at schema.now owner) asked.now ≡ Some p.slot) }
-    ensures typed { IfOk result
-        (λ p. PropertyTyped (properties_at schema.now owner) asked.now (expr_type schema.now p.edm_type)) }
-    ensures there { IfOk result (λ p. IsTypeThere schema.now p.edm_type) }
-    ensures reason { IfErr result (NameReason (properties_at schema.now owner) asked.now) }
-    ensures untyped { IfErr result
-        (λ _. (type : ExprType) → ¬ PropertyTyped (properties_at schema.now owner) asked.now type) }
-{
-    match schema.slot(owner, asked) {
-        Some(slot) => match property_edm_type(schema.property(owner, slot)) {
-            Ok(edm_type) => Ok(NamedProperty { slot, edm_type }),
-            Err(code) => Err(code),
+    match variable_named(setting.variables, setting.text_in(judged.node.text)) {
+        Ok(None) => match put_property(setting, setting.filtered_type, judged, walk) {
+            Some((slot, edm_type)) => walk.put(judged, NodeKind::Property { slot }, &edm_type),
+            None => false,
         },
-        None => Err(TypeFaultCode::UnknownProperty),
+        Ok(Some(variable)) => {
+            let kind = NodeKind::Variable {
+                level: variable.level,
+            };
+            walk.put(judged, kind, &variable.edm_type)
+        }
+        Err(_) => false,
     }
 }
 
-/// The type of a property, or why a filter may not name it.
-fn property_edm_type(property: &Property) -> Result<EdmType, TypeFaultCode>
-    ensures named { IfOk result (λ t. (schema : SchemaModel) →
-        named_type (property_type schema property.now) ≡ Some (expr_type schema t)) }
-    ensures there { IfOk result (λ t. (schema : SchemaModel) →
-        PointsWithin schema property.now.kind → IsTypeThere schema t) }
-    ensures reason { IfErr result (λ code. (schema : SchemaModel) →
-        PropertyReason (property_type schema property.now) code) }
+/// Puts the node of a step in its place: only one value of a structured type has properties.
+#[inline(never)]
+pub(crate) fn checked_member(setting: &Setting<'_>, judged: &Judged<'_>, walk: &mut Walk) -> bool
+    requires ready { IsNodeReady setting.now walk.old judged.now }
+    requires text { IsTextRange setting.now.text.now judged.now.node.now.text }
+    requires base { (base : Tree) × AreChildren setting.now walk.old judged.now (base ∷ []) }
+    ensures { (base : Tree) → AreChildren setting.now walk.old judged.now (base ∷ [])
+        → IsNodeJudged setting.now judged.now (member base (name_of setting.now judged.now)) walk.old walk.new result }
+{
+    laws_below();
+    match owner_of(&walk.type_at(judged.number + 1)) {
+        Some(owner) => match put_property(setting, owner, judged, walk) {
+            Some((slot, edm_type)) => walk.put(judged, NodeKind::Member { slot }, &edm_type),
+            None => false,
+        },
+        None => walk.refuse(judged.node.span, TypeFaultCode::UnknownProperty),
+    }
+}
+
+/// The type that has the properties of what has this type. `None` for all but one value of a structured type.
+#[inline(always)]
+fn owner_of(edm_type: &EdmType) -> Option<TypeId>
+    ensures some { IfSome result (λ owner. edm_type.now ≡ EdmType.Single (ValueType.Structured owner)) }
+    ensures none { IfNone result ((owner : ℕ) → edm_type.now ≢ EdmType.Single (ValueType.Structured owner)) }
+{
+    match edm_type {
+        EdmType::Single(ValueType::Structured(owner)) => Some(*owner),
+        EdmType::Single(ValueType::Prim(_)) => None,
+        EdmType::Single(ValueType::Enum(_)) => None,
+        EdmType::Null => None,
+        EdmType::Collection(_) => None,
+    }
+}
+
+/// The slot and the type of the property of a node's name, which the type `owner` has. `None` where the node is
+/// refused.
+#[inline(always)]
+fn put_property(
+    setting: &Setting<'_>,
+    owner: TypeId,
+    judged: &Judged<'_>,
+    walk: &mut Walk,
+) -> Option<(usize, EdmType)>
+    requires ready { IsNodeReady setting.now walk.old judged.now }
+    requires text { IsTextRange setting.now.text.now judged.now.node.now.text }
+    ensures slot { IfSome result
+        (λ p. slot_named (properties_at setting.now.schema.now owner) (name_of setting.now judged.now) ≡ Some p.0) }
+    ensures typed { IfSome result (λ p. PropertyTyped (properties_at setting.now.schema.now owner)
+        (name_of setting.now judged.now) (expr_type setting.now.schema.now p.1)) }
+    ensures there { IfSome result (λ p. IsTypeThere setting.now.schema.now p.1) }
+    ensures walk { OnSome result (walk.new ≡ record walk.old { navigates = walk.new.navigates }) }
+    ensures before { OnSome result (walk.new.navigates ≡ false → walk.old.navigates ≡ false) }
+    ensures idle { OnSome result (walk.new.navigates ≡ false
+        → ¬ Navigates (properties_at setting.now.schema.now owner) (name_of setting.now judged.now)) }
+    ensures reason { IfNone result (IsSomeAnd walk.new.fault (λ fault.
+        NameReason (properties_at setting.now.schema.now owner) (name_of setting.now judged.now) fault.code)) }
+    ensures span { IfNone result (IsSomeAnd walk.new.fault (λ fault. fault.span ≡ judged.now.node.now.span)) }
+    ensures untyped { IfNone result ((type : ExprType) → ¬ PropertyTyped (properties_at setting.now.schema.now owner)
+        (name_of setting.now judged.now) type) }
+{
+    match setting
+        .schema
+        .slot(owner, setting.text_in(judged.node.text))
+    {
+        Some(slot) => {
+            let property = setting.schema.property(owner, slot);
+            walk.go_over(property);
+            match property_edm_type(property) {
+                Some(edm_type) => Some((slot, edm_type)),
+                None => {
+                    walk.refuse(judged.node.span, TypeFaultCode::TypeLeftOut);
+                    None
+                }
+            }
+        }
+        None => {
+            walk.refuse(judged.node.span, TypeFaultCode::UnknownProperty);
+            None
+        }
+    }
+}
+
+/// The type of a property. `None` where a filter may not name it.
+#[inline(always)]
+fn property_edm_type(property: &Property) -> Option<EdmType>
+    ensures named { (schema : SchemaModel) → IfSome result
+        (λ t. named_type (property_type schema property.now) ≡ Some (expr_type schema t)) }
+    ensures there { (schema : SchemaModel) → PointsWithin schema property.now.kind
+        → IfSome result (IsTypeThere schema) }
+    ensures reason { (schema : SchemaModel) → IfNone result
+        (PropertyReason (property_type schema property.now) TypeFaultCode.TypeLeftOut) }
 {
     match property.kind {
-        PropertyKind::Prim(prim) => Ok(EdmType::of_values(ValueType::Prim(prim), property.many)),
-        PropertyKind::Enum(id) => Ok(EdmType::of_values(ValueType::Enum(id), property.many)),
-        PropertyKind::Complex(id) => Ok(EdmType::of_values(
+        PropertyKind::Prim(prim) => Some(EdmType::of_values(ValueType::Prim(prim), property.many)),
+        PropertyKind::Enum(id) => Some(EdmType::of_values(ValueType::Enum(id), property.many)),
+        PropertyKind::Complex(id) => Some(EdmType::of_values(
             ValueType::Structured(id),
             property.many,
         )),
-        PropertyKind::Opaque => Err(TypeFaultCode::TypeLeftOut),
+        PropertyKind::Opaque => None,
         PropertyKind::Navigation => match property.target() {
-            Some(id) => Ok(EdmType::of_values(ValueType::Structured(id), property.many)),
-            None => Err(TypeFaultCode::TypeLeftOut),
+            Some(id) => Some(EdmType::of_values(ValueType::Structured(id), property.many)),
+            None => None,
         },
     }
 }

@@ -1,27 +1,19 @@
 //! Nodes over one operand: `-`, `not`, `/$count` and `/any()`.
-ghost use Rattle.std.specs.Prelude.{◌≡◌, ◌<◌, ◌≤◌, [], ℕ, length, IfOk, IfSome, IfNone};
-ghost use Rattle.odata_syntax.specs.Tree.{Tree, node};
-ghost use Rattle.odata_syntax.specs.TreeView.{tree_of};
+ghost use Rattle.std.specs.Prelude.{◌≡◌, ◌∷◌, [], IfNone, IfSome};
+ghost use Rattle.odata_syntax.specs.Tree.{Tree};
 ghost use Rattle.csdl_schema.specs.ExprType.{ExprType};
 ghost use Rattle.csdl_schema.specs.SchemaModel.{SchemaModel};
-ghost use Rattle.odata_expression_types.specs.Typed.{Scope};
-ghost use Rattle.odata_checked_filter.specs.FlatTree.{FlatTree};
 ghost use Rattle.odata_signatures.specs.TypeThere.{IsTypeThere};
 ghost use Rattle.odata_signatures.specs.TypeView.{expr_type};
-ghost use Rattle.odata_typing.specs.private.Answer.{Answers, IsAnswer, IsWalked};
-ghost use Rattle.odata_typing.specs.private.Variables.{AreThere};
-ghost use Rattle.odata_checked_filter.specs.ListGrowth.{IsOpened};
+ghost use Rattle.odata_typing.specs.private.Judging.{AreChildren, IsNodeJudged};
+ghost use Rattle.odata_typing.specs.private.Settings.{IsNodeReady};
 
 use super::laws_below::laws_below;
-use super::node::checked_tree;
-use super::opened_node::{Opened, open_node};
-use super::setting::Setting;
-use super::untyped::Untyped;
-use odata_checked_filter::{NodeKind, NodeList};
-use odata_expression_types::{TypeFault, TypeFaultCode};
+use super::setting::{Judged, Setting};
+use super::walk::Walk;
+use odata_checked_filter::NodeKind;
+use odata_expression_types::TypeFaultCode;
 use odata_signatures::{EdmType, any_item_type, count_type, negated_type, opposite_type};
-use odata_syntax::Node;
-use odata_text::Span;
 
 /// What is asked of the one operand.
 #[derive(Clone, Copy)]
@@ -34,62 +26,26 @@ pub(crate) enum Unary {
 
 ghost use Rattle.odata_typing.specs.private.Forms.{UnaryTyped, unary_code, unary_kind, unary_shape};
 
-/// The node over one operand, and those of the operand behind it.
-#[cycle(typing)]
+/// The node over its operand.
+#[inline(always)]
 pub(crate) fn checked_unary(
     setting: &Setting<'_>,
-    span: Span,
+    judged: &Judged<'_>,
     unary: Unary,
-    operand: &Node,
-    list: &mut NodeList,
-) -> Result<EdmType, Untyped>
-    requires { AreThere setting.now.schema.now setting.now.variables.now }
-    ensures answer { Answers setting.now list.old
-        (node span.start span.stop (unary_shape unary (tree_of operand.now))) list.new result }
-    ensures there { IfOk result (IsTypeThere setting.now.schema.now) }
-    ensures grown { length list.old.nodes ≤ length list.new.nodes }
+    walk: &mut Walk,
+) -> bool
+    requires ready { IsNodeReady setting.now walk.old judged.now }
+    requires operand { (operand : Tree) × AreChildren setting.now walk.old judged.now (operand ∷ []) }
+    ensures { (operand : Tree) → AreChildren setting.now walk.old judged.now (operand ∷ [])
+        → IsNodeJudged setting.now judged.now (unary_shape unary operand) walk.old walk.new result }
 {
     laws_below();
-    let opened = match open_node(span, kind_of(unary), String::new(setting.alloc), list) {
-        Ok(opened) => opened,
-        Err(untyped) => return Err(untyped),
-    };
-    match checked_tree(setting, operand, list) {
-        Ok(operand) => close_unary(unary, opened, operand, list),
-        Err(untyped) => Err(untyped),
-    }
-}
-
-/// The node over an operand of that type.
-fn close_unary(
-    unary: Unary,
-    opened: Opened,
-    operand: EdmType,
-    list: &mut NodeList,
-) -> Result<EdmType, Untyped>
-    requires { opened.place < length list.old.nodes }
-    ensures answer { (schema : SchemaModel) (n : ℕ) (scope : Scope) (o : Tree) (start before : FlatTree)
-        → IsOpened start opened.place [] before
-        → IsWalked schema n scope before o list.old operand
-        → IsAnswer schema n scope start (node opened.span.start opened.span.stop (unary_shape unary o))
-        list.new result }
-    ensures there { (schema : SchemaModel) → IfOk result (IsTypeThere schema) }
-    ensures grown { length list.old.nodes ≤ length list.new.nodes }
-{
-    laws_below();
-    match unary_type(unary, &operand) {
-        Some(edm_type) => {
-            list.close(opened.place, kind_of(unary), opened.span, &edm_type);
-            Ok(edm_type)
-        }
-        None => Err(Untyped::Fault(TypeFault {
-            code: code_of(unary),
-            span: opened.span,
-        })),
-    }
+    let edm_type = unary_type(unary, &walk.type_at(judged.number + 1));
+    walk.put_typed(judged, kind_of(unary), edm_type, code_of(unary))
 }
 
 /// The type over an operand of that type. `None` where it may not stand there.
+#[inline(always)]
 fn unary_type(unary: Unary, operand: &EdmType) -> Option<EdmType>
     ensures typed { (schema : SchemaModel) → IfSome result
         (λ t. UnaryTyped unary (expr_type schema operand.now) (expr_type schema t)) }
@@ -105,6 +61,7 @@ fn unary_type(unary: Unary, operand: &EdmType) -> Option<EdmType>
     }
 }
 
+#[inline(always)]
 fn kind_of(unary: Unary) -> NodeKind
     ensures { result ≡ unary_kind unary }
 {
@@ -117,6 +74,7 @@ fn kind_of(unary: Unary) -> NodeKind
 }
 
 /// Why an operand may not stand there.
+#[inline(always)]
 fn code_of(unary: Unary) -> TypeFaultCode
     ensures { result ≡ unary_code unary }
 {

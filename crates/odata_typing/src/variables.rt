@@ -1,12 +1,12 @@
 //! The range variables in scope.
-ghost use Rattle.std.specs.Prelude.{◌≡◌, length, IfOk, IfErr, IfSome};
+ghost use Rattle.std.specs.Prelude.{◌≡◌, length, IfOk, IfSome};
 ghost use Rattle.csdl_schema.specs.SchemaModel.{SchemaModel};
 ghost use Rattle.odata_typing.specs.private.Variables.{AreThere, IsNamedBy, scope_in};
 ghost use Rattle.odata_checked_filter.specs.Stands.{variable_names};
 ghost use Rattle.odata_signatures.specs.TypeThere.{IsTypeThere};
 
-use super::untyped::Untyped;
 use odata_signatures::EdmType;
+use std::alloc::AllocError;
 
 /// Range variables, each with the type of its value, the innermost first.
 #[derive(Clone, Copy)]
@@ -22,15 +22,15 @@ pub(crate) struct NamedVariable {
     pub(crate) edm_type: EdmType,
 }
 
-/// The innermost variable of that name.
+/// The innermost variable of that name. An error where there are more variables than a `usize` counts, which no memory
+/// holds.
 pub(crate) fn variable_named(
     variables: &Variables<'_>,
     asked: &str,
-) -> Result<Option<NamedVariable>, Untyped>
+) -> Result<Option<NamedVariable>, AllocError>
     ensures named { (schema : SchemaModel) → IfOk result (IsNamedBy schema (scope_in schema variables.now) asked.now) }
     ensures there { (schema : SchemaModel) → AreThere schema variables.now
         → IfOk result (λ found. IfSome found (λ variable. IsTypeThere schema variable.edm_type)) }
-    ensures memory { IfErr result (λ untyped. untyped ≡ Untyped.Memory) }
 {
     match variables {
         Variables::Empty => Ok(None),
@@ -41,7 +41,7 @@ pub(crate) fn variable_named(
                         level,
                         edm_type: *edm_type,
                     })),
-                    None => Err(Untyped::Memory),
+                    None => Err(AllocError),
                 }
             } else {
                 variable_named(outer, asked)

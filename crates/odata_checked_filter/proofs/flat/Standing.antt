@@ -10,7 +10,6 @@ use Rattle.odata_expression_types.specs.PreOrder.{nodes_among, nodes_below, pre_
 use Rattle.odata_checked_filter.specs.Stands.{AllStand, AreItemNumbers, ChildrenStand, IsItemNumber, IsKindOf, IsPairedNode, IsTop, Stands}
 use Rattle.odata_expression_types.specs.Typed.{Scope, Typed, with_variable}
 use Rattle.csdl_schema.specs.ExprType.{ExprType, single}
-use Rattle.odata_checked_filter.specs.ListGrowth.{IsKept}
 use Rattle.odata_checked_filter.proofs.flat.Children.{body_stands, body_there, one_stands, one_there, two_stand, two_there}
 
 -- ---- as many nodes as the tree has
@@ -85,14 +84,11 @@ stand_onward schema n scope list i j trees stand =
 
 -- ---- nodes that are kept
 
--- the nodes from a place on are kept
-pub record IsKeptFrom (from : ℕ) (old new : FlatTree) : Type 0 where
-  pub nodes : (k : ℕ) (found : CheckedNode) → from ≤ k → slice_get old.nodes k ≡ Some found → slice_get new.nodes k ≡ Some found
+-- the nodes from one place up to another are kept
+pub record IsKeptIn (from to : ℕ) (old new : FlatTree) : Type 0 where
+  pub nodes : (k : ℕ) (found : CheckedNode) → from ≤ k → k < to → slice_get old.nodes k ≡ Some found → slice_get new.nodes k ≡ Some found
   pub values : (k : ℕ) (value : Value) → slice_get old.values k ≡ Some value → slice_get new.values k ≡ Some value
-  pub texts : (k : ℕ) (text : List ℕ) → slice_get old.texts k ≡ Some text → slice_get new.texts k ≡ Some text
-
-pub all_kept : (old new : FlatTree) → IsKept old new → IsKeptFrom 0 old new
-all_kept old new kept = record { nodes = λ k found behind at. kept.nodes k found at; values = kept.values; texts = kept.texts }
+  pub texts : (k : ℕ) (text : List ℕ) → from ≤ k → k < to → slice_get old.texts k ≡ Some text → slice_get new.texts k ≡ Some text
 
 some_kept : (P : Value → Type 0) (old new : Option Value) → ((value : Value) → old ≡ Some value → new ≡ Some value) → IsSomeAnd old P → IsSomeAnd new P
 some_kept P (Some value) new kept holds = rw (kept value refl) holds
@@ -154,15 +150,16 @@ kind_kept old new slots root scope it kind kept is = is
 kind_kept old new slots root scope _ kind kept is = is
 
 top_kept :
-    (from : ℕ) (old new : FlatTree) (schema : SchemaModel) (n : ℕ) (scope : Scope) (i j start stop : ℕ) (shape : Shape)
-    → IsKeptFrom from old new
+    (from to : ℕ) (old new : FlatTree) (schema : SchemaModel) (n : ℕ) (scope : Scope) (i j start stop : ℕ) (shape : Shape)
+    → IsKeptIn from to old new
     → from ≤ i
+    → i < to
     → IsTop schema n scope old i j start stop shape
     → IsTop schema n scope new i j start stop shape
-top_kept from old new schema n scope i j start stop shape kept behind top = record {
+top_kept from to old new schema n scope i j start stop shape kept after before top = record {
   found = top.found;
-  stands_at = kept.nodes i top.found (omega arith) top.stands_at;
-  text_at = kept.texts i _ top.text_at;
+  stands_at = kept.nodes i top.found after before top.stands_at;
+  text_at = kept.texts i _ after before top.text_at;
   kind = kind_kept old new _ _ _ shape top.found.kind kept.values top.kind;
   starts = top.starts;
   stops = top.stops;
@@ -170,106 +167,115 @@ top_kept from old new schema n scope i j start stop shape kept behind top = reco
   typed = top.typed;
 }
 
--- behind the place all stands as it did
+-- between these places all stands as it did
 mutual
   pub stands_kept :
-      (from : ℕ) (old new : FlatTree) (schema : SchemaModel) (n : ℕ) (scope : Scope) (i j : ℕ) (tree : Tree)
-      → IsKeptFrom from old new
+      (from to : ℕ) (old new : FlatTree) (schema : SchemaModel) (n : ℕ) (scope : Scope) (i j : ℕ) (tree : Tree)
+      → IsKeptIn from to old new
       → from ≤ i
+      → j ≤ to
       → Stands schema n scope old i j tree
       → Stands schema n scope new i j tree
-  stands_kept from old new schema n scope i j (node start stop shape) kept behind stands = record {
-    top = top_kept from old new schema n scope i j start stop shape kept behind stands.top;
-    children = children_kept from old new schema n scope (i + 1) j shape kept (omega arith) stands.children;
+  stands_kept from to old new schema n scope i j (node start stop shape) kept after before stands = record {
+    top = top_kept from to old new schema n scope i j start stop shape kept after (let some : i < j = stands_nonempty schema n scope old i j (node start stop shape) stands in omega arith) stands.top;
+    children = children_kept from to old new schema n scope (i + 1) j shape kept (omega arith) before stands.children;
   }
 
   pub children_kept :
-      (from : ℕ) (old new : FlatTree) (schema : SchemaModel) (n : ℕ) (scope : Scope) (i j : ℕ) (shape : Shape)
-      → IsKeptFrom from old new
+      (from to : ℕ) (old new : FlatTree) (schema : SchemaModel) (n : ℕ) (scope : Scope) (i j : ℕ) (shape : Shape)
+      → IsKeptIn from to old new
       → from ≤ i
+      → j ≤ to
       → ChildrenStand schema n scope old i j shape
       → ChildrenStand schema n scope new i j shape
-  children_kept from old new schema n scope i j (literal kind spelling) kept behind stand = stand
-  children_kept from old new schema n scope i j it kept behind stand = stand
-  children_kept from old new schema n scope i j (name asked) kept behind stand = stand
-  children_kept from old new schema n scope i j (member base asked) kept behind stand =
+  children_kept from to old new schema n scope i j (literal kind spelling) kept after before stand = stand
+  children_kept from to old new schema n scope i j it kept after before stand = stand
+  children_kept from to old new schema n scope i j (name asked) kept after before stand = stand
+  children_kept from to old new schema n scope i j (member base asked) kept after before stand =
       one_stands schema n scope new i j base
-      (stands_kept from old new schema n scope i j base kept behind (one_there schema n scope old i j base stand))
-  children_kept from old new schema n scope i j (count base) kept behind stand =
+      (stands_kept from to old new schema n scope i j base kept after before (one_there schema n scope old i j base stand))
+  children_kept from to old new schema n scope i j (count base) kept after before stand =
       one_stands schema n scope new i j base
-      (stands_kept from old new schema n scope i j base kept behind (one_there schema n scope old i j base stand))
-  children_kept from old new schema n scope i j (negation operand) kept behind stand =
+      (stands_kept from to old new schema n scope i j base kept after before (one_there schema n scope old i j base stand))
+  children_kept from to old new schema n scope i j (negation operand) kept after before stand =
       one_stands schema n scope new i j operand
-      (stands_kept from old new schema n scope i j operand kept behind (one_there schema n scope old i j operand stand))
-  children_kept from old new schema n scope i j (logical_not operand) kept behind stand =
+      (stands_kept from to old new schema n scope i j operand kept after before (one_there schema n scope old i j operand stand))
+  children_kept from to old new schema n scope i j (logical_not operand) kept after before stand =
       one_stands schema n scope new i j operand
-      (stands_kept from old new schema n scope i j operand kept behind (one_there schema n scope old i j operand stand))
-  children_kept from old new schema n scope i j (binary operator left right) kept behind stands =
+      (stands_kept from to old new schema n scope i j operand kept after before (one_there schema n scope old i j operand stand))
+  children_kept from to old new schema n scope i j (binary operator left right) kept after before stands =
       let stand = two_there schema n scope old i j left right stands in
       let m = stand.middle in
       let a : i < m = stands_nonempty schema n scope old i m left stand.left in
+      let b : m < j = stands_nonempty schema n scope old m j right stand.right in
       two_stand schema n scope new i j left right (record {
         middle = m;
-        left = stands_kept from old new schema n scope i m left kept behind stand.left;
-        right = stands_kept from old new schema n scope m j right kept (omega arith) stand.right;
+        left = stands_kept from to old new schema n scope i m left kept after (omega arith) stand.left;
+        right = stands_kept from to old new schema n scope m j right kept (omega arith) before stand.right;
       })
-  children_kept from old new schema n scope i j (has left right) kept behind stands =
+  children_kept from to old new schema n scope i j (has left right) kept after before stands =
       let stand = two_there schema n scope old i j left right stands in
       let m = stand.middle in
       let a : i < m = stands_nonempty schema n scope old i m left stand.left in
+      let b : m < j = stands_nonempty schema n scope old m j right stand.right in
       two_stand schema n scope new i j left right (record {
         middle = m;
-        left = stands_kept from old new schema n scope i m left kept behind stand.left;
-        right = stands_kept from old new schema n scope m j right kept (omega arith) stand.right;
+        left = stands_kept from to old new schema n scope i m left kept after (omega arith) stand.left;
+        right = stands_kept from to old new schema n scope m j right kept (omega arith) before stand.right;
       })
-  children_kept from old new schema n scope i j (in_list left items) kept behind stand =
+  children_kept from to old new schema n scope i j (in_list left items) kept after before stand =
       let m = stand.middle in
       let a : i < m = stands_nonempty schema n scope old i m left stand.left in
+      let b : m ≤ j = stand_onward schema n scope old m j items stand.right in
       record {
         middle = m;
-        left = stands_kept from old new schema n scope i m left kept behind stand.left;
-        right = stand_kept from old new schema n scope m j items kept (omega arith) stand.right;
+        left = stands_kept from to old new schema n scope i m left kept after (omega arith) stand.left;
+        right = stand_kept from to old new schema n scope m j items kept (omega arith) before stand.right;
       }
-  children_kept from old new schema n scope i j (in_path left path) kept behind stands =
+  children_kept from to old new schema n scope i j (in_path left path) kept after before stands =
       let stand = two_there schema n scope old i j left path stands in
       let m = stand.middle in
       let a : i < m = stands_nonempty schema n scope old i m left stand.left in
+      let b : m < j = stands_nonempty schema n scope old m j path stand.right in
       two_stand schema n scope new i j left path (record {
         middle = m;
-        left = stands_kept from old new schema n scope i m left kept behind stand.left;
-        right = stands_kept from old new schema n scope m j path kept (omega arith) stand.right;
+        left = stands_kept from to old new schema n scope i m left kept after (omega arith) stand.left;
+        right = stands_kept from to old new schema n scope m j path kept (omega arith) before stand.right;
       })
-  children_kept from old new schema n scope i j (call asked arguments) kept behind stand = stand_kept from old new schema n scope i j arguments kept behind stand
-  children_kept from old new schema n scope i j (any_item base) kept behind stand =
+  children_kept from to old new schema n scope i j (call asked arguments) kept after before stand = stand_kept from to old new schema n scope i j arguments kept after before stand
+  children_kept from to old new schema n scope i j (any_item base) kept after before stand =
       one_stands schema n scope new i j base
-      (stands_kept from old new schema n scope i j base kept behind (one_there schema n scope old i j base stand))
-  children_kept from old new schema n scope i j (lambda quantifier base variable body) kept behind stands =
+      (stands_kept from to old new schema n scope i j base kept after before (one_there schema n scope old i j base stand))
+  children_kept from to old new schema n scope i j (lambda quantifier base variable body) kept after before stands =
       let stand = body_there schema n scope old i j base variable body stands in
       let m = stand.middle in
       let a : i < m = stands_nonempty schema n scope old i m base stand.left in
       let inner = with_variable scope variable (single stand.right.member_type) in
+      let b : m < j = stands_nonempty schema n inner old m j body stand.right.body in
       body_stands schema n scope new i j base variable body (record {
         middle = m;
-        left = stands_kept from old new schema n scope i m base kept behind stand.left;
+        left = stands_kept from to old new schema n scope i m base kept after (omega arith) stand.left;
         right = record {
           member_type = stand.right.member_type;
           binds = stand.right.binds;
-          body = stands_kept from old new schema n inner m j body kept (omega arith) stand.right.body;
+          body = stands_kept from to old new schema n inner m j body kept (omega arith) before stand.right.body;
         };
       })
 
   pub stand_kept :
-      (from : ℕ) (old new : FlatTree) (schema : SchemaModel) (n : ℕ) (scope : Scope) (i j : ℕ) (trees : Trees)
-      → IsKeptFrom from old new
+      (from to : ℕ) (old new : FlatTree) (schema : SchemaModel) (n : ℕ) (scope : Scope) (i j : ℕ) (trees : Trees)
+      → IsKeptIn from to old new
       → from ≤ i
+      → j ≤ to
       → AllStand schema n scope old i j trees
       → AllStand schema n scope new i j trees
-  stand_kept from old new schema n scope i j no_trees kept behind stand = stand
-  stand_kept from old new schema n scope i j (more_trees tree trees) kept behind stand =
+  stand_kept from to old new schema n scope i j no_trees kept after before stand = stand
+  stand_kept from to old new schema n scope i j (more_trees tree trees) kept after before stand =
       let m = stand.middle in
       let a : i < m = stands_nonempty schema n scope old i m tree stand.left in
+      let b : m ≤ j = stand_onward schema n scope old m j trees stand.right in
       record {
         middle = m;
-        left = stands_kept from old new schema n scope i m tree kept behind stand.left;
-        right = stand_kept from old new schema n scope m j trees kept (omega arith) stand.right;
+        left = stands_kept from to old new schema n scope i m tree kept after (omega arith) stand.left;
+        right = stand_kept from to old new schema n scope m j trees kept (omega arith) before stand.right;
       }

@@ -8,6 +8,8 @@ use Rattle.csdl_schema.specs.SchemaModel.{SchemaModel, Slots, properties_at, slo
 use Rattle.csdl_schema.specs.declared.property.Property.{Property}
 use Rattle.odata_expression_types.specs.NeededPaths.{BodyNeeds, IsNeeded, NameNeeds, StepNeeds, VariablePaths, path_of}
 use Rattle.odata_expression_types.specs.Typed.{Scope, Typed}
+use Rattle.odata_signatures.specs.declared.edm_type.EdmType.{EdmType}
+use Rattle.odata_signatures.specs.declared.edm_type.ValueType.{ValueType}
 use Rattle.odata_checked_filter.specs.FlatTree.{FlatTree}
 use Rattle.odata_checked_filter.specs.Stands.{InBody, Stands}
 use Rattle.odata_checked_filter.specs.declared.checked_node.NodeKind.{NodeKind}
@@ -138,6 +140,19 @@ pub record IsTreeThere (scene : ListScene) (steps : List StepModel) (nodes : Lis
   pub tree : Tree
   pub stands : Stands scene.schema.now scene.filtered_type scope scene.list.now place stop tree
   pub lead : LeadThere steps scope paths nodes
+
+-- a tree stands there, in some scope
+pub record HasTypedTree (scene : ListScene) (place : ℕ) : Type 0 where
+  pub scope : Scope
+  pub stop : ℕ
+  pub tree : Tree
+  pub stands : Stands scene.schema.now scene.filtered_type scope scene.list.now place stop tree
+
+-- a step to the property at a slot of the schema's n-th type stands there
+abbrev pub IsStepOn : FlatTree → ℕ → ℕ → ℕ → Type 0
+IsStepOn list place slot n =
+    IsSomeAnd (slice_get list.nodes place) (λ found. found.kind ≡ NodeKind.Member slot)
+    × IsSomeAnd (slice_get list.nodes (place + 1)) (λ base. base.edm_type ≡ EdmType.Single (ValueType.Structured n))
 
 -- the base of the lambda operator in a place, and its body
 pub record ArePlacesOf (list : FlatTree) (place : ℕ) (places : LambdaPlaces) : Type 0 where

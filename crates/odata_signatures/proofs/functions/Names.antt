@@ -1,5 +1,7 @@
 -- Each function has a name of its own.
-use Rattle.std.proofs.Common.{◌≡◌, ℕ, ◌<◌, lit<, sym, ap, refl, ◌∙◌, List, [], ◌∷◌, Option, Some, None, nat_eq, if◌then◌else◌, slice_index_or}
+use Rattle.std.proofs.Common.{◌≡◌, ℕ, ◌<◌, lit<, sym, ap, refl, ◌∙◌, List, [], ◌∷◌, Option, Some, None, nat_eq, if◌then◌else◌, slice_index_or, map}
+use Rattle.std.specs.Char.{to_ascii_lowercase}
+use Rattle.std.specs.Str.{str_to_ascii_lowercase}
 use Rattle.std.specs.Cmp.Lexicographic.{pointwise}
 use Rattle.odata_signatures.specs.declared.function.Function.{Function}
 use Rattle.odata_signatures.specs.Functions.{IsNamed, row_of}
@@ -78,3 +80,32 @@ nowhere text none Function.Second = none 15 Function.Contains (lit< tt)
 nowhere text none Function.TotalOffsetMinutes = none 16 Function.Contains (lit< tt)
 nowhere text none Function.Date = none 17 Function.Contains (lit< tt)
 nowhere text none Function.Now = none 18 Function.Contains (lit< tt)
+
+-- a name is in lower case
+row_lower : (f : Function) → str_to_ascii_lowercase (row_of f).name ≡ (row_of f).name
+row_lower Function.Contains = refl
+row_lower Function.StartsWith = refl
+row_lower Function.EndsWith = refl
+row_lower Function.Concat = refl
+row_lower Function.Length = refl
+row_lower Function.IndexOf = refl
+row_lower Function.Substring = refl
+row_lower Function.Trim = refl
+row_lower Function.ToLower = refl
+row_lower Function.ToUpper = refl
+row_lower Function.Year = refl
+row_lower Function.Month = refl
+row_lower Function.Day = refl
+row_lower Function.Hour = refl
+row_lower Function.Minute = refl
+row_lower Function.Second = refl
+row_lower Function.TotalOffsetMinutes = refl
+row_lower Function.Date = refl
+row_lower Function.Now = refl
+
+-- so it names the function in any case
+pub named_lower : (f : Function) (name asked : List ℕ) → IsNamed f name → map to_ascii_lowercase name ≡ map to_ascii_lowercase asked → IsNamed f (str_to_ascii_lowercase asked)
+named_lower f name asked is same = sym (row_lower f) ∙ ap (λ (bs : List ℕ). str_to_ascii_lowercase bs) is ∙ same
+
+pub lower_named : (f : Function) (name asked : List ℕ) → IsNamed f name → IsNamed f (str_to_ascii_lowercase asked) → map to_ascii_lowercase name ≡ map to_ascii_lowercase asked
+lower_named f name asked is named = ap (λ (bs : List ℕ). str_to_ascii_lowercase bs) (sym is) ∙ row_lower f ∙ named

@@ -1,123 +1,232 @@
-use Rattle.std.proofs.Common.{rules, None, Some, ◌≡◌, ◌≤◌, ◌+◌, ◌∷◌, ◌++◌, ◌∙◌, [], IfNone, List, ap, arith, length, map, sym, subst, take}
-use Rattle.std.proofs.lemmas.List.{map-append, take_more}
-use Rattle.std.specs.List.{AllByRecursion}
-use Rattle.std.specs.Prelude.{string_bytes}
-use Rattle.odata_syntax.specs.Tree.{Tree, lambda, node}
-use Rattle.odata_syntax.specs.TreeView.{tree_of}
-use Rattle.odata_syntax.specs.declared.node.Node.{All as all_of, Any as any_of, Node, the_lemmas}
-use Rattle.odata_syntax.specs.declared.node.Quantifier.{Quantifier}
-use Rattle.odata_signatures.specs.TypeThere.{IsTypeThere}
-use Rattle.odata_signatures.specs.declared.edm_type.EdmType.{EdmType}
-use Rattle.odata_typing.specs.private.Arguments.{AreAnswered}
-use Rattle.odata_typing.specs.private.Variables.{scope_of}
-use Rattle.odata_typing.proofs.bodies.Faults.{base_fault, body_fault, unbound_fault}
-use Rattle.odata_typing.proofs.calls.Walking.{answered_fault, answered_typed, call_fault, there_with, told_something}
-use Rattle.odata_typing.proofs.scopes.Scopes.{scope_in-Bound}
-use Rattle.odata_typing.proofs.pairs.Sides.{quotes_right}
-use Rattle.odata_typing.proofs.untypable.Operands.{fault_before_step, fault_over}
+use Rattle.std.proofs.Common.{◌≡◌, ◌⊎◌, ℕ, ◌-◌, ◌<◌, ◌≤◌, inl, inr, subst, List, Option, Some, None, IfSome, arith}
+use Rattle.odata_syntax.specs.Places.{lambda_at, number_at, stop_at}
+use Rattle.odata_syntax.specs.PostOrder.{last_tree}
+use Rattle.csdl_schema.specs.SchemaModel.{slots_of, type_name_at}
+use Rattle.odata_signatures.specs.TypeView.{expr_type}
+use Rattle.odata_expression_types.specs.FirstUntypable.{IsFirstUntypable}
+use Rattle.odata_expression_types.specs.Typed.{Scope, variable_type}
+use Rattle.odata_typing.specs.declared.variables.NamedVariable.{NamedVariable}
+use Rattle.odata_typing.specs.private.Settings.{name_of, run_tree}
+use Rattle.odata_typing.specs.private.Variables.{IsNamedBy, scope_of}
+use Rattle.odata_typing.proofs.bodies.Bases.{body_refused, not_collection, variable_taken}
+use Rattle.odata_typing.proofs.stacks.Again.{judged_again, ready_again}
+use Rattle.odata_typing.proofs.stacks.Bound.{body_places, fresh_variable, judged_since, over_body, scope_is}
+use Rattle.odata_typing.proofs.stacks.Loop.{IsLambdaThere, lambda_there, mark_at, none_read}
+use Rattle.odata_typing.proofs.stacks.Settings.{node_ready}
+use Rattle.odata_typing.proofs.stacks.Steps.{lambda_goes_on, lambda_refuses, node_goes_on, node_refuses}
+use Rattle.odata_typing.proofs.stacks.Walking.{IsWalking, node_children, node_is_plain, ready_still, run_trees, walk_ends}
+use Rattle.odata_typing.proofs.+typing.Goals.{node::checked_nodes-else-lambda-ne-NO_NODE-via-then-lambda-ne-NO_NODE+else-index-from, node::checked_nodes-else-lambda-ne-NO_NODE-via-else-lambda-ne-NO_NODE}
 use Rattle.odata_typing.proofs.+typing.Goals as goal
 
-pub path_node::checked_member-returns-in-Err-checked_tree-clause-answer : goal.path_node::checked_member-returns-in-Err-checked_tree-clause-answer
-path_node::checked_member-returns-in-Err-checked_tree-clause-answer t c =
-    fault_before_step c.laws_below.ensures c.args.setting.now.schema.now c.args.setting.now.filtered_type (scope_of c.args.setting.now) c.args.span.start c.args.span.stop (tree_of c.args.base.now) c.args.asked.now
-    c.in-Err-checked_tree.untyped c.in-Err-checked_tree.ensures.answer
+-- A lambda expression whose base is no collection, or whose variable is in scope.
 
-pub unary_node::checked_unary-returns-in-Ok-checked_tree-clause-there : goal.unary_node::checked_unary-returns-in-Ok-checked_tree-clause-there
-unary_node::checked_unary-returns-in-Ok-checked_tree-clause-there t c = c.close_unary.ensures.there c.args.setting.now.schema.now
+pub lambda::checked_lambda-returns-in_default : goal.lambda::checked_lambda-returns-in_default
+lambda::checked_lambda-returns-in_default t c = λ judged quantifier base asked.
+    let setting = c.args.setting.now in
+    let old = c.args.walk.now in
+    let other = c.node_at-lambda.result in
+    let body = run_tree setting c.args.from c.args.index in
+    let ready = ready_again setting old c.args.from c.args.index judged other quantifier base c.node_at-lambda.ensures asked in
+    let stands = ready.base_stands in
+    judged_again setting c.args.index judged other quantifier base body old c.refuse.new.self c.refuse.result asked.at c.node_at-lambda.ensures
+    (not_collection c.laws_below.ensures setting other old c.refuse.new.self quantifier base body (number_at setting.places.now (c.args.index - 1)) c.refuse.result stands
+    old c.type_at.result (c.type_at.ensures stands.found stands.at) c.in_default.not-Collection c.refuse.ensures.stops c.refuse.ensures.fault)
 
-pub unary_node::checked_unary-returns-in-Err-checked_tree-clause-answer : goal.unary_node::checked_unary-returns-in-Err-checked_tree-clause-answer
-unary_node::checked_unary-returns-in-Err-checked_tree-clause-answer t c =
-    fault_over c.laws_below.ensures c.args.setting.now.schema.now c.args.setting.now.filtered_type (scope_of c.args.setting.now) c.args.span.start c.args.span.stop c.args.unary (tree_of c.args.operand.now)
-    c.in-Err-checked_tree.untyped c.in-Err-checked_tree.ensures.answer
+pub lambda::checked_lambda-returns-in-Ok-Some : goal.lambda::checked_lambda-returns-in-Ok-Some
+lambda::checked_lambda-returns-in-Ok-Some t c = λ judged quantifier base asked.
+    let setting = c.args.setting.now in
+    let old = c.args.walk.now in
+    let other = c.node_at-lambda.result in
+    let body = run_tree setting c.args.from c.args.index in
+    let ready = ready_again setting old c.args.from c.args.index judged other quantifier base c.node_at-lambda.ensures asked in
+    let stands = ready.base_stands in
+    let Named : Option NamedVariable → Type 0 = λ (o : Option NamedVariable). IsNamedBy setting.schema.now (scope_of setting) c.text_in-variable.result.now o in
+    let named : Named (Some c.in-Ok-Some.field-0-0) = subst Named c.in-Ok-Some.field-0-is (c.in-Ok-Some.ensures.named setting.schema.now) in
+    let taken = expr_type setting.schema.now c.in-Ok-Some.field-0-0.edm_type in
+    let found : variable_type (scope_of setting) (name_of setting other) ≡ Some taken =
+    subst (λ (asked : List ℕ). variable_type (scope_of setting) asked ≡ Some taken) c.text_in-variable.ensures named.1 in
+    judged_again setting c.args.index judged other quantifier base body old c.refuse-in-Ok-Some.new.self c.refuse-in-Ok-Some.result asked.at c.node_at-lambda.ensures
+    (variable_taken c.laws_below.ensures setting other old c.refuse-in-Ok-Some.new.self quantifier base body (number_at setting.places.now (c.args.index - 1)) c.refuse-in-Ok-Some.result stands
+    old c.type_at.result c.in-Collection.member taken (c.type_at.ensures stands.found stands.at) c.in-Collection.is found c.refuse-in-Ok-Some.ensures.stops c.refuse-in-Ok-Some.ensures.fault)
 
-pub call_node::checked_call-returns-in-None-clause-there : goal.call_node::checked_call-returns-in-None-clause-there
-call_node::checked_call-returns-in-None-clause-there t c = c.close_call.ensures.there c.args.setting.now.schema.now
+-- One whose body is judged.
 
-pub call_node::checked_call-returns-clause-answer : goal.call_node::checked_call-returns-clause-answer
-call_node::checked_call-returns-clause-answer t c =
-    call_fault c.laws_below.ensures c.args.setting.now.schema.now c.args.setting.now.filtered_type (scope_of c.args.setting.now) c.args.span.start c.args.span.stop c.args.name.now
-    (map tree_of c.args.arguments.now) c.in-Some.untyped c.in-Some.ensures.answer
+pub lambda::checked_lambda-close_lambda-requires-clause-children : goal.lambda::checked_lambda-close_lambda-requires-clause-children
+lambda::checked_lambda-close_lambda-requires-clause-children t c =
+    let setting = c.args.setting.now in
+    let old = c.args.walk.now in
+    let other = c.node_at-lambda.result in
+    let r = c.requires in
+    let ready = ready_again setting old c.args.from c.args.index r.0 other r.1 r.2 c.node_at-lambda.ensures r.3 in
+    let stands = ready.base_stands in
+    let fresh : variable_type (scope_of setting) (name_of setting other) ≡ None =
+    fresh_variable setting other c.text_in-variable.result.now c.in-Ok-None.field-0 c.in-Ok-None.field-0-is (c.in-Ok-None.ensures.named setting.schema.now) c.text_in-variable.ensures in (
+      r.2,
+      run_tree setting c.args.from c.args.index,
+      over_body c.laws_below.ensures setting old c.checked_nodes.new.walk c.args.from c.args.index other r.1 r.2 c.in-Collection.member c.text_in-variable.result c.type_at.result ready
+          (c.type_at.ensures stands.found stands.at) c.in-Collection.is fresh c.text_in-variable.ensures c.if-checked_nodes.ensures,
+    )
 
-pub call_node::told_with-returns-in-Ok-push-clause-answer : goal.call_node::told_with-returns-in-Ok-push-clause-answer
-call_node::told_with-returns-in-Ok-push-clause-answer t c = λ start trees before.
-    let P : List EdmType → Type 0 = λ (types : List EdmType). AreAnswered c.args.setting.now start (trees ++ tree_of c.args.argument.now ∷ []) c.checked_tree.new.list types c.args.told in
-    subst P (sym c.in-Ok-push.ensures)
-    (answered_typed c.laws_below.ensures c.args.setting.now start c.args.list.now c.checked_tree.new.list trees c.args.types.now c.args.told (tree_of c.args.argument.now) c.in-Ok.edm_type before c.in-Ok.ensures.answer)
+pub lambda::checked_lambda-returns-then-checked_nodes : goal.lambda::checked_lambda-returns-then-checked_nodes
+lambda::checked_lambda-returns-then-checked_nodes t c = λ judged quantifier base asked.
+    let setting = c.args.setting.now in
+    let old = c.args.walk.now in
+    let mid = c.checked_nodes.new.walk in
+    let new = c.close_lambda.new.walk in
+    let other = c.node_at-lambda.result in
+    let body = run_tree setting c.args.from c.args.index in
+    let ready = ready_again setting old c.args.from c.args.index judged other quantifier base c.node_at-lambda.ensures asked in
+    let stands = ready.base_stands in
+    let fresh : variable_type (scope_of setting) (name_of setting other) ≡ None =
+    fresh_variable setting other c.text_in-variable.result.now c.in-Ok-None.field-0 c.in-Ok-None.field-0-is (c.in-Ok-None.ensures.named setting.schema.now) c.text_in-variable.ensures in
+    let put = c.if-checked_nodes.ensures in
+    let over =
+    over_body c.laws_below.ensures setting old mid c.args.from c.args.index other quantifier base c.in-Collection.member c.text_in-variable.result c.type_at.result ready
+    (c.type_at.ensures stands.found stands.at) c.in-Collection.is fresh c.text_in-variable.ensures put in
+    let closed = c.close_lambda.ensures quantifier base body ready.lambda_is over in
+    let last : stop_at setting.places.now (c.args.index - 1) ≡ other.stop = ready.body_stop in
+    judged_again setting c.args.index judged other quantifier base body old new c.close_lambda.result asked.at c.node_at-lambda.ensures
+    (judged_since setting.schema.now setting.filtered_type (scope_of setting) (number_at setting.places.now (c.args.index - 1)) (stop_at setting.places.now (c.args.index - 1))
+    other.number other.stop _ old mid new c.close_lambda.result (record { kept = put.kept; navigates = put.navigates })
+    (body_places setting old c.args.from c.args.index other quantifier base ready) (omega arith) closed)
 
-pub call_node::told_with-returns-in-Err-clause-answer : goal.call_node::told_with-returns-in-Err-clause-answer
-call_node::told_with-returns-in-Err-clause-answer t c = λ start trees before.
-    answered_fault c.laws_below.ensures c.args.setting.now start c.args.list.now c.checked_tree.new.list trees c.args.types.now c.args.told c.earlier_of.result (tree_of c.args.argument.now) c.in-Err.untyped before c.in-Err.ensures.answer c.earlier_of.ensures
+pub lambda::checked_lambda-returns-else-checked_nodes : goal.lambda::checked_lambda-returns-else-checked_nodes
+lambda::checked_lambda-returns-else-checked_nodes t c = λ judged quantifier base asked.
+    let setting = c.args.setting.now in
+    let old = c.args.walk.now in
+    let new = c.checked_nodes.new.walk in
+    let other = c.node_at-lambda.result in
+    let body = run_tree setting c.args.from c.args.index in
+    let ready = ready_again setting old c.args.from c.args.index judged other quantifier base c.node_at-lambda.ensures asked in
+    let stands = ready.base_stands in
+    let fresh : variable_type (scope_of setting) (name_of setting other) ≡ None =
+    fresh_variable setting other c.text_in-variable.result.now c.in-Ok-None.field-0 c.in-Ok-None.field-0-is (c.in-Ok-None.ensures.named setting.schema.now) c.text_in-variable.ensures in
+    let First : Scope → Type 0 = λ (scope : Scope).
+    IfSome new.fault (IsFirstUntypable (slots_of setting.schema.now) (type_name_at setting.schema.now setting.filtered_type) scope body) in
+    judged_again setting c.args.index judged other quantifier base body old new c.checked_nodes.result asked.at c.node_at-lambda.ensures
+    (body_refused c.laws_below.ensures setting other old new quantifier base body (number_at setting.places.now (c.args.index - 1)) c.checked_nodes.result stands
+    c.type_at.result c.in-Collection.member (c.type_at.ensures stands.found stands.at) c.in-Collection.is fresh c.if-checked_nodes.false
+    (subst First (scope_is setting other c.text_in-variable.result c.in-Collection.member c.text_in-variable.ensures) c.if-checked_nodes.ensures))
 
-pub call_node::told_with-returns-in-Ok-push-clause-there : goal.call_node::told_with-returns-in-Ok-push-clause-there
-call_node::told_with-returns-in-Ok-push-clause-there t c = λ before.
-    let schema = c.args.setting.now.schema.now in
-    let P : List EdmType → Type 0 = λ (types : List EdmType). IfNone c.args.told (AllByRecursion (IsTypeThere schema) types) in
-    subst P (sym c.in-Ok-push.ensures) (there_with schema c.args.types.now c.in-Ok.edm_type c.args.told before c.in-Ok.ensures.there)
+-- The loop: a lambda expression.
 
-pub call_node::told_with-returns-in-Err-clause-there : goal.call_node::told_with-returns-in-Err-clause-there
-call_node::told_with-returns-in-Err-clause-there t c = λ before.
-    told_something _ c.args.told c.earlier_of.result c.in-Err.untyped c.earlier_of.ensures
+pub node::checked_nodes-checked_lambda-requires : goal.node::checked_nodes-checked_lambda-requires
+node::checked_nodes-checked_lambda-requires t c =
+    let setting = c.args.setting.now in
+    let index = c.loop-index.index in
+    let last = mark_at setting index in
+    let there : IsLambdaThere setting c.args.from c.args.stop index last c.loop-index.walk =
+    lambda_there setting c.args.from c.args.stop index c.args.walk.now c.loop-index.walk c.requires.setting c.requires.ready c.requires.run c.loop-index.invariant
+    c.loop-index-test.true c.if-index-from.true c.if-lambda-ne-NO_NODE.true in
+    let order : index < last = there.order in
+    let within : last < c.args.stop = there.within in
+    let later : c.args.from < index = there.later in
+    (omega arith, (there.judged, there.quantifier, last_tree (run_trees setting c.args.from index), there.ready))
 
-pub call_node::checked_arguments-loop-argument-preserved : goal.call_node::checked_arguments-loop-argument-preserved
-call_node::checked_arguments-loop-argument-preserved t c =
-    let k = c.loop-argument.argument-index in
-    let so_far = take k c.args.arguments.now in
-    let more : take (k + 1) c.args.arguments.now ≡ so_far ++ c.argument-item.result ∷ [] =
-    take_more c.args.arguments.now k c.argument-item.result c.loop-argument-test.true ∙ ap (λ (x : Node). so_far ++ x ∷ []) (sym c.argument-item.is) in
-    let same : map tree_of (take (k + 1) c.args.arguments.now) ≡ map tree_of so_far ++ tree_of c.argument-item.result ∷ [] =
-    ap (map tree_of) more ∙ map-append tree_of so_far (c.argument-item.result ∷ []) in
-    let P : List Tree → Type 0 = λ (ts : List Tree). AreAnswered c.args.setting.now c.args.list.now ts c.told_with-told.new.list c.told_with-told.new.types c.told_with-told.result in
-    let before : length c.args.list.now.nodes ≤ length c.loop-argument.list.nodes = c.loop-argument.invariant.grown in
-    let behind : length c.loop-argument.list.nodes ≤ length c.told_with-told.new.list.nodes = c.told_with-told.ensures.grown in
-    record {
-      answered = subst P (sym same) (c.told_with-told.ensures.answer c.args.list.now (map tree_of so_far) c.loop-argument.invariant.answered);
-      there = c.told_with-told.ensures.there c.loop-argument.invariant.there;
-      grown = omega arith;
-    }
+pub node::checked_nodes-returns-then-not-checked_lambda : goal.node::checked_nodes-returns-then-not-checked_lambda
+node::checked_nodes-returns-then-not-checked_lambda t c =
+    let setting = c.args.setting.now in
+    let index = c.loop-index.index in
+    let last = mark_at setting index in
+    let there : IsLambdaThere setting c.args.from c.args.stop index last c.loop-index.walk =
+    lambda_there setting c.args.from c.args.stop index c.args.walk.now c.loop-index.walk c.requires.setting c.requires.ready c.requires.run c.loop-index.invariant
+    c.loop-index-test.true c.if-index-from.true c.if-lambda-ne-NO_NODE.true in
+    lambda_refuses c.laws_below.ensures setting c.args.from c.args.stop index last c.args.walk.now c.loop-index.walk c.checked_lambda.new.walk there.judged there.quantifier
+    c.requires.setting c.requires.run c.loop-index.invariant there.later there.over
+    (c.if-not-checked_lambda.ensures there.judged there.quantifier (last_tree (run_trees setting c.args.from index)) there.ready)
 
-pub binary_node::checked_right-returns-clause-answer : goal.binary_node::checked_right-returns-clause-answer
-binary_node::checked_right-returns-clause-answer t c = λ old l begun.
-    c.close_infix.ensures.answer c.args.setting.now.filtered_type (scope_of c.args.setting.now) l (tree_of c.args.right.now) old begun.before c.args.list.now (quotes_right c.args.form l (tree_of c.args.right.now) (record { left = None; right = c.quoted_of.result }) c.requires.form c.quoted_of.ensures) begun.opened begun.answer c.checked_tree-right.ensures.answer
+pub node::checked_nodes-overflow_add-index : goal.node::checked_nodes-overflow_add-index
+node::checked_nodes-overflow_add-index t c =
+    let setting = c.args.setting.now in
+    let index = c.loop-index.index in
+    let last = mark_at setting index in
+    let there : IsLambdaThere setting c.args.from c.args.stop index last c.loop-index.walk =
+    lambda_there setting c.args.from c.args.stop index c.args.walk.now c.loop-index.walk c.requires.setting c.requires.ready c.requires.run c.loop-index.invariant
+    c.loop-index-test.true c.if-index-from.true c.if-lambda-ne-NO_NODE.true in
+    let within : last < c.args.stop = there.within in
+    record { fits = omega (arith, c.ranges.stop.fits) }
 
-pub in_list::checked_in_list-returns-clause-answer : goal.in_list::checked_in_list-returns-clause-answer
-in_list::checked_in_list-returns-clause-answer t c = λ old l begun.
-    let P : List EdmType → Type 0 = λ (types : List EdmType). AreAnswered c.args.setting.now c.args.list.now (map tree_of c.args.items.now) c.checked_arguments-told.new.list types c.checked_arguments-told.result in
-    c.close_items.ensures.answer old l c.args.list.now begun (subst P (sym c.as_slice.ensures) c.checked_arguments-told.ensures.answer)
+pub node::checked_nodes-loop-index-smaller-then-index-from : goal.node::checked_nodes-loop-index-smaller-then-index-from
+node::checked_nodes-loop-index-smaller-then-index-from t c =
+    let setting = c.args.setting.now in
+    let index = c.loop-index.index in
+    let last = mark_at setting index in
+    let there : IsLambdaThere setting c.args.from c.args.stop index last c.loop-index.walk =
+    lambda_there setting c.args.from c.args.stop index c.args.walk.now c.loop-index.walk c.requires.setting c.requires.ready c.requires.run c.loop-index.invariant
+    c.loop-index-test.true c.if-index-from.true c.if-lambda-ne-NO_NODE.true in
+    let order : index < last = there.order in
+    let within : last < c.args.stop = there.within in
+    omega arith
 
-pub lambda::checked_base-returns-in-Err-member_bound-clause-fault : goal.lambda::checked_base-returns-in-Err-member_bound-clause-fault
-lambda::checked_base-returns-in-Err-member_bound-clause-fault t c = λ body.
-    unbound_fault c.laws_below.ensures c.args.setting.now.schema.now c.args.setting.now.filtered_type (scope_of c.args.setting.now) c.args.lambda.now (tree_of c.args.base.now) body c.open_node.new.list c.checked_tree.new.list c.in-Ok-checked_tree.base c.in-Err-member_bound.untyped
-    c.in-Ok-checked_tree.ensures.answer c.in-Err-member_bound.ensures.fault
+pub node::checked_nodes-loop-index-preserved-then-index-from : goal.node::checked_nodes-loop-index-preserved-then-index-from
+node::checked_nodes-loop-index-preserved-then-index-from t c =
+    let setting = c.args.setting.now in
+    let index = c.loop-index.index in
+    let last = mark_at setting index in
+    let there : IsLambdaThere setting c.args.from c.args.stop index last c.loop-index.walk =
+    lambda_there setting c.args.from c.args.stop index c.args.walk.now c.loop-index.walk c.requires.setting c.requires.ready c.requires.run c.loop-index.invariant
+    c.loop-index-test.true c.if-index-from.true c.if-lambda-ne-NO_NODE.true in
+    lambda_goes_on c.laws_below.ensures setting c.args.from c.args.stop index last c.args.walk.now c.loop-index.walk c.checked_lambda.new.walk there.judged there.quantifier
+    c.requires.setting c.requires.run c.loop-index.invariant there.later there.at there.over
+    (c.if-not-checked_lambda.ensures there.judged there.quantifier (last_tree (run_trees setting c.args.from index)) there.ready)
 
-pub lambda::checked_base-returns-in-Err-checked_tree-clause-fault : goal.lambda::checked_base-returns-in-Err-checked_tree-clause-fault
-lambda::checked_base-returns-in-Err-checked_tree-clause-fault t c = λ body.
-    base_fault c.laws_below.ensures c.args.setting.now.schema.now c.args.setting.now.filtered_type (scope_of c.args.setting.now) c.args.lambda.now.span.start c.args.lambda.now.span.stop c.args.lambda.now.quantifier c.args.lambda.now.variable.now (tree_of c.args.base.now) body
-    c.in-Err-checked_tree.untyped c.in-Err-checked_tree.ensures.answer
+-- The loop: any other node.
 
-pub lambda::checked_body-returns-in-Ok-clause-answer : goal.lambda::checked_body-returns-in-Ok-clause-answer
-lambda::checked_body-returns-in-Ok-clause-answer t c = λ old base binding.
-    let schema = c.args.setting.now.schema.now in
-    c.close_lambda.ensures.answer schema c.args.setting.now.filtered_type (scope_of c.args.setting.now) base (tree_of c.args.body.now) old binding.before c.args.list.now binding.opened binding.walked binding.fresh
-    (rw (scope_in-Bound schema c.args.lambda.now.variable (EdmType.Single c.args.binding.member) c.args.setting.now.variables) at c.in-Ok.ensures.answer)
+pub node::checked_nodes-checked_node-requires-clause-ready : goal.node::checked_nodes-checked_node-requires-clause-ready
+node::checked_nodes-checked_node-requires-clause-ready t c =
+    node_ready c.args.setting.now c.loop-index.walk c.loop-index.index c.node_at.result c.requires.setting
+    (ready_still c.args.setting.now c.args.from c.args.stop c.loop-index.index c.args.walk.now c.loop-index.walk c.requires.ready c.loop-index.invariant)
+    c.node_at.ensures
 
-pub lambda::checked_body-returns-in-Ok-clause-there : goal.lambda::checked_body-returns-in-Ok-clause-there
-lambda::checked_body-returns-in-Ok-clause-there t c = c.close_lambda.ensures.there c.args.setting.now.schema.now
+pub node::checked_nodes-checked_node-requires-clause-text : goal.node::checked_nodes-checked_node-requires-clause-text
+node::checked_nodes-checked_node-requires-clause-text t c = λ has.
+    c.requires.setting.ranges c.loop-index.index c.node_at.result.node.now c.node_at.ensures.at has
 
-pub lambda::checked_body-returns-in-Err-clause-answer : goal.lambda::checked_body-returns-in-Err-clause-answer
-lambda::checked_body-returns-in-Err-clause-answer t c = λ old base binding.
-    let schema = c.args.setting.now.schema.now in
-    body_fault c.laws_below.ensures schema c.args.setting.now.filtered_type (scope_of c.args.setting.now) c.args.lambda.now.span.start c.args.lambda.now.span.stop c.args.lambda.now.quantifier c.args.lambda.now.variable.now base (tree_of c.args.body.now) c.args.binding.member binding.before c.args.list.now c.in-Err.untyped
-    binding.walked binding.fresh
-    (rw (scope_in-Bound schema c.args.lambda.now.variable (EdmType.Single c.args.binding.member) c.args.setting.now.variables) at c.in-Err.ensures.answer)
+pub node::checked_nodes-checked_node-requires-clause-kind : goal.node::checked_nodes-checked_node-requires-clause-kind
+node::checked_nodes-checked_node-requires-clause-kind t c = λ quantifier is.
+    node_is_plain c.args.setting.now c.args.from c.args.stop c.loop-index.index c.args.walk.now c.loop-index.walk c.node_at.result.node.now quantifier
+    c.requires.setting c.requires.run c.loop-index.invariant c.loop-index-test.true c.node_at.ensures.at is
 
-pub node::checked_lambda_operator-returns-in-Err-clause-answer : goal.node::checked_lambda_operator-returns-in-Err-clause-answer
-node::checked_lambda_operator-returns-in-Err-clause-answer t c =
-    let seen : tree_of (any_of c.in-Any.span c.in-Any.base (Some (c.in-Some.variable, c.in-Some.body))) ≡ node c.in-Any.span.start c.in-Any.span.stop (lambda Quantifier.Any (tree_of c.in-Any.base.value) (string_bytes c.in-Some.variable) (tree_of c.in-Some.body.value)) = search (rules, the_lemmas) in
-    rw (c.in-Any.is, c.in-Some.is, seen)
-    (rw (c.deref-in-Some.ensures, c.as_str.ensures.value) at c.in-Err.ensures.fault (tree_of c.in-Some.body.value))
+pub node::checked_nodes-checked_node-requires-clause-children : goal.node::checked_nodes-checked_node-requires-clause-children
+node::checked_nodes-checked_node-requires-clause-children t c = (
+  run_trees c.args.setting.now c.args.from c.loop-index.index,
+  node_children c.args.setting.now c.args.from c.args.stop c.loop-index.index c.args.walk.now c.loop-index.walk c.node_at.result
+      c.requires.setting c.requires.run c.loop-index.invariant c.loop-index-test.true c.node_at.ensures,
+)
 
-pub node::checked_lambda_operator-returns-in-Err-checked_base-clause-answer : goal.node::checked_lambda_operator-returns-in-Err-checked_base-clause-answer
-node::checked_lambda_operator-returns-in-Err-checked_base-clause-answer t c =
-    let seen : tree_of (all_of c.in-All.span c.in-All.base c.in-All.variable c.in-All.body) ≡ node c.in-All.span.start c.in-All.span.stop (lambda Quantifier.All (tree_of c.in-All.base.value) (string_bytes c.in-All.variable) (tree_of c.in-All.body.value)) = search (rules, the_lemmas) in
-    rw (c.in-All.is, seen)
-    (rw (c.deref-in-All.ensures, c.as_str-in-All.ensures.value) at c.in-Err-checked_base.ensures.fault (tree_of c.in-All.body.value))
+pub node::checked_nodes-returns-then-not-checked_node : goal.node::checked_nodes-returns-then-not-checked_node
+node::checked_nodes-returns-then-not-checked_node t c =
+    let setting = c.args.setting.now in
+    let index = c.loop-index.index in
+    let before : index < c.args.stop = c.loop-index-test.true in
+    let unmarked : (lambda_at setting.places.now index ≡ 0) ⊎ (index ≡ c.args.from) = elim c.else-lambda-ne-NO_NODE.branch [
+      | node::checked_nodes-else-lambda-ne-NO_NODE-via-then-lambda-ne-NO_NODE+else-index-from w ↦ inr w.if-index-from.false
+      | node::checked_nodes-else-lambda-ne-NO_NODE-via-else-lambda-ne-NO_NODE w ↦ inl (none_read setting c.args.from c.args.stop index c.requires.setting c.requires.run before w.if-lambda-ne-NO_NODE.false)
+    ] in
+    let children = node_children setting c.args.from c.args.stop index c.args.walk.now c.loop-index.walk c.node_at.result c.requires.setting c.requires.run c.loop-index.invariant before c.node_at.ensures in
+    node_refuses c.laws_below.ensures setting c.args.from c.args.stop index c.args.walk.now c.loop-index.walk c.checked_node.new.walk c.node_at.result
+    c.requires.setting c.requires.run c.loop-index.invariant before c.node_at.ensures unmarked
+    (c.if-not-checked_node.ensures (run_trees setting c.args.from index) children)
+
+pub node::checked_nodes-loop-index-preserved : goal.node::checked_nodes-loop-index-preserved
+node::checked_nodes-loop-index-preserved t c =
+    let setting = c.args.setting.now in
+    let index = c.loop-index.index in
+    let before : index < c.args.stop = c.loop-index-test.true in
+    let unmarked : (lambda_at setting.places.now index ≡ 0) ⊎ (index ≡ c.args.from) = elim c.else-lambda-ne-NO_NODE.branch [
+      | node::checked_nodes-else-lambda-ne-NO_NODE-via-then-lambda-ne-NO_NODE+else-index-from w ↦ inr w.if-index-from.false
+      | node::checked_nodes-else-lambda-ne-NO_NODE-via-else-lambda-ne-NO_NODE w ↦ inl (none_read setting c.args.from c.args.stop index c.requires.setting c.requires.run before w.if-lambda-ne-NO_NODE.false)
+    ] in
+    let children = node_children setting c.args.from c.args.stop index c.args.walk.now c.loop-index.walk c.node_at.result c.requires.setting c.requires.run c.loop-index.invariant before c.node_at.ensures in
+    node_goes_on c.laws_below.ensures setting c.args.from c.args.stop index c.args.walk.now c.loop-index.walk c.checked_node.new.walk c.node_at.result
+    c.requires.setting c.requires.run c.loop-index.invariant before c.node_at.ensures unmarked
+    (c.if-not-checked_node.ensures (run_trees setting c.args.from index) children)
+
+-- The end.
+
+pub node::checked_nodes-returns : goal.node::checked_nodes-returns
+node::checked_nodes-returns t c =
+    let past : c.args.stop ≤ c.loop-index.index = c.loop-index-test.false in
+    let within : c.loop-index.index ≤ c.args.stop = c.loop-index.invariant.inside in
+    walk_ends c.args.setting.now c.args.from c.args.stop c.args.walk.now c.loop-index.walk c.requires.run
+    (subst (λ (k : ℕ). IsWalking c.args.setting.now c.args.from c.args.stop k c.args.walk.now c.loop-index.walk) (omega arith) c.loop-index.invariant)

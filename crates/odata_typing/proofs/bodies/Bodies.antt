@@ -1,59 +1,86 @@
--- The node of a lambda operator, from what was answered of its base and its body.
-use Rattle.std.proofs.Common.{◌≡◌, refl, subst, ℕ, List, None, length}
-use Rattle.odata_syntax.specs.Tree.{Tree, lambda, node}
+-- The node of a lambda operator, put over its base and its body.
+use Rattle.std.proofs.Common.{◌≡◌, ◌∙◌, refl, sym, ap, subst, ℕ, ◌+◌, ◌<◌, List, Bool, true, false, None, Some, length, slice_get}
+use Rattle.std.proofs.lemmas.Option.{slice_get_within}
+use Rattle.odata_syntax.specs.Tree.{Tree, lambda}
 use Rattle.odata_syntax.specs.declared.node.Quantifier.{Quantifier}
-use Rattle.odata_text.specs.declared.span.Span.{Span}
-use Rattle.csdl_schema.specs.ExprType.{single}
-use Rattle.csdl_schema.specs.SchemaModel.{SchemaModel, slots_of, type_name_at}
-use Rattle.edm_values.specs.declared.primitive.PrimitiveType.{PrimitiveType}
+use Rattle.csdl_schema.specs.ExprType.{ExprType, collection, single}
 use Rattle.odata_signatures.specs.ExprTypes.{IsBooleanOrNull}
 use Rattle.odata_signatures.specs.TypeView.{expr_type, single_type}
 use Rattle.odata_signatures.specs.declared.edm_type.EdmType.{EdmType}
-use Rattle.odata_signatures.specs.declared.edm_type.ValueType.{ValueType}
-use Rattle.odata_expression_types.specs.Typed.{BindsVariable, Scope, Typed, variable_type, with_variable}
+use Rattle.odata_expression_types.specs.Typed.{BindsVariable, Typed, with_variable}
+use Rattle.odata_expression_types.specs.declared.refusal.TypeFaultCode.{TypeFaultCode}
+use Rattle.odata_checked_filter.specs.declared.checked_node.CheckedNode.{CheckedNode}
 use Rattle.odata_checked_filter.specs.declared.checked_node.NodeKind.{NodeKind}
-use Rattle.odata_checked_filter.specs.FlatTree.{FlatTree}
-use Rattle.odata_checked_filter.specs.ListGrowth.{IsOpened, node_put}
-use Rattle.odata_checked_filter.specs.Stands.{Stands}
-use Rattle.odata_typing.specs.private.Answer.{IsWalked}
+use Rattle.odata_typing.specs.declared.setting.Judged.{Judged}
+use Rattle.odata_typing.specs.declared.setting.Setting.{Setting}
+use Rattle.odata_typing.specs.declared.walk.Walk.{Walk}
+use Rattle.odata_typing.specs.private.Judging.{IsNodeJudged}
+use Rattle.odata_typing.specs.private.Lambda.{IsOverBody}
 use Rattle.odata_typing.specs.private.LawsBelow.{LawsBelow}
-use Rattle.odata_typing.proofs.flat.Closing.{kept_on, opened_length, put_in}
+use Rattle.odata_typing.specs.private.Settings.{IsNodeReady, name_of}
+use Rattle.odata_typing.specs.private.Variables.{scope_of}
+use Rattle.odata_typing.specs.private.Walks.{truth_type, walk_put, walk_refused}
+use Rattle.odata_typing.proofs.bodies.Faults.{refused_body}
+use Rattle.odata_typing.proofs.flat.Closing.{put_tree, refused_tree, root_in, slots_in}
+use Rattle.odata_typing.proofs.flat.Idle.{idle_lambda}
+use Rattle.odata_typing.proofs.flat.Kept.{same_more}
 
--- the scope of the body
-abbrev pub within : SchemaModel → Scope → List ℕ → ValueType → Scope
-within schema scope variable member = with_variable scope variable (single (single_type schema member))
+module _ (laws : LawsBelow) (setting : Setting) (judged : Judged) (old new : Walk) (quantifier : Quantifier) (base body : Tree) (result : Bool)
+    (ready : IsNodeReady setting old judged) (over : IsOverBody setting old judged base body) where
+  -- the base has the type of a collection
+  over_typed : Typed (slots_in setting) (root_in setting) (scope_of setting) base (collection (single_type setting.schema.now over.member))
+  over_typed =
+      subst (λ (t : EdmType). Typed (slots_in setting) (root_in setting) (scope_of setting) base (expr_type setting.schema.now t)) over.base_type over.base_stands.typed
 
--- the type of a truth value
-abbrev pub truth_type : EdmType
-truth_type = EdmType.Single (ValueType.Prim PrimitiveType.Bool)
+  pub lambda_put :
+      (text : List ℕ)
+      → IsBooleanOrNull (expr_type setting.schema.now over.body_stands.found.edm_type)
+      → result ≡ true
+      → text ≡ name_of setting judged
+      → new ≡ walk_put old judged (NodeKind.Lambda quantifier) truth_type text
+      → IsNodeJudged setting judged (lambda quantifier base (name_of setting judged) body) old new result
+  lambda_put text truth goes_on same is =
+      let schema = setting.schema.now in
+      let scope = scope_of setting in
+      let variable = name_of setting judged in
+      let span = judged.node.now.span in
+      let m = single_type schema over.member in
+      let binds : BindsVariable scope variable (Typed (slots_in setting) (root_in setting) scope base) m = record { over = over_typed; fresh = over.fresh } in
+      put_tree setting judged laws old old new (lambda quantifier base variable body) (NodeKind.Lambda quantifier) truth_type result ready (same_more old) ready.ready.fresh goes_on
+      (subst (λ (t : List ℕ). new ≡ walk_put old judged (NodeKind.Lambda quantifier) truth_type t) same is)
+      tt refl
+      (record { member_type = m; body = expr_type schema over.body_stands.found.edm_type; binds = binds; body_typed = over.body_stands.typed; truth = truth; makes = refl })
+      (record {
+        middle = over.middle;
+        left = over.base_stands.stands;
+        right = record {
+          middle = judged.stop;
+          left = record { member_type = m; binds = binds; body = over.body_stands.stands };
+          right = refl;
+        };
+      })
+      (λ idle. idle_lambda laws (slots_in setting) (root_in setting) scope span.start span.stop quantifier base variable body m over_typed (over.base_stands.idle idle) (over.body_stands.idle idle))
 
-module _ (laws : LawsBelow) where
-  -- the operator's node, put before its base and its body
-  pub closed_lambda :
-      (schema : SchemaModel) (n : ℕ) (scope : Scope) (start opened between last : FlatTree) (place : ℕ) (span : Span) (quantifier : Quantifier) (variable : List ℕ) (base body : Tree) (member : ValueType) (type : EdmType)
-      → IsOpened start place variable opened
-      → IsWalked schema n scope opened base between (EdmType.Collection member)
-      → variable_type scope variable ≡ None
-      → IsWalked schema n (within schema scope variable member) between body last type
-      → IsBooleanOrNull (expr_type schema type)
-      → IsWalked schema n scope start (node span.start span.stop (lambda quantifier base variable body)) (node_put last place (put_in last (NodeKind.Lambda quantifier) span truth_type)) truth_type
-  closed_lambda schema n scope start opened between last place span quantifier variable base body member type is walked fresh body_walked truth =
-      let binds : BindsVariable scope variable (Typed (slots_of schema) (type_name_at schema n) scope base) (single_type schema member) = record { over = walked.typed; fresh = fresh } in
-      let typed : Typed (slots_of schema) (type_name_at schema n) scope (node span.start span.stop (lambda quantifier base variable body)) (expr_type schema truth_type) =
-      record { member_type = single_type schema member; body = expr_type schema type; binds = binds; body_typed = body_walked.typed; truth = truth; makes = refl } in
-      let S : ℕ → Type 0 = λ (i : ℕ). Stands schema n scope last i (length between.nodes) base in
-      record {
-        grown = laws.closed schema n scope start opened last place (put_in last (NodeKind.Lambda quantifier) span truth_type) (lambda quantifier base variable body) is
-            (kept_on opened between last walked.grown.kept body_walked.grown.kept) refl refl typed
-            (record {
-              middle = length between.nodes;
-              left = subst S (opened_length start place variable opened is)
-                  (laws.kept schema n scope between last (length opened.nodes) (length between.nodes) base body_walked.grown.kept walked.grown.stands);
-              right = record {
-                middle = length last.nodes;
-                left = record { member_type = single_type schema member; binds = binds; body = body_walked.grown.stands };
-                right = refl;
-              };
-            });
-        typed = typed;
-      }
+  pub lambda_refused :
+      ¬ IsBooleanOrNull (expr_type setting.schema.now over.body_stands.found.edm_type)
+      → result ≡ false
+      → new ≡ walk_refused old judged.node.now.span TypeFaultCode.BodyNotBoolean
+      → IsNodeJudged setting judged (lambda quantifier base (name_of setting judged) body) old new result
+  lambda_refused other stops is =
+      refused_tree setting judged old old new (lambda quantifier base (name_of setting judged) body) TypeFaultCode.BodyNotBoolean result stops is
+      (refused_body laws (slots_in setting) (root_in setting) (scope_of setting) judged.node.now.span quantifier (name_of setting judged) base body (single_type setting.schema.now over.member)
+      (expr_type setting.schema.now over.body_stands.found.edm_type) over_typed over.fresh over.body_stands.typed other)
+
+-- the type that the code finds where the base stops is the body's
+pub body_type :
+    (setting : Setting) (judged : Judged) (walk : Walk) (base body : Tree) (over : IsOverBody setting walk judged base body) (middle : ℕ) (type : EdmType)
+    → middle ≡ over.base_stands.found.stop
+    → ((found : CheckedNode) → slice_get walk.list.nodes middle ≡ Some found → type ≡ found.edm_type)
+    → type ≡ over.body_stands.found.edm_type
+body_type setting judged walk base body over middle type stops at =
+    at over.body_stands.found (ap (slice_get walk.list.nodes) (stops ∙ over.base_stands.last) ∙ over.body_stands.at)
+
+-- and there is one
+pub body_there : (setting : Setting) (judged : Judged) (walk : Walk) (base body : Tree) (over : IsOverBody setting walk judged base body) (middle : ℕ) → middle ≡ over.base_stands.found.stop → middle < length walk.list.nodes
+body_there setting judged walk base body over middle stops =
+    slice_get_within walk.list.nodes middle over.body_stands.found (ap (slice_get walk.list.nodes) (stops ∙ over.base_stands.last) ∙ over.body_stands.at)

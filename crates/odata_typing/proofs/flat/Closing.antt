@@ -1,39 +1,35 @@
--- The walk puts each form of node behind the list, from what it put there for the children.
-use Rattle.std.proofs.Common.{◌≡◌, refl, sym, subst, ℕ, zero, suc, ◌+◌, List, [], ◌∷◌, ◌++◌, Some, Option, IsSomeAnd, slice_get, length, length-append, arith}
-use Rattle.std.proofs.lemmas.Option.{none-some}
+-- A node that is put over its children stands there for its tree; or why it is not put.
+use Rattle.std.proofs.Common.{◌≡◌, ◌∙◌, refl, sym, subst, inl, inr, ℕ, zero, suc, ◌<◌, ◌≤◌, ◌+◌, List, [], ◌∷◌, ◌++◌, Bool, true, false, None, Some, length, slice_get, slice_set, arith}
+use Rattle.std.proofs.lemmas.Option.{none-some, slice_get_within}
 use Rattle.edm_values.specs.declared.value.Value.{Value}
-use Rattle.odata_syntax.specs.Tree.{Tree, node, literal, it, name, member}
-use Rattle.odata_syntax.specs.declared.node.LiteralKind.{LiteralKind}
-use Rattle.odata_text.specs.declared.span.Span.{Span}
-use Rattle.csdl_schema.specs.ExprType.{ExprType, single, structured}
-use Rattle.csdl_schema.specs.SchemaModel.{SchemaModel, Slots, properties_at, slots_of, type_name_at}
-use Rattle.odata_signatures.specs.declared.edm_type.EdmType.{EdmType}
-use Rattle.odata_signatures.specs.declared.edm_type.ValueType.{ValueType}
+use Rattle.odata_syntax.specs.Tree.{Shape, Tree, node}
+use Rattle.csdl_schema.specs.SchemaModel.{Slots, slots_of, type_name_at}
+use Rattle.odata_signatures.specs.TypeThere.{IsTypeThere}
 use Rattle.odata_signatures.specs.TypeView.{expr_type}
-use Rattle.odata_expression_types.specs.Sides.{Between}
-use Rattle.odata_expression_types.specs.Typed.{NameTyped, Scope, StepTyped, Typed}
+use Rattle.odata_signatures.specs.declared.edm_type.EdmType.{EdmType}
+use Rattle.odata_expression_types.specs.FirstUntypable.{IsFirstUntypable}
+use Rattle.odata_expression_types.specs.Typed.{Scope, Typed}
+use Rattle.odata_expression_types.specs.declared.refusal.TypeFaultCode.{TypeFaultCode}
 use Rattle.odata_checked_filter.specs.declared.checked_node.CheckedNode.{CheckedNode}
 use Rattle.odata_checked_filter.specs.declared.checked_node.NodeKind.{NodeKind}
 use Rattle.odata_checked_filter.specs.FlatTree.{FlatTree}
-use Rattle.odata_checked_filter.specs.ListGrowth.{IsGrownBy, IsKept, IsOpened, node_put, with_node, with_value}
-use Rattle.odata_checked_filter.specs.Stands.{IsKindOf, IsMemberNode, IsNameNode, Stands, variable_names}
-use Rattle.odata_typing.specs.declared.binary_node.Infix.{Infix}
-use Rattle.odata_typing.specs.declared.unary_node.Unary.{Unary}
-use Rattle.odata_typing.specs.private.Answer.{IsReading, IsWalked}
-use Rattle.odata_typing.specs.private.Forms.{InfixTyped, UnaryTyped, infix_shape, unary_kind, unary_shape}
+use Rattle.odata_checked_filter.specs.ListChanges.{IsKeptOutside, node_put, with_value}
+use Rattle.odata_checked_filter.specs.Stands.{ChildrenStand, IsKindOf, text_of_shape}
+use Rattle.odata_typing.specs.declared.setting.Judged.{Judged}
+use Rattle.odata_typing.specs.declared.setting.Setting.{Setting}
+use Rattle.odata_typing.specs.declared.walk.Walk.{Walk}
 use Rattle.odata_typing.specs.private.Items.{with_values}
+use Rattle.odata_typing.specs.private.Judging.{IsIdle, IsNodeJudged}
 use Rattle.odata_typing.specs.private.LawsBelow.{LawsBelow}
-use Rattle.odata_typing.specs.private.StepFound.{IsStepSlot}
-use Rattle.odata_typing.proofs.forms.Infix.{infix_stands, infix_text, infix_typed}
-use Rattle.odata_typing.proofs.forms.Unary.{unary_of_kind, unary_stands, unary_text, unary_typed}
+use Rattle.odata_typing.specs.private.Settings.{IsNodeReady}
+use Rattle.odata_typing.specs.private.Variables.{scope_of}
+use Rattle.odata_typing.specs.private.Walks.{checked, walk_put, walk_refused}
+use Rattle.odata_typing.proofs.flat.Kept.{IsMore, kept_on, kept_wider}
 
--- a node without children
-abbrev leaf : FlatTree → NodeKind → Span → EdmType → CheckedNode
-leaf list kind span edm_type = record { kind = kind; span = span; edm_type = edm_type; stop = length list.nodes + 1 }
-
--- a node, closed before what stands behind it
-abbrev pub put_in : FlatTree → NodeKind → Span → EdmType → CheckedNode
-put_in last kind span type = record { kind = kind; span = span; edm_type = type; stop = length last.nodes }
+get_put : (xs : List CheckedNode) (k : ℕ) (x : CheckedNode) → k < length xs → slice_get (slice_set xs k x) k ≡ Some x
+get_put [] k x within = let h : k < 0 = within in absurd (omega arith)
+get_put (y ∷ xs) zero x within = refl
+get_put (y ∷ xs) (suc k) x within = get_put xs k x (let h : suc k < suc (length xs) = within in omega arith)
 
 get_front : (xs ys : List Value) (k : ℕ) (x : Value) → slice_get xs k ≡ Some x → slice_get (xs ++ ys) k ≡ Some x
 get_front [] ys k x found = absurd (none-some x found)
@@ -44,197 +40,93 @@ get_last : (xs : List Value) (x : Value) → slice_get (xs ++ x ∷ []) (length 
 get_last [] x = refl
 get_last (y ∷ xs) x = get_last xs x
 
--- with a value behind the others all that stood there stands there still
-valued_grown :
-    (schema : SchemaModel) (n : ℕ) (scope : Scope) (list : FlatTree) (value : Value) (tree : Tree) (new : FlatTree)
-    → IsGrownBy schema n scope (with_value list value) tree new
-    → IsGrownBy schema n scope list tree new
-valued_grown schema n scope list value tree new grown = record {
-  kept = record {
-    nodes = grown.kept.nodes;
-    values = λ k v at. grown.kept.values k v (get_front list.values (value ∷ []) k v at);
-    texts = grown.kept.texts;
-  };
-  stands = grown.stands;
-}
-
-some_at : (P : Value → Type 0) (o : Option Value) (value : Value) → o ≡ Some value → P value → IsSomeAnd o P
-some_at P o value same holds = rw same holds
-
-pub kept_on : (a b c : FlatTree) → IsKept a b → IsKept b c → IsKept a c
-kept_on a b c x y = record {
-  nodes = λ k found at. y.nodes k found (x.nodes k found at);
-  values = λ k value at. y.values k value (x.values k value at);
-  texts = λ k text at. y.texts k text (x.texts k text at);
-}
-
-pub opened_length : (old : FlatTree) (place : ℕ) (text : List ℕ) (new : FlatTree) → IsOpened old place text new → length new.nodes ≡ place + 1
-opened_length old place text new opened =
-    let e : place ≡ length old.nodes = opened.last in
-    rw opened.grown (omega (arith, length-append old.nodes (opened.added ∷ [])))
-
--- what stands behind an opened node begins at the next place
-behind_opened :
-    (schema : SchemaModel) (n : ℕ) (scope : Scope) (start opened last : FlatTree) (place stop : ℕ) (text : List ℕ) (child : Tree)
-    → IsOpened start place text opened
-    → Stands schema n scope last (length opened.nodes) stop child
-    → Stands schema n scope last (place + 1) stop child
-behind_opened schema n scope start opened last place stop text child is stands =
-    let S : ℕ → Type 0 = λ (i : ℕ). Stands schema n scope last i stop child in
-    subst S (opened_length start place text opened is) stands
-
--- the slot of a step, in the type from which it goes
-member_kind :
-    (slots : Slots) (Base : ExprType → Type 0) (base : ExprType) (asked : List ℕ) (slot : ℕ)
-    → Base base
-    → IsStepSlot slots base asked slot
-    → IsMemberNode slots Base asked (NodeKind.Member slot)
-member_kind slots Base (single (structured owner)) asked slot typed is = (owner, typed, is)
-member_kind slots Base _ asked slot typed is = absurd is
-
--- behind values that are put all that stood in the list stands there still
-pub values_kept : (list : FlatTree) (values : List Value) → IsKept list (with_values list values)
-values_kept list values = record {
-  nodes = λ k found at. at;
+-- after values that are put all that stood in the list stands there still
+pub values_kept : (i j : ℕ) (list : FlatTree) (values : List Value) → IsKeptOutside i j list (with_values list values)
+values_kept i j list values = record {
+  nodes = λ k outside. refl;
+  texts = λ k outside. refl;
   values = λ k value at. get_front list.values values k value at;
-  texts = λ k text at. at;
+  count = refl;
+  beside = refl;
+  source = refl;
 }
 
 -- the value that was put
-pub value_put : (list : FlatTree) (value : Value) → slice_get (with_values list (value ∷ [])).values (length list.values) ≡ Some value
+pub value_put : (list : FlatTree) (value : Value) → slice_get (with_value list value).values (length list.values) ≡ Some value
 value_put list value = get_last list.values value
 
-module _ (laws : LawsBelow) where
-  -- a literal's node, behind its value
-  pub literal_pushed :
-      (schema : SchemaModel) (n : ℕ) (scope : Scope) (list valued new : FlatTree) (span : Span) (kind : LiteralKind) (spelling bytes : List ℕ) (value : Value) (type : EdmType) (place : ℕ)
-      → length valued.texts ≡ length valued.nodes
-      → IsReading schema kind spelling value type
-      → place ≡ length list.values
-      → bytes ≡ spelling
-      → valued ≡ with_value list value
-      → new ≡ with_node valued (leaf valued (NodeKind.Literal kind place) span type) bytes
-      → IsWalked schema n scope list (node span.start span.stop (literal kind spelling)) new type
-  literal_pushed schema n scope list valued new span kind spelling bytes value type place beside reading at same is_valued is_new =
-      let aligned : length list.texts ≡ length list.nodes = rw is_valued at beside in
-      let added : CheckedNode = leaf list (NodeKind.Literal kind (length list.values)) span type in
-      rw (is_new, is_valued, same, at) (record {
-        grown = valued_grown schema n scope list value (node span.start span.stop (literal kind spelling)) (with_node (with_value list value) added spelling)
-            (laws.pushed schema n scope (with_value list value) added (literal kind spelling) aligned refl
-            (refl, some_at _ _ value (get_last list.values value) reading.value_of) reading.typed (λ grown i. refl));
-        typed = reading.typed;
+-- the walk with a value more
+pub valued_more : (old new : Walk) (value : Value) → new ≡ record old { list = with_value old.list value } → IsMore old new
+valued_more old new value is = rw is (record { kept = values_kept 0 0 old.list (value ∷ []); navigates = λ idle. idle })
+
+kept_anywhere : (i j : ℕ) (a b : FlatTree) → IsKeptOutside 0 0 a b → IsKeptOutside i j a b
+kept_anywhere i j a b kept = record {
+  nodes = λ k outside. kept.nodes k (inr (omega arith));
+  texts = λ k outside. kept.texts k (inr (omega arith));
+  values = kept.values;
+  count = kept.count;
+  beside = kept.beside;
+  source = kept.source;
+}
+
+-- the tree of a node of that shape
+abbrev pub tree_over : Judged → Shape → Tree
+tree_over judged shape = node judged.node.now.span.start judged.node.now.span.stop shape
+
+-- the types and the filtered type of a setting
+abbrev pub slots_in : Setting → Slots
+slots_in setting = slots_of setting.schema.now
+
+abbrev pub root_in : Setting → List ℕ
+root_in setting = type_name_at setting.schema.now setting.filtered_type
+
+module _ (setting : Setting) (judged : Judged) where
+  pub put_tree :
+      LawsBelow → (old mid new : Walk) (shape : Shape) (kind : NodeKind) (type : EdmType) (result : Bool)
+      → IsNodeReady setting old judged
+      → IsMore old mid
+      → mid.fault ≡ None
+      → result ≡ true
+      → new ≡ walk_put mid judged kind type (text_of_shape shape)
+      → IsTypeThere setting.schema.now type
+      → IsKindOf mid.list.values (slots_in setting) (root_in setting) (scope_of setting) shape kind
+      → Typed (slots_in setting) (root_in setting) (scope_of setting) (tree_over judged shape) (expr_type setting.schema.now type)
+      → ChildrenStand setting.schema.now setting.filtered_type (scope_of setting) mid.list (judged.number + 1) judged.stop shape
+      → (mid.navigates ≡ false → IsIdle (slots_in setting) (root_in setting) (scope_of setting) (tree_over judged shape))
+      → IsNodeJudged setting judged shape old new result
+  put_tree laws old mid new shape kind type result ready more fresh goes_on is there of_kind typed children idle =
+      let put : CheckedNode = checked judged kind type in
+      let count : length mid.list.nodes ≡ length old.list.nodes = more.kept.count in
+      let inside : judged.number < length mid.list.nodes = let a = ready.order in let b = ready.inside in omega arith in
+      let beside : length mid.list.texts ≡ length mid.list.nodes = more.kept.beside ∙ ready.ready.beside ∙ sym count in
+      rw (goes_on, is) (record {
+        kept = kept_on judged.number judged.stop old.list mid.list (node_put mid.list judged.number put (text_of_shape shape))
+            (kept_anywhere judged.number judged.stop old.list mid.list more.kept)
+            (kept_wider judged.number (judged.number + 1) judged.number judged.stop mid.list (node_put mid.list judged.number put (text_of_shape shape)) (omega arith) (let a = ready.order in omega arith)
+            (laws.changes mid.list judged.number put (text_of_shape shape)));
+        stands = record {
+          found = put;
+          at = get_put mid.list.nodes judged.number put inside;
+          order = ready.order;
+          last = refl;
+          there = there;
+          typed = typed;
+          stands = laws.put setting.schema.now setting.filtered_type (scope_of setting) mid.list judged.number put shape inside beside of_kind typed children;
+          idle = idle;
+        };
+        navigates = more.navigates;
+        fault = fresh;
       })
 
-  -- a node of `$it`
-  pub it_pushed :
-      (schema : SchemaModel) (n : ℕ) (scope : Scope) (list new : FlatTree) (span : Span) (bytes : List ℕ)
-      → length list.texts ≡ length list.nodes
-      → bytes ≡ []
-      → new ≡ with_node list (leaf list NodeKind.It span (EdmType.Single (ValueType.Structured n))) bytes
-      → IsWalked schema n scope list (node span.start span.stop it) new (EdmType.Single (ValueType.Structured n))
-  it_pushed schema n scope list new span bytes beside same is_new =
-      rw (is_new, same) (record {
-        grown = laws.pushed schema n scope list (leaf list NodeKind.It span (EdmType.Single (ValueType.Structured n))) it beside refl refl refl (λ grown i. refl);
-        typed = refl;
-      })
+  -- the node has no type itself
+  pub refused_tree :
+      (old mid new : Walk) (shape : Shape) (code : TypeFaultCode) (result : Bool)
+      → result ≡ false
+      → new ≡ walk_refused mid judged.node.now.span code
+      → IsFirstUntypable (slots_in setting) (root_in setting) (scope_of setting) (tree_over judged shape) (record { code = code; span = judged.node.now.span })
+      → IsNodeJudged setting judged shape old new result
+  refused_tree old mid new shape code result stops is found = rw (stops, is) found
 
-  -- the node of a name
-  pub name_pushed :
-      (schema : SchemaModel) (n : ℕ) (scope : Scope) (list new : FlatTree) (span : Span) (asked bytes : List ℕ) (kind : NodeKind) (edm_type : EdmType)
-      → length list.texts ≡ length list.nodes
-      → IsNameNode (properties_at schema n) (variable_names scope) asked kind
-      → NameTyped (slots_of schema) (type_name_at schema n) scope asked (expr_type schema edm_type)
-      → bytes ≡ asked
-      → new ≡ with_node list (leaf list kind span edm_type) bytes
-      → IsWalked schema n scope list (node span.start span.stop (name asked)) new edm_type
-  name_pushed schema n scope list new span asked bytes kind edm_type beside named typed same is_new =
-      rw (is_new, same) (record {
-        grown = laws.pushed schema n scope list (leaf list kind span edm_type) (name asked) beside refl named typed (λ grown i. refl);
-        typed = typed;
-      })
-
-  -- a node over one operand
-  pub closed_over :
-      (schema : SchemaModel) (n : ℕ) (scope : Scope) (start opened last : FlatTree) (place : ℕ) (span : Span) (unary : Unary) (operand : Tree) (below type : EdmType)
-      → IsOpened start place [] opened
-      → IsWalked schema n scope opened operand last below
-      → UnaryTyped unary (expr_type schema below) (expr_type schema type)
-      → IsWalked schema n scope start (node span.start span.stop (unary_shape unary operand)) (node_put last place (put_in last (unary_kind unary) span type)) type
-  closed_over schema n scope start opened last place span unary operand below type is walked makes =
-      let slots = slots_of schema in
-      let root = type_name_at schema n in
-      let typed : Typed slots root scope (node span.start span.stop (unary_shape unary operand)) (expr_type schema type) =
-      unary_typed slots root scope span.start span.stop unary operand (expr_type schema type)
-      (record { operand = expr_type schema below; operand_typed = walked.typed; makes = makes }) in
-      record {
-        grown = laws.closed schema n scope start opened last place (put_in last (unary_kind unary) span type) (unary_shape unary operand)
-            (subst (λ (text : List ℕ). IsOpened start place text opened) (sym (unary_text unary operand)) is)
-            walked.grown.kept refl
-            (unary_of_kind last.values slots root scope unary operand) typed
-            (unary_stands schema n scope last (place + 1) (length last.nodes) unary operand
-            (behind_opened schema n scope start opened last place (length last.nodes) [] operand is walked.grown.stands));
-        typed = typed;
-      }
-
-  pub closed_member :
-      (schema : SchemaModel) (n : ℕ) (scope : Scope) (start opened last : FlatTree) (place slot : ℕ) (span : Span) (base : Tree) (asked : List ℕ) (below type : EdmType)
-      → IsOpened start place asked opened
-      → IsWalked schema n scope opened base last below
-      → IsStepSlot (slots_of schema) (expr_type schema below) asked slot
-      → StepTyped (slots_of schema) asked (expr_type schema below) (expr_type schema type)
-      → IsWalked schema n scope start (node span.start span.stop (member base asked)) (node_put last place (put_in last (NodeKind.Member slot) span type)) type
-  closed_member schema n scope start opened last place slot span base asked below type is walked at makes =
-      let typed : Typed (slots_of schema) (type_name_at schema n) scope (node span.start span.stop (member base asked)) (expr_type schema type) =
-      record { operand = expr_type schema below; operand_typed = walked.typed; makes = makes } in
-      record {
-        grown = laws.closed schema n scope start opened last place (put_in last (NodeKind.Member slot) span type) (member base asked) is walked.grown.kept refl
-            (member_kind (slots_of schema) (Typed (slots_of schema) (type_name_at schema n) scope base) (expr_type schema below) asked slot walked.typed at) typed
-            (record {
-              middle = length last.nodes;
-              left = behind_opened schema n scope start opened last place (length last.nodes) asked base is walked.grown.stands;
-              right = refl;
-            });
-        typed = typed;
-      }
-
-  -- a node between two operands, put before them
-  pub closed_between :
-      (schema : SchemaModel) (n : ℕ) (scope : Scope) (start opened between last : FlatTree) (place : ℕ) (span : Span) (form : Infix) (kind : NodeKind) (l r : Tree) (left right type : EdmType)
-      → IsOpened start place [] opened
-      → IsWalked schema n scope opened l between left
-      → IsWalked schema n scope between r last right
-      → IsKindOf last.values (slots_of schema) (type_name_at schema n) scope (infix_shape form l r) kind
-      → Between (InfixTyped (slots_of schema) form) l r (expr_type schema left) (expr_type schema right) (expr_type schema type)
-      → IsWalked schema n scope start (node span.start span.stop (infix_shape form l r)) (node_put last place (put_in last kind span type)) type
-  closed_between schema n scope start opened between last place span form kind l r left right type is a b of_kind makes =
-      let slots = slots_of schema in
-      let root = type_name_at schema n in
-      let typed : Typed slots root scope (node span.start span.stop (infix_shape form l r)) (expr_type schema type) =
-      infix_typed slots root scope span.start span.stop form l r (expr_type schema type)
-      (record { left = expr_type schema left; right = expr_type schema right; left_typed = a.typed; right_typed = b.typed; makes = makes }) in
-      record {
-        grown = laws.closed schema n scope start opened last place (put_in last kind span type) (infix_shape form l r)
-            (subst (λ (text : List ℕ). IsOpened start place text opened) (sym (infix_text form l r)) is)
-            (kept_on opened between last a.grown.kept b.grown.kept) refl
-            of_kind typed
-            (infix_stands schema n scope last (place + 1) (length last.nodes) form l r (record {
-              middle = length between.nodes;
-              left = behind_opened schema n scope start opened last place (length between.nodes) [] l is
-                  (laws.kept schema n scope between last (length opened.nodes) (length between.nodes) l b.grown.kept a.grown.stands);
-              right = b.grown.stands;
-            }));
-        typed = typed;
-      }
-
-  -- what has been walked stands there still behind further values
-  pub walked_valued :
-      (schema : SchemaModel) (n : ℕ) (scope : Scope) (old list : FlatTree) (values : List Value) (tree : Tree) (type : EdmType)
-      → IsWalked schema n scope old tree list type
-      → IsWalked schema n scope old tree (with_values list values) type
-  walked_valued schema n scope old list values tree type walked = record {
-    grown = record {
-      kept = kept_on old list (with_values list values) walked.grown.kept (values_kept list values);
-      stands = laws.kept schema n scope list (with_values list values) (length old.nodes) (length list.nodes) tree (values_kept list values) walked.grown.stands;
-    };
-    typed = walked.typed;
-  }
+  -- an allocation failed
+  pub unjudged : (old new : Walk) (shape : Shape) (result : Bool) → result ≡ false → new.fault ≡ None → IsNodeJudged setting judged shape old new result
+  unjudged old new shape result stops none = rw (stops, none) tt

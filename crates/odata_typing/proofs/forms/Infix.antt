@@ -63,3 +63,7 @@ both_some None P Q first second = tt
 pub none_both : {X : Type 0} (o : Option X) (P : Type 0) (Q : ExprType → Type 0) → IfNone o (¬ P) → IfNone o ((type : ExprType) → ¬ (P × Q type))
 none_both (Some x) P Q none = tt
 none_both None P Q none = λ type both. none both.0
+
+pub none_three : {X : Type 0} (o : Option X) (P Q : Type 0) (R : ExprType → Type 0) → IfNone o (¬ (P × Q)) → IfNone o ((type : ExprType) → ¬ (P × Q × R type))
+none_three (Some x) P Q R none = tt
+none_three None P Q R none = λ type all. none (all.0, all.1)

@@ -1,5 +1,5 @@
--- The items of a list behind an operand of an enumeration.
-use Rattle.std.proofs.Common.{◌≡◌, ◌∙◌, refl, sym, ap, subst, inl, inr, ℕ, ℤ, ◌+◌, List, [], ◌∷◌, ◌++◌, Some, slice_get, length, length-append, map, append-nil, append_assoc}
+-- The items of a list after an operand of an enumeration.
+use Rattle.std.proofs.Common.{◌≡◌, ◌∙◌, refl, sym, ap, subst, inl, inr, ◌⊎◌, ℕ, ℤ, ◌+◌, List, [], ◌∷◌, ◌++◌, Some, slice_get, length, length-append, map, append-nil, append_assoc}
 use Rattle.std.specs.List.{AllByRecursion}
 use Rattle.edm_values.specs.declared.value.Value.{Value}
 use Rattle.odata_syntax.specs.Tree.{Tree, trees_of_list}
@@ -15,91 +15,103 @@ use Rattle.odata_expression_types.specs.Reads.{OneLacksNumber, ReadNone}
 use Rattle.odata_expression_types.specs.Sides.{BeforeList, quoted_text, sides_of}
 use Rattle.odata_expression_types.specs.Typed.{AreTyped, Scope, Typed}
 use Rattle.odata_checked_filter.specs.FlatTree.{FlatTree}
-use Rattle.odata_checked_filter.specs.ListGrowth.{with_value}
 use Rattle.odata_checked_filter.specs.Stands.{AreItemNumbers, IsItemNumber}
-use Rattle.odata_typing.specs.declared.item_numbers.ItemsFit.{ItemsFit}
-use Rattle.odata_typing.specs.private.Items.{AllBeside, AreItemValues, AreItemsPut, IsItemValue, IsUnreadLeft, IsWorse, OneLacks, item_sides, with_values}
+use Rattle.odata_typing.specs.declared.in_list.ItemsFit.{ItemsFit}
+use Rattle.odata_typing.specs.private.Items.{AllBeside, AreItemValues, AreItemsFit, AreItemsPut, IsItemValue, IsUnreadLeft, IsValueIfFit, OneLacks, with_values, worse_fit}
 use Rattle.odata_typing.specs.private.LawsBelow.{LawsBelow}
 use Rattle.odata_typing.proofs.pairs.Numbers.{is_read, reading, reads_none}
 
--- ---- one item, and the items behind it
+-- ---- one item
 
-behind_values : (old : FlatTree) (v : Value) (values : List Value) → with_values (with_values old (v ∷ [])) values ≡ with_values old (v ∷ values)
-behind_values old v values = ap (λ (all : List Value). record { nodes = old.nodes; values = all; texts = old.texts }) (append_assoc old.values (v ∷ []) values)
+-- a number stands for the item
+pub number_fit : (slots : Slots) (left : ExprType) (item : Side) (n : ℤ) → NumberBeside slots left item.quoted n → AreItemsFit slots left (item ∷ []) ItemsFit.All
+number_fit slots left item n number =
+    ((inr (n, number), tt), (λ lacks. elim lacks [ inl one ↦ one.none (n, number) | inr none ↦ none ]))
 
--- an item for which a value is put lacks none
-value_no_lack : (slots : Slots) (left : ExprType) (item : Side) (value : Value) → IsItemValue slots left item value → ¬ LacksNumber slots left item.quoted
-value_no_lack slots left item value (inl is) lacks = lacks.none (is.0, is.1)
-value_no_lack slots left item value (inr is) lacks = is.0 lacks.read
+pub unread_fit : (slots : Slots) (left : ExprType) (item : Side) → ¬ IsReadBeside left item.quoted → AreComparable left item.type_of → AreItemsFit slots left (item ∷ []) ItemsFit.All
+unread_fit slots left item unread comparable =
+    ((inl comparable, tt), (λ lacks. elim lacks [ inl one ↦ unread one.read | inr none ↦ none ]))
 
-values_no_lack : (slots : Slots) (left : ExprType) (items : List Side) (values : List Value) → AreItemValues slots left items values → ¬ OneLacks slots left items
-values_no_lack slots left [] values are lacks = lacks
-values_no_lack slots left (item ∷ items) [] are lacks = are
-values_no_lack slots left (item ∷ items) (value ∷ values) are lacks = elim lacks [
-  | inl one ↦ value_no_lack slots left item value are.0 one
-  | inr more ↦ values_no_lack slots left items values are.1 more
-]
-
-module _ (slots : Slots) (left : ExprType) (item : Side) (items : List Side) where
-  put_both : (old between new : FlatTree) (values more : List Value) → IsItemBeside slots left item → AreItemValues slots left (item ∷ []) values → between ≡ with_values old values
-      → AllBeside slots left items → AreItemValues slots left items more → new ≡ with_values between more
-      → AreItemsPut slots left (item ∷ items) old new ItemsFit.All
-  put_both old between new [] more beside are is others puts whole = absurd are
-  put_both old between new (v ∷ (w ∷ vs)) more beside are is others puts whole = absurd are.1
-  put_both old between new (v ∷ []) more beside are is others puts whole = (
-    (beside, others),
-    (v ∷ more, (are.0, puts), whole ∙ ap (λ (list : FlatTree). with_values list more) is ∙ behind_values old v more),
-  )
-
-  pub put_more : (old between new : FlatTree) (first rest told : ItemsFit) → AreItemsPut slots left (item ∷ []) old between first → AreItemsPut slots left items between new rest
-      → IsWorse first rest told → AreItemsPut slots left (item ∷ items) old new told
-  put_more old between new ItemsFit.All ItemsFit.All told a b worse =
-      subst (λ (fit : ItemsFit). AreItemsPut slots left (item ∷ items) old new fit) (sym worse)
-      (put_both old between new a.1.0 b.1.0 a.0.0 a.1.1 a.1.2 b.0 b.1.1 b.1.2)
-  put_more old between new ItemsFit.All ItemsFit.Refused told a b worse =
-      subst (λ (fit : ItemsFit). AreItemsPut slots left (item ∷ items) old new fit) (sym worse)
-      ((λ all. b.0 all.1), (λ lacks. elim lacks [ inl one ↦ values_no_lack slots left (item ∷ []) a.1.0 a.1.1 (inl one) | inr more ↦ b.1 more ]))
-  put_more old between new ItemsFit.All ItemsFit.Unknown told a b worse =
-      subst (λ (fit : ItemsFit). AreItemsPut slots left (item ∷ items) old new fit) (sym worse) (inr b)
-  put_more old between new ItemsFit.Refused ItemsFit.All told a b worse =
-      subst (λ (fit : ItemsFit). AreItemsPut slots left (item ∷ items) old new fit) (sym worse)
-      ((λ all. a.0 (all.0, tt)), (λ lacks. elim lacks [ inl one ↦ a.1 (inl one) | inr more ↦ values_no_lack slots left items b.1.0 b.1.1 more ]))
-  put_more old between new ItemsFit.Refused ItemsFit.Refused told a b worse =
-      subst (λ (fit : ItemsFit). AreItemsPut slots left (item ∷ items) old new fit) (sym worse)
-      ((λ all. a.0 (all.0, tt)), (λ lacks. elim lacks [ inl one ↦ a.1 (inl one) | inr more ↦ b.1 more ]))
-  put_more old between new ItemsFit.Refused ItemsFit.Unknown told a b worse =
-      subst (λ (fit : ItemsFit). AreItemsPut slots left (item ∷ items) old new fit) (sym worse) (inr b)
-  put_more old between new ItemsFit.Unknown rest told a b worse =
-      subst (λ (fit : ItemsFit). AreItemsPut slots left (item ∷ items) old new fit) (sym worse) (inl (elim a [ inl one ↦ one | inr none ↦ absurd none ]))
-
--- no item
-pub none_put : (slots : Slots) (left : ExprType) (list : FlatTree) → AreItemsPut slots left [] list list ItemsFit.All
-none_put slots left list = (tt, ([], tt, ap (λ (all : List Value). record { nodes = list.nodes; values = all; texts = list.texts }) (sym (append-nil list.values))))
-
--- one item
-pub number_put : (slots : Slots) (left : ExprType) (item : Side) (n : ℤ) (old new : FlatTree) → NumberBeside slots left item.quoted n → new ≡ with_value old (Value.Enum n)
-    → AreItemsPut slots left (item ∷ []) old new ItemsFit.All
-number_put slots left item n old new number is = ((inr (n, number), tt), (Value.Enum n ∷ [], (inl (n, number, refl), tt), is))
-
-pub unread_put : (slots : Slots) (left : ExprType) (item : Side) (old new : FlatTree) → ¬ IsReadBeside left item.quoted → AreComparable left item.type_of → new ≡ with_value old Value.Null
-    → AreItemsPut slots left (item ∷ []) old new ItemsFit.All
-unread_put slots left item old new unread comparable is = ((inl comparable, tt), (Value.Null ∷ [], (inr (unread, refl), tt), is))
-
-pub unread_refused : (slots : Slots) (left : ExprType) (item : Side) (old new : FlatTree) → ¬ IsReadBeside left item.quoted → ¬ AreComparable left item.type_of
-    → AreItemsPut slots left (item ∷ []) old new ItemsFit.Refused
-unread_refused slots left item old new unread differ = (
+pub unread_refused : (slots : Slots) (left : ExprType) (item : Side) → ¬ IsReadBeside left item.quoted → ¬ AreComparable left item.type_of → AreItemsFit slots left (item ∷ []) ItemsFit.Refused
+unread_refused slots left item unread differ = (
   (λ all. elim all.0 [ inl comparable ↦ differ comparable | inr number ↦ unread (is_read slots left item.quoted number.0 number.1) ]),
   (λ lacks. elim lacks [ inl one ↦ unread one.read | inr none ↦ none ]),
 )
 
--- ---- of trees
+-- ---- items, and one more
 
--- the sides of trees by lists of types and of what they quote
-pub sides_again : (trees : List Tree) (types : List ExprType) → item_sides types (map quoted_text trees) ≡ sides_of (trees_of_list trees) types
-sides_again [] [] = refl
-sides_again [] (type ∷ types) = refl
-sides_again (tree ∷ trees) [] = refl
-sides_again (tree ∷ trees) (type ∷ types) = ap (λ (sides : List Side). quoting (quoted_text tree) type ∷ sides) (sides_again trees types)
+beside_more : (slots : Slots) (left : ExprType) (items : List Side) (item : Side) → AllBeside slots left items → AllBeside slots left (item ∷ []) → AllBeside slots left (items ++ item ∷ [])
+beside_more slots left [] item all one = one
+beside_more slots left (x ∷ items) item all one = (all.0, beside_more slots left items item all.1 one)
+
+beside_front : (slots : Slots) (left : ExprType) (items : List Side) (item : Side) → AllBeside slots left (items ++ item ∷ []) → AllBeside slots left items × AllBeside slots left (item ∷ [])
+beside_front slots left [] item all = (tt, all)
+beside_front slots left (x ∷ items) item all =
+    let more = beside_front slots left items item all.1 in ((all.0, more.0), more.1)
+
+lacks_front : (slots : Slots) (left : ExprType) (items : List Side) (item : Side) → OneLacks slots left (items ++ item ∷ []) → OneLacks slots left items ⊎ OneLacks slots left (item ∷ [])
+lacks_front slots left [] item lacks = inr lacks
+lacks_front slots left (x ∷ items) item (inl one) = inl (inl one)
+lacks_front slots left (x ∷ items) item (inr more) = elim (lacks_front slots left items item more) [ inl front ↦ inl (inr front) | inr last ↦ inr last ]
+
+front_lacks : (slots : Slots) (left : ExprType) (items : List Side) (item : Side) → OneLacks slots left items → OneLacks slots left (items ++ item ∷ [])
+front_lacks slots left [] item lacks = absurd lacks
+front_lacks slots left (x ∷ items) item (inl one) = inl one
+front_lacks slots left (x ∷ items) item (inr more) = inr (front_lacks slots left items item more)
+
+last_lacks : (slots : Slots) (left : ExprType) (items : List Side) (item : Side) → OneLacks slots left (item ∷ []) → OneLacks slots left (items ++ item ∷ [])
+last_lacks slots left [] item lacks = lacks
+last_lacks slots left (x ∷ items) item lacks = inr (last_lacks slots left items item lacks)
+
+neither_lacks : (slots : Slots) (left : ExprType) (items : List Side) (item : Side) → ¬ OneLacks slots left items → ¬ OneLacks slots left (item ∷ []) → ¬ OneLacks slots left (items ++ item ∷ [])
+neither_lacks slots left items item front last lacks = elim (lacks_front slots left items item lacks) [ inl one ↦ front one | inr one ↦ last one ]
+
+pub fit_more : (slots : Slots) (left : ExprType) (items : List Side) (item : Side) (fit own : ItemsFit) → AreItemsFit slots left items fit → AreItemsFit slots left (item ∷ []) own
+    → AreItemsFit slots left (items ++ item ∷ []) (worse_fit fit own)
+fit_more slots left items item ItemsFit.All ItemsFit.All a b = (beside_more slots left items item a.0 b.0, neither_lacks slots left items item a.1 b.1)
+fit_more slots left items item ItemsFit.All ItemsFit.Refused a b = ((λ all. b.0 (beside_front slots left items item all).1), neither_lacks slots left items item a.1 b.1)
+fit_more slots left items item ItemsFit.All ItemsFit.Unknown a b = last_lacks slots left items item b
+fit_more slots left items item ItemsFit.All ItemsFit.OutOfMemory a b = tt
+fit_more slots left items item ItemsFit.Refused ItemsFit.All a b = ((λ all. a.0 (beside_front slots left items item all).0), neither_lacks slots left items item a.1 b.1)
+fit_more slots left items item ItemsFit.Refused ItemsFit.Refused a b = ((λ all. a.0 (beside_front slots left items item all).0), neither_lacks slots left items item a.1 b.1)
+fit_more slots left items item ItemsFit.Refused ItemsFit.Unknown a b = last_lacks slots left items item b
+fit_more slots left items item ItemsFit.Refused ItemsFit.OutOfMemory a b = tt
+fit_more slots left items item ItemsFit.Unknown own a b = front_lacks slots left items item a
+fit_more slots left items item ItemsFit.OutOfMemory own a b = tt
+
+-- where each may stand there, these are their values
+abbrev pub AreValuesIfFit : Slots → ExprType → List Side → List Value → ItemsFit → Type 0
+AreValuesIfFit slots left items values ItemsFit.All = AreItemValues slots left items values
+AreValuesIfFit slots left items values fit = Unit {0}
+
+values_front : (slots : Slots) (left : ExprType) (items : List Side) (values : List Value) (item : Side) (value : Value) → AreItemValues slots left items values → IsItemValue slots left item value
+    → AreItemValues slots left (items ++ item ∷ []) (values ++ value ∷ [])
+values_front slots left [] [] item value are is = (is, tt)
+values_front slots left [] (v ∷ values) item value are is = absurd are
+values_front slots left (x ∷ items) [] item value are is = absurd are
+values_front slots left (x ∷ items) (v ∷ values) item value are is = (are.0, values_front slots left items values item value are.1 is)
+
+pub values_more : (slots : Slots) (left : ExprType) (items : List Side) (values : List Value) (item : Side) (value : Value) (fit own : ItemsFit) → AreValuesIfFit slots left items values fit → IsValueIfFit slots left item value own
+    → AreValuesIfFit slots left (items ++ item ∷ []) (values ++ value ∷ []) (worse_fit fit own)
+values_more slots left items values item value ItemsFit.All ItemsFit.All are is = values_front slots left items values item value are is
+values_more slots left items values item value ItemsFit.All ItemsFit.Refused are is = tt
+values_more slots left items values item value ItemsFit.All ItemsFit.Unknown are is = tt
+values_more slots left items values item value ItemsFit.All ItemsFit.OutOfMemory are is = tt
+values_more slots left items values item value ItemsFit.Refused ItemsFit.All are is = tt
+values_more slots left items values item value ItemsFit.Refused ItemsFit.Refused are is = tt
+values_more slots left items values item value ItemsFit.Refused ItemsFit.Unknown are is = tt
+values_more slots left items values item value ItemsFit.Refused ItemsFit.OutOfMemory are is = tt
+values_more slots left items values item value ItemsFit.Unknown own are is = tt
+values_more slots left items values item value ItemsFit.OutOfMemory own are is = tt
+
+pub values_put : (slots : Slots) (left : ExprType) (items : List Side) (old new : FlatTree) (values : List Value) (fit : ItemsFit) → AreValuesIfFit slots left items values fit → new ≡ with_values old values
+    → AreItemsPut slots left items old new fit
+values_put slots left items old new values ItemsFit.All are is = (values, are, is)
+values_put slots left items old new values ItemsFit.Refused are is = tt
+values_put slots left items old new values ItemsFit.Unknown are is = tt
+values_put slots left items old new values ItemsFit.OutOfMemory are is = tt
+
+-- ---- of trees
 
 get_second : (front : List Value) (x : Value) (back : List Value) → slice_get (front ++ x ∷ back) (length front) ≡ Some x
 get_second [] x back = refl

@@ -2,6 +2,7 @@
 use Rattle.std.proofs.Common.{◌≡◌, ◌∙◌, ◌+◌, ℕ, suc, Bor, IfSome, SomeIff, arith, List, [], ◌∷◌, Option, Some, None, MatchOption, Result, Ok, Err, IfOk, true, false, length, nat_eq, refl, sym, ap, subst, rules}
 use Rattle.std.specs.Cmp.Lexicographic.{pointwise}
 use Rattle.std.specs.List.{AllByRecursion}
+use Rattle.std.specs.declared.alloc.AllocError.{AllocError}
 use Rattle.odata_signatures.specs.TypeThere.{IsTypeThere}
 use Rattle.odata_checked_filter.specs.Stands.{variable_names}
 use Rattle.csdl_schema.specs.ExprType.{ExprType}
@@ -10,7 +11,6 @@ use Rattle.odata_signatures.specs.TypeView.{expr_type}
 use Rattle.odata_signatures.specs.declared.edm_type.EdmType.{EdmType}
 use Rattle.odata_expression_types.specs.Typed.{NameTyped, PropertyTyped, Scope, variable_type, with_variable}
 use Rattle.odata_typing.specs.declared.variables.Variables.{Variables, Bound, Empty, the_lemmas}
-use Rattle.odata_typing.specs.declared.untyped.Untyped.{Untyped}
 use Rattle.odata_typing.specs.declared.variables.NamedVariable.{NamedVariable}
 use Rattle.odata_typing.specs.private.Variables.{AreThere, IsNamedBy, scope_in, types_in}
 
@@ -35,7 +35,7 @@ count_more schema name type outer n fits None of_outer is = tt
 types_in-Empty : types_in Empty ≡ []
 types_in-Empty = search (rules, the_lemmas)
 
-types_in-Bound : (name : Bor (List ℕ)) (type : EdmType) (outer : Bor Variables) → types_in (Bound name type outer) ≡ type ∷ types_in outer.now
+pub types_in-Bound : (name : Bor (List ℕ)) (type : EdmType) (outer : Bor Variables) → types_in (Bound name type outer) ≡ type ∷ types_in outer.now
 types_in-Bound name type outer = search (rules, the_lemmas)
 
 pub none_there : (schema : SchemaModel) → AreThere schema Empty
@@ -54,12 +54,12 @@ other_named schema name type outer asked (Some v) other is = rw (scope_in-Bound 
 other_named schema name type outer asked None other is = rw (scope_in-Bound schema name type outer, other) is
 
 pub named_outside :
-    (schema : SchemaModel) (name : Bor (List ℕ)) (type : EdmType) (outer : Bor Variables) (asked : List ℕ) (found : Result (Option NamedVariable) Untyped)
+    (schema : SchemaModel) (name : Bor (List ℕ)) (type : EdmType) (outer : Bor Variables) (asked : List ℕ) (found : Result (Option NamedVariable) AllocError)
     → pointwise nat_eq asked name.now ≡ false
     → IfOk found (IsNamedBy schema (scope_in schema outer.now) asked)
     → IfOk found (IsNamedBy schema (scope_in schema (Bound name type outer)) asked)
 named_outside schema name type outer asked (Ok named) other is = other_named schema name type outer asked named other is
-named_outside schema name type outer asked (Err untyped) other is = tt
+named_outside schema name type outer asked (Err refused) other is = tt
 
 -- one of that name is what it stands for
 pub same_named : (schema : SchemaModel) (name : Bor (List ℕ)) (type : EdmType) (outer : Bor Variables) (asked : List ℕ) (variable : NamedVariable)
@@ -97,8 +97,3 @@ pub bound_typed :
     → NameTyped slots root scope asked type
 bound_typed slots root scope asked type some =
     subst (λ (o : Option ExprType). MatchOption o (PropertyTyped (slots.properties root) asked type) (λ t. type ≡ t)) (sym some) refl
-
--- what has the variable's type
-pub typed_there : (schema : SchemaModel) (answer : Result EdmType Untyped) (type : EdmType) → IfOk answer (λ t. t ≡ type) → IsTypeThere schema type → IfOk answer (IsTypeThere schema)
-typed_there schema (Ok t) type same there = rw same there
-typed_there schema (Err untyped) type same there = tt

@@ -1,24 +1,33 @@
 -- A text, its tree and its fault.
-use Rattle.std.proofs.Common.{◌≡◌, refl, sym, subst, inr, ℕ, ◌≤◌, List, [], length}
+use Rattle.std.proofs.Common.{◌≡◌, ◌≢◌, refl, sym, subst, inl, inr, ℕ, ◌≤◌, Bool, true, false, List, [], length}
 use Rattle.odata_text.specs.Tokens.{token_limit}
 use Rattle.odata_syntax.specs.Tree.{Tree}
 use Rattle.csdl_schema.specs.ExprType.{ExprType}
-use Rattle.csdl_schema.specs.SchemaModel.{SchemaModel, Slots, slots_of, type_name_at}
-use Rattle.odata_signatures.specs.declared.edm_type.EdmType.{EdmType}
+use Rattle.csdl_schema.specs.SchemaModel.{HoldsType, SchemaModel, Slots, slots_of, type_name_at}
+use Rattle.csdl_schema.specs.ExpansionView.{StepModel, paths_in}
+use Rattle.csdl_schema.specs.PathSet.{PropertyPath}
+use Rattle.odata_syntax.specs.TextTree.{HasNoTree, IsFirstFault}
+use Rattle.odata_syntax.specs.declared.parser.text_parser.TextOrSyntaxFault.{TextOrSyntaxFault}
+use Rattle.odata_syntax.specs.declared.syntax_fault.SyntaxFault.{SyntaxFault}
+use Rattle.odata_text.specs.declared.fault.TextFault.{TextFault}
+use Rattle.odata_expression_types.specs.NeededPaths.{IsNeeded}
 use Rattle.odata_expression_types.specs.declared.refusal.Refusal.{Refusal}
 use Rattle.odata_expression_types.specs.declared.refusal.TypeFault.{TypeFault}
 use Rattle.odata_expression_types.specs.declared.refusal.TypeFaultCode.{TypeFaultCode}
-use Rattle.odata_typing.specs.private.Answer.{HasNoTree, IsWalked}
+use Rattle.odata_typing.specs.declared.walk.Walk.{Walk}
+use Rattle.odata_typing.specs.private.Answer.{IsTypeRefusal, refusal_of}
+use Rattle.odata_typing.specs.private.Judging.{IsStanding}
 use Rattle.odata_signatures.specs.ExprTypes.{IsBooleanOrNull}
-use Rattle.odata_expression_types.specs.FirstUntypable.{IsFirstUntypable}
+use Rattle.odata_expression_types.specs.FirstUntypable.{IsFirstUntypable, IsTypeFault}
 use Rattle.odata_expression_types.specs.Laws.{FewNodes}
 use Rattle.odata_checked_filter.specs.Laws.{OneTree}
 use Rattle.odata_typing.specs.private.LawsBelow.{LawsBelow}
-use Rattle.odata_expression_types.specs.HasTyping.{HasTree, HasTypeFault, HasTyping, HasNoTyping, UnlessMemory}
-use Rattle.odata_checked_filter.specs.FlatTree.{FlatTree, tree_of_nodes}
+use Rattle.odata_expression_types.specs.HasTyping.{HasTree, HasTyping, HasNoTyping, IsRefusal, UnlessMemory}
+use Rattle.odata_checked_filter.specs.Filter.{HasNeededPaths, IsFilter, filter_of}
+use Rattle.odata_checked_filter.specs.FlatTree.{tree_of_nodes}
 use Rattle.odata_expression_types.specs.PreOrder.{pre_order}
 use Rattle.odata_checked_filter.specs.Stands.{Stands}
-use Rattle.odata_expression_types.specs.Typed.{Scope, Typed}
+use Rattle.odata_expression_types.specs.Typed.{Typed}
 use Rattle.odata_signatures.specs.TypeView.{expr_type}
 
 -- a text whose one tree has an untypable node has no typing
@@ -53,72 +62,110 @@ UnlessMemory-map P Q Refusal.Memory f x = tt
 pub treeless : (slots : Slots) (root text : List ℕ) → HasNoTree text → HasNoTyping slots root text
 treeless slots root text none = λ tree typing. none tree typing.has_tree
 
--- an empty list
-abbrev pub empty_list : FlatTree
-empty_list = record { nodes = []; values = []; texts = [] }
+-- ---- the whole list stands for the tree of the text
 
--- where the list was empty, the whole of it stands for the tree
-pub whole_is :
-    OneTree → (schema : SchemaModel) (n : ℕ) (old : FlatTree) (tree : Tree) (new : FlatTree) (type : EdmType)
-    → old ≡ empty_list
-    → IsWalked schema n [] old tree new type
-    → tree_of_nodes new ≡ tree
-whole_is one schema n old tree new type empty walked =
-    let P : FlatTree → Type 0 = λ (l : FlatTree). Stands schema n [] new (length l.nodes) (length new.nodes) tree in
-    one schema n [] new (length new.nodes) tree (subst P empty walked.grown.stands)
+module _ (one : OneTree) (schema : SchemaModel) (n : ℕ) (walk : Walk) (tree : Tree) (stands : IsStanding schema n [] walk 0 (length walk.list.nodes) tree) where
+  pub whole_is : tree_of_nodes walk.list ≡ tree
+  whole_is = one schema n [] walk.list (length walk.list.nodes) tree stands.stands
 
--- the whole list stands for its tree, which has the type
-pub record IsWhole (schema : SchemaModel) (n : ℕ) (scope : Scope) (list : FlatTree) (type : EdmType) : Type 0 where
-  pub stands : Stands schema n scope list 0 (length list.nodes) (tree_of_nodes list)
-  pub typed : Typed (slots_of schema) (type_name_at schema n) scope (tree_of_nodes list) (expr_type schema type)
+  pub whole_stands : Stands schema n [] walk.list 0 (length walk.list.nodes) (tree_of_nodes walk.list)
+  whole_stands = subst (λ (t : Tree). Stands schema n [] walk.list 0 (length walk.list.nodes) t) (sym whole_is) stands.stands
 
-pub is_whole :
-    OneTree → (schema : SchemaModel) (n : ℕ) (old : FlatTree) (tree : Tree) (new : FlatTree) (type : EdmType)
-    → old ≡ empty_list
-    → IsWalked schema n [] old tree new type
-    → IsWhole schema n [] new type
-is_whole one schema n old tree new type empty walked =
-    let same : tree ≡ tree_of_nodes new = sym (whole_is one schema n old tree new type empty walked) in
-    let P : FlatTree → Type 0 = λ (l : FlatTree). Stands schema n [] new (length l.nodes) (length new.nodes) tree in
-    let Q : Tree → Type 0 = λ (t : Tree). Stands schema n [] new 0 (length new.nodes) t in
-    let R : Tree → Type 0 = λ (t : Tree). Typed (slots_of schema) (type_name_at schema n) [] t (expr_type schema type) in
-    record { stands = subst Q same (subst P empty walked.grown.stands); typed = subst R same walked.typed }
+  whole_typed : Typed (slots_of schema) (type_name_at schema n) [] (tree_of_nodes walk.list) (expr_type schema stands.found.edm_type)
+  whole_typed = subst (λ (t : Tree). Typed (slots_of schema) (type_name_at schema n) [] t (expr_type schema stands.found.edm_type)) (sym whole_is) stands.typed
 
--- the typing of a text whose tree the list stands for
-pub whole_typing :
-    OneTree → (schema : SchemaModel) (n : ℕ) (text : List ℕ) (old : FlatTree) (tree : Tree) (new : FlatTree) (type : EdmType)
-    → HasTree text tree
-    → old ≡ empty_list
-    → IsWalked schema n [] old tree new type
-    → IsBooleanOrNull (expr_type schema type)
-    → HasTyping (slots_of schema) (type_name_at schema n) text (tree_of_nodes new)
-whole_typing one schema n text old tree new type has_tree empty walked truth = record {
-  has_tree = subst (HasTree text) (sym (whole_is one schema n old tree new type empty walked)) has_tree;
-  type_of = expr_type schema type;
-  typed = (is_whole one schema n old tree new type empty walked).typed;
-  truth = truth;
-}
+  -- the typing of a text that has the tree
+  pub whole_typing : (text : List ℕ) → HasTree text tree → IsBooleanOrNull (expr_type schema stands.found.edm_type) → HasTyping (slots_of schema) (type_name_at schema n) text (tree_of_nodes walk.list)
+  whole_typing text has_tree truth = record {
+    has_tree = subst (HasTree text) (sym whole_is) has_tree;
+    type_of = expr_type schema stands.found.edm_type;
+    typed = whole_typed;
+    truth = truth;
+  }
 
-pub few_whole :
-    OneTree → FewNodes → (schema : SchemaModel) (n : ℕ) (text : List ℕ) (old : FlatTree) (tree : Tree) (new : FlatTree) (type : EdmType)
-    → HasTree text tree
-    → old ≡ empty_list
-    → IsWalked schema n [] old tree new type
-    → length (pre_order (tree_of_nodes new)) ≤ token_limit
-few_whole one few schema n text old tree new type has_tree empty walked =
-    let P : Tree → Type 0 = λ (t : Tree). length (pre_order t) ≤ token_limit in
-    subst P (sym (whole_is one schema n old tree new type empty walked)) (few text tree has_tree)
+  few_whole : FewNodes → (text : List ℕ) → HasTree text tree → length (pre_order (tree_of_nodes walk.list)) ≤ token_limit
+  few_whole few text has_tree = subst (λ (t : Tree). length (pre_order t) ≤ token_limit) (sym whole_is) (few text tree has_tree)
 
--- a text whose tree has a type that is neither Boolean nor Null
+  -- the list is a filter's, with what it needs of navigation
+  pub whole_filter :
+      FewNodes → (text : List ℕ) (expansion : List StepModel)
+      → HoldsType schema n
+      → HasTree text tree
+      → IsBooleanOrNull (expr_type schema stands.found.edm_type)
+      → HasNeededPaths schema n walk.list expansion
+      → IsFilter (filter_of schema n walk.list expansion)
+  whole_filter few text expansion held has_tree truth expands = record {
+    held = held;
+    stands = whole_stands;
+    type_of = expr_type schema stands.found.edm_type;
+    typed = whole_typed;
+    truth = truth;
+    few = few_whole few text has_tree;
+    expands = expands;
+  }
+
+  -- and needs nothing where no node navigates
+  pub whole_idle : (expansion : List StepModel) → walk.navigates ≡ false → ((path : PropertyPath) → paths_in expansion path ≡ false) → HasNeededPaths schema n walk.list expansion
+  whole_idle expansion idle empty path = (
+    (λ found. let none : paths_in expansion path ≡ false = empty path in cc),
+    (λ needed. absurd (stands.idle idle [] path (subst (λ (t : Tree). IsNeeded (slots_of schema) (type_name_at schema n) [] [] t path) whole_is needed))),
+  )
+
+-- ---- a tree that is no filter
+
+pub type_refusal : (slots : Slots) (root text : List ℕ) (tree : Tree) (refusal : Refusal) → HasTree text tree → IsTypeRefusal slots root tree (length text) refusal → UnlessMemory refusal (IsRefusal slots root text refusal)
+type_refusal slots root text tree (Refusal.Typing fault) has_tree is = record { tree = tree; has_tree = has_tree; fault_of = is }
+type_refusal slots root text tree Refusal.Memory has_tree is = tt
+type_refusal slots root text tree (Refusal.Text fault) has_tree is = absurd is
+type_refusal slots root text tree (Refusal.Syntax fault) has_tree is = absurd is
+
+fault_refuses : LawsBelow → (slots : Slots) (root text : List ℕ) (tree : Tree) (fault : TypeFault) → ((other : Tree) → HasTree text other → other ≡ tree) → IsTypeFault slots root tree (length text) fault → HasNoTyping slots root text
+fault_refuses laws slots root text tree fault only (inl first) = untypable_refuses laws slots root text tree fault only first
+fault_refuses laws slots root text tree fault only (inr other) = other_refuses laws slots root text tree other.type_of only other.typed other.other
+
+pub type_none : LawsBelow → (slots : Slots) (root text : List ℕ) (tree : Tree) (refusal : Refusal) → ((other : Tree) → HasTree text other → other ≡ tree) → IsTypeRefusal slots root tree (length text) refusal → UnlessMemory refusal (HasNoTyping slots root text)
+type_none laws slots root text tree (Refusal.Typing fault) only is = fault_refuses laws slots root text tree fault only is
+type_none laws slots root text tree Refusal.Memory only is = tt
+type_none laws slots root text tree (Refusal.Text fault) only is = absurd is
+type_none laws slots root text tree (Refusal.Syntax fault) only is = absurd is
+
+-- a tree whose type is neither Boolean nor Null
 pub not_boolean :
-    (slots : Slots) (root text : List ℕ) (tree : Tree) (type : ExprType) (fault : TypeFault)
-    → HasTree text tree
-    → Typed slots root [] tree type
-    → ¬ IsBooleanOrNull type
-    → fault ≡ record { code = TypeFaultCode.NotBoolean; span = record { start = 0; stop = length text } }
-    → HasTypeFault slots root text fault
-not_boolean slots root text tree type fault has_tree typed other is = record {
-  tree = tree;
-  has_tree = has_tree;
-  fault_of = inr (rw is (record { type_of = type; typed = typed; other = other; reason = refl; starts = refl; stops = refl }));
-}
+    (schema : SchemaModel) (n : ℕ) (tree : Tree) (walk : Walk) (len : ℕ) (refusal : Refusal) (stands : IsStanding schema n [] walk 0 (length walk.list.nodes) tree)
+    → ¬ IsBooleanOrNull (expr_type schema stands.found.edm_type)
+    → refusal ≡ Refusal.Typing (record { code = TypeFaultCode.NotBoolean; span = record { start = 0; stop = len } })
+    → IsTypeRefusal (slots_of schema) (type_name_at schema n) tree len refusal
+not_boolean schema n tree walk len refusal stands other is =
+    rw is (inr (record { type_of = expr_type schema stands.found.edm_type; typed = stands.typed; other = other; reason = refl; starts = refl; stops = refl }))
+
+-- ---- a text without a tree
+
+text_refused : (slots : Slots) (root text : List ℕ) (fault : TextFault) → IsFirstFault text (TextOrSyntaxFault.Text fault) → UnlessMemory (refusal_of (TextOrSyntaxFault.Text fault)) (IsRefusal slots root text (refusal_of (TextOrSyntaxFault.Text fault)))
+text_refused slots root text (TextFault.BadCharacter span) is = is
+text_refused slots root text (TextFault.UnclosedString span) is = is
+text_refused slots root text (TextFault.LeftOutLiteral span) is = is
+text_refused slots root text (TextFault.RunOn span) is = is
+text_refused slots root text (TextFault.TooLong span) is = is
+text_refused slots root text TextFault.Memory is = tt
+
+-- its fault is the refusal
+pub refusal_is : (slots : Slots) (root text : List ℕ) (fault : TextOrSyntaxFault) → IsFirstFault text fault → UnlessMemory (refusal_of fault) (IsRefusal slots root text (refusal_of fault))
+refusal_is slots root text (TextOrSyntaxFault.Text fault) is = text_refused slots root text fault is
+refusal_is slots root text (TextOrSyntaxFault.Syntax (SyntaxFault.Unexpected span)) is = is (λ same. cc)
+refusal_is slots root text (TextOrSyntaxFault.Syntax (SyntaxFault.TooDeep span)) is = is (λ same. cc)
+refusal_is slots root text (TextOrSyntaxFault.Syntax SyntaxFault.Memory) is = tt
+
+text_none : (slots : Slots) (root text : List ℕ) (fault : TextFault) → HasNoTree text → UnlessMemory (refusal_of (TextOrSyntaxFault.Text fault)) (HasNoTyping slots root text)
+text_none slots root text (TextFault.BadCharacter span) none = treeless slots root text none
+text_none slots root text (TextFault.UnclosedString span) none = treeless slots root text none
+text_none slots root text (TextFault.LeftOutLiteral span) none = treeless slots root text none
+text_none slots root text (TextFault.RunOn span) none = treeless slots root text none
+text_none slots root text (TextFault.TooLong span) none = treeless slots root text none
+text_none slots root text TextFault.Memory none = tt
+
+-- and it has no typing
+pub refusal_none : (slots : Slots) (root text : List ℕ) (fault : TextOrSyntaxFault) → (fault ≢ TextOrSyntaxFault.Syntax SyntaxFault.Memory → HasNoTree text) → UnlessMemory (refusal_of fault) (HasNoTyping slots root text)
+refusal_none slots root text (TextOrSyntaxFault.Text fault) none = text_none slots root text fault (none (λ same. cc))
+refusal_none slots root text (TextOrSyntaxFault.Syntax (SyntaxFault.Unexpected span)) none = treeless slots root text (none (λ same. cc))
+refusal_none slots root text (TextOrSyntaxFault.Syntax (SyntaxFault.TooDeep span)) none = treeless slots root text (none (λ same. cc))
+refusal_none slots root text (TextOrSyntaxFault.Syntax SyntaxFault.Memory) none = tt

@@ -1,14 +1,17 @@
 -- What is known of a property by its name.
-use Rattle.std.proofs.Common.{◌≡◌, refl, sym, ap, subst, ◌∙◌, inl, inr, ℕ, ◌<◌, ◌≤◌, List, length, Option, Some, None, IfSome, IsSomeAnd, MatchOption, slice_get, arith}
+use Rattle.std.proofs.Common.{◌≡◌, refl, sym, ap, subst, ◌∙◌, inl, inr, ℕ, ◌<◌, ◌≤◌, Bool, true, false, List, length, Option, Some, None, IfSome, IsSomeAnd, MatchOption, slice_get, arith}
 use Rattle.std.proofs.lemmas.Option.{slice_get_cases}
 use Rattle.odata_syntax.specs.Tree.{node, name}
 use Rattle.odata_text.specs.declared.span.Span.{Span}
-use Rattle.csdl_schema.specs.ExprType.{ExprType}
-use Rattle.csdl_schema.specs.PropertyView.{IsReadAs, PointsWithin, property_type}
-use Rattle.csdl_schema.specs.SchemaModel.{PropertyModel, PropertyType, SchemaModel, Slots, declared, opaque, navigation, slot_named}
+use Rattle.csdl_schema.specs.ExprType.{ExprType, SingleType, enumeration, primitive, structured}
+use Rattle.csdl_schema.specs.PropertyView.{IsReadAs, PointsWithin, property_type, target_of, type_of_kind}
+use Rattle.csdl_schema.specs.Resolution.{type_of_single}
+use Rattle.csdl_schema.specs.declared.property.PropertyKind.{PropertyKind}
+use Rattle.csdl_schema.specs.SchemaModel.{PropertyModel, PropertyType, SchemaModel, Slots, declared, opaque, navigation, slot_named, type_name_at}
 use Rattle.csdl_schema.specs.declared.property.Property.{Property}
 use Rattle.odata_expression_types.specs.declared.refusal.TypeFaultCode.{TypeFaultCode}
 use Rattle.odata_expression_types.specs.FirstUntypable.{IsFirstUntypable, NameReason, PropertyReason}
+use Rattle.odata_expression_types.specs.NeededPaths.{Navigates}
 use Rattle.odata_expression_types.specs.Typed.{PropertyTyped, Scope, named_type, variable_type}
 use Rattle.odata_typing.specs.private.LawsBelow.{LawsBelow}
 use Rattle.odata_typing.proofs.untypable.Untypable.{first_itself}
@@ -110,3 +113,30 @@ pub property_typed :
 property_typed properties asked k type kind found at is_named =
     let P : Option PropertyModel → Type 0 = λ (o : Option PropertyModel). IsSomeAnd o (λ p. named_type p.type_of ≡ Some type) in
     subst P (sym (property_at properties asked k found ∙ at.named)) (ap named_type (sym at.kind_is) ∙ is_named)
+
+-- ---- navigation
+
+not_declared : (many : Bool) (t : SingleType) (target : ExprType) → ¬ (type_of_single (Some t) many ≡ navigation (Some target))
+not_declared true t target same = cc
+not_declared false t target same = cc
+
+-- a property of the code that leads to no target does not navigate
+targetless : (name_at : ℕ → List ℕ) (kind : PropertyKind) (many : Bool) (target : ExprType) → ¬ (type_of_kind name_at kind None many ≡ navigation (Some target))
+targetless name_at (PropertyKind.Prim p) many target same = not_declared many (primitive p) target same
+targetless name_at (PropertyKind.Enum e) many target same = not_declared many (enumeration (name_at e)) target same
+targetless name_at (PropertyKind.Complex t) many target same = not_declared many (structured (name_at t)) target same
+targetless name_at PropertyKind.Opaque many target same = cc
+targetless name_at PropertyKind.Navigation many target same = cc
+
+pub idle_at :
+    (schema : SchemaModel) (properties : List PropertyModel) (asked : List ℕ) (k : ℕ) (p : Property)
+    → slot_named properties asked ≡ Some k
+    → IfSome (slice_get properties k) (λ declaration. IsReadAs schema declaration p)
+    → target_of p ≡ None
+    → ¬ Navigates properties asked
+idle_at schema properties asked k p found read none navigates =
+    let at : IsFoundAt properties asked k (property_type schema p) = found_at schema properties asked k p found read in
+    let N : Option PropertyModel → Type 0 = λ (o : Option PropertyModel). IsSomeAnd o (λ q. (target : ExprType) × (q.type_of ≡ navigation (Some target))) in
+    let leads : (target : ExprType) × (at.property.type_of ≡ navigation (Some target)) = subst N (property_at properties asked k found ∙ at.named) navigates in
+    let K : Option ℕ → Type 0 = λ (target : Option ℕ). type_of_kind (type_name_at schema) p.kind target p.many ≡ navigation (Some leads.0) in
+    targetless (type_name_at schema) p.kind p.many leads.0 (subst K none (at.kind_is ∙ leads.1))

@@ -1,5 +1,5 @@
 -- The first untypable node among trees one behind another.
-use Rattle.std.proofs.Common.{◌≡◌, refl, sym, inl, inr, ◌⊎◌, ℕ, ◌<◌, ◌≤◌, List, [], ◌∷◌, ◌++◌, subst, arith}
+use Rattle.std.proofs.Common.{◌≡◌, refl, inl, inr, ◌⊎◌, ℕ, ◌≤◌, List, [], ◌∷◌, ◌++◌, subst, arith}
 use Rattle.std.specs.List.{AllByRecursion}
 use Rattle.odata_syntax.specs.Tree.{Shape, Tree, node, shape_of, start_of}
 use Rattle.csdl_schema.specs.SchemaModel.{Slots}
@@ -9,7 +9,6 @@ use Rattle.odata_expression_types.specs.FirstUntypable.{IsFirstUntypable, IsReas
 use Rattle.odata_expression_types.specs.Laws.{TypedIsClear}
 use Rattle.odata_expression_types.specs.Typed.{IsTyped, IsUntyped, Scope}
 use Rattle.odata_typing.specs.private.LawsBelow.{LawsBelow}
-use Rattle.odata_typing.specs.private.EarlierFault.{IsEarlierFault}
 use Rattle.odata_expression_types.specs.FirstAmong.{IsFirstAmong, IsFirstBelow, StartFrom}
 
 -- trees in one scope that all have types
@@ -33,11 +32,6 @@ pub typed_start :
     TypedIsClear → (slots : Slots) (root : List ℕ) (scope : Scope) (trees : List Tree) (k : ℕ) → AllTyped slots root scope trees → AllStartFrom slots root scope trees k
 typed_start clear slots root scope trees k typed = λ at other among inner part found.
     absurd (clear slots root at other inner part (among_typed slots root scope trees at other typed among) found)
-
-lower :
-    (slots : Slots) (root : List ℕ) (scope : Scope) (trees : List Tree) (j k : ℕ) → j ≤ k → AllStartFrom slots root scope trees k → AllStartFrom slots root scope trees j
-lower slots root scope trees j k below from = λ at other among inner part found.
-    let h : k ≤ start_of part = from at other among inner part found in omega arith
 
 -- a tree, as one of several
 pub one_of : (slots : Slots) (root : List ℕ) (scope : Scope) (tree : Tree) (fault : TypeFault) → IsFirstUntypable slots root scope tree fault → IsFirstAmong slots root scope (tree ∷ []) fault
@@ -108,22 +102,6 @@ first_in_back slots root scope xs ys fault later first = record {
   found = first.found;
   others = all_start slots root scope xs ys fault.span.start later first.others;
 }
-
--- of two faults that which starts first
-pub first_of_both :
-    (slots : Slots) (root : List ℕ) (scope : Scope) (xs ys : List Tree) (first second told : TypeFault)
-    → IsFirstAmong slots root scope xs first
-    → IsFirstAmong slots root scope ys second
-    → IsEarlierFault first second told
-    → IsFirstAmong slots root scope (xs ++ ys) told
-first_of_both slots root scope xs ys first second told x y (inl is) =
-    let P : TypeFault → Type 0 = λ (f : TypeFault). IsFirstAmong slots root scope (xs ++ ys) f in
-    subst P (sym is.0) (first_in_front slots root scope xs ys first x (lower slots root scope ys first.span.start second.span.start is.1 y.others))
-first_of_both slots root scope xs ys first second told x y (inr is) =
-    let P : TypeFault → Type 0 = λ (f : TypeFault). IsFirstAmong slots root scope (xs ++ ys) f in
-    let lt : second.span.start < first.span.start = is.1 in
-    let le : second.span.start ≤ first.span.start = omega arith in
-    subst P (sym is.0) (first_in_back slots root scope xs ys second (lower slots root scope xs second.span.start first.span.start le x.others) y)
 
 -- the node has no body that is judged
 abbrev pub IsBodiless : Slots → List ℕ → Scope → Shape → Type 0

@@ -1,42 +1,47 @@
 -- For private clauses: lambda operators with a variable and a body.
-use Rattle.std.specs.Prelude.{◌≡◌, None}
-use Rattle.odata_syntax.specs.Tree.{Shape, Tree, lambda}
-use Rattle.csdl_schema.specs.ExprType.{ExprType, SingleType, collection}
+use Rattle.std.specs.Prelude.{◌≡◌, ◌+◌, ◌-◌, ℕ, None, Some, slice_get}
+use Rattle.odata_syntax.specs.Places.{number_at, stop_at}
+use Rattle.odata_syntax.specs.TextTree.{IsTextRange}
+use Rattle.odata_syntax.specs.Tree.{Tree}
+use Rattle.odata_syntax.specs.declared.node.Quantifier.{Quantifier}
+use Rattle.odata_syntax.specs.declared.syntax_list.SyntaxKind.{SyntaxKind}
+use Rattle.csdl_schema.specs.ExprType.{single}
+use Rattle.odata_signatures.specs.TypeView.{single_type}
 use Rattle.odata_signatures.specs.declared.edm_type.EdmType.{EdmType}
-use Rattle.odata_expression_types.specs.declared.refusal.TypeFault.{TypeFault}
-use Rattle.odata_expression_types.specs.FirstUntypable.{LambdaReason}
-use Rattle.odata_expression_types.specs.Typed.{Scope, variable_type}
-use Rattle.odata_checked_filter.specs.FlatTree.{FlatTree}
-use Rattle.odata_checked_filter.specs.ListGrowth.{IsOpened}
-use Rattle.odata_typing.specs.declared.lambda.Binding.{Binding}
-use Rattle.odata_typing.specs.declared.lambda.Lambda.{Lambda}
+use Rattle.odata_signatures.specs.declared.edm_type.ValueType.{ValueType}
+use Rattle.odata_expression_types.specs.Typed.{variable_type, with_variable}
+use Rattle.odata_typing.specs.declared.setting.Judged.{Judged}
 use Rattle.odata_typing.specs.declared.setting.Setting.{Setting}
-use Rattle.odata_typing.specs.declared.untyped.Untyped.{Untyped}
-use Rattle.odata_typing.specs.private.Answer.{IsWalked}
+use Rattle.odata_typing.specs.declared.walk.Walk.{Walk}
+use Rattle.odata_typing.specs.private.Judging.{IsStanding}
+use Rattle.odata_typing.specs.private.Settings.{IsNodeAt, IsNodeReady, IsRun, IsSetting, name_of}
 use Rattle.odata_typing.specs.private.Variables.{scope_of}
 
--- the operator with this base and this body
-abbrev pub has_body : Lambda → Tree → Tree → Shape
-has_body operator base body = lambda operator.quantifier base operator.variable.now body
-
--- the operator's node was opened behind the old list, its base is a collection of such members, its variable is new
-pub record IsBinding
-    (setting : Setting) (old : FlatTree) (operator : Lambda) (base : Tree) (list : FlatTree) (binding : Binding)
+-- the node of an index is a lambda operator's; what stands for its base stops where the places of its body begin, whose
+-- nodes are those from another index on
+pub record IsLambdaReady
+    (setting : Setting) (walk : Walk) (from index : ℕ) (judged : Judged) (quantifier : Quantifier) (base : Tree)
     : Type 0 where
-  pub before : FlatTree
-  pub opened : IsOpened old binding.place operator.variable.now before
-  pub walked :
-      IsWalked setting.schema.now setting.filtered_type (scope_of setting) before base list
-      (EdmType.Collection binding.member)
-  pub fresh : variable_type (scope_of setting) operator.variable.now ≡ None
+  pub setting_is : IsSetting setting
+  pub at : IsNodeAt setting index judged
+  pub lambda_is : judged.node.now.kind ≡ SyntaxKind.Lambda quantifier
+  pub ready : IsNodeReady setting walk judged
+  pub text : IsTextRange setting.text.now judged.node.now.text
+  pub base_stands :
+      IsStanding setting.schema.now setting.filtered_type (scope_of setting) walk (judged.number + 1)
+      (number_at setting.places.now (index - 1)) base
+  pub body : IsRun setting from index
+  pub body_stop : stop_at setting.places.now (index - 1) ≡ judged.stop
 
--- over a base of that type the operator binds no variable, for this reason
-pub record IsBindingFault (scope : Scope) (operator : Lambda) (base : ExprType) (fault : TypeFault) : Type 0 where
-  pub reason : LambdaReason scope operator.variable.now base fault.code
-  pub unbound : (member : SingleType) → base ≡ collection member → ¬ (variable_type scope operator.variable.now ≡ None)
-  pub at : fault.span ≡ operator.span
-
--- want of memory says nothing
-abbrev pub BindingFault : Scope → Lambda → ExprType → Untyped → Type 0
-BindingFault scope operator base (Untyped.Fault fault) = IsBindingFault scope operator base fault
-BindingFault scope operator base Untyped.Memory = Unit {0}
+-- the base is a collection of such members, the variable is new, and in the scope with it the body has been judged
+pub record IsOverBody (setting : Setting) (walk : Walk) (judged : Judged) (base body : Tree) : Type 0 where
+  pub middle : ℕ
+  pub member : ValueType
+  pub base_stands :
+      IsStanding setting.schema.now setting.filtered_type (scope_of setting) walk (judged.number + 1) middle base
+  pub base_type : base_stands.found.edm_type ≡ EdmType.Collection member
+  pub fresh : variable_type (scope_of setting) (name_of setting judged) ≡ None
+  pub body_stands :
+      IsStanding setting.schema.now setting.filtered_type
+      (with_variable (scope_of setting) (name_of setting judged) (single (single_type setting.schema.now member)))
+      walk middle judged.stop body

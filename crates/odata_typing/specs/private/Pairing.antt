@@ -1,42 +1,26 @@
 -- For private clauses: which of two operands is read beside an enumeration.
 use Rattle.std.specs.Prelude.{◌≡◌, ℕ, ℤ, List, Option}
 use Rattle.std.specs.Option.{option_map}
-use Rattle.odata_syntax.specs.Tree.{Tree}
 use Rattle.csdl_schema.specs.ExprType.{ExprType}
 use Rattle.csdl_schema.specs.SchemaModel.{SchemaModel, Slots}
 use Rattle.odata_signatures.specs.OperatorTyped.{IsEquality, OfOneSide}
 use Rattle.odata_signatures.specs.QuotedNumber.{IsReadBeside, LacksNumber, NumberBeside}
 use Rattle.odata_signatures.specs.Side.{Side, quoting}
 use Rattle.odata_signatures.specs.TypeView.{expr_type}
-use Rattle.odata_expression_types.specs.Sides.{quoted_text}
 use Rattle.odata_checked_filter.specs.declared.checked_node.NodeKind.{NodeKind}
 use Rattle.odata_typing.specs.declared.binary_node.Infix.{Infix}
 use Rattle.odata_typing.specs.declared.binary_node.OperandTypes.{OperandTypes}
 use Rattle.odata_typing.specs.declared.pairing.Paired.{Paired}
 use Rattle.odata_typing.specs.declared.pairing.Pairing.{Pairing}
-use Rattle.odata_typing.specs.declared.quotes.Quotes.{Quotes}
 
 -- the operands of the code, as sides
 abbrev pub left_side : SchemaModel → OperandTypes → Side
 left_side schema operands =
-    quoting (option_map (λ spelling. spelling.now) operands.quotes.left) (expr_type schema operands.left)
+    quoting (option_map (λ spelling. spelling.now) operands.left_quoted) (expr_type schema operands.left)
 
 abbrev pub right_side : SchemaModel → OperandTypes → Side
 right_side schema operands =
-    quoting (option_map (λ spelling. spelling.now) operands.quotes.right) (expr_type schema operands.right)
-
--- what the trees quote that stand there; on the left it counts for operators alone
-abbrev pub AreQuotes : Infix → Tree → Tree → Quotes → Type 0
-AreQuotes (Infix.Operator operator) l r quotes =
-    (option_map (λ spelling. spelling.now) quotes.left ≡ quoted_text l)
-    × (option_map (λ spelling. spelling.now) quotes.right ≡ quoted_text r)
-AreQuotes Infix.Has l r quotes = option_map (λ spelling. spelling.now) quotes.right ≡ quoted_text r
-AreQuotes Infix.InPath l r quotes = Unit {0}
-
--- what the left operand quotes does not count
-abbrev pub IsOfRight : Infix → Type 0
-IsOfRight (Infix.Operator operator) = ⊥
-IsOfRight _ = Unit {0}
+    quoting (option_map (λ spelling. spelling.now) operands.right_quoted) (expr_type schema operands.right)
 
 -- this holds of the type of one operand and of what the other one quotes, which may be read there
 abbrev pub OneIsRead : (ExprType → Option (List ℕ) → Type 0) → Infix → Side → Side → Type 0

@@ -12,7 +12,7 @@ returns-then-not-is_covered c =
     let node = c.loop-index.index + 1 in
     let within : node ≤ length other = omega (arith, c.loop-index-test.true, length-map c.args.other.now step_model) in
     let needed : is_needed_at other node ≡ true = truth_of (is_needed_at other node) (λ off. true≢false (sym (c.if-not-is_covered.ensures.other off))) in
-    (λ h. absurd (true≢false (sym h)), λ all. absurd (not_covered own other c.requires node within needed (c.if-not-is_covered.ensures.needed needed) all))
+    (λ h. absurd (true≢false (sym h)), λ all. absurd (not_covered own other c.requires.other node within needed (c.if-not-is_covered.ensures.needed needed) all))
 
 pub loop-index-preserved : goal.loop-index-preserved
 loop-index-preserved c =

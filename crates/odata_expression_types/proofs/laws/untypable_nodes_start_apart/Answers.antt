@@ -4,7 +4,7 @@ use Rattle.odata_expression_types.proofs.laws.untypable_nodes_start_apart.Goals 
 pub returns : goal.returns
 returns c = one_untypable_start (record {
   one_call = c.calls_have_one_type.ensures.one;
-  apart = c.children_apart.ensures;
+  apart = c.children_apart.ensures.apart;
   hold = c.spans_hold.ensures;
   solid = c.spans_take_bytes.ensures;
 })

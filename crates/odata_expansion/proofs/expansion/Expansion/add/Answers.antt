@@ -1,7 +1,7 @@
-use Rattle.std.proofs.Common.{List, ℕ, Bor, map, take, sym, ap, ◌∙◌, subst, take_all}
+use Rattle.std.proofs.Common.{List, ℕ, Bor, map, take, sym, ◌∙◌, subst, take_all}
 use Rattle.std.proofs.lemmas.List.{map_more}
 use Rattle.odata_expansion.specs.PathSet.{PropertyPath}
-use Rattle.odata_expansion.specs.ExpansionView.{StepModel, paths_in, LeadsTo}
+use Rattle.odata_expansion.specs.ExpansionView.{LeadsTo}
 use Rattle.odata_expansion.proofs.Marks.{with_same}
 use Rattle.odata_expansion.proofs.expansion.Expansion.add.Goals as goal
 

@@ -1,0 +1,23 @@
+-- How a list of nodes changes while its nodes are put in their places.
+use Rattle.std.specs.Prelude.{◌≡◌, ◌⊎◌, ◌<◌, ◌≤◌, ℕ, List, [], ◌∷◌, ◌++◌, Some, length, slice_get, slice_set}
+use Rattle.edm_values.specs.declared.value.Value.{Value}
+use Rattle.odata_checked_filter.specs.declared.checked_node.CheckedNode.{CheckedNode}
+use Rattle.odata_checked_filter.specs.FlatTree.{FlatTree}
+
+-- with a value after the others
+abbrev pub with_value : FlatTree → Value → FlatTree
+with_value list value = record list { values = list.values ++ value ∷ [] }
+
+-- with another node and another text in that place
+abbrev pub node_put : FlatTree → ℕ → CheckedNode → List ℕ → FlatTree
+node_put list place put text =
+    record list { nodes = slice_set list.nodes place put; texts = slice_set list.texts place text }
+
+-- outside the places from the i-th up to the j-th all stands as it stood, and values have only been put after the others
+pub record IsKeptOutside (i j : ℕ) (old new : FlatTree) : Type 0 where
+  pub nodes : (k : ℕ) → (k < i) ⊎ (j ≤ k) → slice_get new.nodes k ≡ slice_get old.nodes k
+  pub texts : (k : ℕ) → (k < i) ⊎ (j ≤ k) → slice_get new.texts k ≡ slice_get old.texts k
+  pub values : (k : ℕ) (value : Value) → slice_get old.values k ≡ Some value → slice_get new.values k ≡ Some value
+  pub count : length new.nodes ≡ length old.nodes
+  pub beside : length new.texts ≡ length old.texts
+  pub source : new.source ≡ old.source

@@ -1,0 +1,96 @@
+-- Why a lambda operator over its base has no type, and the fault of its body.
+use Rattle.std.proofs.Common.{◌≡◌, refl, sym, ap, subst, ℕ, ◌+◌, List, Bool, false, None, Option, Some, IfSome}
+use Rattle.odata_syntax.specs.Tree.{Tree, lambda}
+use Rattle.odata_syntax.specs.declared.node.Quantifier.{Quantifier}
+use Rattle.csdl_schema.specs.ExprType.{ExprType, collection, single}
+use Rattle.odata_signatures.specs.TypeView.{expr_type, single_type}
+use Rattle.odata_signatures.specs.declared.edm_type.EdmType.{EdmType}
+use Rattle.odata_signatures.specs.declared.edm_type.ValueType.{ValueType}
+use Rattle.odata_expression_types.specs.FirstUntypable.{IsFirstUntypable}
+use Rattle.odata_expression_types.specs.Typed.{Typed, variable_type, with_variable}
+use Rattle.odata_expression_types.specs.declared.refusal.TypeFault.{TypeFault}
+use Rattle.odata_expression_types.specs.declared.refusal.TypeFaultCode.{TypeFaultCode}
+use Rattle.odata_typing.specs.declared.setting.Judged.{Judged}
+use Rattle.odata_typing.specs.declared.setting.Setting.{Setting}
+use Rattle.odata_typing.specs.declared.walk.Walk.{Walk}
+use Rattle.odata_typing.specs.private.Judging.{IsNodeJudged, IsStanding}
+use Rattle.odata_typing.specs.private.LawsBelow.{LawsBelow}
+use Rattle.odata_typing.specs.private.Settings.{name_of}
+use Rattle.odata_typing.specs.private.Variables.{scope_of}
+use Rattle.odata_typing.specs.private.Walks.{walk_refused}
+use Rattle.odata_typing.proofs.bodies.Faults.{base_reason, base_unbound, body_first, taken_reason, taken_unbound, unbound_fault}
+use Rattle.odata_typing.proofs.flat.Closing.{refused_tree, root_in, slots_in, tree_over}
+
+some_first : (fault : Option TypeFault) (P Q : TypeFault → Type 0) → ((f : TypeFault) → P f → Q f) → IfSome fault P → IfSome fault Q
+some_first (Some f) P Q then holds = then f holds
+some_first None P Q then holds = tt
+
+module _ (laws : LawsBelow) (setting : Setting) (judged : Judged) (old new : Walk) (quantifier : Quantifier) (base body : Tree) (middle : ℕ) (result : Bool)
+    (stands : IsStanding setting.schema.now setting.filtered_type (scope_of setting) old (judged.number + 1) middle base) where
+  base_refused :
+      (mid : Walk) (type : EdmType)
+      → type ≡ stands.found.edm_type
+      → (code : TypeFaultCode)
+      → result ≡ false
+      → new ≡ walk_refused mid judged.node.now.span code
+      → IsFirstUntypable (slots_in setting) (root_in setting) (scope_of setting) (tree_over judged (lambda quantifier base (name_of setting judged) body)) (record { code = code; span = judged.node.now.span })
+      → IsNodeJudged setting judged (lambda quantifier base (name_of setting judged) body) old new result
+  base_refused mid type same code stops is found =
+      refused_tree setting judged old mid new (lambda quantifier base (name_of setting judged) body) code result stops is found
+
+  base_typed : (type : EdmType) → type ≡ stands.found.edm_type → Typed (slots_in setting) (root_in setting) (scope_of setting) base (expr_type setting.schema.now type)
+  base_typed type same = subst (λ (t : EdmType). Typed (slots_in setting) (root_in setting) (scope_of setting) base (expr_type setting.schema.now t)) (sym same) stands.typed
+
+  -- the base is no collection
+  pub not_collection :
+      (mid : Walk) (type : EdmType)
+      → type ≡ stands.found.edm_type
+      → ((member : ValueType) → ¬ (type ≡ EdmType.Collection member))
+      → result ≡ false
+      → new ≡ walk_refused mid judged.node.now.span TypeFaultCode.NotCollection
+      → IsNodeJudged setting judged (lambda quantifier base (name_of setting judged) body) old new result
+  not_collection mid type same other stops is =
+      let schema = setting.schema.now in
+      let scope = scope_of setting in
+      let variable : List ℕ = name_of setting judged in
+      base_refused mid type same TypeFaultCode.NotCollection stops is
+      (unbound_fault laws (slots_in setting) (root_in setting) scope judged.node.now.span quantifier variable base body (expr_type schema type) TypeFaultCode.NotCollection (base_typed type same)
+      (base_reason schema scope variable type other) (base_unbound schema scope variable type other))
+
+  -- the variable is in scope already
+  pub variable_taken :
+      (mid : Walk) (type : EdmType) (member : ValueType) (taken : ExprType)
+      → type ≡ stands.found.edm_type
+      → type ≡ EdmType.Collection member
+      → variable_type (scope_of setting) (name_of setting judged) ≡ Some taken
+      → result ≡ false
+      → new ≡ walk_refused mid judged.node.now.span TypeFaultCode.VariableTaken
+      → IsNodeJudged setting judged (lambda quantifier base (name_of setting judged) body) old new result
+  variable_taken mid type member taken same of_member found stops is =
+      let schema = setting.schema.now in
+      let scope = scope_of setting in
+      let variable : List ℕ = name_of setting judged in
+      let m = single_type schema member in
+      let typed : Typed (slots_in setting) (root_in setting) scope base (collection m) =
+      subst (λ (t : EdmType). Typed (slots_in setting) (root_in setting) scope base (expr_type schema t)) of_member (base_typed type same) in
+      base_refused mid type same TypeFaultCode.VariableTaken stops is
+      (unbound_fault laws (slots_in setting) (root_in setting) scope judged.node.now.span quantifier variable base body (collection m) TypeFaultCode.VariableTaken typed
+      (taken_reason scope variable m taken found) (taken_unbound scope variable taken (collection m) found))
+
+  -- the body has no type
+  pub body_refused :
+      (type : EdmType) (member : ValueType)
+      → type ≡ stands.found.edm_type
+      → type ≡ EdmType.Collection member
+      → variable_type (scope_of setting) (name_of setting judged) ≡ None
+      → result ≡ false
+      → IfSome new.fault (IsFirstUntypable (slots_in setting) (root_in setting) (with_variable (scope_of setting) (name_of setting judged) (single (single_type setting.schema.now member))) body)
+      → IsNodeJudged setting judged (lambda quantifier base (name_of setting judged) body) old new result
+  body_refused type member same of_member fresh stops found =
+      let schema = setting.schema.now in
+      let scope = scope_of setting in
+      let variable : List ℕ = name_of setting judged in
+      let typed : Typed (slots_in setting) (root_in setting) scope base (collection (single_type schema member)) =
+      subst (λ (t : EdmType). Typed (slots_in setting) (root_in setting) scope base (expr_type schema t)) of_member (base_typed type same) in
+      rw stops (some_first new.fault _ _ (λ fault first.
+      body_first laws (slots_in setting) (root_in setting) scope judged.node.now.span.start judged.node.now.span.stop quantifier variable base body (single_type schema member) fault typed fresh first) found)

@@ -1,0 +1,83 @@
+-- Nodes of calls.
+use Rattle.std.proofs.Common.{◌≡◌, ◌∙◌, refl, sym, ap, subst, ℕ, ◌+◌, ◌≤◌, ◌<◌, List, [], ◌∷◌, Bool, true, false, None, Some, length, map, take, zero, suc}
+use Rattle.odata_syntax.specs.Tree.{Tree, call, trees_of_list}
+use Rattle.csdl_schema.specs.ExprType.{ExprType}
+use Rattle.csdl_schema.specs.SchemaModel.{SchemaModel}
+use Rattle.odata_signatures.specs.CallTyped.{CallReason, CallTyped, FunctionTyped}
+use Rattle.odata_signatures.specs.Functions.{IsNamed}
+use Rattle.odata_signatures.specs.TypeThere.{IsTypeThere}
+use Rattle.odata_signatures.specs.TypeView.{expr_type}
+use Rattle.odata_signatures.specs.declared.call.CallFault.{CallFault}
+use Rattle.odata_signatures.specs.declared.edm_type.EdmType.{EdmType}
+use Rattle.odata_signatures.specs.declared.function.Function.{Function}
+use Rattle.odata_expression_types.specs.FirstUntypable.{code_of_call}
+use Rattle.odata_expression_types.specs.declared.refusal.TypeFaultCode.{TypeFaultCode}
+use Rattle.odata_checked_filter.specs.declared.checked_node.CheckedNode.{CheckedNode}
+use Rattle.odata_checked_filter.specs.declared.checked_node.NodeKind.{NodeKind}
+use Rattle.odata_checked_filter.specs.Stands.{IsCallNode}
+use Rattle.odata_typing.specs.declared.setting.Judged.{Judged}
+use Rattle.odata_typing.specs.declared.setting.Setting.{Setting}
+use Rattle.odata_typing.specs.declared.walk.Walk.{Walk}
+use Rattle.odata_typing.specs.private.Judging.{AreChildren, IsNodeJudged}
+use Rattle.odata_typing.specs.private.LawsBelow.{LawsBelow}
+use Rattle.odata_typing.specs.private.Settings.{IsNodeReady}
+use Rattle.odata_typing.specs.private.Variables.{scope_of}
+use Rattle.odata_typing.specs.private.Walks.{walk_put, walk_refused}
+use Rattle.odata_typing.proofs.calls.FewArguments.{reason_by_first, typed_by_first, untyped_by_first}
+use Rattle.odata_typing.proofs.flat.Closing.{put_tree, refused_tree, root_in, slots_in}
+use Rattle.odata_typing.proofs.flat.Idle.{idle_call}
+use Rattle.odata_typing.proofs.flat.Kept.{same_more}
+use Rattle.odata_typing.proofs.placed.Rows.{IsRowOf, types_of}
+use Rattle.odata_typing.proofs.untypable.Several.{refused_call}
+
+-- the types of the code, by name, of the first nodes
+named_first : (schema : SchemaModel) (k : ℕ) (row : List CheckedNode) → map (expr_type schema) (take k (map (λ found. found.edm_type) row)) ≡ take k (types_of schema row)
+named_first schema zero row = refl
+named_first schema (suc k) [] = refl
+named_first schema (suc k) (found ∷ row) = ap (λ (types : List ExprType). expr_type schema found.edm_type ∷ types) (named_first schema k row)
+
+pub first_of_row : (schema : SchemaModel) (types : List EdmType) (row : List CheckedNode) → types ≡ take 4 (map (λ found. found.edm_type) row) → map (expr_type schema) types ≡ take 4 (types_of schema row)
+first_of_row schema types row same = ap (map (expr_type schema)) same ∙ named_first schema 4 row
+
+module _ (laws : LawsBelow) (setting : Setting) (judged : Judged) (old new : Walk) (asked : List ℕ) (arguments : List Tree) (row : List CheckedNode) (types : List EdmType) (result : Bool)
+    (ready : IsNodeReady setting old judged)
+    (is : IsRowOf setting.schema.now setting.filtered_type (scope_of setting) old arguments (judged.number + 1) judged.stop row)
+    (first : types ≡ take 4 (map (λ found. found.edm_type) row)) where
+  pub called :
+      (function : Function) (kind : NodeKind) (type : EdmType)
+      → IsNamed function asked
+      → FunctionTyped function (map (expr_type setting.schema.now) types) (expr_type setting.schema.now type)
+      → IsTypeThere setting.schema.now type
+      → IsCallNode asked kind
+      → result ≡ true
+      → new ≡ walk_put old judged kind type []
+      → IsNodeJudged setting judged (call asked (trees_of_list arguments)) old new result
+  called function kind type named makes there of_kind goes_on put =
+      let schema = setting.schema.now in
+      let span = judged.node.now.span in
+      let makes_first : FunctionTyped function (take 4 (types_of schema row)) (expr_type schema type) = subst (λ (ts : List ExprType). FunctionTyped function ts (expr_type schema type)) (first_of_row schema types row first) makes in
+      put_tree setting judged laws old old new (call asked (trees_of_list arguments)) kind type result ready (same_more old) ready.ready.fresh goes_on put there of_kind
+      (record {
+        types = types_of schema row;
+        arguments_typed = is.typed;
+        call_typed = record { function = function; named = named; typed = typed_by_first function (types_of schema row) (expr_type schema type) makes_first };
+      })
+      is.stand
+      (λ idle. idle_call (slots_in setting) (root_in setting) (scope_of setting) span.start span.stop asked arguments (is.idle idle))
+
+  pub uncalled :
+      (fault : CallFault) (code : TypeFaultCode)
+      → ((type : ExprType) → ¬ CallTyped asked (map (expr_type setting.schema.now) types) type)
+      → CallReason asked (map (expr_type setting.schema.now) types) fault
+      → code ≡ code_of_call fault
+      → result ≡ false
+      → new ≡ walk_refused old judged.node.now.span code
+      → IsNodeJudged setting judged (call asked (trees_of_list arguments)) old new result
+  uncalled fault code none reason same stops refused =
+      let schema = setting.schema.now in
+      let all : List ExprType = types_of schema row in
+      let by_first = first_of_row schema types row first in
+      refused_tree setting judged old old new (call asked (trees_of_list arguments)) code result stops refused
+      (refused_call laws (slots_in setting) (root_in setting) (scope_of setting) judged.node.now.span asked arguments all fault code is.typed is.each
+      (untyped_by_first asked all (subst (λ (ts : List ExprType). (type : ExprType) → ¬ CallTyped asked ts type) by_first none))
+      (reason_by_first asked all fault (subst (λ (ts : List ExprType). CallReason asked ts fault) by_first reason)) same)

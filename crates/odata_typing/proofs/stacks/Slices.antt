@@ -1,0 +1,90 @@
+-- The nodes of a list from one index up to another, the last one first.
+use Rattle.std.proofs.Common.{◌≡◌, refl, ap, sym, ◌∙◌, ℕ, suc, ◌+◌, ◌-◌, ◌<◌, ◌≤◌, List, [], ◌∷◌, ◌++◌, Some, reverse, take, drop, length, length-drop, get_or, slice_get, arith}
+use Rattle.std.specs.List.{slice_range}
+use Rattle.std.proofs.lemmas.List.{append_assoc, drop-drop, drop-take, get_or-drop, length-reverse, length-take-le, reverse-append, take-append-drop, take-take, take_more}
+use Rattle.std.proofs.lemmas.Option.{get_or_from_slice_get, slice_get_within}
+use Rattle.odata_syntax.specs.Places.{nodes_before}
+use Rattle.odata_syntax.specs.declared.syntax_list.SyntaxNode.{SyntaxNode}
+use Rattle.odata_typing.proofs.stacks.Stacks.{onward, run_before}
+
+pub run_empty : (nodes : List SyntaxNode) (from : ℕ) → run_before nodes from from ≡ []
+run_empty nodes from =
+    let none : from - from ≡ 0 = omega arith in
+    ap (λ (k : ℕ). reverse (take k (drop from nodes))) none
+
+-- with the first node behind them
+pub run_more :
+    (nodes : List SyntaxNode) (from index : ℕ) (n : SyntaxNode)
+    → from ≤ index
+    → slice_get nodes index ≡ Some n
+    → run_before nodes from (index + 1) ≡ n ∷ run_before nodes from index
+run_more nodes from index n order at =
+    let inside : index < length nodes = slice_get_within nodes index n at in
+    let m = index - from in
+    let more : index + 1 - from ≡ m + 1 = omega arith in
+    let count : length (drop from nodes) ≡ length nodes - from = length-drop from nodes in
+    let here : get_or (drop from nodes) m n ≡ n =
+    get_or-drop from nodes m n ∙ ap (λ (k : ℕ). get_or nodes k n) (omega arith) ∙ get_or_from_slice_get nodes index n n at in
+    ap (λ (k : ℕ). reverse (take k (drop from nodes))) more
+    ∙ ap (λ (ns : List SyntaxNode). reverse ns) (take_more (drop from nodes) m n (omega arith))
+    ∙ reverse-append (take m (drop from nodes)) (get_or (drop from nodes) m n ∷ [])
+    ∙ ap (λ (x : SyntaxNode). x ∷ reverse (take m (drop from nodes))) here
+
+-- in two parts
+range_joined : (nodes : List SyntaxNode) (from middle stop : ℕ) → from ≤ middle → middle ≤ stop → slice_range nodes from middle ++ slice_range nodes middle stop ≡ slice_range nodes from stop
+range_joined nodes from middle stop first second =
+    let a = middle - from in
+    let b = stop - middle in
+    let xs = drop from nodes in
+    let sum : stop - from ≡ a + b = omega arith in
+    let front : take a (take (a + b) xs) ≡ take a xs = take-take a (a + b) xs (omega arith) in
+    let back : drop a (take (a + b) xs) ≡ take b (drop middle nodes) =
+    drop-take a b xs ∙ ap (λ (ns : List SyntaxNode). take b ns) (drop-drop a from nodes ∙ ap (λ (k : ℕ). drop k nodes) (omega arith)) in
+    ap (λ (ns : List SyntaxNode). ns ++ take b (drop middle nodes)) (sym front)
+    ∙ ap (λ (ns : List SyntaxNode). take a (take (a + b) xs) ++ ns) (sym back)
+    ∙ take-append-drop a (take (a + b) xs)
+    ∙ ap (λ (k : ℕ). take k xs) (sym sum)
+
+pub run_joined : (nodes : List SyntaxNode) (from middle stop : ℕ) → from ≤ middle → middle ≤ stop → run_before nodes from stop ≡ run_before nodes middle stop ++ run_before nodes from middle
+run_joined nodes from middle stop first second =
+    ap (λ (ns : List SyntaxNode). reverse ns) (sym (range_joined nodes from middle stop first second))
+    ∙ reverse-append (slice_range nodes from middle) (slice_range nodes middle stop)
+
+-- all nodes before an index
+pub run_all : (nodes : List SyntaxNode) (index : ℕ) → run_before nodes 0 index ≡ nodes_before nodes index
+run_all nodes index =
+    let all : index - 0 ≡ index = omega arith in
+    ap (λ (k : ℕ). reverse (take k nodes)) all
+
+pub before_more : (nodes : List SyntaxNode) (index : ℕ) (n : SyntaxNode) → slice_get nodes index ≡ Some n → nodes_before nodes (suc index) ≡ n ∷ nodes_before nodes index
+before_more nodes index n at =
+    let next : suc index ≡ index + 1 = omega arith in
+    ap (λ (k : ℕ). nodes_before nodes k) next
+    ∙ sym (run_all nodes (index + 1))
+    ∙ run_more nodes 0 index n (omega arith) at
+    ∙ ap (λ (ns : List SyntaxNode). n ∷ ns) (run_all nodes index)
+
+pub before_joined : (nodes : List SyntaxNode) (from index : ℕ) → from ≤ index → nodes_before nodes index ≡ run_before nodes from index ++ nodes_before nodes from
+before_joined nodes from index order =
+    sym (run_all nodes index) ∙ run_joined nodes 0 from index (omega arith) order
+    ∙ ap (λ (ns : List SyntaxNode). run_before nodes from index ++ ns) (run_all nodes from)
+
+pub run_length : (nodes : List SyntaxNode) (from index : ℕ) → from ≤ index → index ≤ length nodes → length (run_before nodes from index) ≡ index - from
+run_length nodes from index order inside =
+    let count : length (drop from nodes) ≡ length nodes - from = length-drop from nodes in
+    length-reverse (take (index - from) (drop from nodes)) ∙ length-take-le (index - from) (drop from nodes) (omega arith)
+
+pub before_length : (nodes : List SyntaxNode) (index : ℕ) → index ≤ length nodes → length (nodes_before nodes index) ≡ index
+before_length nodes index inside = length-reverse (take index nodes) ∙ length-take-le index nodes inside
+
+-- nodes and those that follow them
+pub onward_is : (later earlier : List SyntaxNode) → onward later earlier ≡ reverse later ++ earlier
+onward_is [] earlier = refl
+onward_is (n ∷ later) earlier =
+    onward_is later (n ∷ earlier)
+    ∙ sym (append_assoc (reverse later) (n ∷ []) earlier)
+    ∙ ap (λ (ns : List SyntaxNode). ns ++ earlier) (sym (reverse-append (n ∷ []) later))
+
+pub onward_run : (nodes : List SyntaxNode) (from index stop : ℕ) → from ≤ index → index ≤ stop → onward (slice_range nodes index stop) (run_before nodes from index) ≡ run_before nodes from stop
+onward_run nodes from index stop first second =
+    onward_is (slice_range nodes index stop) (run_before nodes from index) ∙ sym (run_joined nodes from index stop first second)

@@ -1,0 +1,287 @@
+-- The walk over a run: what has been judged so far, and one more node.
+use Rattle.std.proofs.Common.{◌≡◌, ◌≢◌, ap, sym, subst, ◌∙◌, inl, inr, ◌⊎◌, ℕ, zero, suc, ◌+◌, ◌-◌, ◌<◌, ◌≤◌, List, [], ◌∷◌, false, Some, None, take, drop, length, slice_get, arith}
+use Rattle.std.specs.List.{slice_range}
+use Rattle.odata_syntax.specs.Places.{AreBefore, AreSideBySide, lambda_at, number_at, stop_at}
+use Rattle.odata_syntax.specs.PostOrder.{AreFedBack, Texts, child_count, last_tree, shape_over, tree_count_back, trees_back}
+use Rattle.odata_syntax.specs.Spans.{IsWithin}
+use Rattle.odata_syntax.specs.TextTree.{text_in}
+use Rattle.odata_syntax.specs.Tree.{Tree, node}
+use Rattle.odata_syntax.specs.declared.node.Quantifier.{Quantifier}
+use Rattle.odata_syntax.specs.declared.places.Place.{Place}
+use Rattle.odata_syntax.specs.declared.syntax_list.SyntaxKind.{SyntaxKind}
+use Rattle.odata_syntax.specs.declared.syntax_list.SyntaxNode.{SyntaxNode}
+use Rattle.csdl_schema.specs.SchemaModel.{slots_of, type_name_at}
+use Rattle.odata_expression_types.specs.FirstUntypable.{IsFirstUntypable}
+use Rattle.odata_expression_types.specs.declared.refusal.TypeFault.{TypeFault}
+use Rattle.odata_checked_filter.specs.ListChanges.{IsKeptOutside}
+use Rattle.odata_typing.specs.declared.setting.Judged.{Judged}
+use Rattle.odata_typing.specs.declared.setting.Setting.{Setting}
+use Rattle.odata_typing.specs.declared.walk.Walk.{Walk}
+use Rattle.odata_typing.specs.private.Judging.{AreLastTrees, IsPut}
+use Rattle.odata_typing.specs.private.Settings.{IsNodeAt, IsReady, IsRun, IsSetting, run_tree, whole_tree}
+use Rattle.odata_typing.specs.private.LawsBelow.{LawsBelow}
+use Rattle.odata_typing.specs.private.Variables.{scope_of}
+use Rattle.odata_typing.proofs.flat.Kept.{kept_on, kept_wider, same_kept}
+use Rattle.odata_typing.proofs.stacks.Children.{left_over, roots_count, trees_count}
+use Rattle.odata_typing.proofs.stacks.FirstFault.{first_fault, none_after, not_a_body}
+use Rattle.odata_typing.proofs.stacks.Judged.{AreJudged, judged_drop, judged_kept, judged_row, judged_take, judged_typed}
+use Rattle.odata_typing.proofs.stacks.Marks.{IsMarked, bodies_marked, marked_one}
+use Rattle.odata_typing.proofs.stacks.Placed.{IsPlacedFrom, placed_one}
+use Rattle.odata_typing.proofs.stacks.Ranges.{IsInRange, node_range, whole_root}
+use Rattle.odata_typing.proofs.stacks.Settings.{fed_before, fed_within, fits_within, whole_run}
+use Rattle.odata_typing.proofs.stacks.Slices.{onward_run, run_empty, run_length, run_more}
+use Rattle.odata_typing.proofs.stacks.Stacks.{BodiesBegin, NoneBegins, onward, roots_from, run_before}
+use Rattle.odata_typing.proofs.stacks.TreeRuns.{IsWholeRun, whole_trees}
+
+-- the roots and the trees of a run up to an index
+abbrev pub run_roots : Setting → ℕ → ℕ → List ℕ
+run_roots setting from index = roots_from from (run_before setting.nodes.now from index)
+
+abbrev pub run_trees : Setting → ℕ → ℕ → List Tree
+run_trees setting from index = trees_back (text_in setting.text.now) (run_before setting.nodes.now from index)
+
+abbrev pub AreTreesJudged : Setting → Walk → List ℕ → List Tree → Type 0
+AreTreesJudged setting walk roots trees =
+    AreJudged setting.schema.now setting.filtered_type (scope_of setting) walk setting.places.now roots trees
+
+-- the trees of a run up to an index have been judged, and all else stands where it stood
+pub record IsWalking (setting : Setting) (from stop index : ℕ) (old new : Walk) : Type 0 where
+  pub order : from ≤ index
+  pub inside : index ≤ stop
+  pub kept : IsKeptOutside (number_at setting.places.now (stop - 1)) (stop_at setting.places.now (stop - 1)) old.list new.list
+  pub navigates : new.navigates ≡ false → old.navigates ≡ false
+  pub fault : new.fault ≡ None
+  pub judged : AreTreesJudged setting new (run_roots setting from index) (run_trees setting from index)
+  pub apart : NoneBegins (IsMarked setting.places.now) (run_roots setting from index)
+
+pub walk_begins : (setting : Setting) (from stop : ℕ) (walk : Walk) → IsReady setting walk → from ≤ stop → IsWalking setting from stop from walk walk
+walk_begins setting from stop walk ready order =
+    let none : run_before setting.nodes.now from from ≡ [] = run_empty setting.nodes.now from in
+    record {
+      order = omega arith;
+      inside = order;
+      kept = same_kept (number_at setting.places.now (stop - 1)) (stop_at setting.places.now (stop - 1)) walk.list;
+      navigates = λ still. still;
+      fault = ready.fresh;
+      judged = subst (λ (ns : List SyntaxNode). AreTreesJudged setting walk (roots_from from ns) (trees_back (text_in setting.text.now) ns)) (sym none) tt;
+      apart = subst (λ (ns : List SyntaxNode). NoneBegins (IsMarked setting.places.now) (roots_from from ns)) (sym none) tt;
+    }
+
+pub ready_still : (setting : Setting) (from stop index : ℕ) (old new : Walk) → IsReady setting old → IsWalking setting from stop index old new → IsReady setting new
+ready_still setting from stop index old new ready walking = record {
+  source = walking.kept.source ∙ ready.source;
+  count = walking.kept.count ∙ ready.count;
+  beside = walking.kept.beside ∙ ready.beside ∙ sym walking.kept.count;
+  there = ready.there;
+  fresh = walking.fault;
+}
+
+-- the node at a root is put over the last trees of the run: the trees before these have been judged, and stand before it
+pub record IsJoin (setting : Setting) (walk : Walk) (from root : ℕ) (tree : Tree) (roots : List ℕ) (trees : List Tree) : Type 0 where
+  pub n : SyntaxNode
+  pub at : slice_get setting.nodes.now root ≡ Some n
+  pub roots_are : run_roots setting from (root + 1) ≡ root ∷ roots
+  pub trees_are : run_trees setting from (root + 1) ≡ tree ∷ trees
+  pub before : AreBefore setting.places.now (number_at setting.places.now root) roots
+  pub judged : AreTreesJudged setting walk roots trees
+  pub apart : NoneBegins (IsMarked setting.places.now) (root ∷ roots)
+
+module _ (laws : LawsBelow) where
+  -- once its tree is put, one more tree has been judged
+  pub join_walked :
+      (setting : Setting) (from stop index root : ℕ) (old walk new : Walk) (tree : Tree) (roots : List ℕ) (trees : List Tree)
+      → IsSetting setting
+      → IsRun setting from stop
+      → IsWalking setting from stop index old walk
+      → from ≤ root
+      → root < stop
+      → IsJoin setting walk from root tree roots trees
+      → IsPut setting.schema.now setting.filtered_type (scope_of setting) (number_at setting.places.now root) (stop_at setting.places.now root) tree walk new
+      → IsWalking setting from stop (root + 1) old new
+  join_walked setting from stop index root old walk new tree roots trees is run walking order inside join put =
+      let places = setting.places.now in
+      let range : IsInRange places stop root =
+      node_range setting.nodes.now places from stop root join.n is.places order inside run.inside join.at (whole_run setting from stop run) in
+      let rest : AreTreesJudged setting new roots trees =
+      judged_kept laws setting.schema.now setting.filtered_type (scope_of setting) walk new places (number_at places root) (stop_at places root) (number_at places root) roots trees
+      (record { kept = put.kept; navigates = put.navigates }) (omega arith) join.before join.judged in
+      let all : AreTreesJudged setting new (root ∷ roots) (tree ∷ trees) = (put.stands, rest) in
+      record {
+        order = omega arith;
+        inside = omega arith;
+        kept =
+            kept_on (number_at places (stop - 1)) (stop_at places (stop - 1)) old.list walk.list new.list walking.kept
+            (kept_wider (number_at places root) (stop_at places root) (number_at places (stop - 1)) (stop_at places (stop - 1)) walk.list new.list range.start range.end put.kept);
+        navigates = λ still. walking.navigates (put.navigates still);
+        fault = put.fault;
+        judged =
+            subst (λ (rs : List ℕ). AreTreesJudged setting new rs (run_trees setting from (root + 1))) (sym join.roots_are)
+            (subst (λ (ts : List Tree). AreTreesJudged setting new (root ∷ roots) ts) (sym join.trees_are) all);
+        apart = subst (λ (rs : List ℕ). NoneBegins (IsMarked places) rs) (sym join.roots_are) join.apart;
+      }
+
+  -- where its tree has a fault, that is the first one of the run
+  pub join_faulted :
+      (setting : Setting) (from stop root : ℕ) (walk : Walk) (tree : Tree) (roots : List ℕ) (trees : List Tree) (fault : TypeFault)
+      → IsSetting setting
+      → IsRun setting from stop
+      → from ≤ root
+      → root < stop
+      → IsJoin setting walk from root tree roots trees
+      → IsFirstUntypable (slots_of setting.schema.now) (type_name_at setting.schema.now setting.filtered_type) (scope_of setting) tree fault
+      → IsFirstUntypable (slots_of setting.schema.now) (type_name_at setting.schema.now setting.filtered_type) (scope_of setting) (run_tree setting from stop) fault
+  join_faulted setting from stop root walk tree roots trees fault is run order inside join found =
+      let slots = slots_of setting.schema.now in
+      let root_type = type_name_at setting.schema.now setting.filtered_type in
+      let scope = scope_of setting in
+      let nodes = setting.nodes.now in
+      let places = setting.places.now in
+      let names : Texts = text_in setting.text.now in
+      let later = slice_range nodes (root + 1) stop in
+      let earlier = run_before nodes from (root + 1) in
+      let last : stop ≤ length nodes = run.inside in
+      let so_far : onward later earlier ≡ run_before nodes from stop = onward_run nodes from (root + 1) stop (omega arith) (omega arith) in
+      let marked : BodiesBegin (IsMarked places) from (run_before nodes from stop) =
+      bodies_marked nodes places from stop is.places (fed_before setting stop is last) (omega arith) last run.whole.fed in
+      subst (λ (ns : List SyntaxNode). IsFirstUntypable slots root_type scope (last_tree (trees_back names ns)) fault) so_far
+      (first_fault laws.spans laws.clear laws.below (IsMarked places) slots root_type scope (whole_tree setting) from names fault later earlier tree trees
+      is.expression
+      (subst (λ (ns : List SyntaxNode). AreFedBack ns) (sym so_far) run.whole.fed)
+      (subst (λ (ns : List SyntaxNode). tree_count_back ns ≡ 1) (sym so_far) run.whole.one)
+      (subst (λ (ns : List SyntaxNode). IsWithin (last_tree (trees_back names ns)) (whole_tree setting)) (sym so_far) run.within)
+      (subst (λ (ns : List SyntaxNode). BodiesBegin (IsMarked places) from ns) (sym so_far) marked)
+      (subst (λ (rs : List ℕ). NoneBegins (IsMarked places) rs) (sym join.roots_are) join.apart)
+      join.trees_are
+      (judged_typed setting.schema.now setting.filtered_type scope walk places roots trees join.judged)
+      found)
+
+-- A node that is no lambda expression.
+
+-- its children have been judged
+pub node_children :
+    (setting : Setting) (from stop index : ℕ) (old walk : Walk) (judged : Judged)
+    → IsSetting setting
+    → IsRun setting from stop
+    → IsWalking setting from stop index old walk
+    → index < stop
+    → IsNodeAt setting index judged
+    → AreLastTrees setting walk judged (run_trees setting from index)
+node_children setting from stop index old walk judged is run walking inside at =
+    let nodes = setting.nodes.now in
+    let places = setting.places.now in
+    let n = judged.node.now in
+    let count = child_count n.kind n.count in
+    let trees = run_trees setting from index in
+    let earlier = run_before nodes from index in
+    let last : stop ≤ length nodes = run.inside in
+    let fits : count ≤ tree_count_back earlier = fits_within setting from stop index n run walking.order inside at.at in
+    let many : length trees ≡ tree_count_back earlier = trees_count (text_in setting.text.now) earlier in
+    let placed : IsPlacedFrom places from n earlier =
+    placed_one nodes places from index n is.places walking.order (omega arith) at.at (fed_within setting from stop index run walking.order walking.inside) fits in
+    let own : length earlier ≡ index - from = run_length nodes from index walking.order (omega arith) in
+    let order : from ≤ index = walking.order in
+    let here : from + length earlier ≡ index = omega arith in
+    let Row : ℕ → Type 0 = λ (k : ℕ). AreSideBySide places (number_at places k + 1) (stop_at places k) (take count (run_roots setting from index)) in
+    let row : Row index = subst Row here placed.children in
+    let number : AreSideBySide places (judged.number + 1) (stop_at places index) (take count (run_roots setting from index)) =
+    subst (λ (k : ℕ). AreSideBySide places (k + 1) (stop_at places index) (take count (run_roots setting from index))) (sym at.number) row in
+    let both : AreSideBySide places (judged.number + 1) judged.stop (take count (run_roots setting from index)) =
+    subst (λ (k : ℕ). AreSideBySide places (judged.number + 1) k (take count (run_roots setting from index))) (sym at.stop) number in
+    record {
+      enough = omega arith;
+      children =
+          judged_row setting.schema.now setting.filtered_type (scope_of setting) walk places (judged.number + 1) judged.stop
+          (take count (run_roots setting from index)) (take count trees) both
+          (judged_take setting.schema.now setting.filtered_type (scope_of setting) walk places count (run_roots setting from index) trees walking.judged);
+    }
+
+-- where no body begins with it, it is no lambda expression
+pub node_is_plain :
+    (setting : Setting) (from stop index : ℕ) (old walk : Walk) (n : SyntaxNode) (quantifier : Quantifier)
+    → IsSetting setting
+    → IsRun setting from stop
+    → IsWalking setting from stop index old walk
+    → index < stop
+    → slice_get setting.nodes.now index ≡ Some n
+    → n.kind ≢ SyntaxKind.Lambda quantifier
+node_is_plain setting from stop index old walk n quantifier is run walking inside at lambda =
+    let nodes = setting.nodes.now in
+    let earlier = run_before nodes from index in
+    let last : stop ≤ length nodes = run.inside in
+    let fits : child_count n.kind n.count ≤ tree_count_back earlier = fits_within setting from stop index n run walking.order inside at in
+    let two : child_count n.kind n.count ≡ 2 = ap (λ (k : SyntaxKind). child_count k n.count) lambda in
+    let count : length (run_roots setting from index) ≡ tree_count_back earlier = roots_count from earlier in
+    not_a_body (IsMarked setting.places.now) from (run_roots setting from index) (omega arith)
+    (marked_one nodes setting.places.now from index n quantifier is.places (fed_before setting index is (omega arith)) walking.order at lambda
+    (fed_within setting from stop index run walking.order walking.inside) fits)
+    walking.apart
+
+-- the trees that it leaves begin no body, and it begins none
+leaf_apart :
+    (places : List Place) (from index count : ℕ) (earlier : List SyntaxNode)
+    → from + length earlier ≡ index
+    → (lambda_at places index ≡ 0) ⊎ (index ≡ from)
+    → NoneBegins (IsMarked places) (roots_from from earlier)
+    → NoneBegins (IsMarked places) (index ∷ drop count (roots_from from earlier))
+leaf_apart places from index zero [] long unmarked none = tt
+leaf_apart places from index zero (n ∷ earlier) long (inl unmarked) none =
+    let next : from + length earlier + 1 ≡ index = omega arith in
+    (λ marked. marked (ap (λ (k : ℕ). lambda_at places k) next ∙ unmarked), none)
+leaf_apart places from index zero (n ∷ earlier) long (inr first) none = absurd (omega arith)
+leaf_apart places from index (suc count) earlier long unmarked none = none_after (IsMarked places) index count (roots_from from earlier) none
+
+-- it joins the last trees
+pub node_joins :
+    (setting : Setting) (from stop index : ℕ) (old walk : Walk) (n : SyntaxNode)
+    → IsSetting setting
+    → IsRun setting from stop
+    → IsWalking setting from stop index old walk
+    → index < stop
+    → slice_get setting.nodes.now index ≡ Some n
+    → (lambda_at setting.places.now index ≡ 0) ⊎ (index ≡ from)
+    → IsJoin setting walk from index
+    (node n.span.start n.span.stop (shape_over n.kind (text_in setting.text.now n.text) n.count (run_trees setting from index)))
+    (drop (child_count n.kind n.count) (run_roots setting from index))
+    (drop (child_count n.kind n.count) (run_trees setting from index))
+node_joins setting from stop index old walk n is run walking inside at unmarked =
+    let nodes = setting.nodes.now in
+    let places = setting.places.now in
+    let count = child_count n.kind n.count in
+    let names : Texts = text_in setting.text.now in
+    let earlier = run_before nodes from index in
+    let trees = run_trees setting from index in
+    let roots = run_roots setting from index in
+    let last : stop ≤ length nodes = run.inside in
+    let order : from ≤ index = walking.order in
+    let fits : count ≤ tree_count_back earlier = fits_within setting from stop index n run walking.order inside at in
+    let placed : IsPlacedFrom places from n earlier =
+    placed_one nodes places from index n is.places walking.order (omega arith) at (fed_within setting from stop index run walking.order walking.inside) fits in
+    let own : length earlier ≡ index - from = run_length nodes from index walking.order (omega arith) in
+    let here : from + length earlier ≡ index = omega arith in
+    let next : run_before nodes from (index + 1) ≡ n ∷ earlier = run_more nodes from index n walking.order at in
+    let own_tree = node n.span.start n.span.stop (shape_over n.kind (names n.text) n.count trees) in
+    record {
+      n = n;
+      at = at;
+      roots_are = ap (λ (ns : List SyntaxNode). roots_from from ns) next ∙ ap (λ (k : ℕ). k ∷ drop count roots) here;
+      trees_are = ap (λ (ns : List SyntaxNode). trees_back names ns) next ∙ ap (λ (ts : List Tree). own_tree ∷ ts) (left_over n.kind n.count trees);
+      before = subst (λ (k : ℕ). AreBefore places (number_at places k) (drop count roots)) here placed.older;
+      judged = judged_drop setting.schema.now setting.filtered_type (scope_of setting) walk places count roots trees walking.judged;
+      apart = leaf_apart places from index count earlier here unmarked walking.apart;
+    }
+
+-- at the end the tree of the run has been put
+pub walk_ends :
+    (setting : Setting) (from stop : ℕ) (old new : Walk)
+    → IsRun setting from stop
+    → IsWalking setting from stop stop old new
+    → IsPut setting.schema.now setting.filtered_type (scope_of setting) (number_at setting.places.now (stop - 1)) (stop_at setting.places.now (stop - 1)) (run_tree setting from stop) old new
+walk_ends setting from stop old new run walking =
+    let nodes = setting.nodes.now in
+    let whole : IsWholeRun (run_before nodes from stop) = whole_run setting from stop run in
+    let roots : run_roots setting from stop ≡ (stop - 1) ∷ [] = whole_root nodes from stop walking.order run.inside whole in
+    let trees : run_trees setting from stop ≡ run_tree setting from stop ∷ [] = whole_trees (text_in setting.text.now) (run_before nodes from stop) whole in
+    let all : AreTreesJudged setting new ((stop - 1) ∷ []) (run_tree setting from stop ∷ []) =
+    subst (λ (rs : List ℕ). AreTreesJudged setting new rs (run_tree setting from stop ∷ [])) roots
+    (subst (λ (ts : List Tree). AreTreesJudged setting new (run_roots setting from stop) ts) trees walking.judged) in
+    record { kept = walking.kept; stands = all.0; navigates = walking.navigates; fault = walking.fault }

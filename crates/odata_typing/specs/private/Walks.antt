@@ -1,0 +1,49 @@
+-- For private clauses: what a walk keeps of a node.
+use Rattle.std.specs.Prelude.{◌≡◌, List, [], ℕ, Bool, true, false, None, Some}
+use Rattle.edm_values.specs.declared.primitive.PrimitiveType.{PrimitiveType}
+use Rattle.edm_values.specs.declared.value.Value.{Value}
+use Rattle.odata_text.specs.declared.span.Span.{Span}
+use Rattle.odata_signatures.specs.declared.edm_type.EdmType.{EdmType}
+use Rattle.odata_signatures.specs.declared.edm_type.ValueType.{ValueType}
+use Rattle.odata_expression_types.specs.declared.refusal.TypeFaultCode.{TypeFaultCode}
+use Rattle.odata_checked_filter.specs.declared.checked_node.CheckedNode.{CheckedNode}
+use Rattle.odata_checked_filter.specs.declared.checked_node.NodeKind.{NodeKind}
+use Rattle.odata_checked_filter.specs.FlatTree.{FlatTree}
+use Rattle.odata_checked_filter.specs.ListChanges.{node_put, with_value}
+use Rattle.odata_typing.specs.declared.in_list.ItemsFit.{ItemsFit}
+use Rattle.odata_typing.specs.declared.setting.Judged.{Judged}
+use Rattle.odata_typing.specs.declared.walk.Walk.{Walk}
+
+-- the node that is put for one that was judged
+abbrev pub checked : Judged → NodeKind → EdmType → CheckedNode
+checked judged kind edm_type =
+    record { kind = kind; span = judged.node.now.span; edm_type = edm_type; stop = judged.stop }
+
+-- the walk before the first node
+abbrev pub walk_over : FlatTree → Walk
+walk_over list = record { list = list; fault = None; navigates = false }
+
+-- the walk with that node and its text in their place
+abbrev pub walk_put : Walk → Judged → NodeKind → EdmType → List ℕ → Walk
+walk_put walk judged kind edm_type text =
+    record walk { list = node_put walk.list judged.number (checked judged kind edm_type) text }
+
+-- with a fault
+abbrev pub walk_refused : Walk → Span → TypeFaultCode → Walk
+walk_refused walk span code = record walk { fault = Some (record { code = code; span = span }) }
+
+-- the type of a truth value
+abbrev pub truth_type : EdmType
+truth_type = EdmType.Single (ValueType.Prim PrimitiveType.Bool)
+
+-- with the node of a list whose items fit, or with the fault that one does not
+abbrev pub list_put : Walk → Judged → NodeKind → ItemsFit → Walk
+list_put walk judged kind ItemsFit.All = walk_put walk judged kind truth_type []
+list_put walk judged kind ItemsFit.Refused = walk_refused walk judged.node.now.span TypeFaultCode.OperandTypes
+list_put walk judged kind ItemsFit.Unknown = walk_refused walk judged.node.now.span TypeFaultCode.UnknownEnum
+list_put walk judged kind ItemsFit.OutOfMemory = walk
+
+-- with a value after the others, unless an allocation failed
+abbrev pub IsPutIn : Walk → Value → Walk → Bool → Type 0
+IsPutIn old value new true = new ≡ record old { list = with_value old.list value }
+IsPutIn old value new false = new ≡ old
