@@ -1,4 +1,4 @@
-//! The rows that `bench/rows` makes, as structs that were written for their types. Their fields check what the program
+//! The rows that `bench/rows` draws, as structs that were written for their types. Their fields check what the program
 //! checks of a declared member; a member that is not declared is passed over, whatever its numbers are.
 use crate::texts::{Color, Date, Guid, Moment, Text};
 use serde::Deserialize;
@@ -68,12 +68,12 @@ struct Part<'a> {
 
 impl Item<'_> {
     pub fn is_kept(&self) -> bool {
-        self.active && self.id == 1 && self.name == "row of a file"
+        self.active && self.id == 1 && self.name == "a"
     }
 }
 
 impl Product<'_> {
     pub fn is_kept(&self) -> bool {
-        self.id == 1 && self.name == "a garden table of a file"
+        self.active == Some(true) && self.id == 1 && self.name == "a"
     }
 }
