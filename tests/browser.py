@@ -66,6 +66,11 @@ class Browser:
         each = [{"type": kind, "value": key} for key in keys for kind in ("keyDown", "keyUp")]
         self.command("/actions", actions=[{"type": "key", "id": "keys", "actions": each}])
 
+    def point(self, selector):
+        """Moves the pointer to the middle of an element."""
+        move = {"type": "pointerMove", "duration": 0, "x": 0, "y": 0, "origin": {ELEMENT: self.find(selector)}}
+        self.command("/actions", actions=[{"type": "pointer", "id": "mouse", "actions": [move]}])
+
     def until(self, script, *given, limit=LIMIT):
         """Waits until a script returns something true, and returns that; None where it never does."""
         end = time.monotonic() + limit
