@@ -9,7 +9,6 @@ import functools
 import json
 import secrets
 import sys
-import threading
 from http.server import BaseHTTPRequestHandler, ThreadingHTTPServer
 from os.path import dirname, join, realpath
 
@@ -17,7 +16,6 @@ import odfilter
 
 BODY_LIMIT = 1 << 24  # bytes of one question
 LINE_LIMIT = 1 << 20  # bytes of a row, as `odfilter filter` has it
-STACK = 1 << 24  # bytes for a thread: the deepest filters want 6 MiB
 HOSTS = ("127.0.0.1", "localhost")
 POLICY = "default-src 'none'; script-src 'nonce-{0}'; style-src 'nonce-{0}'; connect-src 'self'; img-src data:; "
 POLICY += "base-uri 'none'; form-action 'none'; frame-ancestors 'none'; require-trusted-types-for 'script'"
@@ -203,7 +201,6 @@ class Page(BaseHTTPRequestHandler):
 
 
 if __name__ == "__main__":
-    threading.stack_size(STACK)
     with ThreadingHTTPServer(("127.0.0.1", int((sys.argv[1:] or [8765])[0])), Page) as server:
         print(f"http://127.0.0.1:{server.server_port}", flush=True)
         try:

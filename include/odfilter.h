@@ -48,9 +48,7 @@
  *
  * WHAT THE CALLER OWES: an address that is not NULL is that of as many bytes as its length says, or of what its
  * type says; a handle comes from this library and was not freed; room, bytes, handle places and answers of one
- * call do not overlap. A thread that checks, explains or frees filters, or judges rows by them, has 6 MiB of stack
- * for texts of any length, or 1 MiB where it takes no filter's text of over 512 bytes: the depth of a text is
- * bounded only by its length.
+ * call do not overlap. 256 KiB of stack suffice for the deepest texts tested.
  */
 #ifndef ODFILTER_H
 #define ODFILTER_H

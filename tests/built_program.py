@@ -64,6 +64,11 @@ def on_stack(size):
     return limited(resource.RLIMIT_STACK, size)
 
 
+def on_small_stack(program):
+    """Options of a run of that program on the least stack on which it works: the second compiler's frames are larger."""
+    return on_stack(512 << 10 if program.endswith(".by-rattle") else 256 << 10)
+
+
 def answers_as_memory_grows(words, rows="", program=PROGRAM):
     """The answers of runs with more and more memory, from the first of the program's own: each change, its size."""
     answers = []

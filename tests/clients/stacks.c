@@ -1,113 +1,270 @@
-/* The deepest texts of so many bytes, checked, written and judged on a thread of so much stack: `stacks KIB BYTES`. */
+/* The deepest texts of so many bytes on threads of so much stack: checked, and then written, explained, counted, judged
+ * and freed. `stacks KIB BYTES`. */
 #include <pthread.h>
 
 #include "checks.h"
 
-#define TAGGED                                                                                                         \
-    "{\"$Version\":\"4.01\",\"Mini\":{\"Item\":{\"$Kind\":\"EntityType\",\"ID\":{\"$Type\":\"Edm.Int32\"},"            \
-    "\"Name\":{},\"Active\":{\"$Type\":\"Edm.Boolean\"},\"Tags\":{\"$Collection\":true}}}}"
-#define TAGGED_ROW "{\"ID\":1,\"Name\":\"a\",\"Active\":true,\"Tags\":[\"a\"],\"more\":"
+#define LIMIT 16384
+#define TOKENS 4096
+#define OPEN 64
+#define DRAWN 200
+#define TYPES                                                                                                          \
+    "{\"$Version\":\"4.01\",\"N\":{\"C\":{\"$Kind\":\"ComplexType\",\"C\":{\"$Type\":\"N.C\",\"$Nullable\":true}},"    \
+    "\"Item\":{\"$Kind\":\"EntityType\",\"ID\":{\"$Type\":\"Edm.Int32\"},\"Name\":{},"                                 \
+    "\"Active\":{\"$Type\":\"Edm.Boolean\"},\"Tags\":{\"$Collection\":true},"                                          \
+    "\"C\":{\"$Type\":\"N.C\",\"$Nullable\":true},"                                                                    \
+    "\"To\":{\"$Kind\":\"NavigationProperty\",\"$Type\":\"N.Item\",\"$Nullable\":true}}}}"
+#define ITEM_ROW                                                                                                       \
+    "{\"ID\":1,\"Name\":\"a\",\"Active\":true,\"Tags\":[\"a\"],\"C\":null,\"To\":null,\"more\":"
+
+/* a text as it grows, with what the limits count of it */
+struct text {
+    char at[LIMIT + 1];
+    size_t length, tokens, open;
+};
 
 static odfilter_handle *type;
 static size_t limit;
+static size_t stack_kib;
 /* a row with a member of the greatest depth */
 static char row[512];
+static struct text text;
+static odfilter_handle *filter;
+static odfilter_room room;
+static uint32_t wanted;
 
-/* a text that begins so, goes on so often as the limits let it, and ends so */
-static odfilter_bytes text_of(const char *before, const char *middle, const char *behind, size_t tokens)
+static void on_thread(void *(*work)(void *))
 {
-    size_t length = strlen(before), times = 0;
-    odfilter_bytes bytes;
-    char *at = block(limit);
-    memcpy(at, before, length);
-    while (length + strlen(middle) + strlen(behind) <= limit && ++times < (4096 - 8) / tokens) {
-        memcpy(at + length, middle, strlen(middle));
-        length += strlen(middle);
-    }
-    memcpy(at + length, behind, strlen(behind));
-    bytes.at = at;
-    bytes.length = length + strlen(behind);
-    return bytes;
+    pthread_attr_t attributes;
+    pthread_t thread;
+    check("a stack", !pthread_attr_init(&attributes) && !pthread_attr_setstacksize(&attributes, stack_kib << 10));
+    check("a thread starts", !pthread_create(&thread, &attributes, work, NULL));
+    check("a thread ends", !pthread_join(thread, NULL));
+    pthread_attr_destroy(&attributes);
 }
 
-static void use(odfilter_handle *filter)
+static void *check_it(void *nothing)
+{
+    odfilter_bytes bytes = {text.at, text.length};
+    odfilter_answer answer;
+    if (odfilter_check(type, bytes, &filter, &answer) != wanted) {
+        check("the text is checked", 0);
+        printf("  %.60s\n", text.at);
+    }
+    return nothing;
+}
+
+static void *use_it(void *nothing)
 {
     odfilter_handle *judge = new_judge();
-    odfilter_room room = {block(1 << 25), 1 << 25};
     odfilter_answer answer;
     uint32_t verdict;
     check("its canonical text", odfilter_canonical(filter, room, &answer) == ODFILTER_OK && answer.length > 0);
     check("its explanation", odfilter_explain(filter, room, &answer) == ODFILTER_OK && answer.length > 0);
+    check("its nodes", odfilter_node_count(filter, &answer) == ODFILTER_OK && answer.number > 0);
+    check("its lambda operators", odfilter_lambda_depth(filter, &answer) == ODFILTER_OK && answer.number <= OPEN);
+    check("its paths", odfilter_property_paths(filter, room, &answer) == ODFILTER_OK);
     check("a row is judged", judged(filter, judge, row, &verdict) == ODFILTER_OK);
     odfilter_free(&judge);
-    free(room.at);
-}
-
-static void is_used(const char *name, odfilter_bytes text)
-{
-    odfilter_handle *filter = NULL;
-    odfilter_answer answer;
-    check(name, odfilter_check(type, text, &filter, &answer) == ODFILTER_OK);
-    if (filter)
-        use(filter);
     check("the filter is freed", odfilter_free(&filter) == ODFILTER_OK);
-    drop(text);
+    return nothing;
 }
 
-static void deepest(const char *before, const char *middle, const char *behind, size_t tokens)
+/* checks the text, which has to give this status, and uses the filter on a thread of its own */
+static void is_answered(const char *name, uint32_t status)
 {
-    is_used(middle, text_of(before, middle, behind, tokens));
+    wanted = status;
+    filter = NULL;
+    on_thread(check_it);
+    check(name, (filter != NULL) == (status == ODFILTER_OK));
+    if (filter)
+        on_thread(use_it);
 }
 
-/* as many lambda operators in one another as the limits let in */
-static void lambdas(void)
+static void begin(const char *start)
 {
-    size_t count = limit / 13 - 1 < 64 ? limit / 13 - 1 : 64, number;
-    char text[1024], *at = text;
-    for (number = 0; number < count; number++)
-        at += sprintf(at, "Tags/any(%c%c:", 'a' + (int)number / 26, 'a' + (int)number % 26);
-    at += sprintf(at, "true");
-    memset(at, ')', count);
-    at[count] = 0;
-    is_used("lambda operators", bytes_of(text));
+    text.length = strlen(start);
+    memcpy(text.at, start, text.length + 1);
+    /* more than a start has, and what is put at an end */
+    text.tokens = 24;
+    text.open = 0;
+}
+
+/* puts a piece before and one behind, of so many tokens and parentheses, if the limits let it */
+static int put_around(const char *before, const char *behind, size_t tokens, size_t open)
+{
+    size_t front = strlen(before), back = strlen(behind);
+    if (text.length + front + back > limit || text.tokens + tokens > TOKENS || text.open + open > OPEN)
+        return 0;
+    memmove(text.at + front, text.at, text.length);
+    memcpy(text.at, before, front);
+    memcpy(text.at + front + text.length, behind, back + 1);
+    text.length += front + back;
+    text.tokens += tokens;
+    text.open += open;
+    return 1;
+}
+
+/* so many times, or as often as the limits let it */
+static void put_often(const char *before, const char *behind, size_t tokens, size_t open, size_t times)
+{
+    while (times-- && put_around(before, behind, tokens, open))
+        continue;
+}
+
+/* a long chain around a start, what follows it in parentheses, and what follows these */
+struct chain {
+    const char *start, *before, *behind, *inner, *outer;
+    size_t tokens, times;
+    uint32_t status;
+};
+
+static const struct chain chains[] = {
+    {"true", "not ", "", "", "", 1, TOKENS, ODFILTER_OK},
+    {"null", "-", "", "", " eq null", 1, TOKENS, ODFILTER_OK},
+    {"Active", "", " and Active", "", "", 2, TOKENS, ODFILTER_OK},
+    {"Active", "", " eq Active", "", "", 2, TOKENS, ODFILTER_OK},
+    {"false", "", " or false", "", "", 2, TOKENS, ODFILTER_OK},
+    {"ID", "", " add 1", "", " eq 1", 2, TOKENS, ODFILTER_OK},
+    {"1 eq 1", "", " or 1 eq ID", "", "", 4, TOKENS, ODFILTER_OK},
+    {"true", "contains(Name,'a') and ", "", "", "", 7, TOKENS, ODFILTER_OK},
+    {"C", "", "/C", "", " eq null", 2, 2000, ODFILTER_OK},
+    {"To", "", "/To", "", " eq null", 2, 2000, ODFILTER_OK},
+    {"To", "", "/To", "/Tags/any(t:t eq 'a')", "", 2, 2000, ODFILTER_OK},
+    {"ID in (1", "", ",1", ")", "", 2, TOKENS, ODFILTER_OK},
+    {"contains(Name", "", ",Name", ")", "", 2, TOKENS, ODFILTER_TYPE_FAULT},
+    {"Active and Foo", "", " and Active", "", "", 2, TOKENS, ODFILTER_TYPE_FAULT},
+    {"Active and", "not ", "", "", "", 1, TOKENS, ODFILTER_SYNTAX_FAULT},
+};
+
+static void chain_of(const struct chain *chain, size_t groups)
+{
+    size_t kept = limit;
+    limit -= 2 * groups + strlen(chain->inner) + strlen(chain->outer);
+    begin(chain->start);
+    text.tokens += 2 * groups;
+    put_often(chain->before, chain->behind, chain->tokens, 0, chain->times);
+    limit = kept;
+    put_around("", chain->inner, 0, 0);
+    put_often("(", ")", 0, 1, groups);
+    put_around("", chain->outer, 0, 0);
+    is_answered(chain->before[0] ? chain->before : chain->behind, chain->status);
+}
+
+/* as many as the limits let in, each in the one before: groups with three levels between them, and calls */
+static void nested(void)
+{
+    static const char *const before[] = {"not (", "true and (", "false or true and true eq (", "true in (",
+                                         "false or true and true eq true in ("};
+    size_t number, most = limit < LIMIT ? OPEN / 4 : OPEN;
+    for (number = 0; number < sizeof before / sizeof *before; number++) {
+        begin("true");
+        put_often(before[number], ")", 8, 1, most);
+        is_answered(before[number], ODFILTER_OK);
+    }
+    begin("1");
+    put_often("1 add 1 mul -(", ")", 6, 1, most);
+    put_around("", " eq 1", 0, 0);
+    is_answered("arithmetic", ODFILTER_OK);
+    begin("Name");
+    put_often("concat(Name,", ")", 5, 1, most);
+    put_around("", " eq Name", 0, 0);
+    is_answered("calls", ODFILTER_OK);
+}
+
+/* lambda operators in one another, each after this */
+static void lambdas(const char *behind)
+{
+    size_t number;
+    char before[64];
+    begin("true");
+    for (number = 0; number < OPEN; number++) {
+        snprintf(before, sizeof before, "%sTags/any(v%d:", behind, (int)number);
+        put_around(before, ")", 14, 1);
+    }
+    is_answered("lambda operators", ODFILTER_OK);
+}
+
+static unsigned long drawn_from = 1;
+
+static size_t draw(size_t below)
+{
+    drawn_from = drawn_from * 6364136223846793005ul + 1442695040888963407ul;
+    return (size_t)(drawn_from >> 33) % below;
+}
+
+/* what may stand around a truth value */
+struct around {
+    const char *before, *behind;
+    size_t tokens, open;
+};
+
+static const struct around wraps[] = {
+    {"not ", "", 1, 0},           {"", " and Active", 2, 0},         {"", " or false", 2, 0},
+    {"", " eq true", 2, 0},       {"Active or ", "", 2, 0},          {"", " ne null", 2, 0},
+    {"", " in (true,false)", 6, 0}, {"", " and (C/C/C eq null)", 10, 0}, {"(", ")", 2, 1},
+    {"not (", ")", 3, 1},         {"true eq (", ")", 4, 1},          {"true in (", ",false)", 6, 1},
+    {"false or Active eq (", ")", 6, 1},
+};
+
+/* more around a truth value, drawn: some of it a chain */
+static void draw_around(void)
+{
+    const struct around *wrap = &wraps[draw(sizeof wraps / sizeof *wraps)];
+    size_t times = 1 + draw(draw(4) ? 4 : 400);
+    char lambda[32];
+    if (draw(12)) {
+        put_often(wrap->before, wrap->behind, wrap->tokens, wrap->open, wrap->open ? 1 : times);
+        return;
+    }
+    snprintf(lambda, sizeof lambda, "Tags/any(v%d:", (int)text.open);
+    put_around(lambda, ")", 8, 1);
+}
+
+static void mixtures(void)
+{
+    size_t number, times;
+    for (number = 0; number < DRAWN; number++) {
+        begin(draw(2) ? "true" : "(1 add - - ID mul 2 gt 3)");
+        /* a group within, and one after */
+        text.open = 2;
+        for (times = 10 + draw(300); times; times--)
+            draw_around();
+        is_answered("a mixture", ODFILTER_OK);
+    }
 }
 
 static void make_row(void)
 {
-    size_t length = strlen(TAGGED_ROW), depth = 126;
-    memcpy(row, TAGGED_ROW, length);
+    size_t length = strlen(ITEM_ROW), depth = 126;
+    memcpy(row, ITEM_ROW, length);
     memset(row + length, '[', depth);
     memset(row + length + depth, ']', depth);
     row[length + 2 * depth] = '}';
 }
 
-static void *work_of(void *given)
-{
-    deepest("", "not ", "true", 1);
-    deepest("", "-", "null", 1);
-    deepest("Active", " and Active", "", 2);
-    deepest("Active", " eq Active", "", 2);
-    deepest("1 eq 1", " or 1 eq ID", "", 4);
-    deepest("ID in (1", ",1", ")", 2);
-    deepest("", "contains(Name,'a') and ", "true", 7);
-    lambdas();
-    return given;
-}
-
 int main(int count, char **words)
 {
-    odfilter_handle *schema = schema_of(TAGGED);
-    pthread_attr_t attributes;
-    pthread_t thread;
-    limit = count == 3 ? (size_t)atol(words[2]) : 0;
-    type = type_of(schema, "Mini.Item");
+    odfilter_handle *schema = schema_of(TYPES);
+    size_t number;
+    if (count != 3)
+        abort();
+    stack_kib = (size_t)atol(words[1]);
+    limit = (size_t)atol(words[2]);
+    type = type_of(schema, "N.Item");
     make_row();
-    check("a stack", count == 3 && !pthread_attr_init(&attributes) &&
-                         !pthread_attr_setstacksize(&attributes, (size_t)atol(words[1]) << 10));
-    check("a thread starts", !pthread_create(&thread, &attributes, work_of, NULL));
-    check("a thread ends", !pthread_join(thread, NULL));
-    pthread_attr_destroy(&attributes);
+    room.length = 1 << 25;
+    room.at = block(room.length);
+    for (number = 0; number < sizeof chains / sizeof *chains; number++) {
+        chain_of(&chains[number], 0);
+        chain_of(&chains[number], limit < LIMIT ? 8 : OPEN - 2);
+    }
+    nested();
+    lambdas("");
+    lambdas("false or true and true eq ");
+    mixtures();
     odfilter_free(&schema);
     odfilter_free(&type);
+    free(room.at);
     return end();
 }

@@ -25,8 +25,7 @@ its UTF-8.
 Each object holds something of the library and gives it back by `close()`, at the end of `with`, or when it is
 collected. They may be closed in any order: each keeps what it needs. Schemas, types and filters may be used from
 several threads at once. A judge may too, but its calls wait for one another: let each thread have its own. Other
-threads run while a call does. The deepest filters want 6 MiB of a thread's stack, and Linux gives 8; a program that
-sets less (threading.stack_size) has to refuse long filters first.
+threads run while a call does. 256 KiB of a thread's stack suffice for the deepest filters tested.
 
 The library is found by an argument, `Schema(document, odfilter.Library("/path/libodfilter.so"))`, else by the variable
 ODFILTER_LIBRARY, else as libodfilter.so in the folder of this module, or in the one that holds that.
