@@ -2,7 +2,6 @@
 pub mod AndChains
 pub mod BaseSteps
 pub mod CallSteps
-pub mod CallValues
 pub mod Children
 pub mod Compared
 pub mod ItemSteps
@@ -11,9 +10,7 @@ pub mod Lambdas
 pub mod Leaves
 pub mod MemberSteps
 pub mod MemberValues
-pub mod Members
 pub mod MembersAsked
-pub mod OneReading
 pub mod Parts
 pub mod ReadKinds
 pub mod ReadSides

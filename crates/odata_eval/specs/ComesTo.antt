@@ -8,7 +8,7 @@ use Rattle.odata_syntax.specs.declared.node.BinaryOperator.{BinaryOperator}
 use Rattle.odata_syntax.specs.declared.node.LiteralKind.{LiteralKind}
 use Rattle.csdl_schema.specs.SchemaModel.{Slots}
 use Rattle.odata_eval.specs.Means.{Means}
-use Rattle.odata_eval.specs.Outcome.{Outcome}
+use Rattle.odata_filter_operations.specs.Outcome.{Outcome}
 
 -- the tree of `false and Missing`
 abbrev pub false_and_missing : Tree

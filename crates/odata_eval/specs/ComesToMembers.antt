@@ -13,7 +13,7 @@ use Rattle.odata_syntax.specs.declared.node.BinaryOperator.{BinaryOperator}
 use Rattle.odata_syntax.specs.declared.node.LiteralKind.{LiteralKind}
 use Rattle.odata_syntax.specs.declared.node.Quantifier.{Quantifier}
 use Rattle.odata_eval.specs.Means.{Means}
-use Rattle.odata_eval.specs.Outcome.{Outcome}
+use Rattle.odata_filter_operations.specs.Outcome.{Outcome}
 
 -- every type has one property: `Tags`, a collection of texts, which may be null
 abbrev pub tagged_slots : Slots

@@ -11,7 +11,7 @@ use Rattle.odata_expression_types.specs.NeededPaths.{IsNeeded, VariablePaths, pa
 use Rattle.odata_expression_types.specs.Typed.{Typed}
 use Rattle.odata_eval.specs.Environment.{Environment, scope_of}
 use Rattle.odata_eval.specs.Means.{Means}
-use Rattle.odata_eval.specs.Outcome.{Outcome, gives, overflow, divides_by_zero}
+use Rattle.odata_filter_operations.specs.Outcome.{Outcome, gives, overflow, divides_by_zero}
 use Rattle.odata_eval.specs.TypesAtPaths.{AreFittingAt, HasTypeAt}
 
 -- the outcome is a value of the type at the path, or a fault

@@ -13,19 +13,19 @@ use Rattle.odata_syntax.specs.declared.node.BinaryOperator.{BinaryOperator}
 use Rattle.odata_expression_types.specs.Reads.{OfEquality, ReadsNumber}
 use Rattle.odata_expression_types.specs.Sides.{Between}
 use Rattle.odata_expression_types.specs.Typed.{OperandTyped, OperandsTyped, Typed}
-use Rattle.odata_eval.specs.CalculationGives.{NegatedGives}
-use Rattle.odata_eval.specs.CallGives.{CallMeans}
-use Rattle.odata_eval.specs.CollectionGives.{AnyItemGives, CountGives}
+use Rattle.odata_filter_operations.specs.CalculationGives.{NegatedGives}
+use Rattle.odata_filter_operations.specs.CallGives.{CallMeans}
+use Rattle.odata_filter_operations.specs.CollectionGives.{AnyItemGives, CountGives}
 use Rattle.odata_eval.specs.Environment.{Environment, bound_over, scope_of}
-use Rattle.odata_eval.specs.HasGives.{HasGives}
-use Rattle.odata_eval.specs.LambdaGives.{InGives, ItemsGive, LambdaGives}
-use Rattle.odata_eval.specs.LeftFirst.{After}
+use Rattle.odata_filter_operations.specs.HasGives.{HasGives}
+use Rattle.odata_filter_operations.specs.LambdaGives.{InGives, ItemsGive, LambdaGives}
+use Rattle.odata_filter_operations.specs.LeftFirst.{After}
 use Rattle.odata_eval.specs.LiteralGives.{LiteralGives}
 use Rattle.odata_eval.specs.NameGives.{NameGives, StepGives}
 use Rattle.odata_eval.specs.OperatorGives.{InType, SidesGive}
-use Rattle.odata_eval.specs.Outcome.{NoOutcome, Outcome, gives}
+use Rattle.odata_filter_operations.specs.Outcome.{NoOutcome, Outcome, gives}
 use Rattle.odata_eval.specs.ReadGives.{GivesMember, UnlessRead}
-use Rattle.odata_eval.specs.TruthGives.{NotGives}
+use Rattle.odata_filter_operations.specs.TruthGives.{NotGives}
 
 -- an operator between two trees of these types and outcomes; one that is read beside the other comes to its number
 abbrev pub BinaryGives :

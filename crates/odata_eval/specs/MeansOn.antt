@@ -5,7 +5,7 @@ use Rattle.odata_syntax.specs.Tree.{Tree}
 use Rattle.csdl_schema.specs.SchemaModel.{slots_of, type_name_at}
 use Rattle.edm_entities.specs.Row.{Row, value_of}
 use Rattle.odata_eval.specs.Means.{Means}
-use Rattle.odata_eval.specs.Outcome.{Outcome}
+use Rattle.odata_filter_operations.specs.Outcome.{Outcome}
 
 abbrev pub MeansOn : Row → MomentParts → Tree → Outcome → Type 0
 MeansOn row now = Means (slots_of row.schema) (type_name_at row.schema row.type_id) now (value_of row) []

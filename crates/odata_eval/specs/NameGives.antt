@@ -1,7 +1,7 @@
 -- What a name stands for: a range variable, else a property (OData URL Conventions 4.01, 5.1.1.13 and 5.1.1.15).
 use Rattle.std.specs.Prelude.{◌≡◌, ℕ, List, Option, Some, None}
 use Rattle.edm_values.specs.Val.{Val, null, fields, FieldVal, absent, present}
-use Rattle.odata_eval.specs.Outcome.{Outcome, gives}
+use Rattle.odata_filter_operations.specs.Outcome.{Outcome, gives}
 use Rattle.odata_eval.specs.Environment.{Environment, variable_value}
 
 -- what a record has under a name is the outcome, if it has something

@@ -9,13 +9,13 @@ use Rattle.odata_syntax.specs.Spans.{list_of_trees}
 use Rattle.odata_syntax.specs.Tree.{Tree, Trees, no_trees, more_trees}
 use Rattle.odata_syntax.specs.declared.node.Quantifier.{Quantifier}
 use Rattle.odata_syntax.specs.declared.node.Quantifier.TheVariants.{Any, All}
-use Rattle.odata_eval.specs.CompareGives.{CompareGives}
+use Rattle.odata_filter_operations.specs.CompareGives.{CompareGives}
 use Rattle.odata_eval.specs.Environment.{Environment, bound_over, scope_of}
-use Rattle.odata_eval.specs.LambdaGives.{ItemsGive, MembersGive}
-use Rattle.odata_eval.specs.LeftFirst.{After}
+use Rattle.odata_filter_operations.specs.LambdaGives.{ItemsGive, MembersGive}
+use Rattle.odata_filter_operations.specs.LeftFirst.{After}
 use Rattle.odata_eval.specs.Means.{ItemMeans, Means}
-use Rattle.odata_eval.specs.Outcome.{Outcome, gives}
-use Rattle.odata_eval.specs.QuantifierGives.{undecided_val}
+use Rattle.odata_filter_operations.specs.Outcome.{Outcome, gives}
+use Rattle.odata_filter_operations.specs.QuantifierGives.{undecided_val}
 use Rattle.odata_eval.specs.ReadGives.{GivesMember, UnlessRead}
 use Rattle.odata_expression_types.specs.Reads.{ReadsNumber}
 use Rattle.odata_expression_types.specs.Typed.{Typed}

@@ -5,11 +5,11 @@ use Rattle.csdl_schema.specs.ExprType.{ExprType}
 use Rattle.odata_signatures.specs.OperatorClass.{class_of}
 use Rattle.odata_signatures.specs.declared.operator_class.OperatorClass.{OperatorClass}
 use Rattle.odata_signatures.specs.declared.operator_class.OperatorClass.TheVariants.{Connective, Comparison, Arithmetic}
-use Rattle.odata_eval.specs.CalculationGives.{CalculationGives}
-use Rattle.odata_eval.specs.CompareGives.{CompareGives}
-use Rattle.odata_eval.specs.LeftFirst.{After}
-use Rattle.odata_eval.specs.Outcome.{Outcome}
-use Rattle.odata_eval.specs.TruthGives.{ConnectiveGives}
+use Rattle.odata_filter_operations.specs.CalculationGives.{CalculationGives}
+use Rattle.odata_filter_operations.specs.CompareGives.{CompareGives}
+use Rattle.odata_filter_operations.specs.LeftFirst.{After}
+use Rattle.odata_filter_operations.specs.Outcome.{Outcome}
+use Rattle.odata_filter_operations.specs.TruthGives.{ConnectiveGives}
 
 -- a value that is computed in the type that the node has
 abbrev pub InType : (ExprType → Type 0) → (ExprType → Outcome → Type 0) → Outcome → Type 0

@@ -1,7 +1,7 @@
 -- What a String literal comes to that is read beside an enumeration (OData URL Conventions 4.01, section 5.1.1.1).
 use Rattle.std.specs.Prelude.{◌≡◌, ◌⊎◌, ℤ}
 use Rattle.edm_values.specs.Val.{member}
-use Rattle.odata_eval.specs.Outcome.{Outcome, gives}
+use Rattle.odata_filter_operations.specs.Outcome.{Outcome, gives}
 
 -- that number of the enumeration
 abbrev pub GivesMember : ℤ → Outcome → Type 0

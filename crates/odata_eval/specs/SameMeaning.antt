@@ -10,7 +10,7 @@ use Rattle.odata_syntax.specs.Tree.{Tree}
 use Rattle.odata_expression_types.specs.HasTyping.{HasTree}
 use Rattle.odata_eval.specs.Environment.{Environment}
 use Rattle.odata_eval.specs.Means.{Means}
-use Rattle.odata_eval.specs.Outcome.{Outcome}
+use Rattle.odata_filter_operations.specs.Outcome.{Outcome}
 
 -- on every value, at every moment and whatever variables are around them
 abbrev pub HaveOneMeaning : Tree → Tree → Type 0

@@ -9,12 +9,12 @@ use Rattle.odata_syntax.specs.declared.node.BinaryOperator.{BinaryOperator}
 use Rattle.odata_expression_types.specs.Reads.{OfEquality, ReadsNone}
 use Rattle.odata_expression_types.specs.Typed.{Typed}
 use Rattle.odata_eval.specs.Environment.{Environment, scope_of}
-use Rattle.odata_eval.specs.HasGives.{HasGives}
-use Rattle.odata_eval.specs.LeftFirst.{After}
+use Rattle.odata_filter_operations.specs.HasGives.{HasGives}
+use Rattle.odata_filter_operations.specs.LeftFirst.{After}
 use Rattle.odata_eval.specs.Means.{Means}
 use Rattle.odata_eval.specs.OneByOne.{ItemAlone}
 use Rattle.odata_eval.specs.OperatorGives.{SidesGive}
-use Rattle.odata_eval.specs.Outcome.{Outcome}
+use Rattle.odata_filter_operations.specs.Outcome.{Outcome}
 
 -- the operands of an operator
 abbrev pub OperandsAlone : Type 0

@@ -1,11 +1,7 @@
 -- Definitions that private clauses alone cite.
-pub mod Arguments
-pub mod DatumView
 pub mod Frames
 pub mod ItemMarks
 pub mod Lambda
-pub mod Members
-pub mod Operands
 pub mod Place
 pub mod Rest
 pub mod Scene

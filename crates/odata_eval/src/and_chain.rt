@@ -7,14 +7,13 @@ ghost use Rattle.odata_eval.specs.private.Place.{HasOperator, PartStands, TruthS
 ghost use Rattle.odata_eval.specs.private.Rest.{IsRest, TellsTerms};
 ghost use Rattle.odata_eval.specs.private.WalkAnswer.{AnswersTruth};
 
-use super::datum::kept_truth;
-use super::fault::EvalFault;
-use super::operators::{compare_kept, decides, join};
+use super::operator_classes::{decides, join};
 use super::part::right_of;
 use super::scene::Scene;
 use super::walk::side_at;
 use edm_values::Value;
 use odata_checked_filter::NodeKind;
+use odata_filter_operations::{EvalFault, compare_kept, kept_truth};
 use odata_functions::{compare_values, comparisons_are_decided};
 use odata_signatures::{Connective, OperatorClass, class_of};
 use odata_syntax::BinaryOperator;

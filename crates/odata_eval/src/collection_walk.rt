@@ -4,13 +4,12 @@ ghost use Rattle.odata_checked_filter.specs.declared.checked_node.NodeKind.{Node
 ghost use Rattle.odata_eval.specs.private.Place.{HasKind, PartStands};
 ghost use Rattle.odata_eval.specs.private.WalkAnswer.{AnswersDatum};
 
-use super::collections::{among, flags_of};
-use super::fault::EvalFault;
 use super::part::{right_of, stop_of};
 use super::scene::Scene;
 use super::walk::operand_at;
 use edm_values::Datum;
 use odata_expression_types::trees_have_one_type;
+use odata_filter_operations::{EvalFault, among, flags_of};
 use odata_functions::{ComparisonOperator, compare, comparisons_are_decided};
 
 /// What `has` comes to.

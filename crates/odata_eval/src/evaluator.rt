@@ -2,7 +2,7 @@
 ghost use Rattle.std.specs.Prelude.{◌≡◌, ◌≢◌, [], Some, Option, Bool, Err, IfSome};
 ghost use Rattle.odata_eval.specs.MeansOn.{MeansOn, IsTheOutcome};
 ghost use Rattle.odata_eval.specs.VerdictView.{told_outcome, verdict_val};
-ghost use Rattle.odata_eval.specs.TruthGives.{truth_val};
+ghost use Rattle.odata_filter_operations.specs.TruthGives.{truth_val};
 ghost use Rattle.odata_checked_filter.specs.Calls.{TakesMemory};
 ghost use Rattle.csdl_schema.specs.ExpansionView.{paths_in};
 ghost use Rattle.csdl_schema.specs.PathSet.{Covers};
@@ -12,12 +12,12 @@ ghost use Rattle.odata_eval.specs.private.Scene.{EndsOnceHere};
 ghost use Rattle.odata_eval.specs.private.SceneModel.{scene_in};
 
 use super::and_chain::{PlainTerms, Rest, ask_plain_terms, truth_of_rest};
-use super::fault::EvalFault;
 use super::scene::Scene;
 use super::verdict::Verdict;
 use edm_entities::Entity;
 use edm_values::{Moment, Value};
 use odata_checked_filter::Checked;
+use odata_filter_operations::EvalFault;
 use std::alloc::Global;
 
 /// The verdict of a truth value, None standing for null.

@@ -3,20 +3,19 @@ ghost use Rattle.std.specs.Prelude.{◌≡◌, ◌+◌, ◌↔◌, IsTrue, Ok};
 ghost use Rattle.std.specs.List.{AllByRecursion};
 ghost use Rattle.edm_values.specs.Val.{boolean};
 ghost use Rattle.odata_checked_filter.specs.declared.checked_node.NodeKind.{NodeKind as Kind};
-ghost use Rattle.odata_eval.specs.QuantifierGives.{IsUndecided, undecided_val};
-ghost use Rattle.odata_eval.specs.TruthGives.{truth_val};
+ghost use Rattle.odata_filter_operations.specs.QuantifierGives.{IsUndecided, undecided_val};
+ghost use Rattle.odata_filter_operations.specs.TruthGives.{truth_val};
 ghost use Rattle.odata_eval.specs.private.Lambda.{AnswersMembers, BodyIsThere, Suits};
 ghost use Rattle.odata_eval.specs.private.Place.{HasKind, PartStands};
 ghost use Rattle.odata_eval.specs.private.WalkAnswer.{AnswersDatum};
 
-use super::datum::datum_of_truth;
-use super::fault::EvalFault;
 use super::frames::RangeVariable;
 use super::part::right_of;
 use super::scene::Scene;
 use super::walk::side_at;
 use edm_values::{Datum, Value};
 use odata_expression_types::trees_have_one_type;
+use odata_filter_operations::{EvalFault, datum_of_truth};
 use odata_syntax::Quantifier;
 
 /// Whether the body's value at one member leaves the operator undecided.

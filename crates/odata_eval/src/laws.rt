@@ -14,7 +14,7 @@ ghost use Rattle.odata_eval.specs.ComesTo.{ComesTo, ComesToIn, false_and_missing
 ghost use Rattle.odata_eval.specs.ComesToMembers.{ComesToOn, all_alike, is_null, named, null_literal, one_div_zero};
 ghost use Rattle.odata_eval.specs.ComesToMembers.{over_tags, text_and_null};
 ghost use Rattle.odata_eval.specs.OneByOne.{ComparedOneByOne, ItemsOneByOne, MembersOneByOne};
-ghost use Rattle.odata_eval.specs.Outcome.{gives, divides_by_zero};
+ghost use Rattle.odata_filter_operations.specs.Outcome.{gives, divides_by_zero};
 ghost use Rattle.odata_eval.specs.UnreadMeans.{FlagsAlone, ItemsAlone, OperandsAlone};
 ghost use Rattle.odata_eval.specs.SameMeaning.{NormalFormsKeepOutcomes, CanonicalTextsKeepOutcomes};
 

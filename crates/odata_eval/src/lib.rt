@@ -2,17 +2,13 @@
 #![tactic(auto)]
 
 mod and_chain;
-mod calls;
 mod collection_walk;
-mod collections;
-mod datum;
 mod evaluator;
-mod fault;
 mod frames;
 mod lambda_walk;
 mod laws;
 mod number_walk;
-mod operators;
+mod operator_classes;
 mod paired_walk;
 mod part;
 mod scene;
@@ -20,10 +16,10 @@ mod verdict;
 mod walk;
 
 pub use evaluator::evaluate;
-pub use fault::EvalFault;
 pub use laws::{
     canonical_texts_keep_outcomes, entities_end_once_at_paths, first_run_comes_to, members_come_to,
     one_by_one, typed_trees_end_once, typed_trees_end_once_at_paths,
     typed_trees_end_once_on_entities, unread_operands_stand_alone, values_have_types_at_paths,
 };
+pub use odata_filter_operations::EvalFault;
 pub use verdict::Verdict;

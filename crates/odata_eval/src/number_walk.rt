@@ -5,14 +5,13 @@ ghost use Rattle.odata_eval.specs.private.Place.{HasOperator, IsClassAt, NumberS
 ghost use Rattle.odata_eval.specs.private.WalkAnswer.{AnswersNumber};
 ghost use Rattle.odata_eval.specs.private.WalkClass.{walk_of_operator};
 
-use super::datum::{kept_number, number_of};
-use super::fault::EvalFault;
-use super::operators::{arithmetic_of, calculated, negated};
+use super::operator_classes::arithmetic_of;
 use super::part::{Part, WalkClass, class_at, is_class_at, part_at, right_of, spine_bottom};
 use super::scene::Scene;
 use super::walk::operand_at;
 use odata_checked_filter::NodeKind;
 use odata_expression_types::trees_have_one_type;
+use odata_filter_operations::{EvalFault, calculated, kept_number, negated, number_of};
 use odata_functions::operands_lie_within_promotion;
 use odata_syntax::BinaryOperator;
 

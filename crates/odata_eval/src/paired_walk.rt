@@ -4,20 +4,18 @@ ghost use Rattle.std.specs.Prelude.{◌<◌, ◌+◌, ℕ, Ok, Some, length};
 ghost use Rattle.csdl_schema.specs.SchemaModel.{slots_of};
 ghost use Rattle.odata_checked_filter.specs.declared.checked_node.NodeKind.{NodeKind as Kind};
 ghost use Rattle.odata_functions.specs.DatumVal.{datum_val};
-ghost use Rattle.odata_eval.specs.private.DatumView.{answer_outcome, reading_at};
+ghost use Rattle.odata_filter_operations.specs.DatumView.{answer_outcome, reading_at};
 ghost use Rattle.odata_eval.specs.private.ItemMarks.{AnswersItem};
 ghost use Rattle.odata_eval.specs.private.Place.{HasKind, IsRightOf, PartStands, TruthStands};
 ghost use Rattle.odata_eval.specs.private.WalkAnswer.{AnswersDatum, AnswersKept, AnswersTruth};
 
-use super::collections::flags_of;
-use super::datum::datum_of;
-use super::fault::EvalFault;
-use super::operators::{compare_kept, comparison_of};
+use super::operator_classes::comparison_of;
 use super::part::{Part, part_at, right_of, stop_of};
 use super::scene::Scene;
 use super::walk::{made_truth_at, operand_at};
 use edm_values::{Datum, Value};
 use odata_expression_types::trees_have_one_type;
+use odata_filter_operations::{EvalFault, compare_kept, datum_of, flags_of};
 use odata_functions::{ComparisonOperator, compare, comparisons_are_decided};
 use odata_syntax::BinaryOperator;
 

@@ -9,16 +9,10 @@ ghost use Rattle.odata_eval.specs.private.Place.{HasCall, HasOperator, HasOperat
 ghost use Rattle.odata_eval.specs.private.WalkClass.{walk_of_operator};
 ghost use Rattle.odata_eval.specs.private.WalkAnswer.{AnswersDatum, AnswersTruth};
 
-use super::calls::{called_on_one, called_on_three, called_on_two};
 use super::collection_walk::{among_at, flags_at, listed_at};
-use super::collections::{any_item_of, count_of};
-use super::datum::{datum_of, datum_of_number, datum_of_truth, kept_truth, step, truth_of};
-use super::fault::EvalFault;
 use super::lambda_walk::lambda_at;
 use super::number_walk::{number_at, number_chain_at};
-use super::operators::{
-    compare_kept, compare_numbers, comparison_of, connective_of, decides, join,
-};
+use super::operator_classes::{comparison_of, connective_of, decides, join};
 use super::paired_walk::{
     compared_left_at, compared_right, flags_right, left_read_truth_at, numbered_at,
     right_read_truth_at,
@@ -28,6 +22,11 @@ use super::scene::Scene;
 use edm_values::{Datum, Value};
 use odata_checked_filter::NodeKind;
 use odata_expression_types::trees_have_one_type;
+use odata_filter_operations::{
+    EvalFault, any_item_of, called_on_one, called_on_three, called_on_two, compare_kept,
+    compare_numbers, count_of, datum_of, datum_of_number, datum_of_truth, kept_truth, step,
+    truth_of,
+};
 use odata_functions::{
     ComparisonOperator, compare, comparisons_are_decided, not3, operands_lie_within_promotion,
 };

@@ -6,7 +6,7 @@ use Rattle.edm_values.specs.Val.{Val}
 use Rattle.odata_syntax.specs.CanonicalText.{IsCanonicalText}
 use Rattle.edm_entities.specs.Row.{Row}
 use Rattle.odata_checked_filter.specs.Filter.{Filter, tree_of_filter}
-use Rattle.odata_eval.specs.Outcome.{Outcome}
+use Rattle.odata_filter_operations.specs.Outcome.{Outcome}
 use Rattle.odata_eval.specs.declared.verdict.Verdict.{Verdict}
 use Rattle.line_filter.specs.Kept.{Filters}
 use Rattle.line_filter.specs.declared.judge.Judgment.{Judgment}

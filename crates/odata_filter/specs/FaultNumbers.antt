@@ -9,7 +9,7 @@ use Rattle.odata_syntax.specs.declared.syntax_fault.SyntaxFault.{SyntaxFault}
 use Rattle.odata_expression_types.specs.declared.refusal.Refusal.{Refusal}
 use Rattle.odata_expression_types.specs.declared.refusal.TypeFaultCode.{TypeFaultCode}
 use Rattle.edm_entities.specs.declared.fault.RowFault.{RowFault}
-use Rattle.odata_eval.specs.declared.fault.EvalFault.{EvalFault}
+use Rattle.odata_filter_operations.specs.declared.fault.EvalFault.{EvalFault}
 use Rattle.odata_filter.specs.RowsOnce.{flaw_told}
 use Rattle.odata_filter.specs.declared.fault_number.FaultKind.{FaultKind}
 

@@ -14,9 +14,9 @@ use Rattle.odata_expression_types.specs.HasTyping.{HasTyping, HasNoTyping, IsRef
 use Rattle.odata_expression_types.specs.declared.refusal.Refusal.{Refusal}
 use Rattle.odata_checked_filter.specs.Filter.{Filter, HasNeededPaths, slots_for_filter, tree_of_filter}
 use Rattle.odata_eval.specs.MeansOn.{IsTheOutcome}
-use Rattle.odata_eval.specs.Outcome.{Outcome, gives, overflow, divides_by_zero}
+use Rattle.odata_filter_operations.specs.Outcome.{Outcome, gives, overflow, divides_by_zero}
 use Rattle.odata_eval.specs.VerdictView.{told_outcome}
-use Rattle.odata_eval.specs.declared.fault.EvalFault.{EvalFault}
+use Rattle.odata_filter_operations.specs.declared.fault.EvalFault.{EvalFault}
 use Rattle.odata_eval.specs.declared.verdict.Verdict.{Verdict}
 use Rattle.line_filter.specs.Kept.{Filters, StopsAt}
 use Rattle.line_filter.specs.LineItems.{IsFoundOf}

@@ -27,7 +27,7 @@ pub use Rattle.edm_entities.specs.Row
 pub use Rattle.edm_entities.specs.RowFaults
 pub use Rattle.odata_eval.specs.Means
 pub use Rattle.odata_eval.specs.MeansOn
-pub use Rattle.odata_eval.specs.Outcome
+pub use Rattle.odata_filter_operations.specs.Outcome
 pub use Rattle.odata_eval.specs.VerdictView
 pub use Rattle.odata_checked_filter.specs.Filter
 pub use Rattle.odata_expression_types.specs.HasTyping

@@ -8,7 +8,7 @@ use Rattle.edm_entities.specs.Plans.{IsPlanOf}
 use Rattle.edm_entities.specs.declared.row_plan.RowPlan.{RowPlan}
 use Rattle.line_filter.specs.declared.judge.Judgment.{Judgment}
 use Rattle.odata_checked_filter.specs.Filter.{Filter}
-use Rattle.odata_eval.specs.Outcome.{gives}
+use Rattle.odata_filter_operations.specs.Outcome.{gives}
 use Rattle.odata_eval.specs.VerdictView.{verdict_val}
 use Rattle.odata_eval.specs.declared.verdict.Verdict.{Verdict}
 use Rattle.odata_filter.specs.RowJudgment.{HasOutcome, JudgesRow}

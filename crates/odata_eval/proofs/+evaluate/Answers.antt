@@ -14,18 +14,18 @@ use Rattle.odata_signatures.specs.ExprTypes.{IsBooleanOrNull}
 use Rattle.odata_signatures.specs.OperatorClass.{class_of}
 use Rattle.odata_signatures.specs.declared.function.Function.{Function}
 use Rattle.odata_signatures.specs.declared.operator_class.OperatorClass.{OperatorClass}
-use Rattle.odata_eval.specs.declared.fault.EvalFault.{EvalFault}
+use Rattle.odata_filter_operations.specs.declared.fault.EvalFault.{EvalFault}
 use Rattle.odata_eval.specs.declared.part.WalkClass.{WalkClass}
 use Rattle.odata_signatures.specs.CollectionTyped.{IsComparableWithMembers}
 use Rattle.odata_signatures.specs.HasTyped.{AreFlags}
-use Rattle.odata_eval.specs.CalculationGives.{number_val}
-use Rattle.odata_eval.specs.CollectionGives.{AnyItemGives, CountGives}
-use Rattle.odata_eval.specs.HasGives.{HasGives}
-use Rattle.odata_eval.specs.LambdaGives.{InGives}
-use Rattle.odata_eval.specs.Outcome.{gives}
-use Rattle.odata_eval.specs.TruthGives.{truth_val}
-use Rattle.odata_eval.specs.VerdictView.{fault_outcome}
-use Rattle.odata_eval.specs.private.DatumView.{reading_at}
+use Rattle.odata_filter_operations.specs.CalculationGives.{number_val}
+use Rattle.odata_filter_operations.specs.CollectionGives.{AnyItemGives, CountGives}
+use Rattle.odata_filter_operations.specs.HasGives.{HasGives}
+use Rattle.odata_filter_operations.specs.LambdaGives.{InGives}
+use Rattle.odata_filter_operations.specs.Outcome.{gives}
+use Rattle.odata_filter_operations.specs.TruthGives.{truth_val}
+use Rattle.odata_filter_operations.specs.FaultView.{fault_outcome}
+use Rattle.odata_filter_operations.specs.DatumView.{reading_at}
 use Rattle.odata_eval.specs.private.ItemMarks.{AnswersItem}
 use Rattle.odata_eval.specs.private.Place.{HasCall, HasKind, IsClassAt, IsStopOf, NumberStands, PartStands, TruthStands}
 use Rattle.odata_eval.specs.private.WalkClass.{walk_of_kind}

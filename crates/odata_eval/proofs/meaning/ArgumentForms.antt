@@ -3,8 +3,8 @@ use Rattle.std.proofs.Common.{◌≡◌, ◌≤◌, ℕ, ℤ, List, [], ◌∷�
 use Rattle.edm_values.specs.MomentParts.{MomentParts}
 use Rattle.edm_values.specs.Val.{Val, null, whole, text, date, moment}
 use Rattle.odata_signatures.specs.declared.argument_kind.ArgumentKind.TheVariants.{Text, Number, DateOrMoment, Moment}
-use Rattle.odata_eval.specs.CallGives.{has_null}
-use Rattle.odata_eval.specs.private.Arguments.{AreArguments, IsArgument}
+use Rattle.odata_filter_operations.specs.CallGives.{has_null}
+use Rattle.odata_filter_operations.specs.Arguments.{AreArguments, IsArgument}
 
 -- ---- one value of a kind that is not null
 

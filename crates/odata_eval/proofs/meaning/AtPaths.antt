@@ -15,9 +15,9 @@ use Rattle.odata_expression_types.specs.Typed.{PropertyTyped, named_type, proper
 use Rattle.odata_eval.specs.EndsOnce.{IsOutcomeOf}
 use Rattle.odata_eval.specs.EndsOnceAtPaths.{IsOutcomeAt}
 use Rattle.odata_eval.specs.Environment.{Environment, IsFitting, scope_of, variable_value}
-use Rattle.odata_eval.specs.LeftFirst.{After}
+use Rattle.odata_filter_operations.specs.LeftFirst.{After}
 use Rattle.odata_eval.specs.NameGives.{FoundGives, StepGives}
-use Rattle.odata_eval.specs.Outcome.{Outcome, gives, overflow, divides_by_zero}
+use Rattle.odata_filter_operations.specs.Outcome.{Outcome, gives, overflow, divides_by_zero}
 use Rattle.odata_eval.specs.TypesAtPaths.{AllHaveTypeAt, AreFittingAt, HasPropertyTypeAt, HasTypeAt}
 use Rattle.odata_eval.proofs.meaning.Ends.{Ends}
 use Rattle.odata_eval.proofs.meaning.Progress.{field_gives}

@@ -3,9 +3,9 @@ use Rattle.std.proofs.Common.{List, Bool, true, false}
 use Rattle.edm_values.specs.MomentParts.{MomentParts}
 use Rattle.edm_values.specs.Val.{Val, null}
 use Rattle.odata_signatures.specs.declared.function.Function.{Function}
-use Rattle.odata_eval.specs.CallGives.{CallGives, UnlessNull, has_null}
-use Rattle.odata_eval.specs.FunctionGives.{FunctionGives}
-use Rattle.odata_eval.specs.Outcome.{Outcome, gives}
+use Rattle.odata_filter_operations.specs.CallGives.{CallGives, UnlessNull, has_null}
+use Rattle.odata_filter_operations.specs.FunctionGives.{FunctionGives}
+use Rattle.odata_filter_operations.specs.Outcome.{Outcome, gives}
 use Rattle.odata_eval.proofs.meaning.FunctionLaws.{FunctionGives-one}
 use Rattle.odata_eval.proofs.meaning.LawsBelow.{OneEach}
 use Rattle.odata_eval.proofs.meaning.OneStep.{AtMostOne, same_one}

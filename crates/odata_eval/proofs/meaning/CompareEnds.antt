@@ -7,8 +7,8 @@ use Rattle.odata_functions.specs.declared.comparison.ComparisonOperator.{Compari
 use Rattle.odata_signatures.specs.declared.operator_class.OperatorClass.{OperatorClass}
 use Rattle.odata_signatures.specs.ExprTypes.{boolean_type}
 use Rattle.odata_signatures.specs.OperatorTyped.{ClassTyped}
-use Rattle.odata_eval.specs.CompareGives.{CompareGives}
-use Rattle.odata_eval.specs.Outcome.{gives}
+use Rattle.odata_filter_operations.specs.CompareGives.{CompareGives}
+use Rattle.odata_filter_operations.specs.Outcome.{gives}
 use Rattle.odata_eval.proofs.meaning.Ends.{Ends, typed_value}
 use Rattle.odata_eval.proofs.meaning.Kinds.{comparable_values}
 use Rattle.odata_eval.proofs.meaning.LawsBelow.{SomeEach}

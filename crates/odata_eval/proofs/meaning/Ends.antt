@@ -5,8 +5,8 @@ use Rattle.csdl_schema.specs.ExprType.{ExprType}
 use Rattle.csdl_schema.specs.SchemaModel.{Slots}
 use Rattle.edm_entities.specs.HasType.{HasType}
 use Rattle.odata_eval.specs.EndsOnce.{IsOutcomeOf}
-use Rattle.odata_eval.specs.LeftFirst.{After}
-use Rattle.odata_eval.specs.Outcome.{Outcome, gives, overflow, divides_by_zero}
+use Rattle.odata_filter_operations.specs.LeftFirst.{After}
+use Rattle.odata_filter_operations.specs.Outcome.{Outcome, gives, overflow, divides_by_zero}
 
 -- some outcome of the type
 abbrev pub Ends : Slots → ExprType → (Outcome → Type 0) → Type 0

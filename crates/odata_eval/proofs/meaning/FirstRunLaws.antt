@@ -17,8 +17,8 @@ use Rattle.odata_functions.specs.Connectives.{and3}
 use Rattle.odata_functions.specs.declared.comparison.ComparisonOperator.{ComparisonOperator}
 use Rattle.odata_eval.specs.ComesTo.{ComesTo, ComesToIn, false_and_missing, item_value}
 use Rattle.odata_eval.specs.Means.{Means}
-use Rattle.odata_eval.specs.Outcome.{Outcome, gives}
-use Rattle.odata_eval.specs.TruthGives.{truth_val}
+use Rattle.odata_filter_operations.specs.Outcome.{Outcome, gives}
+use Rattle.odata_filter_operations.specs.TruthGives.{truth_val}
 use Rattle.odata_eval.proofs.meaning.OneMeaning.{Means-one}
 use Rattle.odata_eval.proofs.meaning.LawsBelow.{OneEach}
 use Rattle.odata_eval.proofs.meaning.NoEnumerations.{unread}

@@ -11,16 +11,16 @@ use Rattle.odata_functions.specs.declared.comparison.ComparisonOperator.{Compari
 use Rattle.odata_syntax.specs.Spans.{list_of_trees}
 use Rattle.odata_syntax.specs.Tree.{Tree, Trees, no_trees, more_trees}
 use Rattle.odata_syntax.specs.declared.node.Quantifier.{Quantifier}
-use Rattle.odata_eval.specs.CollectionGives.{AnyItemGives, CountGives, members_of}
-use Rattle.odata_eval.specs.CompareGives.{CompareGives}
+use Rattle.odata_filter_operations.specs.CollectionGives.{AnyItemGives, CountGives, members_of}
+use Rattle.odata_filter_operations.specs.CompareGives.{CompareGives}
 use Rattle.odata_eval.specs.Environment.{Environment}
-use Rattle.odata_eval.specs.HasGives.{HasGives}
-use Rattle.odata_eval.specs.LambdaGives.{InGives, ItemsGive, LambdaGives, MembersGive}
-use Rattle.odata_eval.specs.LeftFirst.{After}
+use Rattle.odata_filter_operations.specs.HasGives.{HasGives}
+use Rattle.odata_filter_operations.specs.LambdaGives.{InGives, ItemsGive, LambdaGives, MembersGive}
+use Rattle.odata_filter_operations.specs.LeftFirst.{After}
 use Rattle.odata_eval.specs.Means.{ItemMeans}
 use Rattle.odata_eval.specs.OneByOne.{GoesOn, ItemAlone, ItemsGo, MembersGo}
-use Rattle.odata_eval.specs.Outcome.{Outcome, gives}
-use Rattle.odata_eval.specs.QuantifierGives.{undecided_val}
+use Rattle.odata_filter_operations.specs.Outcome.{Outcome, gives}
+use Rattle.odata_filter_operations.specs.QuantifierGives.{undecided_val}
 use Rattle.odata_eval.proofs.meaning.AllTrees.{AllTrees}
 use Rattle.odata_eval.proofs.meaning.LawsBelow.{OneEach}
 use Rattle.odata_eval.proofs.meaning.NumberComes.{GivesNumber-one}

@@ -8,13 +8,13 @@ use Rattle.odata_functions.specs.declared.comparison.ComparisonOperator.{Compari
 use Rattle.odata_syntax.specs.Spans.{list_of_trees}
 use Rattle.odata_syntax.specs.Tree.{Tree, Trees, no_trees, more_trees}
 use Rattle.odata_syntax.specs.declared.node.Quantifier.{Quantifier}
-use Rattle.odata_eval.specs.CompareGives.{CompareGives}
+use Rattle.odata_filter_operations.specs.CompareGives.{CompareGives}
 use Rattle.odata_eval.specs.Environment.{Environment}
-use Rattle.odata_eval.specs.LambdaGives.{ItemsGive, LambdaGives, MembersGive}
-use Rattle.odata_eval.specs.LeftFirst.{After}
+use Rattle.odata_filter_operations.specs.LambdaGives.{ItemsGive, LambdaGives, MembersGive}
+use Rattle.odata_filter_operations.specs.LeftFirst.{After}
 use Rattle.odata_eval.specs.Means.{ItemMeans}
 use Rattle.odata_eval.specs.OneByOne.{GoesOn, ItemAlone, ItemsGo, MembersGo}
-use Rattle.odata_eval.specs.Outcome.{Outcome}
+use Rattle.odata_filter_operations.specs.Outcome.{Outcome}
 use Rattle.odata_eval.proofs.meaning.AllTrees.{AllPaired}
 use Rattle.odata_eval.proofs.meaning.OneByOne.{goes_both, items_both, members_both}
 use Rattle.odata_eval.proofs.meaning.SameGives.{Both, BothTyped, Goes, after_both, both, in_turn, itself, there, turned}

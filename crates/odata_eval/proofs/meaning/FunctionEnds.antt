@@ -17,12 +17,12 @@ use Rattle.odata_functions.specs.Texts.{HasEnd, HasPart, HasStart, IsPlaceOf, Is
 use Rattle.odata_signatures.specs.Functions.{row_of}
 use Rattle.odata_signatures.specs.declared.argument_kind.ArgumentKind.TheVariants.{Text, Number, DateOrMoment, Moment}
 use Rattle.odata_signatures.specs.declared.function.Function.{Function}
-use Rattle.odata_eval.specs.ArgumentValues.{OfDate, OfMoment, OfText, OfTextAndNumbers, OfTexts}
-use Rattle.odata_eval.specs.CallGives.{has_null}
-use Rattle.odata_eval.specs.CompareGives.{GivesTruth}
-use Rattle.odata_eval.specs.FunctionGives.{FunctionGives, GivesCount, GivesText}
-use Rattle.odata_eval.specs.Outcome.{Outcome, gives}
-use Rattle.odata_eval.specs.private.Arguments.{Applies, AreArguments}
+use Rattle.odata_filter_operations.specs.ArgumentValues.{OfDate, OfMoment, OfText, OfTextAndNumbers, OfTexts}
+use Rattle.odata_filter_operations.specs.CallGives.{has_null}
+use Rattle.odata_filter_operations.specs.CompareGives.{GivesTruth}
+use Rattle.odata_filter_operations.specs.FunctionGives.{FunctionGives, GivesCount, GivesText}
+use Rattle.odata_filter_operations.specs.Outcome.{Outcome, gives}
+use Rattle.odata_filter_operations.specs.Arguments.{Applies, AreArguments}
 use Rattle.odata_eval.proofs.meaning.ArgumentForms.{IsDated, IsPartAsked, one_dated, one_moment, one_text, part_asked, two_texts}
 use Rattle.odata_eval.proofs.meaning.Ends.{Ends}
 use Rattle.odata_eval.proofs.meaning.LawsBelow.{SomeEach}

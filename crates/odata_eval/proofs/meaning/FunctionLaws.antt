@@ -10,9 +10,9 @@ use Rattle.edm_values.specs.declared.primitive.PrimitiveType.TheVariants.{Int32}
 use Rattle.odata_functions.specs.DateParts.{IsDayOf, IsMonthOf, IsYearOf, date_of, hour_of, minute_of, second_of}
 use Rattle.odata_functions.specs.Texts.{HasEnd, HasPart, HasStart, IsPlaceOf, IsTrimmed}
 use Rattle.odata_signatures.specs.declared.function.Function.{Function}
-use Rattle.odata_eval.specs.ArgumentValues.{OfDate, OfMoment, OfNone, OfText, OfTextAndNumbers, OfTexts}
-use Rattle.odata_eval.specs.FunctionGives.{FunctionGives, GivesCount, GivesText}
-use Rattle.odata_eval.specs.Outcome.{Outcome, gives}
+use Rattle.odata_filter_operations.specs.ArgumentValues.{OfDate, OfMoment, OfNone, OfText, OfTextAndNumbers, OfTexts}
+use Rattle.odata_filter_operations.specs.FunctionGives.{FunctionGives, GivesCount, GivesText}
+use Rattle.odata_filter_operations.specs.Outcome.{Outcome, gives}
 use Rattle.odata_eval.proofs.meaning.LawsBelow.{OneEach}
 use Rattle.odata_eval.proofs.meaning.NumberComes.{GivesNumber-one}
 use Rattle.odata_eval.proofs.meaning.OneLeaf.{GivesTruth-one}

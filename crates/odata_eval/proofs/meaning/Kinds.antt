@@ -10,7 +10,7 @@ use Rattle.odata_functions.specs.Comparable.{AreComparableBy, HaveEquality, Have
 use Rattle.odata_functions.specs.declared.comparison.ComparisonOperator.{ComparisonOperator}
 use Rattle.odata_signatures.specs.ComparableTypes.{AreAlikePrimitives, AreComparable, AreComparableSingles, AreComparedBy, AreOrdered, IsOrderedPrimitive, IsOrderedSingle}
 use Rattle.odata_signatures.specs.ExprTypes.{IsBooleanOrNull}
-use Rattle.odata_eval.specs.TruthGives.{truth_val}
+use Rattle.odata_filter_operations.specs.TruthGives.{truth_val}
 use Rattle.odata_eval.proofs.meaning.TypeValues.{IsOfKind, ValueKind, guids, kind_of_primitive, member_kind, members, null_value, primitive_kind, record_form, truths, wholes}
 
 pub number_kind : (p : PrimitiveType) → IsNumberType p → kind_of_primitive p ≡ wholes

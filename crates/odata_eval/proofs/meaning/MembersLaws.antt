@@ -16,12 +16,12 @@ use Rattle.odata_syntax.specs.declared.node.Quantifier.{Quantifier}
 use Rattle.odata_expression_types.specs.Reads.{ReadsNumber}
 use Rattle.odata_expression_types.specs.Typed.{Typed}
 use Rattle.odata_eval.specs.ComesToMembers.{ComesToOn, all_alike, is_alike, is_null, named, null_literal, one_div_zero, over_tags, tagged, tagged_slots, text_and_null}
-use Rattle.odata_eval.specs.CompareGives.{CompareGives}
+use Rattle.odata_filter_operations.specs.CompareGives.{CompareGives}
 use Rattle.odata_eval.specs.Environment.{Environment, bound_over}
-use Rattle.odata_eval.specs.LeftFirst.{After}
+use Rattle.odata_filter_operations.specs.LeftFirst.{After}
 use Rattle.odata_eval.specs.Means.{Means}
 use Rattle.odata_eval.specs.OneByOne.{ItemAlone, ItemsGo, MembersGo}
-use Rattle.odata_eval.specs.Outcome.{Outcome, gives, divides_by_zero}
+use Rattle.odata_filter_operations.specs.Outcome.{Outcome, gives, divides_by_zero}
 use Rattle.odata_eval.proofs.meaning.LawsBelow.{OneEach}
 use Rattle.odata_eval.proofs.meaning.NoEnumerations.{unread}
 use Rattle.odata_eval.proofs.meaning.OneByOne.{items_both, members_both}

@@ -10,7 +10,7 @@ use Rattle.odata_functions.specs.Arithmetic.{ComesWithin}
 use Rattle.odata_functions.specs.Promotion.{IsPromoted}
 use Rattle.odata_functions.specs.declared.arithmetic.ArithFault.{ArithFault}
 use Rattle.odata_functions.specs.declared.arithmetic.ArithFault.TheVariants.{Overflow, DivideByZero}
-use Rattle.odata_eval.specs.CalculationGives.{GivesNumber, number_outcome}
+use Rattle.odata_filter_operations.specs.CalculationGives.{GivesNumber, number_outcome}
 use Rattle.odata_eval.specs.EndsOnce.{IsOutcomeOf}
 use Rattle.odata_eval.proofs.meaning.Ends.{Ends}
 use Rattle.odata_eval.proofs.meaning.LawsBelow.{OneEach, SomeEach}

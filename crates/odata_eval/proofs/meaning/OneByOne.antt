@@ -9,15 +9,15 @@ use Rattle.odata_syntax.specs.Spans.{list_of_trees}
 use Rattle.odata_syntax.specs.Tree.{Trees, no_trees, more_trees}
 use Rattle.odata_syntax.specs.declared.node.Quantifier.{Quantifier}
 use Rattle.odata_expression_types.specs.Typed.{Typed}
-use Rattle.odata_eval.specs.CollectionGives.{members_of}
-use Rattle.odata_eval.specs.CompareGives.{CompareGives}
+use Rattle.odata_filter_operations.specs.CollectionGives.{members_of}
+use Rattle.odata_filter_operations.specs.CompareGives.{CompareGives}
 use Rattle.odata_eval.specs.Environment.{Environment, bound_over, scope_of}
-use Rattle.odata_eval.specs.LambdaGives.{ItemsGive, MemberGives, MembersGive}
-use Rattle.odata_eval.specs.LeftFirst.{After}
+use Rattle.odata_filter_operations.specs.LambdaGives.{ItemsGive, MemberGives, MembersGive}
+use Rattle.odata_filter_operations.specs.LeftFirst.{After}
 use Rattle.odata_eval.specs.Means.{ItemMeans, Means}
 use Rattle.odata_eval.specs.OneByOne.{ComparedOneByOne, GoesOn, ItemsGo, ItemsOneByOne, MembersGo, MembersOneByOne, ItemAlone}
-use Rattle.odata_eval.specs.Outcome.{Outcome, gives, overflow, divides_by_zero}
-use Rattle.odata_eval.specs.QuantifierGives.{DecisionGives, IsUndecided, Passes, QuantifierGives, undecided_val}
+use Rattle.odata_filter_operations.specs.Outcome.{Outcome, gives, overflow, divides_by_zero}
+use Rattle.odata_filter_operations.specs.QuantifierGives.{DecisionGives, IsUndecided, Passes, QuantifierGives, undecided_val}
 use Rattle.odata_eval.proofs.meaning.SameGives.{Both, Goes, after_both, after_goes, back, both, in_turn, itself, there}
 
 -- ---- one value of the body

@@ -9,12 +9,12 @@ use Rattle.odata_functions.specs.declared.arithmetic.ArithmeticOperator.{Arithme
 use Rattle.odata_functions.specs.declared.comparison.ComparisonOperator.{ComparisonOperator}
 use Rattle.odata_signatures.specs.declared.operator_class.Connective.{Connective}
 use Rattle.odata_signatures.specs.declared.operator_class.OperatorClass.{OperatorClass}
-use Rattle.odata_eval.specs.CalculationGives.{CalculationGives, NegatedGives, number_outcome}
-use Rattle.odata_eval.specs.CompareGives.{CompareGives, GivesTruth, IsWhether}
+use Rattle.odata_filter_operations.specs.CalculationGives.{CalculationGives, NegatedGives, number_outcome}
+use Rattle.odata_filter_operations.specs.CompareGives.{CompareGives, GivesTruth, IsWhether}
 use Rattle.odata_eval.specs.NameGives.{FoundGives, StepGives, FieldGives}
 use Rattle.odata_eval.specs.OperatorGives.{ClassGives, InType}
-use Rattle.odata_eval.specs.Outcome.{Outcome, gives}
-use Rattle.odata_eval.specs.TruthGives.{ConnectiveGives, JoinGives, NotGives, joined, truth_val}
+use Rattle.odata_filter_operations.specs.Outcome.{Outcome, gives}
+use Rattle.odata_filter_operations.specs.TruthGives.{ConnectiveGives, JoinGives, NotGives, joined, truth_val}
 use Rattle.odata_eval.proofs.meaning.LawsBelow.{OneEach}
 use Rattle.odata_eval.proofs.meaning.OneStep.{AtMostOne, same_one, GivesSome-one, After-one, InType-one}
 

@@ -17,20 +17,20 @@ use Rattle.odata_signatures.specs.QuotedNumber.{NumberBeside}
 use Rattle.odata_expression_types.specs.Reads.{OfEquality, ReadsNumber}
 use Rattle.odata_expression_types.specs.Sides.{Between, quoted_text}
 use Rattle.odata_expression_types.specs.Typed.{OperandTyped, OperandsTyped, Typed}
-use Rattle.odata_eval.specs.CalculationGives.{NegatedGives}
-use Rattle.odata_eval.specs.CallGives.{CallGives}
-use Rattle.odata_eval.specs.CollectionGives.{AnyItemGives, CountGives}
+use Rattle.odata_filter_operations.specs.CalculationGives.{NegatedGives}
+use Rattle.odata_filter_operations.specs.CallGives.{CallGives}
+use Rattle.odata_filter_operations.specs.CollectionGives.{AnyItemGives, CountGives}
 use Rattle.odata_eval.specs.Environment.{Environment, bound_over, scope_of, variable_value}
-use Rattle.odata_eval.specs.HasGives.{HasGives}
-use Rattle.odata_eval.specs.LambdaGives.{InGives, ItemsGive, LambdaGives}
-use Rattle.odata_eval.specs.LeftFirst.{After}
+use Rattle.odata_filter_operations.specs.HasGives.{HasGives}
+use Rattle.odata_filter_operations.specs.LambdaGives.{InGives, ItemsGive, LambdaGives}
+use Rattle.odata_filter_operations.specs.LeftFirst.{After}
 use Rattle.odata_eval.specs.Means.{ArgumentsMean, ItemMeans, Means, ShapeMeans}
 use Rattle.odata_eval.specs.NameGives.{StepGives}
 use Rattle.odata_eval.specs.OneByOne.{ItemAlone}
 use Rattle.odata_eval.specs.OperatorGives.{InType, OperatorGives, SidesGive}
-use Rattle.odata_eval.specs.Outcome.{Outcome, gives}
+use Rattle.odata_filter_operations.specs.Outcome.{Outcome, gives}
 use Rattle.odata_eval.specs.ReadGives.{GivesMember, UnlessRead}
-use Rattle.odata_eval.specs.TruthGives.{NotGives}
+use Rattle.odata_filter_operations.specs.TruthGives.{NotGives}
 use Rattle.odata_eval.proofs.meaning.AllTrees.{AllTrees}
 use Rattle.odata_eval.proofs.meaning.CallLaws.{CallGives-one}
 use Rattle.odata_eval.proofs.meaning.FormsOne.{AnyItemGives-one, CountGives-one, HasGives-one, InGives-one, ItemsGive-one, LambdaGives-one}

@@ -2,9 +2,9 @@
 use Rattle.std.proofs.Common.{◌≡◌, sym, ◌∙◌, ap, subst}
 use Rattle.edm_values.specs.Val.{Val}
 use Rattle.csdl_schema.specs.ExprType.{ExprType}
-use Rattle.odata_eval.specs.LeftFirst.{Then, After}
+use Rattle.odata_filter_operations.specs.LeftFirst.{Then, After}
 use Rattle.odata_eval.specs.OperatorGives.{InType}
-use Rattle.odata_eval.specs.Outcome.{Outcome, gives, overflow, divides_by_zero, GivesSome}
+use Rattle.odata_filter_operations.specs.Outcome.{Outcome, gives, overflow, divides_by_zero, GivesSome}
 
 -- no two outcomes
 abbrev pub AtMostOne : (Outcome → Type 0) → Type 0

@@ -31,21 +31,21 @@ use Rattle.odata_signatures.specs.QuotedNumber.{NumberBeside}
 use Rattle.odata_expression_types.specs.Reads.{ReadsNumber}
 use Rattle.odata_expression_types.specs.Sides.{Between, quoted_text, side_of, sides_of}
 use Rattle.odata_expression_types.specs.Typed.{AreTyped, OperandsTyped, Scope, Typed}
-use Rattle.odata_eval.specs.CalculationGives.{CalculationGives, NegatedGives, number_outcome}
-use Rattle.odata_eval.specs.CompareGives.{CompareGives}
+use Rattle.odata_filter_operations.specs.CalculationGives.{CalculationGives, NegatedGives, number_outcome}
+use Rattle.odata_filter_operations.specs.CompareGives.{CompareGives}
 use Rattle.odata_eval.specs.EndsOnce.{IsOutcomeOf}
 use Rattle.odata_eval.specs.Environment.{Environment, scope_of}
-use Rattle.odata_eval.specs.HasGives.{HasGives}
-use Rattle.odata_eval.specs.LeftFirst.{After}
+use Rattle.odata_filter_operations.specs.HasGives.{HasGives}
+use Rattle.odata_filter_operations.specs.LeftFirst.{After}
 use Rattle.odata_eval.specs.LiteralGives.{LiteralGives}
 use Rattle.odata_eval.specs.Means.{ArgumentsMean, BinaryGives, Means}
 use Rattle.odata_eval.specs.NameGives.{StepGives, FieldGives}
 use Rattle.odata_eval.specs.OneByOne.{ItemAlone}
 use Rattle.odata_eval.specs.OperatorGives.{ClassGives, InType, OperatorGives, SidesGive}
-use Rattle.odata_eval.specs.Outcome.{Outcome, gives}
+use Rattle.odata_filter_operations.specs.Outcome.{Outcome, gives}
 use Rattle.odata_eval.specs.ReadGives.{GivesMember, UnlessRead}
-use Rattle.odata_eval.specs.TruthGives.{ConnectiveGives, JoinGives, NotGives, joined, truth_val}
-use Rattle.odata_eval.specs.private.Operands.{AreNumbers, IsOneNumber}
+use Rattle.odata_filter_operations.specs.TruthGives.{ConnectiveGives, JoinGives, NotGives, joined, truth_val}
+use Rattle.odata_filter_operations.specs.Operands.{AreNumbers, IsOneNumber}
 use Rattle.odata_eval.specs.private.WalkClass.{IsDecided}
 use Rattle.odata_eval.proofs.meaning.AllTrees.{AllTrees, AllTyped}
 use Rattle.odata_eval.proofs.meaning.CallEnds.{HaveTypes}

@@ -19,20 +19,20 @@ use Rattle.odata_signatures.specs.declared.operator_class.OperatorClass.{Operato
 use Rattle.odata_syntax.specs.declared.node.BinaryOperator.{BinaryOperator}
 use Rattle.odata_expression_types.specs.NeededPaths.{IsNeeded, IsNeededAmong, StepNeeds, VariablePaths, path_of, variable_path}
 use Rattle.odata_expression_types.specs.Typed.{AreTyped, OperandTyped, StepTyped, Typed, variable_type}
-use Rattle.odata_eval.specs.CalculationGives.{NegatedGives}
-use Rattle.odata_eval.specs.CallGives.{CallGives}
-use Rattle.odata_eval.specs.CollectionGives.{AnyItemGives, CountGives}
+use Rattle.odata_filter_operations.specs.CalculationGives.{NegatedGives}
+use Rattle.odata_filter_operations.specs.CallGives.{CallGives}
+use Rattle.odata_filter_operations.specs.CollectionGives.{AnyItemGives, CountGives}
 use Rattle.odata_eval.specs.EndsOnceAtPaths.{TypedEndsOnceAtPaths}
 use Rattle.odata_eval.specs.Environment.{Environment, bound_over, scope_of, variable_value}
-use Rattle.odata_eval.specs.LambdaGives.{InGives, ItemsGive, LambdaGives, MembersGive}
-use Rattle.odata_eval.specs.LeftFirst.{After}
+use Rattle.odata_filter_operations.specs.LambdaGives.{InGives, ItemsGive, LambdaGives, MembersGive}
+use Rattle.odata_filter_operations.specs.LeftFirst.{After}
 use Rattle.odata_eval.specs.Means.{ItemMeans, Means}
 use Rattle.odata_eval.specs.NameGives.{StepGives}
 use Rattle.odata_eval.specs.OneByOne.{GoesOn, MembersGo}
 use Rattle.odata_eval.specs.OperatorGives.{InType}
-use Rattle.odata_eval.specs.Outcome.{Outcome, gives}
-use Rattle.odata_eval.specs.QuantifierGives.{undecided_val}
-use Rattle.odata_eval.specs.TruthGives.{NotGives}
+use Rattle.odata_filter_operations.specs.Outcome.{Outcome, gives}
+use Rattle.odata_filter_operations.specs.QuantifierGives.{undecided_val}
+use Rattle.odata_filter_operations.specs.TruthGives.{NotGives}
 use Rattle.odata_eval.specs.TypesAtPaths.{AllHaveTypeAt, AreFittingAt, HasTypeAt}
 use Rattle.odata_eval.proofs.meaning.AllTrees.{AllTyped}
 use Rattle.odata_eval.proofs.meaning.AtPaths.{EndsAt, IsFlat, after_at, ends_at, flat_ends, found_at, shallow, shallow_ends, step_at, typed_at, variable_fits_at}

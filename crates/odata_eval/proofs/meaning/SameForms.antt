@@ -25,21 +25,21 @@ use Rattle.odata_signatures.specs.Side.{Side, quoting}
 use Rattle.odata_expression_types.specs.Reads.{OfEquality, ReadsNumber}
 use Rattle.odata_expression_types.specs.Sides.{Between, quoted_text}
 use Rattle.odata_expression_types.specs.Typed.{OperandTyped, OperandsTyped, Scope, Typed}
-use Rattle.odata_eval.specs.CalculationGives.{NegatedGives}
-use Rattle.odata_eval.specs.CallGives.{CallGives}
-use Rattle.odata_eval.specs.CollectionGives.{AnyItemGives, CountGives}
+use Rattle.odata_filter_operations.specs.CalculationGives.{NegatedGives}
+use Rattle.odata_filter_operations.specs.CallGives.{CallGives}
+use Rattle.odata_filter_operations.specs.CollectionGives.{AnyItemGives, CountGives}
 use Rattle.odata_eval.specs.Environment.{Environment, bound_over, scope_of}
-use Rattle.odata_eval.specs.HasGives.{HasGives}
-use Rattle.odata_eval.specs.LambdaGives.{InGives, ItemsGive, LambdaGives}
-use Rattle.odata_eval.specs.LeftFirst.{After}
+use Rattle.odata_filter_operations.specs.HasGives.{HasGives}
+use Rattle.odata_filter_operations.specs.LambdaGives.{InGives, ItemsGive, LambdaGives}
+use Rattle.odata_filter_operations.specs.LeftFirst.{After}
 use Rattle.odata_eval.specs.Means.{ArgumentsMean, ItemMeans, Means, ShapeMeans}
 use Rattle.odata_eval.specs.NameGives.{StepGives}
 use Rattle.odata_eval.specs.OneByOne.{ItemAlone}
 use Rattle.odata_eval.specs.OperatorGives.{InType, SidesGive}
-use Rattle.odata_eval.specs.Outcome.{Outcome}
+use Rattle.odata_filter_operations.specs.Outcome.{Outcome}
 use Rattle.odata_eval.specs.ReadGives.{GivesMember, UnlessRead}
 use Rattle.odata_eval.specs.SameMeaning.{HaveOneMeaning, NormalFormsKeepOutcomes, CanonicalTextsKeepOutcomes}
-use Rattle.odata_eval.specs.TruthGives.{NotGives}
+use Rattle.odata_filter_operations.specs.TruthGives.{NotGives}
 use Rattle.odata_eval.proofs.meaning.AllTrees.{AllPaired}
 use Rattle.odata_eval.proofs.meaning.FormsSame.{items_same, lambda_both}
 use Rattle.odata_eval.proofs.meaning.SameGives.{Both, BothTyped, after_both, equality_both, in_turn, in_type_both, itself, operand_both, operands_both, reads_both, sides_both, some_both, turned, unless_both}

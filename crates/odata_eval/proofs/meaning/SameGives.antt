@@ -12,13 +12,13 @@ use Rattle.odata_expression_types.specs.Sides.{quoted_text}
 use Rattle.odata_expression_types.specs.Typed.{OperandTyped, OperandsTyped}
 use Rattle.odata_signatures.specs.declared.operator_class.Connective.{Connective}
 use Rattle.odata_signatures.specs.declared.operator_class.OperatorClass.{OperatorClass}
-use Rattle.odata_eval.specs.CalculationGives.{CalculationGives}
-use Rattle.odata_eval.specs.CompareGives.{CompareGives}
-use Rattle.odata_eval.specs.LeftFirst.{After, Then}
+use Rattle.odata_filter_operations.specs.CalculationGives.{CalculationGives}
+use Rattle.odata_filter_operations.specs.CompareGives.{CompareGives}
+use Rattle.odata_filter_operations.specs.LeftFirst.{After, Then}
 use Rattle.odata_eval.specs.OperatorGives.{ClassGives, InType, OperatorGives, SidesGive}
 use Rattle.odata_eval.specs.ReadGives.{UnlessRead}
-use Rattle.odata_eval.specs.Outcome.{Outcome, gives, overflow, divides_by_zero, GivesSome}
-use Rattle.odata_eval.specs.TruthGives.{ConnectiveGives, JoinGives}
+use Rattle.odata_filter_operations.specs.Outcome.{Outcome, gives, overflow, divides_by_zero, GivesSome}
+use Rattle.odata_filter_operations.specs.TruthGives.{ConnectiveGives, JoinGives}
 
 -- outcomes of the one are outcomes of the other
 abbrev pub Goes : (Outcome → Type 0) → (Outcome → Type 0) → Type 0

@@ -10,8 +10,8 @@ use Rattle.odata_signatures.specs.OperatorClass.{class_of}
 use Rattle.odata_signatures.specs.declared.operator_class.Connective.{Connective}
 use Rattle.odata_signatures.specs.declared.operator_class.OperatorClass.{OperatorClass}
 use Rattle.odata_checked_filter.specs.FlatTree.{FlatTree}
-use Rattle.odata_eval.specs.TruthGives.{joined, truth_val}
-use Rattle.odata_eval.specs.declared.fault.EvalFault.{EvalFault}
+use Rattle.odata_filter_operations.specs.TruthGives.{joined, truth_val}
+use Rattle.odata_filter_operations.specs.declared.fault.EvalFault.{EvalFault}
 use Rattle.odata_eval.specs.declared.part.WalkClass.{WalkClass}
 use Rattle.odata_eval.specs.private.Place.{HasOperator, IsClassAt, IsRightOf, PartStands, TruthStands}
 use Rattle.odata_eval.specs.private.SceneModel.{SceneModel}

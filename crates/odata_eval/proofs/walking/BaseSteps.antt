@@ -12,12 +12,12 @@ use Rattle.odata_functions.specs.DatumVal.{Reading, datum_val}
 use Rattle.odata_signatures.specs.CollectionTyped.{IsCollection}
 use Rattle.odata_checked_filter.specs.Calls.{TakesMemory}
 use Rattle.odata_checked_filter.specs.declared.checked_node.NodeKind.{NodeKind}
-use Rattle.odata_eval.specs.declared.fault.EvalFault.{EvalFault}
-use Rattle.odata_eval.specs.CollectionGives.{AnyItemGives, CountGives}
-use Rattle.odata_eval.specs.LeftFirst.{After}
-use Rattle.odata_eval.specs.Outcome.{Outcome, gives}
-use Rattle.odata_eval.specs.private.DatumView.{answer_outcome, reading_at}
-use Rattle.odata_eval.specs.private.Members.{HasMembers}
+use Rattle.odata_filter_operations.specs.declared.fault.EvalFault.{EvalFault}
+use Rattle.odata_filter_operations.specs.CollectionGives.{AnyItemGives, CountGives}
+use Rattle.odata_filter_operations.specs.LeftFirst.{After}
+use Rattle.odata_filter_operations.specs.Outcome.{Outcome, gives}
+use Rattle.odata_filter_operations.specs.DatumView.{answer_outcome, reading_at}
+use Rattle.odata_filter_operations.specs.Members.{HasMembers}
 use Rattle.odata_eval.specs.private.Place.{HasKind, PartStands}
 use Rattle.odata_eval.specs.private.Scene.{EndsOnceHere, MeansHere, StandsHere, TypedHere}
 use Rattle.odata_eval.specs.private.SceneModel.{SceneModel}

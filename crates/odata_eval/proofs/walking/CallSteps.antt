@@ -15,16 +15,17 @@ use Rattle.odata_signatures.specs.declared.argument_kind.ArgumentKind.{ArgumentK
 use Rattle.odata_signatures.specs.declared.function.Function.{Function}
 use Rattle.odata_checked_filter.specs.Calls.{TakesMemory}
 use Rattle.odata_checked_filter.specs.declared.checked_node.NodeKind.{NodeKind}
-use Rattle.odata_eval.specs.declared.fault.EvalFault.{EvalFault}
-use Rattle.odata_eval.specs.CallGives.{CallGives}
-use Rattle.odata_eval.specs.Outcome.{Outcome, gives}
-use Rattle.odata_eval.specs.VerdictView.{fault_outcome}
-use Rattle.odata_eval.specs.private.Arguments.{Applies, AreArguments, IsArgument, MakesText}
-use Rattle.odata_eval.specs.private.DatumView.{answer_outcome, reading_at}
+use Rattle.odata_filter_operations.specs.declared.fault.EvalFault.{EvalFault}
+use Rattle.odata_filter_operations.specs.CallGives.{CallGives}
+use Rattle.odata_filter_operations.specs.Outcome.{Outcome, gives}
+use Rattle.odata_filter_operations.specs.FaultView.{fault_outcome}
+use Rattle.odata_filter_operations.specs.Arguments.{Applies, AreArguments, IsArgument, MakesText}
+use Rattle.odata_filter_operations.specs.DatumView.{answer_outcome, reading_at}
 use Rattle.odata_eval.specs.private.Place.{HasKind, IsStopOf, PartStands}
 use Rattle.odata_eval.specs.private.Scene.{EndsOnceHere, MeansHere, StandsHere, TypedHere}
 use Rattle.odata_eval.specs.private.SceneModel.{SceneModel}
-use Rattle.odata_eval.specs.private.WalkAnswer.{AllAnswered, AnswersAtPlace, AnswersDatum, Tells}
+use Rattle.odata_filter_operations.specs.Tells.{Tells}
+use Rattle.odata_eval.specs.private.WalkAnswer.{AllAnswered, AnswersAtPlace, AnswersDatum}
 use Rattle.odata_eval.proofs.meaning.CallEnds.{HaveTypes, applies_of}
 use Rattle.odata_eval.proofs.walking.Parts.{by_kind, tells_there}
 use Rattle.odata_eval.proofs.walking.Spines.{MeanAll, StandsAll, TypedAll, all_further, child_takes, fault_stays, first_child, further, some_taken, stops_here, stops_there}

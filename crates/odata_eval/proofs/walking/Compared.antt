@@ -18,10 +18,10 @@ use Rattle.odata_signatures.specs.OperatorTyped.{ClassTyped}
 use Rattle.odata_signatures.specs.TypeView.{expr_type}
 use Rattle.odata_checked_filter.specs.declared.checked_node.CheckedNode.{CheckedNode}
 use Rattle.odata_checked_filter.specs.declared.checked_node.NodeKind.{NodeKind}
-use Rattle.odata_eval.specs.CalculationGives.{number_val}
-use Rattle.odata_eval.specs.Outcome.{gives}
-use Rattle.odata_eval.specs.TruthGives.{truth_val}
-use Rattle.odata_eval.specs.private.DatumView.{reading_at}
+use Rattle.odata_filter_operations.specs.CalculationGives.{number_val}
+use Rattle.odata_filter_operations.specs.Outcome.{gives}
+use Rattle.odata_filter_operations.specs.TruthGives.{truth_val}
+use Rattle.odata_filter_operations.specs.DatumView.{reading_at}
 use Rattle.odata_eval.specs.private.Place.{HasOperatorOf, IsRightOf, PartStands}
 use Rattle.odata_eval.specs.private.Scene.{EndsOnceHere}
 use Rattle.odata_eval.specs.private.SceneModel.{SceneModel}

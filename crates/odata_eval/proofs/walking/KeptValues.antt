@@ -9,7 +9,7 @@ use Rattle.csdl_schema.specs.ExprType.{ExprType, null_type, single, collection, 
 use Rattle.csdl_schema.specs.SchemaModel.{Slots, slots_of}
 use Rattle.edm_entities.specs.Row.{ValAtType, val_of, val_step}
 use Rattle.odata_functions.specs.KeptVal.{Contents, kept_val}
-use Rattle.odata_eval.specs.Outcome.{gives}
+use Rattle.odata_filter_operations.specs.Outcome.{gives}
 use Rattle.odata_eval.specs.private.Place.{TypedStands}
 use Rattle.odata_eval.specs.private.Scene.{EndsOnceHere}
 use Rattle.odata_eval.specs.private.SceneModel.{SceneModel}

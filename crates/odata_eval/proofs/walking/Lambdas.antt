@@ -25,16 +25,17 @@ use Rattle.odata_checked_filter.specs.declared.checked_node.NodeKind.{NodeKind}
 use Rattle.odata_eval.specs.Environment.{bound_over, scope_of}
 use Rattle.odata_eval.specs.Means.{Means}
 use Rattle.odata_eval.specs.OneByOne.{MembersGo}
-use Rattle.odata_eval.specs.Outcome.{Outcome, gives}
-use Rattle.odata_eval.specs.TruthGives.{truth_val}
-use Rattle.odata_eval.specs.declared.fault.EvalFault.{EvalFault}
+use Rattle.odata_filter_operations.specs.Outcome.{Outcome, gives}
+use Rattle.odata_filter_operations.specs.TruthGives.{truth_val}
+use Rattle.odata_filter_operations.specs.declared.fault.EvalFault.{EvalFault}
 use Rattle.odata_eval.specs.declared.frames.RangeVariable.{RangeVariable}
-use Rattle.odata_eval.specs.private.DatumView.{answer_outcome, reading_at}
+use Rattle.odata_filter_operations.specs.DatumView.{answer_outcome, reading_at}
 use Rattle.odata_eval.specs.private.Lambda.{AnswersMembers, BodyIsThere, BodyMeans, IsOverMembers, IsVariableOf, Suits, body_scope, type_of_variable, vals_of}
 use Rattle.odata_eval.specs.private.Place.{HasKind, IsRightOf, PartStands}
 use Rattle.odata_eval.specs.private.Scene.{EndsOnceHere, MeansHere, StandsHere, TypedHere}
 use Rattle.odata_eval.specs.private.SceneModel.{SceneModel, environment_of}
-use Rattle.odata_eval.specs.private.WalkAnswer.{AnswersDatum, AnswersTruth, Tells}
+use Rattle.odata_filter_operations.specs.Tells.{Tells}
+use Rattle.odata_eval.specs.private.WalkAnswer.{AnswersDatum, AnswersTruth}
 use Rattle.odata_eval.proofs.meaning.OneByOne.{members_one_by_one}
 use Rattle.odata_eval.proofs.walking.Children.{body_stands}
 use Rattle.odata_eval.proofs.walking.Parts.{by_kind, found_there, some_there, tells_there, there_found}

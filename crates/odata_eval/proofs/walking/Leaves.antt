@@ -16,7 +16,7 @@ use Rattle.odata_checked_filter.specs.declared.checked_node.NodeKind.{NodeKind}
 use Rattle.odata_checked_filter.specs.Stands.{IsValueOf}
 use Rattle.odata_eval.specs.Environment.{scope_of, variable_value}
 use Rattle.odata_eval.specs.NameGives.{FoundGives}
-use Rattle.odata_eval.specs.Outcome.{Outcome, gives}
+use Rattle.odata_filter_operations.specs.Outcome.{Outcome, gives}
 use Rattle.odata_eval.specs.private.Frames.{StandsAtLevel, names_of}
 use Rattle.odata_eval.specs.private.Place.{HasKind, PartStands}
 use Rattle.odata_eval.specs.private.Scene.{HoldsAt, MeansHere, TypedHere}
@@ -25,7 +25,7 @@ use Rattle.odata_eval.specs.private.WalkAnswer.{AnswersKept}
 use Rattle.odata_signatures.specs.Functions.{IsNamed, row_of}
 use Rattle.odata_signatures.specs.declared.function.Function.{Function}
 use Rattle.odata_signatures.specs.CallTyped.{CallTyped}
-use Rattle.odata_eval.specs.CallGives.{CallGives}
+use Rattle.odata_filter_operations.specs.CallGives.{CallGives}
 use Rattle.odata_eval.proofs.walking.Parts.{by_kind, found_there, inside, kind_there}
 use Rattle.odata_eval.proofs.walking.Spines.{MeanAll, TypedAll, only_now}
 use Rattle.odata_eval.proofs.walking.SlotValue.{slot_value}

@@ -16,8 +16,8 @@ use Rattle.odata_signatures.specs.TypeView.{expr_type}
 use Rattle.odata_expression_types.specs.Typed.{PropertyTyped, StepTyped}
 use Rattle.odata_eval.specs.NameGives.{StepGives}
 use Rattle.odata_eval.specs.Environment.{scope_of}
-use Rattle.odata_eval.specs.Outcome.{gives}
-use Rattle.odata_eval.specs.private.DatumView.{HasSlot, IsDatumOf, IsStepOf, reading_at}
+use Rattle.odata_filter_operations.specs.Outcome.{gives}
+use Rattle.odata_filter_operations.specs.DatumView.{HasSlot, IsDatumOf, IsStepOf, reading_at}
 use Rattle.odata_eval.specs.private.Place.{HasKind, PartStands}
 use Rattle.odata_eval.specs.private.Scene.{EndsOnceHere, MeansHere, TypedHere}
 use Rattle.odata_eval.specs.private.SceneModel.{SceneModel, environment_of}

@@ -10,13 +10,13 @@ use Rattle.csdl_schema.specs.ExprType.{ExprType}
 use Rattle.csdl_schema.specs.SchemaModel.{slots_of}
 use Rattle.edm_entities.specs.Row.{val_of}
 use Rattle.odata_checked_filter.specs.Calls.{TakesMemory}
-use Rattle.odata_eval.specs.LeftFirst.{After}
+use Rattle.odata_filter_operations.specs.LeftFirst.{After}
 use Rattle.odata_eval.specs.OneByOne.{GoesOn, MembersGo}
-use Rattle.odata_eval.specs.Outcome.{Outcome, gives}
-use Rattle.odata_eval.specs.QuantifierGives.{IsUndecided, undecided_val}
-use Rattle.odata_eval.specs.TruthGives.{truth_val}
-use Rattle.odata_eval.specs.VerdictView.{fault_outcome}
-use Rattle.odata_eval.specs.declared.fault.EvalFault.{EvalFault}
+use Rattle.odata_filter_operations.specs.Outcome.{Outcome, gives}
+use Rattle.odata_filter_operations.specs.QuantifierGives.{IsUndecided, undecided_val}
+use Rattle.odata_filter_operations.specs.TruthGives.{truth_val}
+use Rattle.odata_filter_operations.specs.FaultView.{fault_outcome}
+use Rattle.odata_filter_operations.specs.declared.fault.EvalFault.{EvalFault}
 use Rattle.odata_eval.specs.declared.frames.RangeVariable.{RangeVariable}
 use Rattle.odata_eval.specs.private.Frames.{frame_of}
 use Rattle.odata_eval.specs.private.Lambda.{AnswersMembers, BodyIsThere, BodyMeans, BodyStands, BodyTyped, type_of_variable, vals_of}

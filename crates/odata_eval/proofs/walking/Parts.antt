@@ -14,11 +14,11 @@ use Rattle.odata_checked_filter.specs.declared.checked_node.NodeKind.{NodeKind}
 use Rattle.odata_checked_filter.specs.Stands.{IsKindOf}
 use Rattle.odata_expression_types.specs.Typed.{Scope}
 use Rattle.odata_eval.specs.Environment.{scope_of}
-use Rattle.odata_eval.specs.Outcome.{Outcome}
+use Rattle.odata_filter_operations.specs.Outcome.{Outcome}
 use Rattle.odata_eval.specs.private.Place.{HasKind, PartStands}
 use Rattle.odata_eval.specs.private.Scene.{StandsHere, TypedHere}
 use Rattle.odata_eval.specs.private.SceneModel.{SceneModel, environment_of}
-use Rattle.odata_eval.specs.private.WalkAnswer.{Tells}
+use Rattle.odata_filter_operations.specs.Tells.{Tells}
 
 -- a fact of what is held, and back
 pub found_there : {X : Type 0} (P : X → Type 0) (held : Option X) (x : X) → held ≡ Some x → IsSomeAnd held P → P x

@@ -11,13 +11,13 @@ use Rattle.odata_expression_types.specs.Sides.{quoted_text}
 use Rattle.odata_checked_filter.specs.Calls.{TakesMemory}
 use Rattle.odata_checked_filter.specs.Stands.{AreItemNumbers}
 use Rattle.odata_checked_filter.specs.declared.checked_node.NodeKind.{NodeKind}
-use Rattle.odata_eval.specs.declared.fault.EvalFault.{EvalFault}
-use Rattle.odata_eval.specs.Outcome.{Outcome, divides_by_zero, gives, overflow}
-use Rattle.odata_eval.specs.VerdictView.{fault_outcome}
+use Rattle.odata_filter_operations.specs.declared.fault.EvalFault.{EvalFault}
+use Rattle.odata_filter_operations.specs.Outcome.{Outcome, divides_by_zero, gives, overflow}
+use Rattle.odata_filter_operations.specs.FaultView.{fault_outcome}
 use Rattle.odata_eval.specs.private.Place.{HasKind}
 use Rattle.odata_eval.specs.private.Scene.{MeansHere, StandsHere, TypedHere}
 use Rattle.odata_eval.specs.private.SceneModel.{SceneModel}
-use Rattle.odata_eval.specs.private.WalkAnswer.{Tells}
+use Rattle.odata_filter_operations.specs.Tells.{Tells}
 use Rattle.odata_eval.proofs.meaning.Reads.{beside}
 use Rattle.odata_eval.proofs.walking.Parts.{kind_there}
 use Rattle.odata_eval.proofs.walking.ReadKinds.{IsReadAt, left_operator, numbered_list, read_flags, right_operator}

@@ -12,9 +12,9 @@ use Rattle.odata_signatures.specs.ExprTypes.{IsBooleanOrNull}
 use Rattle.odata_signatures.specs.TypeView.{expr_type}
 use Rattle.odata_signatures.specs.declared.edm_type.EdmType.{EdmType}
 use Rattle.odata_signatures.specs.declared.edm_type.ValueType.{ValueType}
-use Rattle.odata_eval.specs.CalculationGives.{number_val}
-use Rattle.odata_eval.specs.TruthGives.{truth_val}
-use Rattle.odata_eval.specs.private.Operands.{AreNumbers, IsOneNumber}
+use Rattle.odata_filter_operations.specs.CalculationGives.{number_val}
+use Rattle.odata_filter_operations.specs.TruthGives.{truth_val}
+use Rattle.odata_filter_operations.specs.Operands.{AreNumbers, IsOneNumber}
 use Rattle.odata_eval.specs.private.Place.{IsNumberOperand}
 use Rattle.odata_eval.proofs.meaning.Kinds.{truth_of}
 use Rattle.odata_eval.proofs.meaning.Numbers.{IsNumberIn, number_in}

@@ -12,13 +12,13 @@ use Rattle.odata_signatures.specs.HasTyped.{AreFlags}
 use Rattle.odata_checked_filter.specs.Calls.{TakesMemory}
 use Rattle.odata_checked_filter.specs.Stands.{SideBySide}
 use Rattle.odata_checked_filter.specs.declared.checked_node.NodeKind.{NodeKind}
-use Rattle.odata_eval.specs.declared.fault.EvalFault.{EvalFault}
-use Rattle.odata_eval.specs.HasGives.{HasGives}
-use Rattle.odata_eval.specs.LambdaGives.{InGives}
-use Rattle.odata_eval.specs.LeftFirst.{After}
-use Rattle.odata_eval.specs.Outcome.{Outcome, gives}
-use Rattle.odata_eval.specs.VerdictView.{fault_outcome}
-use Rattle.odata_eval.specs.private.DatumView.{reading_at}
+use Rattle.odata_filter_operations.specs.declared.fault.EvalFault.{EvalFault}
+use Rattle.odata_filter_operations.specs.HasGives.{HasGives}
+use Rattle.odata_filter_operations.specs.LambdaGives.{InGives}
+use Rattle.odata_filter_operations.specs.LeftFirst.{After}
+use Rattle.odata_filter_operations.specs.Outcome.{Outcome, gives}
+use Rattle.odata_filter_operations.specs.FaultView.{fault_outcome}
+use Rattle.odata_filter_operations.specs.DatumView.{reading_at}
 use Rattle.odata_eval.specs.private.Place.{HasKind, IsRightOf, PartStands}
 use Rattle.odata_eval.specs.private.Scene.{EndsOnceHere, MeansHere, StandsHere, TypedHere}
 use Rattle.odata_eval.specs.private.SceneModel.{SceneModel}

@@ -15,21 +15,22 @@ use Rattle.odata_checked_filter.specs.Calls.{TakesMemory}
 use Rattle.odata_checked_filter.specs.declared.checked_node.CheckedNode.{CheckedNode}
 use Rattle.odata_checked_filter.specs.declared.checked_node.NodeKind.{NodeKind}
 use Rattle.odata_checked_filter.specs.FlatTree.{FlatTree}
-use Rattle.odata_eval.specs.declared.fault.EvalFault.{EvalFault}
+use Rattle.odata_filter_operations.specs.declared.fault.EvalFault.{EvalFault}
 use Rattle.odata_eval.specs.declared.part.WalkClass.{WalkClass}
 use Rattle.odata_eval.specs.Environment.{scope_of}
-use Rattle.odata_eval.specs.LeftFirst.{After}
-use Rattle.odata_eval.specs.HasGives.{HasGives}
+use Rattle.odata_filter_operations.specs.LeftFirst.{After}
+use Rattle.odata_filter_operations.specs.HasGives.{HasGives}
 use Rattle.odata_eval.specs.OperatorGives.{OperatorGives, SidesGive}
 use Rattle.odata_eval.specs.ReadGives.{GivesMember}
 use Rattle.odata_expression_types.specs.Reads.{OfEquality}
 use Rattle.edm_values.specs.Val as val
-use Rattle.odata_eval.specs.Outcome.{Outcome, overflow, divides_by_zero}
-use Rattle.odata_eval.specs.VerdictView.{fault_outcome}
+use Rattle.odata_filter_operations.specs.Outcome.{Outcome, overflow, divides_by_zero}
+use Rattle.odata_filter_operations.specs.FaultView.{fault_outcome}
 use Rattle.odata_eval.specs.private.Place.{HasKind, HasOperatorOf, IsClassAt, IsNumberOperand, IsOperatorOf, IsRightOf, PartStands, TypedStands}
 use Rattle.odata_eval.specs.private.Scene.{MeansHere, StandsHere, TypedHere}
 use Rattle.odata_eval.specs.private.SceneModel.{SceneModel, environment_of}
-use Rattle.odata_eval.specs.private.WalkAnswer.{AnswersAtPlace, Tells}
+use Rattle.odata_filter_operations.specs.Tells.{Tells}
+use Rattle.odata_eval.specs.private.WalkAnswer.{AnswersAtPlace}
 use Rattle.odata_eval.specs.private.WalkClass.{walk_of_kind, walk_of_operator}
 use Rattle.odata_signatures.specs.Functions.{IsNamed, row_of}
 use Rattle.odata_signatures.specs.declared.function.Function.{Function}
@@ -37,7 +38,7 @@ use Rattle.odata_signatures.specs.CallTyped.{CallTyped}
 use Rattle.odata_checked_filter.specs.Stands.{AllStand, Stands}
 use Rattle.odata_expression_types.specs.Typed.{AreTyped, Scope, with_variable}
 use Rattle.odata_eval.specs.Means.{ArgumentsMean}
-use Rattle.odata_eval.specs.CallGives.{CallGives}
+use Rattle.odata_filter_operations.specs.CallGives.{CallGives}
 use Rattle.csdl_schema.specs.SchemaModel.{SchemaModel, slots_of, type_name_at}
 use Rattle.edm_entities.specs.Row.{value_of}
 use Rattle.odata_eval.proofs.walking.Children.{body_stands, one_there, only_child}

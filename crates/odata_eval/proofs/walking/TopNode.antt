@@ -9,19 +9,20 @@ use Rattle.odata_checked_filter.specs.Filter.{Filter, IsFilter, tree_of_filter}
 use Rattle.odata_checked_filter.specs.FlatTree.{FlatTree}
 use Rattle.odata_checked_filter.specs.Stands.{Stands}
 use Rattle.odata_expression_types.specs.Typed.{Typed}
-use Rattle.odata_eval.specs.declared.fault.EvalFault.{EvalFault}
+use Rattle.odata_filter_operations.specs.declared.fault.EvalFault.{EvalFault}
 use Rattle.odata_eval.specs.Environment.{Environment, scope_of}
 use Rattle.odata_eval.specs.Means.{Means}
 use Rattle.odata_eval.specs.MeansOn.{IsTheOutcome, MeansOn}
 use Rattle.odata_eval.specs.private.Frames.{Frame, environment_in}
-use Rattle.odata_eval.specs.Outcome.{Outcome}
-use Rattle.odata_eval.specs.TruthGives.{truth_val}
-use Rattle.odata_eval.specs.VerdictView.{fault_outcome}
-use Rattle.odata_eval.specs.private.DatumView.{answer_outcome}
+use Rattle.odata_filter_operations.specs.Outcome.{Outcome}
+use Rattle.odata_filter_operations.specs.TruthGives.{truth_val}
+use Rattle.odata_filter_operations.specs.FaultView.{fault_outcome}
+use Rattle.odata_filter_operations.specs.DatumView.{answer_outcome}
 use Rattle.odata_eval.specs.private.Place.{TruthStands}
 use Rattle.odata_eval.specs.private.Scene.{EndsOnceHere, MeansHere, StandsHere, TypedHere}
 use Rattle.odata_eval.specs.private.SceneModel.{SceneModel, environment_of, scene_in}
-use Rattle.odata_eval.specs.private.WalkAnswer.{AnswersTruth, Tells}
+use Rattle.odata_filter_operations.specs.Tells.{Tells}
+use Rattle.odata_eval.specs.private.WalkAnswer.{AnswersTruth}
 
 module _ (filter : Filter) (row : Row) (moment : MomentParts) (scene : SceneModel) (right : IsFilter filter) (one_schema : filter.schema ≡ row.schema)
     (one_type : filter.filtered ≡ row.type_id) (is_row : scene.row ≡ row) (is_moment : scene.moment ≡ moment) (is_list : scene.list ≡ filter.list) (is_empty : scene.frames ≡ []) where

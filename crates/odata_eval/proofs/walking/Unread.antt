@@ -9,10 +9,10 @@ use Rattle.odata_signatures.specs.OperatorClass.{class_of}
 use Rattle.odata_signatures.specs.OperatorTyped.{ClassTyped}
 use Rattle.odata_expression_types.specs.Reads.{OfEquality, ReadNone, ReadsNone, ReadsNumber}
 use Rattle.odata_checked_filter.specs.declared.checked_node.NodeKind.{NodeKind}
-use Rattle.odata_eval.specs.HasGives.{HasGives}
-use Rattle.odata_eval.specs.LeftFirst.{After}
+use Rattle.odata_filter_operations.specs.HasGives.{HasGives}
+use Rattle.odata_filter_operations.specs.LeftFirst.{After}
 use Rattle.odata_eval.specs.OperatorGives.{SidesGive}
-use Rattle.odata_eval.specs.Outcome.{Outcome}
+use Rattle.odata_filter_operations.specs.Outcome.{Outcome}
 use Rattle.odata_eval.specs.private.Place.{HasKind}
 use Rattle.odata_eval.specs.private.Scene.{MeansHere, StandsHere, TypedHere}
 use Rattle.odata_eval.specs.private.SceneModel.{SceneModel}

@@ -9,10 +9,10 @@ use Rattle.odata_expression_types.specs.Reads.{ReadNone, ReadsNone}
 use Rattle.odata_checked_filter.specs.Calls.{TakesMemory}
 use Rattle.odata_checked_filter.specs.Stands.{AreItemNumbers, IsItemNumber}
 use Rattle.odata_eval.specs.OneByOne.{ItemAlone}
-use Rattle.odata_eval.specs.Outcome.{Outcome}
+use Rattle.odata_filter_operations.specs.Outcome.{Outcome}
 use Rattle.odata_eval.specs.private.Scene.{StandsHere, TypedHere}
 use Rattle.odata_eval.specs.private.SceneModel.{SceneModel, environment_of}
-use Rattle.odata_eval.specs.private.WalkAnswer.{Tells}
+use Rattle.odata_filter_operations.specs.Tells.{Tells}
 
 -- a value for the item stands in the place, or there are none and the item is not read
 abbrev pub IsMarked : List Value → Slots → (ExprType → Type 0) → Option ℕ → Tree → Type 0

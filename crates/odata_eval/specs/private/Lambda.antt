@@ -19,13 +19,13 @@ use Rattle.odata_checked_filter.specs.Stands.{Stands}
 use Rattle.odata_eval.specs.Environment.{bound_over, scope_of}
 use Rattle.odata_eval.specs.Means.{Means}
 use Rattle.odata_eval.specs.OneByOne.{MembersGo}
-use Rattle.odata_eval.specs.Outcome.{Outcome}
-use Rattle.odata_eval.specs.TruthGives.{truth_val}
-use Rattle.odata_eval.specs.declared.fault.EvalFault.{EvalFault}
+use Rattle.odata_filter_operations.specs.Outcome.{Outcome}
+use Rattle.odata_filter_operations.specs.TruthGives.{truth_val}
+use Rattle.odata_filter_operations.specs.declared.fault.EvalFault.{EvalFault}
 use Rattle.odata_eval.specs.declared.frames.RangeVariable.{RangeVariable}
-use Rattle.odata_eval.specs.private.DatumView.{answer_outcome}
+use Rattle.odata_filter_operations.specs.DatumView.{answer_outcome}
 use Rattle.odata_eval.specs.private.SceneModel.{SceneModel, environment_of}
-use Rattle.odata_eval.specs.private.WalkAnswer.{Tells}
+use Rattle.odata_filter_operations.specs.Tells.{Tells}
 
 -- the base there has members of some type
 abbrev pub IsOverMembers : FlatTree → ℕ → Type 0

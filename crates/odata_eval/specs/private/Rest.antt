@@ -3,7 +3,7 @@ use Rattle.std.specs.Prelude.{ℕ, ◌<◌, Bool, Option, Some, Result, Ok}
 use Rattle.odata_syntax.specs.declared.node.BinaryOperator.{BinaryOperator}
 use Rattle.odata_eval.specs.declared.and_chain.PlainTerms.{PlainTerms}
 use Rattle.odata_eval.specs.declared.and_chain.Rest.{Rest}
-use Rattle.odata_eval.specs.declared.fault.EvalFault.{EvalFault}
+use Rattle.odata_filter_operations.specs.declared.fault.EvalFault.{EvalFault}
 use Rattle.odata_eval.specs.private.Place.{HasOperator, TruthStands}
 use Rattle.odata_eval.specs.private.SceneModel.{SceneModel}
 use Rattle.odata_eval.specs.private.WalkAnswer.{AnswersTruth}

@@ -11,7 +11,7 @@ use Rattle.odata_expression_types.specs.Typed.{Typed}
 use Rattle.odata_eval.specs.EndsOnce.{EndsOnce}
 use Rattle.odata_eval.specs.Environment.{scope_of}
 use Rattle.odata_eval.specs.Means.{Means}
-use Rattle.odata_eval.specs.Outcome.{Outcome}
+use Rattle.odata_filter_operations.specs.Outcome.{Outcome}
 use Rattle.odata_eval.specs.private.SceneModel.{SceneModel, environment_of}
 
 -- the nodes of the list from the place up to the stop stand for the tree

@@ -1,5 +1,5 @@
 -- For private clauses: what the walk of a filter's list answers.
-use Rattle.std.specs.Prelude.{◌≡◌, ℕ, ℤ, List, [], ◌∷◌, Option, Some, None, Result, Ok, Bool}
+use Rattle.std.specs.Prelude.{◌≡◌, ℕ, ℤ, List, [], ◌∷◌, Option, Some, Result, Ok, Bool}
 use Rattle.edm_values.specs.declared.datum.Datum.{Datum}
 use Rattle.edm_values.specs.declared.value.Value.{Value}
 use Rattle.csdl_schema.specs.ExprType.{ExprType}
@@ -8,21 +8,17 @@ use Rattle.edm_entities.specs.Row.{val_of}
 use Rattle.odata_functions.specs.DatumVal.{datum_val}
 use Rattle.odata_syntax.specs.Tree.{Tree}
 use Rattle.odata_checked_filter.specs.Calls.{TakesMemory}
-use Rattle.odata_eval.specs.declared.fault.EvalFault.{EvalFault}
+use Rattle.odata_filter_operations.specs.declared.fault.EvalFault.{EvalFault}
 use Rattle.odata_eval.specs.declared.part.Part.{Part}
 use Rattle.odata_eval.specs.declared.part.WalkClass.{WalkClass}
-use Rattle.odata_eval.specs.CalculationGives.{number_val}
-use Rattle.odata_eval.specs.Outcome.{Outcome, gives}
-use Rattle.odata_eval.specs.TruthGives.{truth_val}
-use Rattle.odata_eval.specs.private.DatumView.{answer_outcome, reading_at}
+use Rattle.odata_filter_operations.specs.CalculationGives.{number_val}
+use Rattle.odata_filter_operations.specs.Outcome.{Outcome, gives}
+use Rattle.odata_filter_operations.specs.TruthGives.{truth_val}
+use Rattle.odata_filter_operations.specs.DatumView.{answer_outcome, reading_at}
+use Rattle.odata_filter_operations.specs.Tells.{Tells}
 use Rattle.odata_eval.specs.private.Place.{IsClassAt, IsStopOf}
 use Rattle.odata_eval.specs.private.Scene.{MeansHere, StandsHere, TypedHere}
 use Rattle.odata_eval.specs.private.SceneModel.{SceneModel}
-
--- what was told is such an outcome; want of memory is told only where memory is taken
-abbrev pub Tells : Type 0 → (Outcome → Type 0) → Option Outcome → Type 0
-Tells Takes Means (Some o) = Means o
-Tells Takes Means None = Takes
 
 -- it is an outcome of what stands in the place, by the type of that
 pub record AnswersAtPlace (scene : SceneModel) (place : ℕ) (told : ExprType → Option Outcome) : Type 0 where

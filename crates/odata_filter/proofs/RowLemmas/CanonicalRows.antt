@@ -22,7 +22,7 @@ use Rattle.odata_expression_types.specs.HasTyping.{HasTree}
 use Rattle.odata_checked_filter.specs.CanonicalFilters.{AreCoveredAlike, ExpandTheSame, IsOfCanonicalText, OfCanonicalTexts}
 use Rattle.odata_checked_filter.specs.Filter.{Filter, slots_for_filter, tree_of_filter}
 use Rattle.odata_eval.specs.Means.{Means}
-use Rattle.odata_eval.specs.Outcome.{Outcome}
+use Rattle.odata_filter_operations.specs.Outcome.{Outcome}
 use Rattle.odata_eval.specs.SameMeaning.{CanonicalTextsKeepOutcomes}
 use Rattle.odata_eval.specs.declared.verdict.Verdict.{Verdict}
 use Rattle.line_filter.specs.Kept.{Filters, IsFaultless, Items, Passes, Sieve, SiftedItem, Stops, StopsAt, StopsBefore, StopsOn, StopsWithin}

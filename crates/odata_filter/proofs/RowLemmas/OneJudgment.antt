@@ -12,9 +12,10 @@ use Rattle.edm_entities.specs.Fits.{Fits}
 use Rattle.edm_entities.specs.RowFaults.{Path, IsFirstFault, IsRowFault}
 use Rattle.edm_entities.specs.FitsPrimitive.{Flaw, missing, wrong_kind, null_not_allowed, out_of_range, bad_text, not_expanded}
 use Rattle.edm_entities.specs.declared.fault.RowFault.{RowFault}
-use Rattle.odata_eval.specs.Outcome.{Outcome, gives}
-use Rattle.odata_eval.specs.VerdictView.{fault_outcome, verdict_val}
-use Rattle.odata_eval.specs.declared.fault.EvalFault.{EvalFault}
+use Rattle.odata_filter_operations.specs.Outcome.{Outcome, gives}
+use Rattle.odata_filter_operations.specs.FaultView.{fault_outcome}
+use Rattle.odata_eval.specs.VerdictView.{verdict_val}
+use Rattle.odata_filter_operations.specs.declared.fault.EvalFault.{EvalFault}
 use Rattle.odata_eval.specs.declared.verdict.Verdict.{Verdict}
 use Rattle.odata_checked_filter.specs.Filter.{Filter, slots_for_filter}
 use Rattle.line_filter.specs.declared.judge.Judgment.{Judgment}

@@ -17,9 +17,9 @@ use Rattle.odata_checked_filter.specs.Filter.{Filter, tree_of_filter}
 use Rattle.odata_eval.specs.EndsOnce.{IsOutcomeOf, TypedEndsOnce}
 use Rattle.odata_eval.specs.Means.{Means}
 use Rattle.odata_eval.specs.MeansOn.{IsTheOutcome}
-use Rattle.odata_eval.specs.Outcome.{Outcome, gives, overflow, divides_by_zero}
+use Rattle.odata_filter_operations.specs.Outcome.{Outcome, gives, overflow, divides_by_zero}
 use Rattle.odata_eval.specs.VerdictView.{told_outcome, verdict_val}
-use Rattle.odata_eval.specs.declared.fault.EvalFault.{EvalFault}
+use Rattle.odata_filter_operations.specs.declared.fault.EvalFault.{EvalFault}
 use Rattle.odata_eval.specs.declared.verdict.Verdict.{Verdict}
 use Rattle.line_filter.specs.Kept.{Filters, IsFaultless, Passes, SiftedItem, kept_text}
 use Rattle.line_filter.specs.LineItems.{IsFoundOf, line_sieve}

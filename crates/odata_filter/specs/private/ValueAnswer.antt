@@ -4,9 +4,9 @@ use Rattle.serde_json.specs.Data.{Data}
 use Rattle.edm_values.specs.MomentParts.{MomentParts}
 use Rattle.line_filter.specs.declared.judge.Judgment.{Judgment}
 use Rattle.odata_checked_filter.specs.Filter.{Filter}
-use Rattle.odata_eval.specs.Outcome.{gives}
+use Rattle.odata_filter_operations.specs.Outcome.{gives}
 use Rattle.odata_eval.specs.VerdictView.{verdict_val}
-use Rattle.odata_eval.specs.declared.fault.EvalFault.{EvalFault}
+use Rattle.odata_filter_operations.specs.declared.fault.EvalFault.{EvalFault}
 use Rattle.odata_eval.specs.declared.verdict.Verdict.{Verdict}
 use Rattle.odata_filter.specs.RowJudgment.{HasOutcome, JudgesValue}
 use Rattle.odata_filter.specs.declared.bad_row.BadRow.{BadRow}

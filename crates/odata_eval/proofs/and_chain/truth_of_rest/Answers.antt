@@ -1,6 +1,6 @@
 use Rattle.std.proofs.Common.{◌≡◌, ◌<◌, ◌≤◌, ◌-◌, Bool, false, true, Option, Some, Ok, Err, arith, subst, sym}
 use Rattle.odata_signatures.specs.declared.operator_class.Connective.{Connective}
-use Rattle.odata_eval.specs.TruthGives.{truth_val}
+use Rattle.odata_filter_operations.specs.TruthGives.{truth_val}
 use Rattle.odata_eval.specs.private.WalkAnswer.{AnswersTruth}
 use Rattle.odata_eval.specs.private.WalkClass.{IsDecided}
 use Rattle.odata_eval.proofs.walking.AndChains.{decided_up, false_answers, fault_answers, fault_up, next_answers, term_stands, term_there, told_not, true_answers}

@@ -1,10 +1,13 @@
-use Rattle.std.proofs.Common.{◌≡◌, ◌∙◌, ℕ, suc, ◌+◌, ◌≤◌, List, arith, inl, inr, length, refl, subst, sym}
+use Rattle.std.proofs.Common.{◌≡◌, ◌∙◌, ℕ, suc, ◌+◌, ◌≤◌, List, [], arith, inl, inr, length, refl, subst, sym}
 use Rattle.std.proofs.lemmas.Bool.{cases_lt}
-use Rattle.csdl_schema.specs.SchemaModel.{slots_of}
+use Rattle.csdl_schema.specs.SchemaModel.{SchemaModel, slots_of}
 use Rattle.odata_eval.specs.private.Frames.{Frame, StandsAtLevel, bound_of, environment_in, frame_of, frames_in, names_of}
-use Rattle.odata_eval.proofs.walking.OneReading.{one_schema}
 use Rattle.odata_eval.proofs.walking.Variables.{at_innermost, bound_frames}
 use Rattle.odata_eval.proofs.frames.+at_level.Goals as goal
+
+-- a schema, for a fact of all of them
+one_schema : SchemaModel
+one_schema = record { types = [] }
 
 -- so many variables, not more than a level and not as many
 fewer : (count level : ℕ) → count ≤ level → ¬ (count ≡ level) → count + 1 ≤ level

@@ -1,0 +1,92 @@
+//! What `$count`, `any()`, `in` and `has` make of values that are there. A collection is lent, and so are its members.
+ghost use Rattle.std.specs.Prelude.{IsSomeAnd};
+ghost use Rattle.csdl_schema.specs.ExprType.{ExprType, SingleType, collection};
+ghost use Rattle.csdl_schema.specs.SchemaModel.{Slots};
+ghost use Rattle.odata_functions.specs.DatumVal.{Reading, datum_val};
+ghost use Rattle.odata_filter_operations.specs.CollectionGives.{AnyItemGives, CountGives};
+ghost use Rattle.odata_filter_operations.specs.HasGives.{HasGives};
+ghost use Rattle.odata_filter_operations.specs.LambdaGives.{InGives};
+ghost use Rattle.odata_filter_operations.specs.Outcome.{gives};
+ghost use Rattle.odata_filter_operations.specs.DatumView.{answer_outcome, reading_at};
+ghost use Rattle.odata_filter_operations.specs.Members.{HasMembers, IsAmong, IsOfEnumeration, MayBeAmong, MayBeMember};
+
+use super::datum::datum_of;
+use super::fault::EvalFault;
+use edm_values::{Datum, Value};
+use odata_functions::{ComparisonOperator, compare, comparisons_are_decided, has_bits};
+
+/// How many members a collection has; null of null.
+pub fn count_of<'e>(base: Datum<'_>) -> Result<Datum<'e>, EvalFault>
+    requires { HasMembers base }
+    ensures { (slots : Slots) (member : SingleType) (s : Reading) → IsSomeAnd (answer_outcome (datum_val s) result)
+        (CountGives (datum_val (reading_at slots (collection member)) base.entry)) }
+{
+    match base {
+        Datum::Null => Ok(Datum::Null),
+        Datum::List(members) => match i64::try_from(members.len()) {
+            Ok(count) => Ok(Datum::Int(count)),
+            Err(_) => Err(EvalFault::Overflow),
+        },
+        _ => unreachable!(),
+    }
+}
+
+/// Whether a collection has a member; null of null.
+pub fn any_item_of<'e>(base: Datum<'_>) -> Datum<'e>
+    requires { HasMembers base }
+    ensures { (slots : Slots) (member : SingleType) (s : Reading)
+        → AnyItemGives (datum_val (reading_at slots (collection member)) base.entry) (gives (datum_val s result)) }
+{
+    match base {
+        Datum::Null => Datum::Null,
+        Datum::List(members) => Datum::Bool(!members.is_empty()),
+        _ => unreachable!(),
+    }
+}
+
+/// Whether a value is equal to a member of a collection; null where that is null.
+pub fn among<'e>(left: &Datum<'_>, path: &Datum<'_>) -> Datum<'e>
+    requires { (slots : Slots) × (type : ExprType) × (member : SingleType)
+        × MayBeAmong slots type member left.now path.now }
+    ensures { (slots : Slots) (type : ExprType) (member : SingleType) (s : Reading)
+        → MayBeAmong slots type member left.now path.now
+        → InGives (datum_val (reading_at slots type) left.now)
+        (datum_val (reading_at slots (collection member)) path.now) (gives (datum_val s result)) }
+{
+    match path {
+        Datum::Null => Datum::Null,
+        Datum::List(members) => Datum::Bool(is_among(left, members)),
+        _ => unreachable!(),
+    }
+}
+
+/// Whether a value is equal to one of the members.
+fn is_among(left: &Datum<'_>, members: &[Value]) -> bool
+    requires { (slots : Slots) × (type : ExprType) × (member : SingleType)
+        × MayBeMember slots type member left.now members.now }
+    ensures { IsAmong left.now members.now result }
+{
+    comparisons_are_decided();
+    for member in members {
+        if compare(ComparisonOperator::Eq, left, &datum_of(member)) {
+            return true;
+        }
+    }
+    false
+}
+
+/// Whether an enumeration's value has every bit of the other; null where one is null.
+pub fn flags_of<'e>(left: &Datum<'_>, right: &Datum<'_>) -> Datum<'e>
+    requires left { IsOfEnumeration left.now }
+    requires right { IsOfEnumeration right.now }
+    ensures { (l r s : Reading)
+        → HasGives (datum_val l left.now) (datum_val r right.now) (gives (datum_val s result)) }
+{
+    match left {
+        Datum::Enum(value) => match right {
+            Datum::Enum(flags) => Datum::Bool(has_bits(*value, *flags)),
+            _ => Datum::Null,
+        },
+        _ => Datum::Null,
+    }
+}

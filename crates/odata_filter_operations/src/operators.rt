@@ -1,0 +1,128 @@
+//! What an operator makes of values that are there.
+ghost use Rattle.std.specs.Prelude.{◌≡◌, ◌↔◌, Some, IsTrue, IsSomeAnd};
+ghost use Rattle.edm_values.specs.declared.primitive.PrimitiveType.{PrimitiveType};
+ghost use Rattle.csdl_schema.specs.SchemaModel.{SchemaModel};
+ghost use Rattle.odata_functions.specs.Comparable.{AreComparableBy};
+ghost use Rattle.odata_functions.specs.Comparison.{AreEqual, ComparesTrue, IsGreater};
+ghost use Rattle.odata_functions.specs.KeptVal.{Contents, kept_val};
+ghost use Rattle.odata_signatures.specs.TypeView.{expr_type};
+ghost use Rattle.odata_filter_operations.specs.CalculationGives.{CalculationGives, NegatedGives, number_outcome, number_val};
+ghost use Rattle.odata_filter_operations.specs.DatumView.{answer_outcome};
+ghost use Rattle.odata_filter_operations.specs.Operands.{AreNumbers, IsOneNumber};
+
+use super::fault::EvalFault;
+use edm_values::{Prim, Value};
+use odata_functions::{
+    ArithFault, ArithmeticOperator, ComparisonOperator, arith, compare_values, negate,
+};
+use odata_signatures::{EdmType, ValueType};
+
+/// Whether the comparison of two values that are kept is true. Numbers are compared at once.
+#[inline(always)]
+pub fn compare_kept(comparison: ComparisonOperator, left: &Value, right: &Value) -> bool
+    requires { (l r : Contents) → AreComparableBy comparison (kept_val l left.now) (kept_val r right.now) }
+    ensures { (l r : Contents)
+        → IsTrue result ↔ ComparesTrue comparison (kept_val l left.now) (kept_val r right.now) }
+{
+    if let Value::Int(l) = left {
+        if let Value::Int(r) = right {
+            return compare_numbers(comparison, Some(*l), Some(*r));
+        }
+    }
+    compare_values(comparison, left, right)
+}
+
+/// Whether the comparison of two numbers or nulls is true.
+#[inline(always)]
+pub fn compare_numbers(
+    comparison: ComparisonOperator,
+    left: Option<i64>,
+    right: Option<i64>,
+) -> bool
+    ensures { IsTrue result ↔ ComparesTrue comparison (number_val left) (number_val right) }
+{
+    match comparison {
+        ComparisonOperator::Eq => are_equal(left, right),
+        ComparisonOperator::Ne => !are_equal(left, right),
+        ComparisonOperator::Gt => is_greater(left, right),
+        ComparisonOperator::Ge => is_greater(left, right) || are_equal(left, right),
+        ComparisonOperator::Lt => is_greater(right, left),
+        ComparisonOperator::Le => is_greater(right, left) || are_equal(left, right),
+    }
+}
+
+/// Whether they are equal. Null equals itself and nothing else.
+fn are_equal(left: Option<i64>, right: Option<i64>) -> bool
+    ensures { IsTrue result ↔ AreEqual (number_val left) (number_val right) }
+{
+    match left {
+        Some(l) => matches!(right, Some(r) if l == r),
+        None => right.is_none(),
+    }
+}
+
+/// Whether the left one is the greater. Null is greater than nothing, and nothing than null.
+fn is_greater(left: Option<i64>, right: Option<i64>) -> bool
+    ensures { IsTrue result ↔ IsGreater (number_val left) (number_val right) }
+{
+    match left {
+        Some(l) => matches!(right, Some(r) if l > r),
+        None => false,
+    }
+}
+
+/// What arithmetic makes of two numbers or nulls, where its node has that type.
+#[inline(always)]
+pub fn calculated(
+    operator: ArithmeticOperator,
+    edm_type: &EdmType,
+    left: Option<i64>,
+    right: Option<i64>,
+) -> Result<Option<i64>, EvalFault>
+    requires { (schema : SchemaModel) → AreNumbers (expr_type schema edm_type.now) (number_val left) (number_val right) }
+    ensures { (schema : SchemaModel) → IsSomeAnd (answer_outcome number_val result)
+        (CalculationGives operator (expr_type schema edm_type.now) (number_val left) (number_val right)) }
+{
+    match left {
+        Some(a) => match right {
+            Some(b) => told_number(arith(operator, prim_of(edm_type), Some(a), Some(b))),
+            None => Ok(None),
+        },
+        None => Ok(None),
+    }
+}
+
+/// The negation of a number or null, where its node has that type.
+#[inline(always)]
+pub fn negated(edm_type: &EdmType, operand: Option<i64>) -> Result<Option<i64>, EvalFault>
+    requires { (schema : SchemaModel) → IsOneNumber (expr_type schema edm_type.now) (number_val operand) }
+    ensures { (schema : SchemaModel) → IsSomeAnd (answer_outcome number_val result)
+        (NegatedGives (expr_type schema edm_type.now) (number_val operand)) }
+{
+    match operand {
+        Some(n) => told_number(negate(prim_of(edm_type), Some(n))),
+        None => Ok(None),
+    }
+}
+
+/// The primitive type of one value.
+fn prim_of(edm_type: &EdmType) -> Prim
+    requires { (p : PrimitiveType) × (edm_type.now ≡ EdmType.Single (ValueType.Prim p)) }
+    ensures { edm_type.now ≡ EdmType.Single (ValueType.Prim result) }
+{
+    match edm_type {
+        EdmType::Single(ValueType::Prim(prim)) => *prim,
+        _ => unreachable!(),
+    }
+}
+
+/// What came of numbers, its fault as one of the evaluator's.
+fn told_number(answer: Result<Option<i64>, ArithFault>) -> Result<Option<i64>, EvalFault>
+    ensures { answer_outcome number_val result ≡ Some (number_outcome answer) }
+{
+    match answer {
+        Ok(number) => Ok(number),
+        Err(ArithFault::Overflow) => Err(EvalFault::Overflow),
+        Err(ArithFault::DivideByZero) => Err(EvalFault::DivideByZero),
+    }
+}
