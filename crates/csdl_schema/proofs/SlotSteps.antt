@@ -1,18 +1,24 @@
 -- Slots along a chain of bases.
-use Rattle.std.proofs.Common.{◌≡◌, ℕ, zero, suc, ◌+◌, ◌<◌, ◌≤◌, List, [], ◌∷◌, ◌++◌, length, map, Option, Some, None, option_map, slice_get, position, Bool, true, false, cond, nat_eq, refl, sym, ap, subst, ◌∙◌, arith, inl, inr, ◌⊎◌}
+use Rattle.std.proofs.Common.{◌≡◌, ◌≢◌, ℕ, zero, suc, ◌+◌, ◌<◌, ◌≤◌, List, [], ◌∷◌, ◌++◌, length, map, Option, Some, None, option_map, slice_get, position, Bool, true, false, cond, nat_eq, refl, sym, ap, subst, ◌∙◌, arith, inl, inr, ◌⊎◌}
 use Rattle.std.specs.Prelude.{option_and_then}
-use Rattle.std.specs.List.{position_from}
+use Rattle.std.specs.List.{AllByRecursion, position_from}
 use Rattle.std.specs.Cmp.Lexicographic.{pointwise}
 use Rattle.std.proofs.lemmas.Iterator.Adapters.{position_from-zero}
 use Rattle.std.proofs.lemmas.List.{length-append}
+use Rattle.std.proofs.lemmas.Slice.Eq.{bytes_eq-Decides}
 use Rattle.csdl_schema.specs.declared.chain.Chain.{Chain}
 use Rattle.csdl_schema.specs.declared.property.Property.{Property}
-use Rattle.csdl_schema.specs.SchemaModel.{PropertyModel, SchemaModel, properties_at, slot_named, name_in}
+use Rattle.csdl_schema.specs.SchemaModel.{PropertyModel, SchemaModel, properties_at, slot_named, name_in, HasDistinctNames}
 use Rattle.csdl_schema.specs.BaseFaults.{property_limit}
 use Rattle.csdl_schema.specs.private.Placed.{PlacedType, PlacedBody, placed_structured, placed_enumeration, placed_definition, placed_base, placed_own, own_of, base_at, own_at}
 use Rattle.csdl_schema.specs.private.SchemaView.{chain_in, model_of, names_of, property_model, inherited_properties, IsBaseBelow, IsChainedBody, AreChained}
-use Rattle.csdl_schema.specs.private.SlotWalk.{earlier, own_slot_in, if_structured, structured_in, BeginsWith}
+use Rattle.csdl_schema.specs.private.SlotWalk.{own_slot_in, if_structured, structured_in, BeginsWith}
 use Rattle.csdl_schema.proofs.Placing.{length-map, position-map}
+
+-- the first one that is found
+abbrev pub earlier : Option ℕ → Option ℕ → Option ℕ
+earlier None other = other
+earlier (Some slot) other = Some slot
 
 -- how far up a chain may still go
 abbrev pub bases_left : List Chain → Option ℕ → ℕ
@@ -63,13 +69,44 @@ position_append test xs ys =
     ∙ ap (λ o. earlier o (position_from test (length xs) ys)) (sym (position_from-zero test xs))
     ∙ ap (earlier (position test xs)) (shifted test (length xs) ys ∙ ap (option_map (λ i. length xs + i)) (sym (position_from-zero test ys)))
 
-pub earlier_both : (a b c : Option ℕ) → earlier (earlier a b) c ≡ earlier a (earlier b c)
-earlier_both None b c = refl
-earlier_both (Some x) b c = refl
-
 pub earlier_none : (a : Option ℕ) → earlier a None ≡ a
 earlier_none None = refl
 earlier_none (Some x) = refl
+
+none_passes : {X : Type 0} (test : X → Bool) (k : ℕ) (xs : List X) → AllByRecursion (λ x. test x ≡ false) xs → position_from test k xs ≡ None
+none_passes test k [] all = refl
+none_passes test k (x ∷ xs) all = ap (λ b. cond b (Some k) (position_from test (k + 1) xs)) all.0 ∙ none_passes test (k + 1) xs all.1
+
+-- ---- a name stands once
+
+unlike : (name other : List ℕ) → other ≢ name → pointwise nat_eq name other ≡ false
+unlike name other differ = by (pointwise nat_eq name other) refl
+  where
+    by : (same : Bool) → pointwise nat_eq name other ≡ same → same ≡ false
+    by true is = absurd (differ (sym ((bytes_eq-Decides name other).0 is)))
+    by false is = refl
+
+later_unlike : (name : List ℕ) (ps qs : List PropertyModel) → AllByRecursion (λ q. q.name ≢ name) (ps ++ qs) → AllByRecursion (λ q. pointwise nat_eq name q.name ≡ false) qs
+later_unlike name [] [] all = tt
+later_unlike name [] (q ∷ qs) all = (unlike name q.name all.0, later_unlike name [] qs all.1)
+later_unlike name (p ∷ ps) qs all = later_unlike name ps qs all.1
+
+-- where a later property has the name, no earlier one has it
+none_earlier : (name : List ℕ) (k : ℕ) (ps qs : List PropertyModel) → HasDistinctNames (ps ++ qs) → slot_named qs name ≢ None → position_from (λ p. pointwise nat_eq name p.name) k ps ≡ None
+none_earlier name k [] qs distinct some = refl
+none_earlier name k (p ∷ ps) qs distinct some = by (pointwise nat_eq name p.name) refl (none_earlier name (k + 1) ps qs distinct.1 some)
+  where
+    test : PropertyModel → Bool
+    test = λ q. pointwise nat_eq name q.name
+
+    none_later : name ≡ p.name → slot_named qs name ≡ None
+    none_later is =
+        let others : AllByRecursion (λ q. q.name ≢ name) (ps ++ qs) = subst (λ asked. AllByRecursion (λ q. q.name ≢ asked) (ps ++ qs)) (sym is) distinct.0 in
+        position_from-zero test qs ∙ none_passes test 0 qs (later_unlike name ps qs others)
+
+    by : (b : Bool) → pointwise nat_eq name p.name ≡ b → position_from test (k + 1) ps ≡ None → cond b (Some k) (position_from test (k + 1) ps) ≡ None
+    by true is further = absurd (some (none_later ((bytes_eq-Decides name p.name).0 is)))
+    by false is further = further
 
 pub in_front : {X : Type 0} (xs ys : List X) (n : ℕ) → n < length xs → slice_get (xs ++ ys) n ≡ slice_get xs n
 in_front [] ys n h = absurd (omega (arith, h))
@@ -157,11 +194,21 @@ module _ (types : List PlacedType) (chains : List Chain) (h : AreChained types c
           let Q : Option ℕ → List (List ℕ × Property) → Type 0 = λ o own. None ≡ earlier (slot_named (inherited_properties M o) name) (option_map (λ i. (chain_in chains n).inherited + i) (position (λ e. pointwise nat_eq name e.0) own)) in
           ap (λ ps. slot_named ps name) is.none ∙ subst (λ own. Q (base_at types n) own) (sym is.own) (subst (λ o. Q o []) (sym is.base) refl)
 
-  -- the next type of the walk
-  pub found_step : (n : ℕ) (name : List ℕ) (found : Option ℕ) (goal : Option ℕ) → earlier (slot_named (properties_at M n) name) found ≡ goal
-      → earlier (slot_named (inherited_properties M (base_at types n)) name) (earlier (own_slot_in types chains n name) found) ≡ goal
-  found_step n name found goal is =
-      sym (earlier_both (slot_named (inherited_properties M (base_at types n)) name) (own_slot_in types chains n name) found) ∙ ap (λ o. earlier o found) (sym (slot_step n name)) ∙ is
+  -- the slot of a name that no own property has is that of the base's
+  pub base_slot : (n : ℕ) (name : List ℕ) → own_slot_in types chains n name ≡ None → slot_named (inherited_properties M (base_at types n)) name ≡ slot_named (properties_at M n) name
+  base_slot n name none = sym (slot_step n name ∙ ap (earlier (slot_named (inherited_properties M (base_at types n)) name)) none ∙ earlier_none _)
+
+  -- and of a name that an own property has it is the own one
+  pub own_slot_alone : (n slot : ℕ) (name : List ℕ) → own_slot_in types chains n name ≡ Some slot → slot_named (properties_at M n) name ≡ Some slot
+  own_slot_alone n slot name is =
+      let base = inherited_properties M (base_at types n) in
+      let none : slot_named base name ≡ None = position_from-zero (λ p. pointwise nat_eq name p.name) base ∙ none_earlier name 0 base (own_models n) (subst HasDistinctNames (joined n) (h.distinct n)) some in
+      slot_step n name ∙ ap (λ o. earlier o (own_slot_in types chains n name)) none ∙ is
+    where
+      some : slot_named (own_models n) name ≢ None
+      some none =
+          let found : None ≡ Some slot = sym (ap (option_map (λ i. (chain_in chains n).inherited + i)) (sym (own_named n name) ∙ none)) ∙ is in
+          absurd (cc)
 
   pub left_step : (n : ℕ) → bases_left chains (base_at types n) < bases_left chains (Some n)
   left_step n = by (heir_or_bare n)

@@ -5,7 +5,7 @@ ghost use Rattle.csdl_schema.specs.SchemaModel.{name_in, properties_at, slot_nam
 ghost use Rattle.csdl_schema.specs.private.Placed.{entry_view};
 ghost use Rattle.csdl_schema.specs.private.PlacedView.{placed_of, structured_view};
 ghost use Rattle.csdl_schema.specs.private.SchemaView.{chain_in, model_of, names_of, property_model, AreChained, IsThere};
-ghost use Rattle.csdl_schema.specs.private.SlotWalk.{earlier, own_slot_in, structured_in, BeginsWith};
+ghost use Rattle.csdl_schema.specs.private.SlotWalk.{own_slot_in, structured_in, BeginsWith};
 
 use super::chain::{Chain, base_at};
 use super::named_type::{NamedBody, NamedType, StructuredType};
@@ -59,16 +59,7 @@ fn own_slot(types: &[NamedType], chains: &[Chain], index: usize, name: &str) -> 
     }
 }
 
-fn earlier(slot: Option<usize>, other: Option<usize>) -> Option<usize>
-    ensures { result ≡ earlier slot other }
-{
-    match slot {
-        Some(slot) => Some(slot),
-        None => other,
-    }
-}
-
-/// The slot of the property of that name, along the chain of bases.
+/// The slot of the property of that name, along the chain of bases: no two types of a chain have one name.
 pub(crate) fn find_slot(
     types: &[NamedType],
     chains: &[Chain],
@@ -78,13 +69,14 @@ pub(crate) fn find_slot(
     requires { AreChained (placed_of types.now) chains.now }
     ensures { result ≡ slot_named (properties_at (model_of (placed_of types.now)) index) name.now }
 {
-    let mut found = None;
     let mut next = Some(index);
     while let Some(below) = next {
-        found = earlier(own_slot(types, chains, below, name), found);
-        next = base_at(types, below);
+        match own_slot(types, chains, below, name) {
+            Some(slot) => return Some(slot),
+            None => next = base_at(types, below),
+        }
     }
-    found
+    None
 }
 
 /// The index of the type in a chain of bases that has the property at a slot itself.

@@ -1,4 +1,5 @@
 pub mod Arguments
+pub mod Fronts
 pub mod Groups
 pub mod Joints
 pub mod Kinds
@@ -6,3 +7,5 @@ pub mod Leaves
 pub mod Operands
 pub mod Pieces
 pub mod Signs
+pub mod Spreads
+pub mod Waiting

@@ -1,8 +1,23 @@
 -- How a list of nodes changes while its nodes are put in their places.
-use Rattle.std.specs.Prelude.{◌≡◌, ◌⊎◌, ◌<◌, ◌≤◌, ℕ, List, [], ◌∷◌, ◌++◌, Some, length, slice_get, slice_set}
+use Rattle.std.specs.Prelude.{◌≡◌, ◌⊎◌, ◌<◌, ◌≤◌, ℕ, List, [], ◌∷◌, ◌++◌, Some, length, replicate, slice_get, slice_set}
 use Rattle.edm_values.specs.declared.value.Value.{Value}
+use Rattle.odata_signatures.specs.declared.edm_type.EdmType.{EdmType}
 use Rattle.odata_checked_filter.specs.declared.checked_node.CheckedNode.{CheckedNode}
+use Rattle.odata_checked_filter.specs.declared.checked_node.NodeKind.{NodeKind}
 use Rattle.odata_checked_filter.specs.FlatTree.{FlatTree}
+
+-- the empty list
+abbrev pub no_nodes : FlatTree
+no_nodes = record { nodes = []; values = []; texts = []; source = [] }
+
+-- what stands in a place before its node is put there
+abbrev pub nothing_yet : CheckedNode
+nothing_yet = record { kind = NodeKind.It; span = record { start = 0; stop = 0 }; edm_type = EdmType.Null; stop = 0 }
+
+-- filled with so many placeholder nodes over a text
+abbrev pub with_room : FlatTree → List ℕ → ℕ → FlatTree
+with_room list source count =
+    record list { nodes = replicate count nothing_yet; texts = replicate count []; source = source }
 
 -- with a value after the others
 abbrev pub with_value : FlatTree → Value → FlatTree

@@ -1,16 +1,17 @@
 //! The canonical text of a checked filter, written from its list.
-ghost use Rattle.std.specs.Prelude.{◌≡◌, ℕ, ◌+◌, ◌∷◌, [], ◌++◌, ◌<◌, IfOk, OnOk, length, string_bytes};
+ghost use Rattle.std.specs.Prelude.{◌≡◌, ℕ, ◌+◌, ◌∷◌, [], ◌++◌, ◌<◌, IfOk, None, OnOk, length, string_bytes};
 ghost use Rattle.odata_syntax.specs.CanonicalText.{IsCanonicalText};
 ghost use Rattle.odata_checked_filter.specs.FlatTree.{tree_of_nodes};
 ghost use Rattle.odata_checked_filter.specs.private.CanonicalWalk.{AreFurtherPut, HasTreeAt, IsCallAt, IsPieceOf};
-ghost use Rattle.odata_checked_filter.specs.private.CanonicalWalk.{IsSignAt, IsTextAdded, Piece, StandsThere, WritesNode};
-ghost use Rattle.odata_checked_filter.specs.private.CanonicalWalk.{WritesPart, arguments_of, behind_kind, joining_parts};
-ghost use Rattle.odata_checked_filter.specs.private.CanonicalWalk.{operand_of, stop_at};
-ghost use Rattle.odata_checked_filter.specs.private.KindTexts.{joint_text, quantifier_joint, spaced};
+ghost use Rattle.odata_checked_filter.specs.private.CanonicalWalk.{IsTextAdded, Piece, StandsThere, WritesNode};
+ghost use Rattle.odata_checked_filter.specs.private.CanonicalWalk.{WritesPart, arguments_of, behind_kind, behind_of};
+ghost use Rattle.odata_checked_filter.specs.private.CanonicalWalk.{closing, first_operand, opening, operand_of};
+ghost use Rattle.odata_checked_filter.specs.private.CanonicalWalk.{spread, stop_at};
+ghost use Rattle.odata_checked_filter.specs.private.KindTexts.{joint_text, quantifier_joint};
 
 use super::checked_node::NodeKind;
 use super::kind_levels::{first_level, kind_level};
-use super::kind_words::kind_word;
+use super::kind_words::joint_word;
 use super::node_list::NodeList;
 use odata_syntax::level::{BASE, PATH, UNARY};
 use odata_syntax::{Quantifier, operator_level, write_literal};
@@ -21,9 +22,9 @@ use std::alloc::{AllocError, Global};
 pub(crate) enum Part {
     /// The node at a place, in parentheses where it binds less tightly than needed.
     Operand { place: usize, needed: u8 },
-    /// What the node at a place has behind its first operand, up to the next one.
+    /// What the node at a place has after its first operand.
     Joint { place: usize },
-    /// Further arguments, from a place up to another, each behind a comma.
+    /// Further arguments, from a place up to another, each after a comma.
     Further { place: usize, stop: usize },
     /// The end of a group.
     Close,
@@ -35,7 +36,7 @@ pub(crate) fn text_of_list(alloc: Global, list: &NodeList) -> Result<String, All
     requires { StandsThere list.now 0 (tree_of_nodes list.now) }
     ensures { IfOk result (λ text. IsCanonicalText (tree_of_nodes list.now) (string_bytes text)) }
 {
-    let mut text = String::new(alloc);
+    let mut text = String::with_capacity(alloc, list.source_len())?;
     let mut pending = Vec::new(alloc);
     pending.push(Part::Operand {
         place: 0,
@@ -55,39 +56,49 @@ fn write_part(
     pending: &mut Vec<Part>,
 ) -> Result<(), AllocError>
     requires { (piece : Piece) × IsPieceOf list.now part piece }
-    ensures { OnOk result (WritesPart list.now part (string_bytes text.old) (string_bytes text.new)
-        pending.old.items pending.new.items) }
+    ensures { OnOk result (WritesPart list.now part [] (string_bytes text.old) (string_bytes text.new)
+        (spread list.now pending.old.items ++ behind_of list.now part) (spread list.now pending.new.items)) }
 {
     match part {
         Part::Operand { place, needed } => write_operand(list, place, needed, text, pending),
-        Part::Joint { place } => write_joint(list.node(place).kind, list.text(place), text),
+        Part::Joint { place } => write_joint(list, place, text, pending),
         Part::Further { place, stop } => write_further(list, place, stop, text, pending),
         Part::Close => write_close(text),
     }
 }
 
-/// Writes what a node of that kind has behind its first operand, where that name stands beside it.
-fn write_joint(kind: NodeKind, beside: &str, text: &mut String) -> Result<(), AllocError>
+/// Writes what a node has after its first operand, up to the next one, and puts that on the stack.
+fn write_joint(
+    list: &NodeList,
+    place: usize,
+    text: &mut String,
+    pending: &mut Vec<Part>,
+) -> Result<(), AllocError>
+    requires { (piece : Piece) × IsPieceOf list.now (Part.Joint place) piece }
+    ensures { OnOk result (WritesPart list.now (Part.Joint place) [] (string_bytes text.old) (string_bytes text.new)
+        (spread list.now pending.old.items ++ behind_of list.now (Part.Joint place))
+        (spread list.now pending.new.items)) }
+{
+    let count = list.nodes().len();
+    prove!(place + 1 < count);
+    let kind = list.node(place).kind;
+    write_joint_text(kind, list.text(place), text)?;
+    let second = stop_of(list, place + 1);
+    put_behind(list, kind, second, stop_of(list, place), pending)
+}
+
+/// Writes what a node of that kind has after its first operand, up to the next one, where that name stands beside it.
+fn write_joint_text(kind: NodeKind, beside: &str, text: &mut String) -> Result<(), AllocError>
     ensures { OnOk result (string_bytes text.new ≡ string_bytes text.old ++ joint_text kind beside.now) }
 {
     match kind {
         NodeKind::Member { .. } => write_step(beside, text),
-        NodeKind::Count => text.push_str("/$count"),
-        NodeKind::AnyItem => text.push_str("/any()"),
         NodeKind::Lambda { quantifier } => write_binder(quantifier, beside, text),
-        NodeKind::Binary { .. } => write_word(kind_word(kind), text),
-        NodeKind::PairedRight { .. } => write_word(kind_word(kind), text),
-        NodeKind::PairedLeft { .. } => write_word(kind_word(kind), text),
-        NodeKind::Has => write_word(kind_word(kind), text),
-        NodeKind::PairedHas { .. } => write_word(kind_word(kind), text),
-        NodeKind::InList => write_opening(kind_word(kind), text),
-        NodeKind::PairedList { .. } => write_opening(kind_word(kind), text),
-        NodeKind::InPath => write_word(kind_word(kind), text),
-        _ => Ok(()),
+        _ => text.push_str(joint_word(kind)),
     }
 }
 
-/// Writes a slash, a quantifier, and behind `(` the variable that it binds with its colon.
+/// Writes a slash, a quantifier, and after `(` the variable that it binds with its colon.
 fn write_binder(quantifier: Quantifier, variable: &str, text: &mut String) -> Result<(), AllocError>
     ensures { OnOk result (string_bytes text.new
         ≡ string_bytes text.old ++ (quantifier_joint quantifier ++ (variable.now ++ 58 ∷ []))) }
@@ -107,23 +118,6 @@ fn joint_of_quantifier(quantifier: Quantifier) -> &'static str
     }
 }
 
-/// Writes a word between spaces.
-fn write_word(word: &str, text: &mut String) -> Result<(), AllocError>
-    ensures { OnOk result (string_bytes text.new ≡ string_bytes text.old ++ spaced word.now) }
-{
-    text.push(' ')?;
-    text.push_str(word)?;
-    text.push(' ')
-}
-
-/// Writes a word between spaces, and `(`.
-fn write_opening(word: &str, text: &mut String) -> Result<(), AllocError>
-    ensures { OnOk result (string_bytes text.new ≡ string_bytes text.old ++ (spaced word.now ++ 40 ∷ [])) }
-{
-    write_word(word, text)?;
-    text.push('(')
-}
-
 /// Writes a slash and a name.
 fn write_step(name: &str, text: &mut String) -> Result<(), AllocError>
     ensures { OnOk result (string_bytes text.new ≡ string_bytes text.old ++ (47 ∷ name.now)) }
@@ -139,7 +133,7 @@ fn write_close(text: &mut String) -> Result<(), AllocError>
     text.push(')')
 }
 
-/// Writes the node at a place, or its beginning, behind `(` where it binds less tightly than needed.
+/// Writes an operand up to its first leaf or call: the signs and groups before that. The rest waits on the stack.
 fn write_operand(
     list: &NodeList,
     place: usize,
@@ -148,49 +142,89 @@ fn write_operand(
     pending: &mut Vec<Part>,
 ) -> Result<(), AllocError>
     requires { HasTreeAt list.now place }
-    ensures { OnOk result (WritesPart list.now (Part.Operand place needed) (string_bytes text.old)
-        (string_bytes text.new) pending.old.items pending.new.items) }
+    ensures { OnOk result (WritesPart list.now (Part.Operand place needed) [] (string_bytes text.old)
+        (string_bytes text.new) (spread list.now pending.old.items) (spread list.now pending.new.items)) }
 {
-    if needed <= kind_level(list.node(place).kind) {
-        return write_node(list, place, text, pending);
+    let count = list.nodes().len();
+    let mut at = place;
+    let mut level = needed;
+    while let Some(first) = write_front(list, at, level, text, pending)? {
+        prove!(at < count);
+        at += 1;
+        level = first;
     }
-    open_group(text, pending)?;
+    Ok(())
+}
+
+/// Writes what the operand at a place has before its first operand, and puts the rest on the stack. The level that the
+/// first operand, which is the next node, needs; none where that waits, or there is none.
+fn write_front(
+    list: &NodeList,
+    place: usize,
+    needed: u8,
+    text: &mut String,
+    pending: &mut Vec<Part>,
+) -> Result<Option<u8>, AllocError>
+    requires { HasTreeAt list.now place }
+    ensures { IfOk result (λ first. WritesPart list.now (Part.Operand place needed) (first_operand place first)
+        (string_bytes text.old) (string_bytes text.new) (spread list.now pending.old.items)
+        (spread list.now pending.new.items)) }
+{
+    let kind = list.node(place).kind;
+    open_loose(kind_level(kind) < needed, text, pending)?;
     write_node(list, place, text, pending)
 }
 
-/// Writes a literal, a name or `$it`, a sign, or the beginning of a call; the operands wait.
+/// Writes a literal, a name or `$it`, a sign, or the beginning of a call; the other operands wait.
 fn write_node(
     list: &NodeList,
     place: usize,
     text: &mut String,
     pending: &mut Vec<Part>,
-) -> Result<(), AllocError>
+) -> Result<Option<u8>, AllocError>
     requires { HasTreeAt list.now place }
-    ensures { OnOk result (WritesNode list.now place (string_bytes text.old) (string_bytes text.new)
-        pending.old.items pending.new.items) }
+    ensures { IfOk result (λ first. WritesNode list.now place (first_operand place first) (string_bytes text.old)
+        (string_bytes text.new) (spread list.now pending.old.items) (spread list.now pending.new.items)) }
 {
     let node = list.node(place);
     match node.kind {
-        NodeKind::Literal { kind, .. } => write_literal(text, kind, list.text(place)),
-        NodeKind::It => text.push_str("$it"),
+        NodeKind::Literal { kind, .. } => {
+            write_literal(text, kind, list.text(place))?;
+            Ok(None)
+        }
+        NodeKind::It => {
+            text.push_str("$it")?;
+            Ok(None)
+        }
         NodeKind::Property { .. } => write_name(list, place, text),
         NodeKind::Variable { .. } => write_name(list, place, text),
         NodeKind::Now => write_call(list, place, "now", text, pending),
         NodeKind::Call { function } => {
             write_call(list, place, function.signature().name, text, pending)
         }
-        NodeKind::Neg => write_sign(list, place, kind_word(node.kind), text, pending),
-        NodeKind::Not => write_sign(list, place, kind_word(node.kind), text, pending),
-        _ => put_operands(list, place, node.kind, pending),
+        NodeKind::Neg => {
+            text.push_str("- ")?;
+            Ok(Some(UNARY))
+        }
+        NodeKind::Not => {
+            text.push_str("not ")?;
+            Ok(Some(UNARY))
+        }
+        _ => {
+            pending.push(Part::Joint { place })?;
+            Ok(Some(first_level(node.kind)))
+        }
     }
 }
 
-/// Writes a name.
-fn write_name(list: &NodeList, place: usize, text: &mut String) -> Result<(), AllocError>
+/// Writes a name, which has no operands.
+fn write_name(list: &NodeList, place: usize, text: &mut String) -> Result<Option<u8>, AllocError>
     requires { place < length list.now.nodes }
-    ensures { OnOk result (IsTextAdded list.now place (string_bytes text.old) (string_bytes text.new)) }
+    ensures none { IfOk result (λ first. first ≡ None) }
+    ensures text { IfOk result (λ first. IsTextAdded list.now place (string_bytes text.old) (string_bytes text.new)) }
 {
-    text.push_str(list.text(place))
+    text.push_str(list.text(place))?;
+    Ok(None)
 }
 
 /// Writes the name of a function and `(`, and puts its arguments on the stack, and `)` below them.
@@ -200,21 +234,22 @@ fn write_call(
     name: &str,
     text: &mut String,
     pending: &mut Vec<Part>,
-) -> Result<(), AllocError>
+) -> Result<Option<u8>, AllocError>
     requires there { HasTreeAt list.now place }
     requires called { IsCallAt list.now place name.now }
-    ensures { OnOk result (WritesNode list.now place (string_bytes text.old) (string_bytes text.new)
-        pending.old.items pending.new.items) }
+    ensures { IfOk result (λ first. WritesNode list.now place (first_operand place first) (string_bytes text.old)
+        (string_bytes text.new) (spread list.now pending.old.items) (spread list.now pending.new.items)) }
 {
     let count = list.nodes().len();
     prove!(place < count);
     let stop = stop_of(list, place);
     text.push_str(name)?;
     open_group(text, pending)?;
-    put_arguments(list, place + 1, stop, pending)
+    put_arguments(list, place + 1, stop, pending)?;
+    Ok(None)
 }
 
-/// Writes a comma and puts the arguments behind it on the stack; nothing where there is none.
+/// Writes a comma and puts the arguments after it on the stack; nothing where there is none.
 fn write_further(
     list: &NodeList,
     place: usize,
@@ -250,24 +285,15 @@ fn put_arguments(
     Ok(())
 }
 
-/// Writes a sign and a space, and puts its operand on the stack.
-fn write_sign(
-    list: &NodeList,
-    place: usize,
-    sign: &str,
-    text: &mut String,
-    pending: &mut Vec<Part>,
-) -> Result<(), AllocError>
-    requires there { HasTreeAt list.now place }
-    requires sign { IsSignAt list.now place sign.now }
-    ensures { OnOk result (WritesNode list.now place (string_bytes text.old) (string_bytes text.new)
-        pending.old.items pending.new.items) }
+/// Writes `(`, and puts its end on the stack, where an operand is to stand in parentheses.
+fn open_loose(is_loose: bool, text: &mut String, pending: &mut Vec<Part>) -> Result<(), AllocError>
+    ensures text { OnOk result (string_bytes text.new ≡ string_bytes text.old ++ opening is_loose) }
+    ensures pending { OnOk result (pending.new.items ≡ pending.old.items ++ closing is_loose) }
 {
-    let count = list.nodes().len();
-    prove!(place < count);
-    text.push_str(sign)?;
-    text.push(' ')?;
-    put_operand(place + 1, UNARY, pending)
+    if is_loose {
+        return open_group(text, pending);
+    }
+    Ok(())
 }
 
 /// Writes `(`, and puts its end on the stack.
@@ -280,26 +306,6 @@ fn open_group(text: &mut String, pending: &mut Vec<Part>) -> Result<(), AllocErr
     Ok(())
 }
 
-/// Puts the operands of a node on the stack, the first one on top, and what it has between them.
-fn put_operands(
-    list: &NodeList,
-    place: usize,
-    kind: NodeKind,
-    pending: &mut Vec<Part>,
-) -> Result<(), AllocError>
-    requires first { place + 1 < length list.now.nodes }
-    requires second { stop_at list.now (place + 1) < stop_at list.now place
-        → stop_at list.now (place + 1) < length list.now.nodes }
-    ensures { OnOk result (pending.new.items ≡ pending.old.items ++ joining_parts list.now kind place) }
-{
-    let count = list.nodes().len();
-    prove!(place + 1 < count);
-    let second = stop_of(list, place + 1);
-    put_behind(list, kind, second, stop_of(list, place), pending)?;
-    pending.push(Part::Joint { place })?;
-    put_operand(place + 1, first_level(kind), pending)
-}
-
 /// Where a node stops.
 fn stop_of(list: &NodeList, place: usize) -> usize
     requires { place < length list.now.nodes }
@@ -308,7 +314,7 @@ fn stop_of(list: &NodeList, place: usize) -> usize
     list.node(place).stop
 }
 
-/// Puts on the stack what a node of a kind has behind its first operand and the words there.
+/// Puts on the stack what a node of a kind has after its first operand and the words there.
 fn put_behind(
     list: &NodeList,
     kind: NodeKind,

@@ -1,9 +1,10 @@
 //! The words of operators, by the kinds of their nodes.
 ghost use Rattle.std.specs.Prelude.{◌≡◌};
-ghost use Rattle.odata_checked_filter.specs.private.KindTexts.{kind_word};
+ghost use Rattle.odata_syntax.specs.Lexeme.{operator_word};
+ghost use Rattle.odata_checked_filter.specs.private.KindTexts.{joint_word, kind_word, spaced};
 
 use super::checked_node::NodeKind;
-use odata_syntax::operator_word;
+use odata_syntax::{BinaryOperator, operator_word};
 
 /// The word of the operator of a node of that kind, without spaces; empty for a node without an operator.
 pub(crate) fn kind_word(kind: NodeKind) -> &'static str
@@ -21,5 +22,46 @@ pub(crate) fn kind_word(kind: NodeKind) -> &'static str
         NodeKind::PairedList { .. } => "in",
         NodeKind::InPath => "in",
         _ => "",
+    }
+}
+
+/// What a node of that kind has after its first operand, up to the next one, where no name stands in that: the word of
+/// an operator between spaces, or `/$count`.
+pub(crate) fn joint_word(kind: NodeKind) -> &'static str
+    ensures { result.now ≡ joint_word kind }
+{
+    match kind {
+        NodeKind::Count => "/$count",
+        NodeKind::AnyItem => "/any()",
+        NodeKind::Binary { operator } => spaced_word(operator),
+        NodeKind::PairedRight { operator, .. } => spaced_word(operator),
+        NodeKind::PairedLeft { operator, .. } => spaced_word(operator),
+        NodeKind::Has => " has ",
+        NodeKind::PairedHas { .. } => " has ",
+        NodeKind::InList => " in (",
+        NodeKind::PairedList { .. } => " in (",
+        NodeKind::InPath => " in ",
+        _ => "",
+    }
+}
+
+/// The word of an operator between spaces.
+fn spaced_word(operator: BinaryOperator) -> &'static str
+    ensures { result.now ≡ spaced (operator_word operator) }
+{
+    match operator {
+        BinaryOperator::Or => " or ",
+        BinaryOperator::And => " and ",
+        BinaryOperator::Eq => " eq ",
+        BinaryOperator::Ne => " ne ",
+        BinaryOperator::Gt => " gt ",
+        BinaryOperator::Ge => " ge ",
+        BinaryOperator::Lt => " lt ",
+        BinaryOperator::Le => " le ",
+        BinaryOperator::Add => " add ",
+        BinaryOperator::Sub => " sub ",
+        BinaryOperator::Mul => " mul ",
+        BinaryOperator::Div => " div ",
+        BinaryOperator::Mod => " mod ",
     }
 }

@@ -1,6 +1,6 @@
-ghost use Rattle.std.specs.Prelude.{◌≡◌, ◌<◌, [], Some, length, slice_get, IfOk, OnOk, OnErr};
+ghost use Rattle.std.specs.Prelude.{◌≡◌, ◌<◌, [], Some, length, slice_get, OnOk, OnErr};
 ghost use Rattle.odata_syntax.specs.TextTree.{IsTextRange, text_in};
-ghost use Rattle.odata_checked_filter.specs.ListChanges.{node_put, with_value};
+ghost use Rattle.odata_checked_filter.specs.ListChanges.{no_nodes, node_put, with_room, with_value};
 
 use super::checked_node::{CheckedNode, NodeKind};
 use edm_values::Value;
@@ -55,19 +55,36 @@ impl Model for NodeList {
 }
 
 impl NodeList {
-    /// A list of so many nodes, each still to be put in its place, whose texts are ranges of `source`.
-    pub fn new(alloc: Global, source: &str, count: usize) -> Result<NodeList, AllocError>
-        ensures count { IfOk result (λ list. length list.nodes ≡ count) }
-        ensures beside { IfOk result (λ list. length list.texts ≡ count) }
-        ensures values { IfOk result (λ list. list.values ≡ []) }
-        ensures source { IfOk result (λ list. list.source ≡ source.now) }
+    /// A list without nodes.
+    #[inline(always)]
+    pub fn new(alloc: Global) -> NodeList
+        ensures { result ≡ no_nodes }
     {
-        Ok(NodeList {
-            nodes: Vec::from_elem(alloc, NOTHING_YET, count)?,
+        NodeList {
+            nodes: Vec::new(alloc),
             values: Vec::new(alloc),
-            texts: Vec::from_elem(alloc, NOWHERE, count)?,
-            source: String::from_str(alloc, source)?,
-        })
+            texts: Vec::new(alloc),
+            source: String::new(alloc),
+        }
+    }
+
+    /// Fills the list with `count` placeholder nodes, whose texts are empty ranges of `source`. After an error the list is
+    /// unchanged.
+    #[inline(always)]
+    pub fn make_room(&mut self, alloc: Global, source: &str, count: usize) -> Result<(), AllocError>
+        ensures ok { OnOk result (self.new ≡ with_room self.old source.now count) }
+        ensures err { OnErr result (self.new ≡ self.old) }
+    {
+        let end = Span {
+            start: source.len(),
+            stop: source.len(),
+        };
+        let nodes = Vec::from_elem(alloc, NOTHING_YET, count)?;
+        let texts = Vec::from_elem(alloc, end, count)?;
+        self.source = String::from_str(alloc, source)?;
+        self.nodes = nodes;
+        self.texts = texts;
+        Ok(())
     }
 
     /// The nodes.
@@ -93,6 +110,13 @@ impl NodeList {
     {
         let range = self.texts[place];
         &self.source[range.start..range.stop]
+    }
+
+    /// How many bytes the text has of which the nodes' texts are ranges.
+    pub(crate) fn source_len(&self) -> usize
+        ensures { result ≡ length self.now.source }
+    {
+        self.source.len()
     }
 
     /// The values of its literals.

@@ -1,5 +1,4 @@
 -- Which types operators make.
-pub mod Items
 pub mod OneEnumeration
 pub mod Operators
 pub mod Quoted

@@ -31,12 +31,6 @@ IsComparableWithMembers left _ = ⊥
 abbrev pub InPathTyped : Side → Side → ExprType → Type 0
 InPathTyped left path type = IsComparableWithMembers left.type_of path.type_of × (type ≡ boolean_type)
 
--- `in` before a list of items by the types alone: a value of the type on the left is none of a collection, and is
--- compared with each item
-abbrev pub AreItemTypes : ExprType → List ExprType → ExprType → Type 0
-AreItemTypes left items type =
-    (¬ IsCollection left) × AllByRecursion (AreComparable left) items × (type ≡ boolean_type)
-
 -- beside a value of the type on the left, an item of a list: it is compared with that, or is a String literal that stands
 -- for a number of its enumeration
 abbrev pub IsItemBeside : Slots → ExprType → Side → Type 0

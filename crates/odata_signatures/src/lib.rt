@@ -23,7 +23,7 @@ pub use edm_type::{BOOLEAN, EdmType, ValueType};
 pub use function::{Function, Signature, function_named};
 pub use has::has_type;
 pub use laws::{calls_have_one_type, quoted_texts_have_one_number, unread_operands_go_by_types};
-pub use membership::{in_list_type, in_path_type};
+pub use membership::in_path_type;
 pub use operator::{made_type, negated_type, opposite_type};
 pub use operator_class::{Connective, OperatorClass, class_of};
 pub use quoted_number::{Beside, number_beside};

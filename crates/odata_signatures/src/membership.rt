@@ -1,9 +1,7 @@
-//! Which type `in` makes of those of its operands.
-ghost use Rattle.std.specs.Prelude.{◌↔◌, ℕ, List, Option, IsTrue, IfSome, IfNone, map};
-ghost use Rattle.std.specs.List.{AllByRecursion};
+//! Which type `in` makes of an operand and a path.
+ghost use Rattle.std.specs.Prelude.{ℕ, List, Option, IfSome, IfNone};
 ghost use Rattle.csdl_schema.specs.ExprType.{ExprType};
-ghost use Rattle.odata_signatures.specs.CollectionTyped.{AreItemTypes, InPathTyped};
-ghost use Rattle.odata_signatures.specs.ComparableTypes.{AreComparable};
+ghost use Rattle.odata_signatures.specs.CollectionTyped.{InPathTyped};
 ghost use Rattle.odata_signatures.specs.Side.{quoting};
 ghost use Rattle.odata_signatures.specs.TypeView.{expr_type};
 ghost use Rattle.odata_signatures.specs.TypeThere.{IsTypeThere};
@@ -35,36 +33,4 @@ pub fn in_path_type(schema: &Schema, left: &EdmType, path: &EdmType) -> Option<E
         EdmType::Null => None,
         EdmType::Single(_) => None,
     }
-}
-
-/// The type of `in` before a list of items of these types, by the types alone. `None` where the value on the left is of a
-/// collection, or cannot be compared with an item.
-pub fn in_list_type(schema: &Schema, left: &EdmType, items: &[EdmType]) -> Option<EdmType>
-    requires left { IsTypeThere schema.now left.now }
-    requires items { AllByRecursion (IsTypeThere schema.now) items.now }
-    ensures typed { IfSome result (λ t. AreItemTypes (expr_type schema.now left.now)
-        (map (expr_type schema.now) items.now) (expr_type schema.now t)) }
-    ensures there { IfSome result (IsTypeThere schema.now) }
-    ensures none { IfNone result ((type : ExprType) → ¬ AreItemTypes (expr_type schema.now left.now)
-        (map (expr_type schema.now) items.now) type) }
-{
-    if !left.is_collection() && are_comparable_items(schema, left, items) {
-        Some(BOOLEAN)
-    } else {
-        None
-    }
-}
-
-fn are_comparable_items(schema: &Schema, left: &EdmType, items: &[EdmType]) -> bool
-    requires left { IsTypeThere schema.now left.now }
-    requires items { AllByRecursion (IsTypeThere schema.now) items.now }
-    ensures { IsTrue result ↔ AllByRecursion (AreComparable (expr_type schema.now left.now))
-        (map (expr_type schema.now) items.now) }
-{
-    for index in 0..items.len() {
-        if !are_comparable(schema, left, &items[index]) {
-            return false;
-        }
-    }
-    true
 }

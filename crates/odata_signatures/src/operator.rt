@@ -15,6 +15,7 @@ use odata_functions::{negation_type, promotion};
 use odata_syntax::BinaryOperator;
 
 /// The type that the operator makes of operands of these types, by the types alone. `None` where it takes none of these.
+#[inline(always)]
 pub fn made_type(
     schema: &Schema,
     operator: BinaryOperator,

@@ -1,2 +1,3 @@
+pub mod Making
 pub mod NormalDerived
 pub mod NormalTrees

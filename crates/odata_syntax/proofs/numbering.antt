@@ -4,3 +4,5 @@ pub mod Growth
 pub mod Growing
 pub mod Numbers
 pub mod Placed
+pub mod Nodes
+pub mod Next

@@ -4,7 +4,7 @@ pub mod BareTexts
 pub mod Enumerations
 pub mod Forms
 pub mod Levels
-pub mod Lists
+pub mod Stack
 pub mod LowerCase
 pub mod Pieces
 pub mod Printable

@@ -1,5 +1,5 @@
 -- Where the nodes of a list stand in its tree: their numbers in pre-order, in which each node stands before its children.
-use Rattle.std.specs.Prelude.{◌≡◌, ◌≢◌, ℕ, ◌+◌, ◌-◌, ◌≤◌, ◌<◌, List, [], ◌∷◌, Option, None, Some, drop, length, reverse, slice_get, take}
+use Rattle.std.specs.Prelude.{◌≡◌, ◌≢◌, ℕ, ◌+◌, ◌-◌, ◌≤◌, ◌<◌, List, [], ◌∷◌, Option, None, Some, drop, length, map, reverse, slice_get, take}
 use Rattle.odata_syntax.specs.declared.node.Quantifier.{Quantifier}
 use Rattle.odata_syntax.specs.declared.places.Place.{Place}
 use Rattle.odata_syntax.specs.declared.syntax_list.SyntaxKind.{SyntaxKind}
@@ -10,6 +10,10 @@ use Rattle.odata_syntax.specs.PostOrder.{child_count}
 pub record PlacedNodes : Type 0 where
   pub nodes : List SyntaxNode
   pub places : List Place
+
+-- the places that nodes hold
+abbrev pub places_of : List SyntaxNode → List Place
+places_of = map (λ n. n.place)
 
 -- what is said of a node by its index: its number in pre-order
 abbrev pub number_of : Option Place → ℕ

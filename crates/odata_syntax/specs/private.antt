@@ -1,8 +1,11 @@
 pub mod Machine
 pub mod MachineView
+pub mod Bindings
 pub mod ListSteps
 pub mod Forests
+pub mod Normals
 pub mod Prints
 pub mod Stops
 pub mod PlaceGrowth
 pub mod TextRun
+pub mod Weights

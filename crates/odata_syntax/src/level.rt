@@ -37,6 +37,7 @@ pub const PATH: u8 = 10;
 pub const OPEN_PATH: u8 = 11;
 
 /// How tightly an operator binds, from 1 for `or` to 6.
+#[inline(always)]
 pub fn operator_level(operator: BinaryOperator) -> u8
     ensures { result ≡ operator_level operator }
 {

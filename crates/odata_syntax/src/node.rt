@@ -41,7 +41,7 @@ pub enum Quantifier {
 
 /// A node of the tree. Its span runs from its first to its last token, the parentheses of a grouping that holds just
 /// this node among them.
-#[derive(Debug, Drop)]
+#[derive(Debug)]
 pub enum Node {
     /// A literal by its spelling, with its quotes if it has any.
     Lit {
@@ -150,6 +150,69 @@ impl Node {
             Node::Call { span, .. } => *span,
             Node::Any { span, .. } => *span,
             Node::All { span, .. } => *span,
+        }
+    }
+}
+
+/// A loop goes from first child to first child, so that a chain of operators, signs or steps needs no stack for its length.
+/// The other children are dropped one level down: each is an operand of a tighter operator, or stands in parentheses.
+impl Drop for Node {
+    fn drop(mut self) {
+        loop {
+            match self {
+                Node::Lit {
+                    span: _,
+                    kind: _,
+                    text: _,
+                } => return,
+                Node::It { span: _ } => return,
+                Node::Name { span: _, name: _ } => return,
+                Node::Call {
+                    span: _,
+                    name: _,
+                    arguments: _,
+                } => return,
+                Node::Member {
+                    span: _,
+                    base,
+                    name: _,
+                } => self = Box::into_inner(base),
+                Node::Count { span: _, base } => self = Box::into_inner(base),
+                Node::Neg { span: _, operand } => self = Box::into_inner(operand),
+                Node::Not { span: _, operand } => self = Box::into_inner(operand),
+                Node::Binary {
+                    span: _,
+                    operator: _,
+                    left,
+                    right: _,
+                } => self = Box::into_inner(left),
+                Node::Has {
+                    span: _,
+                    left,
+                    right: _,
+                } => self = Box::into_inner(left),
+                Node::InList {
+                    span: _,
+                    left,
+                    items: _,
+                } => self = Box::into_inner(left),
+                Node::InPath {
+                    span: _,
+                    left,
+                    path: _,
+                } => self = Box::into_inner(left),
+                Node::Any {
+                    span: _,
+                    base,
+                    lambda: _,
+                } => self = Box::into_inner(base),
+                Node::All {
+                    span: _,
+                    base,
+                    variable: _,
+                    body: _,
+                } => self = Box::into_inner(base),
+            }
         }
     }
 }

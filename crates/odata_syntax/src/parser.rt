@@ -1,13 +1,13 @@
 //! From tokens to a tree (OData URL Conventions 4.01, section 5.1.1; OData ABNF 4.01, section 4). A machine takes token
 //! after token: it keeps what waits for the operand that is being read, and what it expects next, and puts each node
 //! into one list as soon as its children are in it.
-ghost use Rattle.std.specs.Prelude.{◌≡◌, ◌≢◌, ◌≤◌, Some, IfOk, IfErr, if◌then◌else◌};
+ghost use Rattle.std.specs.Prelude.{◌≡◌, ◌≢◌, ◌+◌, ◌^◌, ◌<◌, ◌≤◌, Some, IfOk, IfErr, false, if◌then◌else◌, true};
 ghost use Rattle.odata_syntax.specs.declared.syntax_fault.SyntaxFault.{SyntaxFault};
 ghost use Rattle.odata_syntax.specs.Tree.{Tree};
 ghost use Rattle.odata_syntax.specs.TreeView.{tree_of};
 ghost use Rattle.odata_text.specs.TokenModel.{token_models};
 ghost use Rattle.odata_text.specs.TokenSequence.{AreTextTokens};
-ghost use Rattle.odata_syntax.specs.Front.{IsShallow, opens, closes};
+ghost use Rattle.odata_syntax.specs.Front.{IsShallow, opens, closes, depth_limit};
 ghost use Rattle.odata_syntax.specs.Grammar.{or_level, Derives};
 ghost use Rattle.odata_syntax.specs.Parse.{IsParse, HasNoParse, IsSyntaxFault};
 ghost use Rattle.odata_syntax.specs.PostOrder.{IsWholeTree, last_tree, trees_in};
@@ -29,8 +29,9 @@ mod step;
 mod text_parser;
 mod word;
 
+pub(crate) use crate::parser::expr_of_list::Forest;
 use crate::parser::expr_of_list::root_of_list;
-use crate::parser::state::{Piece, State, Step};
+use crate::parser::state::{FRAME_ROOM, Piece, State, Step};
 use crate::syntax_list::SyntaxNode;
 use crate::{Expr, SyntaxFault};
 use odata_text::{Span, Token, TokenKind};
@@ -77,7 +78,9 @@ fn nodes_of_tokens(
         fault ≢ SyntaxFault.Memory → IsSyntaxFault (token_models tokens.now) len fault) }
     ensures none { IfErr result (λ fault. fault ≢ SyntaxFault.Memory → HasNoParse (token_models tokens.now)) }
 {
-    let mut state = State::new(alloc, tokens.len().min(ROOM_LIMIT))?;
+    let nodes = Vec::with_capacity(alloc, tokens.len().min(ROOM_LIMIT))?;
+    let frames = Vec::with_capacity(alloc, FRAME_ROOM)?;
+    let mut state = State::new(nodes, frames);
     match take_all(&mut state, tokens) {
         Ok(()) => {}
         Err(fault) => return Err(fault),
@@ -99,8 +102,10 @@ fn take_all(state: &mut State, tokens: &[Token<'_>]) -> Result<(), SyntaxFault>
     ensures shallow { IfOk result (λ _. IsShallow (token_models tokens.now)) }
     ensures refused { IfErr result (RefusesOneOf (token_models tokens.now)) }
 {
-    let mut opens = 0;
-    let mut closes = 0;
+    let mut depth = Depth {
+        opens: 0,
+        closes: 0,
+    };
     let mut number = 0;
     for token in tokens {
         let piece = Piece {
@@ -116,9 +121,7 @@ fn take_all(state: &mut State, tokens: &[Token<'_>]) -> Result<(), SyntaxFault>
             Step::OutOfMemory => return Err(SyntaxFault::Memory),
         }
         number += 1;
-        opens += open_count(token.kind);
-        closes += close_count(token.kind);
-        if opens > closes + DEPTH_LIMIT {
+        if depth.exceeds(token.kind) {
             return Err(SyntaxFault::TooDeep { span: token.span });
         }
     }
@@ -137,24 +140,34 @@ fn unended(len: usize) -> SyntaxFault
     }
 }
 
-/// How many parentheses a token opens.
-fn open_count(kind: TokenKind) -> usize
-    ensures count { result ≡ (if opens kind then 1 else 0) }
-    ensures one { result ≤ 1 }
-{
-    match kind {
-        TokenKind::Open => 1,
-        _ => 0,
-    }
+/// How many parentheses the tokens so far open, and how many they close.
+#[derive(Clone, Copy)]
+struct Depth {
+    opens: usize,
+    closes: usize,
 }
 
-/// How many it closes.
-fn close_count(kind: TokenKind) -> usize
-    ensures count { result ≡ (if closes kind then 1 else 0) }
-    ensures one { result ≤ 1 }
-{
-    match kind {
-        TokenKind::Close => 1,
-        _ => 0,
+impl Depth {
+    /// Counts one more token, and says whether more parentheses are open then than may be.
+    #[inline(always)]
+    fn exceeds(&mut self, kind: TokenKind) -> bool
+        requires within { self.old.opens ≤ self.old.closes + depth_limit }
+        requires few { self.old.closes < 2 ^ 63 }
+        ensures opens { self.new.opens ≡ self.old.opens + (if opens kind then 1 else 0) }
+        ensures closes { self.new.closes ≡ self.old.closes + (if closes kind then 1 else 0) }
+        ensures deep { result ≡ true → self.new.closes + depth_limit < self.new.opens }
+        ensures shallow { result ≡ false → self.new.opens ≤ self.new.closes + depth_limit }
+    {
+        match kind {
+            TokenKind::Open => {
+                self.opens += 1;
+                self.opens > self.closes + DEPTH_LIMIT
+            }
+            TokenKind::Close => {
+                self.closes += 1;
+                false
+            }
+            _ => false,
+        }
     }
 }

@@ -1,12 +1,11 @@
 //! Where the nodes of a list stand in its tree.
-ghost use Rattle.std.specs.Prelude.{◌≡◌, ◌+◌, ◌-◌, ◌^◌, ◌<◌, ◌≤◌, ℕ, List, length, take, IfOk, OnOk};
+ghost use Rattle.std.specs.Prelude.{◌≡◌, ◌+◌, ◌-◌, ◌^◌, ◌<◌, ◌≤◌, ℕ, List, length, take};
 ghost use Rattle.odata_syntax.specs.PostOrder.{IsWholeTree, child_count as children_count};
-ghost use Rattle.odata_syntax.specs.Places.{ArePlaces, first_at, first_over};
+ghost use Rattle.odata_syntax.specs.Places.{ArePlaces, first_at, first_over, places_of};
 ghost use Rattle.odata_syntax.specs.private.PlaceGrowth.{AreTiles, HasRoom, HasTiles, IsBegun, IsGrowing, IsMarked};
-ghost use Rattle.odata_syntax.specs.private.PlaceGrowth.{IsNumbered, begun_before};
+ghost use Rattle.odata_syntax.specs.private.PlaceGrowth.{IsNumbered, begun_before, places_before, unplaced_nodes};
 
 use crate::syntax_list::{SyntaxKind, SyntaxNode};
-use std::alloc::{AllocError, Global};
 
 /// What `Place::lambda` is where no body begins: the first node of a list has no children, so it is no lambda expression.
 pub const NO_NODE: usize = 0;
@@ -21,6 +20,13 @@ pub struct Place {
     /// The index of the lambda expression whose body begins with this node, or `NO_NODE`.
     pub lambda: usize,
 }
+
+/// The place of a node whose tree has no end yet.
+pub(crate) const NO_PLACE: Place = Place {
+    number: 0,
+    first: 0,
+    lambda: NO_NODE,
+};
 
 /// How many children a node has.
 #[inline(always)]
@@ -39,92 +45,92 @@ fn child_count(node: &SyntaxNode) -> usize
     }
 }
 
-/// The places of the nodes of a tree.
-pub(crate) fn places_of(alloc: Global, nodes: &[SyntaxNode]) -> Result<Vec<Place>, AllocError>
-    requires { IsWholeTree nodes.now }
-    ensures { IfOk result (λ places. ArePlaces nodes.now places.items) }
+/// Puts the places of the nodes of a tree.
+pub(crate) fn put_places(nodes: &mut Vec<SyntaxNode>)
+    requires { IsWholeTree nodes.old.items }
+    ensures places { ArePlaces nodes.new.items (places_of nodes.new.items) }
+    ensures same { unplaced_nodes nodes.new.items ≡ unplaced_nodes nodes.old.items }
 {
-    let mut places = Vec::with_capacity(alloc, nodes.len())?;
-    while places.len() < nodes.len() {
-        grow(nodes, &mut places)?;
+    for index in 0..nodes.len() {
+        grow(index, nodes);
     }
-    number(&mut places);
-    Ok(places)
+    number(nodes);
 }
 
 /// Puts the place of the next node. Until all nodes have one, `number` is how many trees begin with a node.
 #[inline(always)]
-fn grow(nodes: &[SyntaxNode], places: &mut Vec<Place>) -> Result<(), AllocError>
-    requires whole { IsWholeTree nodes.now }
-    requires growing { IsGrowing nodes.now places.old.items }
-    requires more { length places.old.items < length nodes.now }
-    ensures growing { OnOk result (IsGrowing nodes.now places.new.items) }
-    ensures one { OnOk result (length places.new.items ≡ length places.old.items + 1) }
+fn grow(index: usize, nodes: &mut Vec<SyntaxNode>)
+    requires whole { IsWholeTree (unplaced_nodes nodes.old.items) }
+    requires inside { index < length nodes.old.items }
+    requires growing { IsGrowing (unplaced_nodes nodes.old.items) (places_before nodes.old.items index) }
+    ensures growing { IsGrowing (unplaced_nodes nodes.old.items) (places_before nodes.new.items (index + 1)) }
+    ensures same { unplaced_nodes nodes.new.items ≡ unplaced_nodes nodes.old.items }
 {
-    let index = places.len();
-    let node = &nodes[index];
-    let first = first_of(child_count(node), places);
-    begin(first, places)?;
+    let node = nodes[index];
+    let first = first_of(child_count(&node), index, nodes);
+    begin(index, first, nodes);
     match node.kind {
-        SyntaxKind::Lambda(_) => {
-            mark_body(index, places);
-            Ok(())
-        }
-        _ => Ok(()),
+        SyntaxKind::Lambda(_) => mark_body(index, nodes),
+        _ => {}
     }
 }
 
-/// The index of the first node of the last so many trees.
+/// The index of the first node of the last so many trees before an index.
 #[inline(always)]
-fn first_of(count: usize, places: &Vec<Place>) -> usize
-    requires { HasTiles places.now.items count }
-    ensures { (roots : List ℕ) → AreTiles places.now.items (length places.now.items) roots → count ≤ length roots
-        → result ≡ first_over places.now.items (length places.now.items) (take count roots) }
+fn first_of(count: usize, index: usize, nodes: &Vec<SyntaxNode>) -> usize
+    requires inside { index < length nodes.now.items }
+    requires tiles { HasTiles (places_before nodes.now.items index) count }
+    ensures { (roots : List ℕ) → AreTiles (places_before nodes.now.items index) index roots → count ≤ length roots
+        → result ≡ first_over (places_before nodes.now.items index) index (take count roots) }
 {
-    let mut first = places.len();
+    let mut first = index;
     for _ in 0..count {
-        first = places[first - 1].first;
+        first = nodes[first - 1].place.first;
     }
     first
 }
 
 /// Puts the place of a node whose tree begins with the node at `first`, and counts it there.
 #[inline(always)]
-fn begin(first: usize, places: &mut Vec<Place>) -> Result<(), AllocError>
-    requires inside { first ≤ length places.old.items }
-    requires few { begun_before places.old.items (length places.old.items) ≤ length places.old.items }
-    ensures { OnOk result (IsBegun places.old.items places.new.items first) }
+fn begin(index: usize, first: usize, nodes: &mut Vec<SyntaxNode>)
+    requires inside { index < length nodes.old.items }
+    requires order { first ≤ index }
+    requires few { begun_before (places_before nodes.old.items index) index ≤ index }
+    ensures begun { IsBegun (places_before nodes.old.items index) (places_before nodes.new.items (index + 1)) first }
+    ensures same { unplaced_nodes nodes.new.items ≡ unplaced_nodes nodes.old.items }
 {
-    places.push(Place {
+    nodes[index].place = Place {
         number: 0,
         first,
         lambda: NO_NODE,
-    })?;
-    places[first].number += 1;
-    Ok(())
+    };
+    nodes[first].place.number += 1;
 }
 
 /// Marks the node with which the body of the lambda expression at `index` begins.
-fn mark_body(index: usize, places: &mut Vec<Place>)
+fn mark_body(index: usize, nodes: &mut Vec<SyntaxNode>)
     requires lambda { 0 < index }
-    requires body { index ≤ length places.old.items }
-    requires begins { first_at places.old.items (index - 1) < length places.old.items }
-    ensures { IsMarked places.old.items places.new.items (first_at places.old.items (index - 1)) index }
+    requires inside { index < length nodes.old.items }
+    requires begins { first_at (places_before nodes.old.items (index + 1)) (index - 1) ≤ index }
+    ensures marked { IsMarked (places_before nodes.old.items (index + 1)) (places_before nodes.new.items (index + 1))
+        (first_at (places_before nodes.old.items (index + 1)) (index - 1)) index }
+    ensures same { unplaced_nodes nodes.new.items ≡ unplaced_nodes nodes.old.items }
 {
-    let begin = places[index - 1].first;
-    places[begin].lambda = index;
+    let begin = nodes[index - 1].place.first;
+    nodes[begin].place.lambda = index;
 }
 
 /// Numbers the nodes in pre-order: a tree stops at the number of trees that begin no later than with its root.
-fn number(places: &mut Vec<Place>)
-    requires rooms { (index : ℕ) → index < length places.old.items → HasRoom places.old.items index }
-    requires few { begun_before places.old.items (length places.old.items) ≤ length places.old.items }
-    ensures { IsNumbered places.old.items places.new.items }
+fn number(nodes: &mut Vec<SyntaxNode>)
+    requires rooms { (index : ℕ) → index < length nodes.old.items → HasRoom (places_of nodes.old.items) index }
+    requires few { begun_before (places_of nodes.old.items) (length nodes.old.items) ≤ length nodes.old.items }
+    ensures numbered { IsNumbered (places_of nodes.old.items) (places_of nodes.new.items) }
+    ensures same { unplaced_nodes nodes.new.items ≡ unplaced_nodes nodes.old.items }
 {
     let mut stop = 0;
-    for index in 0..places.len() {
-        let place = places[index];
+    for index in 0..nodes.len() {
+        let place = nodes[index].place;
         stop += place.number;
-        places[index].number = stop - (index + 1 - place.first);
+        nodes[index].place.number = stop - (index + 1 - place.first);
     }
 }

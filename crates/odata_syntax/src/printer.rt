@@ -1,11 +1,10 @@
 //! The canonical text of a tree (OData URL Conventions 4.01, section 5.1.1).
 
-ghost use Rattle.std.specs.Prelude.{◌≡◌, ◌++◌, OnOk, IfOk, string_bytes};
-ghost use Rattle.odata_syntax.specs.CanonicalText.{IsCanonicalText, tree_text, trees_text};
+ghost use Rattle.std.specs.Prelude.{◌≡◌, ◌∷◌, [], ◌++◌, OnOk, IfOk, map, string_bytes};
+ghost use Rattle.odata_syntax.specs.CanonicalText.{IsCanonicalText};
+ghost use Rattle.odata_syntax.specs.Tree.{shape_of};
 ghost use Rattle.odata_syntax.specs.TreeView.{tree_of, trees_of};
-ghost use Rattle.odata_syntax.specs.Appended.{IsAppended};
-ghost use Rattle.odata_syntax.specs.private.Prints.{AreTextsOf, IsTextOf, body_text, comma_before, list_text};
-ghost use Rattle.odata_syntax.specs.private.Prints.{operand_text, path_text, right_text, signed_text};
+ghost use Rattle.odata_syntax.specs.private.Prints.{Writes, after_first, listed, operand, piece_of, plain};
 
 mod enumeration;
 mod literal;
@@ -19,165 +18,247 @@ use node_level::node_level;
 use std::alloc::{AllocError, Global};
 pub use word::operator_word;
 
+/// What is still to be written.
+#[derive(Clone, Copy, Debug)]
+enum Part<'t> {
+    /// A node, in parentheses where it binds less tightly than needed.
+    Operand { node: &'t Node, needed: u8 },
+    /// What a node has after its first operand.
+    Joint { node: &'t Node },
+    /// Further items, each after a comma.
+    Further { items: &'t [Node] },
+    /// The end of a group.
+    Close,
+}
+
 /// The canonical text of an expression: literals in their canonical spellings, words in lower case, parentheses only
-/// where an operand binds less tightly than its place needs.
+/// where an operand binds less tightly than its place needs. What is still to be written waits on a stack of its own, so
+/// that it recurses nowhere, however deep the tree is.
 pub fn print(alloc: Global, expr: &Expr) -> Result<String, AllocError>
     ensures { IfOk result (λ text. IsCanonicalText (tree_of expr.now) (string_bytes text)) }
 {
     let mut text = String::new(alloc);
-    push_node(&mut text, expr.root())?;
+    let mut pending = Vec::new(alloc);
+    pending.push(Part::Operand {
+        node: expr.root(),
+        needed: 0,
+    })?;
+    while let Some(part) = pending.pop() {
+        write_part(part, &mut text, &mut pending)?;
+    }
     Ok(text)
 }
 
-#[cycle(push)]
-fn push_node(out: &mut String, node: &Node) -> Result<(), AllocError>
-    ensures { OnOk result (IsAppended (IsTextOf tree_text (tree_of node.now))
-        (string_bytes out.old) (string_bytes out.new)) }
+/// Writes a part, or its beginning, and puts the rest on the stack: of a node that binds less tightly than needed `(`, and
+/// of further items a comma.
+fn write_part<'t>(
+    part: Part<'t>,
+    text: &mut String,
+    pending: &mut Vec<Part<'t>>,
+) -> Result<(), AllocError>
+    ensures { OnOk result (Writes (piece_of part.entry) (string_bytes text.old) (string_bytes text.new)
+        (map piece_of pending.old.items) (map piece_of pending.new.items)) }
+{
+    match part {
+        Part::Operand { node, needed } => {
+            if node_level(node) < needed {
+                text.push('(')?;
+                pending.push(Part::Close)?;
+                return put_operand(node, 0, pending);
+            }
+            write_node(node, text, pending)
+        }
+        Part::Joint { node } => write_joint(node, text, pending),
+        Part::Further { items } => {
+            if items.is_empty() {
+                return Ok(());
+            }
+            text.push(',')?;
+            put_items(items, pending)
+        }
+        Part::Close => text.push(')'),
+    }
+}
+
+/// Writes a literal, a name or `$it`, a sign, or the beginning of a call; the operands wait.
+fn write_node<'t>(
+    node: &'t Node,
+    text: &mut String,
+    pending: &mut Vec<Part<'t>>,
+) -> Result<(), AllocError>
+    ensures { OnOk result (Writes (operand 0 (tree_of node.now)) (string_bytes text.old) (string_bytes text.new)
+        (map piece_of pending.old.items) (map piece_of pending.new.items)) }
 {
     match node {
-        Node::Lit { kind, text, .. } => write_literal(out, *kind, text),
-        Node::It { .. } => out.push_str("$it"),
-        Node::Name { name, .. } => out.push_str(name),
-        Node::Member { base, name, .. } => push_path(out, base, name),
-        Node::Count { base, .. } => push_path(out, base, "$count"),
-        Node::Neg { operand, .. } => push_signed(out, "- ", operand),
-        Node::Not { operand, .. } => push_signed(out, "not ", operand),
-        Node::Binary {
-            operator: op,
-            left,
-            right,
+        Node::Lit {
+            kind,
+            text: spelling,
             ..
-        } => {
-            push_operand(out, operator_level(*op), left)?;
-            push_right(out, operator_word(*op), operator_level(*op) + 1, right)
+        } => write_literal(text, *kind, spelling),
+        Node::It { .. } => text.push_str("$it"),
+        Node::Name { name, .. } => text.push_str(name),
+        Node::Neg { operand, .. } => {
+            text.push_str("- ")?;
+            put_operand(operand, UNARY, pending)
         }
-        Node::Has { left, right, .. } => {
-            push_operand(out, PRIMARY, left)?;
-            push_right(out, "has", BASE, right)
-        }
-        Node::InList { left, items, .. } => {
-            push_operand(out, PRIMARY, left)?;
-            push_list(out, " in ", items)
-        }
-        Node::InPath { left, path, .. } => {
-            push_operand(out, PRIMARY, left)?;
-            push_right(out, "in", PATH, path)
+        Node::Not { operand, .. } => {
+            text.push_str("not ")?;
+            put_operand(operand, UNARY, pending)
         }
         Node::Call {
             name,
             arguments,
             ..
-        } => push_list(out, name, arguments),
+        } => {
+            text.push_str(name)?;
+            write_list("(", arguments, text, pending)
+        }
+        Node::Member { base, .. } => put_joint(node, 0, base, pending),
+        Node::Count { base, .. } => put_joint(node, 0, base, pending),
         Node::Any { base, lambda, .. } => match lambda {
-            None => push_path(out, base, "any()"),
-            Some((variable, body)) => {
-                push_path(out, base, "any")?;
-                push_body(out, variable, body)
-            }
+            None => put_joint(node, 0, base, pending),
+            Some(_) => put_joint(node, 0, base, pending),
         },
-        Node::All {
-            base,
-            variable,
-            body,
+        Node::All { base, .. } => put_joint(node, 0, base, pending),
+        Node::Binary { operator, left, .. } => {
+            put_joint(node, operator_level(*operator), left, pending)
+        }
+        Node::Has { left, .. } => put_joint(node, PRIMARY, left, pending),
+        Node::InList { left, .. } => put_joint(node, PRIMARY, left, pending),
+        Node::InPath { left, .. } => put_joint(node, PRIMARY, left, pending),
+    }
+}
+
+/// Puts a node on the stack as what it has after its first operand, and that operand on top.
+fn put_joint<'t>(
+    node: &'t Node,
+    needed: u8,
+    first: &'t Node,
+    pending: &mut Vec<Part<'t>>,
+) -> Result<(), AllocError>
+    ensures { OnOk result (map piece_of pending.new.items ≡ map piece_of pending.old.items
+        ++ (after_first (shape_of (tree_of node.now)) ∷ operand needed (tree_of first.now) ∷ [])) }
+{
+    pending.push(Part::Joint { node })?;
+    put_operand(first, needed, pending)
+}
+
+/// Writes what a node has after its first operand, up to the next one, and puts that on the stack.
+fn write_joint<'t>(
+    node: &'t Node,
+    text: &mut String,
+    pending: &mut Vec<Part<'t>>,
+) -> Result<(), AllocError>
+    ensures { OnOk result (Writes (after_first (shape_of (tree_of node.now))) (string_bytes text.old)
+        (string_bytes text.new) (map piece_of pending.old.items) (map piece_of pending.new.items)) }
+{
+    match node {
+        Node::Member { name, .. } => {
+            text.push('/')?;
+            text.push_str(name)
+        }
+        Node::Count { .. } => text.push_str("/$count"),
+        Node::Any { lambda, .. } => match lambda {
+            None => text.push_str("/any()"),
+            Some((variable, body)) => write_body("/any(", variable, body, text, pending),
+        },
+        Node::All { variable, body, .. } => write_body("/all(", variable, body, text, pending),
+        Node::Binary {
+            operator,
+            right,
             ..
         } => {
-            push_path(out, base, "all")?;
-            push_body(out, variable, body)
+            let needed = operator_level(*operator) + 1;
+            write_right(operator_word(*operator), needed, right, text, pending)
         }
+        Node::Has { right, .. } => write_right("has", BASE, right, text, pending),
+        Node::InPath { path, .. } => write_right("in", PATH, path, text, pending),
+        Node::InList { items, .. } => write_list(" in (", items, text, pending),
+        Node::Lit { .. } => Ok(()),
+        Node::It { .. } => Ok(()),
+        Node::Name { .. } => Ok(()),
+        Node::Neg { .. } => Ok(()),
+        Node::Not { .. } => Ok(()),
+        Node::Call { .. } => Ok(()),
     }
 }
 
-/// An operand, in parentheses where it binds less tightly than its place needs.
-#[cycle(push)]
-fn push_operand(out: &mut String, needed: u8, operand: &Node) -> Result<(), AllocError>
-    ensures { OnOk result (IsAppended (IsTextOf (operand_text needed) (tree_of operand.now))
-        (string_bytes out.old) (string_bytes out.new)) }
+/// Writes a word between spaces, and puts the operand after it on the stack.
+fn write_right<'t>(
+    word: &str,
+    needed: u8,
+    right: &'t Node,
+    text: &mut String,
+    pending: &mut Vec<Part<'t>>,
+) -> Result<(), AllocError>
+    ensures text { OnOk result (string_bytes text.new ≡ string_bytes text.old ++ (32 ∷ (word.now ++ 32 ∷ []))) }
+    ensures pending { OnOk result (map piece_of pending.new.items ≡ map piece_of pending.old.items
+        ++ operand needed (tree_of right.now) ∷ []) }
 {
-    if node_level(operand) < needed {
-        out.push('(')?;
-        push_node(out, operand)?;
-        return out.push(')');
-    }
-    push_node(out, operand)
+    text.push(' ')?;
+    text.push_str(word)?;
+    text.push(' ')?;
+    put_operand(right, needed, pending)
 }
 
-/// A sign and its operand.
-#[cycle(push)]
-fn push_signed(out: &mut String, sign: &str, operand: &Node) -> Result<(), AllocError>
-    ensures { OnOk result (IsAppended (IsTextOf (signed_text sign.now) (tree_of operand.now))
-        (string_bytes out.old) (string_bytes out.new)) }
+/// Writes what stands before the variable of a lambda expression, the variable and its colon, and puts the body on the
+/// stack, with `)` below it.
+fn write_body<'t>(
+    before: &str,
+    variable: &str,
+    body: &'t Node,
+    text: &mut String,
+    pending: &mut Vec<Part<'t>>,
+) -> Result<(), AllocError>
+    ensures text { OnOk result (string_bytes text.new
+        ≡ string_bytes text.old ++ (before.now ++ (variable.now ++ 58 ∷ []))) }
+    ensures pending { OnOk result (map piece_of pending.new.items ≡ map piece_of pending.old.items
+        ++ (plain (41 ∷ []) ∷ operand 0 (tree_of body.now) ∷ [])) }
 {
-    out.push_str(sign)?;
-    push_operand(out, UNARY, operand)
+    text.push_str(before)?;
+    text.push_str(variable)?;
+    text.push(':')?;
+    pending.push(Part::Close)?;
+    put_operand(body, 0, pending)
 }
 
-/// A word and the operand behind it.
-#[cycle(push)]
-fn push_right(out: &mut String, word: &str, needed: u8, operand: &Node) -> Result<(), AllocError>
-    ensures { OnOk result (IsAppended (IsTextOf (right_text word.now needed) (tree_of operand.now))
-        (string_bytes out.old) (string_bytes out.new)) }
+/// Writes what stands before items, and puts them on the stack, with `)` below them.
+fn write_list<'t>(
+    before: &str,
+    items: &'t [Node],
+    text: &mut String,
+    pending: &mut Vec<Part<'t>>,
+) -> Result<(), AllocError>
+    ensures text { OnOk result (string_bytes text.new ≡ string_bytes text.old ++ before.now) }
+    ensures pending { OnOk result (map piece_of pending.new.items ≡ map piece_of pending.old.items
+        ++ (plain (41 ∷ []) ∷ listed (trees_of items.now))) }
 {
-    out.push(' ')?;
-    out.push_str(word)?;
-    out.push(' ')?;
-    push_operand(out, needed, operand)
+    text.push_str(before)?;
+    pending.push(Part::Close)?;
+    put_items(items, pending)
 }
 
-/// A path and its last step.
-#[cycle(push)]
-fn push_path(out: &mut String, base: &Node, last: &str) -> Result<(), AllocError>
-    ensures { OnOk result (IsAppended (IsTextOf (path_text last.now) (tree_of base.now))
-        (string_bytes out.old) (string_bytes out.new)) }
+/// Puts items on the stack, the first on top.
+fn put_items<'t>(items: &'t [Node], pending: &mut Vec<Part<'t>>) -> Result<(), AllocError>
+    ensures { OnOk result (map piece_of pending.new.items
+        ≡ map piece_of pending.old.items ++ listed (trees_of items.now)) }
 {
-    push_node(out, base)?;
-    out.push('/')?;
-    out.push_str(last)
-}
-
-/// The variable and the body of a lambda expression.
-#[cycle(push)]
-fn push_body(out: &mut String, variable: &str, body: &Node) -> Result<(), AllocError>
-    ensures { OnOk result (IsAppended (IsTextOf (body_text variable.now) (tree_of body.now))
-        (string_bytes out.old) (string_bytes out.new)) }
-{
-    out.push('(')?;
-    out.push_str(variable)?;
-    out.push(':')?;
-    push_node(out, body)?;
-    out.push(')')
-}
-
-/// Items in parentheses, behind what stands before them.
-#[cycle(push)]
-fn push_list(out: &mut String, before: &str, items: &[Node]) -> Result<(), AllocError>
-    ensures { OnOk result (IsAppended (AreTextsOf (list_text before.now) (trees_of items.now))
-        (string_bytes out.old) (string_bytes out.new)) }
-{
-    out.push_str(before)?;
-    out.push('(')?;
-    push_items(out, items)?;
-    out.push(')')
-}
-
-/// Items with commas between them.
-#[cycle(push)]
-fn push_items(out: &mut String, items: &[Node]) -> Result<(), AllocError>
-    ensures { OnOk result (IsAppended (AreTextsOf trees_text (trees_of items.now))
-        (string_bytes out.old) (string_bytes out.new)) }
-{
-    for (number, item) in items.iter().enumerate() {
-        push_comma(out, number)?;
-        push_node(out, item)?;
-    }
-    Ok(())
-}
-
-/// A comma before each item but the first.
-fn push_comma(out: &mut String, number: usize) -> Result<(), AllocError>
-    ensures { OnOk result (string_bytes out.new ≡ string_bytes out.old ++ comma_before number) }
-{
-    if number == 0 {
+    let Some((first, rest)) = items.split_first() else {
         return Ok(());
-    }
-    out.push(',')
+    };
+    pending.push(Part::Further { items: rest })?;
+    put_operand(first, 0, pending)
+}
+
+/// Puts an operand on the stack.
+fn put_operand<'t>(
+    node: &'t Node,
+    needed: u8,
+    pending: &mut Vec<Part<'t>>,
+) -> Result<(), AllocError>
+    ensures { OnOk result (map piece_of pending.new.items ≡ map piece_of pending.old.items
+        ++ operand needed (tree_of node.now) ∷ []) }
+{
+    pending.push(Part::Operand { node, needed })?;
+    Ok(())
 }

@@ -1,5 +1,6 @@
 //! A tree as one list of its nodes, each after its children.
 ghost use Rattle.std.specs.Prelude.{◌≡◌};
+ghost use Rattle.odata_syntax.specs.Places.{places_of};
 
 use crate::places::Place;
 use crate::{BinaryOperator, LiteralKind, Quantifier};
@@ -49,17 +50,18 @@ pub struct SyntaxNode {
     pub text: Span,
     /// How many items a list has, or arguments a call.
     pub count: usize,
+    /// Where it stands in its tree, once that is whole.
+    pub place: Place,
 }
 
 /// A tree. Its root is the last node.
 #[derive(Drop)]
 pub struct SyntaxList {
     pub(crate) nodes: Vec<SyntaxNode>,
-    pub(crate) places: Vec<Place>,
 }
 
 impl Model for SyntaxList {
-    ghost use Rattle.odata_syntax.specs.Places.{PlacedNodes};
+    ghost use Rattle.odata_syntax.specs.Places.{PlacedNodes, places_of};
     ghost use Rattle.odata_syntax.specs.contracts.syntax_list.SyntaxNode as node;
     ghost use Rattle.odata_syntax.specs.contracts.places.Place as place;
     ghost use Rattle.std.specs.Coded.{codes};
@@ -68,21 +70,15 @@ impl Model for SyntaxList {
 
     ghost coded = { Prim.hlevel (codes, node.the_row.coded, place.the_row.coded) };
 
-    ghost view = { λ l. record { nodes = l.nodes.items; places = l.places.items } };
+    ghost view = { λ l. record { nodes = l.nodes.items; places = places_of l.nodes.items } };
 }
 
 impl SyntaxList {
-    /// The nodes, each after its children.
+    /// The nodes, each after its children, with their places.
     pub fn nodes(&self) -> &[SyntaxNode]
-        ensures { result.now ≡ self.now.nodes }
+        ensures nodes { result.now ≡ self.now.nodes }
+        ensures places { places_of result.now ≡ self.now.places }
     {
         self.nodes.as_slice()
-    }
-
-    /// The place of each node.
-    pub fn places(&self) -> &[Place]
-        ensures { result.now ≡ self.now.places }
-    {
-        self.places.as_slice()
     }
 }

@@ -11,3 +11,4 @@ pub mod Settings
 pub mod SpanLaws
 pub mod Variables
 pub mod Walks
+pub mod Wholes

@@ -4,9 +4,6 @@ ghost use Rattle.odata_syntax.specs.Tree.{Tree, binary};
 ghost use Rattle.csdl_schema.specs.ExprType.{ExprType};
 ghost use Rattle.csdl_schema.specs.SchemaModel.{SchemaModel};
 ghost use Rattle.odata_signatures.specs.CollectionTyped.{IsCollection};
-ghost use Rattle.odata_signatures.specs.ExprTypes.{IsBooleanOrNull, boolean_type};
-ghost use Rattle.odata_signatures.specs.OperatorClass.{class_of};
-ghost use Rattle.odata_signatures.specs.OperatorTyped.{ClassTyped};
 ghost use Rattle.odata_signatures.specs.QuotedNumber.{IsReadBeside};
 ghost use Rattle.odata_signatures.specs.Side.{quoting};
 ghost use Rattle.odata_signatures.specs.TypeThere.{IsTypeThere};
@@ -63,10 +60,10 @@ pub(crate) fn checked_operator(
     let left = judged.number + 1;
     let left_type = walk.type_at(left);
     let right_type = walk.type_at(walk.stop_at(left));
-    if may_be_read(operator, &left_type, &right_type) {
+    if may_be_read(operator, left_type, right_type) {
         return checked_infix(setting, judged, Infix::Operator(operator), walk);
     }
-    let edm_type = operator_type(setting.schema, operator, &left_type, &right_type);
+    let edm_type = made_type(setting.schema, operator, left_type, right_type);
     let kind = NodeKind::Binary { operator };
     walk.put_typed(judged, kind, edm_type, TypeFaultCode::OperandTypes)
 }
@@ -81,45 +78,6 @@ fn may_be_read(operator: BinaryOperator, left: &EdmType, right: &EdmType) -> boo
     match operator {
         BinaryOperator::Eq | BinaryOperator::Ne => is_enumeration(left) || is_enumeration(right),
         _ => false,
-    }
-}
-
-/// The type between operands of these types, by the types alone. `None` where they may not stand there.
-#[inline(always)]
-fn operator_type(
-    schema: &Schema,
-    operator: BinaryOperator,
-    left: &EdmType,
-    right: &EdmType,
-) -> Option<EdmType>
-    requires left { IsTypeThere schema.now left.now }
-    requires right { IsTypeThere schema.now right.now }
-    ensures typed { IfSome result (λ t. ClassTyped (class_of operator)
-        (expr_type schema.now left.now) (expr_type schema.now right.now) (expr_type schema.now t)) }
-    ensures there { IfSome result (IsTypeThere schema.now) }
-    ensures none { IfNone result ((type : ExprType) → ¬ ClassTyped (class_of operator)
-        (expr_type schema.now left.now) (expr_type schema.now right.now) type) }
-{
-    match operator {
-        BinaryOperator::And => connective_type(left, right),
-        BinaryOperator::Or => connective_type(left, right),
-        _ => made_type(schema, operator, left, right),
-    }
-}
-
-/// The type of `and` and of `or`.
-#[inline(always)]
-fn connective_type(left: &EdmType, right: &EdmType) -> Option<EdmType>
-    ensures typed { (schema : SchemaModel) → IfSome result (λ t. IsBooleanOrNull (expr_type schema left.now)
-        × IsBooleanOrNull (expr_type schema right.now) × (expr_type schema t ≡ boolean_type)) }
-    ensures there { (schema : SchemaModel) → IfSome result (IsTypeThere schema) }
-    ensures none { (schema : SchemaModel) → IfNone result
-        (¬ (IsBooleanOrNull (expr_type schema left.now) × IsBooleanOrNull (expr_type schema right.now))) }
-{
-    if left.is_truth() && right.is_truth() {
-        Some(BOOLEAN)
-    } else {
-        None
     }
 }
 
@@ -155,8 +113,8 @@ pub(crate) fn checked_infix(
     let left = judged.number + 1;
     let right = walk.stop_at(left);
     let types = OperandTypes {
-        left: walk.type_at(left),
-        right: walk.type_at(right),
+        left: *walk.type_at(left),
+        right: *walk.type_at(right),
         left_quoted: walk.quoted_at(left),
         right_quoted: walk.quoted_at(right),
     };

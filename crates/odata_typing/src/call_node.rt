@@ -51,7 +51,7 @@ fn first_types(walk: &Walk, from: usize, stop: usize, types: &mut [EdmType; 4]) 
     let mut count = 0;
     let mut place = from;
     while place < stop && count < 4 {
-        types[count] = walk.type_at(place);
+        types[count] = *walk.type_at(place);
         count += 1;
         place = walk.stop_at(place);
     }

@@ -1,18 +1,15 @@
-ghost use Rattle.std.specs.Prelude.{◌≡◌, ◌<◌, ℕ, List, [], Some, false, length, slice_get, IfOk, IfErr};
-ghost use Rattle.csdl_schema.specs.ExpansionView.{StepModel, paths_in};
-ghost use Rattle.csdl_schema.specs.PathSet.{PropertyPath};
-ghost use Rattle.csdl_schema.specs.SchemaModel.{HoldsType, SchemaModel, slots_of, type_name_at};
+ghost use Rattle.std.specs.Prelude.{◌≡◌, List, [], None, Some, length, slice_get, IfOk, IfErr};
+ghost use Rattle.csdl_schema.specs.SchemaModel.{HoldsType, slots_of, type_name_at};
 ghost use Rattle.odata_signatures.specs.ExprTypes.{IsBooleanOrNull};
 ghost use Rattle.odata_signatures.specs.TypeView.{expr_type};
-ghost use Rattle.odata_checked_filter.specs.Filter.{HasNeededPaths, IsFilter, filter_in, filter_of, tree_of_filter};
+ghost use Rattle.odata_checked_filter.specs.Filter.{HasNeededPaths, IsFilter, filter_in, tree_of_filter};
 ghost use Rattle.odata_checked_filter.specs.FlatTree.{tree_of_nodes};
-ghost use Rattle.odata_checked_filter.specs.Stands.{Stands};
 ghost use Rattle.odata_expression_types.specs.HasTyping.{HasNoTyping, HasTyping, IsRefusal, UnlessMemory};
 ghost use Rattle.odata_typing.specs.private.Answer.{IsTypeRefusal, refusal_of};
 ghost use Rattle.odata_typing.specs.private.Judging.{IsStanding};
 ghost use Rattle.odata_typing.specs.private.Settings.{IsReady, IsSetting, whole_tree};
 ghost use Rattle.odata_typing.specs.private.Variables.{scope_of};
-ghost use Rattle.odata_typing.specs.private.Walks.{walk_over};
+ghost use Rattle.odata_typing.specs.private.Wholes.{IsRefusedFor, IsWalked};
 
 use super::laws_below::laws_below;
 use super::node::checked_nodes;
@@ -21,12 +18,12 @@ use super::variables::Variables;
 use super::walk::Walk;
 use csdl_schema::{Expansion, Schema, TypeId};
 use odata_checked_filter::{
-    Checked, CheckedNode, NodeList, StoredFilter, a_list_stands_for_one_tree, expansion_of,
+    Checked, CheckedNode, StoredFilter, a_list_stands_for_one_tree, expansion_of,
 };
 use odata_expression_types::{Refusal, TypeFault, TypeFaultCode, texts_have_few_nodes};
 use odata_syntax::{SyntaxFault, TextOrSyntaxFault, parse_text};
 use odata_text::{Span, TextFault, tokens_are_spelled};
-use std::alloc::Global;
+use std::alloc::{AllocError, Global};
 
 /// The text as a filter of the entities of a type, which the schema holds.
 ///
@@ -49,9 +46,14 @@ pub fn check<'s>(
     ensures none { IfErr result (λ r. UnlessMemory r
         (HasNoTyping (slots_of schema.entry.now) (type_name_at schema.entry.now filtered_type) text.now)) }
 {
-    match checked_parts(alloc, schema, filtered_type, text) {
-        Ok((list, expansion)) => Ok(Checked::new(schema, filtered_type, list, expansion)),
-        Err(refusal) => Err(refusal),
+    let mut walk = Walk::new(alloc);
+    match walk_text(alloc, schema, filtered_type, text, &mut walk) {
+        Ok(()) => {}
+        Err(refusal) => return Err(refusal),
+    }
+    match expansion_for(alloc, schema, filtered_type, &walk) {
+        Ok(expansion) => Ok(Checked::new(schema, filtered_type, walk.list, expansion)),
+        Err(_) => Err(Refusal::Memory),
     }
 }
 
@@ -72,63 +74,49 @@ pub fn check_to_store(
     ensures none { IfErr result (λ r. UnlessMemory r
         (HasNoTyping (slots_of schema.now) (type_name_at schema.now filtered_type) text.now)) }
 {
-    match checked_parts(alloc, schema, filtered_type, text) {
-        Ok((list, expansion)) => Ok(StoredFilter::new(filtered_type, list, expansion)),
-        Err(refusal) => Err(refusal),
-    }
-}
-
-/// The list of a filter's nodes, and what it needs of navigation.
-fn checked_parts(
-    alloc: Global,
-    schema: &Schema,
-    filtered_type: TypeId,
-    text: &str,
-) -> Result<(NodeList, Expansion), Refusal>
-    requires { HoldsType schema.now filtered_type }
-    ensures filter { IfOk result (λ parts. IsFilter (filter_of schema.now filtered_type parts.0 parts.1)) }
-    ensures typing { IfOk result (λ parts. HasTyping (slots_of schema.now) (type_name_at schema.now filtered_type)
-        text.now (tree_of_nodes parts.0)) }
-    ensures refusal { IfErr result (λ r. UnlessMemory r
-        (IsRefusal (slots_of schema.now) (type_name_at schema.now filtered_type) text.now r)) }
-    ensures none { IfErr result (λ r. UnlessMemory r
-        (HasNoTyping (slots_of schema.now) (type_name_at schema.now filtered_type) text.now)) }
-{
-    let walk = match checked_walk(alloc, schema, filtered_type, text) {
-        Ok(walk) => walk,
+    let mut walk = Walk::new(alloc);
+    match walk_text(alloc, schema, filtered_type, text, &mut walk) {
+        Ok(()) => {}
         Err(refusal) => return Err(refusal),
-    };
-    if !walk.navigates {
-        return Ok((walk.list, Expansion::none(alloc)));
     }
-    match expansion_of(alloc, schema, filtered_type, &walk.list) {
-        Ok(expansion) => Ok((walk.list, expansion)),
+    match expansion_for(alloc, schema, filtered_type, &walk) {
+        Ok(expansion) => Ok(StoredFilter::new(filtered_type, walk.list, expansion)),
         Err(_) => Err(Refusal::Memory),
     }
 }
 
-/// The walk over a filter's nodes.
-fn checked_walk(
+/// What the list of a walk needs of navigation.
+#[inline(always)]
+fn expansion_for(
+    alloc: Global,
+    schema: &Schema,
+    filtered_type: TypeId,
+    walk: &Walk,
+) -> Result<Expansion, AllocError>
+    requires { IsWalked schema.now filtered_type walk.now }
+    ensures { IfOk result (HasNeededPaths schema.now filtered_type walk.now.list) }
+{
+    if walk.navigates {
+        expansion_of(alloc, schema, filtered_type, &walk.list)
+    } else {
+        Ok(Expansion::none(alloc))
+    }
+}
+
+/// The walk over a text's nodes, which fills the list.
+fn walk_text(
     alloc: Global,
     schema: &Schema,
     filtered_type: TypeId,
     text: &str,
-) -> Result<Walk, Refusal>
-    requires { HoldsType schema.now filtered_type }
-    ensures stands { IfOk result (λ walk.
-        Stands schema.now filtered_type [] walk.list 0 (length walk.list.nodes) (tree_of_nodes walk.list)) }
-    ensures filter { IfOk result (λ walk. (expansion : List StepModel)
-        → HasNeededPaths schema.now filtered_type walk.list expansion
-        → IsFilter (filter_of schema.now filtered_type walk.list expansion)) }
-    ensures idle { IfOk result (λ walk. (expansion : List StepModel) → walk.navigates ≡ false
-        → ((path : PropertyPath) → paths_in expansion path ≡ false)
-        → HasNeededPaths schema.now filtered_type walk.list expansion) }
-    ensures typing { IfOk result (λ walk. HasTyping (slots_of schema.now) (type_name_at schema.now filtered_type)
-        text.now (tree_of_nodes walk.list)) }
-    ensures refusal { IfErr result (λ r. UnlessMemory r
-        (IsRefusal (slots_of schema.now) (type_name_at schema.now filtered_type) text.now r)) }
-    ensures none { IfErr result (λ r. UnlessMemory r
-        (HasNoTyping (slots_of schema.now) (type_name_at schema.now filtered_type) text.now)) }
+    walk: &mut Walk,
+) -> Result<(), Refusal>
+    requires held { HoldsType schema.now filtered_type }
+    requires fresh { walk.old.fault ≡ None }
+    ensures walked { IfOk result (λ _. IsWalked schema.now filtered_type walk.new) }
+    ensures typing { IfOk result (λ _. HasTyping (slots_of schema.now) (type_name_at schema.now filtered_type)
+        text.now (tree_of_nodes walk.new.list)) }
+    ensures refused { IfErr result (IsRefusedFor schema.now filtered_type text.now) }
 {
     laws_below();
     a_list_stands_for_one_tree();
@@ -138,65 +126,47 @@ fn checked_walk(
         Ok(syntax) => syntax,
         Err(fault) => return Err(refusal_of(fault)),
     };
-    let list = match NodeList::new(alloc, text, syntax.nodes().len()) {
-        Ok(list) => list,
+    let nodes = syntax.nodes();
+    match walk.list.make_room(alloc, text, nodes.len()) {
+        Ok(()) => {}
         Err(_) => return Err(Refusal::Memory),
-    };
+    }
     let setting = Setting {
         alloc,
         schema,
         filtered_type,
         variables: &Variables::Empty,
         text,
-        nodes: syntax.nodes(),
-        places: syntax.places(),
+        nodes,
     };
-    judged_nodes(&setting, list)
+    judge_nodes(&setting, walk)
 }
 
-/// The walk over all nodes of a setting without variables, which puts them into the list.
-fn judged_nodes(setting: &Setting<'_>, list: NodeList) -> Result<Walk, Refusal>
+/// Judges all nodes of a setting without variables, and puts them into the list.
+#[inline(always)]
+fn judge_nodes(setting: &Setting<'_>, walk: &mut Walk) -> Result<(), Refusal>
     requires setting { IsSetting setting.now }
-    requires ready { IsReady setting.now (walk_over list) }
+    requires ready { IsReady setting.now walk.old }
     requires scope { scope_of setting.now ≡ [] }
-    ensures stands { IfOk result (λ walk. IsStanding setting.now.schema.now setting.now.filtered_type [] walk
-        0 (length walk.list.nodes) (whole_tree setting.now)) }
-    ensures truth { IfOk result (λ walk. (found : CheckedNode) → slice_get walk.list.nodes 0 ≡ Some found
+    ensures stands { IfOk result (λ _. IsStanding setting.now.schema.now setting.now.filtered_type [] walk.new
+        0 (length walk.new.list.nodes) (whole_tree setting.now)) }
+    ensures truth { IfOk result (λ _. (found : CheckedNode) → slice_get walk.new.list.nodes 0 ≡ Some found
         → IsBooleanOrNull (expr_type setting.now.schema.now found.edm_type)) }
     ensures fault { IfErr result (IsTypeRefusal (slots_of setting.now.schema.now)
         (type_name_at setting.now.schema.now setting.now.filtered_type) (whole_tree setting.now)
         (length setting.now.text.now)) }
 {
-    let mut walk = Walk {
-        list,
-        fault: None,
-        navigates: false,
-    };
-    if checked_nodes(setting, 0, setting.nodes.len(), &mut walk) {
-        judged_whole(walk, setting.text.len())
+    if checked_nodes(setting, 0, setting.nodes.len(), walk) {
+        if walk.type_at(0).is_truth() {
+            Ok(())
+        } else {
+            Err(Refusal::Typing(not_boolean(setting.text.len())))
+        }
     } else {
         match walk.fault {
             Some(fault) => Err(Refusal::Typing(fault)),
             None => Err(Refusal::Memory),
         }
-    }
-}
-
-/// The walk over a text of that length, unless that is of another type than true or false.
-fn judged_whole(walk: Walk, len: usize) -> Result<Walk, Refusal>
-    requires { 0 < length walk.list.nodes }
-    ensures same { IfOk result (λ judged. judged ≡ walk) }
-    ensures truth { (schema : SchemaModel) (found : CheckedNode) → slice_get walk.list.nodes 0 ≡ Some found
-        → IfOk result (λ judged. IsBooleanOrNull (expr_type schema found.edm_type)) }
-    ensures refusal { IfErr result (λ refusal. refusal ≡ Refusal.Typing
-        (record { code = TypeFaultCode.NotBoolean; span = record { start = 0; stop = len } })) }
-    ensures other { (schema : SchemaModel) (found : CheckedNode) → slice_get walk.list.nodes 0 ≡ Some found
-        → IfErr result (λ refusal. ¬ IsBooleanOrNull (expr_type schema found.edm_type)) }
-{
-    if walk.type_at(0).is_truth() {
-        Ok(walk)
-    } else {
-        Err(Refusal::Typing(not_boolean(len)))
     }
 }
 

@@ -45,7 +45,7 @@ pub(crate) fn checked_in_list(setting: &Setting<'_>, judged: &Judged<'_>, walk: 
     laws_below();
     let left = judged.number + 1;
     let items = walk.stop_at(left);
-    let left_type = walk.type_at(left);
+    let left_type = *walk.type_at(left);
     if is_enumeration(&left_type) {
         let numbers = walk.list.values().len();
         let fit = put_items(setting.schema, &left_type, items, judged.stop, walk);
@@ -84,7 +84,7 @@ fn fit_of(schema: &Schema, left: &EdmType, items: usize, stop: usize, walk: &Wal
     }
     let mut item = items;
     while item < stop {
-        if !are_comparable(schema, left, &walk.type_at(item)) {
+        if !are_comparable(schema, left, walk.type_at(item)) {
             return ItemsFit::Refused;
         }
         item = walk.stop_at(item);
@@ -140,7 +140,7 @@ fn item_value(schema: &Schema, left: &EdmType, item: usize, walk: &Walk) -> (Val
         Beside::Number(number) => (Value::Enum(number), ItemsFit::All),
         Beside::Unknown => (Value::Null, ItemsFit::Unknown),
         Beside::Unread => {
-            if are_comparable(schema, left, &walk.type_at(item)) {
+            if are_comparable(schema, left, walk.type_at(item)) {
                 (Value::Null, ItemsFit::All)
             } else {
                 (Value::Null, ItemsFit::Refused)

@@ -38,7 +38,7 @@ pub(crate) fn checked_lambda(
     let lambda = setting.node_at(index);
     let span = lambda.node.span;
     let variable = setting.text_in(lambda.node.text);
-    let EdmType::Collection(member) = walk.type_at(lambda.number + 1) else {
+    let EdmType::Collection(member) = *walk.type_at(lambda.number + 1) else {
         return walk.refuse(span, TypeFaultCode::NotCollection);
     };
     match variable_named(setting.variables, variable) {
@@ -54,7 +54,6 @@ pub(crate) fn checked_lambda(
         variables: &variables,
         text: setting.text,
         nodes: setting.nodes,
-        places: setting.places,
     };
     checked_nodes(&within, from, index, walk) && close_lambda(setting, &lambda, walk)
 }

@@ -1,6 +1,6 @@
 //! The walk over the list of a filter's nodes: each is judged after its children.
 ghost use Rattle.std.specs.Prelude.{◌≡◌, ◌≢◌, ◌+◌, ◌-◌, List};
-ghost use Rattle.odata_syntax.specs.Places.{number_at, stop_at};
+ghost use Rattle.odata_syntax.specs.Places.{number_at, places_of, stop_at};
 ghost use Rattle.odata_syntax.specs.PostOrder.{shape_over};
 ghost use Rattle.odata_syntax.specs.TextTree.{HasText, IsTextRange};
 ghost use Rattle.odata_syntax.specs.Tree.{Tree, it};
@@ -32,13 +32,14 @@ pub(crate) fn checked_nodes(
     requires setting { IsSetting setting.now }
     requires ready { IsReady setting.now walk.old }
     requires run { IsRun setting.now from stop }
-    ensures { IsTreeJudged setting.now (number_at setting.now.places.now (stop - 1))
-        (stop_at setting.now.places.now (stop - 1)) (run_tree setting.now from stop) walk.old walk.new result }
+    ensures { IsTreeJudged setting.now (number_at (places_of setting.now.nodes.now) (stop - 1))
+        (stop_at (places_of setting.now.nodes.now) (stop - 1)) (run_tree setting.now from stop)
+        walk.old walk.new result }
 {
     laws_below();
     let mut index = from;
     while index < stop {
-        let lambda = setting.places[index].lambda;
+        let lambda = setting.nodes[index].place.lambda;
         if lambda != NO_NODE && index != from {
             if !checked_lambda(setting, index, lambda, walk) {
                 return false;

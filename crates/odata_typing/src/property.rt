@@ -15,7 +15,7 @@ ghost use Rattle.odata_typing.specs.private.Settings.{IsNodeReady, name_of};
 
 use super::laws_below::laws_below;
 use super::setting::{Judged, Setting};
-use super::variables::variable_named;
+use super::variables::variable_in_scope;
 use super::walk::Walk;
 use csdl_schema::{Property, PropertyKind, TypeId};
 use odata_checked_filter::NodeKind;
@@ -32,7 +32,7 @@ pub(crate) fn checked_name(setting: &Setting<'_>, judged: &Judged<'_>, walk: &mu
     ensures { IsNodeJudged setting.now judged.now (name (name_of setting.now judged.now)) walk.old walk.new result }
 {
     laws_below();
-    match variable_named(setting.variables, setting.text_in(judged.node.text)) {
+    match variable_in_scope(setting.variables, setting.text_in(judged.node.text)) {
         Ok(None) => match put_property(setting, setting.filtered_type, judged, walk) {
             Some((slot, edm_type)) => walk.put(judged, NodeKind::Property { slot }, &edm_type),
             None => false,
@@ -57,7 +57,7 @@ pub(crate) fn checked_member(setting: &Setting<'_>, judged: &Judged<'_>, walk: &
         → IsNodeJudged setting.now judged.now (member base (name_of setting.now judged.now)) walk.old walk.new result }
 {
     laws_below();
-    match owner_of(&walk.type_at(judged.number + 1)) {
+    match owner_of(walk.type_at(judged.number + 1)) {
         Some(owner) => match put_property(setting, owner, judged, walk) {
             Some((slot, edm_type)) => walk.put(judged, NodeKind::Member { slot }, &edm_type),
             None => false,

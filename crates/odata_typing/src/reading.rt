@@ -1,6 +1,5 @@
 //! Literals read once, for all rows.
-ghost use Rattle.std.specs.Prelude.{◌≡◌, ◌≢◌, Bool, IfOk, IfErr, IfSome, IfNone};
-ghost use Rattle.edm_values.specs.StringLiteral.{OnForm};
+ghost use Rattle.std.specs.Prelude.{◌≡◌, ◌≢◌, Bool, IfSome, IfNone};
 ghost use Rattle.csdl_schema.specs.ExprType.{ExprType};
 ghost use Rattle.csdl_schema.specs.SchemaModel.{slots_of};
 ghost use Rattle.odata_expression_types.specs.LiteralValue.{BooleanValue, LiteralTyped};
@@ -9,10 +8,9 @@ ghost use Rattle.odata_typing.specs.private.Answer.{IsReading};
 
 use super::enumeration_literal::read_enumeration;
 use csdl_schema::Schema;
-use edm_values::{LitFault, Prim, Value, read_date, read_guid, read_int, read_moment, read_string};
+use edm_values::{Prim, Value, read_date, read_guid, read_moment};
 use odata_signatures::{EdmType, ValueType};
 use odata_syntax::LiteralKind;
-use std::alloc::Global;
 
 /// A literal's value with its type.
 #[derive(Drop)]
@@ -21,36 +19,10 @@ pub(crate) struct Reading {
     pub(crate) value: Value,
 }
 
-/// What a literal of this kind and spelling stands for. `Form` where it has no value.
-pub(crate) fn read_literal(
-    alloc: Global,
-    schema: &Schema,
-    kind: LiteralKind,
-    spelling: &str,
-) -> Result<Reading, LitFault>
-    ensures right { IfOk result (λ r. IsReading schema.now kind spelling.now r.value r.edm_type) }
-    ensures there { IfOk result (λ r. IsTypeThere schema.now r.edm_type) }
-    ensures fault { IfErr result (λ f. OnForm f
-        ((type : ExprType) → ¬ LiteralTyped (slots_of schema.now) kind spelling.now type)) }
-{
-    match kind {
-        LiteralKind::Str => match read_string(alloc, spelling) {
-            Ok(text) => Ok(Reading {
-                edm_type: EdmType::Single(ValueType::Prim(Prim::String)),
-                value: Value::Text(text),
-            }),
-            Err(fault) => Err(fault),
-        },
-        _ => match read_plain(schema, kind, spelling) {
-            Some(reading) => Ok(reading),
-            None => Err(LitFault::Form),
-        },
-    }
-}
-
-/// The same of every other kind. Their values take no memory.
-fn read_plain(schema: &Schema, kind: LiteralKind, spelling: &str) -> Option<Reading>
-    requires { kind ≢ LiteralKind.Str }
+/// What a literal stands for whose value is no text and no whole number. `None` where it has no value.
+pub(crate) fn read_plain(schema: &Schema, kind: LiteralKind, spelling: &str) -> Option<Reading>
+    requires text { kind ≢ LiteralKind.Str }
+    requires number { kind ≢ LiteralKind.Int }
     ensures right { IfSome result (λ r. IsReading schema.now kind spelling.now r.value r.edm_type) }
     ensures there { IfSome result (λ r. IsTypeThere schema.now r.edm_type) }
     ensures none { IfNone result ((type : ExprType) → ¬ LiteralTyped (slots_of schema.now) kind spelling.now type) }
@@ -62,10 +34,6 @@ fn read_plain(schema: &Schema, kind: LiteralKind, spelling: &str) -> Option<Read
         }),
         LiteralKind::Bool => match truth_value(spelling) {
             Some(truth) => Some(primitive(Prim::Bool, Value::Bool(truth))),
-            None => None,
-        },
-        LiteralKind::Int => match read_int(spelling) {
-            Some(n) => Some(primitive(Prim::of_int_literal(n), Value::Int(n))),
             None => None,
         },
         LiteralKind::Date => match read_date(spelling) {
@@ -81,12 +49,13 @@ fn read_plain(schema: &Schema, kind: LiteralKind, spelling: &str) -> Option<Read
             None => None,
         },
         LiteralKind::EnumLit => read_member(schema, spelling),
-        LiteralKind::Str => unreachable!(),
+        LiteralKind::Str | LiteralKind::Int => unreachable!(),
     }
 }
 
 /// A value of a primitive type.
-fn primitive(prim: Prim, value: Value) -> Reading
+#[inline(always)]
+pub(crate) fn primitive(prim: Prim, value: Value) -> Reading
     ensures edm_type { result.edm_type ≡ EdmType.Single (ValueType.Prim prim) }
     ensures value { result.value ≡ value }
 {

@@ -3,7 +3,7 @@ ghost use Rattle.odata_syntax.specs.TextTree.{IsTextRange, text_in};
 
 use super::variables::Variables;
 use csdl_schema::{Schema, TypeId};
-use odata_syntax::{Place, SyntaxNode};
+use odata_syntax::SyntaxNode;
 use odata_text::Span;
 use std::alloc::Global;
 
@@ -20,8 +20,6 @@ pub(crate) struct Setting<'s> {
     pub(crate) text: &'s str,
     /// Its nodes, each after its children.
     pub(crate) nodes: &'s [SyntaxNode],
-    /// Where they stand in its tree.
-    pub(crate) places: &'s [Place],
 }
 
 /// A node to be judged, with its number in pre-order and the number after that of its last descendant.
@@ -52,7 +50,7 @@ impl<'s> Setting<'s> {
         ensures { IsNodeAt self.now index result }
     {
         let node = &self.nodes[index];
-        let place = &self.places[index];
+        let place = &node.place;
         let stop = place.number + (index + 1 - place.first);
         Judged {
             node,

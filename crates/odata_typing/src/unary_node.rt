@@ -40,7 +40,7 @@ pub(crate) fn checked_unary(
         → IsNodeJudged setting.now judged.now (unary_shape unary operand) walk.old walk.new result }
 {
     laws_below();
-    let edm_type = unary_type(unary, &walk.type_at(judged.number + 1));
+    let edm_type = unary_type(unary, walk.type_at(judged.number + 1));
     walk.put_typed(judged, kind_of(unary), edm_type, code_of(unary))
 }
 

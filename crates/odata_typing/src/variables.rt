@@ -50,6 +50,22 @@ pub(crate) fn variable_named(
     }
 }
 
+/// The same, at once where no variable is in scope.
+#[inline(always)]
+pub(crate) fn variable_in_scope(
+    variables: &Variables<'_>,
+    asked: &str,
+) -> Result<Option<NamedVariable>, AllocError>
+    ensures named { (schema : SchemaModel) → IfOk result (IsNamedBy schema (scope_in schema variables.now) asked.now) }
+    ensures there { (schema : SchemaModel) → AreThere schema variables.now
+        → IfOk result (λ found. IfSome found (λ variable. IsTypeThere schema variable.edm_type)) }
+{
+    let Variables::Bound(..) = variables else {
+        return Ok(None);
+    };
+    variable_named(variables, asked)
+}
+
 /// How many variables there are. `None` for more than a `usize` counts, which no memory holds.
 fn count(variables: &Variables<'_>) -> Option<usize>
     ensures { (schema : SchemaModel)

@@ -3,6 +3,7 @@ ghost use Rattle.std.specs.Prelude.{◌≡◌, ◌<◌, [], None, Some, IfNone, 
 ghost use Rattle.std.specs.Option.{option_map};
 ghost use Rattle.csdl_schema.specs.PropertyView.{target_of};
 ghost use Rattle.odata_syntax.specs.TextTree.{IsTextRange, text_in};
+ghost use Rattle.odata_checked_filter.specs.ListChanges.{no_nodes};
 ghost use Rattle.odata_typing.specs.private.Rows.{quoted_in};
 
 use super::setting::Judged;
@@ -13,6 +14,7 @@ use odata_expression_types::{TypeFault, TypeFaultCode};
 use odata_signatures::EdmType;
 use odata_syntax::LiteralKind;
 use odata_text::Span;
+use std::alloc::Global;
 
 /// The nodes that have been judged, in their places, and the first fault. The calls that judge return whether to go on:
 /// if not and there is no fault, an allocation failed.
@@ -24,9 +26,21 @@ pub(crate) struct Walk {
     pub(crate) navigates: bool,
 }
 
-ghost use Rattle.odata_typing.specs.private.Walks.{IsPutIn, checked, walk_put, walk_refused};
+ghost use Rattle.odata_typing.specs.private.Walks.{IsPutIn, checked, walk_over, walk_put, walk_refused};
 
 impl Walk {
+    /// The walk before the first node, over a list that is still to be filled.
+    #[inline(always)]
+    pub(crate) fn new(alloc: Global) -> Walk
+        ensures { result ≡ walk_over no_nodes }
+    {
+        Walk {
+            list: NodeList::new(alloc),
+            fault: None,
+            navigates: false,
+        }
+    }
+
     /// The node has no type, for that reason.
     #[cold]
     #[inline(never)]
@@ -115,11 +129,12 @@ impl Walk {
 
     /// The type of a judged node.
     #[inline(always)]
-    pub(crate) fn type_at(&self, place: usize) -> EdmType
+    pub(crate) fn type_at(&self, place: usize) -> &EdmType
         requires { place < length self.now.list.nodes }
-        ensures { (found : CheckedNode) → slice_get self.now.list.nodes place ≡ Some found → result ≡ found.edm_type }
+        ensures { (found : CheckedNode) → slice_get self.now.list.nodes place ≡ Some found
+            → result.now ≡ found.edm_type }
     {
-        self.list.nodes()[place].edm_type
+        &self.list.nodes()[place].edm_type
     }
 
     /// Where a judged node stops.

@@ -14,10 +14,6 @@ if_structured (placed_definition p) = None
 abbrev pub structured_in : List PlacedType → ℕ → Option PlacedBody
 structured_in types n = option_and_then (λ t. if_structured t.body) (slice_get types n)
 
-abbrev pub earlier : Option ℕ → Option ℕ → Option ℕ
-earlier None other = other
-earlier (Some slot) other = Some slot
-
 abbrev pub own_slot_in : List PlacedType → List Chain → ℕ → List ℕ → Option ℕ
 own_slot_in types chains n name =
     option_map (λ i. (chain_in chains n).inherited + i) (position (λ e. pointwise nat_eq name e.0) (own_at types n))

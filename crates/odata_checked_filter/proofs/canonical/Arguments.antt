@@ -1,5 +1,5 @@
 -- What the walk that writes canonical text writes of a call.
-use Rattle.std.proofs.Common.{◌≡◌, ◌∙◌, ℕ, ◌+◌, ◌*◌, ◌-◌, ◌<◌, ◌≤◌, List, [], ◌∷◌, ◌++◌, append_assoc, true, false, refl, sym, subst, ap, arith, length}
+use Rattle.std.proofs.Common.{◌≡◌, ◌∙◌, ℕ, ◌+◌, ◌*◌, ◌-◌, ◌<◌, ◌≤◌, List, [], ◌∷◌, ◌++◌, append-nil, append_assoc, true, false, refl, sym, subst, ap, arith, length}
 use Rattle.std.specs.Prelude.{nat_lt}
 use Rattle.std.proofs.lemmas.List.Sums.{sum_by-append}
 use Rattle.odata_syntax.specs.CanonicalText.{IsCanonicalText, further_text, tree_level, tree_text, trees_text}
@@ -118,16 +118,19 @@ further_there list i j (plain text) of = absurd of
 further_there list i j (operand level tree) of = absurd of
 
 pub further_part : (list : FlatTree) (i j : ℕ) (piece : Piece) (before after : List ℕ) (parts new : List Part)
-    → IsPieceOf list (Further i j) piece → AreFurtherPut list i j before after parts new → WritesPart list (Further i j) before after parts new
+    → IsPieceOf list (Further i j) piece → AreFurtherPut list i j before after parts new → WritesPart list (Further i j) [] before after parts new
 further_part list i j piece before after parts new of put =
     let light : weight list (arguments_of list i j) ≤ 4 * (j - i) = further_light list i j piece of in
+    let alone : weight list (arguments_of list i j ++ []) ≡ weight list (arguments_of list i j) =
+    ap (weight list) (append-nil (arguments_of list i j)) in
     record {
       parts = arguments_of list i j;
       pushed = put.pending;
-      lighter = omega (arith, light);
+      lighter = omega (arith, light, alone);
       text = comma_before i j;
       written = put.text;
-      goes_on = further_goes list i j;
+      goes_on = λ piece of. subst (λ (ps : List Part). GoesOn list ps (comma_before i j) (IsPieceText piece))
+          (sym (append-nil (arguments_of list i j))) (further_goes list i j piece of);
     }
 
 pub closing_weight : (list : FlatTree) (parts : List Part) → weight list (Close ∷ parts) ≡ 1 + weight list parts
@@ -201,14 +204,17 @@ module _ (list : FlatTree) (i : ℕ) (called : List ℕ) (is : IsCallAt list i c
 
   pub call_written : (before between_texts after : List ℕ) (parts more new : List Part)
       → HasTreeAt list i → between_texts ≡ before ++ called → after ≡ between_texts ++ 40 ∷ [] → more ≡ parts ++ Close ∷ []
-      → new ≡ more ++ arguments_of list (i + 1) (stop_at list i) → WritesNode list i before after parts new
+      → new ≡ more ++ arguments_of list (i + 1) (stop_at list i) → WritesNode list i [] before after parts new
   call_written before between_texts after parts more new has named opened closed pushed =
-      let light : weight list (arguments_of list (i + 1) (stop_at list i)) ≤ 4 * (stop_at list i - (i + 1)) = arguments_light has.0 has.1 in
+      let arguments : List Part = arguments_of list (i + 1) (stop_at list i) in
+      let light : weight list arguments ≤ 4 * (stop_at list i - (i + 1)) = arguments_light has.0 has.1 in
+      let alone : weight list ((Close ∷ arguments) ++ []) ≡ weight list (Close ∷ arguments) = ap (weight list) (append-nil (Close ∷ arguments)) in
       record {
-        parts = Close ∷ arguments_of list (i + 1) (stop_at list i);
-        pushed = pushed ∙ ap (λ (ps : List Part). ps ++ arguments_of list (i + 1) (stop_at list i)) closed ∙ append_assoc parts (Close ∷ []) (arguments_of list (i + 1) (stop_at list i));
-        lighter = omega (arith, light, closing_weight list (arguments_of list (i + 1) (stop_at list i)));
+        parts = Close ∷ arguments;
+        pushed = pushed ∙ ap (λ (ps : List Part). ps ++ arguments) closed ∙ append_assoc parts (Close ∷ []) arguments;
+        lighter = omega (arith, light, closing_weight list arguments, alone);
         text = called ++ 40 ∷ [];
         written = opened ∙ ap (λ (t : List ℕ). t ++ 40 ∷ []) named ∙ append_assoc before called (40 ∷ []);
-        goes_on = at_tree;
+        goes_on = λ tree there. subst (λ (ps : List Part). GoesOn list ps (called ++ 40 ∷ []) (IsCanonicalText tree))
+            (sym (append-nil (Close ∷ arguments))) (at_tree tree there);
       }

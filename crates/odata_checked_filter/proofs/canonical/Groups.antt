@@ -1,6 +1,7 @@
 -- What the walk that writes canonical text writes of an operand, in parentheses or without.
-use Rattle.std.proofs.Common.{◌≡◌, ◌∙◌, ℕ, ◌<◌, ◌≤◌, List, [], ◌∷◌, ◌++◌, append_assoc, Some, slice_get, true, false, refl, sym, subst, ap, arith}
+use Rattle.std.proofs.Common.{◌≡◌, ◌∙◌, ℕ, ◌<◌, ◌≤◌, List, [], ◌∷◌, ◌++◌, append-nil, append_assoc, Some, slice_get, Bool, true, false, refl, sym, subst, ap, arith}
 use Rattle.std.specs.Prelude.{nat_lt}
+use Rattle.std.proofs.lemmas.Bool.Decides.{nat_tests}
 use Rattle.odata_syntax.specs.CanonicalText.{IsCanonicalText, tree_level, tree_text}
 use Rattle.odata_syntax.specs.Grammar.{Level}
 use Rattle.odata_syntax.specs.Tree.{Tree}
@@ -8,11 +9,17 @@ use Rattle.odata_checked_filter.specs.declared.canonical_text.Part.{Part}
 use Rattle.odata_checked_filter.specs.declared.canonical_text.Part.TheVariants.{Close, Operand}
 use Rattle.odata_checked_filter.specs.declared.checked_node.CheckedNode.{CheckedNode}
 use Rattle.odata_checked_filter.specs.FlatTree.{FlatTree}
-use Rattle.odata_checked_filter.specs.private.CanonicalWalk.{GoesOn, IsPieceOf, IsPieceText, Piece, StandsThere, WritesNode, WritesPart, further, operand, plain}
+use Rattle.odata_checked_filter.specs.private.CanonicalWalk.{GoesOn, IsPieceOf, IsPieceText, Piece, StandsThere, WritesNode, WritesPart, closing, further, opening, operand, plain}
 use Rattle.odata_checked_filter.specs.private.KindTexts.{kind_level}
 use Rattle.odata_checked_filter.proofs.canonical.Arguments.{closing_weight}
 use Rattle.odata_checked_filter.proofs.canonical.Kinds.{level_there}
 use Rattle.odata_checked_filter.proofs.canonical.Leaves.{above, below, in_group, ungrouped}
+
+lower : (a b : ℕ) → nat_lt a b ≡ true → a < b
+lower a b h = grind (arith, nat_tests)
+
+not_lower : (a b : ℕ) → nat_lt a b ≡ false → b ≤ a
+not_lower a b h = grind (arith, nat_tests)
 
 module _ (list : FlatTree) (i : ℕ) (found : CheckedNode) (at : slice_get list.nodes i ≡ Some found) where
   -- where the node binds as tightly as needed, its text is the operand's
@@ -67,27 +74,39 @@ module _ (list : FlatTree) (i : ℕ) (found : CheckedNode) (at : slice_get list.
             (group level tree (text ++ texts.front) over of.there (g.whole texts.front texts.is_front));
       }
 
-  pub bare_written : (needed : ℕ) (before after : List ℕ) (parts new : List Part)
-      → needed ≤ kind_level found.kind → WritesNode list i before after parts new
-      → WritesPart list (Operand i needed) before after parts new
-  bare_written needed before after parts new fits writes = record {
+  bare_written : (needed : ℕ) (next : List Part) (before after : List ℕ) (parts new : List Part)
+      → needed ≤ kind_level found.kind → WritesNode list i next before after parts new
+      → WritesPart list (Operand i needed) next before after parts new
+  bare_written needed next before after parts new fits writes = record {
     parts = writes.parts;
     pushed = writes.pushed;
     lighter = omega (arith, writes.lighter);
     text = writes.text;
     written = writes.written;
-    goes_on = bare_goes needed writes.parts writes.text fits writes.goes_on;
+    goes_on = bare_goes needed (writes.parts ++ next) writes.text fits writes.goes_on;
   }
 
-  pub group_written : (needed : ℕ) (before between_texts after : List ℕ) (parts more new : List Part)
+  group_written : (needed : ℕ) (next : List Part) (before between_texts after : List ℕ) (parts more new : List Part)
       → kind_level found.kind < needed → between_texts ≡ before ++ 40 ∷ [] → more ≡ parts ++ Close ∷ []
-      → WritesNode list i between_texts after more new
-      → WritesPart list (Operand i needed) before after parts new
-  group_written needed before between_texts after parts more new tight opened closed writes = record {
+      → WritesNode list i next between_texts after more new
+      → WritesPart list (Operand i needed) next before after parts new
+  group_written needed next before between_texts after parts more new tight opened closed writes = record {
     parts = Close ∷ writes.parts;
     pushed = writes.pushed ∙ ap (λ (ps : List Part). ps ++ writes.parts) closed ∙ append_assoc parts (Close ∷ []) writes.parts;
-    lighter = omega (arith, writes.lighter, closing_weight list writes.parts);
+    lighter = omega (arith, writes.lighter, closing_weight list (writes.parts ++ next));
     text = 40 ∷ writes.text;
     written = writes.written ∙ ap (λ (t : List ℕ). t ++ writes.text) opened ∙ append_assoc before (40 ∷ []) writes.text;
-    goes_on = group_goes needed writes.parts writes.text tight writes.goes_on;
+    goes_on = group_goes needed (writes.parts ++ next) writes.text tight writes.goes_on;
   }
+
+  -- in parentheses, if it binds less tightly than needed
+  pub operand_written : (needed : ℕ) (next : List Part) (is_loose : Bool) (before between_texts after : List ℕ) (parts more new : List Part)
+      → is_loose ≡ nat_lt (kind_level found.kind) needed → between_texts ≡ before ++ opening is_loose → more ≡ parts ++ closing is_loose
+      → WritesNode list i next between_texts after more new
+      → WritesPart list (Operand i needed) next before after parts new
+  operand_written needed next true before between_texts after parts more new loose opened closed writes =
+      group_written needed next before between_texts after parts more new (lower (kind_level found.kind) needed (sym loose)) opened closed writes
+  operand_written needed next false before between_texts after parts more new loose opened closed writes =
+      bare_written needed next before after parts new (not_lower (kind_level found.kind) needed (sym loose))
+      (subst (λ (t : List ℕ). WritesNode list i next t after parts new) (opened ∙ append-nil before)
+      (subst (λ (ps : List Part). WritesNode list i next between_texts after ps new) (closed ∙ append-nil parts) writes))

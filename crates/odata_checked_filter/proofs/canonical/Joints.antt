@@ -48,20 +48,23 @@ goes list i tree level behind j =
           subst (IsCanonicalText tree) (sym all) (j.whole n.0 cut.back n.1 cut.is_back);
     }
 
+-- the node waits as a joint, and its first operand is next
 pub joins_written : (list : FlatTree) (i : ℕ) (level : Level) (behind : List Part) (text : List ℕ) (parts new : List Part)
     → ((tree : Tree) → StandsThere list i tree → Joins list i tree level behind)
     → (tree : Tree) → StandsThere list i tree
-    → new ≡ parts ++ (behind ++ joint_parts i level)
-    → WritesNode list i text text parts new
+    → new ≡ parts ++ (behind ++ Joint i ∷ [])
+    → WritesNode list i (operand_of (i + 1) level) text text parts new
 joins_written list i level behind text parts new joins tree there pushed =
     let j = joins tree there in
-    let sums : weight list (behind ++ joint_parts i level) ≡ weight list behind + weight list (joint_parts i level) =
-    sum_by-append (part_weight list) behind (joint_parts i level) in
+    let regroup : (behind ++ Joint i ∷ []) ++ operand_of (i + 1) level ≡ behind ++ joint_parts i level =
+    append_assoc behind (Joint i ∷ []) (operand_of (i + 1) level) in
+    let sums : weight list ((behind ++ Joint i ∷ []) ++ operand_of (i + 1) level) ≡ weight list behind + weight list (joint_parts i level) =
+    ap (weight list) regroup ∙ sum_by-append (part_weight list) behind (joint_parts i level) in
     record {
-      parts = behind ++ joint_parts i level;
+      parts = behind ++ Joint i ∷ [];
       pushed = pushed;
       lighter = omega (arith, sums, j.lighter);
       text = [];
       written = sym (append-nil text);
-      goes_on = λ t there. goes list i t level behind (joins t there);
+      goes_on = λ t there. subst (λ (ps : List Part). GoesOn list ps [] (IsCanonicalText t)) (sym regroup) (goes list i t level behind (joins t there));
     }

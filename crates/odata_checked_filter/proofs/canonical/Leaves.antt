@@ -118,7 +118,7 @@ name_there list i found spelling (node start stop shape) at named beside there =
 whole_written : (list : FlatTree) (i : ℕ) (text before after : List ℕ) (parts : List Part)
     → after ≡ before ++ text
     → ((tree : Tree) → StandsThere list i tree → IsCanonicalText tree text)
-    → WritesNode list i before after parts parts
+    → WritesNode list i [] before after parts parts
 whole_written list i text before after parts written is = record {
   parts = [];
   pushed = sym (append-nil parts);
@@ -135,20 +135,20 @@ whole_written list i text before after parts written is = record {
 pub literal_written : (list : FlatTree) (i : ℕ) (found : CheckedNode) (kind : LiteralKind) (value : ℕ) (spelling before after : List ℕ) (parts : List Part)
     → slice_get list.nodes i ≡ Some found → found.kind ≡ NodeKind.Literal kind value → slice_get list.texts i ≡ Some spelling
     → IsAppended (IsLiteralSpelling (literal_token kind) spelling) before after
-    → WritesNode list i before after parts parts
+    → WritesNode list i [] before after parts parts
 literal_written list i found kind value spelling before after parts at is beside added =
     whole_written list i added.text before after parts added.whole
     (λ tree there. literal_there list i found kind value spelling added.text tree at is beside added.is_text there)
 
 pub it_written : (list : FlatTree) (i : ℕ) (found : CheckedNode) (before after : List ℕ) (parts : List Part)
     → slice_get list.nodes i ≡ Some found → found.kind ≡ NodeKind.It → after ≡ before ++ codes "$it"
-    → WritesNode list i before after parts parts
+    → WritesNode list i [] before after parts parts
 it_written list i found before after parts at is added =
     whole_written list i (codes "$it") before after parts added (λ tree there. it_there list i found tree at is there)
 
 pub name_written : (list : FlatTree) (i : ℕ) (found : CheckedNode) (before after : List ℕ) (parts : List Part)
     → slice_get list.nodes i ≡ Some found → IsNamed found.kind → IsTextAdded list i before after
-    → WritesNode list i before after parts parts
+    → WritesNode list i [] before after parts parts
 name_written list i found before after parts at named text =
     whole_written list i text.spelling before after parts text.added
     (λ tree there. name_there list i found text.spelling tree at named text.beside there)

@@ -14,12 +14,12 @@ use Rattle.odata_signatures.specs.declared.function.Function.{Function}
 use Rattle.csdl_schema.specs.SchemaModel.{SchemaModel}
 use Rattle.odata_expression_types.specs.Typed.{Scope, with_variable}
 use Rattle.odata_checked_filter.specs.declared.canonical_text.Part.{Part}
-use Rattle.odata_checked_filter.specs.declared.canonical_text.Part.TheVariants.{Close}
+use Rattle.odata_checked_filter.specs.declared.canonical_text.Part.TheVariants.{Close, Joint}
 use Rattle.odata_checked_filter.specs.declared.checked_node.CheckedNode.{CheckedNode}
 use Rattle.odata_checked_filter.specs.declared.checked_node.NodeKind.{NodeKind}
 use Rattle.odata_checked_filter.specs.FlatTree.{FlatTree}
 use Rattle.odata_checked_filter.specs.Stands.{AllStand, Stands, text_of_shape}
-use Rattle.odata_checked_filter.specs.private.CanonicalWalk.{HasTreeAt, IsJointAt, StandsThere, WritesNode, arguments_of, behind_kind, joining_parts, node_weight, operand, operand_of, plain, stop_at}
+use Rattle.odata_checked_filter.specs.private.CanonicalWalk.{HasTreeAt, IsJointAt, StandsThere, WritesNode, arguments_of, behind_kind, node_weight, operand, operand_of, plain, stop_at}
 use Rattle.odata_checked_filter.specs.private.KindTexts.{IsJoining, first_level, joint_text, quantifier_joint}
 use Rattle.odata_checked_filter.proofs.flat.Children.{body_there, one_there, two_there}
 use Rattle.odata_checked_filter.proofs.flat.Standing.{stand_onward, stands_nonempty}
@@ -31,11 +31,13 @@ use Rattle.odata_checked_filter.proofs.canonical.Signs.{HasChild, child_there}
 
 -- what the node that stands there has behind its first operand
 joint_here : (list : FlatTree) (i : ℕ) (found : CheckedNode) (kind : NodeKind) (start stop : ℕ) (shape : Shape)
-    → slice_get list.nodes i ≡ Some found → found.kind ≡ kind → StandsThere list i (node start stop shape)
+    → slice_get list.nodes i ≡ Some found → found.kind ≡ kind → IsJoining kind → StandsThere list i (node start stop shape)
     → IsJointAt list i (joint_text kind (text_of_shape shape))
-joint_here list i found kind start stop shape at is there = record {
+joint_here list i found kind start stop shape at is joining there = record {
+  there = (node start stop shape, there);
   found = found;
   at = at;
+  joining = subst IsJoining (sym is) joining;
   beside = text_of_shape shape;
   text_at = there.stands.top.text_at;
   is = sym (ap (λ (k : NodeKind). joint_text k (text_of_shape shape)) is);
@@ -305,84 +307,85 @@ module _ (list : FlatTree) (i : ℕ) (found : CheckedNode) (at : slice_get list.
       let P : Shape → Type 0 = λ (s : Shape). StandsThere list i (node start stop s) → Joins list i (node start stop s) 0 [] in
       subst P (sym m.2)
       (λ here. only_joins list i start stop (47 ∷ m.1) (λ b. member b m.1) m.0 (member_only m.1)
-      (joint_here list i found (NodeKind.Member slot) start stop (member m.0 m.1) at is here) here) there
+      (joint_here list i found (NodeKind.Member slot) start stop (member m.0 m.1) at is tt here) here) there
   joins NodeKind.Count (node start stop shape) is joining there =
       let m = shape_there list i found NodeKind.Count start stop shape at is there in
       let P : Shape → Type 0 = λ (s : Shape). StandsThere list i (node start stop s) → Joins list i (node start stop s) 0 [] in
       subst P (sym m.1)
       (λ here. only_joins list i start stop (codes "/$count") count m.0 count_only
-      (joint_here list i found NodeKind.Count start stop (count m.0) at is here) here) there
+      (joint_here list i found NodeKind.Count start stop (count m.0) at is tt here) here) there
   joins NodeKind.AnyItem (node start stop shape) is joining there =
       let m = shape_there list i found NodeKind.AnyItem start stop shape at is there in
       let P : Shape → Type 0 = λ (s : Shape). StandsThere list i (node start stop s) → Joins list i (node start stop s) 0 [] in
       subst P (sym m.1)
       (λ here. only_joins list i start stop (codes "/any()") any_item m.0 any_only
-      (joint_here list i found NodeKind.AnyItem start stop (any_item m.0) at is here) here) there
+      (joint_here list i found NodeKind.AnyItem start stop (any_item m.0) at is tt here) here) there
   joins (NodeKind.Binary operator) (node start stop shape) is joining there =
       let m = shape_there list i found (NodeKind.Binary operator) start stop shape at is there in
       let behind = operand_of (stop_at list (i + 1)) (operator_level operator + 1) in
       let P : Shape → Type 0 = λ (s : Shape). StandsThere list i (node start stop s) → Joins list i (node start stop s) (operator_level operator) behind in
       subst P (sym m.2)
       (λ here. pair_joins list i start stop (32 ∷ (operator_word operator ++ 32 ∷ [])) (operator_level operator) (operator_level operator + 1) (binary operator) m.0 m.1
-      (operator_pair operator) (joint_here list i found (NodeKind.Binary operator) start stop (binary operator m.0 m.1) at is here) here) there
+      (operator_pair operator) (joint_here list i found (NodeKind.Binary operator) start stop (binary operator m.0 m.1) at is tt here) here) there
   joins (NodeKind.PairedRight operator number) (node start stop shape) is joining there =
       let m = shape_there list i found (NodeKind.PairedRight operator number) start stop shape at is there in
       let behind = operand_of (stop_at list (i + 1)) (operator_level operator + 1) in
       let P : Shape → Type 0 = λ (s : Shape). StandsThere list i (node start stop s) → Joins list i (node start stop s) (operator_level operator) behind in
       subst P (sym m.2)
       (λ here. pair_joins list i start stop (32 ∷ (operator_word operator ++ 32 ∷ [])) (operator_level operator) (operator_level operator + 1) (binary operator) m.0 m.1
-      (operator_pair operator) (joint_here list i found (NodeKind.PairedRight operator number) start stop (binary operator m.0 m.1) at is here) here) there
+      (operator_pair operator) (joint_here list i found (NodeKind.PairedRight operator number) start stop (binary operator m.0 m.1) at is tt here) here) there
   joins (NodeKind.PairedLeft operator number) (node start stop shape) is joining there =
       let m = shape_there list i found (NodeKind.PairedLeft operator number) start stop shape at is there in
       let behind = operand_of (stop_at list (i + 1)) (operator_level operator + 1) in
       let P : Shape → Type 0 = λ (s : Shape). StandsThere list i (node start stop s) → Joins list i (node start stop s) (operator_level operator) behind in
       subst P (sym m.2)
       (λ here. pair_joins list i start stop (32 ∷ (operator_word operator ++ 32 ∷ [])) (operator_level operator) (operator_level operator + 1) (binary operator) m.0 m.1
-      (operator_pair operator) (joint_here list i found (NodeKind.PairedLeft operator number) start stop (binary operator m.0 m.1) at is here) here) there
+      (operator_pair operator) (joint_here list i found (NodeKind.PairedLeft operator number) start stop (binary operator m.0 m.1) at is tt here) here) there
   joins NodeKind.Has (node start stop shape) is joining there =
       let m = shape_there list i found NodeKind.Has start stop shape at is there in
       let behind = operand_of (stop_at list (i + 1)) base_level in
       let P : Shape → Type 0 = λ (s : Shape). StandsThere list i (node start stop s) → Joins list i (node start stop s) primary_level behind in
       subst P (sym m.2)
       (λ here. pair_joins list i start stop (codes " has ") primary_level base_level has m.0 m.1 has_pair
-      (joint_here list i found NodeKind.Has start stop (has m.0 m.1) at is here) here) there
+      (joint_here list i found NodeKind.Has start stop (has m.0 m.1) at is tt here) here) there
   joins (NodeKind.PairedHas number) (node start stop shape) is joining there =
       let m = shape_there list i found (NodeKind.PairedHas number) start stop shape at is there in
       let behind = operand_of (stop_at list (i + 1)) base_level in
       let P : Shape → Type 0 = λ (s : Shape). StandsThere list i (node start stop s) → Joins list i (node start stop s) primary_level behind in
       subst P (sym m.2)
       (λ here. pair_joins list i start stop (codes " has ") primary_level base_level has m.0 m.1 has_pair
-      (joint_here list i found (NodeKind.PairedHas number) start stop (has m.0 m.1) at is here) here) there
+      (joint_here list i found (NodeKind.PairedHas number) start stop (has m.0 m.1) at is tt here) here) there
   joins NodeKind.InPath (node start stop shape) is joining there =
       let m = shape_there list i found NodeKind.InPath start stop shape at is there in
       let behind = operand_of (stop_at list (i + 1)) path_level in
       let P : Shape → Type 0 = λ (s : Shape). StandsThere list i (node start stop s) → Joins list i (node start stop s) primary_level behind in
       subst P (sym m.2)
       (λ here. pair_joins list i start stop (codes " in ") primary_level path_level in_path m.0 m.1 path_pair
-      (joint_here list i found NodeKind.InPath start stop (in_path m.0 m.1) at is here) here) there
+      (joint_here list i found NodeKind.InPath start stop (in_path m.0 m.1) at is tt here) here) there
   joins NodeKind.InList (node start stop shape) is joining there =
       let m = shape_there list i found NodeKind.InList start stop shape at is there in
       let behind = Close ∷ arguments_of list (stop_at list (i + 1)) (stop_at list i) in
       let P : Shape → Type 0 = λ (s : Shape). StandsThere list i (node start stop s) → Joins list i (node start stop s) primary_level behind in
       subst P (sym m.2)
-      (λ here. list_joins list i start stop m.0 m.1 (joint_here list i found NodeKind.InList start stop (in_list m.0 m.1) at is here) here) there
+      (λ here. list_joins list i start stop m.0 m.1 (joint_here list i found NodeKind.InList start stop (in_list m.0 m.1) at is tt here) here) there
   joins (NodeKind.PairedList numbers) (node start stop shape) is joining there =
       let m = shape_there list i found (NodeKind.PairedList numbers) start stop shape at is there in
       let behind = Close ∷ arguments_of list (stop_at list (i + 1)) (stop_at list i) in
       let P : Shape → Type 0 = λ (s : Shape). StandsThere list i (node start stop s) → Joins list i (node start stop s) primary_level behind in
       subst P (sym m.2)
-      (λ here. list_joins list i start stop m.0 m.1 (joint_here list i found (NodeKind.PairedList numbers) start stop (in_list m.0 m.1) at is here) here) there
+      (λ here. list_joins list i start stop m.0 m.1 (joint_here list i found (NodeKind.PairedList numbers) start stop (in_list m.0 m.1) at is tt here) here) there
   joins (NodeKind.Lambda quantifier) (node start stop shape) is joining there =
       let m = shape_there list i found (NodeKind.Lambda quantifier) start stop shape at is there in
       let behind = Close ∷ operand_of (stop_at list (i + 1)) 0 in
       let P : Shape → Type 0 = λ (s : Shape). StandsThere list i (node start stop s) → Joins list i (node start stop s) 0 behind in
       subst P (sym m.3)
       (λ here. lambda_joins list i start stop quantifier m.0 m.1 m.2
-      (joint_here list i found (NodeKind.Lambda quantifier) start stop (lambda quantifier m.0 m.1 m.2) at is here) here) there
+      (joint_here list i found (NodeKind.Lambda quantifier) start stop (lambda quantifier m.0 m.1 m.2) at is tt here) here) there
   joins _ tree is joining there = absurd joining
 
   pub joined_written : (text : List ℕ) (parts new : List Part) → HasTreeAt list i → IsJoining found.kind
-      → new ≡ parts ++ joining_parts list found.kind i → WritesNode list i text text parts new
+      → new ≡ parts ++ (behind_kind list found.kind (stop_at list (i + 1)) (stop_at list i) ++ Joint i ∷ [])
+      → WritesNode list i (operand_of (i + 1) (first_level found.kind)) text text parts new
   joined_written text parts new tree joining pushed =
       joins_written list i (first_level found.kind) (behind_kind list found.kind (stop_at list (i + 1)) (stop_at list i)) text parts new
       (λ t there. joins found.kind t refl joining there) tree.0 tree.1 pushed

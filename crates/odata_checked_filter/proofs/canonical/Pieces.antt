@@ -9,9 +9,10 @@ use Rattle.odata_checked_filter.specs.declared.canonical_text.Part.{Part}
 use Rattle.odata_checked_filter.specs.declared.canonical_text.Part.TheVariants.{Close, Joint, Operand}
 use Rattle.odata_checked_filter.specs.declared.checked_node.CheckedNode.{CheckedNode}
 use Rattle.odata_checked_filter.specs.FlatTree.{FlatTree}
-use Rattle.odata_checked_filter.specs.private.CanonicalWalk.{ArePieceTexts, ArePiecesOf, IsBehind, IsJointAt, IsPending, IsPieceOf, IsPieceText, Piece, StandsThere, WritesPart, further, operand, part_weight, plain, weight}
+use Rattle.odata_checked_filter.specs.private.CanonicalWalk.{ArePieceTexts, ArePiecesOf, GoesOn, IsBehind, IsJointAt, IsPending, IsPieceOf, IsPieceText, Piece, StandsThere, WritesPart, behind_of, further, operand, part_weight, plain, spread, weight}
 use Rattle.odata_checked_filter.specs.private.KindTexts.{joint_text}
 use Rattle.odata_checked_filter.proofs.canonical.Leaves.{below, ungrouped}
+use Rattle.odata_checked_filter.proofs.canonical.Spreads.{on_stack}
 use Rattle.odata_checked_filter.proofs.flat.Places.{found_before, same_found}
 
 -- ---- pieces of two lists of parts
@@ -84,45 +85,56 @@ regrouped a b c d = simp append_assoc
 
 -- ---- a step
 
-pub has_piece : (list : FlatTree) (tree : Tree) (text : List ℕ) (parts : List Part) (part : Part)
-    → IsPending list tree text (parts ++ part ∷ []) → (piece : Piece) × IsPieceOf list part piece
-has_piece list tree text parts part pending =
+pub has_piece : (list : FlatTree) (W : List ℕ → Type 0) (text : List ℕ) (parts : List Part) (part : Part)
+    → GoesOn list (parts ++ part ∷ []) text W → (piece : Piece) × IsPieceOf list part piece
+has_piece list W text parts part pending =
     let halves = parted list parts (part ∷ []) pending.pieces pending.are in
     let one = one_piece list part halves.back halves.are_back in
     (one.piece, one.is)
 
-pub step : (list : FlatTree) (tree : Tree) (text after : List ℕ) (parts new : List Part) (part : Part)
-    → IsPending list tree text (parts ++ part ∷ []) → WritesPart list part text after parts new → IsPending list tree after new
-step list tree text after parts new part pending writes =
+-- the last part was written, or its beginning, and others stand for the rest
+pub step_on : (list : FlatTree) (W : List ℕ → Type 0) (text after added : List ℕ) (parts more : List Part) (part : Part)
+    → GoesOn list (parts ++ part ∷ []) text W
+    → ((piece : Piece) → IsPieceOf list part piece → GoesOn list more added (IsPieceText piece))
+    → after ≡ text ++ added → GoesOn list (parts ++ more) after W
+step_on list W text after added parts more part pending goes_on written =
     let halves = parted list parts (part ∷ []) pending.pieces pending.are in
     let one = one_piece list part halves.back halves.are_back in
-    let more = writes.goes_on one.piece one.is in
+    let goes = goes_on one.piece one.is in
     let before : pending.pieces ≡ halves.front ++ one.piece ∷ [] = halves.whole ∙ ap (λ (ps : List Piece). halves.front ++ ps) one.alone in
     record {
-      pieces = halves.front ++ more.pieces;
-      are = subst (λ (ps : List Part). ArePiecesOf list ps (halves.front ++ more.pieces)) (sym writes.pushed)
-          (joined list parts writes.parts halves.front more.pieces halves.are_front more.are);
+      pieces = halves.front ++ goes.pieces;
+      are = joined list parts more halves.front goes.pieces halves.are_front goes.are;
       whole = λ rest are.
-          let cut = split_texts halves.front more.pieces rest are in
-          let single : ArePieceTexts (one.piece ∷ []) (writes.text ++ cut.front) =
-          record { front = []; back = writes.text ++ cut.front; is_front = refl; is_back = more.whole cut.front cut.is_front; whole = refl } in
-          let all = join_texts halves.front (one.piece ∷ []) (writes.text ++ cut.front) cut.back single cut.is_back in
-          let same : after ++ rest ≡ text ++ ((writes.text ++ cut.front) ++ cut.back) =
-          ap (λ (t : List ℕ). t ++ rest) writes.written ∙ ap (λ (t : List ℕ). (text ++ writes.text) ++ t) cut.whole
-          ∙ regrouped text writes.text cut.front cut.back in
-          subst (IsCanonicalText tree) (sym same)
-          (pending.whole ((writes.text ++ cut.front) ++ cut.back)
-          (subst (λ (ps : List Piece). ArePieceTexts ps ((writes.text ++ cut.front) ++ cut.back)) (sym before) all));
+          let cut = split_texts halves.front goes.pieces rest are in
+          let single : ArePieceTexts (one.piece ∷ []) (added ++ cut.front) =
+          record { front = []; back = added ++ cut.front; is_front = refl; is_back = goes.whole cut.front cut.is_front; whole = refl } in
+          let all = join_texts halves.front (one.piece ∷ []) (added ++ cut.front) cut.back single cut.is_back in
+          let same : after ++ rest ≡ text ++ ((added ++ cut.front) ++ cut.back) =
+          ap (λ (t : List ℕ). t ++ rest) written ∙ ap (λ (t : List ℕ). (text ++ added) ++ t) cut.whole
+          ∙ regrouped text added cut.front cut.back in
+          subst W (sym same)
+          (pending.whole ((added ++ cut.front) ++ cut.back)
+          (subst (λ (ps : List Piece). ArePieceTexts ps ((added ++ cut.front) ++ cut.back)) (sym before) all));
     }
 
-pub lighter_now : (list : FlatTree) (text after : List ℕ) (parts new : List Part) (part : Part)
-    → WritesPart list part text after parts new → weight list new < weight list (parts ++ part ∷ [])
+pub step : (list : FlatTree) (tree : Tree) (text after : List ℕ) (parts new : List Part) (part : Part)
+    → IsPending list tree text (parts ++ part ∷ []) → WritesPart list part [] text after parts new → IsPending list tree after new
+step list tree text after parts new part pending writes =
+    subst (λ (ps : List Part). IsPending list tree after ps) (sym writes.pushed)
+    (step_on list (IsCanonicalText tree) text after writes.text parts writes.parts part pending
+    (λ piece of. subst (λ (ps : List Part). GoesOn list ps writes.text (IsPieceText piece)) (append-nil writes.parts) (writes.goes_on piece of))
+    writes.written)
+
+lighter_now : (list : FlatTree) (text after : List ℕ) (parts new : List Part) (part : Part)
+    → WritesPart list part [] text after parts new → weight list new < weight list (parts ++ part ∷ [])
 lighter_now list text after parts new part writes =
     let now : weight list new ≡ weight list parts + weight list writes.parts =
     ap (weight list) writes.pushed ∙ sum_by-append (part_weight list) parts writes.parts in
     let then : weight list (parts ++ part ∷ []) ≡ weight list parts + weight list (part ∷ []) =
     sum_by-append (part_weight list) parts (part ∷ []) in
-    omega (arith, writes.lighter)
+    let rest : weight list (writes.parts ++ []) ≡ weight list writes.parts = ap (weight list) (append-nil writes.parts) in
+    omega (arith, writes.lighter, now, then, rest)
 
 -- ---- the first part and the last
 
@@ -153,7 +165,7 @@ at_end list tree text pending = end_with list tree text pending.pieces pending.a
 -- a part was written whole
 plain_part : (list : FlatTree) (part : Part) (text before after : List ℕ) (parts : List Part)
     → 0 < part_weight list part → after ≡ before ++ text → ((piece : Piece) → IsPieceOf list part piece → IsPieceText piece text)
-    → WritesPart list part before after parts parts
+    → WritesPart list part [] before after parts parts
 plain_part list part text before after parts heavy written is = record {
   parts = [];
   pushed = sym (append-nil parts);
@@ -173,7 +185,7 @@ close_text list (further trees) is = absurd is
 close_text list (operand level tree) is = absurd is
 
 pub close_part : (list : FlatTree) (before after : List ℕ) (parts : List Part)
-    → after ≡ before ++ 41 ∷ [] → WritesPart list Close before after parts parts
+    → after ≡ before ++ 41 ∷ [] → WritesPart list Close [] before after parts parts
 close_part list before after parts written = plain_part list Close (41 ∷ []) before after parts (omega arith) written (close_text list)
 
 -- the node of a joint is there
@@ -197,26 +209,30 @@ joint_is list i found beside at text_at (operand level tree) is = absurd is
 
 pub joint_part : (list : FlatTree) (i : ℕ) (found : CheckedNode) (beside before after : List ℕ) (parts : List Part)
     → slice_get list.nodes i ≡ Some found → slice_get list.texts i ≡ Some beside → after ≡ before ++ joint_text found.kind beside
-    → WritesPart list (Joint i) before after parts parts
+    → WritesPart list (Joint i) [] before after parts parts
 joint_part list i found beside before after parts at text_at written =
     plain_part list (Joint i) (joint_text found.kind beside) before after parts (omega arith) written (joint_is list i found beside at text_at)
 
 -- ---- what the stack holds
 
 pub begun : (list : FlatTree) (tree : Tree) (text : List ℕ) (parts : List Part)
-    → StandsThere list 0 tree → text ≡ [] → parts ≡ Operand 0 0 ∷ [] → IsPending list tree text parts
+    → StandsThere list 0 tree → text ≡ [] → parts ≡ Operand 0 0 ∷ [] → IsPending list tree text (spread list parts)
 begun list tree text parts there empty one =
-    subst (λ (t : List ℕ). IsPending list tree t parts) (sym empty)
-    (subst (λ (ps : List Part). IsPending list tree [] ps) (sym one) (at_start list tree there))
+    subst (λ (t : List ℕ). IsPending list tree t (spread list parts)) (sym empty)
+    (subst (λ (ps : List Part). IsPending list tree [] (spread list ps)) (sym one) (at_start list tree there))
 
 pub on_top : (list : FlatTree) (tree : Tree) (text : List ℕ) (all parts : List Part) (part : Part)
-    → all ≡ parts ++ part ∷ [] → IsPending list tree text all → IsPending list tree text (parts ++ part ∷ [])
-on_top list tree text all parts part same pending = subst (λ (ps : List Part). IsPending list tree text ps) same pending
+    → all ≡ parts ++ part ∷ [] → IsPending list tree text (spread list all)
+    → IsPending list tree text ((spread list parts ++ behind_of list part) ++ part ∷ [])
+on_top list tree text all parts part same pending =
+    subst (λ (ps : List Part). IsPending list tree text ps) (on_stack list all parts part same) pending
 
 pub lighter_than : (list : FlatTree) (text after : List ℕ) (all parts new : List Part) (part : Part)
-    → all ≡ parts ++ part ∷ [] → WritesPart list part text after parts new → weight list new < weight list all
+    → all ≡ parts ++ part ∷ [] → WritesPart list part [] text after (spread list parts ++ behind_of list part) new
+    → weight list new < weight list (spread list all)
 lighter_than list text after all parts new part same writes =
-    subst (λ (ps : List Part). weight list new < weight list ps) (sym same) (lighter_now list text after parts new part writes)
+    subst (λ (ps : List Part). weight list new < weight list ps) (sym (on_stack list all parts part same))
+    (lighter_now list text after (spread list parts ++ behind_of list part) new part writes)
 
 emptied : (o : Option Part) (all new : List Part) (n m : ℕ) → o ≡ None → all ≡ new ++ option_to_list o
     → MatchOption o ((n ≡ 0) × (m ≡ 0)) (λ _. m + 1 ≡ n) → new ≡ take (n - 1) all → all ≡ []
@@ -229,6 +245,6 @@ emptied (Some x) all new n m is items cases rest = cc
 
 pub ended : (list : FlatTree) (tree : Tree) (text : List ℕ) (o : Option Part) (all new : List Part) (n m : ℕ)
     → o ≡ None → all ≡ new ++ option_to_list o → MatchOption o ((n ≡ 0) × (m ≡ 0)) (λ _. m + 1 ≡ n) → new ≡ take (n - 1) all
-    → IsPending list tree text all → IsCanonicalText tree text
+    → IsPending list tree text (spread list all) → IsCanonicalText tree text
 ended list tree text o all new n m is items cases rest pending =
-    at_end list tree text (subst (λ (ps : List Part). IsPending list tree text ps) (emptied o all new n m is items cases rest) pending)
+    at_end list tree text (subst (λ (ps : List Part). IsPending list tree text (spread list ps)) (emptied o all new n m is items cases rest) pending)

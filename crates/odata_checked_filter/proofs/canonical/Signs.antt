@@ -1,15 +1,16 @@
 -- What the walk that writes canonical text writes of `-` and `not`.
-use Rattle.std.proofs.Common.{◌≡◌, ◌∙◌, ℕ, ◌+◌, ◌*◌, ◌-◌, ◌<◌, List, [], ◌∷◌, ◌++◌, append_assoc, refl, sym, subst, ap, arith}
+use Rattle.std.proofs.Common.{◌≡◌, ◌∙◌, ℕ, ◌+◌, ◌*◌, ◌-◌, ◌<◌, List, [], ◌∷◌, ◌++◌, append-nil, Some, slice_get, refl, sym, subst, ap, arith}
 use Rattle.std.specs.Prelude.{codes}
 use Rattle.odata_syntax.specs.CanonicalText.{IsCanonicalText, grouped, shape_text, tree_level, tree_text}
 use Rattle.odata_syntax.specs.Grammar.{unary_level}
 use Rattle.odata_syntax.specs.NormalForm.{IsNormalForm, IsNormalShape}
 use Rattle.odata_syntax.specs.Tree.{Shape, Tree, logical_not, negation, node}
 use Rattle.odata_checked_filter.specs.declared.canonical_text.Part.{Part}
+use Rattle.odata_checked_filter.specs.declared.checked_node.CheckedNode.{CheckedNode}
 use Rattle.odata_checked_filter.specs.declared.checked_node.NodeKind.{NodeKind}
 use Rattle.odata_checked_filter.specs.FlatTree.{FlatTree}
 use Rattle.odata_checked_filter.specs.Stands.{Stands}
-use Rattle.odata_checked_filter.specs.private.CanonicalWalk.{GoesOn, HasTreeAt, IsSign, IsSignAt, StandsThere, WritesNode, node_weight, operand, operand_of, stop_at}
+use Rattle.odata_checked_filter.specs.private.CanonicalWalk.{GoesOn, HasTreeAt, StandsThere, WritesNode, node_weight, operand, operand_of, stop_at}
 use Rattle.odata_checked_filter.proofs.flat.Children.{one_there}
 use Rattle.odata_checked_filter.proofs.flat.Standing.{stands_nonempty}
 use Rattle.odata_checked_filter.proofs.canonical.Kinds.{Matches, shape_there}
@@ -61,21 +62,7 @@ not_sign = record {
   child = λ list i start stop o there. child_there list i (node start stop (logical_not o)) o there (one_there there.schema there.filtered there.scope list (i + 1) there.stop o there.stands.children);
 }
 
--- a shape of a sign with its operand
-record IsSigned (sign : List ℕ) (shape : Shape) : Type 0 where
-  of : Tree → Shape
-  is : IsSignOf sign of
-  operand_tree : Tree
-  same : shape ≡ of operand_tree
-
-signed : (kind : NodeKind) (word : List ℕ) (shape : Shape) → IsSign kind word → Matches kind shape → IsSigned (word ++ 32 ∷ []) shape
-signed NodeKind.Neg word shape is m =
-    subst (λ (w : List ℕ). IsSigned (w ++ 32 ∷ []) shape) (sym is) (record { of = negation; is = negation_sign; operand_tree = m.0; same = m.1 })
-signed NodeKind.Not word shape is m =
-    subst (λ (w : List ℕ). IsSigned (w ++ 32 ∷ []) shape) (sym is) (record { of = logical_not; is = not_sign; operand_tree = m.0; same = m.1 })
-signed _ word shape is m = absurd is
-
--- ---- the operand behind the sign
+-- ---- it is written
 
 goes : (list : FlatTree) (i start stop : ℕ) (sign : List ℕ) (of : Tree → Shape) (o : Tree) → IsSignOf sign of
     → StandsThere list i (node start stop (of o))
@@ -96,39 +83,44 @@ goes list i start stop sign of o is there =
           };
     }
 
-signed_there : (list : FlatTree) (i : ℕ) (word : List ℕ) (start stop : ℕ) (shape : Shape) → IsSignAt list i word → StandsThere list i (node start stop shape) → IsSigned (word ++ 32 ∷ []) shape
-signed_there list i word start stop shape is there =
-    signed is.found.kind word shape is.is (shape_there list i is.found is.found.kind start stop shape is.at refl there)
+module _ (list : FlatTree) (i : ℕ) (found : CheckedNode) (kind : NodeKind) (at : slice_get list.nodes i ≡ Some found) (is : found.kind ≡ kind)
+    (sign : List ℕ) (of : Tree → Shape) (signs : IsSignOf sign of)
+    (signed : (shape : Shape) → Matches kind shape → (o : Tree) × (shape ≡ of o)) where
+  goes_at : (tree : Tree) → StandsThere list i tree → GoesOn list (operand_of (i + 1) unary_level) sign (IsCanonicalText tree)
+  goes_at (node start stop shape) there =
+      let s = signed shape (shape_there list i found kind start stop shape at is there) in
+      let P : Shape → Type 0 = λ (x : Shape). StandsThere list i (node start stop x)
+      → GoesOn list (operand_of (i + 1) unary_level) sign (IsCanonicalText (node start stop x)) in
+      subst P (sym s.1) (goes list i start stop sign of s.0 signs) there
 
-goes_at : (list : FlatTree) (i : ℕ) (word : List ℕ) → IsSignAt list i word → (tree : Tree) → StandsThere list i tree
-    → GoesOn list (operand_of (i + 1) unary_level) (word ++ 32 ∷ []) (IsCanonicalText tree)
-goes_at list i word is (node start stop shape) there =
-    let sign = word ++ 32 ∷ [] in
-    let s = signed_there list i word start stop shape is there in
-    let P : Shape → Type 0 = λ (x : Shape). StandsThere list i (node start stop x)
-    → GoesOn list (operand_of (i + 1) unary_level) sign (IsCanonicalText (node start stop x)) in
-    subst P (sym s.same) (goes list i start stop sign s.of s.operand_tree s.is) there
+  light : (tree : Tree) → StandsThere list i tree → node_weight list (i + 1) + 3 < node_weight list i
+  light (node start stop shape) there =
+      let s = signed shape (shape_there list i found kind start stop shape at is there) in
+      let P : Shape → Type 0 = λ (x : Shape). StandsThere list i (node start stop x) in
+      let child = signs.child list i start stop s.0 (subst P s.1 there) in
+      child.lighter
 
-light : (list : FlatTree) (i : ℕ) (word : List ℕ) (tree : Tree) → IsSignAt list i word → StandsThere list i tree
-    → node_weight list (i + 1) + 3 < node_weight list i
-light list i word (node start stop shape) is there =
-    let s = signed_there list i word start stop shape is there in
-    let P : Shape → Type 0 = λ (x : Shape). StandsThere list i (node start stop x) in
-    let child = s.is.child list i start stop s.operand_tree (subst P s.same there) in
-    child.lighter
+  sign_written : (before after : List ℕ) (parts : List Part) → HasTreeAt list i → after ≡ before ++ sign
+      → WritesNode list i (operand_of (i + 1) unary_level) before after parts parts
+  sign_written before after parts has written =
+      let lighter : node_weight list (i + 1) + 3 < node_weight list i = light has.0 has.1 in
+      record {
+        parts = [];
+        pushed = sym (append-nil parts);
+        lighter = omega (arith, lighter);
+        text = sign;
+        written = written;
+        goes_on = goes_at;
+      }
 
--- ---- it is written
+pub neg_written : (list : FlatTree) (i : ℕ) (found : CheckedNode) (before after : List ℕ) (parts : List Part)
+    → slice_get list.nodes i ≡ Some found → found.kind ≡ NodeKind.Neg → HasTreeAt list i → after ≡ before ++ codes "- "
+    → WritesNode list i (operand_of (i + 1) unary_level) before after parts parts
+neg_written list i found before after parts at is has written =
+    sign_written list i found NodeKind.Neg at is (codes "- ") negation negation_sign (λ shape m. (m.0, m.1)) before after parts has written
 
-pub sign_written : (list : FlatTree) (i : ℕ) (word before after : List ℕ) (parts new : List Part)
-    → HasTreeAt list i → IsSignAt list i word → after ≡ (before ++ word) ++ 32 ∷ [] → new ≡ parts ++ operand_of (i + 1) unary_level
-    → WritesNode list i before after parts new
-sign_written list i word before after parts new has is written pushed =
-    let lighter : node_weight list (i + 1) + 3 < node_weight list i = light list i word has.0 is has.1 in
-    record {
-      parts = operand_of (i + 1) unary_level;
-      pushed = pushed;
-      lighter = omega (arith, lighter);
-      text = word ++ 32 ∷ [];
-      written = written ∙ append_assoc before word (32 ∷ []);
-      goes_on = goes_at list i word is;
-    }
+pub not_written : (list : FlatTree) (i : ℕ) (found : CheckedNode) (before after : List ℕ) (parts : List Part)
+    → slice_get list.nodes i ≡ Some found → found.kind ≡ NodeKind.Not → HasTreeAt list i → after ≡ before ++ codes "not "
+    → WritesNode list i (operand_of (i + 1) unary_level) before after parts parts
+not_written list i found before after parts at is has written =
+    sign_written list i found NodeKind.Not at is (codes "not ") logical_not not_sign (λ shape m. (m.0, m.1)) before after parts has written

@@ -1,5 +1,5 @@
 -- For private clauses: what the walk that writes the canonical text of a list has still to write.
-use Rattle.std.specs.Prelude.{◌≡◌, ℕ, ◌+◌, ◌*◌, ◌-◌, ◌<◌, List, [], ◌∷◌, ◌++◌, Some, codes, if◌then◌else◌, nat_lt, option_map, slice_get, sum_by, unwrap_or}
+use Rattle.std.specs.Prelude.{◌≡◌, ℕ, ◌+◌, ◌*◌, ◌-◌, ◌<◌, ◌≤◌, List, [], ◌∷◌, ◌++◌, Bool, true, false, Option, None, Some, codes, if◌then◌else◌, nat_lt, option_map, slice_get, sum_by, unwrap_or}
 use Rattle.odata_syntax.specs.CanonicalText.{IsCanonicalText, further_text, grouped, tree_level, tree_text}
 use Rattle.odata_syntax.specs.Grammar.{Level, base_level, operator_level, path_level}
 use Rattle.odata_syntax.specs.NormalForm.{AreNormalForms, IsNormalForm}
@@ -12,7 +12,7 @@ use Rattle.odata_checked_filter.specs.declared.checked_node.NodeKind.{NodeKind}
 use Rattle.odata_signatures.specs.Functions.{row_of}
 use Rattle.odata_checked_filter.specs.FlatTree.{FlatTree}
 use Rattle.odata_checked_filter.specs.Stands.{AllStand, Stands}
-use Rattle.odata_checked_filter.specs.private.KindTexts.{first_level, joint_text, kind_word}
+use Rattle.odata_checked_filter.specs.private.KindTexts.{IsJoining, joint_text}
 use Rattle.odata_expression_types.specs.Typed.{Scope}
 
 -- the nodes from the i-th on stand for the tree, in some schema and scope
@@ -27,14 +27,14 @@ pub record StandsThere (list : FlatTree) (i : ℕ) (tree : Tree) : Type 0 where
 abbrev pub HasTreeAt : FlatTree → ℕ → Type 0
 HasTreeAt list i = (tree : Tree) × StandsThere list i tree
 
--- trees stand there, one behind another
+-- trees stand there, one after another
 pub record AllThere (list : FlatTree) (i j : ℕ) (trees : Trees) : Type 0 where
   pub schema : SchemaModel
   pub filtered : ℕ
   pub scope : Scope
   pub stand : AllStand schema filtered scope list i j trees
 
--- what is still to be written: some text as it is, further arguments each behind a comma, and an operand whose place
+-- what is still to be written: some text as it is, further arguments each after a comma, and an operand whose place
 -- needs a level
 pub data Piece : Type 0 where
   plain : List ℕ → Piece
@@ -65,10 +65,12 @@ pub record IsOperandOf (list : FlatTree) (place needed level : ℕ) (tree : Tree
   pub same : needed ≡ level
   pub there : StandsThere list place tree
 
--- a node stands there that has this behind its first operand
+-- a node stands there that has this after its first operand
 pub record IsJointAt (list : FlatTree) (place : ℕ) (text : List ℕ) : Type 0 where
+  pub there : HasTreeAt list place
   pub found : CheckedNode
   pub at : slice_get list.nodes place ≡ Some found
+  pub joining : IsJoining found.kind
   pub beside : List ℕ
   pub text_at : slice_get list.texts place ≡ Some beside
   pub is : text ≡ joint_text found.kind beside
@@ -102,31 +104,13 @@ part_weight list _ = 1
 abbrev pub weight : FlatTree → List Part → ℕ
 weight list parts = sum_by (part_weight list) parts
 
--- a text, and behind it what these parts stand for, are such a text
+-- a text, and after it what these parts stand for, are such a text
 pub record GoesOn (list : FlatTree) (parts : List Part) (text : List ℕ) (Whole : List ℕ → Type 0) : Type 0 where
   pub pieces : List Piece
   pub are : ArePiecesOf list parts pieces
   pub whole : (rest : List ℕ) → ArePieceTexts pieces rest → Whole (text ++ rest)
 
--- a part was written, or its beginning, and the rest was put on the stack
-pub record WritesPart (list : FlatTree) (part : Part) (before after : List ℕ) (old new : List Part) : Type 0 where
-  pub parts : List Part
-  pub pushed : new ≡ old ++ parts
-  pub lighter : weight list parts < part_weight list part
-  pub text : List ℕ
-  pub written : after ≡ before ++ text
-  pub goes_on : (piece : Piece) → IsPieceOf list part piece → GoesOn list parts text (IsPieceText piece)
-
--- the node at a place was written without parentheses, or its beginning, and the rest was put on the stack
-pub record WritesNode (list : FlatTree) (place : ℕ) (before after : List ℕ) (old new : List Part) : Type 0 where
-  pub parts : List Part
-  pub pushed : new ≡ old ++ parts
-  pub lighter : weight list parts + 1 < node_weight list place
-  pub text : List ℕ
-  pub written : after ≡ before ++ text
-  pub goes_on : (tree : Tree) → StandsThere list place tree → GoesOn list parts text (IsCanonicalText tree)
-
--- behind the text stands what the parts on the stack stand for, and the whole is the canonical text
+-- after the text stands what these parts stand for, and the whole is the canonical text
 abbrev pub IsPending : FlatTree → Tree → List ℕ → List Part → Type 0
 IsPending list tree text parts = GoesOn list parts text (IsCanonicalText tree)
 
@@ -143,7 +127,7 @@ arguments_of list place stop =
 abbrev pub comma_before : ℕ → ℕ → List ℕ
 comma_before place stop = if nat_lt place stop then 44 ∷ [] else []
 
--- what a node of a kind has behind its first operand and what stands there: its second operand stands at a place, and it
+-- what a node of a kind has after its first operand and what stands there: its second operand stands at a place, and it
 -- stops at another
 abbrev pub behind_kind : FlatTree → NodeKind → ℕ → ℕ → List Part
 behind_kind list (NodeKind.Binary operator) second stop = operand_of second (operator_level operator + 1)
@@ -157,22 +141,63 @@ behind_kind list (NodeKind.PairedList numbers) second stop = Close ∷ arguments
 behind_kind list (NodeKind.Lambda quantifier) second stop = Close ∷ operand_of second 0
 behind_kind list _ second stop = []
 
--- the operands of a node of a kind, the first one last, and what it has between them
-abbrev pub joining_parts : FlatTree → NodeKind → ℕ → List Part
-joining_parts list kind i =
-    behind_kind list kind (stop_at list (i + 1)) (stop_at list i) ++ (Joint i ∷ operand_of (i + 1) (first_level kind))
+-- what a part on the stack stands for beside its text: of a joint the operands after it
+abbrev pub behind_of : FlatTree → Part → List Part
+behind_of list (Joint place) =
+    unwrap_or (option_map (λ (found : CheckedNode).
+    behind_kind list found.kind (stop_at list (place + 1)) (stop_at list place)) (slice_get list.nodes place)) []
+behind_of list _ = []
 
--- the word of a sign
-abbrev pub IsSign : NodeKind → List ℕ → Type 0
-IsSign NodeKind.Neg word = word ≡ kind_word NodeKind.Neg
-IsSign NodeKind.Not word = word ≡ kind_word NodeKind.Not
-IsSign _ word = ⊥
+-- all that is still to be written while these parts are on the stack
+abbrev pub spread : FlatTree → List Part → List Part
+spread list [] = []
+spread list (part ∷ parts) = behind_of list part ++ (part ∷ spread list parts)
 
--- a sign of that word stands there
-pub record IsSignAt (list : FlatTree) (i : ℕ) (word : List ℕ) : Type 0 where
-  pub found : CheckedNode
-  pub at : slice_get list.nodes i ≡ Some found
-  pub is : IsSign found.kind word
+-- the first operand of the node at a place, whose place needs a level; or none
+abbrev pub first_operand : ℕ → Option ℕ → List Part
+first_operand place None = []
+first_operand place (Some level) = operand_of (place + 1) level
+
+-- the parentheses of an operand, if there are any
+abbrev pub opening : Bool → List ℕ
+opening true = 40 ∷ []
+opening false = []
+
+abbrev pub closing : Bool → List Part
+closing true = Close ∷ []
+closing false = []
+
+-- a part was written, or its beginning, and the rest was put after what is still to be written, but for what is next
+pub record WritesPart (list : FlatTree) (part : Part) (next : List Part) (before after : List ℕ) (old new : List Part)
+    : Type 0 where
+  pub parts : List Part
+  pub pushed : new ≡ old ++ parts
+  pub lighter : weight list (parts ++ next) < part_weight list part
+  pub text : List ℕ
+  pub written : after ≡ before ++ text
+  pub goes_on : (piece : Piece) → IsPieceOf list part piece → GoesOn list (parts ++ next) text (IsPieceText piece)
+
+-- the node at a place was written without parentheses, or its beginning, likewise
+pub record WritesNode (list : FlatTree) (place : ℕ) (next : List Part) (before after : List ℕ) (old new : List Part)
+    : Type 0 where
+  pub parts : List Part
+  pub pushed : new ≡ old ++ parts
+  pub lighter : weight list (parts ++ next) + 1 < node_weight list place
+  pub text : List ℕ
+  pub written : after ≡ before ++ text
+  pub goes_on : (tree : Tree) → StandsThere list place tree → GoesOn list (parts ++ next) text (IsCanonicalText tree)
+
+-- an operand was written up to the node that is next, and the rest was put after what is still to be written
+pub record WritesFront
+    (list : FlatTree) (place needed : ℕ) (next : List Part) (before after : List ℕ) (old new : List Part)
+    : Type 0 where
+  pub parts : List Part
+  pub pushed : new ≡ old ++ parts
+  pub lighter : weight list (parts ++ next) ≤ node_weight list place
+  pub text : List ℕ
+  pub written : after ≡ before ++ text
+  pub goes_on : (piece : Piece) → IsPieceOf list (Operand place needed) piece
+      → GoesOn list (parts ++ next) text (IsPieceText piece)
 
 -- a node of that kind calls the function of that name
 abbrev pub IsCallOf : NodeKind → List ℕ → Type 0
@@ -186,12 +211,12 @@ pub record IsCallAt (list : FlatTree) (i : ℕ) (called : List ℕ) : Type 0 whe
   pub at : slice_get list.nodes i ≡ Some found
   pub is : IsCallOf found.kind called
 
--- a comma was put behind, and the arguments behind it on the stack
+-- a comma was written, and the arguments after it were put on the stack
 pub record AreFurtherPut (list : FlatTree) (place stop : ℕ) (before after : List ℕ) (old new : List Part) : Type 0 where
   pub text : after ≡ before ++ comma_before place stop
   pub pending : new ≡ old ++ arguments_of list place stop
 
--- the text beside a node was put behind
+-- the text beside a node was written
 pub record IsTextAdded (list : FlatTree) (i : ℕ) (before after : List ℕ) : Type 0 where
   pub spelling : List ℕ
   pub beside : slice_get list.texts i ≡ Some spelling

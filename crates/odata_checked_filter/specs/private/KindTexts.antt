@@ -63,21 +63,25 @@ abbrev pub quantifier_joint : Quantifier → List ℕ
 quantifier_joint Quantifier.Any = codes "/any("
 quantifier_joint Quantifier.All = codes "/all("
 
--- what stands behind its first operand, up to the next one, where that name stands beside it
+-- what stands behind its first operand, up to the next one, where no name stands in that
+abbrev pub joint_word : NodeKind → List ℕ
+joint_word NodeKind.Count = codes "/$count"
+joint_word NodeKind.AnyItem = codes "/any()"
+joint_word (NodeKind.Binary operator) = spaced (operator_word operator)
+joint_word (NodeKind.PairedRight operator number) = spaced (operator_word operator)
+joint_word (NodeKind.PairedLeft operator number) = spaced (operator_word operator)
+joint_word NodeKind.Has = codes " has "
+joint_word (NodeKind.PairedHas number) = codes " has "
+joint_word NodeKind.InList = codes " in ("
+joint_word (NodeKind.PairedList numbers) = codes " in ("
+joint_word NodeKind.InPath = codes " in "
+joint_word _ = []
+
+-- the same, where that name stands beside it
 abbrev pub joint_text : NodeKind → List ℕ → List ℕ
 joint_text (NodeKind.Member slot) beside = 47 ∷ beside
-joint_text NodeKind.Count beside = codes "/$count"
-joint_text NodeKind.AnyItem beside = codes "/any()"
 joint_text (NodeKind.Lambda quantifier) beside = quantifier_joint quantifier ++ (beside ++ 58 ∷ [])
-joint_text (NodeKind.Binary operator) beside = spaced (kind_word (NodeKind.Binary operator))
-joint_text (NodeKind.PairedRight operator number) beside = spaced (kind_word (NodeKind.PairedRight operator number))
-joint_text (NodeKind.PairedLeft operator number) beside = spaced (kind_word (NodeKind.PairedLeft operator number))
-joint_text NodeKind.Has beside = spaced (kind_word NodeKind.Has)
-joint_text (NodeKind.PairedHas number) beside = spaced (kind_word (NodeKind.PairedHas number))
-joint_text NodeKind.InList beside = spaced (kind_word NodeKind.InList) ++ 40 ∷ []
-joint_text (NodeKind.PairedList numbers) beside = spaced (kind_word (NodeKind.PairedList numbers)) ++ 40 ∷ []
-joint_text NodeKind.InPath beside = spaced (kind_word NodeKind.InPath)
-joint_text _ beside = []
+joint_text kind beside = joint_word kind
 
 -- it has a first operand with something behind
 abbrev pub IsJoining : NodeKind → Type 0

@@ -3,9 +3,11 @@ use Rattle.std.proofs.Common.{◌≡◌, refl, ap, sym, ◌∙◌, ℕ, zero, su
 use Rattle.std.proofs.lemmas.List.{length-map, length-reverse, map-append, reverse-append, take_more}
 use Rattle.odata_syntax.specs.declared.node.Node.{Node}
 use Rattle.odata_syntax.specs.declared.syntax_list.SyntaxNode.{SyntaxNode}
-use Rattle.odata_syntax.specs.PostOrder.{AreFed, Texts, child_count, trees_in, trees_with}
-use Rattle.odata_syntax.specs.Tree.{Tree}
+use Rattle.odata_syntax.specs.declared.syntax_list.SyntaxKind.{SyntaxKind}
+use Rattle.odata_syntax.specs.PostOrder.{AreFed, Texts, child_count, shape_over, trees_in, trees_left, trees_with}
+use Rattle.odata_syntax.specs.Tree.{Shape, Tree, node}
 use Rattle.odata_syntax.specs.TreeView.{tree_of}
+use Rattle.odata_syntax.specs.private.Forests.{kept_text, shape_kept, trees_grown}
 use Rattle.odata_syntax.proofs.lists.Counts.{trees_length}
 use Rattle.odata_syntax.proofs.lists.Fronts.{next_fed}
 use Rattle.odata_syntax.proofs.lists.Pushed.{trees_push}
@@ -59,18 +61,41 @@ boxes_fed texts nodes k d boxes fed inside trees =
     let counted = trees_length texts (take k nodes) in
     omega arith
 
+-- the trees with one more node, by the text that it keeps
+kept_over : (kind : SyntaxKind) (text : List ℕ) (items : ℕ) (trees : List Tree) → shape_kept kind (kept_text kind text) items trees ≡ shape_over kind text items trees
+kept_over (SyntaxKind.Lit kind) text items trees = refl
+kept_over SyntaxKind.It text items trees = refl
+kept_over SyntaxKind.Name text items trees = refl
+kept_over SyntaxKind.Member text items trees = refl
+kept_over SyntaxKind.Count text items trees = refl
+kept_over SyntaxKind.Neg text items trees = refl
+kept_over SyntaxKind.Not text items trees = refl
+kept_over (SyntaxKind.Binary operator) text items trees = refl
+kept_over SyntaxKind.Has text items trees = refl
+kept_over SyntaxKind.InList text items trees = refl
+kept_over SyntaxKind.InPath text items trees = refl
+kept_over SyntaxKind.Call text items trees = refl
+kept_over SyntaxKind.AnyItem text items trees = refl
+kept_over (SyntaxKind.Lambda quantifier) text items trees = refl
+
+grown_with : (texts : Texts) (n : SyntaxNode) (text : List ℕ) (trees : List Tree) → text ≡ kept_text n.kind (texts n.text)
+    → trees_grown n.kind n.span n.count text trees ≡ trees_with texts n trees
+grown_with texts n text trees same =
+    ap (λ (t : List ℕ). trees_grown n.kind n.span n.count t trees) same
+    ∙ ap (λ (shape : Shape). node n.span.start n.span.stop shape ∷ trees_left n.kind n.count trees) (kept_over n.kind (texts n.text) n.count trees)
+
 -- and with it they are those of one more node
 pub boxes_grown :
-    (texts own : Texts) (nodes : List SyntaxNode) (k : ℕ) (d : SyntaxNode) (boxes grown : List Node)
+    (texts : Texts) (nodes : List SyntaxNode) (k : ℕ) (d : SyntaxNode) (text : List ℕ) (boxes grown : List Node)
     → k < length nodes
-    → own ≡ texts
+    → text ≡ kept_text (get_or nodes k d).kind (texts (get_or nodes k d).text)
     → reverse (map tree_of boxes) ≡ trees_in texts (take k nodes)
-    → reverse (map tree_of grown) ≡ trees_with own (get_or nodes k d) (reverse (map tree_of boxes))
+    → reverse (map tree_of grown) ≡ trees_grown (get_or nodes k d).kind (get_or nodes k d).span (get_or nodes k d).count text (reverse (map tree_of boxes))
     → reverse (map tree_of grown) ≡ trees_in texts (take (k + 1) nodes)
-boxes_grown texts own nodes k d boxes grown inside same trees grow =
+boxes_grown texts nodes k d text boxes grown inside same trees grow =
     let n : SyntaxNode = get_or nodes k d in
     grow
-    ∙ ap (λ (ts : Texts). trees_with ts n (reverse (map tree_of boxes))) same
+    ∙ grown_with texts n text (reverse (map tree_of boxes)) same
     ∙ ap (λ (ts : List Tree). trees_with texts n ts) trees
     ∙ sym (trees_push texts (take k nodes) n)
     ∙ ap (λ (ns : List SyntaxNode). trees_in texts ns) (sym (take_more nodes k d inside))

@@ -13,6 +13,7 @@ use Rattle.odata_syntax.specs.private.MachineView.{AreStarts, IsStart, machine_o
 use Rattle.odata_syntax.specs.private.ListSteps.{HasRead, read_tree, waiting_behind}
 use Rattle.odata_syntax.specs.PostOrder.{Texts, last_tree, last_trees, trees_before, trees_in, trees_with}
 use Rattle.odata_syntax.specs.Tree.{Tree, call, in_list, node, trees_of_list}
+use Rattle.odata_syntax.specs.private.PlaceGrowth.{no_place}
 use Rattle.odata_syntax.proofs.lists.Counts.{call_frame, drop_more, items_more, list_frame, some_tree}
 use Rattle.odata_syntax.proofs.lists.Pushed.{machine_by, machine_with, stack_push, trees_push, wait_machine}
 
@@ -58,8 +59,8 @@ close_step texts old new rest frame n stop is has frames at nodes close =
 
 pub list_close : (texts : Texts) (rest : List Frame) (start stop count : ℕ) (text : Span) (all : List Tree) → 0 < length all → IsStart (list_frame start count) (trees_before all)
     → close_at (waiting_of texts (list_frame start count) (trees_before all) ∷ stack_of texts rest (trees_outside (list_frame start count) (trees_before all))) (last_tree all) stop
-    ≡ Some (machine_at (stack_of texts rest (trees_before (trees_with texts (record { kind = SyntaxKind.InList; span = record { start = start; stop = stop }; text = text; count = count + 1 }) all)))
-    (closed (last_tree (trees_with texts (record { kind = SyntaxKind.InList; span = record { start = start; stop = stop }; text = text; count = count + 1 }) all))))
+    ≡ Some (machine_at (stack_of texts rest (trees_before (trees_with texts (record { kind = SyntaxKind.InList; span = record { start = start; stop = stop }; text = text; count = count + 1; place = no_place }) all)))
+    (closed (last_tree (trees_with texts (record { kind = SyntaxKind.InList; span = record { start = start; stop = stop }; text = text; count = count + 1; place = no_place }) all))))
 list_close texts rest start stop count text all some starts =
     ap (λ (s : ℕ). Some (machine_at (stack_of texts rest (trees_before (drop count (trees_before all)))) (closed (node s stop (in_list (last_tree (drop count (trees_before all))) (trees_of_list (last_trees count (trees_before all) ++ last_tree all ∷ []))))))) (sym starts)
     ∙ ap (λ (xs : List Tree). Some (machine_at (stack_of texts rest (trees_before (drop count (trees_before all)))) (closed (node start stop (in_list (last_tree (drop count (trees_before all))) (trees_of_list xs)))))) (sym (items_more count all some))
@@ -67,8 +68,8 @@ list_close texts rest start stop count text all some starts =
 
 pub call_close : (texts : Texts) (rest : List Frame) (start stop count : ℕ) (name : Span) (all : List Tree) → 0 < length all → IsStart (call_frame start name count) (trees_before all)
     → close_at (waiting_of texts (call_frame start name count) (trees_before all) ∷ stack_of texts rest (trees_outside (call_frame start name count) (trees_before all))) (last_tree all) stop
-    ≡ Some (machine_at (stack_of texts rest (trees_before (trees_with texts (record { kind = SyntaxKind.Call; span = record { start = start; stop = stop }; text = name; count = count + 1 }) all)))
-    (closed (last_tree (trees_with texts (record { kind = SyntaxKind.Call; span = record { start = start; stop = stop }; text = name; count = count + 1 }) all))))
+    ≡ Some (machine_at (stack_of texts rest (trees_before (trees_with texts (record { kind = SyntaxKind.Call; span = record { start = start; stop = stop }; text = name; count = count + 1; place = no_place }) all)))
+    (closed (last_tree (trees_with texts (record { kind = SyntaxKind.Call; span = record { start = start; stop = stop }; text = name; count = count + 1; place = no_place }) all))))
 call_close texts rest start stop count name all some starts =
     ap (λ (xs : List Tree). Some (machine_at (stack_of texts rest (drop count (trees_before all))) (closed (node start stop (call (str_to_ascii_lowercase (texts name)) (trees_of_list xs)))))) (sym (items_more count all some))
     ∙ ap (λ (ys : List Tree). Some (machine_at (stack_of texts rest ys) (closed (node start stop (call (str_to_ascii_lowercase (texts name)) (trees_of_list (last_trees (count + 1) all))))))) (sym (drop_more count all some))

@@ -108,12 +108,14 @@ overfull_at ts i d m n h so_far shallow taken deep =
     }
 
 -- the loop's step
-pub loop_more : (ts : List Token) (i : ℕ) (d : Token) (m n : Machine) (x y a b : ℕ) → i < length ts → run (token_models (take i ts)) start ≡ Some m → IsShallow (token_models (take i ts)) → x ≡ open_count (token_models (take i ts)) → y ≡ close_count (token_models (take i ts)) → x ≤ i → y ≤ i → step m (token_model (get_or ts i d)) ≡ Some n → a ≡ cond (opens (get_or ts i d).kind) 1 0 → b ≡ cond (closes (get_or ts i d).kind) 1 0 → a ≤ 1 → b ≤ 1 → x + a ≤ (y + b) + depth_limit → record { taken : run (token_models (take (i + 1) ts)) start ≡ Some n; shallow : IsShallow (token_models (take (i + 1) ts)); opened : x + a ≡ open_count (token_models (take (i + 1) ts)); closed : y + b ≡ close_count (token_models (take (i + 1) ts)); opens_within : x + a ≤ i + 1; closes_within : y + b ≤ i + 1 }
-loop_more ts i d m n x y a b h so_far shallow is_opened is_closed opens_within closes_within taken is_a is_b one_a one_b fits =
+pub loop_more : (ts : List Token) (i : ℕ) (d : Token) (m n : Machine) (x y more_x more_y : ℕ) → i < length ts → run (token_models (take i ts)) start ≡ Some m → IsShallow (token_models (take i ts)) → x ≡ open_count (token_models (take i ts)) → y ≡ close_count (token_models (take i ts)) → x ≤ i → y ≤ i → step m (token_model (get_or ts i d)) ≡ Some n → more_x ≡ x + cond (opens (get_or ts i d).kind) 1 0 → more_y ≡ y + cond (closes (get_or ts i d).kind) 1 0 → more_x ≤ more_y + depth_limit → record { taken : run (token_models (take (i + 1) ts)) start ≡ Some n; shallow : IsShallow (token_models (take (i + 1) ts)); opened : more_x ≡ open_count (token_models (take (i + 1) ts)); closed : more_y ≡ close_count (token_models (take (i + 1) ts)); opens_within : more_x ≤ i + 1; closes_within : more_y ≤ i + 1 }
+loop_more ts i d m n x y more_x more_y h so_far shallow is_opened is_closed opens_within closes_within taken is_x is_y fits =
     let more_opens = opens_more ts i d h in
     let more_closes = closes_more ts i d h in
-    let all_opens : x + a ≡ open_count (token_models (take (i + 1) ts)) = omega arith in
-    let all_closes : y + b ≡ close_count (token_models (take (i + 1) ts)) = omega arith in
+    let one_x = at_most_one (opens (get_or ts i d).kind) in
+    let one_y = at_most_one (closes (get_or ts i d).kind) in
+    let all_opens : more_x ≡ open_count (token_models (take (i + 1) ts)) = omega arith in
+    let all_closes : more_y ≡ close_count (token_models (take (i + 1) ts)) = omega arith in
     record {
       taken = taken_more ts i d m n h so_far taken;
       shallow = shallow_more ts i d h shallow (omega arith);
@@ -124,8 +126,8 @@ loop_more ts i d m n x y a b h so_far shallow is_opened is_closed opens_within c
     }
 
 -- and where it stops for the depth
-pub loop_overfull : (ts : List Token) (i : ℕ) (d : Token) (m n : Machine) (opened closed a b : ℕ) → i < length ts → run (token_models (take i ts)) start ≡ Some m → IsShallow (token_models (take i ts)) → opened ≡ open_count (token_models (take i ts)) → closed ≡ close_count (token_models (take i ts)) → step m (token_model (get_or ts i d)) ≡ Some n → a ≡ cond (opens (get_or ts i d).kind) 1 0 → b ≡ cond (closes (get_or ts i d).kind) 1 0 → (closed + b) + depth_limit < opened + a → IsOverfull (token_models ts) (get_or ts i d).span
-loop_overfull ts i d m n opened closed a b h so_far shallow is_opened is_closed taken is_a is_b deep =
+pub loop_overfull : (ts : List Token) (i : ℕ) (d : Token) (m n : Machine) (opened closed more_opened more_closed : ℕ) → i < length ts → run (token_models (take i ts)) start ≡ Some m → IsShallow (token_models (take i ts)) → opened ≡ open_count (token_models (take i ts)) → closed ≡ close_count (token_models (take i ts)) → step m (token_model (get_or ts i d)) ≡ Some n → more_opened ≡ opened + cond (opens (get_or ts i d).kind) 1 0 → more_closed ≡ closed + cond (closes (get_or ts i d).kind) 1 0 → more_closed + depth_limit < more_opened → IsOverfull (token_models ts) (get_or ts i d).span
+loop_overfull ts i d m n opened closed more_opened more_closed h so_far shallow is_opened is_closed taken is_more_opened is_more_closed deep =
     let more_opens = opens_more ts i d h in
     let more_closes = closes_more ts i d h in
     overfull_at ts i d m n h so_far shallow taken (omega arith)

@@ -1,9 +1,8 @@
 -- The tokens of a text, read one after another, and the machine that takes them.
-use Rattle.std.proofs.Common.{◌≡◌, ◌≢◌, refl, ap, sym, subst, ◌∙◌, ℕ, ◌+◌, ◌<◌, ◌≤◌, List, [], ◌∷◌, ◌++◌, Bool, true, cond, length, slice_range, Option, None, Some, IsCharBoundary, append-nil, append_assoc, arith}
+use Rattle.std.proofs.Common.{◌≡◌, refl, ap, sym, subst, ◌∙◌, ℕ, ◌+◌, ◌<◌, ◌≤◌, List, [], ◌∷◌, ◌++◌, cond, length, slice_range, Option, None, Some, IsCharBoundary, append-nil, append_assoc, arith}
 use Rattle.std.proofs.lemmas.List.{length_push}
 use Rattle.odata_text.specs.declared.fault.TextFault.{TextFault}
 use Rattle.odata_text.specs.declared.scanner.Scanner.{Scanner}
-use Rattle.odata_text.specs.declared.span.Span.{Span}
 use Rattle.odata_text.specs.declared.token.Token.{Token}
 use Rattle.odata_text.specs.Scanning.{HasRead, IsFurther, IsReading, text_of, token_of}
 use Rattle.odata_text.specs.TokenModel.{TokenModel, token_model}
@@ -11,7 +10,7 @@ use Rattle.odata_text.specs.Tokens.{IsTextFault, IsTokenList}
 use Rattle.odata_syntax.specs.declared.parser.state.State.{State}
 use Rattle.odata_syntax.specs.declared.parser.text_parser.TextOrSyntaxFault.{TextOrSyntaxFault}
 use Rattle.odata_syntax.specs.declared.syntax_fault.SyntaxFault.{SyntaxFault}
-use Rattle.odata_syntax.specs.Front.{IsShallow, close_count, closes, depth_limit, open_count, opens}
+use Rattle.odata_syntax.specs.Front.{close_count, closes, depth_limit, open_count, opens}
 use Rattle.odata_syntax.specs.PostOrder.{Texts}
 use Rattle.odata_syntax.specs.TextTree.{IsTextRange, text_in}
 use Rattle.odata_syntax.specs.private.Machine.{Machine, run, start, step}
@@ -19,7 +18,7 @@ use Rattle.odata_syntax.specs.private.MachineView.{machine_of}
 use Rattle.odata_syntax.specs.private.Stops.{IsReached, RefusesOneOf}
 use Rattle.odata_syntax.specs.private.TextRun.{AreRangeTexts, BeginTokens, IsFirstAfter, IsRun, RefusesText, StopsText, TakesText}
 use Rattle.odata_syntax.proofs.machine.Depth.{close_count-snoc, open_count-snoc, shallow-nil, shallow-snoc, shallow-whole}
-use Rattle.odata_syntax.proofs.machine.Loop.{one_too_many, opens_no_close, room}
+use Rattle.odata_syntax.proofs.machine.Loop.{at_most_one, one_too_many, opens_no_close, room}
 use Rattle.odata_syntax.proofs.machine.Run.{run-snoc}
 
 -- The tokens so far.
@@ -44,6 +43,10 @@ taken_none scanner state read begun = record {
   opens_within = omega arith;
   closes_within = omega arith;
 }
+
+-- nowhere too deep, so not here
+pub taken_shallow : (scanner : Scanner) (state : State) (opened closed : ℕ) → HasTaken scanner state opened closed → opened ≤ closed + depth_limit
+taken_shallow scanner state opened closed has = omega (arith, shallow-whole has.list has.run.shallow, has.opens_is, has.closes_is)
 
 pub takes_all : (scanner : Scanner) (state : State) (opened closed : ℕ) (text : List ℕ) → text_of scanner ≡ text → HasTaken scanner state opened closed
     → ((list : List TokenModel) → HasRead scanner list → IsTokenList (text_of scanner) list) → TakesText text state
@@ -89,18 +92,18 @@ before_it : (old new : Scanner) (state : State) (opened closed : ℕ) (token : T
 before_it old new state opened closed token texts has next are =
     has.run.taken texts (subst (λ (t : List ℕ). AreRangeTexts t texts) next.further.text are)
 
-pub taken_more : (old new : Scanner) (state after : State) (opened closed a b : ℕ) (token : Token) → HasTaken old state opened closed → IsNextToken old new token
+pub taken_more : (old new : Scanner) (state after : State) (opened closed more_opened more_closed : ℕ) (token : Token) → HasTaken old state opened closed → IsNextToken old new token
     → StepsTo state token (λ (texts : Texts). Some (machine_of texts after))
-    → a ≡ cond (opens token.kind) 1 0 → b ≡ cond (closes token.kind) 1 0 → a ≤ 1 → b ≤ 1 → opened + a ≤ (closed + b) + depth_limit
-    → HasTaken new after (opened + a) (closed + b)
-taken_more old new state after opened closed a b token has next steps is_a is_b one_a one_b fits =
+    → more_opened ≡ opened + cond (opens token.kind) 1 0 → more_closed ≡ closed + cond (closes token.kind) 1 0 → more_opened ≤ more_closed + depth_limit
+    → HasTaken new after more_opened more_closed
+taken_more old new state after opened closed more_opened more_closed token has next steps is_opened is_closed fits =
     let p : TokenModel = token_of new in
     let kind : token.kind ≡ p.kind = ap (λ (m : TokenModel). m.kind) next.is in
     let size = length_push has.list p in
     let opened_more : open_count (has.list ++ p ∷ []) ≡ open_count has.list + cond (opens p.kind) 1 0 = open_count-snoc has.list p in
     let closed_more : close_count (has.list ++ p ∷ []) ≡ close_count has.list + cond (closes p.kind) 1 0 = close_count-snoc has.list p in
-    let a_is : a ≡ cond (opens p.kind) 1 0 = is_a ∙ ap (λ k. cond (opens k) 1 0) kind in
-    let b_is : b ≡ cond (closes p.kind) 1 0 = is_b ∙ ap (λ k. cond (closes k) 1 0) kind in
+    let a_is : more_opened ≡ opened + cond (opens p.kind) 1 0 = is_opened ∙ ap (λ k. opened + cond (opens k) 1 0) kind in
+    let b_is : more_closed ≡ closed + cond (closes p.kind) 1 0 = is_closed ∙ ap (λ k. closed + cond (closes k) 1 0) kind in
     let limit : open_count has.list + cond (opens p.kind) 1 0 ≤ (close_count has.list + cond (closes p.kind) 1 0) + depth_limit = omega (arith, fits, a_is, b_is, has.opens_is, has.closes_is) in
     let within : open_count has.list + cond (opens p.kind) 1 0 ≤ close_count has.list + depth_limit =
     room (opens p.kind) (closes p.kind) (open_count has.list) (close_count has.list) (shallow-whole has.list has.run.shallow) limit (opens_no_close p.kind) in
@@ -116,8 +119,8 @@ taken_more old new state after opened closed a b token has next steps is_a is_b 
       };
       opens_is = omega (arith, opened_more, a_is, has.opens_is);
       closes_is = omega (arith, closed_more, b_is, has.closes_is);
-      opens_within = omega (arith, size, one_a, has.opens_within);
-      closes_within = omega (arith, size, one_b, has.closes_within);
+      opens_within = omega (arith, size, a_is, at_most_one (opens p.kind), has.opens_within);
+      closes_within = omega (arith, size, b_is, at_most_one (closes p.kind), has.closes_within);
     }
 
 -- A token that is not taken.
@@ -157,19 +160,19 @@ stops_refused old new state opened closed token text (TextOrSyntaxFault.Syntax f
       refused = subst (λ (f : SyntaxFault). RefusesOneOf ((has.list ++ token_of new ∷ []) ++ found.1.later) f) (sym found.0) refused;
     })
 
-pub stops_too_deep : (old new : Scanner) (state after : State) (opened closed a b : ℕ) (token : Token) (text : List ℕ) (result : TextOrSyntaxFault) → text_of new ≡ text
+pub stops_too_deep : (old new : Scanner) (state after : State) (opened closed more_opened more_closed : ℕ) (token : Token) (text : List ℕ) (result : TextOrSyntaxFault) → text_of new ≡ text
     → HasTaken old state opened closed → IsNextToken old new token → StepsTo state token (λ texts. Some (machine_of texts after))
-    → a ≡ cond (opens token.kind) 1 0 → b ≡ cond (closes token.kind) 1 0 → (closed + b) + depth_limit < opened + a
+    → more_opened ≡ opened + cond (opens token.kind) 1 0 → more_closed ≡ closed + cond (closes token.kind) 1 0 → more_closed + depth_limit < more_opened
     → ((list : List TokenModel) → HasRead new list → IsFirstAfter (text_of new) list (SyntaxFault.TooDeep token.span) result)
     → StopsText text result
-stops_too_deep old new state after opened closed a b token text (TextOrSyntaxFault.Text fault) same has next steps is_a is_b deep first =
+stops_too_deep old new state after opened closed more_opened more_closed token text (TextOrSyntaxFault.Text fault) same has next steps is_opened is_closed deep first =
     subst (λ (t : List ℕ). IsTextFault t fault) same (first (has.list ++ token_of new ∷ []) (next.further.read has.list has.read))
-stops_too_deep old new state after opened closed a b token text (TextOrSyntaxFault.Syntax fault) same has next steps is_a is_b deep first = λ known.
+stops_too_deep old new state after opened closed more_opened more_closed token text (TextOrSyntaxFault.Syntax fault) same has next steps is_opened is_closed deep first = λ known.
     let p : TokenModel = token_of new in
     let kind : token.kind ≡ p.kind = ap (λ (m : TokenModel). m.kind) next.is in
     let found = first (has.list ++ p ∷ []) (next.further.read has.list has.read) in
-    let a_is : a ≡ cond (opens p.kind) 1 0 = is_a ∙ ap (λ k. cond (opens k) 1 0) kind in
-    let b_is : b ≡ cond (closes p.kind) 1 0 = is_b ∙ ap (λ k. cond (closes k) 1 0) kind in
+    let a_is : more_opened ≡ opened + cond (opens p.kind) 1 0 = is_opened ∙ ap (λ k. opened + cond (opens k) 1 0) kind in
+    let b_is : more_closed ≡ closed + cond (closes p.kind) 1 0 = is_closed ∙ ap (λ k. closed + cond (closes k) 1 0) kind in
     let passed : (close_count has.list + cond (closes p.kind) 1 0) + depth_limit < open_count has.list + cond (opens p.kind) 1 0 = omega (arith, deep, a_is, b_is, has.opens_is, has.closes_is) in
     let facts = one_too_many (opens p.kind) (closes p.kind) (open_count has.list) (close_count has.list) (shallow-whole has.list has.run.shallow) passed in
     let refused : RefusesOneOf ((has.list ++ p ∷ []) ++ found.1.later) (SyntaxFault.TooDeep token.span) = record {

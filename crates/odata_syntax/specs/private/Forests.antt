@@ -1,10 +1,12 @@
 -- Trees of boxes that grow with a list. For private clauses.
-use Rattle.std.specs.Prelude.{ℕ, List, [], Option, None, Some, map, reverse, slice_get}
+use Rattle.std.specs.Prelude.{ℕ, List, [], ◌∷◌, Option, None, Some, map, reverse, slice_get}
+use Rattle.std.specs.Str.{str_to_ascii_lowercase}
+use Rattle.odata_text.specs.declared.span.Span.{Span}
 use Rattle.odata_text.specs.declared.token.Token.{Token}
 use Rattle.odata_syntax.specs.declared.parser.expr_of_list.Forest.{Forest}
 use Rattle.odata_syntax.specs.declared.syntax_list.SyntaxKind.{SyntaxKind}
-use Rattle.odata_syntax.specs.PostOrder.{Texts}
-use Rattle.odata_syntax.specs.Tree.{Tree}
+use Rattle.odata_syntax.specs.PostOrder.{Texts, last_trees, shape_over, trees_left}
+use Rattle.odata_syntax.specs.Tree.{Shape, Tree, call, node, trees_of_list}
 use Rattle.odata_syntax.specs.TreeView.{tree_of}
 
 -- the text of a token, or none
@@ -19,6 +21,25 @@ token_texts tokens at = text_of_token (slice_get tokens at.start)
 -- the trees of a forest, the last one first
 abbrev pub forest_trees : Forest → List Tree
 forest_trees forest = reverse (map tree_of forest.trees.items)
+
+-- what a tree keeps of the text that the caller finds for a node: a call's in lower case, and nothing of a word
+abbrev pub kept_text : SyntaxKind → List ℕ → List ℕ
+kept_text (SyntaxKind.Lit kind) text = text
+kept_text SyntaxKind.Name text = text
+kept_text SyntaxKind.Member text = text
+kept_text (SyntaxKind.Lambda quantifier) text = text
+kept_text SyntaxKind.Call text = str_to_ascii_lowercase text
+kept_text _ text = []
+
+-- what a node is that keeps this text
+abbrev pub shape_kept : SyntaxKind → List ℕ → ℕ → List Tree → Shape
+shape_kept SyntaxKind.Call text items trees = call text (trees_of_list (last_trees items trees))
+shape_kept kind text items trees = shape_over kind text items trees
+
+-- the trees with one more node that keeps this text
+abbrev pub trees_grown : SyntaxKind → Span → ℕ → List ℕ → List Tree → List Tree
+trees_grown kind span items text trees =
+    node span.start span.stop (shape_kept kind text items trees) ∷ trees_left kind items trees
 
 -- a node over one tree, and over two
 abbrev pub IsOverOne : SyntaxKind → Type 0

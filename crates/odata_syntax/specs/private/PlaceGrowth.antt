@@ -1,9 +1,24 @@
 -- How the places of nodes grow: until all nodes have one, a place's number is how many trees begin with its node.
-use Rattle.std.specs.Prelude.{◌≡◌, ◌≢◌, ℕ, zero, suc, ◌+◌, ◌≤◌, ◌<◌, List, [], ◌∷◌, Some, length, slice_get}
+use Rattle.std.specs.Prelude.{◌≡◌, ◌≢◌, ℕ, zero, suc, ◌+◌, ◌≤◌, ◌<◌, List, [], ◌∷◌, Some, length, map, slice_get, take}
 use Rattle.odata_syntax.specs.declared.places.Place.{Place}
 use Rattle.odata_syntax.specs.declared.syntax_list.SyntaxNode.{SyntaxNode}
-use Rattle.odata_syntax.specs.Places.{BeginsBody, child_roots, first_at, first_over, lambda_at, nodes_before, roots_back, stop_at}
+use Rattle.odata_syntax.specs.Places.{BeginsBody, child_roots, first_at, first_over, lambda_at, nodes_before, places_of, roots_back, stop_at}
 use Rattle.odata_syntax.specs.PostOrder.{child_count}
+
+-- the place of a node whose tree has no end yet
+abbrev pub no_place : Place
+no_place = record { number = 0; first = 0; lambda = 0 }
+
+-- a node without its place, and all nodes without theirs
+abbrev pub unplaced : SyntaxNode → SyntaxNode
+unplaced n = record n { place = no_place }
+
+abbrev pub unplaced_nodes : List SyntaxNode → List SyntaxNode
+unplaced_nodes = map unplaced
+
+-- the places of the nodes before an index
+abbrev pub places_before : List SyntaxNode → ℕ → List Place
+places_before nodes index = take index (places_of nodes)
 
 -- how many trees begin before an index
 abbrev pub begun_before : List Place → ℕ → ℕ

@@ -7,8 +7,10 @@ ghost use Rattle.odata_syntax.specs.private.MachineView.{machine_of};
 ghost use Rattle.odata_syntax.specs.private.ListSteps.{HasRead, IfTaken, IsExpecting, IsNotRefused};
 ghost use Rattle.odata_syntax.specs.private.ListSteps.{IsSteadyState, IsStepTo};
 ghost use Rattle.odata_syntax.specs.private.ListSteps.{read_tree, waiting_behind, waiting_now};
+ghost use Rattle.odata_syntax.specs.private.PlaceGrowth.{no_place};
 
 use crate::parser::state::{Bracket, Frame, NO_TEXT, Stage, State, Step};
+use crate::places::NO_PLACE;
 use crate::syntax_list::{SyntaxKind, SyntaxNode};
 use odata_text::Span;
 
@@ -108,6 +110,7 @@ impl State {
                 span,
                 text: node.text,
                 count: node.count,
+                place: NO_PLACE,
             }),
             None => unreachable!(),
         }
@@ -116,7 +119,7 @@ impl State {
     /// Puts the node of what ends here, after its children.
     fn put_closed(&mut self, kind: SyntaxKind, span: Span, text: Span, count: usize) -> Step
         ensures put { IfTaken result (self.new.nodes.items ≡ self.old.nodes.items
-            ++ (record { kind = kind; span = span; text = text; count = count }) ∷ []) }
+            ++ (record { kind = kind; span = span; text = text; count = count; place = no_place }) ∷ []) }
         ensures frames { self.new.frames ≡ self.old.frames }
         ensures stage { self.new.stage ≡ Stage.Closed }
         ensures taken { IsNotRefused result }
@@ -127,6 +130,7 @@ impl State {
             span,
             text,
             count,
+            place: NO_PLACE,
         })
     }
 

@@ -1,21 +1,20 @@
 //! The tree of boxes that a list stands for.
 ghost use Rattle.std.specs.Prelude.{◌≡◌, ◌∷◌, ◌≤◌, IfOk, drop, length, map, string_bytes};
 ghost use Rattle.odata_syntax.specs.TreeView.{tree_of};
-ghost use Rattle.odata_syntax.specs.PostOrder.{IsWholeTree, child_count, last_tree, last_trees, trees_in, trees_with};
-ghost use Rattle.odata_syntax.specs.private.Forests.{IsOverOne, IsOverTwo, forest_trees, token_texts};
+ghost use Rattle.odata_syntax.specs.PostOrder.{IsWholeTree, child_count, last_tree, last_trees, trees_in};
+ghost use Rattle.odata_syntax.specs.private.Forests.{IsOverOne, IsOverTwo, forest_trees, kept_text, token_texts};
+ghost use Rattle.odata_syntax.specs.private.Forests.{trees_grown};
 
 use crate::syntax_list::{SyntaxKind, SyntaxNode};
 use crate::{Node, Quantifier};
 use odata_text::{Span, Token};
 use std::alloc::{AllocError, Global};
 
-/// The trees of the nodes so far that are no child yet, the last one last, with the tokens by whose numbers they name
-/// their texts.
+/// The trees of the nodes so far that are no child yet, the last one last.
 #[derive(Drop)]
-struct Forest<'t> {
-    alloc: Global,
-    tokens: &'t [Token<'t>],
-    trees: Vec<Node>,
+pub(crate) struct Forest {
+    pub(crate) alloc: Global,
+    pub(crate) trees: Vec<Node>,
 }
 
 /// The root of the tree of a list, whose texts are those of the tokens.
@@ -29,21 +28,47 @@ pub(crate) fn root_of_list(
 {
     let mut forest = Forest {
         alloc,
-        tokens,
         trees: Vec::new(alloc),
     };
     for node in nodes {
-        forest.grow(node)?;
+        let text = text_of_node(alloc, node, tokens)?;
+        forest.grow(node.kind, node.span, node.count, text)?;
     }
     forest.child()
 }
 
-impl<'t> Forest<'t> {
+/// What the tree keeps of the text of a node's token: the name of a call in lower case, and nothing of a word.
+fn text_of_node(
+    alloc: Global,
+    node: &SyntaxNode,
+    tokens: &[Token<'_>],
+) -> Result<String, AllocError>
+    ensures { IfOk result (λ text. string_bytes text
+        ≡ kept_text node.now.kind (token_texts tokens.now node.now.text)) }
+{
+    let text = match tokens.get(node.text.start) {
+        Some(token) => token.text,
+        None => "",
+    };
+    match node.kind {
+        SyntaxKind::Lit(_) => String::from_str(alloc, text),
+        SyntaxKind::Name => String::from_str(alloc, text),
+        SyntaxKind::Member => String::from_str(alloc, text),
+        SyntaxKind::Lambda(_) => String::from_str(alloc, text),
+        SyntaxKind::Call => {
+            let mut name = String::from_str(alloc, text)?;
+            name.make_ascii_lowercase();
+            Ok(name)
+        }
+        _ => Ok(String::new(alloc)),
+    }
+}
+
+impl Forest {
     /// The last tree, as a child.
-    fn child(&mut self) -> Result<Box<Node>, AllocError>
+    pub(crate) fn child(&mut self) -> Result<Box<Node>, AllocError>
         requires { 1 ≤ length self.old.trees.items }
-        ensures child { IfOk result (λ child. forest_trees self.old ≡ tree_of child.value ∷ forest_trees self.new) }
-        ensures tokens { self.new.tokens ≡ self.old.tokens }
+        ensures { IfOk result (λ child. forest_trees self.old ≡ tree_of child.value ∷ forest_trees self.new) }
     {
         match self.trees.pop() {
             Some(tree) => Ok(Box::new(self.alloc, tree)?),
@@ -56,7 +81,6 @@ impl<'t> Forest<'t> {
         requires { count ≤ length self.old.trees.items }
         ensures items { IfOk result (λ items. map tree_of items.items ≡ last_trees count (forest_trees self.old)) }
         ensures left { IfOk result (λ _. forest_trees self.new ≡ drop count (forest_trees self.old)) }
-        ensures tokens { self.new.tokens ≡ self.old.tokens }
     {
         let mut items = Vec::with_capacity(self.alloc, count)?;
         for _ in 0..count {
@@ -69,86 +93,71 @@ impl<'t> Forest<'t> {
         Ok(items)
     }
 
-    /// The text of the token of that number.
-    fn text(&self, text: Span) -> Result<String, AllocError>
-        ensures { IfOk result (λ copy. string_bytes copy ≡ token_texts self.now.tokens.now text) }
-    {
-        match self.tokens.get(text.start) {
-            Some(token) => String::from_str(self.alloc, token.text),
-            None => Ok(String::new(self.alloc)),
-        }
-    }
-
     /// One more tree.
     #[inline(always)]
     fn put(&mut self, tree: Node) -> Result<(), AllocError>
-        ensures put { IfOk result (λ _. forest_trees self.new ≡ tree_of tree ∷ forest_trees self.old) }
-        ensures tokens { self.new.tokens ≡ self.old.tokens }
+        ensures { IfOk result (λ _. forest_trees self.new ≡ tree_of tree ∷ forest_trees self.old) }
     {
         self.trees.push(tree)?;
         Ok(())
     }
 
-    /// Puts the tree of a node over the last trees in their place.
-    fn grow(&mut self, node: &SyntaxNode) -> Result<(), AllocError>
-        requires { child_count node.now.kind node.now.count ≤ length self.old.trees.items }
-        ensures grown { IfOk result (λ _. forest_trees self.new
-            ≡ trees_with (token_texts self.old.tokens.now) node.now (forest_trees self.old)) }
-        ensures tokens { self.new.tokens ≡ self.old.tokens }
+    /// Puts the tree of a node that keeps this text over the last trees, in their place.
+    pub(crate) fn grow(
+        &mut self,
+        kind: SyntaxKind,
+        span: Span,
+        count: usize,
+        text: String,
+    ) -> Result<(), AllocError>
+        requires { child_count kind count ≤ length self.old.trees.items }
+        ensures { IfOk result (λ _. forest_trees self.new
+            ≡ trees_grown kind span count (string_bytes text) (forest_trees self.old)) }
     {
-        let span = node.span;
-        match node.kind {
-            SyntaxKind::Lit(kind) => {
-                let text = self.text(node.text)?;
-                self.put(Node::Lit { span, kind, text })
-            }
+        match kind {
+            SyntaxKind::Lit(kind) => self.put(Node::Lit { span, kind, text }),
             SyntaxKind::It => self.put(Node::It { span }),
-            SyntaxKind::Name => {
-                let name = self.text(node.text)?;
-                self.put(Node::Name { span, name })
-            }
+            SyntaxKind::Name => self.put(Node::Name { span, name: text }),
             SyntaxKind::Call => {
-                let mut name = self.text(node.text)?;
-                name.make_ascii_lowercase();
-                let arguments = self.items(node.count)?;
+                let arguments = self.items(count)?;
                 self.put(Node::Call {
                     span,
-                    name,
+                    name: text,
                     arguments,
                 })
             }
             SyntaxKind::InList => {
-                let items = self.items(node.count)?;
+                let items = self.items(count)?;
                 let left = self.child()?;
                 self.put(Node::InList { span, left, items })
             }
-            SyntaxKind::Member | SyntaxKind::Count => self.grow_over_one(node),
-            SyntaxKind::Neg | SyntaxKind::Not | SyntaxKind::AnyItem => self.grow_over_one(node),
-            SyntaxKind::Binary(_) | SyntaxKind::Has => self.grow_over_two(node),
-            SyntaxKind::InPath | SyntaxKind::Lambda(_) => self.grow_over_two(node),
+            SyntaxKind::Member | SyntaxKind::Count => self.grow_over_one(kind, span, text),
+            SyntaxKind::Neg | SyntaxKind::Not => self.grow_over_one(kind, span, text),
+            SyntaxKind::AnyItem => self.grow_over_one(kind, span, text),
+            SyntaxKind::Binary(_) | SyntaxKind::Has => self.grow_over_two(kind, span, text),
+            SyntaxKind::InPath | SyntaxKind::Lambda(_) => self.grow_over_two(kind, span, text),
         }
     }
 
     /// The same of a node over one tree.
-    fn grow_over_one(&mut self, node: &SyntaxNode) -> Result<(), AllocError>
+    fn grow_over_one(
+        &mut self,
+        kind: SyntaxKind,
+        span: Span,
+        text: String,
+    ) -> Result<(), AllocError>
         requires one { 1 ≤ length self.old.trees.items }
-        requires kind { IsOverOne node.now.kind }
-        ensures grown { IfOk result (λ _. forest_trees self.new
-            ≡ trees_with (token_texts self.old.tokens.now) node.now (forest_trees self.old)) }
-        ensures tokens { self.new.tokens ≡ self.old.tokens }
+        requires kind { IsOverOne kind }
+        ensures { IfOk result (λ _. forest_trees self.new
+            ≡ trees_grown kind span 0 (string_bytes text) (forest_trees self.old)) }
     {
-        let span = node.span;
         let child = self.child()?;
-        match node.kind {
+        match kind {
             SyntaxKind::Member => {
-                let base = child;
-                let name = self.text(node.text)?;
+                let (base, name) = (child, text);
                 self.put(Node::Member { span, base, name })
             }
-            SyntaxKind::Count => {
-                let base = child;
-                self.put(Node::Count { span, base })
-            }
+            SyntaxKind::Count => self.put(Node::Count { span, base: child }),
             SyntaxKind::Neg => {
                 let operand = child;
                 self.put(Node::Neg { span, operand })
@@ -167,17 +176,20 @@ impl<'t> Forest<'t> {
     }
 
     /// The same of a node over two trees.
-    fn grow_over_two(&mut self, node: &SyntaxNode) -> Result<(), AllocError>
+    fn grow_over_two(
+        &mut self,
+        kind: SyntaxKind,
+        span: Span,
+        text: String,
+    ) -> Result<(), AllocError>
         requires two { 2 ≤ length self.old.trees.items }
-        requires kind { IsOverTwo node.now.kind }
-        ensures grown { IfOk result (λ _. forest_trees self.new
-            ≡ trees_with (token_texts self.old.tokens.now) node.now (forest_trees self.old)) }
-        ensures tokens { self.new.tokens ≡ self.old.tokens }
+        requires kind { IsOverTwo kind }
+        ensures { IfOk result (λ _. forest_trees self.new
+            ≡ trees_grown kind span 0 (string_bytes text) (forest_trees self.old)) }
     {
-        let span = node.span;
         let right = self.child()?;
         let left = self.child()?;
-        match node.kind {
+        match kind {
             SyntaxKind::Binary(operator) => self.put(Node::Binary {
                 span,
                 operator,
@@ -191,14 +203,13 @@ impl<'t> Forest<'t> {
             }
             SyntaxKind::Lambda(Quantifier::Any) => {
                 let base = left;
-                let variable = self.text(node.text)?;
-                let lambda = Some((variable, right));
+                let lambda = Some((text, right));
                 self.put(Node::Any { span, base, lambda })
             }
             SyntaxKind::Lambda(Quantifier::All) => {
                 let base = left;
                 let body = right;
-                let variable = self.text(node.text)?;
+                let variable = text;
                 self.put(Node::All {
                     span,
                     base,

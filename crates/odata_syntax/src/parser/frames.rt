@@ -10,6 +10,7 @@ ghost use Rattle.odata_syntax.specs.private.ListSteps.{read_tree, reduction_of, 
 
 use crate::level::{self, operator_level};
 use crate::parser::state::{Frame, NO_TEXT, Pending, State, Step};
+use crate::places::NO_PLACE;
 use crate::syntax_list::{SyntaxKind, SyntaxNode};
 use odata_text::Span;
 
@@ -112,6 +113,7 @@ impl State {
             span: Span { start, stop },
             text: NO_TEXT,
             count: 0,
+            place: NO_PLACE,
         })
     }
 }

@@ -15,6 +15,7 @@ use odata_text::{Span, TokenKind};
 
 impl State {
     /// Takes a token after `any` or `all`, which may become a lambda expression and is else a member.
+    #[inline(always)]
     pub(crate) fn take_after_word(
         &mut self,
         quantifier: Quantifier,
@@ -41,6 +42,7 @@ impl State {
     }
 
     /// Takes a token after the `(` of a lambda operator: `any` alone may do without a variable.
+    #[inline(always)]
     pub(crate) fn take_variable(&mut self, quantifier: Quantifier, piece: &Piece<'_>) -> Step
         requires { HasRead self.old.frames.items self.old.nodes.items }
         ensures step { (texts : Texts) → texts piece.now.text ≡ piece.now.token.text.now
@@ -71,6 +73,7 @@ impl State {
     }
 
     /// Takes a token after the variable of a lambda expression.
+    #[inline(always)]
     pub(crate) fn take_colon(
         &mut self,
         quantifier: Quantifier,

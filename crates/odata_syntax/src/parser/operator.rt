@@ -1,10 +1,11 @@
 //! Tokens after an operand.
-ghost use Rattle.std.specs.Prelude.{◌≡◌, ◌∷◌, [], ℕ};
+ghost use Rattle.std.specs.Prelude.{◌≡◌, ◌∷◌, [], ℕ, IfSome};
 ghost use Rattle.std.specs.Char.{to_ascii_lowercase};
 ghost use Rattle.odata_text.specs.TokenModel.{token_model};
 ghost use Rattle.odata_syntax.specs.PostOrder.{Texts};
 ghost use Rattle.odata_syntax.specs.private.Machine.{word_next as machine_word, next_of_kind, next_level};
 ghost use Rattle.odata_syntax.specs.private.Machine.{take_next as machine_take_next};
+ghost use Rattle.odata_syntax.specs.private.Bindings.{IsBinding};
 ghost use Rattle.odata_syntax.specs.private.MachineView.{machine_of};
 ghost use Rattle.odata_syntax.specs.private.ListSteps.{HasRead, IfTaken, IsSteadyState, IsStepTo};
 ghost use Rattle.odata_syntax.specs.private.ListSteps.{read_tree, waiting_behind};
@@ -24,23 +25,53 @@ pub enum Next {
     Comma,
 }
 
+/// The same, and how tightly it binds.
+#[derive(Clone, Copy, Debug)]
+pub(crate) struct Binding {
+    next: Next,
+    level: u8,
+}
+
 /// What a token says.
 #[inline(always)]
-fn read_next(piece: &Piece<'_>) -> Option<Next>
-    ensures { result ≡ next_of_kind piece.now.token.kind piece.now.token.text.now }
+fn read_next(piece: &Piece<'_>) -> Option<Binding>
+    ensures { IsBinding result (next_of_kind piece.now.token.kind piece.now.token.text.now) }
 {
     match piece.token.kind {
         TokenKind::Word => word_next(piece.token.text.as_bytes()),
-        TokenKind::Close => Some(Next::Close),
-        TokenKind::Comma => Some(Next::Comma),
+        TokenKind::Close => Some(with_level(Next::Close)),
+        TokenKind::Comma => Some(with_level(Next::Comma)),
         _ => None,
     }
 }
 
 /// What a word says.
 #[inline(always)]
-fn word_next(word: &[u8]) -> Option<Next>
-    ensures { result ≡ machine_word word.now }
+fn word_next(word: &[u8]) -> Option<Binding>
+    ensures { IsBinding result (machine_word word.now) }
+{
+    match lower_case_next(word) {
+        Some(found) => Some(found),
+        None => any_case_next(word),
+    }
+}
+
+/// The same of a word that is written in lower case.
+#[inline(always)]
+fn lower_case_next(word: &[u8]) -> Option<Binding>
+    ensures { IfSome result (λ _. IsBinding result (machine_word word.now)) }
+{
+    match word {
+        [a, b] => two_letters(*a, *b),
+        [a, b, c] => three_letters(*a, *b, *c),
+        _ => None,
+    }
+}
+
+/// The same of a word in any case.
+#[inline(never)]
+fn any_case_next(word: &[u8]) -> Option<Binding>
+    ensures { IsBinding result (machine_word word.now) }
 {
     match word {
         [a, b] => two_letters(a.to_ascii_lowercase(), b.to_ascii_lowercase()),
@@ -53,41 +84,43 @@ fn word_next(word: &[u8]) -> Option<Next>
     }
 }
 
-/// What a word of two lower-case letters says.
+/// What a word of two letters says in lower case.
 #[tactic(auto, unfolding(crate::specs::private::Machine::word_next))]
 #[inline(always)]
-fn two_letters(a: u8, b: u8) -> Option<Next>
-    ensures { (x y : ℕ) → a ≡ to_ascii_lowercase x → b ≡ to_ascii_lowercase y
-        → result ≡ machine_word (x ∷ y ∷ []) }
+fn two_letters(a: u8, b: u8) -> Option<Binding>
+    ensures same { IfSome result (λ _. IsBinding result (machine_word (a ∷ b ∷ []))) }
+    ensures lower { (x y : ℕ) → a ≡ to_ascii_lowercase x → b ≡ to_ascii_lowercase y
+        → IsBinding result (machine_word (x ∷ y ∷ [])) }
 {
     match (a, b) {
-        (b'o', b'r') => Some(Next::Operator(BinaryOperator::Or)),
-        (b'e', b'q') => Some(Next::Operator(BinaryOperator::Eq)),
-        (b'n', b'e') => Some(Next::Operator(BinaryOperator::Ne)),
-        (b'g', b't') => Some(Next::Operator(BinaryOperator::Gt)),
-        (b'g', b'e') => Some(Next::Operator(BinaryOperator::Ge)),
-        (b'l', b't') => Some(Next::Operator(BinaryOperator::Lt)),
-        (b'l', b'e') => Some(Next::Operator(BinaryOperator::Le)),
-        (b'i', b'n') => Some(Next::In),
+        (b'o', b'r') => Some(with_level(Next::Operator(BinaryOperator::Or))),
+        (b'e', b'q') => Some(with_level(Next::Operator(BinaryOperator::Eq))),
+        (b'n', b'e') => Some(with_level(Next::Operator(BinaryOperator::Ne))),
+        (b'g', b't') => Some(with_level(Next::Operator(BinaryOperator::Gt))),
+        (b'g', b'e') => Some(with_level(Next::Operator(BinaryOperator::Ge))),
+        (b'l', b't') => Some(with_level(Next::Operator(BinaryOperator::Lt))),
+        (b'l', b'e') => Some(with_level(Next::Operator(BinaryOperator::Le))),
+        (b'i', b'n') => Some(with_level(Next::In)),
         _ => None,
     }
 }
 
-/// What a word of three lower-case letters says.
+/// What a word of three letters says in lower case.
 #[tactic(auto, unfolding(crate::specs::private::Machine::word_next))]
 #[inline(always)]
-fn three_letters(a: u8, b: u8, c: u8) -> Option<Next>
-    ensures { (x y z : ℕ) → a ≡ to_ascii_lowercase x → b ≡ to_ascii_lowercase y → c ≡ to_ascii_lowercase z
-        → result ≡ machine_word (x ∷ y ∷ z ∷ []) }
+fn three_letters(a: u8, b: u8, c: u8) -> Option<Binding>
+    ensures same { IfSome result (λ _. IsBinding result (machine_word (a ∷ b ∷ c ∷ []))) }
+    ensures lower { (x y z : ℕ) → a ≡ to_ascii_lowercase x → b ≡ to_ascii_lowercase y → c ≡ to_ascii_lowercase z
+        → IsBinding result (machine_word (x ∷ y ∷ z ∷ [])) }
 {
     match (a, b, c) {
-        (b'a', b'n', b'd') => Some(Next::Operator(BinaryOperator::And)),
-        (b'a', b'd', b'd') => Some(Next::Operator(BinaryOperator::Add)),
-        (b's', b'u', b'b') => Some(Next::Operator(BinaryOperator::Sub)),
-        (b'm', b'u', b'l') => Some(Next::Operator(BinaryOperator::Mul)),
-        (b'm', b'o', b'd') => Some(Next::Operator(BinaryOperator::Mod)),
-        (b'd', b'i', b'v') => Some(Next::Operator(BinaryOperator::Div)),
-        (b'h', b'a', b's') => Some(Next::Has),
+        (b'a', b'n', b'd') => Some(with_level(Next::Operator(BinaryOperator::And))),
+        (b'a', b'd', b'd') => Some(with_level(Next::Operator(BinaryOperator::Add))),
+        (b's', b'u', b'b') => Some(with_level(Next::Operator(BinaryOperator::Sub))),
+        (b'm', b'u', b'l') => Some(with_level(Next::Operator(BinaryOperator::Mul))),
+        (b'm', b'o', b'd') => Some(with_level(Next::Operator(BinaryOperator::Mod))),
+        (b'd', b'i', b'v') => Some(with_level(Next::Operator(BinaryOperator::Div))),
+        (b'h', b'a', b's') => Some(with_level(Next::Has)),
         _ => None,
     }
 }
@@ -104,6 +137,15 @@ fn level_of_next(next: Next) -> u8
     }
 }
 
+/// What a token says, with how tightly it binds.
+#[inline(always)]
+fn with_level(next: Next) -> Binding
+    ensures { result ≡ record { next = next; level = next_level next } }
+{
+    let level = level_of_next(next);
+    Binding { next, level }
+}
+
 impl State {
     /// Takes a token after an operand.
     #[inline(always)]
@@ -114,10 +156,10 @@ impl State {
             (next_of_kind piece.now.token.kind piece.now.token.text.now)) (machine_of texts self.new) }
         ensures steady { IfTaken result (IsSteadyState self.new) }
     {
-        let Some(next) = read_next(piece) else {
+        let Some(Binding { next, level }) = read_next(piece) else {
             return Step::Refused;
         };
-        match self.reduce(level_of_next(next)) {
+        match self.reduce(level) {
             Step::Taken => {}
             other => return other,
         }

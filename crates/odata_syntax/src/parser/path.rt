@@ -13,6 +13,7 @@ ghost use Rattle.odata_syntax.specs.private.ListSteps.{IsStepTo, read_tree, wait
 use crate::Quantifier;
 use crate::parser::state::{Bracket, Frame, NO_TEXT, Piece, Stage, State, Step};
 use crate::parser::word::is_word;
+use crate::places::NO_PLACE;
 use crate::syntax_list::{SyntaxKind, SyntaxNode};
 use odata_text::{Span, TokenKind};
 
@@ -116,10 +117,12 @@ impl State {
             span: Span { start, stop },
             text,
             count: 0,
+            place: NO_PLACE,
         })
     }
 
     /// Takes a token after a `/`.
+    #[inline(always)]
     pub(crate) fn take_segment(&mut self, piece: &Piece<'_>) -> Step
         requires { HasRead self.old.frames.items self.old.nodes.items }
         ensures step { (texts : Texts) → texts piece.now.text ≡ piece.now.token.text.now

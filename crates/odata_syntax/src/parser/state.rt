@@ -5,11 +5,12 @@ ghost use Rattle.odata_syntax.specs.PostOrder.{Texts};
 ghost use Rattle.odata_syntax.specs.private.Machine.{start as machine_start};
 ghost use Rattle.odata_syntax.specs.private.MachineView.{machine_of};
 ghost use Rattle.odata_syntax.specs.private.ListSteps.{HasRead, IfTaken, IsNotRefused, IsSteadyState, read_tree};
+ghost use Rattle.odata_syntax.specs.private.PlaceGrowth.{no_place};
 
+use crate::places::NO_PLACE;
 use crate::syntax_list::{SyntaxKind, SyntaxNode};
 use crate::{BinaryOperator, Quantifier};
 use odata_text::{Span, Token};
-use std::alloc::{AllocError, Global};
 
 /// An operation that waits for its last operand, with where the operand before it starts.
 #[derive(Clone, Copy, Debug)]
@@ -122,7 +123,7 @@ pub(crate) struct Piece<'t> {
 pub(crate) const NO_TEXT: Span = Span { start: 0, stop: 0 };
 
 /// Room for frames at the start, which seldom grows.
-const FRAME_ROOM: usize = 8;
+pub(crate) const FRAME_ROOM: usize = 8;
 
 /// The machine between two tokens. The last frame is the innermost.
 #[derive(Drop)]
@@ -133,16 +134,19 @@ pub(crate) struct State {
 }
 
 impl State {
-    /// The machine before the first token, with room for some nodes.
-    pub(crate) fn new(alloc: Global, room: usize) -> Result<State, AllocError>
-        ensures start { (texts : Texts) → IfOk result (λ state. machine_of texts state ≡ machine_start) }
-        ensures steady { IfOk result IsSteadyState }
+    /// The machine before the first token, over two empty lists.
+    #[inline(always)]
+    pub(crate) fn new(nodes: Vec<SyntaxNode>, frames: Vec<Frame>) -> State
+        requires nodes { nodes.items ≡ [] }
+        requires frames { frames.items ≡ [] }
+        ensures start { (texts : Texts) → machine_of texts result ≡ machine_start }
+        ensures steady { IsSteadyState result }
     {
-        Ok(State {
-            nodes: Vec::with_capacity(alloc, room)?,
-            frames: Vec::with_capacity(alloc, FRAME_ROOM)?,
+        State {
+            nodes,
+            frames,
             stage: Stage::Operand,
-        })
+        }
     }
 
     /// Where the operand that has been read stands; at the start where there is none.
@@ -161,7 +165,7 @@ impl State {
     #[inline(always)]
     pub(crate) fn put_leaf(&mut self, kind: SyntaxKind, span: Span, text: Span, next: Stage) -> Step
         ensures put { IfTaken result (self.new.nodes.items ≡ self.old.nodes.items
-            ++ (record { kind = kind; span = span; text = text; count = 0 }) ∷ []) }
+            ++ (record { kind = kind; span = span; text = text; count = 0; place = no_place }) ∷ []) }
         ensures taken { IsNotRefused result }
         ensures frames { self.new.frames ≡ self.old.frames }
         ensures stage { self.new.stage ≡ next }
@@ -172,6 +176,7 @@ impl State {
             span,
             text,
             count: 0,
+            place: NO_PLACE,
         })
     }
 
@@ -183,8 +188,11 @@ impl State {
         ensures stage { self.new.stage ≡ self.old.stage }
         ensures taken { IsNotRefused result }
     {
-        match self.nodes.push(node) {
-            Ok(()) => Step::Taken,
+        match self.nodes.reserve(1) {
+            Ok(()) => {
+                self.nodes.push_reserved(node);
+                Step::Taken
+            }
             Err(_) => Step::OutOfMemory,
         }
     }
@@ -198,8 +206,11 @@ impl State {
         ensures taken { IsNotRefused result }
     {
         self.stage = Stage::Operand;
-        match self.frames.push(frame) {
-            Ok(()) => Step::Taken,
+        match self.frames.reserve(1) {
+            Ok(()) => {
+                self.frames.push_reserved(frame);
+                Step::Taken
+            }
             Err(_) => Step::OutOfMemory,
         }
     }

@@ -1,5 +1,5 @@
 //! From a filter's text to its tree as a list, token by token, without a list of the tokens.
-ghost use Rattle.std.specs.Prelude.{◌≡◌, ◌≢◌, [], List, IfOk, IfErr};
+ghost use Rattle.std.specs.Prelude.{◌≡◌, ◌≢◌, ◌≤◌, [], List, IfOk, IfErr};
 ghost use Rattle.odata_text.specs.Scanning.{HasRead, IsReading, text_of};
 ghost use Rattle.odata_text.specs.TokenModel.{TokenModel};
 ghost use Rattle.odata_syntax.specs.Places.{ArePlaces};
@@ -11,10 +11,10 @@ ghost use Rattle.odata_syntax.specs.private.Machine.{start};
 ghost use Rattle.odata_syntax.specs.private.MachineView.{machine_of};
 ghost use Rattle.odata_syntax.specs.private.TextRun.{IsFirstAfter, StopsText, TakesText};
 
-use super::{DEPTH_LIMIT, ROOM_LIMIT, close_count, open_count, unended};
+use super::{Depth, ROOM_LIMIT, unended};
 use crate::SyntaxFault;
-use crate::parser::state::{Piece, State, Step};
-use crate::places::places_of;
+use crate::parser::state::{FRAME_ROOM, Piece, State, Step};
+use crate::places::put_places;
 use crate::syntax_list::SyntaxList;
 use odata_text::{Scanned, Scanner, TextFault, one_reading};
 use std::alloc::Global;
@@ -25,6 +25,9 @@ pub enum TextOrSyntaxFault {
     Text(TextFault),
     Syntax(SyntaxFault),
 }
+
+/// Room at the start for the nodes of a short text: under a kilobyte, which allocators serve from their caches.
+const SMALL_ROOM: usize = 14;
 
 /// An allocation failed.
 const OUT_OF_MEMORY: TextOrSyntaxFault = TextOrSyntaxFault::Syntax(SyntaxFault::Memory);
@@ -47,10 +50,13 @@ pub fn parse_text(alloc: Global, text: &str) -> Result<SyntaxList, TextOrSyntaxF
         Ok(scanner) => scanner,
         Err(fault) => return Err(TextOrSyntaxFault::Text(fault)),
     };
-    let room = text.len() / 4 + 4;
-    let Ok(mut state) = State::new(alloc, room.min(ROOM_LIMIT)) else {
+    let Ok(nodes) = Vec::with_capacity(alloc, room_for(text.len())) else {
         return Err(OUT_OF_MEMORY);
     };
+    let Ok(frames) = Vec::with_capacity(alloc, FRAME_ROOM) else {
+        return Err(OUT_OF_MEMORY);
+    };
+    let mut state = State::new(nodes, frames);
     match take_text(&mut state, scanner) {
         Ok(()) => {}
         Err(fault) => return Err(fault),
@@ -60,12 +66,20 @@ pub fn parse_text(alloc: Global, text: &str) -> Result<SyntaxList, TextOrSyntaxF
         Step::Refused => return Err(TextOrSyntaxFault::Syntax(unended(text.len()))),
         Step::OutOfMemory => return Err(OUT_OF_MEMORY),
     }
-    match places_of(alloc, state.nodes.as_slice()) {
-        Ok(places) => Ok(SyntaxList {
-            nodes: state.nodes,
-            places,
-        }),
-        Err(_) => Err(OUT_OF_MEMORY),
+    put_places(&mut state.nodes);
+    Ok(SyntaxList { nodes: state.nodes })
+}
+
+/// Room at the start for the nodes of a text of `len` bytes. Most texts have fewer nodes.
+#[inline(always)]
+fn room_for(len: usize) -> usize
+    ensures { result ≤ 1024 }
+{
+    let room = len / 4 + 4;
+    if len < 64 {
+        room.min(SMALL_ROOM)
+    } else {
+        room.min(ROOM_LIMIT)
     }
 }
 
@@ -79,8 +93,10 @@ fn take_text(state: &mut State, mut scanner: Scanner<'_>) -> Result<(), TextOrSy
     ensures steady { IfOk result (λ _. IsSteadyState state.new) }
     ensures stops { IfErr result (StopsText (text_of scanner.entry)) }
 {
-    let mut opens = 0;
-    let mut closes = 0;
+    let mut depth = Depth {
+        opens: 0,
+        closes: 0,
+    };
     loop {
         match scanner.next_token() {
             Scanned::Token => {}
@@ -94,9 +110,7 @@ fn take_text(state: &mut State, mut scanner: Scanner<'_>) -> Result<(), TextOrSy
             Step::Refused => return Err(first_fault(scanner, SyntaxFault::Unexpected { span })),
             Step::OutOfMemory => return Err(OUT_OF_MEMORY),
         }
-        opens += open_count(token.kind);
-        closes += close_count(token.kind);
-        if opens > closes + DEPTH_LIMIT {
+        if depth.exceeds(token.kind) {
             return Err(first_fault(scanner, SyntaxFault::TooDeep { span }));
         }
     }

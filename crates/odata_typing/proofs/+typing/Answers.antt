@@ -1,5 +1,5 @@
 use Rattle.std.proofs.Common.{◌≡◌, ◌⊎◌, ℕ, ◌-◌, ◌<◌, ◌≤◌, inl, inr, subst, List, Option, Some, None, IfSome, arith}
-use Rattle.odata_syntax.specs.Places.{lambda_at, number_at, stop_at}
+use Rattle.odata_syntax.specs.Places.{lambda_at, number_at, places_of, stop_at}
 use Rattle.odata_syntax.specs.PostOrder.{last_tree}
 use Rattle.csdl_schema.specs.SchemaModel.{slots_of, type_name_at}
 use Rattle.odata_signatures.specs.TypeView.{expr_type}
@@ -29,8 +29,8 @@ lambda::checked_lambda-returns-in_default t c = λ judged quantifier base asked.
     let ready = ready_again setting old c.args.from c.args.index judged other quantifier base c.node_at-lambda.ensures asked in
     let stands = ready.base_stands in
     judged_again setting c.args.index judged other quantifier base body old c.refuse.new.self c.refuse.result asked.at c.node_at-lambda.ensures
-    (not_collection c.laws_below.ensures setting other old c.refuse.new.self quantifier base body (number_at setting.places.now (c.args.index - 1)) c.refuse.result stands
-    old c.type_at.result (c.type_at.ensures stands.found stands.at) c.in_default.not-Collection c.refuse.ensures.stops c.refuse.ensures.fault)
+    (not_collection c.laws_below.ensures setting other old c.refuse.new.self quantifier base body (number_at (places_of setting.nodes.now) (c.args.index - 1)) c.refuse.result stands
+    old c.type_at.result.now (c.type_at.ensures stands.found stands.at) c.in_default.not-Collection c.refuse.ensures.stops c.refuse.ensures.fault)
 
 pub lambda::checked_lambda-returns-in-Ok-Some : goal.lambda::checked_lambda-returns-in-Ok-Some
 lambda::checked_lambda-returns-in-Ok-Some t c = λ judged quantifier base asked.
@@ -46,8 +46,8 @@ lambda::checked_lambda-returns-in-Ok-Some t c = λ judged quantifier base asked.
     let found : variable_type (scope_of setting) (name_of setting other) ≡ Some taken =
     subst (λ (asked : List ℕ). variable_type (scope_of setting) asked ≡ Some taken) c.text_in-variable.ensures named.1 in
     judged_again setting c.args.index judged other quantifier base body old c.refuse-in-Ok-Some.new.self c.refuse-in-Ok-Some.result asked.at c.node_at-lambda.ensures
-    (variable_taken c.laws_below.ensures setting other old c.refuse-in-Ok-Some.new.self quantifier base body (number_at setting.places.now (c.args.index - 1)) c.refuse-in-Ok-Some.result stands
-    old c.type_at.result c.in-Collection.member taken (c.type_at.ensures stands.found stands.at) c.in-Collection.is found c.refuse-in-Ok-Some.ensures.stops c.refuse-in-Ok-Some.ensures.fault)
+    (variable_taken c.laws_below.ensures setting other old c.refuse-in-Ok-Some.new.self quantifier base body (number_at (places_of setting.nodes.now) (c.args.index - 1)) c.refuse-in-Ok-Some.result stands
+    old c.type_at.result.now c.in-Collection.member taken (c.type_at.ensures stands.found stands.at) c.in-Collection.is found c.refuse-in-Ok-Some.ensures.stops c.refuse-in-Ok-Some.ensures.fault)
 
 -- One whose body is judged.
 
@@ -63,7 +63,7 @@ lambda::checked_lambda-close_lambda-requires-clause-children t c =
     fresh_variable setting other c.text_in-variable.result.now c.in-Ok-None.field-0 c.in-Ok-None.field-0-is (c.in-Ok-None.ensures.named setting.schema.now) c.text_in-variable.ensures in (
       r.2,
       run_tree setting c.args.from c.args.index,
-      over_body c.laws_below.ensures setting old c.checked_nodes.new.walk c.args.from c.args.index other r.1 r.2 c.in-Collection.member c.text_in-variable.result c.type_at.result ready
+      over_body c.laws_below.ensures setting old c.checked_nodes.new.walk c.args.from c.args.index other r.1 r.2 c.in-Collection.member c.text_in-variable.result c.type_at.result.now ready
           (c.type_at.ensures stands.found stands.at) c.in-Collection.is fresh c.text_in-variable.ensures c.if-checked_nodes.ensures,
     )
 
@@ -81,12 +81,12 @@ lambda::checked_lambda-returns-then-checked_nodes t c = λ judged quantifier bas
     fresh_variable setting other c.text_in-variable.result.now c.in-Ok-None.field-0 c.in-Ok-None.field-0-is (c.in-Ok-None.ensures.named setting.schema.now) c.text_in-variable.ensures in
     let put = c.if-checked_nodes.ensures in
     let over =
-    over_body c.laws_below.ensures setting old mid c.args.from c.args.index other quantifier base c.in-Collection.member c.text_in-variable.result c.type_at.result ready
+    over_body c.laws_below.ensures setting old mid c.args.from c.args.index other quantifier base c.in-Collection.member c.text_in-variable.result c.type_at.result.now ready
     (c.type_at.ensures stands.found stands.at) c.in-Collection.is fresh c.text_in-variable.ensures put in
     let closed = c.close_lambda.ensures quantifier base body ready.lambda_is over in
-    let last : stop_at setting.places.now (c.args.index - 1) ≡ other.stop = ready.body_stop in
+    let last : stop_at (places_of setting.nodes.now) (c.args.index - 1) ≡ other.stop = ready.body_stop in
     judged_again setting c.args.index judged other quantifier base body old new c.close_lambda.result asked.at c.node_at-lambda.ensures
-    (judged_since setting.schema.now setting.filtered_type (scope_of setting) (number_at setting.places.now (c.args.index - 1)) (stop_at setting.places.now (c.args.index - 1))
+    (judged_since setting.schema.now setting.filtered_type (scope_of setting) (number_at (places_of setting.nodes.now) (c.args.index - 1)) (stop_at (places_of setting.nodes.now) (c.args.index - 1))
     other.number other.stop _ old mid new c.close_lambda.result (record { kept = put.kept; navigates = put.navigates })
     (body_places setting old c.args.from c.args.index other quantifier base ready) (omega arith) closed)
 
@@ -104,8 +104,8 @@ lambda::checked_lambda-returns-else-checked_nodes t c = λ judged quantifier bas
     let First : Scope → Type 0 = λ (scope : Scope).
     IfSome new.fault (IsFirstUntypable (slots_of setting.schema.now) (type_name_at setting.schema.now setting.filtered_type) scope body) in
     judged_again setting c.args.index judged other quantifier base body old new c.checked_nodes.result asked.at c.node_at-lambda.ensures
-    (body_refused c.laws_below.ensures setting other old new quantifier base body (number_at setting.places.now (c.args.index - 1)) c.checked_nodes.result stands
-    c.type_at.result c.in-Collection.member (c.type_at.ensures stands.found stands.at) c.in-Collection.is fresh c.if-checked_nodes.false
+    (body_refused c.laws_below.ensures setting other old new quantifier base body (number_at (places_of setting.nodes.now) (c.args.index - 1)) c.checked_nodes.result stands
+    c.type_at.result.now c.in-Collection.member (c.type_at.ensures stands.found stands.at) c.in-Collection.is fresh c.if-checked_nodes.false
     (subst First (scope_is setting other c.text_in-variable.result c.in-Collection.member c.text_in-variable.ensures) c.if-checked_nodes.ensures))
 
 -- The loop: a lambda expression.
@@ -199,7 +199,7 @@ node::checked_nodes-returns-then-not-checked_node t c =
     let setting = c.args.setting.now in
     let index = c.loop-index.index in
     let before : index < c.args.stop = c.loop-index-test.true in
-    let unmarked : (lambda_at setting.places.now index ≡ 0) ⊎ (index ≡ c.args.from) = elim c.else-lambda-ne-NO_NODE.branch [
+    let unmarked : (lambda_at (places_of setting.nodes.now) index ≡ 0) ⊎ (index ≡ c.args.from) = elim c.else-lambda-ne-NO_NODE.branch [
       | node::checked_nodes-else-lambda-ne-NO_NODE-via-then-lambda-ne-NO_NODE+else-index-from w ↦ inr w.if-index-from.false
       | node::checked_nodes-else-lambda-ne-NO_NODE-via-else-lambda-ne-NO_NODE w ↦ inl (none_read setting c.args.from c.args.stop index c.requires.setting c.requires.run before w.if-lambda-ne-NO_NODE.false)
     ] in
@@ -213,7 +213,7 @@ node::checked_nodes-loop-index-preserved t c =
     let setting = c.args.setting.now in
     let index = c.loop-index.index in
     let before : index < c.args.stop = c.loop-index-test.true in
-    let unmarked : (lambda_at setting.places.now index ≡ 0) ⊎ (index ≡ c.args.from) = elim c.else-lambda-ne-NO_NODE.branch [
+    let unmarked : (lambda_at (places_of setting.nodes.now) index ≡ 0) ⊎ (index ≡ c.args.from) = elim c.else-lambda-ne-NO_NODE.branch [
       | node::checked_nodes-else-lambda-ne-NO_NODE-via-then-lambda-ne-NO_NODE+else-index-from w ↦ inr w.if-index-from.false
       | node::checked_nodes-else-lambda-ne-NO_NODE-via-else-lambda-ne-NO_NODE w ↦ inl (none_read setting c.args.from c.args.stop index c.requires.setting c.requires.run before w.if-lambda-ne-NO_NODE.false)
     ] in

@@ -1,5 +1,5 @@
 -- Why a lambda operator over its base has no type, and the fault of its body.
-use Rattle.std.proofs.Common.{◌≡◌, refl, sym, ap, subst, ℕ, ◌+◌, List, Bool, false, None, Option, Some, IfSome}
+use Rattle.std.proofs.Common.{◌≡◌, sym, subst, ℕ, ◌+◌, List, Bool, false, None, Option, Some, IfSome}
 use Rattle.odata_syntax.specs.Tree.{Tree, lambda}
 use Rattle.odata_syntax.specs.declared.node.Quantifier.{Quantifier}
 use Rattle.csdl_schema.specs.ExprType.{ExprType, collection, single}

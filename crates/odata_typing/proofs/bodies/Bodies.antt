@@ -1,13 +1,13 @@
 -- The node of a lambda operator, put over its base and its body.
-use Rattle.std.proofs.Common.{◌≡◌, ◌∙◌, refl, sym, ap, subst, ℕ, ◌+◌, ◌<◌, List, Bool, true, false, None, Some, length, slice_get}
+use Rattle.std.proofs.Common.{◌≡◌, ◌∙◌, refl, ap, subst, ℕ, ◌<◌, List, Bool, true, false, Some, length, slice_get}
 use Rattle.std.proofs.lemmas.Option.{slice_get_within}
 use Rattle.odata_syntax.specs.Tree.{Tree, lambda}
 use Rattle.odata_syntax.specs.declared.node.Quantifier.{Quantifier}
-use Rattle.csdl_schema.specs.ExprType.{ExprType, collection, single}
+use Rattle.csdl_schema.specs.ExprType.{collection}
 use Rattle.odata_signatures.specs.ExprTypes.{IsBooleanOrNull}
 use Rattle.odata_signatures.specs.TypeView.{expr_type, single_type}
 use Rattle.odata_signatures.specs.declared.edm_type.EdmType.{EdmType}
-use Rattle.odata_expression_types.specs.Typed.{BindsVariable, Typed, with_variable}
+use Rattle.odata_expression_types.specs.Typed.{BindsVariable, Typed}
 use Rattle.odata_expression_types.specs.declared.refusal.TypeFaultCode.{TypeFaultCode}
 use Rattle.odata_checked_filter.specs.declared.checked_node.CheckedNode.{CheckedNode}
 use Rattle.odata_checked_filter.specs.declared.checked_node.NodeKind.{NodeKind}

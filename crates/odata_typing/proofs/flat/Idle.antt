@@ -1,6 +1,6 @@
 -- Where no node of the parts leads over a navigation property, none of the whole does.
-use Rattle.std.proofs.Common.{◌≡◌, ◌⊎◌, inl, inr, subst, sym, ℕ, Option, None, Some, List, [], ◌∷◌}
-use Rattle.odata_syntax.specs.Tree.{Shape, Tree, any_item, binary, call, count, has, in_list, in_path, it, lambda, literal, logical_not, member, name, negation, node, trees_of_list}
+use Rattle.std.proofs.Common.{◌≡◌, inl, inr, subst, sym, ℕ, Option, None, Some, List, [], ◌∷◌}
+use Rattle.odata_syntax.specs.Tree.{Tree, call, in_list, it, lambda, member, name, node, trees_of_list}
 use Rattle.odata_syntax.specs.declared.node.Quantifier.{Quantifier}
 use Rattle.csdl_schema.specs.ExprType.{ExprType, SingleType, collection, single, structured}
 use Rattle.csdl_schema.specs.PathSet.{PropertyPath}

@@ -1,12 +1,11 @@
 -- The items of a list after an operand of an enumeration.
-use Rattle.std.proofs.Common.{◌≡◌, ◌∙◌, refl, sym, ap, subst, inl, inr, ◌⊎◌, ℕ, ℤ, ◌+◌, List, [], ◌∷◌, ◌++◌, Some, slice_get, length, length-append, map, append-nil, append_assoc}
-use Rattle.std.specs.List.{AllByRecursion}
+use Rattle.std.proofs.Common.{◌≡◌, ◌∙◌, refl, ap, subst, inl, inr, ◌⊎◌, ℕ, ℤ, ◌+◌, List, [], ◌∷◌, ◌++◌, Some, slice_get, length, length-append, append_assoc}
 use Rattle.edm_values.specs.declared.value.Value.{Value}
 use Rattle.odata_syntax.specs.Tree.{Tree, trees_of_list}
 use Rattle.csdl_schema.specs.ExprType.{ExprType, single, enumeration}
 use Rattle.odata_functions.specs.declared.comparison.ComparisonOperator.{ComparisonOperator}
 use Rattle.csdl_schema.specs.SchemaModel.{Slots}
-use Rattle.odata_signatures.specs.CollectionTyped.{AreItemTypes, InListTyped, IsCollection, IsItemBeside}
+use Rattle.odata_signatures.specs.CollectionTyped.{InListTyped, IsCollection, IsItemBeside}
 use Rattle.odata_signatures.specs.ComparableTypes.{AreComparable}
 use Rattle.odata_signatures.specs.ExprTypes.{boolean_type, string_type}
 use Rattle.odata_signatures.specs.QuotedNumber.{IsReadBeside, LacksNumber, NumberBeside}
@@ -172,31 +171,6 @@ unread_lacks_none slots left (tree ∷ trees) unread lacks = elim lacks [
 ]
 
 -- ---- the types
-
-items_beside : (slots : Slots) (left : ExprType) (trees : List Tree) (types : List ExprType) → AllByRecursion (AreComparable left) types
-    → AllBeside slots left (sides_of (trees_of_list trees) types)
-items_beside slots left [] types alike = tt
-items_beside slots left (tree ∷ trees) [] alike = tt
-items_beside slots left (tree ∷ trees) (type ∷ types) alike = (inl alike.0, items_beside slots left trees types alike.1)
-
-items_alike : (laws : LawsBelow) (slots : Slots) (root : List ℕ) (scope : Scope) (left : ExprType) (trees : List Tree) (types : List ExprType) → IsUnreadLeft left
-    → AreTyped slots root scope (trees_of_list trees) types → AllBeside slots left (sides_of (trees_of_list trees) types) → AllByRecursion (AreComparable left) types
-items_alike laws slots root scope left [] [] unread typed beside = tt
-items_alike laws slots root scope left [] (type ∷ types) unread typed beside = absurd typed
-items_alike laws slots root scope left (tree ∷ trees) [] unread typed beside = absurd typed
-items_alike laws slots root scope left (tree ∷ trees) (type ∷ types) unread typed beside = (
-  (laws.items slots left (quoting (quoted_text tree) type) (unread (quoted_text tree))).0 beside.0,
-  items_alike laws slots root scope left trees types unread typed.1 beside.1,
-)
-
-pub list_typed : (slots : Slots) (l : Tree) (left : ExprType) (trees : List Tree) (types : List ExprType) (type : ExprType) → AreItemTypes left types type
-    → BeforeList (InListTyped slots) l (trees_of_list trees) left types type
-list_typed slots l left trees types type are = (are.0, items_beside slots left trees types are.1, are.2)
-
-pub list_types : (laws : LawsBelow) (slots : Slots) (root : List ℕ) (scope : Scope) (l : Tree) (left : ExprType) (trees : List Tree) (types : List ExprType) (type : ExprType)
-    → IsUnreadLeft left → AreTyped slots root scope (trees_of_list trees) types → BeforeList (InListTyped slots) l (trees_of_list trees) left types type
-    → AreItemTypes left types type
-list_types laws slots root scope l left trees types type unread typed makes = (makes.0, items_alike laws slots root scope left trees types unread typed makes.1, makes.2)
 
 pub numbered_typed : (slots : Slots) (l : Tree) (left : ExprType) (trees : List Tree) (types : List ExprType) → ¬ IsCollection left
     → AllBeside slots left (sides_of (trees_of_list trees) types) → BeforeList (InListTyped slots) l (trees_of_list trees) left types boolean_type

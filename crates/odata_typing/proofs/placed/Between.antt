@@ -1,5 +1,5 @@
 -- Nodes between two operands.
-use Rattle.std.proofs.Common.{◌≡◌, ◌∙◌, refl, sym, ap, subst, inl, inr, ℕ, ℤ, ◌+◌, List, [], ◌∷◌, Bool, true, false, None, Some, Option, IfNone, IfSome, length, slice_get, arith}
+use Rattle.std.proofs.Common.{◌≡◌, ◌∙◌, refl, sym, ap, subst, inr, ℕ, ℤ, ◌+◌, List, [], ◌∷◌, Bool, true, false, None, Some, Option, IfNone, IfSome, length, slice_get, arith}
 use Rattle.std.specs.Int.{cast_signed as to_z, cast_unsigned as of_z, w64}
 use Rattle.std.specs.Option.{option_map}
 use Rattle.edm_values.specs.declared.value.Value.{Value}
@@ -7,7 +7,6 @@ use Rattle.odata_syntax.specs.Tree.{Tree}
 use Rattle.odata_syntax.specs.declared.node.BinaryOperator.{BinaryOperator}
 use Rattle.csdl_schema.specs.ExprType.{ExprType}
 use Rattle.csdl_schema.specs.SchemaModel.{SchemaModel}
-use Rattle.odata_signatures.specs.ExprTypes.{boolean_type}
 use Rattle.odata_signatures.specs.QuotedNumber.{IsReadBeside, LacksNumber}
 use Rattle.odata_signatures.specs.Side.{Side, quoting}
 use Rattle.odata_signatures.specs.TypeThere.{IsTypeThere}

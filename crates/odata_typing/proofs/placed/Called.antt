@@ -1,5 +1,5 @@
 -- Nodes of calls.
-use Rattle.std.proofs.Common.{◌≡◌, ◌∙◌, refl, sym, ap, subst, ℕ, ◌+◌, ◌≤◌, ◌<◌, List, [], ◌∷◌, Bool, true, false, None, Some, length, map, take, zero, suc}
+use Rattle.std.proofs.Common.{◌≡◌, ◌∙◌, refl, ap, subst, ℕ, ◌+◌, List, [], ◌∷◌, Bool, true, false, map, take, zero, suc}
 use Rattle.odata_syntax.specs.Tree.{Tree, call, trees_of_list}
 use Rattle.csdl_schema.specs.ExprType.{ExprType}
 use Rattle.csdl_schema.specs.SchemaModel.{SchemaModel}
@@ -18,7 +18,7 @@ use Rattle.odata_checked_filter.specs.Stands.{IsCallNode}
 use Rattle.odata_typing.specs.declared.setting.Judged.{Judged}
 use Rattle.odata_typing.specs.declared.setting.Setting.{Setting}
 use Rattle.odata_typing.specs.declared.walk.Walk.{Walk}
-use Rattle.odata_typing.specs.private.Judging.{AreChildren, IsNodeJudged}
+use Rattle.odata_typing.specs.private.Judging.{IsNodeJudged}
 use Rattle.odata_typing.specs.private.LawsBelow.{LawsBelow}
 use Rattle.odata_typing.specs.private.Settings.{IsNodeReady}
 use Rattle.odata_typing.specs.private.Variables.{scope_of}

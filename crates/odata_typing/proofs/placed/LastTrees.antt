@@ -1,5 +1,5 @@
 -- The children of a node, as the last of the trees before it.
-use Rattle.std.proofs.Common.{◌≡◌, ◌∙◌, refl, sym, ap, subst, ℕ, zero, suc, ◌<◌, ◌≤◌, ◌+◌, List, [], ◌∷◌, ◌++◌, Bool, length, reverse, take, drop, arith}
+use Rattle.std.proofs.Common.{◌≡◌, ◌∙◌, refl, sym, ap, subst, ℕ, zero, suc, ◌≤◌, ◌+◌, List, [], ◌∷◌, ◌++◌, Bool, length, reverse, take, drop, arith}
 use Rattle.std.proofs.lemmas.List.{reverse-append}
 use Rattle.odata_syntax.specs.PostOrder.{child_count, last_tree, last_trees, shape_over, trees_before}
 use Rattle.odata_syntax.specs.TextTree.{HasText}

@@ -1,5 +1,5 @@
 -- Nodes without children, and steps.
-use Rattle.std.proofs.Common.{◌≡◌, ◌≢◌, ◌∙◌, refl, sym, ap, subst, inr, arith, ℕ, ◌+◌, List, [], ◌∷◌, Bool, true, false, None, Some, Option, IfSome, IsSomeAnd, length, slice_get}
+use Rattle.std.proofs.Common.{◌≡◌, ◌≢◌, ◌∙◌, refl, sym, ap, subst, inr, arith, ℕ, ◌+◌, List, [], Bool, true, false, None, Some, Option, IfSome, IsSomeAnd, length, slice_get}
 use Rattle.edm_values.specs.declared.value.Value.{Value}
 use Rattle.odata_syntax.specs.Tree.{Tree, it, literal, member, name}
 use Rattle.odata_text.specs.declared.span.Span.{Span}

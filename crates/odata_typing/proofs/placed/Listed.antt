@@ -1,10 +1,8 @@
 -- Nodes of `in` before a list.
-use Rattle.std.proofs.Common.{◌≡◌, ◌∙◌, refl, sym, ap, subst, inl, inr, ℕ, ◌+◌, ◌↔◌, List, [], ◌∷◌, Bool, true, false, None, Some, Option, IsTrue, length, slice_get, rules}
-use Rattle.std.specs.List.{AllByRecursion}
+use Rattle.std.proofs.Common.{◌≡◌, ◌∙◌, refl, sym, ap, subst, inl, inr, ℕ, ◌+◌, ◌↔◌, List, [], ◌∷◌, Bool, true, false, None, IsTrue, length}
 use Rattle.edm_values.specs.declared.value.Value.{Value}
 use Rattle.odata_syntax.specs.Tree.{Tree, in_list, trees_of_list}
 use Rattle.csdl_schema.specs.ExprType.{ExprType}
-use Rattle.csdl_schema.specs.SchemaModel.{slots_of}
 use Rattle.odata_signatures.specs.CollectionTyped.{InListTyped, IsCollection}
 use Rattle.odata_signatures.specs.ExprTypes.{boolean_type}
 use Rattle.odata_signatures.specs.Side.{Side}
@@ -30,7 +28,7 @@ use Rattle.odata_typing.specs.private.Rows.{AreInRow, AreTypesThere, row_sides}
 use Rattle.odata_typing.specs.private.Settings.{IsNodeReady}
 use Rattle.odata_typing.specs.private.Variables.{scope_of}
 use Rattle.odata_typing.specs.private.Walks.{list_put, truth_type, walk_put, walk_refused}
-use Rattle.odata_typing.proofs.flat.Closing.{put_tree, refused_tree, root_in, slots_in, tree_over, unjudged, values_kept}
+use Rattle.odata_typing.proofs.flat.Closing.{put_tree, refused_tree, root_in, slots_in, unjudged, values_kept}
 use Rattle.odata_typing.proofs.flat.Idle.{idle_list}
 use Rattle.odata_typing.proofs.flat.Kept.{IsMore, row_more, same_more}
 use Rattle.odata_typing.proofs.pairs.Items.{item_numbers, lacks_one, none_read, numbered_typed, one_lacks, unknown_untyped, unread_lacks_none}

@@ -1,15 +1,12 @@
 -- Nodes over one operand.
-use Rattle.std.proofs.Common.{◌≡◌, refl, sym, subst, ℕ, ◌+◌, List, [], ◌∷◌, Bool, true, false, None, Some, Option, IfNone, IfSome, length, slice_get}
+use Rattle.std.proofs.Common.{◌≡◌, sym, subst, ℕ, ◌+◌, List, [], ◌∷◌, Bool, true, false, None, Some, Option, IfNone, IfSome}
 use Rattle.odata_syntax.specs.Tree.{Tree}
 use Rattle.csdl_schema.specs.ExprType.{ExprType}
 use Rattle.odata_signatures.specs.TypeThere.{IsTypeThere}
 use Rattle.odata_signatures.specs.TypeView.{expr_type}
 use Rattle.odata_signatures.specs.declared.edm_type.EdmType.{EdmType}
-use Rattle.odata_expression_types.specs.Typed.{Scope, Typed}
 use Rattle.odata_expression_types.specs.declared.refusal.TypeFaultCode.{TypeFaultCode}
-use Rattle.odata_checked_filter.specs.declared.checked_node.CheckedNode.{CheckedNode}
 use Rattle.odata_checked_filter.specs.declared.checked_node.NodeKind.{NodeKind}
-use Rattle.odata_checked_filter.specs.Stands.{Stands}
 use Rattle.odata_typing.specs.declared.setting.Judged.{Judged}
 use Rattle.odata_typing.specs.declared.setting.Setting.{Setting}
 use Rattle.odata_typing.specs.declared.unary_node.Unary.{Unary}
@@ -20,7 +17,7 @@ use Rattle.odata_typing.specs.private.LawsBelow.{LawsBelow}
 use Rattle.odata_typing.specs.private.Settings.{IsNodeReady}
 use Rattle.odata_typing.specs.private.Variables.{scope_of}
 use Rattle.odata_typing.specs.private.Walks.{walk_put, walk_refused}
-use Rattle.odata_typing.proofs.flat.Closing.{put_tree, refused_tree, root_in, slots_in, tree_over}
+use Rattle.odata_typing.proofs.flat.Closing.{put_tree, refused_tree, root_in, slots_in}
 use Rattle.odata_typing.proofs.flat.Idle.{idle_over}
 use Rattle.odata_typing.proofs.flat.Kept.{same_more}
 use Rattle.odata_typing.proofs.forms.Unary.{unary_of_kind, unary_stands, unary_text, unary_typed}

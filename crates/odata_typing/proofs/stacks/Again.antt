@@ -1,7 +1,7 @@
 -- Two readings of one node of the list say the same.
 use Rattle.std.proofs.Common.{◌≡◌, sym, subst, ◌∙◌, ℕ, ◌+◌, ◌-◌, ◌<◌, ◌≤◌, Bool, length}
 use Rattle.std.proofs.lemmas.Option.{same_Some}
-use Rattle.odata_syntax.specs.Places.{number_at}
+use Rattle.odata_syntax.specs.Places.{number_at, places_of}
 use Rattle.odata_syntax.specs.TextTree.{IsTextRange, text_in}
 use Rattle.odata_syntax.specs.Tree.{Tree, lambda, node}
 use Rattle.odata_syntax.specs.declared.node.Quantifier.{Quantifier}
@@ -35,7 +35,7 @@ ready_again setting walk from index a b quantifier base at ready =
     let number_is : a.number ≡ b.number = same_number setting index a b ready.at at in
     let stop_is : a.stop ≡ b.stop = same_stop setting index a b ready.at at in
     let Order : ℕ → ℕ → Type 0 = λ (i j : ℕ). i < j in
-    let Base : ℕ → Type 0 = λ (i : ℕ). IsStanding setting.schema.now setting.filtered_type (scope_of setting) walk (i + 1) (number_at setting.places.now (index - 1)) base in
+    let Base : ℕ → Type 0 = λ (i : ℕ). IsStanding setting.schema.now setting.filtered_type (scope_of setting) walk (i + 1) (number_at (places_of setting.nodes.now) (index - 1)) base in
     record {
       setting_is = ready.setting_is;
       at = at;

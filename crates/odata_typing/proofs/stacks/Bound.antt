@@ -1,7 +1,7 @@
 -- A lambda operator whose body has been judged, in the scope with its variable.
 use Rattle.std.proofs.Common.{◌≡◌, sym, ap, subst, ◌∙◌, inl, ℕ, ◌+◌, ◌-◌, ◌<◌, ◌≤◌, List, Bool, true, false, None, Bor, arith, Option}
 use Rattle.std.proofs.lemmas.Option.{same_Some}
-use Rattle.odata_syntax.specs.Places.{number_at, stop_at}
+use Rattle.odata_syntax.specs.Places.{number_at, places_of, stop_at}
 use Rattle.odata_syntax.specs.Tree.{Tree}
 use Rattle.odata_syntax.specs.declared.node.Quantifier.{Quantifier}
 use Rattle.csdl_schema.specs.ExprType.{single}
@@ -57,13 +57,13 @@ pub over_body :
     → variable_type (scope_of setting) (name_of setting judged) ≡ None
     → name.now ≡ name_of setting judged
     → IsPut setting.schema.now setting.filtered_type (scope_in setting.schema.now (Bound name (EdmType.Single member) setting.variables))
-    (number_at setting.places.now (index - 1)) (stop_at setting.places.now (index - 1)) (run_tree setting from index) old mid
+    (number_at (places_of setting.nodes.now) (index - 1)) (stop_at (places_of setting.nodes.now) (index - 1)) (run_tree setting from index) old mid
     → IsOverBody setting mid judged base (run_tree setting from index)
 over_body laws setting old mid from index judged quantifier base member name type ready type_is of_member fresh same put =
     let schema = setting.schema.now in
     let n = setting.filtered_type in
-    let i = number_at setting.places.now (index - 1) in
-    let j = stop_at setting.places.now (index - 1) in
+    let i = number_at (places_of setting.nodes.now) (index - 1) in
+    let j = stop_at (places_of setting.nodes.now) (index - 1) in
     let onward : IsOnward i j old mid = record { kept = put.kept; navigates = put.navigates } in
     let body = run_tree setting from index in
     let Body : Scope → ℕ → Type 0 = λ (scope : Scope) (k : ℕ). IsStanding schema n scope mid i k body in
@@ -103,7 +103,7 @@ judged_since schema n scope i j from to tree old mid new false onward below abov
 pub body_places :
     (setting : Setting) (walk : Walk) (from index : ℕ) (judged : Judged) (quantifier : Quantifier) (base : Tree)
     → (ready : IsLambdaReady setting walk from index judged quantifier base)
-    → judged.number ≤ number_at setting.places.now (index - 1)
+    → judged.number ≤ number_at (places_of setting.nodes.now) (index - 1)
 body_places setting walk from index judged quantifier base ready =
-    let order : judged.number + 1 < number_at setting.places.now (index - 1) = ready.base_stands.order in
+    let order : judged.number + 1 < number_at (places_of setting.nodes.now) (index - 1) = ready.base_stands.order in
     omega arith

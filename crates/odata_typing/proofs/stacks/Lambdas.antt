@@ -1,6 +1,6 @@
 -- The walk over a run: a lambda expression whose body begins at an index.
 use Rattle.std.proofs.Common.{◌≡◌, ◌≢◌, refl, ap, sym, subst, ◌∙◌, ℕ, suc, ◌+◌, ◌-◌, ◌<◌, ◌≤◌, List, [], ◌∷◌, ◌++◌, Some, take, drop, length, slice_get, arith}
-use Rattle.odata_syntax.specs.Places.{AreBefore, AreSideBySide, lambda_at, number_at, stop_at}
+use Rattle.odata_syntax.specs.Places.{AreBefore, AreSideBySide, lambda_at, number_at, places_of, stop_at}
 use Rattle.odata_syntax.specs.PostOrder.{Texts, child_count, last_tree, shape_over, trees_back, trees_left, tree_count_back}
 use Rattle.odata_syntax.specs.TextTree.{HasText, text_in}
 use Rattle.odata_syntax.specs.Tree.{Shape, Tree, lambda, node}
@@ -41,14 +41,14 @@ has_last (root ∷ roots) (tree ∷ trees) some more = record { root = root; roo
 
 -- the body of a lambda expression, and the base before it
 pub record IsOverRuns (setting : Setting) (from index stop last : ℕ) (n : SyntaxNode) (quantifier : Quantifier) : Type 0 where
-  pub body : IsBodyWithin setting.nodes.now setting.places.now index stop last
+  pub body : IsBodyWithin setting.nodes.now (places_of setting.nodes.now) index stop last
   pub run : IsRun setting index last
   pub at : slice_get setting.nodes.now last ≡ Some n
   pub is_lambda : n.kind ≡ SyntaxKind.Lambda quantifier
   pub roots_are : run_roots setting from last ≡ (last - 1) ∷ run_roots setting from index
   pub trees_are : run_trees setting from last ≡ run_tree setting index last ∷ run_trees setting from index
   pub base : HasLast (run_roots setting from index) (run_trees setting from index)
-  pub placed : IsPlacedFrom setting.places.now from n (run_before setting.nodes.now from last)
+  pub placed : IsPlacedFrom (places_of setting.nodes.now) from n (run_before setting.nodes.now from last)
   pub here : from + length (run_before setting.nodes.now from last) ≡ last
 
 pub over_runs :
@@ -57,11 +57,11 @@ pub over_runs :
     → IsRun setting from stop
     → from < index
     → index < stop
-    → lambda_at setting.places.now index ≢ 0
-    → (n : SyntaxNode) × (quantifier : Quantifier) × IsOverRuns setting from index stop (lambda_at setting.places.now index) n quantifier
+    → lambda_at (places_of setting.nodes.now) index ≢ 0
+    → (n : SyntaxNode) × (quantifier : Quantifier) × IsOverRuns setting from index stop (lambda_at (places_of setting.nodes.now) index) n quantifier
 over_runs setting from index stop is run later before marked =
     let nodes = setting.nodes.now in
-    let places = setting.places.now in
+    let places = places_of setting.nodes.now in
     let names : Texts = text_in setting.text.now in
     let last = lambda_at places index in
     let inside : stop ≤ length nodes = run.inside in
@@ -116,9 +116,9 @@ pub record StandBaseAndBody (places : List Place) (root last : ℕ) : Type 0 whe
 
 pub base_and_body :
     (setting : Setting) (from index stop last : ℕ) (n : SyntaxNode) (quantifier : Quantifier) (over : IsOverRuns setting from index stop last n quantifier)
-    → StandBaseAndBody setting.places.now over.base.root last
+    → StandBaseAndBody (places_of setting.nodes.now) over.base.root last
 base_and_body setting from index stop last n quantifier over =
-    let places = setting.places.now in
+    let places = places_of setting.nodes.now in
     let Row : ℕ → List ℕ → Type 0 = λ (k : ℕ) (rs : List ℕ). AreSideBySide places (number_at places k + 1) (stop_at places k) rs in
     let two : child_count n.kind n.count ≡ 2 = ap (λ (k : SyntaxKind). child_count k n.count) over.is_lambda in
     let roots : run_roots setting from last ≡ (last - 1) ∷ over.base.root ∷ drop 1 (run_roots setting from index) =
@@ -141,7 +141,7 @@ pub lambda_ready :
     → IsOverRuns setting from index stop last judged.node.now quantifier
     → IsLambdaReady setting walk index last judged quantifier (last_tree (run_trees setting from index))
 lambda_ready setting from index stop last old walk judged quantifier is ready walking at over =
-    let places = setting.places.now in
+    let places = places_of setting.nodes.now in
     let schema = setting.schema.now in
     let stand = base_and_body setting from index stop last judged.node.now quantifier over in
     let split : AreTreesJudged setting walk (over.base.root ∷ drop 1 (run_roots setting from index)) (last_tree (run_trees setting from index) ∷ drop 1 (run_trees setting from index)) =
@@ -190,7 +190,7 @@ pub lambda_joins :
     (drop 1 (run_trees setting from index))
 lambda_joins setting from index stop last old walk n quantifier is later walking over =
     let nodes = setting.nodes.now in
-    let places = setting.places.now in
+    let places = places_of setting.nodes.now in
     let names : Texts = text_in setting.text.now in
     let roots = run_roots setting from index in
     let trees = run_trees setting from index in

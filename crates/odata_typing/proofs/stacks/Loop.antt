@@ -1,10 +1,12 @@
 -- What the loop over a run meets at an index: a node, or the body of a lambda expression.
-use Rattle.std.proofs.Common.{◌≡◌, ◌≢◌, refl, sym, ap, subst, ◌∙◌, ℕ, ◌<◌, ◌≤◌, get_or, length, arith}
-use Rattle.std.proofs.lemmas.Option.{slice_get-get_or}
-use Rattle.odata_syntax.specs.Places.{lambda_at, lambda_of, number_at, stop_at}
+use Rattle.std.proofs.Common.{◌≡◌, ◌≢◌, refl, sym, ap, subst, ◌∙◌, ℕ, ◌<◌, ◌≤◌, Some, get_or, length, slice_get, arith}
+use Rattle.std.specs.Option.{option_map}
+use Rattle.std.proofs.lemmas.Option.{slice_get-get_or, slice_get-map}
+use Rattle.odata_syntax.specs.Places.{lambda_at, lambda_of, number_at, places_of, stop_at}
 use Rattle.odata_syntax.specs.PostOrder.{last_tree}
+use Rattle.odata_syntax.specs.declared.node.LiteralKind.{LiteralKind}
 use Rattle.odata_syntax.specs.declared.node.Quantifier.{Quantifier}
-use Rattle.odata_syntax.specs.declared.places.Place.{Place}
+use Rattle.odata_syntax.specs.declared.syntax_list.SyntaxKind.{SyntaxKind}
 use Rattle.odata_syntax.specs.declared.syntax_list.SyntaxNode.{SyntaxNode}
 use Rattle.odata_typing.specs.declared.setting.Judged.{Judged}
 use Rattle.odata_typing.specs.declared.setting.Setting.{Setting}
@@ -14,21 +16,21 @@ use Rattle.odata_typing.specs.private.Settings.{IsNodeAt, IsReady, IsRun, IsSett
 use Rattle.odata_typing.proofs.stacks.Lambdas.{IsOverRuns, lambda_ready, over_runs}
 use Rattle.odata_typing.proofs.stacks.Walking.{IsWalking, run_trees}
 
--- what a read of the places gives past their end
-abbrev pub no_place : Place
-no_place = record { number = 0; first = 0; lambda = 0 }
+-- what a read of the nodes gives past their end
+abbrev pub no_node : SyntaxNode
+no_node = record { kind = SyntaxKind.Lit LiteralKind.Null; span = record { start = 0; stop = 0 }; text = record { start = 0; stop = 0 }; count = 0; place = record { number = 0; first = 0; lambda = 0 } }
 
 -- the mark that is read at an index
 abbrev pub mark_at : Setting → ℕ → ℕ
-mark_at setting index = (get_or setting.places.now index no_place).lambda
+mark_at setting index = (get_or setting.nodes.now index no_node).place.lambda
 
-mark_read : (setting : Setting) (index : ℕ) → IsSetting setting → index < length setting.nodes.now → mark_at setting index ≡ lambda_at setting.places.now index
+mark_read : (setting : Setting) (index : ℕ) → IsSetting setting → index < length setting.nodes.now → mark_at setting index ≡ lambda_at (places_of setting.nodes.now) index
 mark_read setting index is inside =
-    let beside : length setting.places.now ≡ length setting.nodes.now = is.places.beside in
-    ap (λ o. lambda_of o) (sym (slice_get-get_or setting.places.now index no_place (omega arith)))
+    let at : slice_get setting.nodes.now index ≡ Some (get_or setting.nodes.now index no_node) = slice_get-get_or setting.nodes.now index no_node inside in
+    ap lambda_of (sym (slice_get-map (λ (n : SyntaxNode). n.place) setting.nodes.now index ∙ ap (option_map (λ (n : SyntaxNode). n.place)) at))
 
 -- where none is read no body begins
-pub none_read : (setting : Setting) (from stop index : ℕ) → IsSetting setting → IsRun setting from stop → index < stop → mark_at setting index ≡ 0 → lambda_at setting.places.now index ≡ 0
+pub none_read : (setting : Setting) (from stop index : ℕ) → IsSetting setting → IsRun setting from stop → index < stop → mark_at setting index ≡ 0 → lambda_at (places_of setting.nodes.now) index ≡ 0
 none_read setting from stop index is run before none =
     let inside : stop ≤ length setting.nodes.now = run.inside in
     sym (mark_read setting index is (omega arith)) ∙ none
@@ -47,8 +49,8 @@ pub record IsLambdaThere (setting : Setting) (from stop index last : ℕ) (walk 
 abbrev judged_at : Setting → ℕ → SyntaxNode → Judged
 judged_at setting last n = record {
   node = record { ref_ptr = (0, 0); now = n };
-  number = number_at setting.places.now last;
-  stop = stop_at setting.places.now last;
+  number = number_at (places_of setting.nodes.now) last;
+  stop = stop_at (places_of setting.nodes.now) last;
 }
 
 pub lambda_there :
@@ -64,10 +66,10 @@ pub lambda_there :
 lambda_there setting from stop index old walk is ready run walking inside not_first marked =
     let last = mark_at setting index in
     let within : stop ≤ length setting.nodes.now = run.inside in
-    let mark : last ≡ lambda_at setting.places.now index = mark_read setting index is (omega arith) in
+    let mark : last ≡ lambda_at (places_of setting.nodes.now) index = mark_read setting index is (omega arith) in
     let order : from ≤ index = walking.order in
     let later : from < index = omega arith in
-    let some : lambda_at setting.places.now index ≢ 0 = omega arith in
+    let some : lambda_at (places_of setting.nodes.now) index ≢ 0 = omega arith in
     let found = over_runs setting from index stop is run later inside some in
     let over : IsOverRuns setting from index stop last found.0 found.1 =
     subst (λ (k : ℕ). IsOverRuns setting from index stop k found.0 found.1) (sym mark) found.2 in

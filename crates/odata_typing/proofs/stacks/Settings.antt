@@ -3,7 +3,7 @@ use Rattle.std.proofs.Common.{◌≡◌, ◌≢◌, ap, sym, subst, ◌∙◌, �
 use Rattle.std.specs.List.{slice_range}
 use Rattle.std.proofs.lemmas.List.{length-reverse, take_all}
 use Rattle.std.proofs.lemmas.Option.{slice_get_within}
-use Rattle.odata_syntax.specs.Places.{BeginsBody, IsPlaced, first_at, lambda_at, nodes_before, number_at, stop_at}
+use Rattle.odata_syntax.specs.Places.{BeginsBody, IsPlaced, first_at, lambda_at, nodes_before, number_at, places_of, stop_at}
 use Rattle.odata_syntax.specs.PostOrder.{AreFedBack, IsWholeTree, child_count, last_tree, tree_count_back, trees_back}
 use Rattle.odata_syntax.specs.Spans.{IsWithin, is_root}
 use Rattle.odata_syntax.specs.TextTree.{text_in}
@@ -70,7 +70,7 @@ pub node_ready :
     → IsNodeReady setting walk judged
 node_ready setting walk index judged is ready at =
     let nodes = setting.nodes.now in
-    let places = setting.places.now in
+    let places = places_of setting.nodes.now in
     let inside : index < length nodes = slice_get_within nodes index judged.node.now at.at in
     let count : length (nodes_before nodes index) ≡ index = before_length nodes index (omega arith) in
     let placed : IsPlaced places judged.node.now (nodes_before nodes index) = is.places.placed index judged.node.now at.at in
@@ -102,15 +102,15 @@ pub body_run :
     (setting : Setting) (index stop lambda : ℕ)
     → IsSetting setting
     → stop ≤ length setting.nodes.now
-    → lambda ≡ lambda_at setting.places.now index
-    → IsBodyWithin setting.nodes.now setting.places.now index stop lambda
+    → lambda ≡ lambda_at (places_of setting.nodes.now) index
+    → IsBodyWithin setting.nodes.now (places_of setting.nodes.now) index stop lambda
     → IsRun setting index lambda
 body_run setting index stop lambda is inside mark body =
     let nodes = setting.nodes.now in
     let order : index < lambda = body.order in
     let within : lambda < stop = body.within in
     let whole : IsWholeRun (run_before nodes index lambda) =
-    tree_run nodes setting.places.now index lambda is.places (fed_before setting lambda is (omega arith)) body.begins order (omega arith) in
+    tree_run nodes (places_of setting.nodes.now) index lambda is.places (fed_before setting lambda is (omega arith)) body.begins order (omega arith) in
     let part : IsWithin (run_tree setting index lambda) (last_tree (trees_back (text_in setting.text.now) (run_before nodes 0 (length nodes)))) =
     run_within (text_in setting.text.now) nodes 0 index lambda (length nodes) (omega arith) (omega arith) (omega arith) whole (all_whole setting is) in
     record {
@@ -129,10 +129,10 @@ later_begin (root ∷ []) two = absurd (omega arith)
 later_begin (root ∷ (before ∷ more)) two = omega arith
 
 -- no body begins with the first node of all
-first_unmarked : (setting : Setting) → IsSetting setting → lambda_at setting.places.now 0 ≢ 0 → ⊥
+first_unmarked : (setting : Setting) → IsSetting setting → lambda_at (places_of setting.nodes.now) 0 ≢ 0 → ⊥
 first_unmarked setting is marked =
     let nodes = setting.nodes.now in
-    let places = setting.places.now in
+    let places = places_of setting.nodes.now in
     let last = lambda_at places 0 in
     let some : last ≢ 0 = marked in
     let body : BeginsBody nodes places 0 last = is.places.marked 0 marked in
@@ -155,7 +155,7 @@ first_unmarked setting is marked =
 pub whole_list_run : (setting : Setting) → IsSetting setting → IsRun setting 0 (length setting.nodes.now)
 whole_list_run setting is =
     let nodes = setting.nodes.now in
-    let places = setting.places.now in
+    let places = places_of setting.nodes.now in
     let count = length nodes in
     let one : tree_count_back (reverse nodes) ≡ 1 = is.whole.one in
     let few : tree_count_back (reverse nodes) ≤ length (reverse nodes) = few_trees (reverse nodes) in

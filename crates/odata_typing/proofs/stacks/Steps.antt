@@ -1,6 +1,6 @@
 -- The walk over a run, one step on: it goes on after what has been put, and is refused where something is.
 use Rattle.std.proofs.Common.{◌≡◌, subst, ◌⊎◌, ℕ, ◌+◌, ◌-◌, ◌<◌, drop, Option, Some, None, IfSome, arith}
-use Rattle.odata_syntax.specs.Places.{lambda_at, number_at, stop_at}
+use Rattle.odata_syntax.specs.Places.{lambda_at, number_at, places_of, stop_at}
 use Rattle.odata_syntax.specs.PostOrder.{child_count, last_tree, shape_over}
 use Rattle.odata_syntax.specs.Tree.{Shape, Tree, lambda, node}
 use Rattle.odata_syntax.specs.declared.node.Quantifier.{Quantifier}
@@ -49,10 +49,10 @@ put_at :
     (setting : Setting) (index : ℕ) (judged : Judged) (tree : Tree) (old new : Walk)
     → IsNodeAt setting index judged
     → IsTreePut setting judged tree old new
-    → IsPut setting.schema.now setting.filtered_type (scope_of setting) (number_at setting.places.now index) (stop_at setting.places.now index) tree old new
+    → IsPut setting.schema.now setting.filtered_type (scope_of setting) (number_at (places_of setting.nodes.now) index) (stop_at (places_of setting.nodes.now) index) tree old new
 put_at setting index judged tree old new at put =
     let P : ℕ → ℕ → Type 0 = λ (i j : ℕ). IsPut setting.schema.now setting.filtered_type (scope_of setting) i j tree old new in
-    subst (λ (j : ℕ). P (number_at setting.places.now index) j) at.stop (subst (λ (i : ℕ). P i judged.stop) at.number put)
+    subst (λ (j : ℕ). P (number_at (places_of setting.nodes.now) index) j) at.stop (subst (λ (i : ℕ). P i judged.stop) at.number put)
 
 module _ (laws : LawsBelow) where
   -- after a node
@@ -63,7 +63,7 @@ module _ (laws : LawsBelow) where
       → IsWalking setting from stop index old walk
       → index < stop
       → IsNodeAt setting index judged
-      → (lambda_at setting.places.now index ≡ 0) ⊎ (index ≡ from)
+      → (lambda_at (places_of setting.nodes.now) index ≡ 0) ⊎ (index ≡ from)
       → IsTreePut setting judged (judged_tree judged (shape_at setting from index judged)) walk new
       → IsWalking setting from stop (index + 1) old new
   node_goes_on setting from stop index old walk new judged is run walking inside at unmarked put =
@@ -105,7 +105,7 @@ module _ (laws : LawsBelow) where
       → IsWalking setting from stop index old walk
       → index < stop
       → IsNodeAt setting index judged
-      → (lambda_at setting.places.now index ≡ 0) ⊎ (index ≡ from)
+      → (lambda_at (places_of setting.nodes.now) index ≡ 0) ⊎ (index ≡ from)
       → HasFirstFault setting (judged_tree judged (shape_at setting from index judged)) new
       → HasFirstFault setting (run_tree setting from stop) new
   node_refuses setting from stop index old walk new judged is run walking inside at unmarked found =

@@ -1,7 +1,7 @@
 -- The walk over a run: what has been judged so far, and one more node.
 use Rattle.std.proofs.Common.{◌≡◌, ◌≢◌, ap, sym, subst, ◌∙◌, inl, inr, ◌⊎◌, ℕ, zero, suc, ◌+◌, ◌-◌, ◌<◌, ◌≤◌, List, [], ◌∷◌, false, Some, None, take, drop, length, slice_get, arith}
 use Rattle.std.specs.List.{slice_range}
-use Rattle.odata_syntax.specs.Places.{AreBefore, AreSideBySide, lambda_at, number_at, stop_at}
+use Rattle.odata_syntax.specs.Places.{AreBefore, AreSideBySide, lambda_at, number_at, places_of, stop_at}
 use Rattle.odata_syntax.specs.PostOrder.{AreFedBack, Texts, child_count, last_tree, shape_over, tree_count_back, trees_back}
 use Rattle.odata_syntax.specs.Spans.{IsWithin}
 use Rattle.odata_syntax.specs.TextTree.{text_in}
@@ -42,17 +42,17 @@ run_trees setting from index = trees_back (text_in setting.text.now) (run_before
 
 abbrev pub AreTreesJudged : Setting → Walk → List ℕ → List Tree → Type 0
 AreTreesJudged setting walk roots trees =
-    AreJudged setting.schema.now setting.filtered_type (scope_of setting) walk setting.places.now roots trees
+    AreJudged setting.schema.now setting.filtered_type (scope_of setting) walk (places_of setting.nodes.now) roots trees
 
 -- the trees of a run up to an index have been judged, and all else stands where it stood
 pub record IsWalking (setting : Setting) (from stop index : ℕ) (old new : Walk) : Type 0 where
   pub order : from ≤ index
   pub inside : index ≤ stop
-  pub kept : IsKeptOutside (number_at setting.places.now (stop - 1)) (stop_at setting.places.now (stop - 1)) old.list new.list
+  pub kept : IsKeptOutside (number_at (places_of setting.nodes.now) (stop - 1)) (stop_at (places_of setting.nodes.now) (stop - 1)) old.list new.list
   pub navigates : new.navigates ≡ false → old.navigates ≡ false
   pub fault : new.fault ≡ None
   pub judged : AreTreesJudged setting new (run_roots setting from index) (run_trees setting from index)
-  pub apart : NoneBegins (IsMarked setting.places.now) (run_roots setting from index)
+  pub apart : NoneBegins (IsMarked (places_of setting.nodes.now)) (run_roots setting from index)
 
 pub walk_begins : (setting : Setting) (from stop : ℕ) (walk : Walk) → IsReady setting walk → from ≤ stop → IsWalking setting from stop from walk walk
 walk_begins setting from stop walk ready order =
@@ -60,11 +60,11 @@ walk_begins setting from stop walk ready order =
     record {
       order = omega arith;
       inside = order;
-      kept = same_kept (number_at setting.places.now (stop - 1)) (stop_at setting.places.now (stop - 1)) walk.list;
+      kept = same_kept (number_at (places_of setting.nodes.now) (stop - 1)) (stop_at (places_of setting.nodes.now) (stop - 1)) walk.list;
       navigates = λ still. still;
       fault = ready.fresh;
       judged = subst (λ (ns : List SyntaxNode). AreTreesJudged setting walk (roots_from from ns) (trees_back (text_in setting.text.now) ns)) (sym none) tt;
-      apart = subst (λ (ns : List SyntaxNode). NoneBegins (IsMarked setting.places.now) (roots_from from ns)) (sym none) tt;
+      apart = subst (λ (ns : List SyntaxNode). NoneBegins (IsMarked (places_of setting.nodes.now)) (roots_from from ns)) (sym none) tt;
     }
 
 pub ready_still : (setting : Setting) (from stop index : ℕ) (old new : Walk) → IsReady setting old → IsWalking setting from stop index old new → IsReady setting new
@@ -82,9 +82,9 @@ pub record IsJoin (setting : Setting) (walk : Walk) (from root : ℕ) (tree : Tr
   pub at : slice_get setting.nodes.now root ≡ Some n
   pub roots_are : run_roots setting from (root + 1) ≡ root ∷ roots
   pub trees_are : run_trees setting from (root + 1) ≡ tree ∷ trees
-  pub before : AreBefore setting.places.now (number_at setting.places.now root) roots
+  pub before : AreBefore (places_of setting.nodes.now) (number_at (places_of setting.nodes.now) root) roots
   pub judged : AreTreesJudged setting walk roots trees
-  pub apart : NoneBegins (IsMarked setting.places.now) (root ∷ roots)
+  pub apart : NoneBegins (IsMarked (places_of setting.nodes.now)) (root ∷ roots)
 
 module _ (laws : LawsBelow) where
   -- once its tree is put, one more tree has been judged
@@ -96,10 +96,10 @@ module _ (laws : LawsBelow) where
       → from ≤ root
       → root < stop
       → IsJoin setting walk from root tree roots trees
-      → IsPut setting.schema.now setting.filtered_type (scope_of setting) (number_at setting.places.now root) (stop_at setting.places.now root) tree walk new
+      → IsPut setting.schema.now setting.filtered_type (scope_of setting) (number_at (places_of setting.nodes.now) root) (stop_at (places_of setting.nodes.now) root) tree walk new
       → IsWalking setting from stop (root + 1) old new
   join_walked setting from stop index root old walk new tree roots trees is run walking order inside join put =
-      let places = setting.places.now in
+      let places = places_of setting.nodes.now in
       let range : IsInRange places stop root =
       node_range setting.nodes.now places from stop root join.n is.places order inside run.inside join.at (whole_run setting from stop run) in
       let rest : AreTreesJudged setting new roots trees =
@@ -135,7 +135,7 @@ module _ (laws : LawsBelow) where
       let root_type = type_name_at setting.schema.now setting.filtered_type in
       let scope = scope_of setting in
       let nodes = setting.nodes.now in
-      let places = setting.places.now in
+      let places = places_of setting.nodes.now in
       let names : Texts = text_in setting.text.now in
       let later = slice_range nodes (root + 1) stop in
       let earlier = run_before nodes from (root + 1) in
@@ -168,7 +168,7 @@ pub node_children :
     → AreLastTrees setting walk judged (run_trees setting from index)
 node_children setting from stop index old walk judged is run walking inside at =
     let nodes = setting.nodes.now in
-    let places = setting.places.now in
+    let places = places_of setting.nodes.now in
     let n = judged.node.now in
     let count = child_count n.kind n.count in
     let trees = run_trees setting from index in
@@ -211,8 +211,8 @@ node_is_plain setting from stop index old walk n quantifier is run walking insid
     let fits : child_count n.kind n.count ≤ tree_count_back earlier = fits_within setting from stop index n run walking.order inside at in
     let two : child_count n.kind n.count ≡ 2 = ap (λ (k : SyntaxKind). child_count k n.count) lambda in
     let count : length (run_roots setting from index) ≡ tree_count_back earlier = roots_count from earlier in
-    not_a_body (IsMarked setting.places.now) from (run_roots setting from index) (omega arith)
-    (marked_one nodes setting.places.now from index n quantifier is.places (fed_before setting index is (omega arith)) walking.order at lambda
+    not_a_body (IsMarked (places_of setting.nodes.now)) from (run_roots setting from index) (omega arith)
+    (marked_one nodes (places_of setting.nodes.now) from index n quantifier is.places (fed_before setting index is (omega arith)) walking.order at lambda
     (fed_within setting from stop index run walking.order walking.inside) fits)
     walking.apart
 
@@ -238,14 +238,14 @@ pub node_joins :
     → IsWalking setting from stop index old walk
     → index < stop
     → slice_get setting.nodes.now index ≡ Some n
-    → (lambda_at setting.places.now index ≡ 0) ⊎ (index ≡ from)
+    → (lambda_at (places_of setting.nodes.now) index ≡ 0) ⊎ (index ≡ from)
     → IsJoin setting walk from index
     (node n.span.start n.span.stop (shape_over n.kind (text_in setting.text.now n.text) n.count (run_trees setting from index)))
     (drop (child_count n.kind n.count) (run_roots setting from index))
     (drop (child_count n.kind n.count) (run_trees setting from index))
 node_joins setting from stop index old walk n is run walking inside at unmarked =
     let nodes = setting.nodes.now in
-    let places = setting.places.now in
+    let places = places_of setting.nodes.now in
     let count = child_count n.kind n.count in
     let names : Texts = text_in setting.text.now in
     let earlier = run_before nodes from index in
@@ -275,7 +275,7 @@ pub walk_ends :
     (setting : Setting) (from stop : ℕ) (old new : Walk)
     → IsRun setting from stop
     → IsWalking setting from stop stop old new
-    → IsPut setting.schema.now setting.filtered_type (scope_of setting) (number_at setting.places.now (stop - 1)) (stop_at setting.places.now (stop - 1)) (run_tree setting from stop) old new
+    → IsPut setting.schema.now setting.filtered_type (scope_of setting) (number_at (places_of setting.nodes.now) (stop - 1)) (stop_at (places_of setting.nodes.now) (stop - 1)) (run_tree setting from stop) old new
 walk_ends setting from stop old new run walking =
     let nodes = setting.nodes.now in
     let whole : IsWholeRun (run_before nodes from stop) = whole_run setting from stop run in

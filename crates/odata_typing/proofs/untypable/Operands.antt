@@ -1,5 +1,5 @@
 -- Nodes over operands that have types, of which they make none.
-use Rattle.std.proofs.Common.{refl, sym, subst, ◌≡◌, ℕ, List, [], ◌∷◌}
+use Rattle.std.proofs.Common.{refl, sym, subst, ◌≡◌, ℕ, List}
 use Rattle.std.specs.List.{AllByRecursion}
 use Rattle.odata_syntax.specs.Tree.{Tree, literal, member, node}
 use Rattle.odata_syntax.specs.declared.node.LiteralKind.{LiteralKind}

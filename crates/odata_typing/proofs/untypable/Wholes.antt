@@ -1,26 +1,23 @@
 -- The walk over all nodes of a setting.
-use Rattle.std.proofs.Common.{◌≡◌, ◌∙◌, refl, sym, ap, subst, ℕ, ◌-◌, ◌<◌, List, [], Bool, true, false, None, Option, Some, IfErr, IfOk, IfSome, Result, Ok, Err, length, slice_get, slice_range, take, arith}
-use Rattle.std.proofs.lemmas.List.{take_all}
+use Rattle.std.proofs.Common.{◌≡◌, refl, replicate, ◌∙◌, sym, ap, subst, ℕ, ◌-◌, ◌<◌, List, [], Bool, true, false, Option, Some, IfErr, IfOk, IfSome, Result, Ok, Err, length, slice_get, slice_range, take, arith}
+use Rattle.std.proofs.lemmas.List.{length-replicate, take_all}
 use Rattle.std.proofs.lemmas.Option.{slice_get_within}
-use Rattle.odata_syntax.specs.Places.{number_at, stop_at}
+use Rattle.odata_syntax.specs.Places.{number_at, places_of, stop_at}
 use Rattle.odata_syntax.specs.TextTree.{listed_tree}
 use Rattle.odata_syntax.specs.Tree.{Tree}
 use Rattle.odata_syntax.specs.declared.syntax_list.SyntaxNode.{SyntaxNode}
-use Rattle.csdl_schema.specs.ExpansionView.{StepModel, paths_in}
-use Rattle.csdl_schema.specs.PathSet.{PropertyPath}
 use Rattle.csdl_schema.specs.SchemaModel.{HoldsType, SchemaModel, slots_of, type_name_at}
 use Rattle.odata_signatures.specs.ExprTypes.{IsBooleanOrNull}
 use Rattle.odata_signatures.specs.TypeView.{expr_type}
-use Rattle.odata_expression_types.specs.HasTyping.{HasNoTyping, HasTree, HasTyping, IsRefusal, UnlessMemory}
+use Rattle.odata_expression_types.specs.HasTyping.{HasTree, HasTyping}
 use Rattle.odata_expression_types.specs.Laws.{FewNodes}
 use Rattle.odata_expression_types.specs.Typed.{Scope}
 use Rattle.odata_expression_types.specs.declared.refusal.Refusal.{Refusal}
 use Rattle.odata_expression_types.specs.declared.refusal.TypeFault.{TypeFault}
 use Rattle.odata_expression_types.specs.declared.refusal.TypeFaultCode.{TypeFaultCode}
-use Rattle.odata_checked_filter.specs.Filter.{HasNeededPaths, IsFilter, filter_of}
-use Rattle.odata_checked_filter.specs.FlatTree.{tree_of_nodes}
+use Rattle.odata_checked_filter.specs.FlatTree.{FlatTree, tree_of_nodes}
 use Rattle.odata_checked_filter.specs.Laws.{OneTree}
-use Rattle.odata_checked_filter.specs.Stands.{Stands}
+use Rattle.odata_checked_filter.specs.ListChanges.{nothing_yet, with_room}
 use Rattle.odata_checked_filter.specs.declared.checked_node.CheckedNode.{CheckedNode}
 use Rattle.odata_typing.specs.declared.setting.Setting.{Setting}
 use Rattle.odata_typing.specs.declared.walk.Walk.{Walk}
@@ -29,6 +26,7 @@ use Rattle.odata_typing.specs.private.Judging.{IsJudged, IsPut, IsStanding, IsTr
 use Rattle.odata_typing.specs.private.LawsBelow.{LawsBelow}
 use Rattle.odata_typing.specs.private.Settings.{IsReady, IsSetting, run_tree, whole_tree}
 use Rattle.odata_typing.specs.private.Variables.{scope_of}
+use Rattle.odata_typing.specs.private.Wholes.{IsRefusedFor, IsWalked}
 use Rattle.odata_typing.proofs.untypable.Checks.{not_boolean, type_none, type_refusal, whole_filter, whole_idle, whole_stands, whole_typing}
 
 all_nodes : (nodes : List SyntaxNode) → slice_range nodes 0 (length nodes) ≡ nodes
@@ -37,18 +35,29 @@ all_nodes nodes = ap (λ (k : ℕ). take k nodes) (omega arith) ∙ take_all (le
 pub run_whole : (setting : Setting) → run_tree setting 0 (length setting.nodes.now) ≡ whole_tree setting
 run_whole setting = ap (listed_tree setting.text.now) (all_nodes setting.nodes.now)
 
+-- a list with room for the nodes of a text
+pub room_made :
+    (old new : FlatTree) (text : List ℕ) (count : ℕ)
+    → new ≡ with_room old text count
+    → (new.source ≡ text) × (length new.nodes ≡ count) × (length new.texts ≡ length new.nodes)
+room_made old new text count is =
+    let IsMade : FlatTree → Type 0 = λ (list : FlatTree). (list.source ≡ text) × (length list.nodes ≡ count) × (length list.texts ≡ length list.nodes) in
+    let nodes : length (replicate count nothing_yet) ≡ count = length-replicate count nothing_yet in
+    let empty : List ℕ = [] in
+    subst IsMade (sym is) (refl, nodes, length-replicate count empty ∙ sym nodes)
+
 -- in all places, without variables
 pub whole_judged :
     (setting : Setting) (old new : Walk) (result : Bool)
     → IsSetting setting
     → scope_of setting ≡ []
-    → IsTreeJudged setting (number_at setting.places.now (length setting.nodes.now - 1)) (stop_at setting.places.now (length setting.nodes.now - 1)) (run_tree setting 0 (length setting.nodes.now)) old new result
+    → IsTreeJudged setting (number_at (places_of setting.nodes.now) (length setting.nodes.now - 1)) (stop_at (places_of setting.nodes.now) (length setting.nodes.now - 1)) (run_tree setting 0 (length setting.nodes.now)) old new result
     → IsJudged setting.schema.now setting.filtered_type [] 0 (length setting.nodes.now) (whole_tree setting) old new result
 whole_judged setting old new result is none judged =
     let n = setting.filtered_type in
     let schema = setting.schema.now in
-    let at_scope = subst (λ (scope : Scope). IsJudged schema n scope (number_at setting.places.now (length setting.nodes.now - 1)) (stop_at setting.places.now (length setting.nodes.now - 1)) (run_tree setting 0 (length setting.nodes.now)) old new result) none judged in
-    let at_start = subst (λ (i : ℕ). IsJudged schema n [] i (stop_at setting.places.now (length setting.nodes.now - 1)) (run_tree setting 0 (length setting.nodes.now)) old new result) is.places.root at_scope in
+    let at_scope = subst (λ (scope : Scope). IsJudged schema n scope (number_at (places_of setting.nodes.now) (length setting.nodes.now - 1)) (stop_at (places_of setting.nodes.now) (length setting.nodes.now - 1)) (run_tree setting 0 (length setting.nodes.now)) old new result) none judged in
+    let at_start = subst (λ (i : ℕ). IsJudged schema n [] i (stop_at (places_of setting.nodes.now) (length setting.nodes.now - 1)) (run_tree setting 0 (length setting.nodes.now)) old new result) is.places.root at_scope in
     let at_stop = subst (λ (j : ℕ). IsJudged schema n [] 0 j (run_tree setting 0 (length setting.nodes.now)) old new result) is.places.whole at_start in
     subst (λ (tree : Tree). IsJudged schema n [] 0 (length setting.nodes.now) tree old new result) (run_whole setting) at_stop
 
@@ -66,61 +75,48 @@ some_place setting walk stop tree stands = slice_get_within walk.list.nodes 0 st
 
 -- ---- what is returned
 
-pub same_ok : (r : Result Walk Refusal) (walk : Walk) (P : Walk → Type 0) → IfOk r (λ w. w ≡ walk) → P walk → IfOk r P
-same_ok (Ok w) walk P same holds = subst P (sym same) holds
-same_ok (Err refusal) walk P same holds = tt
-
-pub truth_ok :
-    (schema : SchemaModel) (r : Result Walk Refusal) (walk : Walk)
-    → IfOk r (λ w. w ≡ walk)
-    → ((found : CheckedNode) → slice_get walk.list.nodes 0 ≡ Some found → IfOk r (λ w. IsBooleanOrNull (expr_type schema found.edm_type)))
-    → IfOk r (λ w. (found : CheckedNode) → slice_get w.list.nodes 0 ≡ Some found → IsBooleanOrNull (expr_type schema found.edm_type))
-truth_ok schema (Ok w) walk same truth = λ found at. truth found (ap (λ (v : Walk). slice_get v.list.nodes 0) (sym same) ∙ at)
-truth_ok schema (Err refusal) walk same truth = tt
-
-pub other_err :
-    (schema : SchemaModel) (n : ℕ) (tree : Tree) (walk : Walk) (len : ℕ) (r : Result Walk Refusal)
+-- a whole of another type than true, false or null
+pub no_truth :
+    (schema : SchemaModel) (n : ℕ) (tree : Tree) (walk : Walk) (len : ℕ) (fault : TypeFault)
     → IsStanding schema n [] walk 0 (length walk.list.nodes) tree
-    → IfErr r (λ refusal. refusal ≡ Refusal.Typing (record { code = TypeFaultCode.NotBoolean; span = record { start = 0; stop = len } }))
-    → ((found : CheckedNode) → slice_get walk.list.nodes 0 ≡ Some found → IfErr r (λ refusal. ¬ IsBooleanOrNull (expr_type schema found.edm_type)))
-    → IfErr r (IsTypeRefusal (slots_of schema) (type_name_at schema n) tree len)
-other_err schema n tree walk len (Ok w) stands is other = tt
-other_err schema n tree walk len (Err refusal) stands is other = not_boolean schema n tree walk len refusal stands (other stands.found stands.at) is
+    → fault ≡ record { code = TypeFaultCode.NotBoolean; span = record { start = 0; stop = len } }
+    → ((found : CheckedNode) → slice_get walk.list.nodes 0 ≡ Some found → ¬ IsBooleanOrNull (expr_type schema found.edm_type))
+    → IsTypeRefusal (slots_of schema) (type_name_at schema n) tree len (Refusal.Typing fault)
+no_truth schema n tree walk len fault stands is other = not_boolean schema n tree walk len (Refusal.Typing fault) stands (other stands.found stands.at) (ap Refusal.Typing is)
 
 pub first_fault : (fault : Option TypeFault) (f : TypeFault) (P : TypeFault → Type 0) → fault ≡ Some f → IfSome fault P → P f
 first_fault fault f P is some = let is_some : IfSome (Some f) P = subst (λ (o : Option TypeFault). IfSome o P) is some in is_some
 
-module _ (one : OneTree) (few : FewNodes) (schema : SchemaModel) (n : ℕ) (text : List ℕ) (tree : Tree) where
-  abbrev pub StandsOk : Result Walk Refusal → Type 0
-  StandsOk r = IfOk r (λ w. IsStanding schema n [] w 0 (length w.list.nodes) tree)
+module _ {A : Type 0} (one : OneTree) (schema : SchemaModel) (n : ℕ) (text : List ℕ) (tree : Tree) (w : Walk) where
+  pub walked_ok :
+      FewNodes → HoldsType schema n → HasTree text tree
+      → (r : Result A Refusal)
+      → IfOk r (λ _. IsStanding schema n [] w 0 (length w.list.nodes) tree)
+      → IfOk r (λ _. (found : CheckedNode) → slice_get w.list.nodes 0 ≡ Some found → IsBooleanOrNull (expr_type schema found.edm_type))
+      → IfOk r (λ _. IsWalked schema n w)
+  walked_ok few held has_tree (Ok _) stands truth = record {
+    stands = whole_stands one schema n w tree stands;
+    filter = λ expansion expands. whole_filter one schema n w tree stands few text expansion held has_tree (truth stands.found stands.at) expands;
+    idle = whole_idle one schema n w tree stands;
+  }
+  walked_ok few held has_tree (Err refusal) stands truth = tt
 
-  abbrev pub TruthOk : Result Walk Refusal → Type 0
-  TruthOk r = IfOk r (λ w. (found : CheckedNode) → slice_get w.list.nodes 0 ≡ Some found → IsBooleanOrNull (expr_type schema found.edm_type))
+  pub typing_ok :
+      HasTree text tree
+      → (r : Result A Refusal)
+      → IfOk r (λ _. IsStanding schema n [] w 0 (length w.list.nodes) tree)
+      → IfOk r (λ _. (found : CheckedNode) → slice_get w.list.nodes 0 ≡ Some found → IsBooleanOrNull (expr_type schema found.edm_type))
+      → IfOk r (λ _. HasTyping (slots_of schema) (type_name_at schema n) text (tree_of_nodes w.list))
+  typing_ok has_tree (Ok _) stands truth = whole_typing one schema n w tree stands text has_tree (truth stands.found stands.at)
+  typing_ok has_tree (Err refusal) stands truth = tt
 
-  pub stands_ok : (r : Result Walk Refusal) → StandsOk r → IfOk r (λ w. Stands schema n [] w.list 0 (length w.list.nodes) (tree_of_nodes w.list))
-  stands_ok (Ok w) stands = whole_stands one schema n w tree stands
-  stands_ok (Err refusal) stands = tt
-
-  pub filter_ok : (r : Result Walk Refusal) → HoldsType schema n → HasTree text tree → StandsOk r → TruthOk r
-      → IfOk r (λ w. (expansion : List StepModel) → HasNeededPaths schema n w.list expansion → IsFilter (filter_of schema n w.list expansion))
-  filter_ok (Ok w) held has_tree stands truth = λ expansion expands. whole_filter one schema n w tree stands few text expansion held has_tree (truth stands.found stands.at) expands
-  filter_ok (Err refusal) held has_tree stands truth = tt
-
-  pub idle_ok : (r : Result Walk Refusal) → StandsOk r
-      → IfOk r (λ w. (expansion : List StepModel) → w.navigates ≡ false → ((path : PropertyPath) → paths_in expansion path ≡ false) → HasNeededPaths schema n w.list expansion)
-  idle_ok (Ok w) stands = whole_idle one schema n w tree stands
-  idle_ok (Err refusal) stands = tt
-
-  pub typing_ok : (r : Result Walk Refusal) → HasTree text tree → StandsOk r → TruthOk r → IfOk r (λ w. HasTyping (slots_of schema) (type_name_at schema n) text (tree_of_nodes w.list))
-  typing_ok (Ok w) has_tree stands truth = whole_typing one schema n w tree stands text has_tree (truth stands.found stands.at)
-  typing_ok (Err refusal) has_tree stands truth = tt
-
-  pub refusal_err : (r : Result Walk Refusal) → HasTree text tree → IfErr r (IsTypeRefusal (slots_of schema) (type_name_at schema n) tree (length text))
-      → IfErr r (λ refusal. UnlessMemory refusal (IsRefusal (slots_of schema) (type_name_at schema n) text refusal))
-  refusal_err (Ok w) has_tree is = tt
-  refusal_err (Err refusal) has_tree is = type_refusal (slots_of schema) (type_name_at schema n) text tree refusal has_tree is
-
-  pub none_err : (r : Result Walk Refusal) → LawsBelow → ((other : Tree) → HasTree text other → other ≡ tree) → IfErr r (IsTypeRefusal (slots_of schema) (type_name_at schema n) tree (length text))
-      → IfErr r (λ refusal. UnlessMemory refusal (HasNoTyping (slots_of schema) (type_name_at schema n) text))
-  none_err (Ok w) laws only is = tt
-  none_err (Err refusal) laws only is = type_none laws (slots_of schema) (type_name_at schema n) text tree refusal only is
+  pub refused_err :
+      LawsBelow → HasTree text tree → ((other : Tree) → HasTree text other → other ≡ tree)
+      → (r : Result A Refusal)
+      → IfErr r (IsTypeRefusal (slots_of schema) (type_name_at schema n) tree (length text))
+      → IfErr r (IsRefusedFor schema n text)
+  refused_err laws has_tree only (Ok _) is = tt
+  refused_err laws has_tree only (Err refusal) is = record {
+    why = type_refusal (slots_of schema) (type_name_at schema n) text tree refusal has_tree is;
+    none = type_none laws (slots_of schema) (type_name_at schema n) text tree refusal only is;
+  }

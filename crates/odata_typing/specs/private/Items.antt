@@ -6,7 +6,7 @@ use Rattle.csdl_schema.specs.ExprType.{ExprType}
 use Rattle.csdl_schema.specs.SchemaModel.{Slots}
 use Rattle.odata_signatures.specs.CollectionTyped.{IsCollection, IsItemBeside}
 use Rattle.odata_signatures.specs.QuotedNumber.{IsReadBeside, LacksNumber, NumberBeside}
-use Rattle.odata_signatures.specs.Side.{Side, quoting}
+use Rattle.odata_signatures.specs.Side.{Side}
 use Rattle.odata_checked_filter.specs.FlatTree.{FlatTree}
 use Rattle.odata_typing.specs.declared.in_list.ItemsFit.{ItemsFit}
 

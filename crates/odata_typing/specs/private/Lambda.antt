@@ -1,6 +1,6 @@
 -- For private clauses: lambda operators with a variable and a body.
-use Rattle.std.specs.Prelude.{◌≡◌, ◌+◌, ◌-◌, ℕ, None, Some, slice_get}
-use Rattle.odata_syntax.specs.Places.{number_at, stop_at}
+use Rattle.std.specs.Prelude.{◌≡◌, ◌+◌, ◌-◌, ℕ, None}
+use Rattle.odata_syntax.specs.Places.{number_at, places_of, stop_at}
 use Rattle.odata_syntax.specs.TextTree.{IsTextRange}
 use Rattle.odata_syntax.specs.Tree.{Tree}
 use Rattle.odata_syntax.specs.declared.node.Quantifier.{Quantifier}
@@ -29,9 +29,9 @@ pub record IsLambdaReady
   pub text : IsTextRange setting.text.now judged.node.now.text
   pub base_stands :
       IsStanding setting.schema.now setting.filtered_type (scope_of setting) walk (judged.number + 1)
-      (number_at setting.places.now (index - 1)) base
+      (number_at (places_of setting.nodes.now) (index - 1)) base
   pub body : IsRun setting from index
-  pub body_stop : stop_at setting.places.now (index - 1) ≡ judged.stop
+  pub body_stop : stop_at (places_of setting.nodes.now) (index - 1) ≡ judged.stop
 
 -- the base is a collection of such members, the variable is new, and in the scope with it the body has been judged
 pub record IsOverBody (setting : Setting) (walk : Walk) (judged : Judged) (base body : Tree) : Type 0 where

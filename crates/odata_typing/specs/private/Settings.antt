@@ -1,7 +1,7 @@
 -- For private clauses: what is given of the nodes that are judged, and of the walk over them.
-use Rattle.std.specs.Prelude.{◌≡◌, ◌≢◌, ◌<◌, ◌≤◌, ◌-◌, ◌+◌, ℕ, List, None, Some, length, slice_get, slice_range}
+use Rattle.std.specs.Prelude.{◌≡◌, ◌≢◌, ◌<◌, ◌≤◌, ◌-◌, ℕ, List, None, Some, length, slice_get, slice_range}
 use Rattle.odata_syntax.specs.Parse.{IsExpression}
-use Rattle.odata_syntax.specs.Places.{ArePlaces, first_at, lambda_at, number_at, stop_at}
+use Rattle.odata_syntax.specs.Places.{ArePlaces, first_at, lambda_at, number_at, places_of, stop_at}
 use Rattle.odata_syntax.specs.PostOrder.{IsWholeTree}
 use Rattle.odata_syntax.specs.Spans.{IsWithin}
 use Rattle.odata_syntax.specs.TextTree.{AreTextRanges, listed_tree, text_in}
@@ -26,7 +26,7 @@ run_tree setting from stop = listed_tree setting.text.now (slice_range setting.n
 -- its nodes are an expression's, with their places, and have ranges of its text
 pub record IsSetting (setting : Setting) : Type 0 where
   pub whole : IsWholeTree setting.nodes.now
-  pub places : ArePlaces setting.nodes.now setting.places.now
+  pub places : ArePlaces setting.nodes.now (places_of setting.nodes.now)
   pub ranges : AreTextRanges setting.text.now setting.nodes.now
   pub expression : IsExpression (whole_tree setting)
 
@@ -47,8 +47,8 @@ pub record IsNodeReady (setting : Setting) (walk : Walk) (judged : Judged) : Typ
 -- the node of an index, with its places
 pub record IsNodeAt (setting : Setting) (index : ℕ) (judged : Judged) : Type 0 where
   pub at : slice_get setting.nodes.now index ≡ Some judged.node.now
-  pub number : judged.number ≡ number_at setting.places.now index
-  pub stop : judged.stop ≡ stop_at setting.places.now index
+  pub number : judged.number ≡ number_at (places_of setting.nodes.now) index
+  pub stop : judged.stop ≡ stop_at (places_of setting.nodes.now) index
 
 -- the nodes from one index up to another are one tree, a part of that of all nodes; if the first one begins the body of
 -- a lambda expression, that is this tree or holds it
@@ -56,6 +56,6 @@ pub record IsRun (setting : Setting) (from stop : ℕ) : Type 0 where
   pub order : from < stop
   pub inside : stop ≤ length setting.nodes.now
   pub whole : IsWholeTree (slice_range setting.nodes.now from stop)
-  pub begins : first_at setting.places.now (stop - 1) ≡ from
-  pub outer : lambda_at setting.places.now from ≢ 0 → stop ≤ lambda_at setting.places.now from
+  pub begins : first_at (places_of setting.nodes.now) (stop - 1) ≡ from
+  pub outer : lambda_at (places_of setting.nodes.now) from ≢ 0 → stop ≤ lambda_at (places_of setting.nodes.now) from
   pub within : IsWithin (run_tree setting from stop) (whole_tree setting)

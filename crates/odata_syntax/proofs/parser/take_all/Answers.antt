@@ -1,6 +1,8 @@
-use Rattle.std.proofs.Common.{◌≡◌, refl, ap, ◌∙◌, ℕ, ◌<◌, List, length, get_or, slice_get, arith}
+use Rattle.std.proofs.Common.{◌≡◌, refl, ap, ◌∙◌, ℕ, ◌<◌, List, length, take, get_or, slice_get, arith}
 use Rattle.std.proofs.lemmas.Option.{slice_get-get_or}
 use Rattle.odata_text.specs.declared.token.Token.{Token}
+use Rattle.odata_text.specs.TokenModel.{token_models}
+use Rattle.odata_syntax.proofs.machine.Depth.{shallow-whole}
 use Rattle.odata_syntax.proofs.machine.Loop.{loop_more, loop_overfull, stuck_at}
 use Rattle.odata_syntax.specs.declared.syntax_fault.SyntaxFault.{SyntaxFault}
 use Rattle.odata_syntax.specs.private.Forests.{text_of_token, token_texts}
@@ -20,22 +22,27 @@ returns-in-Refused-clause-refused c =
     stuck_at c.args.tokens.now c.loop-token.token-index _ (machine_of texts c.loop-token.state) (SyntaxFault.Unexpected _) (omega arith) i.taken i.shallow
     (record { start_is = refl; stop_is = refl }, c.in-Refused.ensures.step texts named)
 
-pub returns-then-opens-closes-clause-refused : goal.returns-then-opens-closes-clause-refused
-returns-then-opens-closes-clause-refused c =
+pub exceeds-requires-clause-within : goal.exceeds-requires-clause-within
+exceeds-requires-clause-within c =
+    let i = c.loop-token.invariant in
+    let whole = shallow-whole (token_models (take c.loop-token.token-index c.args.tokens.now)) i.shallow in
+    omega (arith, whole, i.opened, i.closed)
+
+pub returns-then-exceeds-clause-refused : goal.returns-then-exceeds-clause-refused
+returns-then-exceeds-clause-refused c =
     let i = c.loop-token.invariant in
     let texts = token_texts c.args.tokens.now in
     let named = named_at c.args.tokens.now c.loop-token.number c.loop-token.token-index _ (omega arith) i.number in
-    loop_overfull c.args.tokens.now c.loop-token.token-index _ (machine_of texts c.loop-token.state) (machine_of texts c.step.new.self) c.loop-token.opens c.loop-token.closes c.open_count-opens.result c.close_count-closes.result
-    (omega arith) i.taken i.shallow i.opened i.closed (c.in-Taken.ensures.step texts named) c.open_count-opens.ensures.count c.close_count-closes.ensures.count c.if-opens-closes.true
+    loop_overfull c.args.tokens.now c.loop-token.token-index _ (machine_of texts c.loop-token.state) (machine_of texts c.step.new.self) c.loop-token.depth.opens c.loop-token.depth.closes c.exceeds.new.self.opens c.exceeds.new.self.closes
+    (omega arith) i.taken i.shallow i.opened i.closed (c.in-Taken.ensures.step texts named) c.exceeds.ensures.opens c.exceeds.ensures.closes (c.exceeds.ensures.deep c.if-exceeds.true)
 
 pub loop-token-preserved : goal.loop-token-preserved
 loop-token-preserved c =
     let i = c.loop-token.invariant in
     let texts = token_texts c.args.tokens.now in
     let named = named_at c.args.tokens.now c.loop-token.number c.loop-token.token-index _ (omega arith) i.number in
-    let more = loop_more c.args.tokens.now c.loop-token.token-index _ (machine_of texts c.loop-token.state) (machine_of texts c.step.new.self) c.loop-token.opens c.loop-token.closes c.open_count-opens.result c.close_count-closes.result
-    (omega arith) i.taken i.shallow i.opened i.closed i.opens_within i.closes_within (c.in-Taken.ensures.step texts named) c.open_count-opens.ensures.count c.close_count-closes.ensures.count
-    c.open_count-opens.ensures.one c.close_count-closes.ensures.one c.if-opens-closes.false in
+    let more = loop_more c.args.tokens.now c.loop-token.token-index _ (machine_of texts c.loop-token.state) (machine_of texts c.step.new.self) c.loop-token.depth.opens c.loop-token.depth.closes c.exceeds.new.self.opens c.exceeds.new.self.closes
+    (omega arith) i.taken i.shallow i.opened i.closed i.opens_within i.closes_within (c.in-Taken.ensures.step texts named) c.exceeds.ensures.opens c.exceeds.ensures.closes (c.exceeds.ensures.shallow c.if-exceeds.false) in
     record {
       steady = c.in-Taken.ensures.steady;
       number = omega (arith, i.number);

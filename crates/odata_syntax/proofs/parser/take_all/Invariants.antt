@@ -14,8 +14,8 @@ invariant-loop-token l = record {
   number : l.number ≡ l.token-index;
   taken : run (token_models (take l.token-index l.tokens)) start ≡ Some (machine_of (token_texts l.tokens) l.state);
   shallow : IsShallow (token_models (take l.token-index l.tokens));
-  opened : l.opens ≡ open_count (token_models (take l.token-index l.tokens));
-  closed : l.closes ≡ close_count (token_models (take l.token-index l.tokens));
-  opens_within : l.opens ≤ l.token-index;
-  closes_within : l.closes ≤ l.token-index;
+  opened : l.depth.opens ≡ open_count (token_models (take l.token-index l.tokens));
+  closed : l.depth.closes ≡ close_count (token_models (take l.token-index l.tokens));
+  opens_within : l.depth.opens ≤ l.token-index;
+  closes_within : l.depth.closes ≤ l.token-index;
 }

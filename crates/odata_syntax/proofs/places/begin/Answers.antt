@@ -1,24 +1,29 @@
-use Rattle.std.proofs.Common.{◌≡◌, ◌+◌, ◌<◌, ◌++◌, ◌∷◌, [], ℕ, List, ap, arith, length, refl}
-use Rattle.std.proofs.lemmas.List.{length_push}
+use Rattle.std.proofs.Common.{◌+◌, ℕ, arith, refl}
 use Rattle.odata_syntax.specs.declared.places.Place.{Place}
-use Rattle.odata_syntax.proofs.numbering.Writes.{is_begun_in, number_within, read_at}
+use Rattle.odata_syntax.specs.declared.syntax_list.SyntaxNode.{SyntaxNode}
+use Rattle.odata_syntax.proofs.numbering.Nodes.{begun_fits, begun_nodes, unplaced_begun}
 use Rattle.odata_syntax.proofs.places.begin.Goals as goal
+
+-- the place that is put
+abbrev put : ℕ → Place
+put first = record { number = 0; first = first; lambda = 0 }
+
+-- a place that begins one more tree
+abbrev more : SyntaxNode → Place
+more n = record { number = n.place.number + 1; first = n.place.first; lambda = n.place.lambda }
 
 pub overflow_add-index_mut : goal.overflow_add-index_mut
 overflow_add-index_mut c =
-    let old = c.args.places.now.items in
-    let put : Place = record { number = 0; first = c.args.first; lambda = 0 } in
-    let size = ap (λ (xs : List Place). length xs) c.in_ok-push.ensures.items in
-    let more = length_push old put in
-    let read = read_at c.push.new.self.items c.args.first c.index_mut.result.now (omega (arith, c.requires.inside, size, more)) c.index_mut.ensures.value in
-    let within = number_within old c.push.new.self.items put c.args.first c.in_ok-push.ensures.items refl in
-    omega (arith, read.number, within, c.requires.few, c.args.places.now.ok, c.args.places.now.small)
+    let fits = begun_fits c.args.nodes.now.items c.args.index c.args.first c.index_mut.result.now c.index_mut-2.result.now (put c.args.first) c.requires.inside c.requires.order refl
+    c.index_mut-2.ensures.value c.requires.few in
+    omega (arith, fits, c.requires.inside, c.args.nodes.now.ok, c.args.nodes.now.small)
 
-pub returns : goal.returns
-returns c =
-    let old = c.args.places.now.items in
-    let put : Place = record { number = 0; first = c.args.first; lambda = 0 } in
-    let size = ap (λ (xs : List Place). length xs) c.in_ok-push.ensures.items in
-    let more = length_push old put in
-    let read = read_at c.push.new.self.items c.args.first c.index_mut.result.now (omega (arith, c.requires.inside, size, more)) c.index_mut.ensures.value in
-    is_begun_in old c.push.new.self.items c.args.first put _ c.in_ok-push.ensures.items c.requires.inside refl refl refl (ap (λ (n : ℕ). n + 1) read.number) read.first read.lambda
+pub returns-clause-begun : goal.returns-clause-begun
+returns-clause-begun c =
+    begun_nodes c.args.nodes.now.items c.args.index c.args.first c.index_mut.result.now c.index_mut-2.result.now (put c.args.first) (more c.index_mut-2.result.now) c.requires.inside c.requires.order
+    refl refl refl c.index_mut-2.ensures.value refl refl refl
+
+pub returns-clause-same : goal.returns-clause-same
+returns-clause-same c =
+    unplaced_begun c.args.nodes.now.items c.args.index c.args.first c.index_mut.result.now c.index_mut-2.result.now (put c.args.first) (more c.index_mut-2.result.now)
+    c.index_mut.ensures.value c.index_mut-2.ensures.value

@@ -1,4 +1,4 @@
-use Rattle.std.proofs.Common.{◌≡◌, ◌+◌, subst, List, ℕ}
+use Rattle.std.proofs.Common.{◌+◌, subst, List, ℕ}
 use Rattle.std.specs.Str.{str_to_ascii_lowercase}
 use Rattle.odata_signatures.specs.Functions.{IsNamed}
 use Rattle.odata_typing.specs.private.Settings.{name_of}

@@ -1,4 +1,4 @@
-use Rattle.std.proofs.Common.{◌≡◌, ◌∙◌, ◌<◌, ◌≤◌, subst, ℕ, arith, rules, length, length-set}
+use Rattle.std.proofs.Common.{◌≡◌, ◌∙◌, ◌<◌, ◌≤◌, arith, rules, length, length-set}
 use Rattle.std.proofs.lemmas.Option.{slice_get_within}
 use Rattle.odata_typing.proofs.placed.TypeLoops.{taken_all, taken_four, taken_more, taken_next, taken_none}
 use Rattle.odata_typing.proofs.call_node.first_types.Goals as goal
@@ -35,7 +35,7 @@ loop-place-preserved c =
     let room : length c.loop-place.types ≡ 4 = c.loop-place.invariant.room in
     record {
       few = omega arith;
-      room = length-set c.loop-place.types c.loop-place.count c.type_at.result ∙ room;
+      room = length-set c.loop-place.types c.loop-place.count c.type_at.result.now ∙ room;
       taken = rw (c.type_at.ensures next.found next.at, c.stop_at-place.ensures next.found next.at)
           (taken_more c.args.walk.now.list.nodes c.args.from c.args.stop c.loop-place.types c.loop-place.place c.loop-place.count c.loop-place.invariant.taken next (omega arith));
     }

@@ -1,4 +1,4 @@
-use Rattle.std.proofs.Common.{◌≡◌, ◌∙◌, ◌<◌, ap, sym, List, length, arith, true, false}
+use Rattle.std.proofs.Common.{◌≡◌, ◌∙◌, ap, List, length, arith, true, false}
 use Rattle.edm_values.specs.declared.value.Value.{Value}
 use Rattle.odata_checked_filter.specs.declared.checked_node.CheckedNode.{CheckedNode}
 use Rattle.odata_typing.proofs.placed.Listed.{listed, not_true, numbered_code, row_there, unnumbered_code}
@@ -31,8 +31,8 @@ returns-then-is_enumeration c = λ l items over.
     let old = c.args.walk.now in
     let list = listed setting old judged l items over in
     numbered_code c.laws_below.ensures setting judged old c.put_list.new.walk l items c.put_list.result c.requires.ready list
-    c.type_at-left_type.result c.stop_at-items.result c.put_items-fit.new.walk c.put_items-fit.result (length c.values-numbers.result.now)
-    (c.type_at-left_type.ensures list.left.found list.left.at) (c.stop_at-items.ensures list.left.found list.left.at ∙ list.left.last)
+    c.type_at.result.now c.stop_at-items.result c.put_items-fit.new.walk c.put_items-fit.result (length c.values-numbers.result.now)
+    (c.type_at.ensures list.left.found list.left.at) (c.stop_at-items.ensures list.left.found list.left.at ∙ list.left.last)
     (c.is_enumeration.ensures.single schema c.if-is_enumeration.true)
     c.put_items-fit.ensures.fit c.put_items-fit.ensures.put c.put_items-fit.ensures.walk
     (ap (λ (values : List Value). length values) c.values-numbers.ensures)
@@ -46,7 +46,7 @@ returns-else-is_enumeration c = λ l items over.
     let old = c.args.walk.now in
     let list = listed setting old judged l items over in
     unnumbered_code c.laws_below.ensures setting judged old c.put_list-else-is_enumeration.new.walk l items c.put_list-else-is_enumeration.result c.requires.ready list
-    c.type_at-left_type.result c.stop_at-items.result c.fit_of-fit.result
-    (c.type_at-left_type.ensures list.left.found list.left.at) (c.stop_at-items.ensures list.left.found list.left.at ∙ list.left.last)
+    c.type_at.result.now c.stop_at-items.result c.fit_of-fit.result
+    (c.type_at.ensures list.left.found list.left.at) (c.stop_at-items.ensures list.left.found list.left.at ∙ list.left.last)
     (c.is_enumeration.ensures.unread schema (not_true c.is_enumeration.result c.if-is_enumeration.false))
     c.fit_of-fit.ensures c.put_list-else-is_enumeration.ensures.goes_on c.put_list-else-is_enumeration.ensures.put

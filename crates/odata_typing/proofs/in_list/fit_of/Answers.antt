@@ -1,4 +1,4 @@
-use Rattle.std.proofs.Common.{◌≡◌, ◌<◌, ◌≤◌, refl, sym, subst, arith, true, false}
+use Rattle.std.proofs.Common.{◌<◌, ◌≤◌, refl, sym, subst, arith, true, false}
 use Rattle.std.proofs.lemmas.Option.{slice_get_within}
 use Rattle.csdl_schema.specs.SchemaModel.{slots_of}
 use Rattle.odata_signatures.specs.ComparableTypes.{AreComparable}

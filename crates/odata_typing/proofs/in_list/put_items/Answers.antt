@@ -1,4 +1,4 @@
-use Rattle.std.proofs.Common.{◌≡◌, ◌∙◌, ◌<◌, ◌≤◌, refl, ap, sym, subst, arith, List, slice_get}
+use Rattle.std.proofs.Common.{◌∙◌, ◌<◌, ◌≤◌, ap, arith, List, slice_get}
 use Rattle.std.proofs.lemmas.Option.{slice_get_within}
 use Rattle.csdl_schema.specs.SchemaModel.{slots_of}
 use Rattle.odata_signatures.specs.TypeView.{expr_type}

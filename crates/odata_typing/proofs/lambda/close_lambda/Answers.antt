@@ -1,11 +1,10 @@
-use Rattle.std.proofs.Common.{◌≡◌, ◌∙◌, sym, ap, subst, List, ℕ, Bool}
+use Rattle.std.proofs.Common.{◌≡◌, ap, subst, List, ℕ}
 use Rattle.odata_syntax.specs.TextTree.{text_in}
 use Rattle.odata_syntax.specs.declared.node.Quantifier.{Quantifier}
 use Rattle.odata_checked_filter.specs.declared.checked_node.NodeKind.{NodeKind}
 use Rattle.odata_signatures.specs.ExprTypes.{IsBooleanOrNull}
 use Rattle.odata_signatures.specs.TypeView.{expr_type}
 use Rattle.odata_signatures.specs.declared.edm_type.EdmType.{EdmType}
-use Rattle.odata_typing.specs.declared.walk.Walk.{Walk}
 use Rattle.odata_typing.specs.private.Walks.{truth_type, walk_put}
 use Rattle.odata_typing.proofs.bodies.Bodies.{body_type, lambda_put, lambda_refused}
 use Rattle.odata_typing.proofs.bodies.Faults.{not_truth}
@@ -17,8 +16,8 @@ returns-then-is_truth c = λ quantifier base body is over.
     let schema = setting.schema.now in
     let judged = c.args.judged.now in
     let old = c.args.walk.now in
-    let type : c.type_at.result ≡ over.body_stands.found.edm_type =
-    body_type setting judged old base body over c.stop_at-body.result c.type_at.result (c.stop_at-body.ensures over.base_stands.found over.base_stands.at) c.type_at.ensures in
+    let type : c.type_at.result.now ≡ over.body_stands.found.edm_type =
+    body_type setting judged old base body over c.stop_at-body.result c.type_at.result.now (c.stop_at-body.ensures over.base_stands.found over.base_stands.at) c.type_at.ensures in
     lambda_put c.laws_below.ensures setting judged old c.put.new.self quantifier base body c.put.result c.requires.ready over _
     (subst (λ (t : EdmType). IsBooleanOrNull (expr_type schema t)) type ((c.is_truth.ensures schema).0 c.if-is_truth.true))
     c.put.ensures.goes_on
@@ -31,8 +30,8 @@ returns-else-is_truth c = λ quantifier base body is over.
     let schema = setting.schema.now in
     let judged = c.args.judged.now in
     let old = c.args.walk.now in
-    let type : c.type_at.result ≡ over.body_stands.found.edm_type =
-    body_type setting judged old base body over c.stop_at-body.result c.type_at.result (c.stop_at-body.ensures over.base_stands.found over.base_stands.at) c.type_at.ensures in
+    let type : c.type_at.result.now ≡ over.body_stands.found.edm_type =
+    body_type setting judged old base body over c.stop_at-body.result c.type_at.result.now (c.stop_at-body.ensures over.base_stands.found over.base_stands.at) c.type_at.ensures in
     lambda_refused c.laws_below.ensures setting judged old c.refuse.new.self quantifier base body c.refuse.result c.requires.ready over
-    (subst (λ (t : EdmType). ¬ IsBooleanOrNull (expr_type schema t)) type (not_truth schema c.type_at.result c.is_truth.result (c.is_truth.ensures schema) c.if-is_truth.false))
+    (subst (λ (t : EdmType). ¬ IsBooleanOrNull (expr_type schema t)) type (not_truth schema c.type_at.result.now c.is_truth.result (c.is_truth.ensures schema) c.if-is_truth.false))
     c.refuse.ensures.stops c.refuse.ensures.fault

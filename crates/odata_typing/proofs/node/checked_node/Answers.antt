@@ -1,4 +1,4 @@
-use Rattle.std.proofs.Common.{◌≡◌, refl, ◌∷◌, drop}
+use Rattle.std.proofs.Common.{refl, drop}
 use Rattle.odata_syntax.specs.PostOrder.{last_tree, last_trees, trees_before}
 use Rattle.odata_syntax.specs.declared.syntax_list.SyntaxKind.{SyntaxKind}
 use Rattle.odata_typing.proofs.placed.LastTrees.{call_children_of, list_children_of, no_children, of_kind, one_child_of, text_of_kind, two_children_of}

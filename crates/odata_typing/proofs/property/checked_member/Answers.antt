@@ -1,4 +1,4 @@
-use Rattle.std.proofs.Common.{◌≡◌, ◌∙◌, ap, sym, subst, List, ℕ}
+use Rattle.std.proofs.Common.{◌∙◌, ap, sym, subst, List, ℕ}
 use Rattle.csdl_schema.specs.SchemaModel.{slots_of, type_name_at}
 use Rattle.odata_syntax.specs.TextTree.{text_in}
 use Rattle.odata_signatures.specs.TypeView.{expr_type}
@@ -55,7 +55,7 @@ returns-in-None c = λ base over.
     let old = c.args.walk.now in
     let stands = one_child setting old judged base over in
     let type = c.type_at.ensures stands.found stands.at in
-    let none = no_owner c.laws_below.ensures setting (name_of setting judged) c.type_at.result c.in-None.ensures.none in
+    let none = no_owner c.laws_below.ensures setting (name_of setting judged) c.type_at.result.now c.in-None.ensures.none in
     member_refused c.laws_below.ensures setting judged old c.refuse.new.self base c.refuse.result c.requires.ready stands old TypeFaultCode.UnknownProperty
     (subst (λ (t : EdmType). (made : ExprType) → ¬ StepTyped (slots_of schema) (name_of setting judged) (expr_type schema t) made) type none.0)
     (subst (λ (t : EdmType). StepReason (slots_of schema) (name_of setting judged) (expr_type schema t) TypeFaultCode.UnknownProperty) type none.1)

@@ -1,5 +1,4 @@
-use Rattle.std.proofs.Common.{◌≡◌, sym, subst, List, ℕ, None}
-use Rattle.csdl_schema.specs.ExprType.{ExprType}
+use Rattle.std.proofs.Common.{sym, subst, List, ℕ}
 use Rattle.csdl_schema.specs.PropertyView.{property_type}
 use Rattle.csdl_schema.specs.SchemaModel.{properties_at}
 use Rattle.odata_signatures.specs.TypeView.{expr_type}

@@ -1,6 +1,6 @@
 use Rattle.std.proofs.Common.{refl}
 use Rattle.csdl_schema.specs.SchemaModel.{slots_of}
-use Rattle.odata_typing.proofs.types.Literals.{no_guid, no_moment, reads_as, reads_date, reads_guid, reads_int, reads_moment, reads_null, reads_truth}
+use Rattle.odata_typing.proofs.types.Literals.{no_guid, no_moment, reads_as, reads_date, reads_guid, reads_moment, reads_null, reads_truth}
 use Rattle.odata_typing.proofs.reading.read_plain.Goals as goal
 
 pub returns-in-Null-clause-right : goal.returns-in-Null-clause-right
@@ -10,11 +10,6 @@ pub returns-in-Some-clause-right : goal.returns-in-Some-clause-right
 returns-in-Some-clause-right c =
     reads_as _ _ _ _ _ _ _ _ c.in-Bool.is c.primitive.ensures.value c.primitive.ensures.edm_type
     (reads_truth c.args.schema.now c.args.spelling.now c.in-Some.truth c.in-Some.ensures.value)
-
-pub returns-in-Some-read_int-clause-right : goal.returns-in-Some-read_int-clause-right
-returns-in-Some-read_int-clause-right c =
-    reads_as _ _ _ _ _ _ _ _ c.in-Int.is c.primitive-in-Some-read_int.ensures.value c.primitive-in-Some-read_int.ensures.edm_type
-    (reads_int c.args.schema.now c.args.spelling.now c.in-Some-read_int.n c.of_int_literal.result c.in-Some-read_int.ensures.value c.of_int_literal.ensures)
 
 pub returns-in-Some-read_date-clause-right : goal.returns-in-Some-read_date-clause-right
 returns-in-Some-read_date-clause-right c =

@@ -1,4 +1,3 @@
-use Rattle.std.proofs.Common.{◌≡◌, ◌<◌, arith}
 use Rattle.std.proofs.lemmas.Option.{slice_get_within}
 use Rattle.odata_typing.proofs.placed.Over.{judged_over, one_child}
 use Rattle.odata_typing.proofs.unary_node.checked_unary.Goals as goal
@@ -14,6 +13,6 @@ returns c = λ operand over.
     let stands = one_child setting c.args.walk.now c.args.judged.now operand over in
     let schema = setting.schema.now in
     judged_over c.laws_below.ensures setting c.args.judged.now c.args.walk.now c.put_typed.new.self c.args.unary operand c.put_typed.result c.requires.ready stands
-    c.unary_type-edm_type.result c.kind_of.result c.code_of.result c.type_at.result (c.type_at.ensures stands.found stands.at) c.kind_of.ensures c.code_of.ensures
+    c.unary_type-edm_type.result c.kind_of.result c.code_of.result c.type_at.result.now (c.type_at.ensures stands.found stands.at) c.kind_of.ensures c.code_of.ensures
     (c.unary_type-edm_type.ensures.typed schema) (c.unary_type-edm_type.ensures.there schema) (c.unary_type-edm_type.ensures.none schema)
     c.put_typed.ensures.some c.put_typed.ensures.put c.put_typed.ensures.none c.put_typed.ensures.refused

@@ -5,7 +5,4 @@ use Rattle.odata_syntax.proofs.parser.expr_of_list.root_of_list.Given as goal
 
 -- the trees of the nodes so far
 abbrev pub invariant-loop-node : goal.invariant-loop-node
-invariant-loop-node l = record {
-  trees : forest_trees l.forest ≡ trees_in (token_texts l.fn.tokens) (take l.node-index l.nodes);
-  tokens : l.forest.tokens.now ≡ l.fn.tokens;
-}
+invariant-loop-node l = forest_trees l.forest ≡ trees_in (token_texts l.fn.tokens) (take l.node-index l.nodes)

@@ -1,6 +1,8 @@
-use Rattle.std.proofs.Common.{◌≡◌, ℕ, List, subst}
-use Rattle.odata_syntax.specs.TextTree.{text_in}
+use Rattle.std.proofs.Common.{◌∙◌, ℕ, List, subst, sym}
+use Rattle.odata_syntax.specs.TextTree.{HasTree, text_in}
+use Rattle.odata_syntax.specs.Tree.{Tree}
 use Rattle.odata_syntax.specs.private.TextRun.{StopsText, TakesText}
+use Rattle.odata_syntax.proofs.numbering.Nodes.{ranges_still, tree_still, whole_still}
 use Rattle.odata_syntax.proofs.text_trees.Parsed.{IsOneReading, IsTaken, parsed_only, parsed_ranges, parsed_tree, stops_fault, stops_none, unended_no_tree, unended_text}
 use Rattle.odata_syntax.proofs.parser.text_parser.parse_text.Goals as goal
 
@@ -24,21 +26,28 @@ returns-in-Refused-clause-none c =
     let takes : TakesText c.args.text.now c.take_text.new.state = subst (λ (t : List ℕ). TakesText t c.take_text.new.state) c.in-Ok.ensures.text c.in-Ok-take_text.ensures.taken in
     λ known. unended_no_tree c.args.text.now c.take_text.new.state one takes (c.in-Refused.ensures.ended (text_in c.args.text.now))
 
-pub returns-in-Ok-places_of-clause-tree : goal.returns-in-Ok-places_of-clause-tree
-returns-in-Ok-places_of-clause-tree c =
+pub returns-clause-tree : goal.returns-clause-tree
+returns-clause-tree c =
     let takes : TakesText c.args.text.now c.take_text.new.state = subst (λ (t : List ℕ). TakesText t c.take_text.new.state) c.in-Ok.ensures.text c.in-Ok-take_text.ensures.taken in
     let taken : IsTaken c.args.text.now c.take_text.new.state c.finish.new.self = record { takes = takes; ends = c.in-Taken.ensures.ended } in
-    parsed_tree c.args.text.now c.take_text.new.state c.finish.new.self taken
+    subst (λ (tree : Tree). HasTree c.args.text.now tree)
+    (sym (tree_still c.args.text.now c.finish.new.self.nodes.items c.put_places.new.nodes.items c.put_places.ensures.same))
+    (parsed_tree c.args.text.now c.take_text.new.state c.finish.new.self taken)
 
-pub returns-in-Ok-places_of-clause-only : goal.returns-in-Ok-places_of-clause-only
-returns-in-Ok-places_of-clause-only c =
+pub returns-clause-only : goal.returns-clause-only
+returns-clause-only c = λ tree has.
     let one : IsOneReading c.args.text.now = record { list = c.one_reading.ensures.list c.args.text.now; not_both = c.one_reading.ensures.not_both c.args.text.now } in
     let takes : TakesText c.args.text.now c.take_text.new.state = subst (λ (t : List ℕ). TakesText t c.take_text.new.state) c.in-Ok.ensures.text c.in-Ok-take_text.ensures.taken in
     let taken : IsTaken c.args.text.now c.take_text.new.state c.finish.new.self = record { takes = takes; ends = c.in-Taken.ensures.ended } in
-    parsed_only c.args.text.now c.take_text.new.state c.finish.new.self one taken
+    parsed_only c.args.text.now c.take_text.new.state c.finish.new.self one taken tree has
+    ∙ sym (tree_still c.args.text.now c.finish.new.self.nodes.items c.put_places.new.nodes.items c.put_places.ensures.same)
 
-pub returns-in-Ok-places_of-clause-ranges : goal.returns-in-Ok-places_of-clause-ranges
-returns-in-Ok-places_of-clause-ranges c =
+pub returns-clause-whole : goal.returns-clause-whole
+returns-clause-whole c = whole_still c.finish.new.self.nodes.items c.put_places.new.nodes.items c.put_places.ensures.same c.in-Taken.ensures.whole
+
+pub returns-clause-ranges : goal.returns-clause-ranges
+returns-clause-ranges c =
     let takes : TakesText c.args.text.now c.take_text.new.state = subst (λ (t : List ℕ). TakesText t c.take_text.new.state) c.in-Ok.ensures.text c.in-Ok-take_text.ensures.taken in
     let taken : IsTaken c.args.text.now c.take_text.new.state c.finish.new.self = record { takes = takes; ends = c.in-Taken.ensures.ended } in
-    parsed_ranges c.args.text.now c.take_text.new.state c.finish.new.self taken c.in-Taken.ensures.whole
+    ranges_still c.args.text.now c.finish.new.self.nodes.items c.put_places.new.nodes.items c.put_places.ensures.same
+    (parsed_ranges c.args.text.now c.take_text.new.state c.finish.new.self taken c.in-Taken.ensures.whole)

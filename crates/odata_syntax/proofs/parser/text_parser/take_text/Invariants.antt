@@ -10,7 +10,7 @@ invariant-loop-scanner l = record {
   reading : IsReading l.scanner;
   text : text_of l.scanner ≡ text_of l.fn.scanner;
   steady : IsSteadyState l.state;
-  taken : HasTaken l.scanner l.state l.opens l.closes;
+  taken : HasTaken l.scanner l.state l.depth.opens l.depth.closes;
 }
 
 abbrev pub decreases-loop-scanner : goal.decreases-loop-scanner

@@ -3,8 +3,8 @@ use Rattle.odata_syntax.specs.TreeView.{tree_of}
 use Rattle.odata_syntax.proofs.lists.Boxes.{trees_more}
 use Rattle.odata_syntax.proofs.parser.expr_of_list.Forest.child.Goals as goal
 
-pub returns-clause-child : goal.returns-clause-child
-returns-clause-child c =
+pub returns : goal.returns
+returns c =
     let boxed : c.in-Some.tree ≡ c.in_ok-new-in-Some.field-0.value = search rules in
     let others = c.pop.new.self.items in
     ap (λ boxes. reverse (map tree_of boxes)) c.in-Some.ensures.items ∙ trees_more others c.in-Some.tree

@@ -23,7 +23,6 @@ loop-preserved c =
           ∙ sym (take_next k all rest (tree_of tree) at)
           ∙ ap (λ n. take n all) next;
       left = sym (drop_next k all rest (tree_of tree) at) ∙ ap (λ n. drop n all) next;
-      tokens = i.tokens;
     }
 
 pub returns-clause-items : goal.returns-clause-items

@@ -8,5 +8,4 @@ abbrev pub invariant-loop : goal.invariant-loop
 invariant-loop l = record {
   taken : map tree_of l.items.items ≡ take l.counter (forest_trees l.initial.self);
   left : forest_trees l.self ≡ drop l.counter (forest_trees l.initial.self);
-  tokens : l.self.tokens ≡ l.initial.self.tokens;
 }

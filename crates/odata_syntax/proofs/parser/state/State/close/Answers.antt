@@ -1,6 +1,7 @@
 use Rattle.std.proofs.Common.{◌≡◌, ◌++◌, ◌∷◌, [], ap, ◌∙◌, Some, arith}
 use Rattle.std.specs.Prelude.{option_to_list}
 use Rattle.odata_syntax.specs.declared.syntax_list.SyntaxKind.{SyntaxKind}
+use Rattle.odata_syntax.specs.private.PlaceGrowth.{no_place}
 use Rattle.odata_syntax.proofs.lists.Brackets.{call_close, close_step, list_close}
 use Rattle.odata_syntax.proofs.lists.Counts.{call_frame, frame_within, list_frame}
 use Rattle.odata_syntax.proofs.lists.Pushed.{step_to}
@@ -39,7 +40,7 @@ returns-in-Some-Open-List-clause-step c = λ texts.
     step_to c.put_closed.result _ _ _ c.put_closed.ensures.taken c.put_closed.ensures.put (λ put.
     close_step texts c.args.self.now c.put_closed.new.self c.pop.new.self.items (list_frame start count) _ c.args.stop popped c.requires
     (ap (λ v. v.items) c.put_closed.ensures.frames) c.put_closed.ensures.stage
-    (put ∙ ap (λ n. c.args.self.now.nodes.items ++ (record { kind = SyntaxKind.InList; span = record { start = start; stop = c.args.stop }; text = record { start = 0; stop = 0 }; count = n }) ∷ []) c.one_more-count.ensures)
+    (put ∙ ap (λ n. c.args.self.now.nodes.items ++ (record { kind = SyntaxKind.InList; span = record { start = start; stop = c.args.stop }; text = record { start = 0; stop = 0 }; count = n; place = no_place }) ∷ []) c.one_more-count.ensures)
     (list_close texts c.pop.new.self.items start c.args.stop count (record { start = 0; stop = 0 })))
 
 pub returns-in-Some-Open-Call-clause-step : goal.returns-in-Some-Open-Call-clause-step
@@ -55,5 +56,5 @@ returns-in-Some-Open-Call-clause-step c = λ texts.
     step_to c.put_closed-in-Some-Open-Call.result _ _ _ c.put_closed-in-Some-Open-Call.ensures.taken c.put_closed-in-Some-Open-Call.ensures.put (λ put.
     close_step texts c.args.self.now c.put_closed-in-Some-Open-Call.new.self c.pop.new.self.items (call_frame start name count) _ c.args.stop popped c.requires
     (ap (λ v. v.items) c.put_closed-in-Some-Open-Call.ensures.frames) c.put_closed-in-Some-Open-Call.ensures.stage
-    (put ∙ ap (λ n. c.args.self.now.nodes.items ++ (record { kind = SyntaxKind.Call; span = record { start = start; stop = c.args.stop }; text = name; count = n }) ∷ []) c.one_more-count-in-Some-Open-Call.ensures)
+    (put ∙ ap (λ n. c.args.self.now.nodes.items ++ (record { kind = SyntaxKind.Call; span = record { start = start; stop = c.args.stop }; text = name; count = n; place = no_place }) ∷ []) c.one_more-count-in-Some-Open-Call.ensures)
     (call_close texts c.pop.new.self.items start c.args.stop count name))
